@@ -1,0 +1,74 @@
+-- A block of bytes that is read from, or gathered for a write.
+use Rattle.std.proofs.Common.{◌≡◌, ℕ, ◌+◌, ◌-◌, ◌≤◌, List, [], ◌++◌, length, take, drop, slice_range, refl, sym, ap, ◌∙◌, subst, arith, append_assoc, append-nil, length-append, drop-drop, Option, Some, None, Result, Ok, Err, OnErr, take-append-drop}
+use Rattle.std.specs.Io.KnownBytes.{Appends, Consumes, Keeps, prepend_known}
+use Rattle.std.proofs.KnownBytes.{Appends-kept}
+use Rattle.std.proofs.Math.Seq.{drop-length}
+use Rattle.std.proofs.lemmas.List.{take_all, drop-take, take-append-le, drop-append-le}
+use Rattle.tab_io.specs.Streams.{HasPut, Puts, Flushes, KeepsPart}
+use Rattle.tab_io.proofs.Putting.{put_more, puts_more}
+
+-- what is left of a part once its first bytes are taken
+pub range_later : (xs : List ℕ) (a e n : ℕ) → n ≤ e - a → slice_range xs (a + n) e ≡ drop n (slice_range xs a e)
+range_later xs a e n fits =
+    let whole : n + (e - (a + n)) ≡ e - a = omega arith in
+    ap (take (e - (a + n))) (sym (drop-drop n a xs)) ∙ sym (drop-take n (e - (a + n)) (drop a xs)) ∙ ap (λ k. drop n (take k (drop a xs))) whole
+
+-- of a block and what comes after it, the first bytes of the block are taken
+pub front_taken : (known : Option (List ℕ)) (front : List ℕ) (n : ℕ) → Consumes (prepend_known front known) (prepend_known (drop n front) known) (take n front)
+front_taken None front n = tt
+front_taken (Some rest) front n = ap (λ bs. bs ++ rest) (sym (take-append-drop n front)) ∙ append_assoc (take n front) (drop n front) rest
+
+-- a write stopped inside the block
+pub block_cut : (c c' : Option (List ℕ)) (items rest : List ℕ) (done n : ℕ) → rest ≡ drop done items → n ≤ length rest
+    → Appends c c' (take n rest) → HasPut c (drop done items) c' (drop (done + n) items) []
+block_cut c c' items rest done n is fits grown =
+    let held : List ℕ = drop done items in
+    let P : List ℕ → Type 0 = λ x. Appends c c' (take n x) in
+    let same : rest ≡ held ++ [] = is ∙ sym (append-nil held) in
+    record {
+      count = n;
+      fits = omega (arith, ap length same);
+      written = subst P same grown;
+      left = sym (drop-drop n done items) ∙ ap (drop n) (sym (append-nil held));
+    }
+
+-- all that was gathered is written, and these bytes are gathered
+pub gathered_anew : (c c1 : Option (List ℕ)) (h h2 bs : List ℕ) → Appends c c1 h → h2 ≡ bs → HasPut c h c1 h2 bs
+gathered_anew c c1 h h2 bs grown is =
+    let P : List ℕ → Type 0 = λ x. Appends c c1 x in record {
+      count = length h;
+      fits = omega (arith, length-append h bs);
+      written = subst P (sym (take-append-le (length h) h bs (omega arith) ∙ take_all (length h) h (omega arith))) grown;
+      left = is ∙ sym (drop-append-le (length h) h bs (omega arith) ∙ ap (λ x. x ++ bs) (drop-length h));
+    }
+
+-- nothing was gathered, and these bytes are written
+pub written_straight : (c c' : Option (List ℕ)) (h' bs : List ℕ) → h' ≡ [] → Appends c c' bs → HasPut c [] c' h' bs
+written_straight c c' h' bs none grown =
+    let P : List ℕ → Type 0 = λ x. Appends c c' x in record {
+      count = length bs;
+      fits = omega arith;
+      written = subst P (sym (take_all (length bs) bs (omega arith))) grown;
+      left = none ∙ sym (drop-length bs);
+    }
+
+-- nothing was gathered, and a beginning of these bytes is written
+pub straight_part : (c c' : Option (List ℕ)) (h' bs : List ℕ) (n : ℕ) → h' ≡ [] → n ≤ length bs → Appends c c' (take n bs) → KeepsPart c [] c' h' bs
+straight_part c c' h' bs n none fits grown = (n, fits, written_straight c c' h' (take n bs) none grown)
+
+-- bytes that are put behind a block that is written whole
+pub puts_after : {E : Type 0} (c c1 c2 : Option (List ℕ)) (h h2 bs : List ℕ) (r : Result (Unit {0}) E) → Appends c c1 h → Puts c1 [] c2 h2 bs r → Puts c h c2 h2 bs r
+puts_after c c1 c2 h h2 bs r grown put = puts_more c h c1 [] c2 h2 [] bs r (gathered_anew c c1 h [] [] grown refl) put
+
+-- a beginning of bytes that are put behind a block that is written whole
+pub keeps_after : {E : Type 0} (c c1 c2 : Option (List ℕ)) (h h2 bs : List ℕ) (r : Result (Unit {0}) E) → Appends c c1 h → OnErr r (KeepsPart c1 [] c2 h2 bs) → OnErr r (KeepsPart c h c2 h2 bs)
+keeps_after c c1 c2 h h2 bs (Ok u) grown part = tt
+keeps_after c c1 c2 h h2 bs (Err e) grown part = (part.0, part.1, put_more c h c1 [] c2 h2 [] (take part.0 bs) (gathered_anew c c1 h [] [] grown refl) part.2)
+
+-- the writer passes on a block that is written whole
+pub passed_on : {E : Type 0} (c c1 c2 : Option (List ℕ)) (h h1 : List ℕ) (r : Result (Unit {0}) E) → Appends c c1 h → h1 ≡ [] → Keeps c1 c2 → Flushes c h c2 h1 r × OnErr r (HasPut c h c2 h1 [])
+passed_on c c1 c2 h h1 (Ok u) grown none same = ((Appends-kept c c1 c2 h grown same, none), tt)
+passed_on c c1 c2 h h1 (Err e) grown none same =
+    let all : Appends c c2 h = Appends-kept c c1 c2 h grown same in
+    let P : List ℕ → Type 0 = λ x. Appends c c2 x in
+    ((length h, omega arith, subst P (sym (take_all (length h) h (omega arith))) all), gathered_anew c c2 h h1 [] all none)

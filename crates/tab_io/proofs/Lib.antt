@@ -1,0 +1,4 @@
+pub mod Blocks
+pub mod Finding
+pub mod Known
+pub mod Putting

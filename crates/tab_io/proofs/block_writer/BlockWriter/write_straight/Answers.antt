@@ -1,0 +1,16 @@
+use Rattle.std.proofs.Common.{◌≡◌, ◌∙◌, ap, [], drop}
+use Rattle.std.proofs.Math.Seq.{drop-nil}
+use Rattle.tab_io.proofs.Blocks.{written_straight, straight_part}
+use Rattle.tab_io.proofs.block_writer.BlockWriter.write_straight.Goals as goal
+
+pub returns-in-Ok-clause-bytes : goal.returns-in-Ok-clause-bytes
+returns-in-Ok-clause-bytes g c =
+    let w = c.args.self.now in
+    let none : drop w.written w.block.items ≡ [] = ap (drop w.written) c.requires ∙ drop-nil w.written in
+    written_straight _ _ _ c.args.bytes.now none c.in-Ok.ensures.bytes
+
+pub returns-in-Err-clause-kept : goal.returns-in-Err-clause-kept
+returns-in-Err-clause-kept g c =
+    let w = c.args.self.now in
+    let none : drop w.written w.block.items ≡ [] = ap (drop w.written) c.requires ∙ drop-nil w.written in
+    straight_part _ _ _ c.args.bytes.now c.in-Err.field-0.written none c.in-Err.ensures.bytes.0 c.in-Err.ensures.bytes.1

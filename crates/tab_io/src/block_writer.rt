@@ -1,0 +1,136 @@
+//! Any writer of std, written in blocks.
+ghost use Rattle.std.specs.Prelude.{◌≡◌, ◌+◌, ◌^◌, ◌<◌, ◌≤◌, [], ◌++◌, length, drop, IfOk, OnOk, OnErr, vec_len, vec_capacity};
+ghost use Rattle.tab_io.specs.Streams.{Puts, Flushes, HasPut, KeepsPart, FailsByFault};
+
+use crate::counted::Counted;
+use crate::{BLOCK_LENGTH, Output, WriteFault};
+use std::alloc::{AllocError, Global};
+use std::io::Write;
+
+/// An [`Output`] over any writer of std, with a block of [`BLOCK_LENGTH`] bytes.
+///
+/// Bytes are gathered until the block is full, and then written. Bytes that no block holds are written straight from
+/// where they lie. A write that was interrupted is made again; one that takes none of some bytes is a fault. To drop the
+/// writer writes nothing: flush it first.
+#[derive(Drop)]
+pub struct BlockWriter<W> {
+    block: Vec<u8>,
+    // The first bytes of the block, which a write that stopped has written.
+    written: usize,
+    sink: Counted<W>,
+    ghost within: { written ≤ vec_len block },
+}
+
+impl<W: Write> BlockWriter<W> {
+    /// Takes the memory of the block, and writes nothing yet. Without memory the writer is dropped.
+    pub fn new(alloc: Global, inner: W) -> Result<BlockWriter<W>, AllocError>
+    where
+        W: Drop,
+        ensures bytes { IfOk result (λ writer. ⟦<BlockWriter<W> as Output>⟧.contents writer ≡ W.contents inner) }
+        ensures held { IfOk result (λ writer. ⟦<BlockWriter<W> as Output>⟧.held writer ≡ []) }
+        ensures faults { IfOk result (λ writer. ⟦<BlockWriter<W> as Output>⟧.faults writer ≡ 0) }
+        ensures budget { IfOk result (λ writer. ⟦<BlockWriter<W> as Output>⟧.budget writer + 1 ≡ 2 ^ 64) }
+    {
+        let block = Vec::with_capacity(alloc, BLOCK_LENGTH)?;
+        Ok(BlockWriter {
+            block,
+            written: 0,
+            sink: Counted::new(inner),
+        })
+    }
+
+    /// The writer, and what stands in it; what is gathered isn't.
+    pub fn get_ref(&self) -> &W
+        ensures { W.contents result.now ≡ ⟦<BlockWriter<W> as Output>⟧.contents self.now }
+    {
+        &self.sink.inner
+    }
+
+    fn gather(&mut self, bytes: &[u8])
+        requires { vec_len self.old.block + length bytes.now ≤ vec_capacity self.old.block }
+        ensures block { self.new.block.items ≡ self.old.block.items ++ bytes.now }
+        ensures written { self.new.written ≡ self.old.written }
+        ensures sink { self.new.sink ≡ self.old.sink }
+    {
+        let Ok(()) = self.block.extend_from_slice(bytes) else {
+            unreachable!()
+        };
+    }
+
+    // What a write that stopped leaves unwritten stays in the block.
+    fn write_block(&mut self) -> Result<(), WriteFault>
+        ensures bytes { Flushes (W.contents self.old.sink.inner) (drop self.old.written self.old.block.items) (W.contents self.new.sink.inner) (drop self.new.written self.new.block.items) result }
+        ensures faults { FailsByFault result self.old.sink.faults self.new.sink.faults self.new.sink.budget }
+        ensures kept { OnErr result (HasPut (W.contents self.old.sink.inner) (drop self.old.written self.old.block.items) (W.contents self.new.sink.inner) (drop self.new.written self.new.block.items) []) }
+        ensures capacity { vec_capacity self.new.block ≡ vec_capacity self.old.block }
+        ensures empty { OnOk result ((self.new.block.items ≡ []) × (vec_len self.new.block ≡ 0)) }
+        ensures next { OnOk result (self.new.written ≡ 0) }
+    {
+        let written = self.written;
+        let block = self.block.as_slice();
+        match self.sink.write_all(&block[written..]) {
+            Ok(()) => {
+                self.block.clear();
+                self.written = 0;
+                Ok(())
+            }
+            Err(stopped) => {
+                self.written += stopped.written;
+                Err(WriteFault)
+            }
+        }
+    }
+
+    // Nothing is gathered, so these bytes are next.
+    fn write_straight(&mut self, bytes: &[u8]) -> Result<(), WriteFault>
+        requires { self.old.block.items ≡ [] }
+        ensures bytes { Puts (W.contents self.old.sink.inner) [] (W.contents self.new.sink.inner) (drop self.new.written self.new.block.items) bytes.now result }
+        ensures faults { FailsByFault result self.old.sink.faults self.new.sink.faults self.new.sink.budget }
+        ensures kept { OnErr result (KeepsPart (W.contents self.old.sink.inner) [] (W.contents self.new.sink.inner) (drop self.new.written self.new.block.items) bytes.now) }
+    {
+        match self.sink.write_all(bytes) {
+            Ok(()) => Ok(()),
+            Err(_) => Err(WriteFault),
+        }
+    }
+
+    // The block has no room for these bytes.
+    #[cold]
+    #[inline(never)]
+    fn put_after_block(&mut self, bytes: &[u8]) -> Result<(), WriteFault>
+        ensures bytes { Puts (W.contents self.old.sink.inner) (drop self.old.written self.old.block.items) (W.contents self.new.sink.inner) (drop self.new.written self.new.block.items) bytes.now result }
+        ensures faults { FailsByFault result self.old.sink.faults self.new.sink.faults self.new.sink.budget }
+        ensures kept { OnErr result (KeepsPart (W.contents self.old.sink.inner) (drop self.old.written self.old.block.items) (W.contents self.new.sink.inner) (drop self.new.written self.new.block.items) bytes.now) }
+    {
+        self.write_block()?;
+        if bytes.len() < self.block.capacity() {
+            self.gather(bytes);
+            return Ok(());
+        }
+        self.write_straight(bytes)
+    }
+}
+
+impl<W: Write> Output for BlockWriter<W> {
+    ghost contents = { λ writer. W.contents writer.sink.inner };
+
+    ghost held = { λ writer. drop writer.written writer.block.items };
+
+    ghost faults = { λ writer. writer.sink.faults };
+
+    ghost budget = { λ writer. writer.sink.budget };
+
+    #[inline]
+    fn put(&mut self, bytes: &[u8]) -> Result<(), WriteFault> {
+        if bytes.len() <= self.block.capacity() - self.block.len() {
+            self.gather(bytes);
+            return Ok(());
+        }
+        self.put_after_block(bytes)
+    }
+
+    fn flush(&mut self) -> Result<(), WriteFault> {
+        self.write_block()?;
+        self.sink.flush()
+    }
+}
