@@ -1,0 +1,12 @@
+pub mod Order
+pub mod Each
+pub mod Columns
+pub mod Selecting
+pub mod Rising
+pub mod Numbers
+pub mod Sorting
+pub mod Bodies
+pub mod Listing
+pub mod Ties
+pub mod Facts
+pub mod Packed

@@ -1,0 +1,12 @@
+pub mod Bytes
+pub mod Names
+pub mod NameFields
+pub mod Records
+pub mod KeyOf
+pub mod Places
+pub mod CellPlaces
+pub mod Order
+pub mod Kept
+pub mod Sorted
+pub mod Ranges
+pub mod Columns
