@@ -1,0 +1,16 @@
+pub mod TestLemmas
+pub mod SetLemmas
+pub mod AuthLemmas
+pub mod Complete
+pub mod Sound
+pub mod Runs
+pub mod LabelOf
+pub mod Vectors
+pub mod ViewLemmas
+pub mod HoldingLemmas
+pub mod HoldsLemmas
+pub mod Slices
+pub mod Judged
+pub mod Unions
+pub mod More
+pub mod ReadAs

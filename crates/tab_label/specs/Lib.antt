@@ -1,0 +1,10 @@
+pub mod Sets
+pub mod Grammar
+pub mod Machine
+pub mod Reading
+pub mod Holding
+pub mod Views
+pub mod ParserViews
+pub mod Laws
+pub mod Judging
+pub mod JudgeViews
