@@ -1,0 +1,4 @@
+pub mod Mutations
+pub mod Places
+pub mod Shape
+pub mod MutationFields

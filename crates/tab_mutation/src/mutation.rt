@@ -1,0 +1,239 @@
+//! A row and the updates for it.
+ghost use Rattle.std.specs.Prelude.{◌≡◌, ◌<◌, ◌^◌, ◌==◌, [], IfOk, OnOk, OnErr, None, length};
+ghost use Rattle.std.specs.List.{slice_index_or};
+ghost use Rattle.tab_key.specs.declared.key.Kind.TheVariants.{Delete, Put};
+ghost use Rattle.tab_mutation.specs.Mutations.{with_update};
+ghost use Rattle.tab_mutation.specs.Shape.{first_found, long_name, long_value, misshape};
+
+use crate::misshape::is_too_long;
+use crate::place::{Place, append};
+use crate::{Misshape, UpdateRef, Updates};
+use std::alloc::{AllocError, Global};
+use std::marker::Model;
+use tab_key::{Kind, MAX_UPDATES, Part};
+
+/// The most updates that a mutation can hold, far more than one may have to be accepted.
+const MAX_PLACES: usize = 4_294_967_295;
+
+/// A row and the puts and deletes that are to be applied to it together.
+///
+/// All bytes lie in one buffer: the row, and then of each update its family, qualifier, label and
+/// value. Of two updates of one column the later added is the newer.
+#[derive(Drop)]
+pub struct Mutation {
+    body: Vec<u8>,
+    row_end: usize,
+    places: Vec<Place>,
+}
+
+impl Model for Mutation {
+    ghost use Rattle.tab_mutation.specs.Mutations.{Mutation as Fields};
+
+    ghost Value = { Fields };
+
+    ghost use Rattle.tab_mutation.specs.MutationFields.{mutation_in, IsMutation};
+
+    ghost view = { mutation_in };
+
+    ghost invariant = { IsMutation };
+}
+
+impl Mutation {
+    /// A mutation of this row with no updates. It takes memory for a copy of the row.
+    pub fn new(alloc: Global, row: &[u8]) -> Result<Mutation, AllocError>
+        ensures { IfOk result (λ m. m ≡ record { row = row.now; updates = [] }) }
+    {
+        let mut body = Vec::with_capacity(alloc, row.len())?;
+        body.extend_from_slice(row)?;
+        Ok(Mutation {
+            body,
+            row_end: row.len(),
+            places: Vec::new(alloc),
+        })
+    }
+
+    // Adds an update at the end. After an error the body may have more bytes, which are no update's.
+    fn add(
+        &mut self,
+        kind: Kind,
+        family: &[u8],
+        qualifier: &[u8],
+        label: &[u8],
+        timestamp: Option<i64>,
+        value: &[u8],
+    ) -> Result<(), AllocError>
+        ensures ok { OnOk result (self.new ≡ with_update self.old (record {
+          kind = kind;
+          family = family.now;
+          qualifier = qualifier.now;
+          label = label.now;
+          timestamp = timestamp;
+          value = value.now;
+        })) }
+        ensures err { OnErr result (self.new ≡ self.old) }
+    {
+        if self.places.len() >= MAX_PLACES {
+            return Err(AllocError);
+        }
+        self.places.reserve(1)?;
+        let place = append(
+            &mut self.body,
+            kind,
+            family,
+            qualifier,
+            label,
+            timestamp,
+            value,
+        )?;
+        self.places.push_reserved(place);
+        Ok(())
+    }
+
+    /// Adds a put at the end, with a timestamp or, for `None`, with the one that the server gives.
+    ///
+    /// # Errors
+    ///
+    /// There is no memory, or the mutation has 4,294,967,295 updates. It is then unchanged.
+    pub fn put(
+        &mut self,
+        family: &[u8],
+        qualifier: &[u8],
+        label: &[u8],
+        timestamp: Option<i64>,
+        value: &[u8],
+    ) -> Result<(), AllocError>
+        ensures ok { OnOk result (self.new ≡ with_update self.old (record {
+          kind = Put;
+          family = family.now;
+          qualifier = qualifier.now;
+          label = label.now;
+          timestamp = timestamp;
+          value = value.now;
+        })) }
+        ensures err { OnErr result (self.new ≡ self.old) }
+    {
+        self.add(Kind::Put, family, qualifier, label, timestamp, value)
+    }
+
+    /// Adds a delete marker at the end, with a timestamp or, for `None`, with the one that the
+    /// server gives.
+    ///
+    /// # Errors
+    ///
+    /// There is no memory, or the mutation has 4,294,967,295 updates. It is then unchanged.
+    pub fn delete(
+        &mut self,
+        family: &[u8],
+        qualifier: &[u8],
+        label: &[u8],
+        timestamp: Option<i64>,
+    ) -> Result<(), AllocError>
+        ensures ok { OnOk result (self.new ≡ with_update self.old (record {
+          kind = Delete;
+          family = family.now;
+          qualifier = qualifier.now;
+          label = label.now;
+          timestamp = timestamp;
+          value = [];
+        })) }
+        ensures err { OnErr result (self.new ≡ self.old) }
+    {
+        self.add(Kind::Delete, family, qualifier, label, timestamp, &[])
+    }
+
+    /// The row.
+    pub fn row(&self) -> &[u8]
+        ensures { result.now ≡ self.now.row }
+    {
+        &self.body[..self.row_end]
+    }
+
+    /// How many updates there are, at most 4,294,967,295.
+    pub fn len(&self) -> usize
+        ensures len { result ≡ length self.now.updates }
+        ensures bound { length self.now.updates < 2 ^ 32 }
+    {
+        self.places.len()
+    }
+
+    /// Whether there are no updates.
+    pub fn is_empty(&self) -> bool
+        ensures { result ≡ (length self.now.updates == 0) }
+    {
+        self.places.is_empty()
+    }
+
+    /// The update at an index, counted from 0.
+    pub fn update(&self, index: usize) -> UpdateRef<'_>
+        requires { index < length self.now.updates }
+        ensures { result ≡ slice_index_or self.now.updates index result }
+    {
+        UpdateRef::at(self.body.as_slice(), &self.places[index])
+    }
+
+    /// The updates, in the order in which they were added.
+    pub fn updates(&self) -> Updates<'_>
+        ensures { result ≡ self.now.updates }
+    {
+        Updates::at(self.body.as_slice(), self.places.as_slice())
+    }
+
+    // The first family, qualifier or label that is too long, update by update.
+    fn long_name(&self) -> Option<Misshape>
+        ensures { result ≡ first_found long_name 0 self.now.updates }
+    {
+        for index in 0..self.len() {
+            if let Some(found) = self.update(index).long_name() {
+                return Some(found);
+            }
+        }
+        None
+    }
+
+    // The first value that is too long.
+    fn long_value(&self) -> Option<Misshape>
+        ensures { result ≡ first_found long_value 0 self.now.updates }
+    {
+        for index in 0..self.len() {
+            if let Some(found) = self.update(index).long_value() {
+                return Some(found);
+            }
+        }
+        None
+    }
+
+    /// What keeps the mutation from being accepted for its size, if anything does.
+    ///
+    /// Looked at in this order: no update; over 1,000 updates; then over 1,048,576 bytes in the row,
+    /// in each update's family, qualifier and label in turn, and after all of these in the values.
+    #[tactic(auto, unfolding(crate::specs::Shape::misshape))]
+    pub fn shape(&self) -> Option<Misshape>
+        ensures { result ≡ misshape self.now }
+    {
+        if self.is_empty() {
+            return Some(Misshape::Empty);
+        }
+        if self.len() > MAX_UPDATES {
+            return Some(Misshape::TooLarge(Part::Updates));
+        }
+        if is_too_long(self.row()) {
+            return Some(Misshape::TooLarge(Part::Row));
+        }
+        match self.long_name() {
+            Some(found) => Some(found),
+            None => self.long_value(),
+        }
+    }
+}
+
+impl Clone for Mutation {
+    ghost is_clone = { λ source copy. copy ≡ source };
+
+    fn clone(&self) -> Result<Mutation, AllocError> {
+        Ok(Mutation {
+            body: self.body.clone()?,
+            row_end: self.row_end,
+            places: self.places.clone()?,
+        })
+    }
+}
