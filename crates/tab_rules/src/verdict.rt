@@ -1,0 +1,141 @@
+//! The check of a mutation against a table's constraints.
+ghost use Rattle.std.specs.Prelude.{◌≡◌, IfOk, not};
+ghost use Rattle.std.specs.List.{filter_map, list_all};
+ghost use Rattle.tab_mutation.specs.Shape.{first_place};
+ghost use Rattle.tab_rules.specs.Verdict.{fails, is_alphanumeric, is_set, violation, violations};
+
+use crate::failing::Test;
+use crate::fails::fails;
+use crate::syntax::is_all_alphanumeric;
+use crate::{Constraint, Failing, Verdict};
+use std::alloc::{AllocError, Global};
+use tab_key::Items;
+use tab_label::AuthSet;
+use tab_mutation::Mutation;
+
+/// All pairs of constraint and code, rising.
+const TESTS: [Test; 6] = [
+    Test {
+        constraint: Constraint::KeySize,
+        code: 1,
+    },
+    Test {
+        constraint: Constraint::Alphanumeric,
+        code: 1,
+    },
+    Test {
+        constraint: Constraint::Alphanumeric,
+        code: 2,
+    },
+    Test {
+        constraint: Constraint::Alphanumeric,
+        code: 3,
+    },
+    Test {
+        constraint: Constraint::Numeric,
+        code: 1,
+    },
+    Test {
+        constraint: Constraint::Visibility,
+        code: 2,
+    },
+];
+
+// Whether the constraint is one of the table's.
+fn is_set(constraints: &[Constraint], constraint: Constraint) -> bool
+    ensures { result ≡ is_set constraints.now constraint }
+{
+    constraints
+        .iter()
+        .any(|set| constraint.number() == set.number())
+}
+
+// The first update, where there is one and the row isn't all letters and digits.
+fn first_by_row(mutation: &Mutation) -> Option<u32>
+    ensures { result ≡ first_place (λ u. not (list_all is_alphanumeric mutation.now.row)) 0
+        mutation.now.updates }
+{
+    if mutation.is_empty() {
+        return None;
+    }
+    if is_all_alphanumeric(mutation.row()) {
+        None
+    } else {
+        Some(0)
+    }
+}
+
+// The first update that fails the test.
+fn first_failing(mutation: &Mutation, auths: &AuthSet, test: Test) -> Option<u32>
+    ensures { result ≡ first_place (fails auths.now mutation.now.row test.constraint test.code) 0
+        mutation.now.updates }
+{
+    for index in 0..mutation.len() {
+        if fails(auths, mutation.row(), test, &mutation.update(index)) {
+            return Some(index as u32);
+        }
+    }
+    None
+}
+
+// The pair, where its constraint is set and an update fails it. The row is looked at once, however
+// many updates there are.
+fn violation(
+    constraints: &[Constraint],
+    auths: &AuthSet,
+    mutation: &Mutation,
+    test: Test,
+) -> Option<Failing>
+    ensures { result ≡ violation constraints.now auths.now mutation.now test }
+{
+    if !is_set(constraints, test.constraint) {
+        return None;
+    }
+    let first = match (test.constraint, test.code) {
+        (Constraint::Alphanumeric, 1) => first_by_row(mutation),
+        _ => first_failing(mutation, auths, test),
+    };
+    match first {
+        Some(update) => Some(Failing {
+            constraint: test.constraint,
+            code: test.code,
+            update,
+        }),
+        None => None,
+    }
+}
+
+// The failing pairs among these, in their order.
+fn failing_among(
+    alloc: Global,
+    tests: &[Test],
+    constraints: &[Constraint],
+    auths: &AuthSet,
+    mutation: &Mutation,
+) -> Result<Vec<Failing>, AllocError>
+    ensures { IfOk result (λ v. v.items ≡
+        filter_map (violation constraints.now auths.now mutation.now) tests.now) }
+{
+    tests
+        .iter()
+        .filter_map(|test| violation(constraints, auths, mutation, *test))
+        .collect(alloc)
+}
+
+/// What the mutation fails of a table's constraints, for a writer who holds these authorizations.
+///
+/// Every failing pair of constraint and code is listed, rising, each with the first update that
+/// fails so, counted from 0. The list is empty where nothing fails. Constraints may stand in any
+/// order, and more than once.
+#[tactic(auto, unfolding(crate::specs::Verdict::violations))]
+pub fn check(
+    alloc: Global,
+    constraints: &[Constraint],
+    mutation: &Mutation,
+    auths: &AuthSet,
+) -> Result<Verdict, AllocError>
+    ensures { IfOk result (λ v. v ≡ violations constraints.now auths.now mutation.now) }
+{
+    let failing = failing_among(alloc, &TESTS, constraints, auths, mutation)?;
+    Ok(Items::from_vec(failing))
+}
