@@ -1,0 +1,5 @@
+pub mod NameLemmas
+pub mod Decided
+pub mod EntryLemmas
+pub mod Readings
+pub mod RightsLemmas

@@ -1,0 +1,14 @@
+-- Lists of what stands under a name.
+use Rattle.std.specs.Prelude.{ℕ, List, Option, bytes_eq, if◌then◌else◌}
+use Rattle.std.specs.Option.{option_map}
+use Rattle.std.specs.Map.{lookup}
+use Rattle.std.specs.Ordering.{is_eq}
+use Rattle.tab_key.specs.Bytes.{bytes_cmp}
+
+-- what stands under the name
+abbrev pub at_name : {X : Type 0} → List ℕ → List (List ℕ × X) → Option X
+at_name n entries = lookup (λ m. is_eq (bytes_cmp n m)) entries
+
+-- what stands under the name q once f has changed what stands under n, if anything does
+abbrev pub changed_at : {X : Type 0} → List ℕ → (X → X) → List (List ℕ × X) → List ℕ → Option X
+changed_at n f entries q = if bytes_eq n q then option_map f (at_name q entries) else at_name q entries

@@ -1,0 +1,10 @@
+pub mod Permissions
+pub mod Sets
+pub mod Actions
+pub mod Needs
+pub mod Decisions
+pub mod Entries
+pub mod State
+pub mod Granting
+pub mod Roots
+pub mod Accounts

@@ -1,0 +1,68 @@
+-- What a policy holds, and how it is read.
+use Rattle.std.specs.Prelude.{ℕ, List, [], Bool, false, ◌||◌, Option, Some, None, is_some, bytes_eq}
+use Rattle.tab_policy.specs.declared.permission.SystemPermission.{SystemPermission}
+use Rattle.tab_policy.specs.declared.permission.TablePermission.{TablePermission}
+use Rattle.tab_policy.specs.declared.sets.TablePermissions.{TablePermissions}
+use Rattle.tab_policy.specs.declared.account.Account.{Account}
+use Rattle.tab_policy.specs.Sets.{system_contains, table_contains}
+use Rattle.tab_policy.specs.Entries.{at_name}
+use Rattle.tab_policy.specs.Decisions.{Standing}
+pub use Rattle.tab_policy.specs.Roots.{root}
+
+-- the users with what they hold, and the tables with the rights that users have on them, each by name
+pub record State : Type 0 where
+  pub users : List (List ℕ × Account)
+  pub tables : List (List ℕ × List (List ℕ × TablePermissions))
+
+-- the authorizations of an account
+abbrev pub account_auths : Option Account → List (List ℕ)
+account_auths None = []
+account_auths (Some a) = a.auths
+
+-- whether an account was granted the system permission
+abbrev pub account_system : Option Account → SystemPermission → Bool
+account_system None p = false
+account_system (Some a) p = system_contains a.system p
+
+-- whether a set of rights that may be absent has the permission
+abbrev pub some_contains : Option TablePermissions → TablePermission → Bool
+some_contains None p = false
+some_contains (Some s) p = table_contains s p
+
+-- whether the rights on a table give the user the permission
+abbrev pub table_gives : Option (List (List ℕ × TablePermissions)) → List ℕ → TablePermission → Bool
+table_gives None n p = false
+table_gives (Some rights) n p = some_contains (at_name n rights) p
+
+-- whether there is a user of this name
+unfoldable pub user_exists : State → List ℕ → Bool
+user_exists s n = is_some (at_name n s.users)
+
+-- the authorizations that the user holds, none where there is no such user
+unfoldable pub auths_of : State → List ℕ → List (List ℕ)
+auths_of s n = account_auths (at_name n s.users)
+
+-- whether the system permission was granted to the user and not revoked since
+unfoldable pub system_granted : State → List ℕ → SystemPermission → Bool
+system_granted s n p = account_system (at_name n s.users) p
+
+-- whether the permission on the table was granted to the user and not revoked since
+unfoldable pub table_granted : State → List ℕ → TablePermission → List ℕ → Bool
+table_granted s n p t = table_gives (at_name t s.tables) n p
+
+-- whether there is a table of this name
+unfoldable pub table_exists : State → List ℕ → Bool
+table_exists s t = is_some (at_name t s.tables)
+
+-- root has every system permission
+abbrev pub has_system : State → List ℕ → SystemPermission → Bool
+has_system s n p = bytes_eq n root || system_granted s n p
+
+-- what a decision looks at, for this caller
+abbrev pub standing_of : State → List ℕ → Standing
+standing_of s user = record {
+  known = user_exists s user;
+  system = has_system s user;
+  table = table_granted s user;
+  exists = table_exists s;
+}

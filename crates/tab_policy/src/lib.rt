@@ -1,0 +1,34 @@
+//! Users, authorizations and permissions: who may do what. (Accumulo user manual: security, permissions.)
+//!
+//! A `Policy` holds the users with their system permissions and authorizations, and the tables with the rights that users have on
+//! them. It decides actions, and changes as users and tables come and go and as rights are granted and revoked.
+//!
+//! | File | What |
+//! |---|---|
+//! | `permission` | the permissions, their order and their names |
+//! | `sets` | sets of permissions |
+//! | `action` | what a user may ask for, and what a decision says |
+//! | `needs` | which permissions admit which action |
+//! | `account`, `rights` | what is kept of a user, and of a table |
+//! | `entries` | maps by name |
+//! | `policy` | the users and tables, and what may be done |
+//!
+//! Every definition that the contracts cite stands in `specs`: `Actions` is the table of permissions, `Decisions` the order of the
+//! checks, `State` what a policy holds and how it is read.
+#![tactic(auto)]
+
+mod account;
+mod action;
+mod entries;
+mod needs;
+mod permission;
+mod policy;
+mod rights;
+mod sets;
+#[cfg(test)]
+mod tests;
+
+pub use action::{Action, Decision};
+pub use permission::{Permission, SystemPermission, TablePermission};
+pub use policy::Policy;
+pub use sets::{SystemPermissions, TablePermissions};

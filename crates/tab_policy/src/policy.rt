@@ -1,0 +1,240 @@
+//! The users and tables, and what may be done.
+ghost use Rattle.std.specs.Prelude.{◌≡◌, [], ℕ, List, IfOk, OnOk, OnErr, IfSome, true, false, bytes_eq, is_some, ◌&&◌, if◌then◌else◌};
+ghost use Rattle.tab_policy.specs.Roots.{root};
+ghost use Rattle.tab_policy.specs.Sets.{system_contains, table_contains};
+
+use crate::account::{Account, is_root, root_name, set_auths, set_system};
+use crate::action::{Action, Decision};
+use crate::entries::{put, take_away};
+use crate::needs::Needs;
+use crate::permission::Permission;
+use crate::rights::{Rights, forget, give, take};
+use crate::sets::{SystemPermissions, TablePermissions};
+use std::alloc::{AllocError, Global};
+use std::collections::BTreeMap;
+use std::marker::Model;
+use tab_key::Name;
+use tab_label::AuthSet;
+
+/// The users with what they hold, and the tables with the rights on them. A contract reads it by the definitions of `State`.
+#[derive(Drop)]
+pub struct Policy {
+    alloc: Global,
+    users: BTreeMap<Name, Account>,
+    tables: BTreeMap<Name, Rights>,
+}
+
+impl Model for Policy {
+    ghost use Rattle.tab_policy.specs.State.{State};
+
+    ghost Value = { State };
+
+    ghost view = { λ p. record { users = p.users.entries; tables = p.tables.entries } };
+}
+
+impl Policy {
+    ghost use Rattle.tab_policy.specs.State.{standing_of};
+    ghost use Rattle.tab_policy.specs.Decisions.{decision};
+
+    /// What the policy says of the action of this user. It takes no memory.
+    pub fn decide(&self, user: &Name, action: &Action) -> Decision
+        ensures { result ≡ decision (standing_of self.now user.now) action.now }
+    {
+        let Some(system) = self.system_of(user) else {
+            return Decision::UnknownUser;
+        };
+        let Some(table) = action.table() else {
+            return Needs::of(action).decide(system, TablePermissions::none(), None);
+        };
+        match self.rights_on(&table, user) {
+            None => Decision::NoTable(table),
+            Some(rights) => Needs::of(action).decide(system, rights, Some(table)),
+        }
+    }
+}
+
+#[tactic(auto, using(crate::proofs::Readings::auths_set), unfolding(crate::specs::State::user_exists, crate::specs::State::auths_of, crate::specs::State::system_granted, crate::specs::State::table_granted, crate::specs::State::table_exists))]
+impl Policy {
+    ghost use Rattle.tab_policy.specs.State.{user_exists, auths_of, system_granted, has_system, table_granted, table_exists};
+    ghost use Rattle.tab_policy.specs.Granting.{can_hold, is_system_right, is_table_right};
+
+    /// A policy with the one user `root`, who has all system permissions and no authorizations, and with no table.
+    ///
+    /// # Errors
+    ///
+    /// There was no memory for the user.
+    pub fn new(alloc: Global) -> Result<Policy, AllocError>
+        ensures users { IfOk result (λ s. (n : List ℕ) → user_exists s n ≡ bytes_eq root n) }
+        ensures auths { IfOk result (λ s. (n : List ℕ) → auths_of s n ≡ []) }
+        ensures system { IfOk result (λ s. (n : List ℕ) (p : _) → system_granted s n p ≡ bytes_eq root n) }
+        ensures rights { IfOk result (λ s. (n : List ℕ) (p : _) (t : List ℕ) → table_granted s n p t ≡ false) }
+        ensures tables { IfOk result (λ s. (t : List ℕ) → table_exists s t ≡ false) }
+    {
+        let mut users = BTreeMap::new(alloc);
+        let mut account = Account::new(alloc);
+        account.system = SystemPermissions::all();
+        put(&mut users, root_name(), account)?;
+        Ok(Policy {
+            alloc,
+            users,
+            tables: BTreeMap::new(alloc),
+        })
+    }
+
+    /// Whether there is a user of this name.
+    pub fn user_exists(&self, user: &Name) -> bool
+        ensures { result ≡ user_exists self.now user.now }
+    {
+        self.users.get(user).is_some()
+    }
+
+    /// Whether there is a table of this name.
+    pub fn table_exists(&self, table: &Name) -> bool
+        ensures { result ≡ table_exists self.now table.now }
+    {
+        self.tables.contains_key(table)
+    }
+
+    /// The authorizations of the user; `None` where there is no such user.
+    pub fn auths_of(&self, user: &Name) -> Option<&AuthSet>
+        ensures user { is_some result ≡ user_exists self.now user.now }
+        ensures auths { IfSome result (λ set. set.now ≡ auths_of self.now user.now) }
+    {
+        match self.users.get(user) {
+            Some(account) => Some(&account.auths),
+            None => None,
+        }
+    }
+
+    /// The system permissions that the user has, all for `root`; `None` where there is no such user.
+    pub fn system_of(&self, user: &Name) -> Option<SystemPermissions>
+        ensures user { is_some result ≡ user_exists self.now user.now }
+        ensures system { IfSome result (λ set. (p : _) → system_contains set p ≡ has_system self.now user.now p) }
+    {
+        let account = self.users.get(user)?;
+        if is_root(user) {
+            return Some(SystemPermissions::all());
+        }
+        Some(account.system)
+    }
+
+    /// The permissions that the user has on the table; `None` where there is no such table.
+    pub fn rights_on(&self, table: &Name, user: &Name) -> Option<TablePermissions>
+        ensures table { is_some result ≡ table_exists self.now table.now }
+        ensures rights { IfSome result (λ set. (p : _) → table_contains set p ≡ table_granted self.now user.now p table.now) }
+    {
+        let rights = self.tables.get(table)?;
+        Some(rights.of(user))
+    }
+
+    /// Sets the authorizations of the user, in place of those that he held. It takes no memory.
+    /// Where there is no such user nothing changes.
+    pub fn set_auths(&mut self, user: &Name, auths: AuthSet)
+        ensures users { (n : List ℕ) → user_exists self.new n ≡ user_exists self.old n }
+        ensures auths { (n : List ℕ) → auths_of self.new n ≡ (if user_exists self.old user.now && bytes_eq user.now n then auths else auths_of self.old n) }
+        ensures system { (n : List ℕ) (p : _) → system_granted self.new n p ≡ system_granted self.old n p }
+        ensures rights { (n : List ℕ) (p : _) (t : List ℕ) → table_granted self.new n p t ≡ table_granted self.old n p t }
+        ensures tables { (t : List ℕ) → table_exists self.new t ≡ table_exists self.old t }
+    {
+        set_auths(&mut self.users, user, auths);
+    }
+
+    /// Makes the table, with all permissions on it for its creator and none for others. What stood under its name is gone.
+    ///
+    /// # Errors
+    ///
+    /// There was no memory for the table. The policy is then as it was.
+    pub fn create_table(&mut self, creator: &Name, table: &Name) -> Result<(), AllocError>
+        ensures users { OnOk result ((n : List ℕ) → user_exists self.new n ≡ user_exists self.old n) }
+        ensures auths { OnOk result ((n : List ℕ) → auths_of self.new n ≡ auths_of self.old n) }
+        ensures system { OnOk result ((n : List ℕ) (p : _) → system_granted self.new n p ≡ system_granted self.old n p) }
+        ensures rights { OnOk result ((n : List ℕ) (p : _) (t : List ℕ) → table_granted self.new n p t ≡ (if bytes_eq table.now t then bytes_eq creator.now n else table_granted self.old n p t)) }
+        ensures tables { OnOk result ((t : List ℕ) → table_exists self.new t ≡ (if bytes_eq table.now t then true else table_exists self.old t)) }
+        ensures err { OnErr result (self.new ≡ self.old) }
+    {
+        let rights = Rights::new(self.alloc, creator)?;
+        put(&mut self.tables, *table, rights)
+    }
+
+    /// Takes the table away, with all rights on it. It takes no memory.
+    pub fn drop_table(&mut self, table: &Name)
+        ensures users { (n : List ℕ) → user_exists self.new n ≡ user_exists self.old n }
+        ensures auths { (n : List ℕ) → auths_of self.new n ≡ auths_of self.old n }
+        ensures system { (n : List ℕ) (p : _) → system_granted self.new n p ≡ system_granted self.old n p }
+        ensures rights { (n : List ℕ) (p : _) (t : List ℕ) → table_granted self.new n p t ≡ (if bytes_eq table.now t then false else table_granted self.old n p t) }
+        ensures tables { (t : List ℕ) → table_exists self.new t ≡ (if bytes_eq table.now t then false else table_exists self.old t) }
+    {
+        take_away(&mut self.tables, table);
+    }
+
+    /// Makes the user, with no authorizations and no rights, whoever had the name before.
+    ///
+    /// # Errors
+    ///
+    /// There was no memory for the user. The policy is then as it was.
+    pub fn create_user(&mut self, user: &Name) -> Result<(), AllocError>
+        ensures users { OnOk result ((n : List ℕ) → user_exists self.new n ≡ (if bytes_eq user.now n then true else user_exists self.old n)) }
+        ensures auths { OnOk result ((n : List ℕ) → auths_of self.new n ≡ (if bytes_eq user.now n then [] else auths_of self.old n)) }
+        ensures system { OnOk result ((n : List ℕ) (p : _) → system_granted self.new n p ≡ (if bytes_eq user.now n then false else system_granted self.old n p)) }
+        ensures rights { OnOk result ((n : List ℕ) (p : _) (t : List ℕ) → table_granted self.new n p t ≡ (if bytes_eq user.now n then false else table_granted self.old n p t)) }
+        ensures tables { OnOk result ((t : List ℕ) → table_exists self.new t ≡ table_exists self.old t) }
+        ensures err { OnErr result (self.new ≡ self.old) }
+    {
+        put(&mut self.users, *user, Account::new(self.alloc))?;
+        forget(&mut self.tables, user);
+        Ok(())
+    }
+
+    /// Takes the user away, with his rights and authorizations. It takes no memory.
+    pub fn drop_user(&mut self, user: &Name)
+        ensures users { (n : List ℕ) → user_exists self.new n ≡ (if bytes_eq user.now n then false else user_exists self.old n) }
+        ensures auths { (n : List ℕ) → auths_of self.new n ≡ (if bytes_eq user.now n then [] else auths_of self.old n) }
+        ensures system { (n : List ℕ) (p : _) → system_granted self.new n p ≡ (if bytes_eq user.now n then false else system_granted self.old n p) }
+        ensures rights { (n : List ℕ) (p : _) (t : List ℕ) → table_granted self.new n p t ≡ (if bytes_eq user.now n then false else table_granted self.old n p t) }
+        ensures tables { (t : List ℕ) → table_exists self.new t ≡ table_exists self.old t }
+    {
+        take_away(&mut self.users, user);
+        forget(&mut self.tables, user);
+    }
+
+    /// Grants the permission to the user. Where he or the permission's table doesn't exist, or he has it already, nothing changes.
+    ///
+    /// # Errors
+    ///
+    /// There was no memory for the right. The policy is then as it was.
+    pub fn grant(&mut self, user: &Name, permission: &Permission) -> Result<(), AllocError>
+        ensures users { OnOk result ((n : List ℕ) → user_exists self.new n ≡ user_exists self.old n) }
+        ensures auths { OnOk result ((n : List ℕ) → auths_of self.new n ≡ auths_of self.old n) }
+        ensures system { OnOk result ((n : List ℕ) (p : _) → system_granted self.new n p ≡ (if can_hold self.old user.now permission.now && is_system_right user.now permission.now n p then true else system_granted self.old n p)) }
+        ensures rights { OnOk result ((n : List ℕ) (p : _) (t : List ℕ) → table_granted self.new n p t ≡ (if can_hold self.old user.now permission.now && is_table_right user.now permission.now n p t then true else table_granted self.old n p t)) }
+        ensures tables { OnOk result ((t : List ℕ) → table_exists self.new t ≡ table_exists self.old t) }
+        ensures err { OnErr result (self.new ≡ self.old) }
+    {
+        match permission {
+            Permission::OfSystem(granted) => {
+                set_system(&mut self.users, user, *granted, true);
+                Ok(())
+            }
+            Permission::OfTable(granted, table) => {
+                if !self.users.contains_key(user) {
+                    return Ok(());
+                }
+                give(&mut self.tables, table, user, *granted)
+            }
+        }
+    }
+
+    /// Revokes the permission from the user. Where he doesn't have it nothing changes. It takes no memory.
+    pub fn revoke(&mut self, user: &Name, permission: &Permission)
+        ensures users { (n : List ℕ) → user_exists self.new n ≡ user_exists self.old n }
+        ensures auths { (n : List ℕ) → auths_of self.new n ≡ auths_of self.old n }
+        ensures system { (n : List ℕ) (p : _) → system_granted self.new n p ≡ (if is_system_right user.now permission.now n p then false else system_granted self.old n p) }
+        ensures rights { (n : List ℕ) (p : _) (t : List ℕ) → table_granted self.new n p t ≡ (if is_table_right user.now permission.now n p t then false else table_granted self.old n p t) }
+        ensures tables { (t : List ℕ) → table_exists self.new t ≡ table_exists self.old t }
+    {
+        match permission {
+            Permission::OfSystem(taken) => set_system(&mut self.users, user, *taken, false),
+            Permission::OfTable(taken, table) => take(&mut self.tables, table, user, *taken),
+        }
+    }
+}

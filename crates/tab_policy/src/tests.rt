@@ -1,0 +1,318 @@
+//! The table of permissions as data, and what a life of a user or a table leaves behind.
+use crate::{Action, Decision, Permission, Policy, SystemPermission, TablePermission};
+use std::alloc::Global;
+use std::test::Fail;
+use tab_key::Name;
+use tab_label::AuthSet;
+
+// An action, and the permissions of which any admits it: those for the whole server, then those for the table.
+type Row = (
+    Action,
+    &'static [SystemPermission],
+    &'static [TablePermission],
+);
+
+fn name(bytes: &[u8]) -> Result<Name, Fail> {
+    Ok(Name::new(bytes).ok_or("a name")?)
+}
+
+const ALTER: &[SystemPermission] = &[SystemPermission::AlterTable];
+
+const GRANT: &[SystemPermission] = &[SystemPermission::Grant];
+
+const SYSTEM: &[SystemPermission] = &[SystemPermission::System];
+
+const ALTER_IT: &[TablePermission] = &[TablePermission::AlterTable];
+
+const COMPACT_IT: &[TablePermission] = &[TablePermission::AlterTable, TablePermission::Write];
+
+const GRANT_IT: &[TablePermission] = &[TablePermission::Grant];
+
+// What is done to the table.
+fn rows_on_table(t: Name) -> [Row; 15] {
+    [
+        (Action::Open(t), &[], &[TablePermission::Read]),
+        (Action::Write(t), &[], &[TablePermission::Write]),
+        (
+            Action::DropTable(t),
+            &[SystemPermission::DropTable],
+            &[TablePermission::DropTable],
+        ),
+        (Action::AddSplit(t), ALTER, ALTER_IT),
+        (Action::SplitBySize(t), ALTER, ALTER_IT),
+        (Action::Splits(t), ALTER, ALTER_IT),
+        (Action::Status(t), ALTER, ALTER_IT),
+        (Action::SetConstraints(t), ALTER, ALTER_IT),
+        (Action::SetVersions(t), ALTER, ALTER_IT),
+        (Action::SetHorizon(t), ALTER, ALTER_IT),
+        (Action::Flush(t), ALTER, COMPACT_IT),
+        (Action::Compact(t), ALTER, COMPACT_IT),
+        (Action::Begin(t), ALTER, COMPACT_IT),
+        (Action::Install(t), ALTER, COMPACT_IT),
+        (Action::Rights(t), &[], &[]),
+    ]
+}
+
+// What is done to users and to the server.
+fn rows_elsewhere(t: Name) -> [Row; 11] {
+    [
+        (Action::CreateTable, &[SystemPermission::CreateTable], &[]),
+        (Action::CreateUser, &[SystemPermission::CreateUser], &[]),
+        (Action::DropUser, &[SystemPermission::DropUser], &[]),
+        (Action::SetAuths, &[SystemPermission::AlterUser], &[]),
+        (
+            Action::Grant(Permission::OfTable(TablePermission::Read, t)),
+            ALTER,
+            GRANT_IT,
+        ),
+        (
+            Action::Revoke(Permission::OfTable(TablePermission::Read, t)),
+            ALTER,
+            GRANT_IT,
+        ),
+        (
+            Action::Grant(Permission::OfSystem(SystemPermission::CreateUser)),
+            GRANT,
+            &[],
+        ),
+        (
+            Action::Revoke(Permission::OfSystem(SystemPermission::CreateUser)),
+            GRANT,
+            &[],
+        ),
+        (Action::Save, SYSTEM, &[]),
+        (Action::Load, SYSTEM, &[]),
+        (Action::Rotate, SYSTEM, &[]),
+    ]
+}
+
+// The permissions that the row lists, in their order.
+fn listed(alloc: Global, row: &Row, table: Name) -> Result<Vec<Permission>, Fail> {
+    let mut all = Vec::new(alloc);
+    for permission in row.1 {
+        all.push(Permission::OfSystem(*permission))?;
+    }
+    for permission in row.2 {
+        all.push(Permission::OfTable(*permission, table))?;
+    }
+    Ok(all)
+}
+
+// Each permission alone, for the whole server and for the table.
+fn single(alloc: Global, table: Name) -> Result<Vec<Permission>, Fail> {
+    let mut all = Vec::new(alloc);
+    for permission in SystemPermission::ALL {
+        all.push(Permission::OfSystem(permission))?;
+    }
+    for permission in TablePermission::ALL {
+        all.push(Permission::OfTable(permission, table))?;
+    }
+    Ok(all)
+}
+
+// What is said to a user who has the permission alone, if he has one, by the row's list.
+fn expected(listed: &[Permission], held: &Option<Permission>) -> Decision {
+    match listed.first() {
+        None => Decision::Admitted,
+        Some(first) => match held {
+            Some(permission) if listed.contains(permission) => Decision::Admitted,
+            _ => Decision::Denied(*first),
+        },
+    }
+}
+
+// A policy with the user bob and the tables t and u, on which he has no rights.
+fn with_bob(alloc: Global) -> Result<Policy, Fail> {
+    let mut policy = Policy::new(alloc)?;
+    policy.create_user(&name(b"bob")?)?;
+    policy.create_table(&name(b"root")?, &name(b"t")?)?;
+    policy.create_table(&name(b"root")?, &name(b"u")?)?;
+    Ok(policy)
+}
+
+// Whether each row is decided as its list says for the user who has this permission alone, if he has one.
+fn decides_as_listed(
+    alloc: Global,
+    policy: &Policy,
+    user: &Name,
+    rows: &[Row],
+    held: &Option<Permission>,
+) -> Result<bool, Fail> {
+    let table = name(b"t")?;
+    for row in rows {
+        let listed = listed(alloc, row, table)?;
+        if policy.decide(user, &row.0) != expected(&listed, held) {
+            return Ok(false);
+        }
+    }
+    Ok(true)
+}
+
+#[test]
+fn each_permission_admits_its_actions_and_no_other(rt: HostRuntime) -> Result<(), Fail> {
+    let alloc = rt.alloc();
+    let bob = name(b"bob")?;
+    let table = name(b"t")?;
+    let (here, elsewhere) = (rows_on_table(table), rows_elsewhere(table));
+    let mut policy = with_bob(alloc)?;
+    assert!(rt; decides_as_listed(alloc, &policy, &bob, &here, &None)?);
+    assert!(rt; decides_as_listed(alloc, &policy, &bob, &elsewhere, &None)?);
+    for permission in single(alloc, table)? {
+        policy.grant(&bob, &permission)?;
+        let held = Some(permission);
+        assert!(rt; decides_as_listed(alloc, &policy, &bob, &here, &held)?);
+        assert!(rt; decides_as_listed(alloc, &policy, &bob, &elsewhere, &held)?);
+        policy.revoke(&bob, &permission);
+    }
+    Ok(())
+}
+
+#[test]
+fn checks_the_caller_then_the_table_then_the_permission(rt: HostRuntime) -> Result<(), Fail> {
+    let alloc = rt.alloc();
+    let (root, bob, table, other) = (name(b"root")?, name(b"bob")?, name(b"t")?, name(b"u")?);
+    let mut policy = with_bob(alloc)?;
+    let missing = name(b"missing")?;
+    let read = Permission::OfTable(TablePermission::Read, table);
+    policy.grant(&bob, &read)?;
+    let no_read = Decision::Denied(Permission::OfTable(TablePermission::Read, other));
+    let no_system = Decision::Denied(Permission::OfSystem(SystemPermission::System));
+    let rows = [
+        (missing, Action::Open(missing), Decision::UnknownUser),
+        (bob, Action::Open(missing), Decision::NoTable(missing)),
+        (
+            bob,
+            Action::Grant(Permission::OfTable(TablePermission::Read, missing)),
+            Decision::NoTable(missing),
+        ),
+        (bob, Action::Rights(missing), Decision::NoTable(missing)),
+        (bob, Action::Open(table), Decision::Admitted),
+        (bob, Action::Open(other), no_read),
+        (bob, Action::Save, no_system),
+        (root, Action::Save, Decision::Admitted),
+        (root, Action::Open(table), Decision::Admitted),
+    ];
+    for (user, action, decision) in rows {
+        assert!(rt; policy.decide(&user, &action) == decision);
+    }
+    policy.revoke(&root, &Permission::OfSystem(SystemPermission::System));
+    assert!(rt; policy.decide(&root, &Action::Save) == Decision::Admitted);
+    policy.revoke(&root, &Permission::OfTable(TablePermission::Read, table));
+    assert!(rt; policy.decide(&root, &Action::Open(table)) == Decision::Denied(read));
+    Ok(())
+}
+
+// How many authorizations, system permissions and permissions for the table the user has, as far as he and it exist.
+fn counts(
+    alloc: Global,
+    policy: &Policy,
+    user: &Name,
+    table: &Name,
+) -> Result<(Option<usize>, Option<usize>, Option<usize>), Fail> {
+    let auths = match policy.auths_of(user) {
+        Some(set) => Some(set.len()),
+        None => None,
+    };
+    let system = match policy.system_of(user) {
+        Some(set) => Some(set.members(alloc)?.len()),
+        None => None,
+    };
+    let rights = match policy.rights_on(table, user) {
+        Some(set) => Some(set.members(alloc)?.len()),
+        None => None,
+    };
+    Ok((auths, system, rights))
+}
+
+#[test]
+fn a_new_life_begins_with_nothing(rt: HostRuntime) -> Result<(), Fail> {
+    let alloc = rt.alloc();
+    let (root, bob, table) = (name(b"root")?, name(b"bob")?, name(b"t")?);
+    let mut policy = with_bob(alloc)?;
+    let term = Vec::from_slice(alloc, b"A")?;
+    let mut terms = Vec::new(alloc);
+    terms.push(term)?;
+    policy.set_auths(&bob, AuthSet::new(terms));
+    for permission in single(alloc, table)? {
+        policy.grant(&bob, &permission)?;
+        policy.grant(&bob, &permission)?;
+    }
+    assert_eq!(rt;
+        counts(alloc, &policy, &bob, &table)?,
+        (Some(1), Some(8), Some(5)),
+        "granted"
+    );
+    policy.revoke(&bob, &Permission::OfTable(TablePermission::Write, table));
+    policy.revoke(&bob, &Permission::OfSystem(SystemPermission::Grant));
+    policy.revoke(&bob, &Permission::OfSystem(SystemPermission::Grant));
+    assert_eq!(rt;
+        counts(alloc, &policy, &bob, &table)?,
+        (Some(1), Some(7), Some(4)),
+        "revoked"
+    );
+    policy.drop_table(&table);
+    assert_eq!(rt;
+        counts(alloc, &policy, &bob, &table)?,
+        (Some(1), Some(7), None),
+        "no table"
+    );
+    assert!(rt; !policy.table_exists(&table));
+    policy.create_table(&root, &table)?;
+    assert_eq!(rt;
+        counts(alloc, &policy, &bob, &table)?,
+        (Some(1), Some(7), Some(0)),
+        "new table"
+    );
+    assert_eq!(rt;
+        counts(alloc, &policy, &root, &table)?,
+        (Some(0), Some(8), Some(5)),
+        "creator"
+    );
+    policy.grant(&bob, &Permission::OfTable(TablePermission::Write, table))?;
+    policy.drop_user(&bob);
+    assert!(rt; !policy.user_exists(&bob));
+    assert_eq!(rt;
+        counts(alloc, &policy, &bob, &table)?,
+        (None, None, Some(0)),
+        "no user"
+    );
+    policy.grant(&bob, &Permission::OfTable(TablePermission::Write, table))?;
+    policy.create_user(&bob)?;
+    assert_eq!(rt;
+        counts(alloc, &policy, &bob, &table)?,
+        (Some(0), Some(0), Some(0)),
+        "new user"
+    );
+    Ok(())
+}
+
+#[test]
+fn names_are_read_back(rt: HostRuntime) -> Result<(), Fail> {
+    for permission in SystemPermission::ALL {
+        assert!(rt; SystemPermission::from_name(permission.name()) == Some(permission));
+    }
+    for permission in TablePermission::ALL {
+        assert!(rt; TablePermission::from_name(permission.name()) == Some(permission));
+    }
+    let rows: [(&[u8], bool, bool); 6] = [
+        (b"GRANT", true, true),
+        (b"CREATE_TABLE", true, false),
+        (b"READ", false, true),
+        (b"read", false, false),
+        (b"SYSTEM ", false, false),
+        (b"", false, false),
+    ];
+    for (text, system, table) in rows {
+        assert_eq!(rt;
+            SystemPermission::from_name(text).is_some(),
+            system,
+            "{text:?}"
+        );
+        assert_eq!(rt;
+            TablePermission::from_name(text).is_some(),
+            table,
+            "{text:?}"
+        );
+    }
+    Ok(())
+}
