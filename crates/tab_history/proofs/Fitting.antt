@@ -1,0 +1,148 @@
+-- What an accepted event changes keeps to the settings of its table.
+use Rattle.std.proofs.Common.{◌≡◌, ◌⊎◌, inl, inr, ℕ, ◌+◌, List, [], ◌∷◌, ◌++◌, Bool, true, false, cond, ◌&&◌, refl, sym, subst, arith}
+use Rattle.std.specs.Prelude.{ℤ, int_le, int_lt, Option, Some, None, map, reverse, unwrap_or, is_some, option_map}
+use Rattle.std.specs.List.{AllByRecursion}
+use Rattle.std.proofs.lemmas.Int.{ints}
+use Rattle.std.proofs.lemmas.Grind.{reverse_onto}
+use mathlib.Core.Bool.{true≢false}
+use Rattle.tab_key.specs.declared.part.Part.TheVariants.{Sessions, Numbers}
+use Rattle.tab_history.specs.declared.event.TimeMode.{TimeMode}
+use Rattle.tab_history.specs.declared.event.TimeMode.TheVariants.{Any, Server}
+use Rattle.tab_history.specs.declared.event.Act.{Act}
+use Rattle.tab_history.specs.declared.event.Act.TheVariants.{Open, Write, CreateTable, SetConstraints, SetAuths}
+use Rattle.tab_history.specs.declared.event.Event.{Event as TheEvent}
+use Rattle.tab_history.specs.declared.event.Step.{Step}
+use Rattle.tab_history.specs.declared.event.Step.TheVariants.{Event}
+use Rattle.tab_history.specs.declared.reply.Refusal.{Refusal}
+use Rattle.tab_history.specs.declared.reply.Refusal.TheVariants.{TimestampNotAllowed, BelowHorizon, NoMemory, TooLarge}
+use Rattle.tab_history.specs.declared.reply.Reply.TheVariants.{Refused}
+use Rattle.tab_key.specs.Records.{Record}
+use Rattle.tab_key.proofs.Rising.{IsIn}
+use Rattle.tab_history.specs.Answers.{Told, granted, told, event_answer, is_open, answer, changes_by}
+use Rattle.tab_history.specs.Bases.{Base}
+use Rattle.tab_history.specs.Changes.{Posted, Change, Written, posted, changes_of}
+use Rattle.tab_history.specs.Checks.{Caller, standing, user_named, exists_in, action_of, denial, shape_refusal, malformed, stamped, outdated, violated, mutation_checks, own_checks, refusal_of}
+use Rattle.tab_history.specs.Held.{floor_of}
+use Rattle.tab_history.specs.Histories.{Entry, World, clock_of, clock_at, journal, user_of, moves_of}
+use Rattle.tab_history.specs.Legal.{IsAnswer, IsExhausted}
+use Rattle.tab_mutation.specs.Mutations.{Update, Mutation}
+use Rattle.tab_policy.specs.Decisions.{decision}
+use Rattle.tab_history.specs.Readings.{next_number, numbered}
+use Rattle.tab_history.specs.Sessions.{Move, is_full}
+use Rattle.tab_history.specs.Settings.{Settings, takes_timestamps}
+use Rattle.tab_mutation.specs.Shape.{first_some, first_place, misshape}
+use Rattle.tab_rules.specs.Verdict.{violations}
+use Rattle.tab_history.proofs.Options.{or_else_left, or_else_right, unmapped}
+use Rattle.tab_history.proofs.StandsFor.{table_floor, Fits, FitAll}
+
+-- ---- lists
+all_map : {X Y : Type 0} (P : Y → Type 0) (f : X → Y) (xs : List X) → AllByRecursion (λ x. P (f x)) xs → AllByRecursion P (map f xs)
+all_map P f [] a = tt
+all_map P f (x ∷ xs) a = (a.0, all_map P f xs a.1)
+
+all_append : {X : Type 0} (P : X → Type 0) (xs ys : List X) → AllByRecursion P xs → AllByRecursion P ys → AllByRecursion P (xs ++ ys)
+all_append P [] ys a b = b
+all_append P (x ∷ xs) ys a b = (a.0, all_append P xs ys a.1 b)
+
+all_reverse : {X : Type 0} (P : X → Type 0) (xs : List X) → AllByRecursion P xs → AllByRecursion P (reverse xs)
+all_reverse P [] a = tt
+all_reverse P (x ∷ xs) a = subst (AllByRecursion P) (sym (reverse_onto xs x [])) (all_append P (reverse xs) (x ∷ []) (all_reverse P xs a.1) (a.0, tt))
+
+all_weaker : {X : Type 0} (P Q : X → Type 0) → ((x : X) → P x → Q x) → (xs : List X) → AllByRecursion P xs → AllByRecursion Q xs
+all_weaker P Q f [] a = tt
+all_weaker P Q f (x ∷ xs) a = (f x a.0, all_weaker P Q f xs a.1)
+
+no_place : {X : Type 0} (p : X → Bool) (i : ℕ) (xs : List X) → first_place p i xs ≡ None → AllByRecursion (λ x. p x ≡ false) xs
+no_place p i [] e = tt
+no_place p i (x ∷ xs) e = go (p x) refl e (no_place p (i + 1) xs)
+  where
+    go : (v : Bool) → p x ≡ v → cond v (Some i) (first_place p (i + 1) xs) ≡ None → (first_place p (i + 1) xs ≡ None → AllByRecursion (λ y. p y ≡ false) xs) → AllByRecursion (λ y. p y ≡ false) (x ∷ xs)
+    go true t e ih = absurd (cc)
+    go false t e ih = (t, ih e)
+
+-- ---- timestamps
+not_under : (x y : ℤ) → int_lt x y ≡ false → int_le y x ≡ true
+not_under x y e = grind (arith, ints)
+
+le_self : (x : ℤ) → int_le x x ≡ true
+le_self x = grind (arith, ints)
+
+the_clock : (o : Option ℤ) (now : ℤ) → is_some o ≡ false → int_le now (unwrap_or o now) ≡ true
+the_clock None now e = le_self now
+the_clock (Some x) now e = absurd (true≢false e)
+
+-- each timestamp of a mutation that is accepted lies at or above the table's floor
+settled : (s : Settings) (m : Mutation) (now : ℤ) → stamped s m ≡ None → outdated s now m ≡ None → AllByRecursion (λ (u : Update). int_le (table_floor s now) (unwrap_or u.timestamp now) ≡ true) m.updates
+unfolding stamped outdated
+settled s m now e f = go s.time e
+  where
+    go : (time : TimeMode) → cond (takes_timestamps time) None (option_map TimestampNotAllowed (first_place (λ (u : Update). is_some u.timestamp) 0 m.updates)) ≡ None → AllByRecursion (λ (u : Update). int_le (floor_of time now s.horizon) (unwrap_or u.timestamp now) ≡ true) m.updates
+    go Any e = all_weaker _ _ (λ u p. not_under (unwrap_or u.timestamp now) s.horizon p) m.updates (no_place (λ (u : Update). int_lt (unwrap_or u.timestamp now) s.horizon) 0 m.updates (unmapped BelowHorizon _ f))
+    go Server e = all_weaker _ _ (λ u p. the_clock u.timestamp now p) m.updates (no_place (λ (u : Update). is_some u.timestamp) 0 m.updates (unmapped TimestampNotAllowed _ e))
+
+in_numbered : (low : ℤ) (seq : ℕ) (row : List ℕ) (ps : List Posted) → AllByRecursion (λ (p : Posted). int_le low p.timestamp ≡ true) ps → (u : Record) → IsIn (numbered seq row ps) u → int_le low u.key.timestamp ≡ true
+unfolding numbered
+in_numbered low seq row [] a u h = absurd h
+in_numbered low seq row (p ∷ ps) a u (inl e) = subst (λ (r : Record). int_le low r.key.timestamp ≡ true) e a.0
+in_numbered low seq row (p ∷ ps) a u (inr h) = in_numbered low seq row ps a.1 u h
+
+-- ---- by acts
+-- what an event's own checks say, once it is admitted
+own_pass : (c : Caller) (there : Bool) (now : ℤ) (user : List ℕ) (act : Act) → refusal_of c there now user act ≡ None → first_some (own_checks c there now act) ≡ None
+unfolding refusal_of
+own_pass c there now user act e = or_else_right (denial user (decision c.policy (action_of act))) _ e
+
+module _ (b : Base) (j : List Change) (now : ℤ) (user : List ℕ) where
+  write_fits : (there : Bool) (t : List ℕ) (m : Mutation) → refusal_of (standing b j user) there now user (Write t m) ≡ None → Fits b j now (Written t m.row (reverse (map (posted now) m.updates)))
+  unfolding standing
+  write_fits there t m e s q u h = in_numbered (table_floor s now) (next_number b j) m.row _ (all_reverse _ _ (all_map _ (posted now) m.updates (settled s m now (or_else_left (stamped s m) _ tail) (or_else_left (outdated s now m) _ (or_else_right (stamped s m) _ tail))))) u h
+    where
+      passed : first_some (mutation_checks (Some s) (standing b j user).auths now m) ≡ None
+      passed = subst (λ o. first_some (mutation_checks o (standing b j user).auths now m) ≡ None) q (own_pass (standing b j user) there now user (Write t m) e)
+
+      tail : first_some (stamped s m ∷ outdated s now m ∷ violated (violations s.constraints (standing b j user).auths m) ∷ []) ≡ None
+      tail = or_else_right (malformed m) _ (or_else_right (option_map shape_refusal (misshape m)) _ passed)
+
+  -- the changes of an event that isn't refused fit
+  act_fits : (there : Bool) (act : Act) → refusal_of (standing b j user) there now user act ≡ None → FitAll b j now (changes_of now user act)
+  act_fits there (Write t m) e = (tt, write_fits there t m e)
+  act_fits there (Open scan) e = tt
+  act_fits there (CreateTable t time n) e = ((((((tt, tt), tt), tt), tt), tt), tt)
+  act_fits there (SetConstraints t cs) e = (tt, tt)
+  act_fits there (SetAuths n auths) e = (tt, tt)
+
+-- those of a refused one are none
+refused_fits : (b : Base) (j : List Change) (now : ℤ) (step : Step) (x : Refusal) → FitAll b j now (changes_by now step (Refused x))
+refused_fits b j now (Event e) x = tt
+refused_fits b j now _ x = tt
+
+granted_fits : (b : Base) (j : List Change) (now : ℤ) (e : TheEvent) → FitAll b j now (changes_of now e.user e.act) → (act : Act) → act ≡ e.act → FitAll b j now (changes_by now (Event e) (granted act))
+granted_fits b j now e f (Open scan) q = f
+granted_fits b j now e f (Write t m) q = f
+granted_fits b j now e f (CreateTable t time n) q = f
+granted_fits b j now e f (SetConstraints t cs) q = f
+granted_fits b j now e f (SetAuths n auths) q = f
+
+event_fits : (b : Base) (j : List Change) (now : ℤ) (e : TheEvent) (o : Option Refusal) → (o ≡ None → FitAll b j now (changes_of now e.user e.act)) → FitAll b j now (changes_by now (Event e) (told o (granted e.act)))
+event_fits b j now e None f = granted_fits b j now e (f refl) e.act refl
+event_fits b j now e (Some x) f = tt
+
+-- the changes of a step that is answered fit
+step_fits : (b : Base) (j : List Change) (moves : List Move) (now : ℤ) (step : Step) → FitAll b j now (changes_by now step (answer b j moves now step))
+unfolding answer
+step_fits b j moves now (Event e) = go (is_open e.act && is_full moves)
+  where
+    go : (v : Bool) → FitAll b j now (changes_by now (Event e) (cond v (Refused (TooLarge Sessions)) (event_answer b j now e.user e.act)))
+    go true = tt
+    go false = event_fits b j now e (refusal_of (standing b j e.user) (exists_in b j (user_named e.act)) now e.user e.act) (act_fits b j now e.user (exists_in b j (user_named e.act)) e.act)
+step_fits b j moves now _ = tt
+
+-- the changes of an entry that is an answer fit
+pub fits_answer : (w : World) (es own : List Entry) (step : Step) (r : Told) → IsAnswer w es own step r → FitAll w.base (journal w es) (clock_at (clock_of w es) step) (changes_by (clock_at (clock_of w es) step) step r)
+fits_answer w es own step r h = subst (λ x. FitAll w.base (journal w es) (clock_at (clock_of w es) step) (changes_by (clock_at (clock_of w es) step) step x)) (sym h) (step_fits w.base (journal w es) (moves_of w (user_of step) own) (clock_at (clock_of w es) step) step)
+
+-- and those of any entry of a legal history
+pub fits_legal : (w : World) (es own : List Entry) (step : Step) (r : Told) → IsAnswer w es own step r ⊎ IsExhausted r → FitAll w.base (journal w es) (clock_at (clock_of w es) step) (changes_by (clock_at (clock_of w es) step) step r)
+fits_legal w es own step r (inl h) = fits_answer w es own step r h
+fits_legal w es own step r (inr (inl e)) = subst (λ x. FitAll w.base (journal w es) (clock_at (clock_of w es) step) (changes_by (clock_at (clock_of w es) step) step x)) (sym e) (refused_fits w.base (journal w es) (clock_at (clock_of w es) step) step NoMemory)
+fits_legal w es own step r (inr (inr e)) = subst (λ x. FitAll w.base (journal w es) (clock_at (clock_of w es) step) (changes_by (clock_at (clock_of w es) step) step x)) (sym e) (refused_fits w.base (journal w es) (clock_at (clock_of w es) step) step (TooLarge Numbers))

@@ -1,0 +1,14 @@
+pub mod Options
+pub mod OneAnswer
+pub mod Held
+pub mod HeldWrite
+pub mod HeldMembers
+pub mod Numbering
+pub mod Holds
+pub mod StandsFor
+pub mod Fitting
+pub mod GoOn
+pub mod Chains
+pub mod GoesOnLemmas
+pub mod Playing
+pub mod NewCore

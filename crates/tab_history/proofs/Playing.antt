@@ -1,0 +1,70 @@
+-- Each list of steps has a legal history, and only one in which nothing ran out.
+use Rattle.std.proofs.Common.{◌≡◌, ◌⊎◌, inl, inr, List, [], ◌∷◌, ◌++◌, refl, sym, ◌∙◌, ap, append_assoc, append-nil}
+use Rattle.std.specs.Prelude.{map, reverse}
+use Rattle.std.proofs.lemmas.Grind.{reverse_onto}
+use Rattle.std.proofs.lemmas.List.{reverse-reverse}
+use Rattle.tab_key.specs.declared.part.Part.TheVariants.{Sessions}
+use Rattle.tab_history.specs.declared.event.Step.{Step}
+use Rattle.tab_history.specs.declared.event.Step.TheVariants.{Event, Next, Close}
+use Rattle.tab_history.specs.declared.reply.Refusal.TheVariants.{NoMemory, TooLarge, NoSession}
+use Rattle.tab_history.specs.declared.reply.Reply.TheVariants.{Refused}
+use Rattle.tab_history.specs.Answers.{Told}
+use Rattle.tab_history.specs.Histories.{Entry, World, clock_of, journal, world_after, steps_of}
+use Rattle.tab_history.specs.Legal.{IsAnswer, IsExhausted, Legal, IsAmple}
+use Rattle.tab_history.specs.Runs.{answer_to, played, EveryRunIsAnswered, OneHistory, IsNoEvent, Unmoved}
+
+played_legal : (w : World) (es : List Entry) (steps : List Step) → Legal w es → Legal w (played w es steps)
+played_legal w es [] l = l
+played_legal w es (step ∷ steps) l = played_legal w (record { step = step; reply = answer_to w es step } ∷ es) steps (l, inl refl)
+
+played_steps : (w : World) (es : List Entry) (steps : List Step) → steps_of (played w es steps) ≡ steps_of es ++ steps
+played_steps w es [] = sym (append-nil (steps_of es))
+played_steps w es (step ∷ steps) = played_steps w (record { step = step; reply = answer_to w es step } ∷ es) steps ∙ ap (λ xs. xs ++ steps) (reverse_onto (map (λ (e : Entry). e.step) es) step []) ∙ append_assoc (steps_of es) (step ∷ []) steps
+
+pub every_run_is_answered : EveryRunIsAnswered
+every_run_is_answered w steps = (played w [] steps, played_legal w [] steps tt, played_steps w [] steps)
+
+-- ---- one history
+same_head : {X : Type 0} (x y : X) (xs ys : List X) → x ∷ xs ≡ y ∷ ys → x ≡ y
+same_head x y xs ys e = ap (λ l. first_or x l) e
+  where
+    first_or : {X : Type 0} → X → List X → X
+    first_or d [] = d
+    first_or d (z ∷ zs) = z
+
+same_tail : {X : Type 0} (x y : X) (xs ys : List X) → x ∷ xs ≡ y ∷ ys → xs ≡ ys
+same_tail x y xs ys e = ap rest e
+  where
+    rest : {X : Type 0} → List X → List X
+    rest [] = []
+    rest (z ∷ zs) = zs
+
+ample_answer : (w : World) (es : List Entry) (step : Step) (r : Told) → IsAnswer w es es step r ⊎ IsExhausted r → (IsExhausted r → ⊥) → IsAnswer w es es step r
+ample_answer w es step r (inl h) n = h
+ample_answer w es step r (inr x) n = absurd (n x)
+
+same_steps : (w : World) (h k : List Entry) → Legal w h → Legal w k → IsAmple h → IsAmple k → map (λ (e : Entry). e.step) h ≡ map (λ (e : Entry). e.step) k → h ≡ k
+same_steps w [] [] l m a b q = refl
+same_steps w (e ∷ es) (f ∷ fs) l m a b q =
+    let p : es ≡ fs = same_steps w es fs l.0 m.0 a.0 b.0 (same_tail e.step f.step _ _ q) in
+    let step : e.step ≡ f.step = same_head e.step f.step _ _ q in
+    let reply : e.reply ≡ f.reply = ample_answer w es e.step e.reply l.1 a.1 ∙ (λ i. answer_to w (p i) (step i)) ∙ sym (ample_answer w fs f.step f.reply m.1 b.1) in
+    λ i. record { step = step i; reply = reply i } ∷ p i
+same_steps w [] (f ∷ fs) l m a b q = absurd (cc)
+same_steps w (e ∷ es) [] l m a b q = absurd (cc)
+
+pub one_history : OneHistory
+one_history w h k l m a b q = same_steps w h k l m a b (sym (reverse-reverse (map (λ (e : Entry). e.step) h)) ∙ ap reverse q ∙ reverse-reverse (map (λ (e : Entry). e.step) k))
+
+-- ---- no events
+unmoved_by : (w : World) (es : List Entry) (step : Step) (r : Told) → IsNoEvent step r → world_after w (record { step = step; reply = r } ∷ es) ≡ world_after w es
+unfolding journal clock_of
+unmoved_by w es (Event e) (Refused NoMemory) n = refl
+unmoved_by w es (Event e) (Refused (TooLarge Sessions)) n = refl
+unmoved_by w es (Event e) (Refused (NoSession slot)) n = refl
+unmoved_by w es (Event e) r n = absurd n
+unmoved_by w es (Next user slot n) r h = refl
+unmoved_by w es (Close user slot) r h = refl
+
+pub unmoved : Unmoved
+unmoved w es e n = unmoved_by w es e.step e.reply n

@@ -1,0 +1,106 @@
+-- The answer to each step, and what the step does.
+use Rattle.std.specs.Prelude.{ℕ, ℤ, List, [], ◌∷◌, Bool, true, false, ◌&&◌, cond, Option, Some, None, length}
+use Rattle.tab_key.specs.Records.{Record, Cell}
+use Rattle.tab_history.specs.Settings.{Settings}
+use Rattle.tab_history.specs.Bases.{Base}
+use Rattle.tab_history.specs.Changes.{Change, changes_of}
+use Rattle.tab_history.specs.Readings.{settings_of, updates_of}
+use Rattle.tab_history.specs.Cells.{Query, cells}
+use Rattle.tab_history.specs.Checks.{standing, refusal_of, user_named, exists_in}
+use Rattle.tab_history.specs.Sessions.{Move, Opening, Taking, Closing, Held, is_full, session_in, batch}
+use Rattle.tab_key.specs.declared.part.Part.TheVariants.{Sessions}
+use Rattle.tab_history.specs.declared.event.Scan.{Scan}
+use Rattle.tab_history.specs.declared.event.Act.{Act}
+use Rattle.tab_history.specs.declared.event.Act.TheVariants.{Open}
+use Rattle.tab_history.specs.declared.event.Step.{Step}
+use Rattle.tab_history.specs.declared.event.Step.TheVariants.{Event, Next, Close}
+use Rattle.tab_history.specs.declared.reply.Refusal.{Refusal}
+use Rattle.tab_history.specs.declared.reply.Refusal.TheVariants.{TooLarge, NoSession}
+use Rattle.tab_history.specs.declared.reply.Reply.{Reply}
+use Rattle.tab_history.specs.declared.reply.Reply.TheVariants.{Done, Refused, Opened, Batch}
+
+-- a reply without the session that goes with it
+abbrev pub Told : Type 0
+Told = Reply (Unit {0})
+
+-- what is told of an opened session
+abbrev pub told_opened : Told
+told_opened = Opened tt
+
+-- what is told of a reply
+abbrev pub told_of : {S : Type 0} → Reply S → Told
+told_of Done = Done
+told_of (Refused refusal) = Refused refusal
+told_of (Opened session) = told_opened
+told_of (Batch cells) = Batch cells
+
+-- the session that goes with a reply
+abbrev pub session_of : {S : Type 0} → Reply S → Option S
+session_of Done = None
+session_of (Refused refusal) = None
+session_of (Opened session) = Some session
+session_of (Batch cells) = None
+
+-- ---- answers
+-- what is told of an event that isn't refused
+abbrev pub granted : Act → Told
+granted (Open scan) = told_opened
+granted _ = Done
+
+-- the refusal, if there is one
+abbrev pub told : Option Refusal → Told → Told
+told None reply = reply
+told (Some r) reply = Refused r
+
+-- the answer to an event; now is the clock, with the event's own moment in it
+abbrev pub event_answer : Base → List Change → ℤ → List ℕ → Act → Told
+event_answer b j now user act = told (refusal_of (standing b j user) (exists_in b j (user_named act)) now user act) (granted act)
+
+-- whether the event opens a session
+abbrev pub is_open : Act → Bool
+is_open (Open scan) = true
+is_open _ = false
+
+-- the next n cells of the session in the slot
+abbrev pub next_answer : Option Held → ℕ → ℕ → Told
+next_answer None slot n = Refused (NoSession slot)
+next_answer (Some held) slot n = Batch (batch held n)
+
+-- a session in the slot can be closed
+abbrev pub close_answer : Option Held → ℕ → Told
+close_answer None slot = Refused (NoSession slot)
+close_answer (Some held) slot = Done
+
+-- The answer to a step of a user whose sessions went through these moves. An Open past the limit of sessions is refused before all else.
+unfoldable pub answer : Base → List Change → List Move → ℤ → Step → Told
+answer b j moves now (Event e) = cond (is_open e.act && is_full moves) (Refused (TooLarge Sessions)) (event_answer b j now e.user e.act)
+answer b j moves now (Next user slot n) = next_answer (session_in moves slot) slot n
+answer b j moves now (Close user slot) = close_answer (session_in moves slot) slot
+
+-- ---- what a step does
+-- what the scan asks of its table
+abbrev pub query_of : Scan → Query
+query_of scan = record { bounds = scan.bounds; columns = scan.columns; authorizations = scan.authorizations }
+
+-- what a scan of a table with these settings shows
+abbrev pub listed : List Record → Query → Option Settings → List Cell
+listed us q None = []
+listed us q (Some s) = cells us s.versions q
+
+-- the whole answer of the session that the event opens
+unfoldable pub session_list : Base → List Change → Act → List Cell
+session_list b j (Open scan) = listed (updates_of b j scan.table) (query_of scan) (settings_of b j scan.table)
+session_list b j _ = []
+
+-- what a step and its reply change: nothing, where it was refused
+abbrev pub changes_by : ℤ → Step → Told → List Change
+changes_by now (Event e) (Refused r) = []
+changes_by now (Event e) reply = changes_of now e.user e.act
+changes_by now _ reply = []
+
+-- what they do to the sessions of the step's user
+abbrev pub moves_by : Base → List Change → Step → Told → List Move
+moves_by b j (Event e) (Opened session) = cond (is_open e.act) (Opening (session_list b j e.act) ∷ []) []
+moves_by b j (Next user slot n) (Batch cells) = Taking slot (length cells) ∷ []
+moves_by b j (Close user slot) Done = Closing slot ∷ []
+moves_by b j _ _ = []

@@ -1,0 +1,122 @@
+-- Why an event is refused: its checks, in their order.
+use Rattle.std.specs.Prelude.{ℕ, ℤ, List, [], ◌∷◌, Bool, true, not, ◌||◌, nat_lt, int_lt, Option, Some, None, Result, Ok, Err, is_some, length, unwrap_or, cond, option_map}
+use Rattle.tab_label.specs.Sets.{has_longer, first_missing}
+use Rattle.tab_label.specs.Reading.{label_of}
+use Rattle.tab_key.specs.Ranges.{is_bad_range}
+use Rattle.tab_mutation.specs.Mutations.{Update, Mutation}
+use Rattle.tab_mutation.specs.Shape.{first_some, when, first_place, first_found, misshape}
+use Rattle.tab_rules.specs.Verdict.{violations}
+use Rattle.tab_policy.specs.Decisions.{Standing, decision}
+use Rattle.tab_history.specs.Settings.{Settings, takes_timestamps}
+use Rattle.tab_history.specs.Bases.{Base}
+use Rattle.tab_history.specs.Changes.{Change}
+use Rattle.tab_history.specs.Readings.{has_user, held_auths, may_system, has_table_right, settings_of}
+use Rattle.tab_mutation.specs.declared.misshape.Misshape.{Misshape}
+use Rattle.tab_mutation.specs.declared.misshape.Misshape.TheVariants as shape
+use Rattle.tab_rules.specs.declared.failing.Failing.{Failing}
+use Rattle.tab_key.specs.declared.part.Part.TheVariants.{Columns, Authorizations}
+use Rattle.tab_policy.specs.declared.action.Action.{Action}
+use Rattle.tab_policy.specs.declared.action.Action.TheVariants as action
+use Rattle.tab_policy.specs.declared.action.Decision.{Decision}
+use Rattle.tab_policy.specs.declared.action.Decision.TheVariants as policy
+use Rattle.tab_history.specs.declared.event.Scan.{Scan}
+use Rattle.tab_history.specs.declared.event.Act.{Act}
+use Rattle.tab_history.specs.declared.event.Act.TheVariants.{Open, Write, CreateTable, SetConstraints, SetAuths}
+use Rattle.tab_history.specs.declared.reply.Refusal.{Refusal}
+use Rattle.tab_history.specs.declared.reply.Refusal.TheVariants.{UnknownUser, NoTable, PermissionDenied, BadAuthorizations, MalformedVisibility, ConstraintViolation, TimestampNotAllowed, EmptyMutation, TooLarge, TableExists, NoUser, BadRange, BelowHorizon}
+
+-- ---- what the checks of an event look at
+-- the caller's standing with the policy, the authorizations that he holds, and what each table is set to
+pub record Caller : Type 0 where
+  pub policy : Standing
+  pub auths : List (List ℕ)
+  pub settings : List ℕ → Option Settings
+
+-- the same, read from a base and the changes since
+unfoldable pub standing : Base → List Change → List ℕ → Caller
+standing b j user = record {
+  policy = record { known = has_user b j user; system = may_system b j user; table = has_table_right b j user; exists = λ t. is_some (settings_of b j t) };
+  auths = held_auths b j user;
+  settings = settings_of b j;
+}
+
+-- the user that an event names beside its caller
+abbrev pub user_named : Act → Option (List ℕ)
+user_named (SetAuths n auths) = Some n
+user_named _ = None
+
+-- whether that user exists, where one is named
+abbrev pub exists_in : Base → List Change → Option (List ℕ) → Bool
+exists_in b j None = true
+exists_in b j (Some n) = has_user b j n
+
+-- ---- unknown users, unknown tables and missing permissions, which the policy decides
+-- what the policy is asked for an event
+abbrev pub action_of : Act → Action
+action_of (Open scan) = action.Open scan.table
+action_of (Write t m) = action.Write t
+action_of (CreateTable t time n) = action.CreateTable
+action_of (SetConstraints t cs) = action.SetConstraints t
+action_of (SetAuths n auths) = action.SetAuths
+
+-- why the policy doesn't admit the user's event
+abbrev pub denial : List ℕ → Decision → Option Refusal
+denial user policy.Admitted = None
+denial user policy.UnknownUser = Some (UnknownUser user)
+denial user (policy.NoTable t) = Some (NoTable t)
+denial user (policy.Denied p) = Some (PermissionDenied p)
+
+-- ---- the checks of a mutation
+-- the shape of a mutation: no update, or a part that is too large
+abbrev pub shape_refusal : Misshape → Refusal
+shape_refusal shape.Empty = EmptyMutation
+shape_refusal (shape.TooLarge part) = TooLarge part
+
+-- a label that reads as nothing, in the update at place i
+abbrev pub malformed_at : {X : Type 0} → ℕ → Result X ℕ → Option Refusal
+malformed_at i (Ok label) = None
+malformed_at i (Err offset) = Some (MalformedVisibility i offset)
+
+-- the first update whose label is malformed
+unfoldable pub malformed : Mutation → Option Refusal
+malformed m = first_found (λ i u. malformed_at i (label_of u.label)) 0 m.updates
+
+-- the first update with a timestamp, where the table gives them
+unfoldable pub stamped : Settings → Mutation → Option Refusal
+stamped s m = cond (takes_timestamps s.time) None (option_map TimestampNotAllowed (first_place (λ (u : Update). is_some u.timestamp) 0 m.updates))
+
+-- the first update below the horizon, its timestamp given or the clock's
+unfoldable pub outdated : Settings → ℤ → Mutation → Option Refusal
+outdated s now m = option_map BelowHorizon (first_place (λ (u : Update). int_lt (unwrap_or u.timestamp now) s.horizon) 0 m.updates)
+
+-- the constraints that the mutation fails, if any
+abbrev pub violated : List Failing → Option Refusal
+violated [] = None
+violated (f ∷ fs) = Some (ConstraintViolation (f ∷ fs))
+
+-- the checks of a mutation by a caller with these authorizations, in their order
+abbrev pub mutation_checks : Option Settings → List (List ℕ) → ℤ → Mutation → List (Option Refusal)
+mutation_checks None auths now m = []
+mutation_checks (Some s) auths now m = option_map shape_refusal (misshape m) ∷ malformed m ∷ stamped s m ∷ outdated s now m ∷ violated (violations s.constraints auths m) ∷ []
+
+-- ---- the checks of the other events
+-- over 1,024 authorizations, or one of over 1,024 bytes
+abbrev pub too_many_auths : List (List ℕ) → Bool
+too_many_auths auths = nat_lt 1024 (length auths) || has_longer auths 1024
+
+-- over 1,000 columns; the size of the authorizations; the range; the least authorization that the caller doesn't hold
+abbrev pub scan_checks : List (List ℕ) → Scan → List (Option Refusal)
+scan_checks auths scan =
+    when (nat_lt 1000 (length scan.columns)) (TooLarge Columns) ∷ when (too_many_auths scan.authorizations) (TooLarge Authorizations) ∷ when (is_bad_range scan.bounds.low scan.bounds.high) BadRange ∷ option_map BadAuthorizations (first_missing scan.authorizations auths) ∷ []
+
+-- the checks that are an event's own, where the clock is now; there says whether the user that it names exists
+abbrev pub own_checks : Caller → Bool → ℤ → Act → List (Option Refusal)
+own_checks c there now (Open scan) = scan_checks c.auths scan
+own_checks c there now (Write t m) = mutation_checks (c.settings t) c.auths now m
+own_checks c there now (CreateTable t time n) = when (is_some (c.settings t)) (TableExists t) ∷ []
+own_checks c there now (SetConstraints t cs) = []
+own_checks c there now (SetAuths n auths) = when (too_many_auths auths) (TooLarge Authorizations) ∷ when (not there) (NoUser n) ∷ []
+
+-- why the event is refused: the first failing check, the policy's before its own
+unfoldable pub refusal_of : Caller → Bool → ℤ → List ℕ → Act → Option Refusal
+refusal_of c there now user act = first_some (denial user (decision c.policy (action_of act)) ∷ own_checks c there now act)

@@ -1,0 +1,15 @@
+pub mod Settings
+pub mod Bases
+pub mod Changes
+pub mod Readings
+pub mod Cells
+pub mod Checks
+pub mod Sessions
+pub mod Answers
+pub mod Histories
+pub mod Legal
+pub mod Held
+pub mod Standing
+pub mod Chains
+pub mod Runs
+pub mod Rows

@@ -1,0 +1,91 @@
+//! What is asked: events, and the steps of a run.
+ghost use Rattle.std.specs.Prelude.{◌≡◌, IfOk};
+
+use std::alloc::AllocError;
+use tab_key::{Bounds, Column, Items, Name};
+use tab_label::AuthSet;
+use tab_mutation::Mutation;
+use tab_rules::Constraint;
+
+/// Whether a table takes timestamps from its writers, or gives them itself. A timestamp and the clock count in a unit of the callers' own.
+#[derive(Clone, Copy, Debug, PartialEq, Eq)]
+pub enum TimeMode {
+    /// An update may have a timestamp; one without gets the clock.
+    Any,
+    /// Each update gets the clock, and one with a timestamp is refused.
+    Server,
+}
+
+/// What a scan asks for. (Accumulo user manual: scanner, fetching columns, authorizations)
+#[derive(Clone, Drop)]
+pub struct Scan {
+    /// The table that is read.
+    pub table: Name,
+    /// The rows, not checked yet: the low row may be above the high one.
+    pub bounds: Bounds,
+    /// The columns, at most 1,000; none means all.
+    pub columns: Items<Column>,
+    /// The authorizations that the labels are judged by: at most 1,024, each of at most 1,024 bytes, and all of them held by the caller.
+    pub authorizations: AuthSet,
+}
+
+/// What an event asks. An unknown caller, a table that doesn't exist and a missing permission refuse it before the checks named here.
+#[derive(Clone, Drop)]
+pub enum Act {
+    /// Open a session on a scan, which answers from that moment for good. Refused for too many columns or authorizations, for a bad
+    /// range, for an authorization that the caller doesn't hold, and before all else where the caller's list of sessions is full.
+    Open(Scan),
+    /// Apply the mutation to the table, all its updates together or none. Refused for the mutation's shape, a malformed label, a
+    /// timestamp where the table gives them or below its horizon, and for what the table's constraints say.
+    Write(Name, Mutation),
+    /// Make a table with this time mode and number of versions, 1 to 1,000. The caller gets its five permissions. Refused where there is
+    /// a table of the name.
+    CreateTable(Name, TimeMode, u32),
+    /// Set which constraints the table has, in place of those that it had. (Accumulo user manual: constraints)
+    SetConstraints(Name, Items<Constraint>),
+    /// Give the user these authorizations in place of those that he holds: at most 1,024, each of at most 1,024 bytes. Refused where
+    /// there are more, and where there is no such user.
+    SetAuths(Name, AuthSet),
+}
+
+/// What a user asks at a moment. Events are the atomic steps of a core. The clock is the greatest moment of all events so far, refused
+/// ones among them, those for want of memory apart.
+#[derive(Clone, Drop)]
+pub struct Event {
+    /// The caller.
+    pub user: Name,
+    /// The moment that the caller handed in.
+    pub moment: i64,
+    /// What is asked.
+    pub act: Act,
+}
+
+/// One step of a run: an event, or what one user does with a session of his.
+#[derive(Clone, Drop)]
+pub enum Step {
+    /// An event.
+    Event(Event),
+    /// The next batch of the session in the user's slot, of this many cells, fewer only at the end. Refused where the slot holds none.
+    Next {
+        /// Whose session.
+        user: Name,
+        /// The number of sessions opened for the user before this one.
+        slot: u32,
+        /// How many cells are asked for.
+        count: u32,
+    },
+    /// The session in the user's slot is closed. Refused where the slot holds none.
+    Close {
+        /// Whose session.
+        user: Name,
+        /// The number of sessions opened for the user before this one.
+        slot: u32,
+    },
+}
+
+/// A copy of the event. An error leaves nothing behind.
+pub fn copied(event: &Event) -> Result<Event, AllocError>
+    ensures { IfOk result (λ copy. copy ≡ event.now) }
+{
+    event.clone()
+}
