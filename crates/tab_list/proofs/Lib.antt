@@ -1,0 +1,10 @@
+pub mod Lists
+pub mod Column
+pub mod KeptLemmas
+pub mod Points
+pub mod Rows
+pub mod Places
+pub mod Numbered
+pub mod Shown
+pub mod Steps
+pub mod Written
