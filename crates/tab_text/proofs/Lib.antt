@@ -1,0 +1,5 @@
+pub mod Errors
+pub mod Exactness
+pub mod Spacing
+pub mod Spelling
+pub mod Writing

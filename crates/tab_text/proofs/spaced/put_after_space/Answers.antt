@@ -1,0 +1,12 @@
+use Rattle.std.proofs.Common.{[], ◌∷◌}
+use Rattle.tab_io.proofs.Putting.{puts_more, front_longer}
+use Rattle.tab_text.specs.Lines.{word_text}
+use Rattle.tab_text.proofs.spaced.put_after_space.Goals as goal
+
+pub returns-in-Ok-clause-bytes : goal.returns-in-Ok-clause-bytes
+returns-in-Ok-clause-bytes g c =
+    puts_more (g.W.Output.contents c.args.output.now) (g.W.Output.held c.args.output.now) (g.W.Output.contents c.put_byte.new.output) (g.W.Output.held c.put_byte.new.output) (g.W.Output.contents c.put_one.new.output) (g.W.Output.held c.put_one.new.output) (32 ∷ []) (word_text c.args.word.now) c.put_one.result c.in-Ok.ensures.bytes c.put_one.ensures.bytes
+
+pub returns-in-Err-clause-bytes : goal.returns-in-Err-clause-bytes
+returns-in-Err-clause-bytes g c =
+    front_longer (g.W.Output.contents c.args.output.now) (g.W.Output.contents c.put_byte.new.output) (g.W.Output.held c.args.output.now) (32 ∷ []) (word_text c.args.word.now) c.in-Err.ensures.bytes

@@ -1,0 +1,31 @@
+//! The texts of which lines are made: byte words, numbers, words on a line, cells.
+//!
+//! A byte word is how lines spell a string of bytes: a byte from 0x21 to 0x7e other than the backslash stands for
+//! itself, `\\` is a backslash, `\x` and two lower-case hexadecimal digits are that byte, and the whole word `\e` is
+//! the empty string. Each function here puts its text piece by piece into an `Output`, and takes no memory.
+//!
+//! | File | What |
+//! |---|---|
+//! | `word` | one byte word |
+//! | `spaced` | words parted by one space, and a line feed |
+//! | `cell` | the line of a cell |
+//! | `escape` | what is read of an escape so far: the steps by which a word is read |
+//! | `laws` | what is written reads back, and reading is exactly the spelling |
+//!
+//! `specs/Words` says what a word is and which one is written, `specs/Reading` what a word says, `specs/Lines` the texts
+//! of lines.
+#![tactic(auto)]
+
+mod cell;
+mod escape;
+pub mod laws;
+mod spaced;
+mod word;
+
+pub use cell::put_cell;
+pub use escape::{Escape, hex_value, step};
+pub use spaced::{Word, put_spaced};
+pub use word::{is_plain, put_word};
+
+#[cfg(test)]
+mod tests;
