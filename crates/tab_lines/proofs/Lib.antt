@@ -1,0 +1,14 @@
+pub mod Cutting
+pub mod SpellingLemmas
+pub mod NumberLemmas
+pub mod NameLemmas
+pub mod Looking
+pub mod UpdateLemmas
+pub mod Inverting
+pub mod WordLaw
+pub mod WordsLaw
+pub mod NumberLaw
+pub mod ListLaw
+pub mod ColumnLaw
+pub mod UpdateLaw
+pub mod LineLaw

@@ -1,0 +1,29 @@
+use Rattle.std.proofs.Common.{arith, rules}
+use Rattle.std.specs.Prelude.{codes}
+use Rattle.tab_lines.specs.Lines.{command_of}
+use Rattle.tab_lines.proofs.Looking.{found}
+use Rattle.tab_lines.proofs.command.command_of.Goals as goal
+
+pub returns-in-createtable : goal.returns-in-createtable
+returns-in-createtable c = found command_of c.args.word.now (codes "createtable") (omega arith) (search rules)
+
+pub returns-in-setauths : goal.returns-in-setauths
+returns-in-setauths c = found command_of c.args.word.now (codes "setauths") (omega arith) (search rules)
+
+pub returns-in-constraints : goal.returns-in-constraints
+returns-in-constraints c = found command_of c.args.word.now (codes "constraints") (omega arith) (search rules)
+
+pub returns-in-insert : goal.returns-in-insert
+returns-in-insert c = found command_of c.args.word.now (codes "insert") (omega arith) (search rules)
+
+pub returns-in-delete : goal.returns-in-delete
+returns-in-delete c = found command_of c.args.word.now (codes "delete") (omega arith) (search rules)
+
+pub returns-in-mutate : goal.returns-in-mutate
+returns-in-mutate c = found command_of c.args.word.now (codes "mutate") (omega arith) (search rules)
+
+pub returns-in-scan : goal.returns-in-scan
+returns-in-scan c = found command_of c.args.word.now (codes "scan") (omega arith) (search rules)
+
+pub returns-in-at : goal.returns-in-at
+returns-in-at c = found command_of c.args.word.now (codes "at") (omega arith) (search rules)

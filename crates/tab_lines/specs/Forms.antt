@@ -1,0 +1,166 @@
+-- The lines of a script as a relation between the words of a line and what they say. It says nothing of how a line is read.
+use Rattle.std.specs.Prelude.{ℕ, ℤ, pos, negsuc, ◌≡◌, ◌≢◌, ◌+◌, ◌^◌, ◌<◌, ◌≤◌, ◌==◌, ◌⊎◌, ◌↔◌, true, not, List, [], ◌∷◌, ◌++◌, replicate, codes, Option, Some, None}
+use Rattle.std.specs.List.{AllZip, list_all}
+use Rattle.std.specs.Fmt.{decimal}
+use Rattle.tab_key.specs.Names.{IsName}
+use Rattle.tab_key.specs.declared.key.Kind.TheVariants.{Delete, Put}
+use Rattle.tab_key.specs.declared.range.Bound.{Bound}
+use Rattle.tab_key.specs.declared.range.Bound.TheVariants.{Unbounded, Inclusive, Exclusive}
+use Rattle.tab_key.specs.declared.range.Bounds.{Bounds}
+use Rattle.tab_key.specs.declared.column.Column.{Column}
+use Rattle.tab_key.specs.declared.column.Column.TheVariants.{Family, Qualified}
+use Rattle.tab_label.specs.Sets.{set_of}
+use Rattle.tab_mutation.specs.Mutations.{Update}
+use Rattle.tab_rules.specs.declared.constraint.Constraint.{Constraint}
+use Rattle.tab_rules.specs.declared.constraint.Constraint.TheVariants.{KeySize, Alphanumeric, Numeric, Visibility}
+use Rattle.tab_history.specs.declared.event.TimeMode.{TimeMode}
+use Rattle.tab_history.specs.declared.event.TimeMode.TheVariants.{Any, Server}
+use Rattle.tab_history.specs.declared.event.Act.TheVariants.{CreateTable, SetAuths, SetConstraints, Write}
+use Rattle.tab_lines.specs.declared.line.Line.{Line}
+use Rattle.tab_lines.specs.declared.line.Line.TheVariants as line
+use Rattle.tab_lines.specs.Words.{parts_at}
+use Rattle.tab_text.specs.Words.{IsWord}
+use Rattle.tab_lines.specs.Lines.{line_of}
+
+-- ---- one word
+
+-- the word spells a name of a user or a table
+abbrev pub IsNameWord : List ℕ → List ℕ → Type 0
+IsNameWord word name = IsWord word name × IsName name
+
+-- zeros, and then the number as it is written in decimal
+abbrev pub AreDigits : List ℕ → ℕ → Type 0
+AreDigits text n = (zeros : ℕ) × (text ≡ replicate zeros 48 ++ decimal n)
+
+-- the word is a number of 64 bits with a sign: digits, or a minus and the digits of one that isn't 0
+abbrev pub IsNumber : List ℕ → ℤ → Type 0
+IsNumber word (pos n) = AreDigits word n × (n < 2 ^ 63)
+IsNumber word (negsuc n) = (digits : List ℕ) × (word ≡ 45 ∷ digits) × AreDigits digits (n + 1) × (n < 2 ^ 63)
+
+-- the word is the timestamp of an update among several: a number, or - for none
+abbrev pub IsTimestamp : List ℕ → Option ℤ → Type 0
+IsTimestamp word None = word ≡ codes "-"
+IsTimestamp word (Some timestamp) = IsNumber word timestamp
+
+-- \0, or what stands between commas, each a member
+abbrev pub IsList : {A : Type 0} → (List ℕ → A → Type 0) → List ℕ → List A → Type 0
+IsList IsMember word members = ((word ≡ codes "\\0") × (members ≡ [])) ⊎ AllZip IsMember (parts_at 44 word) members
+
+-- how a constraint is named
+abbrev pub constraint_name : Constraint → List ℕ
+constraint_name KeySize = codes "keysize"
+constraint_name Alphanumeric = codes "alphanum"
+constraint_name Numeric = codes "numeric"
+constraint_name Visibility = codes "visibility"
+
+-- the word spells the name of the constraint
+abbrev pub IsConstraint : List ℕ → Constraint → Type 0
+IsConstraint word constraint = IsWord word (constraint_name constraint)
+
+-- the word is an end of a range: \0 for none, or a byte word behind [ or (
+abbrev pub IsBound : List ℕ → Bound → Type 0
+IsBound word Unbounded = word ≡ codes "\\0"
+IsBound word (Inclusive row) = (text : List ℕ) × (word ≡ 91 ∷ text) × IsWord text row
+IsBound word (Exclusive row) = (text : List ℕ) × (word ≡ 40 ∷ text) × IsWord text row
+
+-- no byte of the text is a colon
+abbrev pub HasNoColon : List ℕ → Type 0
+HasNoColon text = list_all (λ b. not (b == 58)) text ≡ true
+
+-- the word is a column: a family, or a family and a qualifier with the first colon between them
+abbrev pub IsColumn : List ℕ → Column → Type 0
+IsColumn word (Family family) = HasNoColon word × IsWord word family
+IsColumn word (Qualified family qualifier) =
+    (front : List ℕ) × (back : List ℕ) × (word ≡ front ++ 58 ∷ back) × HasNoColon front × IsWord front family × IsWord back qualifier
+
+-- how a line says who gives the timestamps of a table
+abbrev pub time_name : TimeMode → List ℕ
+time_name Any = codes "time=any"
+time_name Server = codes "time=server"
+
+-- the word is versions= and a number from 1 to 1,000
+abbrev pub IsVersions : List ℕ → ℕ → Type 0
+IsVersions word n = (digits : List ℕ) × (word ≡ codes "versions=" ++ digits) × AreDigits digits n × (1 ≤ n) × (n ≤ 1000)
+
+-- ---- several words
+
+-- the settings of a new table: at most one word for the timestamps, then at most one for the versions
+pub data AreSettings : List (List ℕ) → TimeMode → ℕ → Type 0 where
+  neither : AreSettings [] Any 1
+  time : (mode : TimeMode) → AreSettings (time_name mode ∷ []) mode 1
+  versions : (v : List ℕ) (n : ℕ) → IsVersions v n → AreSettings (v ∷ []) Any n
+  both : (mode : TimeMode) (v : List ℕ) (n : ℕ) → IsVersions v n → AreSettings (time_name mode ∷ v ∷ []) mode n
+
+-- the last words of a write: a timestamp, or none
+abbrev pub IsLastTimestamp : List (List ℕ) → Option ℤ → Type 0
+IsLastTimestamp words None = words ≡ []
+IsLastTimestamp words (Some timestamp) = (word : List ℕ) × (words ≡ word ∷ []) × IsNumber word timestamp
+
+-- one update among several
+pub data IsUpdate : List (List ℕ) → Update → Type 0 where
+  put : (f q l v t family qualifier label value : List ℕ) (timestamp : Option ℤ)
+      → IsWord f family → IsWord q qualifier → IsWord l label → IsWord v value → IsTimestamp t timestamp
+      → IsUpdate (codes "put" ∷ f ∷ q ∷ l ∷ v ∷ t ∷ []) (record { kind = Put; family = family; qualifier = qualifier; label = label; timestamp = timestamp; value = value })
+  del : (f q l t family qualifier label : List ℕ) (timestamp : Option ℤ)
+      → IsWord f family → IsWord q qualifier → IsWord l label → IsTimestamp t timestamp
+      → IsUpdate (codes "del" ∷ f ∷ q ∷ l ∷ t ∷ []) (record { kind = Delete; family = family; qualifier = qualifier; label = label; timestamp = timestamp; value = [] })
+
+-- updates parted by the word ;
+abbrev pub AreUpdates : List (List ℕ) → List Update → Type 0
+AreUpdates words [] = words ≡ []
+AreUpdates words (update ∷ []) = IsUpdate words update
+AreUpdates words (update ∷ next ∷ updates) =
+    (first : List (List ℕ)) × (others : List (List ℕ)) × (words ≡ first ++ codes ";" ∷ others) × IsUpdate first update × AreUpdates others (next ∷ updates)
+
+-- the last words of a scan: nothing, both ends of the range, or both ends and columns
+pub data AreLimits : List (List ℕ) → Bounds → List Column → Type 0 where
+  all : AreLimits [] (record { low = Unbounded; high = Unbounded }) []
+  rows : (l h : List ℕ) (low high : Bound) → IsBound l low → IsBound h high → AreLimits (l ∷ h ∷ []) (record { low = low; high = high }) []
+  columns : (l h c : List ℕ) (low high : Bound) (columns : List Column) → IsBound l low → IsBound h high → IsList IsColumn c columns
+      → AreLimits (l ∷ h ∷ c ∷ []) (record { low = low; high = high }) columns
+
+-- ---- lines
+
+-- the words are a line that says this
+pub data Form : List (List ℕ) → Line → Type 0 where
+  blank : Form [] line.Blank
+  at : (t : List ℕ) (moment : ℤ) → IsNumber t moment → Form (codes "at" ∷ t ∷ []) (line.At moment)
+  createtable : (t table : List ℕ) (words : List (List ℕ)) (mode : TimeMode) (versions : ℕ) → IsNameWord t table → AreSettings words mode versions
+      → Form (codes "createtable" ∷ t ∷ words) (line.Act (CreateTable table mode versions))
+  setauths : (u l user : List ℕ) (members : List (List ℕ)) → IsNameWord u user → IsList IsWord l members
+      → Form (codes "setauths" ∷ u ∷ l ∷ []) (line.Act (SetAuths user (set_of members)))
+  constraints : (t l table : List ℕ) (members : List Constraint) → IsNameWord t table → IsList IsConstraint l members
+      → Form (codes "constraints" ∷ t ∷ l ∷ []) (line.Act (SetConstraints table members))
+  insert : (t r f q l v table row family qualifier label value : List ℕ) (words : List (List ℕ)) (timestamp : Option ℤ)
+      → IsNameWord t table → IsWord r row → IsWord f family → IsWord q qualifier → IsWord l label → IsWord v value → IsLastTimestamp words timestamp
+      → Form (codes "insert" ∷ t ∷ r ∷ f ∷ q ∷ l ∷ v ∷ words)
+      (line.Act (Write table (record { row = row; updates = record { kind = Put; family = family; qualifier = qualifier; label = label; timestamp = timestamp; value = value } ∷ [] })))
+  delete : (t r f q l table row family qualifier label : List ℕ) (words : List (List ℕ)) (timestamp : Option ℤ)
+      → IsNameWord t table → IsWord r row → IsWord f family → IsWord q qualifier → IsWord l label → IsLastTimestamp words timestamp
+      → Form (codes "delete" ∷ t ∷ r ∷ f ∷ q ∷ l ∷ words)
+      (line.Act (Write table (record { row = row; updates = record { kind = Delete; family = family; qualifier = qualifier; label = label; timestamp = timestamp; value = [] } ∷ [] })))
+  mutate : (t r table row : List ℕ) (words : List (List ℕ)) (updates : List Update) → IsNameWord t table → IsWord r row → AreUpdates words updates
+      → Form (codes "mutate" ∷ t ∷ r ∷ words) (line.Act (Write table (record { row = row; updates = updates })))
+  scan : (t a table : List ℕ) (members : List (List ℕ)) (words : List (List ℕ)) (bounds : Bounds) (columns : List Column)
+      → IsNameWord t table → IsList IsWord a members → AreLimits words bounds columns
+      → Form (codes "scan" ∷ t ∷ a ∷ words) (line.Scan (record { table = table; bounds = bounds; columns = columns; authorizations = set_of members }))
+
+-- there is a byte, and none is a space
+abbrev pub IsPlainWord : List ℕ → Type 0
+IsPlainWord word = (word ≢ []) × (list_all (λ b. not (b == 32)) word ≡ true)
+
+-- the words of a text, with spaces before the first, at least one between two, and spaces behind the last
+abbrev pub AreWords : List ℕ → List (List ℕ) → Type 0
+AreWords text [] = (before : ℕ) × (text ≡ replicate before 32)
+AreWords text (word ∷ []) = (before : ℕ) × (behind : ℕ) × (text ≡ replicate before 32 ++ (word ++ replicate behind 32)) × IsPlainWord word
+AreWords text (word ∷ next ∷ words) =
+    (before : ℕ) × (rest : List ℕ) × (text ≡ replicate before 32 ++ (word ++ 32 ∷ rest)) × IsPlainWord word × AreWords rest (next ∷ words)
+
+-- the text is a line that says this: a comment, or words that say it
+pub data IsLine : List ℕ → Line → Type 0 where
+  comment : (rest : List ℕ) → IsLine (35 ∷ rest) line.Blank
+  words : (text : List ℕ) (words : List (List ℕ)) (line : Line) → ((rest : List ℕ) → text ≢ 35 ∷ rest) → AreWords text words → Form words line → IsLine text line
+
+-- reading gives exactly what the forms of lines say
+abbrev pub LinesAreForms : Type 0
+LinesAreForms = (text : List ℕ) (line : Line) → (line_of text ≡ Some line) ↔ IsLine text line

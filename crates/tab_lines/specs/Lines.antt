@@ -1,0 +1,146 @@
+-- What a line says.
+use Rattle.std.specs.Prelude.{ℕ, ◌==◌, Bool, false, List, [], ◌∷◌, codes, Option, Some, None, if◌then◌else◌}
+use Rattle.std.specs.Str.{bytes_eq}
+use Rattle.tab_key.specs.declared.range.Bounds.{Bounds}
+use Rattle.tab_key.specs.declared.range.Bound.TheVariants.{Unbounded}
+use Rattle.tab_label.specs.Sets.{set_of}
+use Rattle.tab_history.specs.declared.event.TimeMode.{TimeMode}
+use Rattle.tab_history.specs.declared.event.TimeMode.TheVariants.{Any}
+use Rattle.tab_history.specs.declared.event.Act.TheVariants.{CreateTable, SetAuths, SetConstraints, Write}
+use Rattle.tab_lines.specs.declared.line.Line.{Line}
+use Rattle.tab_lines.specs.declared.line.Line.TheVariants as line
+use Rattle.tab_lines.specs.declared.command.Command.{Command}
+use Rattle.tab_lines.specs.declared.command.Command.TheVariants as command
+use Rattle.tab_lines.specs.declared.updates.Stamp.TheVariants.{Optional}
+use Rattle.tab_lines.specs.Gives.{◌>>=◌, field, ends, optional}
+use Rattle.tab_lines.specs.Words.{words_of}
+use Rattle.tab_lines.specs.Fields.{name_of, signed_of, time_word, versions_word, list_of, constraints_of, bound_of, columns_of}
+use Rattle.tab_lines.specs.Updates.{row_of, with_update, with_updates, put_of, delete_of, updates_of}
+
+-- the settings behind a word that says who gives the timestamps, or without one
+abbrev pub settings_at : Option TimeMode → List ℕ → List (List ℕ) → Option (TimeMode × ℕ)
+settings_at (Some time) word words = do
+  versions ← optional 1 versions_word words
+  end ← ends versions.1
+  Some (time, versions.0)
+settings_at None word words = do
+  versions ← versions_word word
+  end ← ends words
+  Some (Any, versions)
+
+-- the settings of a new table: at most one word that says who gives the timestamps, then at most one that says how many versions
+abbrev pub settings : List (List ℕ) → Option (TimeMode × ℕ)
+settings [] = Some (Any, 1)
+settings (word ∷ words) = settings_at (time_word word) word words
+
+-- the words behind the command of a line createtable T [time=any|time=server] [versions=N]
+unfoldable pub createtable_of : List (List ℕ) → Option Line
+createtable_of words = do
+  table ← field name_of words
+  settings ← settings table.1
+  Some (line.Act (CreateTable table.0 settings.0 settings.1))
+
+-- the words behind the command of a line setauths U LIST
+unfoldable pub setauths_of : List (List ℕ) → Option Line
+setauths_of words = do
+  user ← field name_of words
+  auths ← field list_of user.1
+  end ← ends auths.1
+  Some (line.Act (SetAuths user.0 (set_of auths.0)))
+
+-- the words behind the command of a line constraints T LIST
+unfoldable pub constraints_line_of : List (List ℕ) → Option Line
+constraints_line_of words = do
+  table ← field name_of words
+  constraints ← field constraints_of table.1
+  end ← ends constraints.1
+  Some (line.Act (SetConstraints table.0 constraints.0))
+
+-- the words behind the command of a line insert T ROW FAM QUAL LABEL VALUE [TS]
+unfoldable pub insert_of : List (List ℕ) → Option Line
+insert_of words = do
+  table ← field name_of words
+  mutation ← field row_of table.1
+  update ← put_of Optional mutation.1
+  end ← ends update.1
+  Some (line.Act (Write table.0 (with_update mutation.0 update.0)))
+
+-- the words behind the command of a line delete T ROW FAM QUAL LABEL [TS]
+unfoldable pub delete_line_of : List (List ℕ) → Option Line
+delete_line_of words = do
+  table ← field name_of words
+  mutation ← field row_of table.1
+  update ← delete_of Optional mutation.1
+  end ← ends update.1
+  Some (line.Act (Write table.0 (with_update mutation.0 update.0)))
+
+-- the words behind the command of a line mutate T ROW and updates
+unfoldable pub mutate_of : List (List ℕ) → Option Line
+mutate_of words = do
+  table ← field name_of words
+  mutation ← field row_of table.1
+  updates ← updates_of mutation.1
+  Some (line.Act (Write table.0 (with_updates mutation.0 updates)))
+
+-- both bounds or neither
+abbrev pub bounds_of : List (List ℕ) → Option (Bounds × List (List ℕ))
+bounds_of [] = Some (record { low = Unbounded; high = Unbounded }, [])
+bounds_of (word ∷ words) = do
+  low ← field bound_of (word ∷ words)
+  high ← field bound_of low.1
+  Some (record { low = low.0; high = high.0 }, high.1)
+
+-- the words behind the command of a line scan T AUTHS [LOW HIGH [COLS]]
+unfoldable pub scan_of : List (List ℕ) → Option Line
+scan_of words = do
+  table ← field name_of words
+  auths ← field list_of table.1
+  bounds ← bounds_of auths.1
+  columns ← optional [] columns_of bounds.1
+  end ← ends columns.1
+  Some (line.Scan (record { table = table.0; bounds = bounds.0; columns = columns.0; authorizations = set_of auths.0 }))
+
+-- the words behind the command of a line at MOMENT
+unfoldable pub at_of : List (List ℕ) → Option Line
+at_of words = do
+  moment ← field signed_of words
+  end ← ends moment.1
+  Some (line.At moment.0)
+
+-- the first word of a line
+abbrev pub command_of : List ℕ → Option Command
+command_of word =
+    if bytes_eq word (codes "createtable") then Some command.CreateTable
+    else if bytes_eq word (codes "setauths") then Some command.SetAuths
+    else if bytes_eq word (codes "constraints") then Some command.Constraints
+    else if bytes_eq word (codes "insert") then Some command.Insert
+    else if bytes_eq word (codes "delete") then Some command.Delete
+    else if bytes_eq word (codes "mutate") then Some command.Mutate
+    else if bytes_eq word (codes "scan") then Some command.Scan
+    else if bytes_eq word (codes "at") then Some command.At
+    else None
+
+-- the words after the command
+abbrev pub commanded : Command → List (List ℕ) → Option Line
+commanded command.CreateTable words = createtable_of words
+commanded command.SetAuths words = setauths_of words
+commanded command.Constraints words = constraints_line_of words
+commanded command.Insert words = insert_of words
+commanded command.Delete words = delete_line_of words
+commanded command.Mutate words = mutate_of words
+commanded command.Scan words = scan_of words
+commanded command.At words = at_of words
+
+-- what the words of a line say; no words say nothing
+abbrev pub said : List (List ℕ) → Option Line
+said [] = Some line.Blank
+said (word ∷ words) = command_of word >>= λ c. commanded c words
+
+-- whether the first byte is #
+abbrev pub is_comment : List ℕ → Bool
+is_comment [] = false
+is_comment (b ∷ bs) = b == 35
+
+-- what a line says, if it is of the grammar
+abbrev pub line_of : List ℕ → Option Line
+line_of text = if is_comment text then Some line.Blank else said (words_of text)

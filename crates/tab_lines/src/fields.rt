@@ -1,0 +1,78 @@
+//! One word of a line after another, each with what it must say.
+ghost use Rattle.std.specs.Prelude.{[]};
+ghost use Rattle.tab_label.specs.Sets.{byte_lists};
+ghost use Rattle.tab_lines.specs.Gives.{Gives, field, ends};
+ghost use Rattle.tab_lines.specs.Words.{words_left};
+ghost use Rattle.tab_text.specs.Reading.{bytes_of};
+ghost use Rattle.tab_lines.specs.Spelling.{bytes_spelled};
+ghost use Rattle.tab_lines.specs.Fields.{name_of, signed_of, list_of, bound_of};
+
+use crate::Stop;
+use crate::bounds::bound_of;
+use crate::lists::list_of;
+use crate::names::name_of;
+use crate::numbers::signed_of;
+use crate::spelling::{Spelled, spelling_of};
+use crate::words::Words;
+use std::alloc::Global;
+use tab_key::{Bound, Name};
+
+/// Takes a word that spells a name.
+pub fn a_name(alloc: Global, words: &mut Words) -> Result<Name, Stop>
+    ensures { Gives (λ x. (x, words_left words.new)) result (field name_of (words_left words.old)) }
+{
+    let Some(word) = words.next() else {
+        return Err(Stop::Fault);
+    };
+    name_of(alloc, word)
+}
+
+/// Takes a byte word.
+pub fn a_word<'a>(alloc: Global, words: &mut Words<'a>) -> Result<Spelled<'a>, Stop>
+    ensures { Gives (λ x. (bytes_spelled x, words_left words.new)) result (field bytes_of (words_left words.old)) }
+{
+    let Some(word) = words.next() else {
+        return Err(Stop::Fault);
+    };
+    spelling_of(alloc, word)
+}
+
+/// Takes a word that lists byte strings.
+pub fn a_list(alloc: Global, words: &mut Words) -> Result<Vec<Vec<u8>>, Stop>
+    ensures { Gives (λ x. (byte_lists x.items, words_left words.new)) result (field list_of (words_left words.old)) }
+{
+    let Some(word) = words.next() else {
+        return Err(Stop::Fault);
+    };
+    list_of(alloc, word)
+}
+
+/// Takes a word that spells a signed number.
+pub fn a_number(words: &mut Words) -> Result<i64, Stop>
+    ensures { Gives (λ x. (x, words_left words.new)) result (field signed_of (words_left words.old)) }
+{
+    let Some(word) = words.next() else {
+        return Err(Stop::Fault);
+    };
+    signed_of(word)
+}
+
+/// Takes a word that spells an end of a range.
+pub fn a_bound(alloc: Global, words: &mut Words) -> Result<Bound, Stop>
+    ensures { Gives (λ x. (x, words_left words.new)) result (field bound_of (words_left words.old)) }
+{
+    let Some(word) = words.next() else {
+        return Err(Stop::Fault);
+    };
+    bound_of(alloc, word)
+}
+
+/// No word may be left.
+pub fn ends(words: &mut Words) -> Result<(), Stop>
+    ensures { Gives (λ x. []) result (ends (words_left words.old)) }
+{
+    match words.next() {
+        None => Ok(()),
+        Some(_) => Err(Stop::Fault),
+    }
+}

@@ -1,0 +1,61 @@
+//! Reads the lines of a script: the text of one line in, what it says out.
+//!
+//! Lines are in the manner of the Accumulo shell: a command and its words, parted by spaces. Spaces before the first and
+//! after the last word are passed over. An empty line, a line of spaces alone and a line whose first byte is `#` say
+//! nothing. Everything else that isn't one of these lines is a fault:
+//!
+//! | Line | What it says |
+//! |---|---|
+//! | `at MOMENT` | the moment of later events |
+//! | `createtable T [time=any\|time=server] [versions=N]` | make a table; `time=any` and 1 where nothing is said |
+//! | `setauths U LIST` | give a user these authorizations |
+//! | `constraints T LIST` | set which constraints a table has: `keysize`, `alphanum`, `numeric`, `visibility` |
+//! | `insert T ROW FAM QUAL LABEL VALUE [TS]` | a mutation of one put |
+//! | `delete T ROW FAM QUAL LABEL [TS]` | a mutation of one delete |
+//! | `mutate T ROW`, updates parted by the word `;` | a mutation of `put FAM QUAL LABEL VALUE TS` and `del FAM QUAL LABEL TS`, TS a number or `-` for none |
+//! | `scan T AUTHS [LOW HIGH [COLS]]` | a whole scan |
+//!
+//! Commands and the words `put`, `del`, `;`, `-`, `time=..` and `versions=` are literal. Names, rows and the other parts
+//! are byte words (crate `tab_text`). The forms of updates have fixed lengths and are read by place, so a value may be
+//! the word `;`. A number is decimal digits, leading zeros are accepted, a minus stands before a negative one alone, and
+//! what an i64 can't hold is a fault. N is 1 to 1,000. A list is byte words between commas, or the word `\0` for none;
+//! each member has at least one byte of text. A bound is `\0` for none, or a byte word behind `[` (in the range) or `(`
+//! (not in it). A column is a family, or a family and a qualifier with the first colon between them. Commas and colons
+//! part a word before its escapes are undone.
+//!
+//! | File | What |
+//! |---|---|
+//! | `words` | the words of a line that are left |
+//! | `spelling`, `names`, `numbers`, `bounds`, `lists` | what one word says |
+//! | `fields`, `updates` | one word after another, and the updates of a mutation |
+//! | `command`, `line` | the first word, and the lines |
+//! | `laws` | reading is exactly the forms of lines |
+//!
+//! `specs/Forms` says what the lines are, with one form for each row of the table above, and nothing of how they are
+//! read; `specs/Lines` reads them. A word without escapes is copied once, into what it becomes part of; names, numbers
+//! and the words of commands take no memory.
+#![tactic(auto)]
+
+mod bounds;
+mod command;
+mod fields;
+mod laws;
+mod line;
+mod lists;
+mod names;
+mod numbers;
+mod spelling;
+mod stop;
+mod updates;
+mod words;
+
+pub use command::Command;
+pub use laws::lines_are_forms;
+pub use line::{Line, read_line};
+pub use spelling::Spelled;
+pub use stop::Stop;
+pub use updates::Stamp;
+pub use words::Words;
+
+#[cfg(test)]
+mod tests;

@@ -1,0 +1,217 @@
+//! What a line says.
+ghost use Rattle.std.specs.Prelude.{[]};
+ghost use Rattle.tab_lines.specs.Gives.{Gives, optional};
+ghost use Rattle.tab_lines.specs.Words.{words_left};
+ghost use Rattle.tab_lines.specs.Fields.{constraints_of, columns_of, versions_word};
+ghost use Rattle.tab_lines.specs.Lines.{settings, createtable_of, setauths_of, constraints_line_of, insert_of, delete_line_of, mutate_of, bounds_of, scan_of, at_of, commanded, said, line_of};
+
+use crate::Stop;
+use crate::bounds::bound_of;
+use crate::command::{Command, command_of};
+use crate::fields::{a_bound, a_list, a_name, a_number, ends};
+use crate::lists::{columns_of, constraints_of};
+use crate::names::time_word;
+use crate::numbers::versions_word;
+use crate::updates::{Stamp, a_row, add_delete, add_put, add_updates};
+use crate::words::Words;
+use std::alloc::Global;
+use tab_history::{Act, Scan, TimeMode};
+use tab_key::{Bound, Bounds, Column, Items};
+use tab_label::AuthSet;
+
+/// What a line of a script says.
+#[derive(Drop)]
+pub enum Line {
+    /// Nothing: the line is empty, has spaces alone, or is a comment.
+    Blank,
+    /// The moment of later events.
+    At(i64),
+    /// One event.
+    Act(Act),
+    /// A whole scan: its session is opened, read to its end and closed.
+    Scan(Scan),
+}
+
+fn any_versions(words: &mut Words) -> Result<u32, Stop>
+    ensures { Gives (λ x. (x, words_left words.new)) result (optional 1 versions_word (words_left words.old)) }
+{
+    let Some(word) = words.next() else {
+        return Ok(1);
+    };
+    versions_word(word)
+}
+
+fn settings(words: &mut Words) -> Result<(TimeMode, u32), Stop>
+    ensures { Gives (λ x. x) result (settings (words_left words.old)) }
+{
+    let Some(word) = words.next() else {
+        return Ok((TimeMode::Any, 1));
+    };
+    match time_word(word) {
+        Some(time) => {
+            let versions = any_versions(words)?;
+            ends(words)?;
+            Ok((time, versions))
+        }
+        None => {
+            let versions = versions_word(word)?;
+            ends(words)?;
+            Ok((TimeMode::Any, versions))
+        }
+    }
+}
+
+#[tactic(auto, unfolding(crate::specs::Lines::createtable_of))]
+fn createtable(alloc: Global, words: &mut Words) -> Result<Line, Stop>
+    ensures { Gives (λ x. x) result (createtable_of (words_left words.old)) }
+{
+    let table = a_name(alloc, words)?;
+    let (time, versions) = settings(words)?;
+    Ok(Line::Act(Act::CreateTable(table, time, versions)))
+}
+
+#[tactic(auto, unfolding(crate::specs::Lines::setauths_of))]
+fn setauths(alloc: Global, words: &mut Words) -> Result<Line, Stop>
+    ensures { Gives (λ x. x) result (setauths_of (words_left words.old)) }
+{
+    let user = a_name(alloc, words)?;
+    let members = a_list(alloc, words)?;
+    ends(words)?;
+    let auths = AuthSet::new(members);
+    Ok(Line::Act(Act::SetAuths(user, auths)))
+}
+
+#[tactic(auto, unfolding(crate::specs::Lines::constraints_line_of))]
+fn constraints(alloc: Global, words: &mut Words) -> Result<Line, Stop>
+    ensures { Gives (λ x. x) result (constraints_line_of (words_left words.old)) }
+{
+    let table = a_name(alloc, words)?;
+    let Some(word) = words.next() else {
+        return Err(Stop::Fault);
+    };
+    let constraints = constraints_of(alloc, word)?;
+    ends(words)?;
+    Ok(Line::Act(Act::SetConstraints(table, Items::from_vec(constraints))))
+}
+
+#[tactic(auto, unfolding(crate::specs::Lines::insert_of))]
+fn insert(alloc: Global, words: &mut Words) -> Result<Line, Stop>
+    ensures { Gives (λ x. x) result (insert_of (words_left words.old)) }
+{
+    let table = a_name(alloc, words)?;
+    let mut mutation = a_row(alloc, words)?;
+    add_put(alloc, Stamp::Optional, words, &mut mutation)?;
+    ends(words)?;
+    Ok(Line::Act(Act::Write(table, mutation)))
+}
+
+#[tactic(auto, unfolding(crate::specs::Lines::delete_line_of))]
+fn delete(alloc: Global, words: &mut Words) -> Result<Line, Stop>
+    ensures { Gives (λ x. x) result (delete_line_of (words_left words.old)) }
+{
+    let table = a_name(alloc, words)?;
+    let mut mutation = a_row(alloc, words)?;
+    add_delete(alloc, Stamp::Optional, words, &mut mutation)?;
+    ends(words)?;
+    Ok(Line::Act(Act::Write(table, mutation)))
+}
+
+#[tactic(auto, unfolding(crate::specs::Lines::mutate_of))]
+fn mutate(alloc: Global, words: &mut Words) -> Result<Line, Stop>
+    ensures { Gives (λ x. x) result (mutate_of (words_left words.old)) }
+{
+    let table = a_name(alloc, words)?;
+    let mut mutation = a_row(alloc, words)?;
+    add_updates(alloc, words, &mut mutation)?;
+    Ok(Line::Act(Act::Write(table, mutation)))
+}
+
+fn bounds(alloc: Global, words: &mut Words) -> Result<Bounds, Stop>
+    ensures { Gives (λ x. (x, words_left words.new)) result (bounds_of (words_left words.old)) }
+{
+    let Some(word) = words.next() else {
+        return Ok(Bounds {
+            low: Bound::Unbounded,
+            high: Bound::Unbounded,
+        });
+    };
+    let low = bound_of(alloc, word)?;
+    let high = a_bound(alloc, words)?;
+    Ok(Bounds { low, high })
+}
+
+fn any_columns(alloc: Global, words: &mut Words) -> Result<Items<Column>, Stop>
+    ensures { Gives (λ x. (x, words_left words.new)) result (optional [] columns_of (words_left words.old)) }
+{
+    let Some(word) = words.next() else {
+        return Ok(Items::new(alloc));
+    };
+    Ok(Items::from_vec(columns_of(alloc, word)?))
+}
+
+#[tactic(auto, unfolding(crate::specs::Lines::scan_of))]
+fn scan(alloc: Global, words: &mut Words) -> Result<Line, Stop>
+    ensures { Gives (λ x. x) result (scan_of (words_left words.old)) }
+{
+    let table = a_name(alloc, words)?;
+    let members = a_list(alloc, words)?;
+    let bounds = bounds(alloc, words)?;
+    let columns = any_columns(alloc, words)?;
+    ends(words)?;
+    let authorizations = AuthSet::new(members);
+    Ok(Line::Scan(Scan {
+        table,
+        bounds,
+        columns,
+        authorizations,
+    }))
+}
+
+#[tactic(auto, unfolding(crate::specs::Lines::at_of))]
+fn at(words: &mut Words) -> Result<Line, Stop>
+    ensures { Gives (λ x. x) result (at_of (words_left words.old)) }
+{
+    let moment = a_number(words)?;
+    ends(words)?;
+    Ok(Line::At(moment))
+}
+
+fn commanded(alloc: Global, command: Command, words: &mut Words) -> Result<Line, Stop>
+    ensures { Gives (λ x. x) result (commanded command (words_left words.old)) }
+{
+    match command {
+        Command::CreateTable => createtable(alloc, words),
+        Command::SetAuths => setauths(alloc, words),
+        Command::Constraints => constraints(alloc, words),
+        Command::Insert => insert(alloc, words),
+        Command::Delete => delete(alloc, words),
+        Command::Mutate => mutate(alloc, words),
+        Command::Scan => scan(alloc, words),
+        Command::At => at(words),
+    }
+}
+
+fn said(alloc: Global, words: &mut Words) -> Result<Line, Stop>
+    ensures { Gives (λ x. x) result (said (words_left words.old)) }
+{
+    let Some(word) = words.next() else {
+        return Ok(Line::Blank);
+    };
+    let Some(command) = command_of(word) else {
+        return Err(Stop::Fault);
+    };
+    commanded(alloc, command, words)
+}
+
+/// What the line says. The text is one line without its line feed; it may hold any other bytes, and be of any length.
+///
+/// `Err(Fault)` exactly where the text is none of the lines of this crate. `Err(NoMemory)` where an allocation failed:
+/// then nothing is said of the text, and reading it again may succeed. Nothing is kept after an error.
+pub fn read_line(alloc: Global, text: &[u8]) -> Result<Line, Stop>
+    ensures { Gives (λ x. x) result (line_of text.now) }
+{
+    match text {
+        [b'#', ..] => Ok(Line::Blank),
+        _ => said(alloc, &mut Words::of(text)),
+    }
+}

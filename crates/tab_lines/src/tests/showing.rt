@@ -1,0 +1,118 @@
+//! What a line says, as a text with `|` before each part.
+use crate::{Line, Stop, read_line};
+use std::alloc::{AllocError, Global};
+use tab_history::{Act, Scan, TimeMode};
+use tab_key::{Bound, Column, Kind};
+use tab_mutation::Mutation;
+
+fn show_part(out: &mut Vec<u8>, bytes: &[u8]) -> Result<(), AllocError> {
+    out.extend_from_slice(b"|")?;
+    out.extend_from_slice(bytes)
+}
+
+fn show_number(alloc: Global, out: &mut Vec<u8>, number: i64) -> Result<(), AllocError> {
+    let text = format!(in alloc; "{number}")?;
+    show_part(out, text.as_str().as_bytes())
+}
+
+fn show_mutation(alloc: Global, out: &mut Vec<u8>, mutation: &Mutation) -> Result<(), AllocError> {
+    show_part(out, mutation.row())?;
+    for update in mutation.updates() {
+        let kind: &[u8] = match update.kind() {
+            Kind::Put => b"put",
+            Kind::Delete => b"del",
+        };
+        show_part(out, kind)?;
+        show_part(out, update.family())?;
+        show_part(out, update.qualifier())?;
+        show_part(out, update.label())?;
+        match update.timestamp() {
+            Some(timestamp) => show_number(alloc, out, timestamp)?,
+            None => show_part(out, b"-")?,
+        }
+        show_part(out, update.value())?;
+    }
+    Ok(())
+}
+
+fn show_bound(out: &mut Vec<u8>, bound: &Bound) -> Result<(), AllocError> {
+    match bound {
+        Bound::Unbounded => show_part(out, b"any"),
+        Bound::Inclusive(row) => {
+            show_part(out, b"from")?;
+            show_part(out, row.as_bytes())
+        }
+        Bound::Exclusive(row) => {
+            show_part(out, b"past")?;
+            show_part(out, row.as_bytes())
+        }
+    }
+}
+
+fn show_scan(out: &mut Vec<u8>, scan: &Scan) -> Result<(), AllocError> {
+    show_part(out, scan.table.as_bytes())?;
+    for term in scan.authorizations.terms() {
+        show_part(out, term.as_slice())?;
+    }
+    show_bound(out, &scan.bounds.low)?;
+    show_bound(out, &scan.bounds.high)?;
+    for column in scan.columns.as_slice() {
+        match column {
+            Column::Family(family) => show_part(out, family.as_bytes())?,
+            Column::Qualified(family, qualifier) => {
+                show_part(out, family.as_bytes())?;
+                out.extend_from_slice(b":")?;
+                out.extend_from_slice(qualifier.as_bytes())?;
+            }
+        }
+    }
+    Ok(())
+}
+
+fn show_act(alloc: Global, out: &mut Vec<u8>, act: &Act) -> Result<(), AllocError> {
+    match act {
+        Act::Open(scan) => show_scan(out, scan),
+        Act::Write(table, mutation) => {
+            show_part(out, table.as_bytes())?;
+            show_mutation(alloc, out, mutation)
+        }
+        Act::CreateTable(table, time, versions) => {
+            show_part(out, table.as_bytes())?;
+            let mode: &[u8] = match time {
+                TimeMode::Any => b"any",
+                TimeMode::Server => b"server",
+            };
+            show_part(out, mode)?;
+            show_number(alloc, out, *versions as i64)
+        }
+        Act::SetConstraints(table, constraints) => {
+            show_part(out, table.as_bytes())?;
+            for constraint in constraints.as_slice() {
+                let name = format!(in alloc; "{constraint:?}")?;
+                show_part(out, name.as_str().as_bytes())?;
+            }
+            Ok(())
+        }
+        Act::SetAuths(user, authorizations) => {
+            show_part(out, user.as_bytes())?;
+            for term in authorizations.terms() {
+                show_part(out, term.as_slice())?;
+            }
+            Ok(())
+        }
+    }
+}
+
+// What the line says, or `fault`.
+pub(super) fn shown(alloc: Global, text: &[u8]) -> Result<Vec<u8>, AllocError> {
+    let mut out = Vec::new(alloc);
+    match read_line(alloc, text) {
+        Err(Stop::Fault) => out.extend_from_slice(b"fault")?,
+        Err(Stop::NoMemory) => return Err(AllocError),
+        Ok(Line::Blank) => out.extend_from_slice(b"blank")?,
+        Ok(Line::At(moment)) => show_number(alloc, &mut out, moment)?,
+        Ok(Line::Act(act)) => show_act(alloc, &mut out, &act)?,
+        Ok(Line::Scan(scan)) => show_scan(&mut out, &scan)?,
+    }
+    Ok(out)
+}
