@@ -1,0 +1,5 @@
+pub mod Steps
+pub mod Found
+pub mod Limits
+pub mod Acting
+pub mod Making

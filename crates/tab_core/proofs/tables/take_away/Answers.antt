@@ -1,0 +1,7 @@
+use Rattle.std.proofs.Common.{None, ap, ◌∙◌, cond}
+use Rattle.tab_policy.specs.Entries.{at_name}
+use Rattle.tab_policy.proofs.NameLemmas.{same_name}
+use Rattle.tab_core.proofs.tables.take_away.Goals as goal
+
+pub returns : goal.returns
+returns c = λ q. c.remove.ensures.updates.0 q ∙ ap (λ b. cond b None (at_name q c.args.map.now.entries)) (same_name c.args.name.now q)

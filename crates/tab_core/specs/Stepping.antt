@@ -1,0 +1,98 @@
+-- What one step of a core does, seen from the core alone and from every history that it stood for.
+use Rattle.std.specs.Prelude.{ℕ, ℤ, ◌≡◌, ◌<◌, ◌⊎◌, Bool, true, false, List, [], ◌∷◌, Contains, is_some, IfSome}
+use Rattle.std.specs.List.Sorted.{IsStrictlySortedBy}
+use Rattle.tab_key.specs.Records.{Record, Cell}
+use Rattle.tab_key.specs.Order.{record_cmp}
+use Rattle.tab_key.specs.Sorted.{sorted}
+use Rattle.tab_policy.specs.State.{table_exists}
+use Rattle.tab_mutation.specs.Shape.{first_some}
+use Rattle.tab_policy.specs.declared.permission.SystemPermission.{SystemPermission}
+use Rattle.tab_policy.specs.declared.permission.TablePermission.{TablePermission}
+use Rattle.tab_history.specs.declared.event.Act.{Act}
+use Rattle.tab_history.specs.declared.event.Event.{Event}
+use Rattle.tab_history.specs.declared.event.Step.TheVariants.{Event as IsEvent}
+use Rattle.tab_history.specs.declared.reply.Refusal.TheVariants.{NoMemory, TooLarge, NoSession}
+use Rattle.tab_history.specs.declared.reply.Reply.{Reply}
+use Rattle.tab_history.specs.declared.reply.Reply.TheVariants.{Done, Refused, Opened, Batch}
+use Rattle.tab_history.specs.Bases.{Base}
+use Rattle.tab_key.specs.declared.part.Part.TheVariants.{Sessions}
+use Rattle.tab_policy.specs.Actions.{table_named}
+use Rattle.tab_history.specs.Changes.{Change, changes_of}
+use Rattle.tab_history.specs.Readings.{has_user, held_auths, has_system_right, has_table_right, settings_of, next_number, updates_of}
+use Rattle.tab_history.specs.Checks.{standing, exists_in, user_named, own_checks, action_of}
+use Rattle.tab_history.specs.Answers.{Told, told_of, told, granted, changes_by, session_list}
+use Rattle.tab_history.specs.Sessions.{Held}
+use Rattle.tab_history.specs.Histories.{Entry, World, world_of, world_after, journal}
+use Rattle.tab_history.specs.Legal.{IsAnswer, LegalAlone, IsExhausted}
+use Rattle.tab_history.specs.Standing.{StandsFor}
+use Rattle.tab_history.specs.Chains.{GoesRight, HasRoom}
+
+-- an event and what was answered
+abbrev pub entry : Event → Told → Entry
+entry event reply = record { step = IsEvent event; reply = reply }
+
+-- a session that is handed out shows these cells, and none of them was given
+abbrev pub HandsOut : Reply Held → List Cell → Type 0
+HandsOut (Opened session) all = session ≡ record { all = all; given = 0 }
+HandsOut Done all = Unit {0}
+HandsOut (Refused refusal) all = Unit {0}
+HandsOut (Batch cells) all = Unit {0}
+
+-- What an event did to a core that was old before, as every history sees it that the core stood for.
+pub record Steps (old : Base) (event : Event) (reply : Reply Held) (new : Base) : Type 0 where
+  -- seen from the core alone
+  pub right : GoesRight old (entry event (told_of reply)) new
+  -- a legal history stays legal with this entry
+  pub legal : (w : World) (h : List Entry) → StandsFor (world_of old) (world_after w h) → LegalAlone w h → LegalAlone w (entry event (told_of reply) ∷ h)
+  -- the reply is an answer there, whichever sessions were opened, if there is room for one more
+  pub answers : (w : World) (h : List Entry) → StandsFor (world_of old) (world_after w h) → (own : List Entry) → HasRoom w own (IsEvent event) → IsAnswer w h own (IsEvent event) (told_of reply) ⊎ IsExhausted (told_of reply)
+  -- the core stands for the history with this entry
+  pub stands : (w : World) (h : List Entry) → StandsFor (world_of old) (world_after w h) → StandsFor (world_of new) (world_after w (entry event (told_of reply) ∷ h))
+  -- a session that is handed out has the list that is defined there
+  pub hands : (w : World) (h : List Entry) → StandsFor (world_of old) (world_after w h) → HandsOut reply (session_list w.base (journal w h) event.act)
+  -- where memory lacked, the core stands for what it stood for
+  pub unchanged : told_of reply ≡ Refused NoMemory → (w : World) (h : List Entry) → StandsFor (world_of old) (world_after w h) → StandsFor (world_of new) (world_after w h)
+
+-- ---- inside the core
+-- what an act changes, if it isn't refused
+abbrev pub changes_told : ℤ → List ℕ → Act → Told → List Change
+changes_told now user act (Refused r) = []
+changes_told now user act _ = changes_of now user act
+
+-- Whether the reply moves the clock: each does but want of memory and a refusal by a list of sessions, which say that there was no event.
+abbrev pub moves_clock : Told → Bool
+moves_clock (Refused NoMemory) = false
+moves_clock (Refused (TooLarge Sessions)) = false
+moves_clock (Refused (NoSession slot)) = false
+moves_clock _ = true
+
+-- users, rights, tables and numbers are those of the old core after the changes, of which the newest stands first
+pub record Becomes (old : Base) (j : List Change) (new : Base) : Type 0 where
+  pub clock : new.clock ≡ old.clock
+  pub next : new.next ≡ next_number old j
+  pub known : (n : List ℕ) → has_user new [] n ≡ has_user old j n
+  pub auths : (n : List ℕ) → held_auths new [] n ≡ held_auths old j n
+  pub system : (n : List ℕ) (p : SystemPermission) → has_system_right new [] n p ≡ has_system_right old j n p
+  pub rights : (n : List ℕ) (p : TablePermission) (t : List ℕ) → has_table_right new [] n p t ≡ has_table_right old j n p t
+  pub settings : (t : List ℕ) → settings_of new [] t ≡ settings_of old j t
+  pub records : (t : List ℕ) → updates_of new [] t ≡ sorted (updates_of old j t)
+
+-- an act of this user at this clock: it is answered so, unless memory or numbers ran out, and does what its reply says; the core's own clock is set afterwards
+pub record Acts (answer : Told) (old : Base) (now : ℤ) (user : List ℕ) (act : Act) (reply : Reply Held) (new : Base) : Type 0 where
+  pub answers : (told_of reply ≡ answer) ⊎ IsExhausted (told_of reply)
+  pub becomes : Becomes old (changes_told now user act (told_of reply)) new
+  pub hands : HandsOut reply (session_list old [] act)
+
+-- the answer to an act that the policy admits
+abbrev pub own_answer : Base → ℤ → List ℕ → Act → Told
+own_answer old now user act = told (first_some (own_checks (standing old [] user) (exists_in old [] (user_named act)) now act)) (granted act)
+
+-- the caller is known, and the table that the act names is there, if it must exist
+abbrev pub IsAdmitted : Base → List ℕ → Act → Type 0
+IsAdmitted b user act = (has_user b [] user ≡ true) × IfSome (table_named (action_of act)) (λ t. is_some (settings_of b [] t) ≡ true)
+
+-- a core's records lie in their order, their numbers are used up, and its policy knows its tables
+pub record IsCore (b : Base) : Type 0 where
+  pub rising : (t : List ℕ) → IsStrictlySortedBy record_cmp (updates_of b [] t)
+  pub numbered : (t : List ℕ) (u : Record) → Contains (updates_of b [] t) u → u.seq < b.next
+  pub tables : (t : List ℕ) → table_exists b.policy t ≡ is_some (settings_of b [] t)

@@ -1,0 +1,147 @@
+//! The checks that are an event's own.
+ghost use Rattle.std.specs.Prelude.{◌≡◌, ◌<◌, ◌≤◌, ◌⊎◌, ◌^◌, ℕ, Some, None, true, false, length, IsSome};
+ghost use Rattle.tab_mutation.specs.Shape.{first_some, misshape};
+ghost use Rattle.tab_label.specs.Reading.{label_of};
+ghost use Rattle.tab_history.specs.Checks.{malformed_at, malformed, stamped, outdated, violated, mutation_checks, scan_checks, too_many_auths, shape_refusal};
+ghost use Rattle.tab_core.specs.Tables.{table_settings};
+
+use crate::table::Table;
+use std::alloc::{AllocError, Global};
+use tab_history::{Refusal, Scan, TimeMode};
+use tab_key::{
+    ByteString, Items, MAX_AUTHORIZATION_LEN, MAX_AUTHORIZATIONS, MAX_COLUMNS, Part, is_bad_range,
+};
+use tab_label::{AuthSet, judge};
+use tab_mutation::{Misshape, Mutation, UpdateRef};
+use tab_rules::{Failing, check};
+
+fn shape_refusal(misshape: Misshape) -> Refusal
+    ensures { result ≡ shape_refusal misshape }
+{
+    match misshape {
+        Misshape::Empty => Refusal::EmptyMutation,
+        Misshape::TooLarge(part) => Refusal::TooLarge(part),
+    }
+}
+
+// The refusal of an update whose label is malformed.
+fn malformed_at(update: &UpdateRef<'_>, place: u32, auths: &AuthSet) -> Option<Refusal>
+    requires { length update.now.label < 2 ^ 32 }
+    ensures { result ≡ malformed_at place (label_of update.now.label) }
+{
+    match judge(update.label(), auths) {
+        Ok(_) => None,
+        Err(offset) => Some(Refusal::MalformedVisibility(place, offset as u32)),
+    }
+}
+
+// The first update whose label is malformed.
+#[tactic(auto, unfolding(tab_history::specs::Checks::malformed))]
+fn malformed(mutation: &Mutation, auths: &AuthSet) -> Option<Refusal>
+    requires { misshape mutation.now ≡ None }
+    ensures { result ≡ malformed mutation.now }
+{
+    for index in 0..mutation.len() {
+        if let Some(refusal) = malformed_at(&mutation.update(index), index as u32, auths) {
+            return Some(refusal);
+        }
+    }
+    None
+}
+
+// The first update with a timestamp, where the table gives them.
+#[tactic(auto, unfolding(tab_history::specs::Checks::stamped))]
+fn stamped(table: &Table, mutation: &Mutation) -> Option<Refusal>
+    ensures { result ≡ stamped (table_settings table.now) mutation.now }
+{
+    if table.time == TimeMode::Any {
+        return None;
+    }
+    for index in 0..mutation.len() {
+        if mutation.update(index).timestamp().is_some() {
+            return Some(Refusal::TimestampNotAllowed(index as u32));
+        }
+    }
+    None
+}
+
+// The first update below the table's horizon.
+#[tactic(auto, unfolding(tab_history::specs::Checks::outdated))]
+fn outdated(table: &Table, now: i64, mutation: &Mutation) -> Option<Refusal>
+    ensures { result ≡ outdated (table_settings table.now) now mutation.now }
+{
+    for index in 0..mutation.len() {
+        if mutation.update(index).timestamp().unwrap_or(now) < table.horizon {
+            return Some(Refusal::BelowHorizon(index as u32));
+        }
+    }
+    None
+}
+
+fn violated(failing: Items<Failing>) -> Option<Refusal>
+    ensures { result ≡ violated failing }
+{
+    if failing.is_empty() {
+        None
+    } else {
+        Some(Refusal::ConstraintViolation(failing))
+    }
+}
+
+/// Why a mutation of this table by a caller with these authorizations is refused, or that memory lacked.
+pub fn mutation_refusal(
+    alloc: Global,
+    table: &Table,
+    auths: &AuthSet,
+    now: i64,
+    mutation: &Mutation,
+) -> Option<Refusal>
+    ensures answers { (result ≡ first_some (mutation_checks (Some (table_settings table.now)) auths.now now mutation.now)) ⊎ (result ≡ Some Refusal.NoMemory) }
+    ensures shape { result ≡ None → misshape mutation.now ≡ None }
+{
+    if let Some(misshape) = mutation.shape() {
+        return Some(shape_refusal(misshape));
+    }
+    if let Some(refusal) = malformed(mutation, auths) {
+        return Some(refusal);
+    }
+    if let Some(refusal) = stamped(table, mutation) {
+        return Some(refusal);
+    }
+    if let Some(refusal) = outdated(table, now, mutation) {
+        return Some(refusal);
+    }
+    match check(alloc, table.constraints.as_slice(), mutation, auths) {
+        Ok(failing) => violated(failing),
+        Err(AllocError) => Some(Refusal::NoMemory),
+    }
+}
+
+/// Whether there are over 1,024 authorizations, or one of over 1,024 bytes.
+pub fn too_many_auths(auths: &AuthSet) -> bool
+    ensures { result ≡ too_many_auths auths.now }
+{
+    auths.len() > MAX_AUTHORIZATIONS || auths.has_longer(MAX_AUTHORIZATION_LEN)
+}
+
+/// Why a scan by a caller with these authorizations is refused, or that memory lacked.
+pub fn scan_refusal(alloc: Global, held: &AuthSet, scan: &Scan) -> Option<Refusal>
+    ensures { (result ≡ first_some (scan_checks held.now scan.now)) ⊎ (result ≡ Some Refusal.NoMemory) }
+{
+    if scan.columns.len() > MAX_COLUMNS {
+        return Some(Refusal::TooLarge(Part::Columns));
+    }
+    if too_many_auths(&scan.authorizations) {
+        return Some(Refusal::TooLarge(Part::Authorizations));
+    }
+    if is_bad_range(&scan.bounds.low, &scan.bounds.high) {
+        return Some(Refusal::BadRange);
+    }
+    match scan.authorizations.first_missing(held) {
+        None => None,
+        Some(term) => match ByteString::from_slice(alloc, term) {
+            Ok(term) => Some(Refusal::BadAuthorizations(term)),
+            Err(AllocError) => Some(Refusal::NoMemory),
+        },
+    }
+}

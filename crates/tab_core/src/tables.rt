@@ -1,0 +1,166 @@
+//! Tables by name.
+ghost use Rattle.std.specs.Prelude.{◌≡◌, ◌<◌, ◌≤◌, ◌++◌, ℕ, List, [], Option, Some, None, true, false, cond, reverse, map, length, Contains, is_some, bytes_eq, option_copied, IfOk, OnOk, OnErr};
+ghost use Rattle.std.specs.List.Sorted.{IsStrictlySortedBy};
+ghost use Rattle.tab_key.specs.Order.{record_cmp};
+ghost use Rattle.tab_key.specs.Records.{Record};
+ghost use Rattle.tab_key.specs.Sorted.{sorted};
+ghost use Rattle.tab_policy.specs.Entries.{at_name, changed_at};
+ghost use Rattle.tab_history.specs.Changes.{posted};
+ghost use Rattle.tab_history.specs.Readings.{numbered, constrained};
+ghost use Rattle.tab_history.specs.Answers.{listed, query_of};
+ghost use Rattle.tab_core.specs.Tables.{settings_in, records_in, found_settings, found_records, table_settings, with_constraints, with_records};
+
+use crate::table::Table;
+use std::alloc::{AllocError, Global};
+use std::collections::BTreeMap;
+use std::marker::Model;
+use tab_history::Scan;
+use tab_key::{Cell, Items, Name};
+use tab_mutation::Mutation;
+use tab_rules::Constraint;
+
+/// The tables that there are.
+#[derive(Drop)]
+pub struct Tables {
+    by_name: BTreeMap<Name, Table>,
+}
+
+impl Model for Tables {
+    ghost use Rattle.std.specs.Prelude.{List, map};
+    ghost use Rattle.tab_history.specs.Bases.{BaseTable};
+
+    ghost Value = { List BaseTable };
+
+    ghost use Rattle.tab_core.specs.Tables.{as_base};
+
+    ghost view = { λ t. map as_base t.by_name.entries };
+}
+
+impl Tables {
+    /// No table.
+    pub fn new(alloc: Global) -> Tables
+        ensures { result ≡ [] }
+    {
+        Tables {
+            by_name: BTreeMap::new(alloc),
+        }
+    }
+
+    /// The table of this name.
+    #[tactic(auto, using(crate::proofs::Found::settings_found, crate::proofs::Found::records_found))]
+    pub fn get(&self, name: &Name) -> Option<&Table>
+        ensures settings { found_settings (option_copied result) ≡ settings_in self.now name.now }
+        ensures records { found_records (option_copied result) ≡ records_in self.now name.now }
+    {
+        self.by_name.get(name)
+    }
+
+    /// Whether there is a table of this name.
+    pub fn contains(&self, name: &Name) -> bool
+        ensures { result ≡ is_some (settings_in self.now name.now) }
+    {
+        self.by_name.contains_key(name)
+    }
+
+    /// Puts a table in. An error leaves the tables as they were.
+    pub fn insert(&mut self, name: Name, table: Table) -> Result<(), AllocError>
+        ensures settings { OnOk result ((q : List ℕ) → settings_in self.new q ≡ cond (bytes_eq name q) (Some (table_settings table)) (settings_in self.old q)) }
+        ensures records { OnOk result ((q : List ℕ) → records_in self.new q ≡ cond (bytes_eq name q) table.records (records_in self.old q)) }
+        ensures err { OnErr result (self.new ≡ self.old) }
+    {
+        put(&mut self.by_name, name, table)
+    }
+
+    /// Takes a table away.
+    pub fn remove(&mut self, name: &Name)
+        ensures settings { (q : List ℕ) → settings_in self.new q ≡ cond (bytes_eq name.now q) None (settings_in self.old q) }
+        ensures records { (q : List ℕ) → records_in self.new q ≡ cond (bytes_eq name.now q) [] (records_in self.old q) }
+    {
+        take_away(&mut self.by_name, name);
+    }
+
+    /// Sets the table's constraints, if there is such a table.
+    pub fn set_constraints(&mut self, name: &Name, constraints: Items<Constraint>)
+        ensures settings { (q : List ℕ) → settings_in self.new q ≡ cond (bytes_eq name.now q) (constrained constraints (settings_in self.old q)) (settings_in self.old q) }
+        ensures records { (q : List ℕ) → records_in self.new q ≡ records_in self.old q }
+    {
+        set_constraints(&mut self.by_name, name, constraints);
+    }
+}
+
+// Puts the table under the name. An error leaves the map as it was.
+fn put(map: &mut BTreeMap<Name, Table>, name: Name, table: Table) -> Result<(), AllocError>
+    ensures ok { OnOk result ((q : List ℕ) → at_name q map.new.entries ≡ cond (bytes_eq name q) (Some table) (at_name q map.old.entries)) }
+    ensures err { OnErr result (map.new.entries ≡ map.old.entries) }
+{
+    map.insert(name, table)?;
+    Ok(())
+}
+
+// Takes away what stands under the name.
+fn take_away(map: &mut BTreeMap<Name, Table>, name: &Name)
+    ensures { (q : List ℕ) → at_name q map.new.entries ≡ cond (bytes_eq name.now q) None (at_name q map.old.entries) }
+{
+    let _ = map.remove(name);
+}
+
+fn set_constraints(map: &mut BTreeMap<Name, Table>, name: &Name, constraints: Items<Constraint>)
+    ensures { (q : List ℕ) → at_name q map.new.entries ≡ changed_at name.now (with_constraints constraints) map.old.entries q }
+{
+    if let Some(table) = map.get_mut(name) {
+        table.constraints = constraints;
+    }
+}
+
+impl Tables {
+    /// Puts the updates of an accepted mutation into the table, which must be there. An error leaves the tables as they were.
+    pub fn write(
+        &mut self,
+        alloc: Global,
+        name: &Name,
+        mutation: &Mutation,
+        seq: u64,
+        clock: i64,
+    ) -> Result<(), AllocError>
+        requires there { is_some (settings_in self.old name.now) ≡ true }
+        requires few { length mutation.now.updates ≤ 1000 }
+        requires unused { (u : Record) → Contains (records_in self.old name.now) u → u.seq < seq }
+        ensures settings { (q : List ℕ) → settings_in self.new q ≡ settings_in self.old q }
+        ensures records { OnOk result ((q : List ℕ) → records_in self.new q ≡ cond (bytes_eq name.now q)
+            (sorted (numbered seq mutation.now.row (reverse (map (posted clock) mutation.now.updates)) ++ records_in self.old name.now)) (records_in self.old q)) }
+        ensures err { OnErr result ((q : List ℕ) → records_in self.new q ≡ records_in self.old q) }
+    {
+        write(&mut self.by_name, alloc, name, mutation, seq, clock)
+    }
+
+    /// What a scan shows; nothing, where there is no such table.
+    pub fn scan(&self, alloc: Global, scan: &Scan) -> Result<Items<Cell>, AllocError>
+        ensures { IfOk result (λ cells. cells ≡ listed (records_in self.now scan.now.table) (query_of scan.now) (settings_in self.now scan.now.table)) }
+    {
+        let Some(table) = self.get(&scan.table) else {
+            return Ok(Items::new(alloc));
+        };
+        Ok(Items::from_vec(table.records.scan(alloc, table.versions, scan)?))
+    }
+}
+
+fn write(
+    tables: &mut BTreeMap<Name, Table>,
+    alloc: Global,
+    name: &Name,
+    mutation: &Mutation,
+    seq: u64,
+    clock: i64,
+) -> Result<(), AllocError>
+    requires there { is_some (at_name name.now tables.old.entries) ≡ true }
+    requires few { length mutation.now.updates ≤ 1000 }
+    requires unused { (u : Record) → Contains (found_records (at_name name.now tables.old.entries)) u → u.seq < seq }
+    ensures ok { OnOk result ((q : List ℕ) → at_name q tables.new.entries ≡ changed_at name.now
+        (with_records (sorted (numbered seq mutation.now.row (reverse (map (posted clock) mutation.now.updates)) ++ found_records (at_name name.now tables.old.entries)))) tables.old.entries q) }
+    ensures err { OnErr result ((q : List ℕ) → at_name q tables.new.entries ≡ at_name q tables.old.entries) }
+{
+    match tables.get_mut(name) {
+        Some(table) => table.records.write(alloc, mutation, seq, clock),
+        None => Ok(()),
+    }
+}
