@@ -1,5 +1,8 @@
-pub mod Steps
+pub mod Acting
 pub mod Found
 pub mod Limits
-pub mod Acting
 pub mod Making
+pub mod OwnerLemmas
+pub mod Runs
+pub mod SlotLemmas
+pub mod Steps

@@ -1,2 +1,4 @@
+pub mod Owners
 pub mod Tables
+pub mod Slots
 pub mod Stepping

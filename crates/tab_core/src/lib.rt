@@ -1,21 +1,21 @@
 //! The core: one event at a time is applied to users, rights and tables, and answered.
 //!
 //! What a right answer is, and what an event leaves behind, is defined in `tab_history`. The contract of
-//! [`Core::step`] says it of every history that the core stands for.
+//! [`Core::step`] says it of every history that the core stands for, and that of [`run`] of a whole list of steps.
 #![tactic(auto)]
 
 mod acts;
 mod checking;
 mod policing;
 mod reply;
+mod running;
 mod session;
+mod slots;
 mod state;
 mod table;
 mod tables;
 
 pub use reply::told;
+pub use running::run;
 pub use session::Session;
 pub use state::Core;
-
-#[cfg(test)]
-mod tests;

@@ -1,0 +1,199 @@
+-- A step of a run makes its history longer.
+use Rattle.std.proofs.Common.{get_or, ◌≡◌, ◌⊎◌, inl, inr, ℕ, zero, suc, ◌+◌, ◌<◌, ◌≤◌, Bool, true, false, cond, ◌&&◌, List, [], ◌∷◌, ◌++◌, length, take, Option, Some, None, refl, sym, ap, ◌∙◌, subst, arith}
+use Rattle.std.specs.Prelude.{reverse, bytes_eq}
+use Rattle.std.proofs.lemmas.List.{reverse-append, take_more, length-take-le}
+use Rattle.std.proofs.lemmas.Slice.Eq.{bytes_eq-Decides}
+use Rattle.tab_key.specs.Records.{Cell}
+use Rattle.tab_key.specs.declared.part.Part.TheVariants.{Sessions}
+use Rattle.tab_history.specs.declared.event.Event.{Event}
+use Rattle.tab_history.specs.declared.event.Step.{Step}
+use Rattle.tab_history.specs.declared.event.Step.TheVariants.{Event as IsEvent, Next, Close}
+use Rattle.tab_history.specs.declared.reply.Refusal.{Refusal}
+use Rattle.tab_history.specs.declared.reply.Refusal.TheVariants.{NoMemory, TooLarge, NoSession}
+use Rattle.tab_history.specs.declared.reply.Reply.{Reply}
+use Rattle.tab_history.specs.declared.reply.Reply.TheVariants.{Done, Refused, Opened, Batch}
+use Rattle.tab_history.specs.Bases.{Base}
+use Rattle.tab_history.specs.Answers.{Told, told_of, session_of, answer, event_answer, next_answer, close_answer, is_open, moves_by, session_list}
+use Rattle.tab_history.specs.Sessions.{Held, Move, Opening, Taking, Closing, is_full, session_in}
+use Rattle.tab_history.specs.Histories.{Entry, World, world_of, world_after, clock_of, clock_at, journal, user_of, is_by, moves_of}
+use Rattle.tab_history.specs.Legal.{IsAnswer, IsExhausted, Legal}
+use Rattle.tab_history.specs.Standing.{StandsFor}
+use Rattle.tab_history.specs.Runs.{IsNoEvent}
+use Rattle.tab_history.proofs.Playing.{unmoved}
+use Rattle.tab_core.specs.Stepping.{Steps, HandsOut}
+use Rattle.tab_core.specs.Slots.{slot_at, are_full, NextFrom, CloseFrom, SlotsAre, entries_of, history_of}
+use Rattle.tab_core.specs.Owners.{slots_of, LeavesOthers, OwnersStand, RunsOn, kept_with, AnswersIn, OpensIn}
+use Rattle.tab_core.specs.declared.running.Owner.{Owner}
+use Rattle.tab_core.proofs.SlotLemmas.{slots_none, slots_opened, slots_taken, slots_closed, full_alike}
+
+-- ---- whose slots they are
+own_more : (w : World) (h : List Entry) (step : Step) (reply : Told) (os os' : List Owner) → SlotsAre (moves_by w.base (journal w h) step reply ++ moves_of w (user_of step) h) (slots_of os' (user_of step)) → LeavesOthers (user_of step) os os' → OwnersStand os w h
+    → OwnersStand os' w (record { step = step; reply = reply } ∷ h)
+unfolding moves_of
+own_more w h step reply os os' own others stand u = go (bytes_eq (user_of step) u) refl
+  where
+    go : (b : Bool) → bytes_eq (user_of step) u ≡ b → SlotsAre (cond b (moves_by w.base (journal w h) step reply ++ moves_of w u h) (moves_of w u h)) (slots_of os' u)
+    go true same = subst (λ (n : List ℕ). SlotsAre (moves_by w.base (journal w h) step reply ++ moves_of w n h) (slots_of os' n)) ((bytes_eq-Decides (user_of step) u).0 same) own
+    go false other = subst (λ (ss : List (Option Held)). SlotsAre (moves_of w u h) ss) (sym (others u other)) (stand u)
+
+-- all stays where there was no event
+still : (w : World) (h : List Entry) (core : Base) (step : Step) (reply : Told) → IsNoEvent step reply → StandsFor (world_of core) (world_after w h) → StandsFor (world_of core) (world_after w (record { step = step; reply = reply } ∷ h))
+still w h core step reply none_opens stands = subst (λ (v : World). StandsFor (world_of core) v) (sym (unmoved w h (record { step = step; reply = reply }) none_opens)) stands
+
+-- ---- a Next
+next_slots : (w : World) (j : List Move) (b : Base) (h : List Entry) (user : List ℕ) (slot n : ℕ) (reply : Told) (ss ss' : List (Option Held)) → NextFrom ss slot n reply ss' → SlotsAre j ss → SlotsAre (moves_by b (journal w h) (Next user slot n) reply ++ j) ss'
+next_slots w j b h user slot n (Batch cells) ss ss' from are = subst (λ (l : List (Option Held)). SlotsAre (Taking slot (length cells) ∷ j) l) (sym from.after) (slots_taken j ss slot (length cells) are)
+next_slots w j b h user slot n Done ss ss' from are = subst (λ (l : List (Option Held)). SlotsAre j l) (sym from.after) are
+next_slots w j b h user slot n (Refused r) ss ss' from are = subst (λ (l : List (Option Held)). SlotsAre j l) (sym from.after) are
+next_slots w j b h user slot n (Opened s) ss ss' from are = subst (λ (l : List (Option Held)). SlotsAre j l) (sym from.after) are
+
+next_answers : (w : World) (h : List Entry) (user : List ℕ) (slot n : ℕ) (reply : Told) (ss ss' : List (Option Held)) → NextFrom ss slot n reply ss' → SlotsAre (moves_of w user h) ss → IsAnswer w h h (Next user slot n) reply ⊎ IsExhausted reply
+unfolding answer
+next_answers w h user slot n reply ss ss' from are = go from.answers
+  where
+    go : (reply ≡ next_answer (slot_at ss slot) slot n) ⊎ (reply ≡ Refused NoMemory) → IsAnswer w h h (Next user slot n) reply ⊎ IsExhausted reply
+    go (inl is) = inl (is ∙ ap (λ (s : Option Held). next_answer s slot n) (sym (are.sessions slot)))
+    go (inr is) = inr (inl is)
+
+pub runs_next : (core : Base) (os os' : List Owner) (user : List ℕ) (slot n : ℕ) (reply : Told) → NextFrom (slots_of os user) slot n reply (slots_of os' user) → LeavesOthers user os os' → RunsOn core os (Next user slot n) reply core os'
+runs_next core os os' user slot n reply from others w h stands stand legal = (
+  still w h core (Next user slot n) reply tt stands,
+  own_more w h (Next user slot n) reply os os' (next_slots w (moves_of w user h) w.base h user slot n reply (slots_of os user) (slots_of os' user) from (stand user)) others stand,
+  (legal, next_answers w h user slot n reply (slots_of os user) (slots_of os' user) from (stand user)),
+)
+
+-- ---- a Close
+close_slots : (w : World) (j : List Move) (b : Base) (h : List Entry) (user : List ℕ) (slot : ℕ) (reply : Told) (ss ss' : List (Option Held)) → CloseFrom ss slot reply ss' → SlotsAre j ss → SlotsAre (moves_by b (journal w h) (Close user slot) reply ++ j) ss'
+close_slots w j b h user slot Done ss ss' from are = go (slot_at ss slot) refl
+  where
+    go : (s : Option Held) → slot_at ss slot ≡ s → SlotsAre (Closing slot ∷ j) ss'
+    go None none = let is : Done ≡ Refused (NoSession slot) = from.answers ∙ ap (λ (s : Option Held). close_answer s slot) none in absurd (cc is)
+    go (Some held) some = subst (λ (l : List (Option Held)). SlotsAre (Closing slot ∷ j) l) (sym from.after) (slots_closed j ss slot held some are)
+close_slots w j b h user slot (Batch cells) ss ss' from are = subst (λ (l : List (Option Held)). SlotsAre j l) (sym from.after) are
+close_slots w j b h user slot (Refused r) ss ss' from are = subst (λ (l : List (Option Held)). SlotsAre j l) (sym from.after) are
+close_slots w j b h user slot (Opened s) ss ss' from are = subst (λ (l : List (Option Held)). SlotsAre j l) (sym from.after) are
+
+close_answers : (w : World) (h : List Entry) (user : List ℕ) (slot : ℕ) (reply : Told) (ss ss' : List (Option Held)) → CloseFrom ss slot reply ss' → SlotsAre (moves_of w user h) ss → IsAnswer w h h (Close user slot) reply ⊎ IsExhausted reply
+unfolding answer
+close_answers w h user slot reply ss ss' from are = inl (from.answers ∙ ap (λ (s : Option Held). close_answer s slot) (sym (are.sessions slot)))
+
+pub runs_close : (core : Base) (os os' : List Owner) (user : List ℕ) (slot : ℕ) (reply : Told) → CloseFrom (slots_of os user) slot reply (slots_of os' user) → LeavesOthers user os os' → RunsOn core os (Close user slot) reply core os'
+runs_close core os os' user slot reply from others w h stands stand legal = (
+  still w h core (Close user slot) reply tt stands,
+  own_more w h (Close user slot) reply os os' (close_slots w (moves_of w user h) w.base h user slot reply (slots_of os user) (slots_of os' user) from (stand user)) others stand,
+  (legal, close_answers w h user slot reply (slots_of os user) (slots_of os' user) from (stand user)),
+)
+
+-- ---- an event
+pub runs_nowhere : (core : Base) (os os' : List Owner) (event : Event) → ((u : List ℕ) → slots_of os' u ≡ slots_of os u) → RunsOn core os (IsEvent event) (Refused NoMemory) core os'
+runs_nowhere core os os' event same w h stands stand legal = (
+  still w h core (IsEvent event) (Refused NoMemory) tt stands,
+  own_more w h (IsEvent event) (Refused NoMemory) os os' (subst (λ (l : List (Option Held)). SlotsAre (moves_of w event.user h) l) (sym (same event.user)) (stand event.user)) (λ u away. same u) stand,
+  (legal, inr (inl refl)),
+)
+
+-- an event that opens no session
+other_slots : (w : World) (j : List Move) (h : List Entry) (event : Event) (reply : Told) (ss : List (Option Held)) → is_open event.act ≡ false → SlotsAre j ss → SlotsAre (moves_by w.base (journal w h) (IsEvent event) reply ++ j) ss
+other_slots w j h event (Batch cells) ss none_opens are = are
+other_slots w j h event Done ss none_opens are = are
+other_slots w j h event (Refused r) ss none_opens are = are
+other_slots w j h event (Opened s) ss none_opens are = subst (λ (b : Bool). SlotsAre (cond b (Opening (session_list w.base (journal w h) event.act) ∷ []) [] ++ j) ss) (sym none_opens) are
+
+pub runs_other : (old new : Base) (os : List Owner) (event : Event) (r : Reply Held) (reply : Told) → is_open event.act ≡ false → Steps old event r new → reply ≡ told_of r → RunsOn old os (IsEvent event) reply new os
+runs_other old new os event r reply none_opens steps is = subst (λ (x : Told). RunsOn old os (IsEvent event) x new os) (sym is) there
+  where
+    there : RunsOn old os (IsEvent event) (told_of r) new os
+    there w h stands stand legal = (
+      steps.stands w h stands,
+      own_more w h (IsEvent event) (told_of r) os os (other_slots w (moves_of w event.user h) h event (told_of r) (slots_of os event.user) none_opens (stand event.user)) (λ u away. refl) stand,
+      (legal, steps.answers w h stands h (λ opens. absurd (cc (sym none_opens ∙ opens)))),
+    )
+
+-- a session that is handed out is kept
+kept_slots : (w : World) (j : List Move) (h : List Entry) (event : Event) (r : Reply Held) (ss : List (Option Held)) → is_open event.act ≡ true → HandsOut r (session_list w.base (journal w h) event.act) → SlotsAre j ss
+    → SlotsAre (moves_by w.base (journal w h) (IsEvent event) (told_of r) ++ j) (kept_with ss (session_of r))
+kept_slots w j h event (Batch cells) ss opens hands are = are
+kept_slots w j h event Done ss opens hands are = are
+kept_slots w j h event (Refused x) ss opens hands are = are
+kept_slots w j h event (Opened s) ss opens hands are =
+    let list : List Cell = session_list w.base (journal w h) event.act in
+    let there : SlotsAre (Opening list ∷ j) (ss ++ Some s ∷ []) = subst (λ (x : Held). SlotsAre (Opening list ∷ j) (ss ++ Some x ∷ [])) (sym hands) (slots_opened j ss list are) in
+    subst (λ (b : Bool). SlotsAre (cond b (Opening list ∷ []) [] ++ j) (ss ++ Some s ∷ [])) (sym opens) there
+
+full_answer : (w : World) (h : List Entry) (event : Event) → is_open event.act ≡ true → is_full (moves_of w event.user h) ≡ true → IsAnswer w h h (IsEvent event) (Refused (TooLarge Sessions))
+unfolding answer
+full_answer w h event opens full = sym ((λ i. cond (opens i && full i) (Refused (TooLarge Sessions)) (event_answer w.base (journal w h) (clock_at (clock_of w h) (IsEvent event)) event.user event.act)))
+
+-- where the slots are full, where memory lacked, and where the core answered
+open_stays : (core : Base) (os os' : List Owner) (event : Event) (x : Refusal) → is_open event.act ≡ true → IsNoEvent (IsEvent event) (Refused x) → ((u : List ℕ) → slots_of os' u ≡ slots_of os u)
+    → ((w : World) (h : List Entry) → OwnersStand os w h → IsAnswer w h h (IsEvent event) (Refused x) ⊎ IsExhausted (Refused x)) → RunsOn core os (IsEvent event) (Refused x) core os'
+open_stays core os os' event x opens none_opens same answers w h stands stand legal = (
+  still w h core (IsEvent event) (Refused x) none_opens stands,
+  own_more w h (IsEvent event) (Refused x) os os' (subst (λ (l : List (Option Held)). SlotsAre (moves_of w event.user h) l) (sym (same event.user)) (stand event.user)) (λ u away. same u) stand,
+  (legal, answers w h stand),
+)
+
+open_answered : (old new : Base) (os os' : List Owner) (event : Event) (r : Reply Held) → is_open event.act ≡ true → are_full (slots_of os event.user) ≡ false → Steps old event r new → slots_of os' event.user ≡ kept_with (slots_of os event.user) (session_of r)
+    → LeavesOthers event.user os os' → RunsOn old os (IsEvent event) (told_of r) new os'
+open_answered old new os os' event r opens room steps slots others w h stands stand legal =
+    let ss : List (Option Held) = slots_of os event.user in
+    let own : SlotsAre (moves_by w.base (journal w h) (IsEvent event) (told_of r) ++ moves_of w event.user h) (kept_with ss (session_of r)) = kept_slots w (moves_of w event.user h) h event r ss opens (steps.hands w h stands) (stand event.user) in (
+      steps.stands w h stands,
+      own_more w h (IsEvent event) (told_of r) os os' (subst (λ (l : List (Option Held)). SlotsAre (moves_by w.base (journal w h) (IsEvent event) (told_of r) ++ moves_of w event.user h) l) (sym slots) own) others stand,
+      (legal, steps.answers w h stands h (λ opens. full_alike (moves_of w event.user h) ss (stand event.user) ∙ room)),
+    )
+
+-- of the same slots for all, as of an owner who was added with none
+moved_on : (core new : Base) (os mid os' : List Owner) (step : Step) (reply : Told) → ((u : List ℕ) → slots_of mid u ≡ slots_of os u) → RunsOn core mid step reply new os' → RunsOn core os step reply new os'
+moved_on core new os mid os' step reply same runs w h stands stand legal = runs w h stands (λ u. subst (λ (l : List (Option Held)). SlotsAre (moves_of w u h) l) (sym (same u)) (stand u)) legal
+
+same_slots : (mid os' : List Owner) (user : List ℕ) (slots' : List (Option Held)) → slots_of os' user ≡ slots' → slots' ≡ slots_of mid user → LeavesOthers user mid os' → (u : List ℕ) → slots_of os' u ≡ slots_of mid u
+same_slots mid os' user slots' now same others u = go (bytes_eq user u) refl
+  where
+    go : (b : Bool) → bytes_eq user u ≡ b → slots_of os' u ≡ slots_of mid u
+    go true is = subst (λ (n : List ℕ). slots_of os' n ≡ slots_of mid n) ((bytes_eq-Decides user u).0 is) (now ∙ same)
+    go false away = others u away
+
+pub runs_open : (old new : Base) (os mid os' : List Owner) (event : Event) (reply : Told) (slots slots' : List (Option Held)) → is_open event.act ≡ true → ((u : List ℕ) → slots_of mid u ≡ slots_of os u)
+    → slots_of mid event.user ≡ slots → slots_of os' event.user ≡ slots' → LeavesOthers event.user mid os' → OpensIn old slots event reply new slots' → RunsOn old os (IsEvent event) reply new os'
+runs_open old new os mid os' event reply slots slots' opens same was now others (inl full) =
+    let all : (u : List ℕ) → slots_of os' u ≡ slots_of mid u = same_slots mid os' event.user slots' now (full.3 ∙ sym was) others in
+    let there : RunsOn old mid (IsEvent event) (Refused (TooLarge Sessions)) old os' =
+    open_stays old mid os' event (TooLarge Sessions) opens tt all (λ w h stand. inl (full_answer w h event opens (full_alike (moves_of w event.user h) (slots_of mid event.user) (stand event.user) ∙ ap are_full was ∙ full.0))) in
+    moved_on old new os mid os' (IsEvent event) reply same (subst (λ (b : Base). RunsOn old mid (IsEvent event) reply b os') (sym full.2) (subst (λ (x : Told). RunsOn old mid (IsEvent event) x old os') (sym full.1) there))
+runs_open old new os mid os' event reply slots slots' opens same was now others (inr (inl lacks)) =
+    let all : (u : List ℕ) → slots_of os' u ≡ slots_of mid u = same_slots mid os' event.user slots' now (lacks.2 ∙ sym was) others in
+    let there : RunsOn old mid (IsEvent event) (Refused NoMemory) old os' = runs_nowhere old mid os' event all in
+    moved_on old new os mid os' (IsEvent event) reply same (subst (λ (b : Base). RunsOn old mid (IsEvent event) reply b os') (sym lacks.1) (subst (λ (x : Told). RunsOn old mid (IsEvent event) x old os') (sym lacks.0) there))
+runs_open old new os mid os' event reply slots slots' opens same was now others (inr (inr (room, (r, steps, is, kept)))) =
+    let there : RunsOn old mid (IsEvent event) (told_of r) new os' =
+    open_answered old new mid os' event r opens (ap are_full was ∙ room) steps (now ∙ kept ∙ ap (λ l. kept_with l (session_of r)) (sym was)) others in
+    moved_on old new os mid os' (IsEvent event) reply same (subst (λ (x : Told). RunsOn old mid (IsEvent event) x new os') (sym is) there)
+
+-- ---- the list of entries
+entries_push : (steps : List Step) (replies : List Told) (step : Step) (reply : Told) → length steps ≡ length replies
+    → entries_of (steps ++ step ∷ []) (replies ++ reply ∷ []) ≡ entries_of steps replies ++ record { step = step; reply = reply } ∷ []
+entries_push [] [] step reply same = refl
+entries_push [] (r ∷ replies) step reply same = absurd (omega arith)
+entries_push (x ∷ steps) [] step reply same = absurd (omega arith)
+entries_push (x ∷ steps) (r ∷ replies) step reply same = ap (λ l. record { step = x; reply = r } ∷ l) (entries_push steps replies step reply (omega arith))
+
+history_push : (steps : List Step) (replies : List Told) (step : Step) (reply : Told) → length steps ≡ length replies → history_of (steps ++ step ∷ []) (replies ++ reply ∷ []) ≡ record { step = step; reply = reply } ∷ history_of steps replies
+history_push steps replies step reply same = ap reverse (entries_push steps replies step reply same) ∙ reverse-append (entries_of steps replies) (record { step = step; reply = reply } ∷ [])
+
+-- one more step and its reply
+pub history_more : (steps : List Step) (i : ℕ) (step : Step) (replies more : List Told) (reply : Told) → i < length steps → step ≡ get_or steps i step → length replies ≡ i → more ≡ replies ++ reply ∷ []
+    → history_of (take (i + 1) steps) more ≡ record { step = step; reply = reply } ∷ history_of (take i steps) replies
+history_more steps i step replies more reply lt is count grown =
+    let taken : take (i + 1) steps ≡ take i steps ++ step ∷ [] = take_more steps i step lt ∙ ap (λ (x : Step). take i steps ++ x ∷ []) (sym is) in
+    (λ j. history_of (taken j) (grown j)) ∙ history_push (take i steps) replies step reply (length-take-le i steps (omega arith) ∙ sym count)
+
+-- before the first step
+pub owners_none : (w : World) → OwnersStand [] w []
+unfolding moves_of
+owners_none w user = slots_none
+
+-- and before any step
+pub after_none : (w : World) → world_after w [] ≡ w
+unfolding journal clock_of
+after_none w = refl
