@@ -1,0 +1,81 @@
+-- No line asks for a session that stays open.
+use Rattle.std.proofs.Common.{ℕ, true, false, cond, List, [], ◌∷◌, refl, subst, Option, Some, None, Result, Ok, Err}
+use Rattle.std.specs.Prelude.{Result}
+use Rattle.tab_lines.specs.declared.line.Line.{Line}
+use Rattle.tab_lines.specs.declared.line.Line.TheVariants as line
+use Rattle.tab_lines.specs.declared.stop.Stop.{Stop}
+use Rattle.tab_lines.specs.declared.command.Command.{Command}
+use Rattle.tab_lines.specs.declared.command.Command.TheVariants as command
+use Rattle.tab_lines.specs.declared.updates.Stamp.TheVariants.{Optional}
+use Rattle.tab_lines.specs.Gives.{◌>>=◌, Gives, field, ends, optional}
+use Rattle.tab_lines.specs.Words.{words_of}
+use Rattle.tab_lines.specs.Fields.{name_of, signed_of, list_of, constraints_of, columns_of}
+use Rattle.tab_lines.specs.Updates.{row_of, put_of, delete_of, updates_of}
+use Rattle.tab_lines.specs.Lines.{settings, createtable_of, setauths_of, constraints_line_of, insert_of, delete_line_of, mutate_of, bounds_of, scan_of, at_of, command_of, commanded, said, is_comment, line_of}
+use Rattle.tab_shell.specs.Ahead.{OpensNone}
+
+-- nothing is read, or what is read opens no session that stays
+abbrev IsShut : Option Line → Type 0
+IsShut None = Unit {0}
+IsShut (Some l) = OpensNone (Ok l)
+
+after : {A : Type 0} (o : Option A) (f : A → Option Line) → ((a : A) → IsShut (f a)) → IsShut (o >>= f)
+after None f h = tt
+after (Some a) f h = h a
+
+createtable_shut : (words : List (List ℕ)) → IsShut (createtable_of words)
+unfolding createtable_of
+createtable_shut words = after (field name_of words) _ (λ t. after (settings t.1) _ (λ s. refl))
+
+setauths_shut : (words : List (List ℕ)) → IsShut (setauths_of words)
+unfolding setauths_of
+setauths_shut words = after (field name_of words) _ (λ u. after (field list_of u.1) _ (λ a. after (ends a.1) _ (λ e. refl)))
+
+constraints_shut : (words : List (List ℕ)) → IsShut (constraints_line_of words)
+unfolding constraints_line_of
+constraints_shut words = after (field name_of words) _ (λ t. after (field constraints_of t.1) _ (λ c. after (ends c.1) _ (λ e. refl)))
+
+insert_shut : (words : List (List ℕ)) → IsShut (insert_of words)
+unfolding insert_of
+insert_shut words = after (field name_of words) _ (λ t. after (field row_of t.1) _ (λ m. after (put_of Optional m.1) _ (λ u. after (ends u.1) _ (λ e. refl))))
+
+delete_shut : (words : List (List ℕ)) → IsShut (delete_line_of words)
+unfolding delete_line_of
+delete_shut words = after (field name_of words) _ (λ t. after (field row_of t.1) _ (λ m. after (delete_of Optional m.1) _ (λ u. after (ends u.1) _ (λ e. refl))))
+
+mutate_shut : (words : List (List ℕ)) → IsShut (mutate_of words)
+unfolding mutate_of
+mutate_shut words = after (field name_of words) _ (λ t. after (field row_of t.1) _ (λ m. after (updates_of m.1) _ (λ u. refl)))
+
+scan_shut : (words : List (List ℕ)) → IsShut (scan_of words)
+unfolding scan_of
+scan_shut words = after (field name_of words) _ (λ t. after (field list_of t.1) _ (λ a. after (bounds_of a.1) _ (λ b. after (optional [] columns_of b.1) _ (λ c. after (ends c.1) _ (λ e. tt)))))
+
+at_shut : (words : List (List ℕ)) → IsShut (at_of words)
+unfolding at_of
+at_shut words = after (field signed_of words) _ (λ m. after (ends m.1) _ (λ e. tt))
+
+commanded_shut : (c : Command) (words : List (List ℕ)) → IsShut (commanded c words)
+commanded_shut command.CreateTable words = createtable_shut words
+commanded_shut command.SetAuths words = setauths_shut words
+commanded_shut command.Constraints words = constraints_shut words
+commanded_shut command.Insert words = insert_shut words
+commanded_shut command.Delete words = delete_shut words
+commanded_shut command.Mutate words = mutate_shut words
+commanded_shut command.Scan words = scan_shut words
+commanded_shut command.At words = at_shut words
+
+said_shut : (words : List (List ℕ)) → IsShut (said words)
+said_shut [] = tt
+said_shut (word ∷ words) = after (command_of word) (λ c. commanded c words) (λ c. commanded_shut c words)
+
+line_shut : (text : List ℕ) → IsShut (line_of text)
+line_shut text = elim (is_comment text) as (λ b. IsShut (cond b (Some line.Blank) (said (words_of text)))) [ true ↦ tt | false ↦ said_shut (words_of text) ]
+
+shut : (said : Result Line Stop) (o : Option Line) → IsShut o → Gives (λ x. x) said o → OpensNone said
+shut (Ok l) o h is = subst IsShut is h
+shut (Err e) o h is = tt
+
+-- what a line says opens no session that stays
+pub line_opens_none : (said : Result Line Stop) (text : List ℕ) → Gives (λ x. x) said (line_of text) → OpensNone said
+line_opens_none said text is = shut said (line_of text) (line_shut text) is

@@ -1,0 +1,304 @@
+-- A scan: a session is opened, read to its end and closed.
+use Rattle.std.proofs.Common.{ℕ, zero, suc, ◌≡◌, ◌+◌, ◌-◌, ◌*◌, ◌/◌, ◌<◌, ◌≤◌, ◌==◌, Bool, true, false, cond, ◌||◌, ◌&&◌, ◌⊎◌, inl, inr, List, [], ◌∷◌, ◌++◌, length, drop, refl, sym, ap, ◌∙◌, subst, arith, append_assoc, length-take, length-drop, Option, Some, None, Ok}
+use Rattle.std.specs.Prelude.{nat_le, bytes_eq, option_map}
+use Rattle.std.proofs.lemmas.Slice.Eq.{bytes_eq-Decides}
+use Rattle.std.proofs.lemmas.Bool.{eq-eqb, lt-leb}
+use Rattle.tab_key.specs.Records.{Cell}
+use Rattle.tab_key.specs.declared.part.Part.TheVariants.{Sessions, Numbers}
+use Rattle.tab_history.specs.declared.event.Scan.{Scan}
+use Rattle.tab_history.specs.declared.event.Act.TheVariants.{Open}
+use Rattle.tab_history.specs.declared.event.Event.{Event}
+use Rattle.tab_history.specs.declared.event.Step.TheVariants.{Event as IsEvent, Next, Close}
+use Rattle.tab_history.specs.declared.reply.Refusal.{Refusal}
+use Rattle.tab_history.specs.declared.reply.Refusal.TheVariants.{NoMemory, TooLarge}
+use Rattle.tab_history.specs.declared.reply.Reply.{Reply}
+use Rattle.tab_history.specs.declared.reply.Reply.TheVariants.{Done, Refused, Opened, Batch}
+use Rattle.tab_history.specs.Bases.{Base}
+use Rattle.tab_history.specs.Checks.{standing, refusal_of, exists_in, user_named}
+use Rattle.tab_history.specs.Answers.{Told, told, granted, answer, event_answer, session_list, next_answer, close_answer}
+use Rattle.tab_history.specs.Sessions.{Held, Move, Opening, Taking, Closing, gave, opened, closed, is_full, session_in}
+use Rattle.tab_history.specs.Histories.{Entry, World, world_of, world_after, clock_of, clock_at, journal, moves_of}
+use Rattle.tab_history.specs.Legal.{Legal, IsAnswer, IsExhausted}
+use Rattle.tab_history.specs.Standing.{StandsFor}
+use Rattle.tab_history.proofs.Playing.{unmoved}
+use Rattle.tab_core.specs.Stepping.{Steps}
+use Rattle.tab_history.specs.Answers.{told_of}
+use Rattle.tab_lines.specs.declared.line.Line.TheVariants as line
+use Rattle.tab_shell.specs.Texts.{reply_text, refusal_text, scan_text}
+use Rattle.tab_shell.specs.Runs.{Asker, ScriptState, ScriptStands, Scans, Answered, event_by, entry, batch_at, batches, read_out}
+
+bytes_self : (x : List ℕ) → bytes_eq x x ≡ true
+bytes_self x = (bytes_eq-Decides x x).1 refl
+
+-- ---- the moves of one user's steps
+by_self : (user : List ℕ) (xs ys : List Move) → cond (bytes_eq user user) xs ys ≡ xs
+by_self user xs ys = ap (λ (t : Bool). cond t xs ys) (bytes_self user)
+
+open_moves : (w : World) (who : Asker) (h : List Entry) (scan : Scan) (u : Unit {0})
+    → moves_of w who.user (entry (event_by who (Open scan)) (Opened u) ∷ h) ≡ Opening (session_list w.base (journal w h) (Open scan)) ∷ moves_of w who.user h
+unfolding moves_of
+open_moves w who h scan u = by_self who.user (Opening (session_list w.base (journal w h) (Open scan)) ∷ moves_of w who.user h) (moves_of w who.user h)
+
+refused_moves : (w : World) (who : Asker) (h : List Entry) (scan : Scan) (r : Refusal) → moves_of w who.user (entry (event_by who (Open scan)) (Refused r) ∷ h) ≡ moves_of w who.user h
+unfolding moves_of
+refused_moves w who h scan r = by_self who.user (moves_of w who.user h) (moves_of w who.user h)
+
+next_moves : (w : World) (user : List ℕ) (es : List Entry) (slot : ℕ) (cells : List Cell) → moves_of w user (record { step = Next user slot 1000; reply = Batch cells } ∷ es) ≡ Taking slot (length cells) ∷ moves_of w user es
+unfolding moves_of
+next_moves w user es slot cells = by_self user (Taking slot (length cells) ∷ moves_of w user es) (moves_of w user es)
+
+close_moves : (w : World) (user : List ℕ) (es : List Entry) (slot : ℕ) → moves_of w user (record { step = Close user slot; reply = Done } ∷ es) ≡ Closing slot ∷ moves_of w user es
+unfolding moves_of
+close_moves w user es slot = by_self user (Closing slot ∷ moves_of w user es) (moves_of w user es)
+
+slot_self : (slot : ℕ) → (slot == slot) ≡ true
+slot_self slot = eq-eqb slot slot refl
+
+session_opened : (ms : List Move) (all : List Cell) → session_in (Opening all ∷ ms) (opened ms) ≡ Some (record { all = all; given = 0 })
+unfolding session_in
+session_opened ms all = ap (λ (t : Bool). cond t (Some (record { all = all; given = 0 })) (session_in ms (opened ms))) (slot_self (opened ms))
+
+session_taken : (ms : List Move) (slot n : ℕ) → session_in (Taking slot n ∷ ms) slot ≡ option_map (gave n) (session_in ms slot)
+unfolding session_in
+session_taken ms slot n = ap (λ (t : Bool). cond t (option_map (gave n) (session_in ms slot)) (session_in ms slot)) (slot_self slot)
+
+taking_opened : (ms : List Move) (slot n : ℕ) → opened (Taking slot n ∷ ms) ≡ opened ms
+unfolding opened
+taking_opened ms slot n = refl
+
+taking_closed : (ms : List Move) (slot n : ℕ) → closed (Taking slot n ∷ ms) ≡ closed ms
+unfolding closed
+taking_closed ms slot n = refl
+
+opening_opened : (ms : List Move) (all : List Cell) → opened (Opening all ∷ ms) ≡ opened ms + 1
+unfolding opened
+opening_opened ms all = refl
+
+opening_closed : (ms : List Move) (all : List Cell) → closed (Opening all ∷ ms) ≡ closed ms
+unfolding closed
+opening_closed ms all = refl
+
+closing_opened : (ms : List Move) (slot : ℕ) → opened (Closing slot ∷ ms) ≡ opened ms
+unfolding opened
+closing_opened ms slot = refl
+
+closing_closed : (ms : List Move) (slot : ℕ) → closed (Closing slot ∷ ms) ≡ closed ms + 1
+unfolding closed
+closing_closed ms slot = refl
+
+-- ---- the batches of a session
+module _ (w : World) (user : List ℕ) (slot : ℕ) (all : List Cell) where
+  -- so many cells of the session in the slot were given
+  abbrev Gave : List Entry → ℕ → Type 0
+  Gave es n = session_in (moves_of w user es) slot ≡ Some (record { all = all; given = n })
+
+  -- the k-th batch
+  abbrev taken : ℕ → Entry
+  taken k = record { step = Next user slot 1000; reply = Batch (batch_at all k) }
+
+  next_right : (k : ℕ) (es : List Entry) → Gave es (1000 * k) → IsAnswer w es es (Next user slot 1000) (Batch (batch_at all k))
+  unfolding answer
+  next_right k es g = sym (ap (λ o. next_answer o slot 1000) g)
+
+  close_right : (n : ℕ) (es : List Entry) → Gave es n → IsAnswer w es es (Close user slot) Done
+  unfolding answer
+  close_right n es g = sym (ap (λ o. close_answer o slot) g)
+
+  gave_more : (k n : ℕ) (es : List Entry) → Gave es n → Gave (taken k ∷ es) (n + length (batch_at all k))
+  gave_more k n es g =
+      ap (λ ms. session_in ms slot) (next_moves w user es slot (batch_at all k)) ∙ session_taken (moves_of w user es) slot (length (batch_at all k)) ∙ ap (option_map (gave (length (batch_at all k)))) g
+
+  full_batch : (k : ℕ) → 1000 * suc k ≤ length all → 1000 * k + length (batch_at all k) ≡ 1000 * suc k
+  full_batch k fits = let a = length-take 1000 (drop (1000 * k) all) in let b = length-drop (1000 * k) all in omega (arith, a, b)
+
+  -- the batches before the last one are full
+  batches_legal : (k : ℕ) (es : List Entry) → 1000 * k ≤ length all → Legal w es → Gave es 0 → Legal w (batches user slot all k ++ es) × Gave (batches user slot all k ++ es) (1000 * k)
+  batches_legal zero es fits legal g = (legal, g)
+  batches_legal (suc k) es fits legal g =
+      let ih = batches_legal k es (omega arith) legal g in
+      let before : List Entry = batches user slot all k ++ es in
+      ((ih.0, inl (next_right k before ih.1)), subst (λ (n : ℕ). Gave (taken k ∷ before) n) (full_batch k fits) (gave_more k (1000 * k) before ih.1))
+
+  batches_opened : (k : ℕ) (es : List Entry) → opened (moves_of w user (batches user slot all k ++ es)) ≡ opened (moves_of w user es)
+  batches_opened zero es = refl
+  batches_opened (suc k) es =
+      let before : List Entry = batches user slot all k ++ es in
+      ap opened (next_moves w user before slot (batch_at all k)) ∙ taking_opened (moves_of w user before) slot (length (batch_at all k)) ∙ batches_opened k es
+
+  batches_closed : (k : ℕ) (es : List Entry) → closed (moves_of w user (batches user slot all k ++ es)) ≡ closed (moves_of w user es)
+  batches_closed zero es = refl
+  batches_closed (suc k) es =
+      let before : List Entry = batches user slot all k ++ es in
+      ap closed (next_moves w user before slot (batch_at all k)) ∙ taking_closed (moves_of w user before) slot (length (batch_at all k)) ∙ batches_closed k es
+
+  batches_unmoved : (k : ℕ) (es : List Entry) → world_after w (batches user slot all k ++ es) ≡ world_after w es
+  batches_unmoved zero es = refl
+  batches_unmoved (suc k) es = unmoved w (batches user slot all k ++ es) (taken k) tt ∙ batches_unmoved k es
+
+  -- the whole session, and its close
+  read_legal : (es : List Entry) → Legal w es → Gave es 0 → Legal w (read_out user slot all ++ es)
+  read_legal es legal g =
+      let q : ℕ = length all / 1000 in
+      let b = batches_legal q es (omega arith) legal g in
+      let before : List Entry = batches user slot all q ++ es in
+      let last : Legal w (taken q ∷ before) = (b.0, inl (next_right q before b.1)) in
+      (last, inl (close_right (1000 * q + length (batch_at all q)) (taken q ∷ before) (gave_more q (1000 * q) before b.1)))
+
+  read_opened : (es : List Entry) → opened (moves_of w user (read_out user slot all ++ es)) ≡ opened (moves_of w user es)
+  read_opened es =
+      let before : List Entry = batches user slot all (suc (length all / 1000)) ++ es in
+      ap opened (close_moves w user before slot) ∙ closing_opened (moves_of w user before) slot ∙ batches_opened (suc (length all / 1000)) es
+
+  read_closed : (es : List Entry) → closed (moves_of w user (read_out user slot all ++ es)) ≡ closed (moves_of w user es) + 1
+  read_closed es =
+      let before : List Entry = batches user slot all (suc (length all / 1000)) ++ es in
+      ap closed (close_moves w user before slot) ∙ closing_closed (moves_of w user before) slot ∙ ap (λ n. n + 1) (batches_closed (suc (length all / 1000)) es)
+
+  read_unmoved : (es : List Entry) → world_after w (read_out user slot all ++ es) ≡ world_after w es
+  read_unmoved es = unmoved w (batches user slot all (suc (length all / 1000)) ++ es) (record { step = Close user slot; reply = Done }) tt ∙ batches_unmoved (suc (length all / 1000)) es
+
+-- ---- the Open
+-- where fewer were opened than may be, and as many closed, there is room
+has_room : (ms : List Move) (n : ℕ) → opened ms ≡ n → closed ms ≡ n → n < 4294967295 → is_full ms ≡ false
+has_room ms n o c lt =
+    let none : opened ms - closed ms ≡ 0 = omega (arith, o, c) in
+    let few : nat_le 4294967295 (opened ms) ≡ false = lt-leb 4294967295 (opened ms) (omega (arith, o)) in
+    ap (λ k. nat_le 65536 k || nat_le 4294967295 (opened ms)) none ∙ few
+
+is_spent : (ms : List Move) → opened ms ≡ 4294967295 → is_full ms ≡ true
+is_spent ms o = ap (λ n. nat_le 65536 (n - closed ms) || nat_le 4294967295 n) o ∙ or_true (nat_le 65536 (4294967295 - closed ms))
+  where
+    or_true : (b : Bool) → b || true ≡ true
+    or_true true = refl
+    or_true false = refl
+
+-- the script with another core, and so many sessions
+abbrev pub with_sessions : ScriptState → Base → ℕ → ScriptState
+with_sessions s core n = record { core = core; asker = s.asker; opened = n }
+
+legal_open : (s : ScriptState) (core : Base) (scan : Scan) (reply : Reply Held) (w : World) (h : List Entry) → s.opened < 4294967295 → Steps s.core (event_by s.asker (Open scan)) reply core → ScriptStands s w h
+    → IsAnswer w h h (IsEvent (event_by s.asker (Open scan))) (told_of reply) ⊎ IsExhausted (told_of reply)
+legal_open s core scan reply w h lt steps stands = steps.answers w h stands.core h (λ yes. has_room (moves_of w s.asker.user h) s.opened stands.opened stands.closed lt)
+
+-- the session's cells are those that are defined
+scanned_text : (session : Held) (all : List Cell) → session ≡ record { all = all; given = 0 } → scan_text (drop session.given session.all) ≡ scan_text all
+scanned_text session all is = ap (λ (s : Held). scan_text (drop s.given s.all)) is
+
+opened_scans : (who : Asker) (w : World) (h : List Entry) (scan : Scan) (all : List Cell) (text : List ℕ) → all ≡ session_list w.base (journal w h) (Open scan) → text ≡ scan_text all
+    → Scans who w h (event_by who (Open scan)) (Opened tt) (read_out who.user (opened (moves_of w who.user h)) all ++ entry (event_by who (Open scan)) (Opened tt) ∷ []) text
+unfolding journal
+opened_scans who w h scan all text is t =
+    (ap (λ (xs : List Cell). read_out who.user (opened (moves_of w who.user h)) xs ++ entry (event_by who (Open scan)) (Opened tt) ∷ []) is, t ∙ ap scan_text is)
+
+pub scan_answered : (s : ScriptState) (core : Base) (scan : Scan) (session : Held) → s.opened < 4294967295 → Steps s.core (event_by s.asker (Open scan)) (Opened session) core
+    → Answered s (Ok (line.Scan scan)) (scan_text (drop session.given session.all)) (with_sessions s core (s.opened + 1))
+scan_answered s core scan session lt steps = record {
+  asker = refl;
+  goes = λ w h stands legal.
+      let user : List ℕ = s.asker.user in
+      let e : Entry = entry (event_by s.asker (Open scan)) (Opened tt) in
+      let all : List Cell = session_list w.base (journal w h) (Open scan) in
+      let slot : ℕ = opened (moves_of w user h) in
+      let first : List Entry = e ∷ h in
+      let out : List Entry = read_out user slot all in
+      let moved : moves_of w user first ≡ Opening all ∷ moves_of w user h = open_moves w s.asker h scan tt in
+      let begun : Legal w first = (legal, legal_open s core scan (Opened session) w h lt steps stands) in
+      let held : session_in (moves_of w user first) slot ≡ Some (record { all = all; given = 0 }) = ap (λ ms. session_in ms slot) moved ∙ session_opened (moves_of w user h) all in
+      let whole : (out ++ e ∷ []) ++ h ≡ out ++ first = append_assoc out (e ∷ []) h in
+      let after : StandsFor (world_of core) (world_after w (out ++ first)) = subst (λ (v : World). StandsFor (world_of core) v) (sym (read_unmoved w user slot all first)) (steps.stands w h stands.core) in
+      let count : opened (moves_of w user (out ++ first)) ≡ s.opened + 1 =
+      read_opened w user slot all first ∙ ap opened moved ∙ opening_opened (moves_of w user h) all ∙ ap (λ n. n + 1) stands.opened in
+      let done : closed (moves_of w user (out ++ first)) ≡ s.opened + 1 =
+      read_closed w user slot all first ∙ ap (λ n. n + 1) (ap closed moved ∙ opening_closed (moves_of w user h) all ∙ stands.closed) in
+      let new : ScriptState = with_sessions s core (s.opened + 1) in
+      let stood : ScriptStands new w (out ++ first) = record { core = after; opened = count; closed = done } in (
+        out ++ e ∷ [],
+        (Opened tt, opened_scans s.asker w h scan all (scan_text (drop session.given session.all)) refl (scanned_text session all (steps.hands w h stands.core))),
+        subst (λ (es : List Entry). Legal w es) (sym whole) (read_legal w user slot all first begun held),
+        subst (λ (es : List Entry). ScriptStands new w es) (sym whole) stood,
+      );
+}
+
+-- ---- what isn't opened
+-- an Open is answered so, or refused
+open_told : (o : Option Refusal) (scan : Scan) → (told o (granted (Open scan)) ≡ Opened tt) ⊎ ((r : Refusal) × (told o (granted (Open scan)) ≡ Refused r))
+open_told None scan = inl refl
+open_told (Some r) scan = inr (r, refl)
+
+-- nothing else
+not_done : (w : World) (h : List Entry) (who : Asker) (scan : Scan) (reply : Told) → IsAnswer w h h (IsEvent (event_by who (Open scan))) reply ⊎ IsExhausted reply → (reply ≡ Opened tt) ⊎ ((r : Refusal) × (reply ≡ Refused r))
+unfolding answer
+not_done w h who scan reply (inr (inl x)) = inr (NoMemory, x)
+not_done w h who scan reply (inr (inr x)) = inr (TooLarge Numbers, x)
+not_done w h who scan reply (inl is) =
+    let now = clock_at (clock_of w h) (IsEvent (event_by who (Open scan))) in
+    let o : Option Refusal = refusal_of (standing w.base (journal w h) who.user) (exists_in w.base (journal w h) (user_named (Open scan))) now who.user (Open scan) in
+    subst (λ (t : Told). (t ≡ Opened tt) ⊎ ((r : Refusal) × (t ≡ Refused r))) (sym is) (go (is_full (moves_of w who.user h)) o)
+  where
+    go : (b : Bool) (o : Option Refusal) → (cond (true && b) (Refused (TooLarge Sessions)) (told o (granted (Open scan))) ≡ Opened tt) ⊎ ((r : Refusal) × (cond (true && b) (Refused (TooLarge Sessions)) (told o (granted (Open scan))) ≡ Refused r))
+    go true o = inr (TooLarge Sessions, refl)
+    go false o = open_told o scan
+
+abbrev with_new_core : ScriptState → Base → ScriptState
+with_new_core s core = record s { core = core }
+
+refused_stands : (s : ScriptState) (core : Base) (scan : Scan) (r : Refusal) (w : World) (h : List Entry) → StandsFor (world_of core) (world_after w (entry (event_by s.asker (Open scan)) (Refused r) ∷ h)) → ScriptStands s w h
+    → ScriptStands (with_new_core s core) w (entry (event_by s.asker (Open scan)) (Refused r) ∷ h)
+refused_stands s core scan r w h after stands =
+    let moves : moves_of w s.asker.user (entry (event_by s.asker (Open scan)) (Refused r) ∷ h) ≡ moves_of w s.asker.user h = refused_moves w s.asker h scan r in
+    record { core = after; opened = ap opened moves ∙ stands.opened; closed = ap closed moves ∙ stands.closed }
+
+refused_answered : (s : ScriptState) (core : Base) (scan : Scan) (r : Refusal) → s.opened < 4294967295 → Steps s.core (event_by s.asker (Open scan)) (Refused r) core
+    → Answered s (Ok (line.Scan scan)) (refusal_text r) (with_new_core s core)
+refused_answered s core scan r lt steps = record {
+  asker = refl;
+  goes = λ w h stands legal. (
+    entry (event_by s.asker (Open scan)) (Refused r) ∷ [],
+    (Refused r, (refl, refl)),
+    (legal, legal_open s core scan (Refused r) w h lt steps stands),
+    refused_stands s core scan r w h (steps.stands w h stands.core) stands,
+  );
+}
+
+-- an Open isn't answered otherwise
+abbrev Opens : Told → Type 0
+Opens Done = ⊥
+Opens (Refused r) = Unit {0}
+Opens (Opened u) = Unit {0}
+Opens (Batch cells) = ⊥
+
+opens : (reply : Told) → (reply ≡ Opened tt) ⊎ ((r : Refusal) × (reply ≡ Refused r)) → Opens reply
+opens reply (inl e) = subst Opens (sym e) tt
+opens reply (inr e) = subst Opens (sym e.1) tt
+
+-- what stands for no history answers each line
+never : (s : ScriptState) (core : Base) (scan : Scan) (text : List ℕ) → ((w : World) (h : List Entry) → ScriptStands s w h → ⊥) → Answered s (Ok (line.Scan scan)) text (with_new_core s core)
+never s core scan text nowhere = record { asker = refl; goes = λ w h stands legal. absurd (nowhere w h stands) }
+
+-- each reply but an opened session
+pub kept_answered : (s : ScriptState) (core : Base) (scan : Scan) (reply : Reply Held) → s.opened < 4294967295 → Steps s.core (event_by s.asker (Open scan)) reply core → ((session : Held) → reply ≡ Opened session → ⊥)
+    → Answered s (Ok (line.Scan scan)) (reply_text (told_of reply)) (with_new_core s core)
+kept_answered s core scan (Refused r) lt steps other = refused_answered s core scan r lt steps
+kept_answered s core scan (Opened session) lt steps other = absurd (other session refl)
+kept_answered s core scan Done lt steps other = never s core scan (reply_text Done) (λ w h stands. opens Done (not_done w h s.asker scan Done (legal_open s core scan Done w h lt steps stands)))
+kept_answered s core scan (Batch cells) lt steps other = never s core scan (reply_text (Batch cells)) (λ w h stands. opens (Batch cells) (not_done w h s.asker scan (Batch cells) (legal_open s core scan (Batch cells) w h lt steps stands)))
+
+-- ---- a full list of sessions
+spent_right : (w : World) (h : List Entry) (who : Asker) (scan : Scan) → is_full (moves_of w who.user h) ≡ true → IsAnswer w h h (IsEvent (event_by who (Open scan))) (Refused (TooLarge Sessions))
+unfolding answer
+spent_right w h who scan full =
+    let event : Event = event_by who (Open scan) in
+    sym (ap (λ (b : Bool). cond (true && b) (Refused (TooLarge Sessions)) (event_answer w.base (journal w h) (clock_at (clock_of w h) (IsEvent event)) who.user (Open scan))) full)
+
+pub spent_answered : (s : ScriptState) (scan : Scan) → s.opened ≡ 4294967295 → Answered s (Ok (line.Scan scan)) (refusal_text (TooLarge Sessions)) s
+spent_answered s scan spent = record {
+  asker = refl;
+  goes = λ w h stands legal.
+      let e : Entry = entry (event_by s.asker (Open scan)) (Refused (TooLarge Sessions)) in
+      let after : StandsFor (world_of s.core) (world_after w (e ∷ h)) = subst (λ (v : World). StandsFor (world_of s.core) v) (sym (unmoved w h e tt)) stands.core in (
+        e ∷ [],
+        (Refused (TooLarge Sessions), (refl, refl)),
+        (legal, inl (spent_right w h s.asker scan (is_spent (moves_of w s.asker.user h) (stands.opened ∙ spent)))),
+        refused_stands s s.core scan (TooLarge Sessions) w h after stands,
+      );
+}

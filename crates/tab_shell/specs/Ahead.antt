@@ -1,0 +1,52 @@
+-- What is ahead of a reader, with the line that has begun.
+use Rattle.std.specs.Prelude.{ℕ, ◌≡◌, ◌<◌, Bool, true, false, List, ◌∷◌, ◌++◌, length, Result, Ok, Err, Option, Some, None, ⊤}
+use Rattle.tab_history.specs.Answers.{is_open}
+use Rattle.tab_lines.specs.declared.line.Line.{Line}
+use Rattle.tab_lines.specs.declared.line.Line.TheVariants as line
+use Rattle.tab_lines.specs.declared.stop.Stop.{Stop}
+use Rattle.tab_lines.specs.Gives.{Gives}
+use Rattle.tab_lines.specs.Lines.{line_of}
+use Rattle.tab_shell.specs.declared.pending.Pending.{Pending}
+use Rattle.tab_shell.specs.Texts.{lines_of}
+use Rattle.tab_shell.specs.Runs.{IsInside}
+
+-- the bytes are kept, or lost, and then there are some
+abbrev pub KeptOrLost : Bool → List ℕ → List ℕ → Type 0
+KeptOrLost false bytes gone = bytes ≡ gone
+KeptOrLost true bytes gone = 0 < length gone
+
+-- so much of a line has gone by
+pub record Pends (p : Pending) (gone : List ℕ) : Type 0 where
+  pub inside : IsInside gone
+  pub kept : KeptOrLost p.lost p.bytes.items gone
+
+-- the part goes on with the line
+abbrev pub AddsOn : Pending → Pending → List ℕ → Type 0
+AddsOn old new part = (gone : List ℕ) → Pends old gone → Pends new (gone ++ part)
+
+-- what the line says, or memory lacked
+abbrev pub SaysLine : Result Line Stop → List ℕ → Type 0
+SaysLine said line = Gives (λ x. x) said (line_of line)
+
+-- todo is what has gone by of a line, and what is to come
+abbrev pub Ahead : Option (List ℕ) → Pending → List ℕ → Type 0
+Ahead None p todo = ⊥
+Ahead (Some rest) p todo = (gone : List ℕ) × Pends p gone × (todo ≡ gone ++ rest)
+
+-- a line was taken
+abbrev pub TakesLine : Option (List ℕ) → Pending → Result Line Stop → Option (List ℕ) → Pending → Type 0
+TakesLine None p said r' p' = ⊤
+TakesLine (Some rest) p said r' p' = (todo : List ℕ) → Ahead (Some rest) p todo
+    → (line : List ℕ) × (after : List ℕ) × SaysLine said line × (lines_of todo ≡ line ∷ lines_of after) × Ahead r' p' after
+
+-- no line ends in what was there
+abbrev pub TakesOn : Option (List ℕ) → Pending → Option (List ℕ) → Pending → Type 0
+TakesOn r p r' p' = (todo : List ℕ) → Ahead r p todo → Ahead r' p' todo
+
+-- what was read isn't an act that opens a session and keeps it
+abbrev pub OpensNone : Result Line Stop → Type 0
+OpensNone (Ok line.Blank) = Unit {0}
+OpensNone (Ok (line.At moment)) = Unit {0}
+OpensNone (Ok (line.Act act)) = is_open act ≡ false
+OpensNone (Ok (line.Scan scan)) = Unit {0}
+OpensNone (Err stop) = Unit {0}

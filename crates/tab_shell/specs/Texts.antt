@@ -1,0 +1,110 @@
+-- The lines of a text, and the texts of replies.
+use Rattle.std.specs.Prelude.{ℕ, List, [], ◌∷◌, ◌++◌, map, codes, if◌then◌else◌}
+use Rattle.std.specs.List.{flat_map}
+use Rattle.std.specs.Fmt.{decimal}
+use Rattle.tab_key.specs.Records.{Cell}
+use Rattle.tab_key.specs.declared.part.Part.{Part}
+use Rattle.tab_key.specs.declared.part.Part.TheVariants as part
+use Rattle.tab_history.specs.declared.reply.Refusal.{Refusal}
+use Rattle.tab_history.specs.declared.reply.Refusal.TheVariants as refusal
+use Rattle.tab_history.specs.declared.reply.Reply.TheVariants.{Done, Refused, Opened, Batch}
+use Rattle.tab_history.specs.Answers.{Told}
+use Rattle.tab_lines.specs.Words.{parts_at, is_filled}
+use Rattle.tab_text.specs.Words.{word}
+use Rattle.tab_text.specs.Lines.{spaced, cell_text}
+use Rattle.tab_rules.specs.declared.failing.Failing.{Failing}
+use Rattle.tab_rules.specs.Constraints.{constraint_number}
+use Rattle.tab_policy.specs.declared.permission.SystemPermission.{SystemPermission}
+use Rattle.tab_policy.specs.declared.permission.SystemPermission.TheVariants as system
+use Rattle.tab_policy.specs.declared.permission.TablePermission.{TablePermission}
+use Rattle.tab_policy.specs.declared.permission.TablePermission.TheVariants as table
+use Rattle.tab_policy.specs.declared.permission.Permission.{Permission}
+use Rattle.tab_policy.specs.declared.permission.Permission.TheVariants.{OfSystem, OfTable}
+
+-- ---- lines
+-- the parts without the last one, where that is empty
+abbrev pub without_last_empty : List (List ℕ) → List (List ℕ)
+without_last_empty [] = []
+without_last_empty (p ∷ []) = if is_filled p then p ∷ [] else []
+without_last_empty (p ∷ q ∷ ps) = p ∷ without_last_empty (q ∷ ps)
+
+-- the lines are what stands between line feeds; the last one may lack its line feed
+unfoldable pub lines_of : List ℕ → List (List ℕ)
+lines_of text = without_last_empty (parts_at 10 text)
+
+-- ---- replies
+-- what is too large
+abbrev pub part_name : Part → List ℕ
+part_name part.Updates = codes "updates"
+part_name part.Row = codes "row"
+part_name part.Family = codes "family"
+part_name part.Qualifier = codes "qualifier"
+part_name part.Label = codes "label"
+part_name part.Value = codes "value"
+part_name part.Columns = codes "columns"
+part_name part.Authorizations = codes "authorizations"
+part_name part.Ranges = codes "ranges"
+part_name part.Sessions = codes "sessions"
+part_name part.Numbers = codes "numbers"
+
+-- a permission, by its kind and name
+abbrev pub system_word : SystemPermission → List ℕ
+system_word system.Grant = codes "System.GRANT"
+system_word system.CreateTable = codes "System.CREATE_TABLE"
+system_word system.DropTable = codes "System.DROP_TABLE"
+system_word system.AlterTable = codes "System.ALTER_TABLE"
+system_word system.CreateUser = codes "System.CREATE_USER"
+system_word system.DropUser = codes "System.DROP_USER"
+system_word system.AlterUser = codes "System.ALTER_USER"
+system_word system.System = codes "System.SYSTEM"
+
+abbrev pub table_word : TablePermission → List ℕ
+table_word table.Read = codes "Table.READ"
+table_word table.Write = codes "Table.WRITE"
+table_word table.AlterTable = codes "Table.ALTER_TABLE"
+table_word table.Grant = codes "Table.GRANT"
+table_word table.DropTable = codes "Table.DROP_TABLE"
+
+abbrev pub permission_words : Permission → List (List ℕ)
+permission_words (OfSystem p) = system_word p ∷ []
+permission_words (OfTable p t) = table_word p ∷ word t ∷ []
+
+-- constraint:code:update
+abbrev pub failing_word : Failing → List ℕ
+failing_word f = decimal (constraint_number f.constraint) ++ (58 ∷ (decimal f.code ++ (58 ∷ decimal f.update)))
+
+-- the number, the name and the words of a refusal
+abbrev pub refusal_words : Refusal → List (List ℕ)
+refusal_words (refusal.UnknownUser user) = codes "1" ∷ codes "UnknownUser" ∷ word user ∷ []
+refusal_words (refusal.NoTable t) = codes "2" ∷ codes "NoTable" ∷ word t ∷ []
+refusal_words (refusal.PermissionDenied p) = codes "3" ∷ codes "PermissionDenied" ∷ permission_words p
+refusal_words (refusal.BadAuthorizations term) = codes "4" ∷ codes "BadAuthorizations" ∷ word term ∷ []
+refusal_words (refusal.MalformedVisibility update offset) = codes "5" ∷ codes "MalformedVisibility" ∷ decimal update ∷ decimal offset ∷ []
+refusal_words (refusal.ConstraintViolation failing) = codes "6" ∷ codes "ConstraintViolation" ∷ map failing_word failing
+refusal_words (refusal.TimestampNotAllowed update) = codes "7" ∷ codes "TimestampNotAllowed" ∷ decimal update ∷ []
+refusal_words refusal.EmptyMutation = codes "8" ∷ codes "EmptyMutation" ∷ []
+refusal_words (refusal.TooLarge p) = codes "9" ∷ codes "TooLarge" ∷ part_name p ∷ []
+refusal_words (refusal.TableExists t) = codes "10" ∷ codes "TableExists" ∷ word t ∷ []
+refusal_words (refusal.NoUser user) = codes "12" ∷ codes "NoUser" ∷ word user ∷ []
+refusal_words refusal.BadRange = codes "13" ∷ codes "BadRange" ∷ []
+refusal_words (refusal.NoSession slot) = codes "15" ∷ codes "NoSession" ∷ decimal slot ∷ []
+refusal_words refusal.NoMemory = codes "17" ∷ codes "NoMemory" ∷ []
+refusal_words (refusal.BelowHorizon update) = codes "22" ∷ codes "BelowHorizon" ∷ decimal update ∷ []
+
+abbrev pub refusal_text : Refusal → List ℕ
+refusal_text r = spaced (codes "refused" ∷ refusal_words r)
+
+-- The text of a reply. The number of an opened session is printed by the line that keeps it.
+abbrev pub reply_text : Told → List ℕ
+reply_text Done = codes "ok\n"
+reply_text (Refused r) = refusal_text r
+reply_text (Opened session) = []
+reply_text (Batch cells) = flat_map cell_text cells
+
+-- a line outside the grammar
+abbrev pub fault_text : List ℕ
+fault_text = codes "line fault\n"
+
+-- all cells of a scan, and an end
+abbrev pub scan_text : List Cell → List ℕ
+scan_text cells = flat_map cell_text cells ++ codes "end\n"

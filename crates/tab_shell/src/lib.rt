@@ -1,0 +1,26 @@
+//! Scripts: lines in, replies out.
+//!
+//! A [`Script`] holds a core and answers lines of text, each by the replies of the steps that the line asks for.
+//!
+//! | File | What |
+//! |---|---|
+//! | `script` | a core that answers lines: one line, the lines that are here, a whole input |
+//! | `pending` | the line that has begun, and how the next one is taken |
+//! | `reply` | the texts of replies |
+//! | `refusal` | the texts of refusals |
+//!
+//! `specs/Texts` has the lines of a text and the texts of replies, `specs/Runs` what a line does and prints, for every
+//! history that the core stands for, `specs/Going` how far a run has come, also where the reader or the writer failed.
+#![tactic(auto)]
+
+mod pending;
+mod refusal;
+mod reply;
+mod script;
+
+pub use reply::write_reply;
+pub use script::{Ended, Script, ScriptFault};
+pub use tab_lines::{Line, Stop, read_line};
+
+#[cfg(test)]
+mod tests;

@@ -1,0 +1,101 @@
+//! The line that has begun, and how the next one is taken.
+ghost use Rattle.std.specs.Prelude.{◌≡◌, ◌<◌, ◌++◌, ℕ, List, [], length, IfSome, MatchBool, MatchOption};
+ghost use Rattle.tab_shell.specs.Runs.{IsInside};
+ghost use Rattle.tab_shell.specs.Ahead.{Pends, AddsOn, SaysLine, TakesLine, TakesOn, OpensNone};
+
+use std::alloc::Global;
+use tab_io::{Input, length_before};
+use tab_lines::{Line, Stop, read_line};
+
+/// The bytes of a line that has begun. Where memory for them lacked, only that there are some.
+#[derive(Drop)]
+pub struct Pending {
+    bytes: Vec<u8>,
+    lost: bool,
+}
+
+impl Pending {
+    /// No line has begun.
+    pub fn new(alloc: Global) -> Pending
+        ensures { Pends result [] }
+    {
+        Pending {
+            bytes: Vec::new(alloc),
+            lost: false,
+        }
+    }
+
+    /// Forgets the line, and keeps its memory for the next one.
+    pub fn clear(&mut self)
+        ensures { Pends self.new [] }
+    {
+        self.bytes.clear();
+        self.lost = false;
+    }
+
+    /// Adds a part of the line. Where memory lacks, the line is lost.
+    pub fn add(&mut self, part: &[u8])
+        requires { IsInside part.now }
+        ensures { AddsOn self.old self.new part.now }
+    {
+        if part.len() == 0 {
+            return;
+        }
+        if self.lost {
+            return;
+        }
+        if self.bytes.extend_from_slice(part).is_err() {
+            self.bytes.clear();
+            self.lost = true;
+        }
+    }
+
+    /// Whether a line has begun.
+    pub fn has_begun(&self) -> bool
+        ensures { (gone : List ℕ) → Pends self.now gone → MatchBool result (0 < length gone) (gone ≡ []) }
+    {
+        self.lost || !self.bytes.is_empty()
+    }
+
+    /// What the line says, which ends in this part.
+    pub fn said(&mut self, alloc: Global, part: &[u8]) -> Result<Line, Stop>
+        ensures line { (gone : List ℕ) → Pends self.old gone → SaysLine result (gone ++ part.now) }
+        ensures none { OpensNone result }
+    {
+        if self.lost {
+            return Err(Stop::NoMemory);
+        }
+        if self.bytes.is_empty() {
+            return read_line(alloc, part);
+        }
+        if self.bytes.extend_from_slice(part).is_err() {
+            return Err(Stop::NoMemory);
+        }
+        read_line(alloc, &self.bytes)
+    }
+}
+
+/// Takes the next line of the front, or else all of the front.
+pub fn take_line<R: Input>(
+    alloc: Global,
+    input: &mut R,
+    pending: &mut Pending,
+) -> Option<Result<Line, Stop>>
+    ensures taken { MatchOption result
+        ((R.front input.new ≡ []) × TakesOn (R.remaining input.old) pending.old (R.remaining input.new) pending.new)
+        (λ said. (length (R.front input.new) < length (R.front input.old)) × TakesLine (R.remaining input.old) pending.old said (R.remaining input.new) pending.new) }
+    ensures none { IfSome result (λ said. OpensNone said) }
+    ensures calls { (R.faults input.new ≡ R.faults input.old) × (R.budget input.new ≡ R.budget input.old) }
+{
+    let front = input.front();
+    let at = length_before(b'\n', front);
+    if at == front.len() {
+        pending.add(front);
+        input.consume(at);
+        return None;
+    }
+    let said = pending.said(alloc, front.split_at(at).0);
+    pending.clear();
+    input.consume(at + 1);
+    Some(said)
+}

@@ -1,0 +1,286 @@
+//! Scripts: a core that answers lines.
+ghost use Rattle.std.specs.Prelude.{◌≡◌, [], Some, false, IfErr, IfSome, OnOk, OnErr};
+ghost use Rattle.tab_history.specs.Answers.{told_of};
+ghost use Rattle.tab_io.specs.Streams.{Puts, FailsByFault};
+ghost use Rattle.tab_shell.specs.Texts.{reply_text};
+ghost use Rattle.tab_policy.specs.Roots.{root};
+ghost use Rattle.tab_history.specs.Answers.{is_open};
+ghost use Rattle.tab_shell.specs.Runs.{event_by, new_script};
+ghost use Rattle.tab_shell.specs.Ahead.{OpensNone};
+ghost use Rattle.tab_shell.specs.Going.{Prints, PrintsFront, Goes, Fails, Stopped, Ends, StopsAfter, FailedSide};
+
+use crate::pending::{Pending, take_line};
+use crate::reply::{put_scan, write_reply};
+use std::alloc::Global;
+use std::marker::Model;
+use tab_core::{Core, Session, told};
+use tab_history::{Act, Event, Refusal, Reply, Scan};
+use tab_io::{Input, Output, WriteFault};
+use tab_key::{Name, Part};
+use tab_lines::{Line, Stop};
+
+/// How a run of a script ended.
+#[derive(Clone, Copy, Debug, PartialEq, Eq)]
+pub enum Ended {
+    /// The input ended, and every line of it was answered.
+    Input,
+}
+
+/// What stopped a script. The lines answered before it have taken effect.
+#[derive(Clone, Copy, Debug, PartialEq, Eq, thiserror::Error)]
+pub enum ScriptFault {
+    /// The reader failed. Everything that was answered has been written; a line that had begun is dropped, without effect.
+    #[error("the input can't be read")]
+    Read,
+    /// The writer failed. A beginning of what was answered has been written.
+    #[error("the output can't be written")]
+    Write,
+}
+
+/// A core, who asks it, and how many sessions its lines have opened.
+///
+/// Lines are asked by one user at one moment, `root` at 0 until a line says otherwise.
+#[derive(Drop)]
+pub struct Script {
+    alloc: Global,
+    core: Core,
+    user: Name,
+    moment: i64,
+    opened: u32,
+}
+
+impl Model for Script {
+    ghost use Rattle.tab_shell.specs.Runs.{ScriptState};
+
+    ghost Value = { ScriptState };
+
+    ghost view = { λ s. record { core = s.core; asker = record { user = s.user; moment = s.moment }; opened = s.opened } };
+}
+
+// `root`, the user that is there from the first.
+fn root_name() -> Name
+    ensures { result ≡ root }
+{
+    Name::new(b"root").unwrap()
+}
+
+// Writes what is told of the reply.
+fn write_told<W: Output>(output: &mut W, reply: Reply<Session>) -> Result<(), WriteFault>
+    ensures bytes { Puts (W.contents output.old) (W.held output.old) (W.contents output.new) (W.held output.new) (reply_text (told_of reply)) result }
+    ensures faults { FailsByFault result (W.faults output.old) (W.faults output.new) (W.budget output.new) }
+{
+    let reply = told(reply);
+    write_reply(output, &reply)
+}
+
+impl Script {
+    /// A script over this core. `root` asks at moment 0.
+    pub fn new(alloc: Global, core: Core) -> Script
+        ensures { result ≡ new_script core }
+    {
+        Script {
+            alloc,
+            core,
+            user: root_name(),
+            moment: 0,
+            opened: 0,
+        }
+    }
+
+    /// The core as it stands.
+    pub fn core(&self) -> &Core
+        ensures { result.now ≡ self.now.core }
+    {
+        &self.core
+    }
+
+    // Does what the line says, and prints the replies.
+    fn answer<W: Output>(
+        &mut self,
+        said: Result<Line, Stop>,
+        output: &mut W,
+    ) -> Result<(), WriteFault>
+        requires { OpensNone said }
+        ensures ok { OnOk result (Prints self.old said self.new (W.contents output.old) (W.held output.old) (W.contents output.new) (W.held output.new)) }
+        ensures err { OnErr result (PrintsFront self.old said self.new (W.contents output.old) (W.held output.old) (W.contents output.new)) }
+        ensures faults { FailsByFault result (W.faults output.old) (W.faults output.new) (W.budget output.new) }
+    {
+        match said {
+            Ok(Line::Blank) => self.says_nothing(output),
+            Ok(Line::At(moment)) => self.sets_moment(moment, output),
+            Ok(Line::Act(act)) => self.act(act, output),
+            Ok(Line::Scan(scan)) => self.scan(scan, output),
+            Err(Stop::Fault) => self.faults(output),
+            Err(Stop::NoMemory) => self.lacks_memory(output),
+        }
+    }
+
+    #[tactic(auto, using(crate::proofs::Saying::blank_prints))]
+    fn says_nothing<W: Output>(&mut self, output: &mut W) -> Result<(), WriteFault>
+        ensures ok { OnOk result (Prints self.old (Ok Line.Blank) self.new (W.contents output.old) (W.held output.old) (W.contents output.new) (W.held output.new)) }
+        ensures err { OnErr result (PrintsFront self.old (Ok Line.Blank) self.new (W.contents output.old) (W.held output.old) (W.contents output.new)) }
+        ensures faults { FailsByFault result (W.faults output.old) (W.faults output.new) (W.budget output.new) }
+    {
+        Ok(())
+    }
+
+    #[tactic(auto, using(crate::proofs::Saying::moment_prints))]
+    fn sets_moment<W: Output>(&mut self, moment: i64, output: &mut W) -> Result<(), WriteFault>
+        ensures ok { OnOk result (Prints self.old (Ok (Line.At moment)) self.new (W.contents output.old) (W.held output.old) (W.contents output.new) (W.held output.new)) }
+        ensures err { OnErr result (PrintsFront self.old (Ok (Line.At moment)) self.new (W.contents output.old) (W.held output.old) (W.contents output.new)) }
+        ensures faults { FailsByFault result (W.faults output.old) (W.faults output.new) (W.budget output.new) }
+    {
+        self.moment = moment;
+        Ok(())
+    }
+
+    #[tactic(auto, using(crate::proofs::Saying::fault_prints, crate::proofs::Saying::fault_fails))]
+    fn faults<W: Output>(&mut self, output: &mut W) -> Result<(), WriteFault>
+        ensures ok { OnOk result (Prints self.old (Err Stop.Fault) self.new (W.contents output.old) (W.held output.old) (W.contents output.new) (W.held output.new)) }
+        ensures err { OnErr result (PrintsFront self.old (Err Stop.Fault) self.new (W.contents output.old) (W.held output.old) (W.contents output.new)) }
+        ensures faults { FailsByFault result (W.faults output.old) (W.faults output.new) (W.budget output.new) }
+    {
+        output.put(b"line fault\n")
+    }
+
+    #[tactic(auto, using(crate::proofs::Saying::memory_prints, crate::proofs::Saying::memory_fails))]
+    fn lacks_memory<W: Output>(&mut self, output: &mut W) -> Result<(), WriteFault>
+        ensures ok { OnOk result (Prints self.old (Err Stop.NoMemory) self.new (W.contents output.old) (W.held output.old) (W.contents output.new) (W.held output.new)) }
+        ensures err { OnErr result (PrintsFront self.old (Err Stop.NoMemory) self.new (W.contents output.old) (W.held output.old) (W.contents output.new)) }
+        ensures faults { FailsByFault result (W.faults output.old) (W.faults output.new) (W.budget output.new) }
+    {
+        output.put(b"refused 17 NoMemory\n")
+    }
+
+    fn act<W: Output>(&mut self, act: Act, output: &mut W) -> Result<(), WriteFault>
+        requires { is_open act ≡ false }
+        ensures ok { OnOk result (Prints self.old (Ok (Line.Act act)) self.new (W.contents output.old) (W.held output.old) (W.contents output.new) (W.held output.new)) }
+        ensures err { OnErr result (PrintsFront self.old (Ok (Line.Act act)) self.new (W.contents output.old) (W.held output.old) (W.contents output.new)) }
+        ensures faults { FailsByFault result (W.faults output.old) (W.faults output.new) (W.budget output.new) }
+    {
+        let event = self.event(act);
+        let reply = told(self.core.step(self.alloc, event));
+        write_reply(output, &reply)
+    }
+
+    // What the script's user asks now.
+    fn event(&self, act: Act) -> Event
+        ensures { result ≡ event_by self.now.asker act }
+    {
+        Event {
+            user: self.user,
+            moment: self.moment,
+            act,
+        }
+    }
+
+    // One line and several steps: an Open, batches until one isn't full, and a Close. All cells of the session are
+    // written as they lie in it, which is what its batches give.
+    fn scan<W: Output>(&mut self, scan: Scan, output: &mut W) -> Result<(), WriteFault>
+        ensures ok { OnOk result (Prints self.old (Ok (Line.Scan scan)) self.new (W.contents output.old) (W.held output.old) (W.contents output.new) (W.held output.new)) }
+        ensures err { OnErr result (PrintsFront self.old (Ok (Line.Scan scan)) self.new (W.contents output.old) (W.held output.old) (W.contents output.new)) }
+        ensures faults { FailsByFault result (W.faults output.old) (W.faults output.new) (W.budget output.new) }
+    {
+        if self.opened == u32::MAX {
+            return write_reply(output, &Reply::Refused(Refusal::TooLarge(Part::Sessions)));
+        }
+        let event = self.event(Act::Open(scan));
+        match self.core.step(self.alloc, event) {
+            Reply::Opened(session) => {
+                self.opened += 1;
+                put_scan(output, session.rest())
+            }
+            reply => write_told(output, reply),
+        }
+    }
+
+    // Answers the lines that the front has.
+    #[tactic(auto, using(crate::proofs::GoingLemmas::goes_none, crate::proofs::GoingLemmas::goes_on))]
+    fn answer_front<R: Input, W: Output>(
+        &mut self,
+        pending: &mut Pending,
+        input: &mut R,
+        output: &mut W,
+    ) -> Result<(), WriteFault>
+        ensures front { OnOk result (R.front input.new ≡ []) }
+        ensures ok { OnOk result (Goes self.old (R.remaining input.old) pending.old (W.contents output.old) (W.held output.old)
+            self.new (R.remaining input.new) pending.new (W.contents output.new) (W.held output.new)) }
+        ensures err { OnErr result (Fails self.old (R.remaining input.old) pending.old (W.contents output.old) (W.held output.old) self.new (W.contents output.new)) }
+        ensures reads { (R.faults input.new ≡ R.faults input.old) × (R.budget input.new ≡ R.budget input.old) }
+        ensures writes { FailsByFault result (W.faults output.old) (W.faults output.new) (W.budget output.new) }
+    {
+        while let Some(said) = take_line(self.alloc, input, pending) {
+            match self.answer(said, output) {
+                Ok(()) => {}
+                Err(fault) => return Err(fault),
+            }
+        }
+        Ok(())
+    }
+
+    #[tactic(auto, using(crate::proofs::GoingLemmas::goes_none))]
+    // Answers all lines that end, and ends with no byte in the front and none gathered.
+    fn answer_all<R: Input, W: Output>(
+        &mut self,
+        pending: &mut Pending,
+        input: &mut R,
+        output: &mut W,
+    ) -> Result<(), ScriptFault>
+        ensures flushed { OnOk result (W.held output.new ≡ []) }
+        ensures ok { OnOk result (Goes self.old (R.remaining input.old) pending.old (W.contents output.old) (W.held output.old)
+            self.new (Some []) pending.new (W.contents output.new) (W.held output.new)) }
+        ensures err { IfErr result (λ e. Stopped e self.old (R.remaining input.old) pending.old (W.contents output.old) (W.held output.old) self.new (W.contents output.new)) }
+        ensures faults { IfErr result (λ e. FailedSide e (R.faults input.old) (R.faults input.new) (R.budget input.new) (W.faults output.old) (W.faults output.new) (W.budget output.new)) }
+        ensures writes { OnOk result (W.faults output.new ≡ W.faults output.old) }
+    {
+        loop {
+            match self.answer_front(pending, input, output) {
+                Ok(()) => {}
+                Err(_) => return Err(ScriptFault::Write),
+            }
+            match output.flush() {
+                Ok(()) => {}
+                Err(_) => return Err(ScriptFault::Write),
+            }
+            match input.fill() {
+                Ok(true) => {}
+                Ok(false) => return Ok(()),
+                Err(_) => return Err(ScriptFault::Read),
+            }
+        }
+    }
+
+    /// Answers each line that is read, until the input ends. The last line may lack its line feed.
+    ///
+    /// Replies are flushed whenever no more input is here, before the reader is asked for more. A line for which memory
+    /// lacks is read to its end and answered by its refusal. A fault of the reader or the writer ends the run; the
+    /// lines answered before it have taken effect, and the script can be run again, from the beginning of a line.
+    #[tactic(auto, using(crate::proofs::Ending::stops_after))]
+    pub fn run<R: Input, W: Output>(
+        &mut self,
+        input: &mut R,
+        output: &mut W,
+    ) -> Result<Ended, ScriptFault>
+        ensures ok { OnOk result (IfSome (R.remaining input.old) (λ bytes. Ends self.old bytes (W.contents output.old) (W.held output.old) self.new (W.contents output.new))) }
+        ensures err { IfErr result (λ e. IfSome (R.remaining input.old) (λ bytes. StopsAfter e self.old bytes (W.contents output.old) (W.held output.old) self.new (W.contents output.new))) }
+        ensures faults { IfErr result (λ e. FailedSide e (R.faults input.old) (R.faults input.new) (R.budget input.new) (W.faults output.old) (W.faults output.new) (W.budget output.new)) }
+    {
+        let mut pending = Pending::new(self.alloc);
+        match self.answer_all(&mut pending, input, output) {
+            Ok(()) => {}
+            Err(fault) => return Err(fault),
+        }
+        if !pending.has_begun() {
+            return Ok(Ended::Input);
+        }
+        let said = pending.said(self.alloc, b"");
+        match self.answer(said, output) {
+            Ok(()) => {}
+            Err(_) => return Err(ScriptFault::Write),
+        }
+        match output.flush() {
+            Ok(()) => Ok(Ended::Input),
+            Err(_) => Err(ScriptFault::Write),
+        }
+    }
+}

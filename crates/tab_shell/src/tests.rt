@@ -1,0 +1,86 @@
+//! Whole scripts, as the format shows them, and what a fault in the middle of a stream leaves.
+mod rows;
+
+use self::rows::ROWS;
+use crate::*;
+use std::alloc::Global;
+use std::io::ErrorKind;
+use std::test::Fail;
+use tab_core::Core;
+use tab_history::{Refusal, Reply};
+use tab_io::memory::{Fault, PieceReader, PieceWriter};
+use tab_io::{BlockReader, BlockWriter, Output};
+use tab_key::Part;
+
+// What a new script prints for these lines, read in pieces of this length.
+fn printed(alloc: Global, lines: &[u8], piece: usize) -> Result<Vec<u8>, Fail> {
+    let mut script = Script::new(alloc, Core::new(alloc)?);
+    let mut input = BlockReader::new(alloc, PieceReader::new(lines, piece))?;
+    let mut output = BlockWriter::new(alloc, PieceWriter::new(alloc, 1000))?;
+    script.run(&mut input, &mut output)?;
+    let _core = script.core();
+    Ok(Vec::from_slice(alloc, output.get_ref().bytes())?)
+}
+
+#[test]
+fn answers_lines(rt: HostRuntime) -> Result<(), Fail> {
+    for (lines, want) in ROWS {
+        for piece in [1, 7, 1000] {
+            let text = printed(rt.alloc(), lines, piece)?;
+            assert_eq!(rt; text.as_slice(), want, "{lines:?} in pieces of {piece}");
+        }
+    }
+    Ok(())
+}
+
+#[test]
+fn writes_replies(rt: HostRuntime) -> Result<(), Fail> {
+    for (reply, want) in [
+        (Reply::Done, b"ok\n".as_slice()),
+        (Reply::Opened(()), b"".as_slice()),
+        (
+            Reply::Refused(Refusal::MalformedVisibility(3, 14)),
+            b"refused 5 MalformedVisibility 3 14\n".as_slice(),
+        ),
+        (
+            Reply::Refused(Refusal::TooLarge(Part::Sessions)),
+            b"refused 9 TooLarge sessions\n".as_slice(),
+        ),
+        (
+            Reply::Refused(Refusal::NoSession(4_294_967_295)),
+            b"refused 15 NoSession 4294967295\n".as_slice(),
+        ),
+    ] {
+        let mut output = BlockWriter::new(rt.alloc(), PieceWriter::new(rt.alloc(), 1000))?;
+        write_reply(&mut output, &reply)?;
+        output.flush()?;
+        assert_eq!(rt; output.get_ref().bytes(), want);
+    }
+    Ok(())
+}
+
+#[test]
+fn stops_at_a_fault(rt: HostRuntime) -> Result<(), Fail> {
+    let alloc = rt.alloc();
+    let kind = ErrorKind::Other;
+    let lines = b"createtable t\nscan t \\0  \nscan nope \\0\n".as_slice();
+    let mut script = Script::new(alloc, Core::new(alloc)?);
+    let reader = PieceReader::new(lines, 14).failing(Fault { after: 1, kind });
+    let mut input = BlockReader::new(alloc, reader)?;
+    let mut output = BlockWriter::new(alloc, PieceWriter::new(alloc, 1000))?;
+    assert!(rt; script.run(&mut input, &mut output) == Err(ScriptFault::Read));
+    assert_eq!(rt; output.get_ref().bytes(), b"ok\n".as_slice());
+    assert!(rt; script.run(&mut input, &mut output) == Ok(Ended::Input));
+    assert_eq!(rt;
+        output.get_ref().bytes(),
+        b"ok\nend\nrefused 2 NoTable nope\n".as_slice()
+    );
+
+    let mut script = Script::new(alloc, Core::new(alloc)?);
+    let mut input = BlockReader::new(alloc, PieceReader::new(lines, 14))?;
+    let writer = PieceWriter::new(alloc, 2).failing(Fault { after: 2, kind });
+    let mut output = BlockWriter::new(alloc, writer)?;
+    assert!(rt; script.run(&mut input, &mut output) == Err(ScriptFault::Write));
+    assert_eq!(rt; output.get_ref().bytes(), b"ok".as_slice());
+    Ok(())
+}
