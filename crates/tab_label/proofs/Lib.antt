@@ -14,3 +14,4 @@ pub mod Judged
 pub mod Unions
 pub mod More
 pub mod ReadAs
+pub mod Joining

@@ -1,5 +1,7 @@
 -- What the parser's own types stand for.
-use Rattle.std.specs.Prelude.{◌≡◌, ℕ, List, map, reverse, Result, Ok, Err, Option, Some, None}
+use Rattle.std.specs.Prelude.{◌≡◌, ◌==◌, ℕ, Bool, true, false, List, map, reverse, Result, Ok, Err, Option, Some, None}
+use Rattle.tab_label.specs.declared.joiner.Joiner.{Joiner}
+use Rattle.tab_label.specs.declared.joiner.Joiner.TheVariants.{And, Or}
 use Rattle.tab_label.specs.declared.tree.Tree.{Tree}
 use Rattle.tab_label.specs.declared.state.Frame.{Frame}
 use Rattle.tab_label.specs.declared.state.Frame.TheVariants as frames
@@ -48,3 +50,15 @@ abbrev pub Advances : Result (Unit {0}) Stop → machine.State → ℕ → machi
 Advances (Ok u) s b t = machine.step s b ≡ Some t
 Advances (Err stops.Dead) s b t = machine.step s b ≡ None
 Advances (Err stops.NoMemory) s b t = Unit {0}
+
+-- the byte that spells the joiner
+abbrev pub is_joined_by : Joiner → ℕ → Bool
+is_joined_by And b = b == 38
+is_joined_by Or b = b == 124
+
+-- The state took the byte, or is as it was, unless memory ran out.
+abbrev pub Takes : Result Bool Stop → machine.State → ℕ → machine.State → Type 0
+Takes (Ok true) s b t = machine.step s b ≡ Some t
+Takes (Ok false) s b t = t ≡ s
+Takes (Err stops.Dead) s b t = ⊥
+Takes (Err stops.NoMemory) s b t = Unit {0}

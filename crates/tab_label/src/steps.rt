@@ -1,8 +1,8 @@
-ghost use Rattle.std.specs.Prelude.{◌≡◌, IfOk};
+ghost use Rattle.std.specs.Prelude.{◌≡◌, [], ◌∷◌, IfOk};
 ghost use Rattle.tab_label.specs.Grammar.{is_term_byte};
 ghost use Rattle.tab_label.specs.Machine as machine;
 ghost use Rattle.tab_label.specs.Views.{expr_of, meaning_of};
-ghost use Rattle.tab_label.specs.ParserViews.{frame_of, phase_of, levels_of, state_of, Gives, Advances};
+ghost use Rattle.tab_label.specs.ParserViews.{frame_of, phase_of, levels_of, state_of, is_joined_by, Gives, Advances, Takes};
 
 use crate::joiner::Joiner;
 use crate::state::{Frame, Phase, State, Stop};
@@ -222,15 +222,74 @@ impl State {
     pub fn advance(&mut self, alloc: Global, b: u8) -> Result<(), Stop>
         ensures { Advances result (state_of self.old) b (state_of self.new) }
     {
-        if let Phase::InPlain(bytes) = &mut self.phase
-            && is_term_byte(b)
-        {
-            bytes.push(b)?;
+        if self.grow(alloc, b)? || self.join(b)? {
             return Ok(());
         }
         let whole = mem::replace(self, State::new(alloc));
         *self = step(alloc, whole, b)?;
         Ok(())
+    }
+
+    // Takes a byte of an unquoted term in place, and leaves any other byte.
+    #[tactic(auto, using(crate::proofs::ViewLemmas::made_trees), unfolding(crate::specs::Machine::step))]
+    fn grow(&mut self, alloc: Global, b: u8) -> Result<bool, Stop>
+        ensures { Takes result (state_of self.old) b (state_of self.new) }
+    {
+        if !is_term_byte(b) {
+            return Ok(false);
+        }
+        match &mut self.phase {
+            Phase::InPlain(bytes) => {
+                bytes.push(b)?;
+                Ok(true)
+            }
+            Phase::Awaiting => {
+                self.phase = Phase::InPlain(one_byte(alloc, b)?);
+                Ok(true)
+            }
+            _ => Ok(false),
+        }
+    }
+
+    // Takes the joiner of the open level behind an unquoted term in place, and leaves any other byte.
+    #[tactic(auto, using(crate::proofs::ViewLemmas::made_trees, crate::proofs::Joining::step_joins))]
+    fn join(&mut self, b: u8) -> Result<bool, Stop>
+        ensures { Takes result (state_of self.old) b (state_of self.new) }
+    {
+        match &mut self.frame {
+            Frame::Joined(joiner, operands) if is_joined_by(*joiner, b) => {
+                match mem::replace(&mut self.phase, Phase::Awaiting) {
+                    Phase::InPlain(bytes) => {
+                        operands.push(Tree::Term(bytes))?;
+                        Ok(true)
+                    }
+                    phase => {
+                        self.phase = phase;
+                        Ok(false)
+                    }
+                }
+            }
+            _ => Ok(false),
+        }
+    }
+}
+
+// The first byte of a term.
+fn one_byte(alloc: Global, b: u8) -> Result<Vec<u8>, AllocError>
+    ensures { IfOk result (λ bytes. bytes.items ≡ b ∷ []) }
+{
+    let mut bytes = Vec::new(alloc);
+    bytes.push(b)?;
+    Ok(bytes)
+}
+
+// Whether the byte spells the joiner.
+fn is_joined_by(joiner: Joiner, b: u8) -> bool
+    ensures { result ≡ is_joined_by joiner b }
+{
+    match joiner {
+        Joiner::And => b == b'&',
+        Joiner::Or => b == b'|',
     }
 }
 
