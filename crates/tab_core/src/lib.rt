@@ -19,3 +19,6 @@ pub use reply::told;
 pub use running::run;
 pub use session::Session;
 pub use state::Core;
+
+#[cfg(test)]
+mod tests;

@@ -1,0 +1,58 @@
+//! What root asks of the table `t`, in short, and the text of what is answered.
+
+mod accepted;
+mod asking;
+mod denied;
+mod refused;
+mod runs;
+mod sessions;
+mod texts;
+
+use crate::{Core, Session, told};
+use asking::{Ask, act_of, name};
+use std::alloc::Global;
+use std::process::Abort;
+use std::test::Fail;
+use tab_history::{Event, Reply};
+use texts::{reply_text, values};
+
+// A moment, what root asks then, and the text of the answer.
+type Line = (i64, Ask, &'static [u8]);
+
+// What the core answers this user.
+fn answered(
+    core: &mut Core,
+    alloc: Global,
+    user: &[u8],
+    moment: i64,
+    ask: Ask,
+) -> Result<Reply<Session>, Fail> {
+    let user = name(user)?;
+    let act = act_of(alloc, ask)?;
+    Ok(core.step(alloc, Event { user, moment, act }))
+}
+
+// The text of an answer: the values that a session shows, or what is told.
+fn answer_text(alloc: Global, reply: Reply<Session>) -> Result<Vec<u8>, Fail> {
+    match reply {
+        Reply::Opened(session) => Ok(values(alloc, session.rest())?),
+        reply => Ok(reply_text(alloc, &told(reply))?),
+    }
+}
+
+// Asks line by line, and compares the answers.
+fn play(rt: &impl Abort, alloc: Global, core: &mut Core, lines: &[Line]) -> Result<(), Fail> {
+    for (moment, ask, want) in lines {
+        let reply = answered(core, alloc, b"root", *moment, *ask)?;
+        let text = answer_text(alloc, reply)?;
+        assert_eq!(rt; text.as_slice(), *want);
+    }
+    Ok(())
+}
+
+// The same with a new core, which is handed back.
+fn played(rt: &impl Abort, alloc: Global, lines: &[Line]) -> Result<Core, Fail> {
+    let mut core = Core::new(alloc)?;
+    play(rt, alloc, &mut core, lines)?;
+    Ok(core)
+}
