@@ -24,7 +24,7 @@ fn are_faults(rt: &impl Abort, alloc: Global, rows: &[&[u8]]) -> Result<(), Fail
 }
 
 #[test]
-fn reads_blank_lines_and_moments(rt: HostRuntime) -> Result<(), Fail> {
+fn reads_blank_lines(rt: HostRuntime) -> Result<(), Fail> {
     lines_are_forms();
     says(
         &rt,
@@ -34,6 +34,21 @@ fn reads_blank_lines_and_moments(rt: HostRuntime) -> Result<(), Fail> {
             (b"   ", b"blank"),
             (b"#", b"blank"),
             (b"# anything, \xff too", b"blank"),
+        ],
+    )?;
+    are_faults(
+        &rt,
+        rt.alloc(),
+        &[b" # a comment has no space before it", b"\t", b"\\e"],
+    )
+}
+
+#[test]
+fn reads_moments(rt: HostRuntime) -> Result<(), Fail> {
+    says(
+        &rt,
+        rt.alloc(),
+        &[
             (b"at 0", b"|0"),
             (b"at 000", b"|0"),
             (b"at 007", b"|7"),
@@ -48,7 +63,6 @@ fn reads_blank_lines_and_moments(rt: HostRuntime) -> Result<(), Fail> {
         &rt,
         rt.alloc(),
         &[
-            b" # a comment has no space before it",
             b"at",
             b"at 1 2",
             b"at -0",
@@ -71,7 +85,7 @@ fn reads_blank_lines_and_moments(rt: HostRuntime) -> Result<(), Fail> {
 }
 
 #[test]
-fn reads_lines_on_tables_and_users(rt: HostRuntime) -> Result<(), Fail> {
+fn reads_new_tables(rt: HostRuntime) -> Result<(), Fail> {
     says(
         &rt,
         rt.alloc(),
@@ -83,16 +97,6 @@ fn reads_lines_on_tables_and_users(rt: HostRuntime) -> Result<(), Fail> {
             (b"createtable t versions=1000", b"|t|any|1000"),
             (b"createtable t time=server versions=0002", b"|t|server|2"),
             (b"createtable \\x74a-b_c.9", b"|ta-b_c.9|any|1"),
-            (b"setauths root b,a,b", b"|root|a|b"),
-            (b"setauths root \\0", b"|root"),
-            (b"setauths root \\e", b"|root|"),
-            (b"setauths root a\\x2cb,c\\\\", b"|root|a,b|c\\"),
-            (
-                b"constraints t keysize,alphanum,numeric,visibility",
-                b"|t|KeySize|Alphanumeric|Numeric|Visibility",
-            ),
-            (b"constraints t vis\\x69bility", b"|t|Visibility"),
-            (b"constraints t \\0", b"|t"),
         ],
     )?;
     are_faults(
@@ -114,6 +118,26 @@ fn reads_lines_on_tables_and_users(rt: HostRuntime) -> Result<(), Fail> {
             b"createtable t time=logical",
             b"createtable t tim\\x65=any",
             b"create\\x74able t",
+        ],
+    )
+}
+
+#[test]
+fn reads_authorizations_of_users(rt: HostRuntime) -> Result<(), Fail> {
+    says(
+        &rt,
+        rt.alloc(),
+        &[
+            (b"setauths root b,a,b", b"|root|a|b"),
+            (b"setauths root \\0", b"|root"),
+            (b"setauths root \\e", b"|root|"),
+            (b"setauths root a\\x2cb,c\\\\", b"|root|a,b|c\\"),
+        ],
+    )?;
+    are_faults(
+        &rt,
+        rt.alloc(),
+        &[
             b"setauths root",
             b"setauths root a b",
             b"setauths root a,,b",
@@ -123,6 +147,28 @@ fn reads_lines_on_tables_and_users(rt: HostRuntime) -> Result<(), Fail> {
             b"setauths root \\0,a",
             b"setauths root a,\\0",
             b"setauths r\\x20t a",
+        ],
+    )
+}
+
+#[test]
+fn reads_constraints_of_tables(rt: HostRuntime) -> Result<(), Fail> {
+    says(
+        &rt,
+        rt.alloc(),
+        &[
+            (
+                b"constraints t keysize,alphanum,numeric,visibility",
+                b"|t|KeySize|Alphanumeric|Numeric|Visibility",
+            ),
+            (b"constraints t vis\\x69bility", b"|t|Visibility"),
+            (b"constraints t \\0", b"|t"),
+        ],
+    )?;
+    are_faults(
+        &rt,
+        rt.alloc(),
+        &[
             b"constraints t",
             b"constraints t size",
             b"constraints t keysize,",
@@ -160,6 +206,19 @@ fn reads_writes_of_one_update(rt: HostRuntime) -> Result<(), Fail> {
             b"insert t r f q l v x",
             b"insert t r f q l v 9223372036854775808",
             b"insert \\e r f q l v",
+            b"delete t r f q",
+            b"delete t r f q l -",
+            b"delete t r f q l 5 6",
+        ],
+    )
+}
+
+#[test]
+fn knows_no_other_words(rt: HostRuntime) -> Result<(), Fail> {
+    are_faults(
+        &rt,
+        rt.alloc(),
+        &[
             b"insert t r\\q f q l v",
             b"insert t r\\ f q l v",
             b"insert t r\\x f q l v",
@@ -173,9 +232,6 @@ fn reads_writes_of_one_update(rt: HostRuntime) -> Result<(), Fail> {
             b"insert t r\x80 f q l v",
             b"insert t r\t f q l v",
             b"insert t r\r f q l v",
-            b"delete t r f q",
-            b"delete t r f q l -",
-            b"delete t r f q l 5 6",
         ],
     )
 }
@@ -200,7 +256,11 @@ fn reads_mutations(rt: HostRuntime) -> Result<(), Fail> {
                 b"|t|r|put|put|del|put|-|del",
             ),
         ],
-    )?;
+    )
+}
+
+#[test]
+fn knows_no_other_updates(rt: HostRuntime) -> Result<(), Fail> {
     are_faults(
         &rt,
         rt.alloc(),
