@@ -224,19 +224,25 @@ fn counts(
     Ok((auths, system, rights))
 }
 
-#[test]
-fn a_new_life_begins_with_nothing(rt: HostRuntime) -> Result<(), Fail> {
-    let alloc = rt.alloc();
-    let (root, bob, table) = (name(b"root")?, name(b"bob")?, name(b"t")?);
+// A policy in which bob has one authorization, and each permission for the whole server and for the table t.
+fn with_all_for_bob(alloc: Global) -> Result<Policy, Fail> {
+    let (bob, table) = (name(b"bob")?, name(b"t")?);
     let mut policy = with_bob(alloc)?;
-    let term = Vec::from_slice(alloc, b"A")?;
     let mut terms = Vec::new(alloc);
-    terms.push(term)?;
+    terms.push(Vec::from_slice(alloc, b"A")?)?;
     policy.set_auths(&bob, AuthSet::new(terms));
     for permission in single(alloc, table)? {
         policy.grant(&bob, &permission)?;
         policy.grant(&bob, &permission)?;
     }
+    Ok(policy)
+}
+
+#[test]
+fn revoking_takes_one_permission_alone(rt: HostRuntime) -> Result<(), Fail> {
+    let alloc = rt.alloc();
+    let (bob, table) = (name(b"bob")?, name(b"t")?);
+    let mut policy = with_all_for_bob(alloc)?;
     assert_eq!(rt;
         counts(alloc, &policy, &bob, &table)?,
         (Some(1), Some(8), Some(5)),
@@ -250,17 +256,25 @@ fn a_new_life_begins_with_nothing(rt: HostRuntime) -> Result<(), Fail> {
         (Some(1), Some(7), Some(4)),
         "revoked"
     );
+    Ok(())
+}
+
+#[test]
+fn a_new_table_begins_with_its_creators_rights(rt: HostRuntime) -> Result<(), Fail> {
+    let alloc = rt.alloc();
+    let (root, bob, table) = (name(b"root")?, name(b"bob")?, name(b"t")?);
+    let mut policy = with_all_for_bob(alloc)?;
     policy.drop_table(&table);
+    assert!(rt; !policy.table_exists(&table));
     assert_eq!(rt;
         counts(alloc, &policy, &bob, &table)?,
-        (Some(1), Some(7), None),
+        (Some(1), Some(8), None),
         "no table"
     );
-    assert!(rt; !policy.table_exists(&table));
     policy.create_table(&root, &table)?;
     assert_eq!(rt;
         counts(alloc, &policy, &bob, &table)?,
-        (Some(1), Some(7), Some(0)),
+        (Some(1), Some(8), Some(0)),
         "new table"
     );
     assert_eq!(rt;
@@ -268,7 +282,14 @@ fn a_new_life_begins_with_nothing(rt: HostRuntime) -> Result<(), Fail> {
         (Some(0), Some(8), Some(5)),
         "creator"
     );
-    policy.grant(&bob, &Permission::OfTable(TablePermission::Write, table))?;
+    Ok(())
+}
+
+#[test]
+fn a_new_user_begins_with_nothing(rt: HostRuntime) -> Result<(), Fail> {
+    let alloc = rt.alloc();
+    let (bob, table) = (name(b"bob")?, name(b"t")?);
+    let mut policy = with_all_for_bob(alloc)?;
     policy.drop_user(&bob);
     assert!(rt; !policy.user_exists(&bob));
     assert_eq!(rt;
