@@ -1,12 +1,10 @@
 -- What acts do to a core, and what the core's step makes of it.
-use Rattle.std.proofs.Common.{◌≡◌, ◌⊎◌, inl, inr, ℕ, ◌<◌, List, [], ◌∷◌, Bool, true, false, cond, ◌||◌, refl, sym, ◌∙◌, ap, subst, Option, Some, None}
-use Rattle.std.specs.Prelude.{ℤ, pos, Contains, is_some, bytes_eq, find, IfSome}
+use Rattle.std.proofs.Common.{◌≡◌, ◌⊎◌, inl, ℕ, List, [], Bool, true, false, cond, ◌||◌, refl, sym, ◌∙◌, ap, subst, Option, Some, None}
+use Rattle.std.specs.Prelude.{ℤ, Contains, is_some, bytes_eq, find, IfSome}
 use Rattle.std.specs.Int.{int_max}
 use Rattle.std.specs.List.Sorted.{IsStrictlySortedBy}
-use Rattle.tab_key.specs.Records.{Record, Cell}
 use Rattle.tab_key.specs.Order.{record_cmp}
-use Rattle.tab_key.specs.Sorted.{sorted}
-use Rattle.tab_key.proofs.Rising.{IsIn, in_from}
+use Rattle.tab_key.proofs.Rising.{in_from}
 use Rattle.tab_list.proofs.Lists.{sorted_rising}
 use Rattle.tab_policy.specs.declared.action.Action.{Action}
 use Rattle.tab_policy.specs.declared.action.Decision.{Decision}
@@ -14,24 +12,22 @@ use Rattle.tab_policy.specs.declared.action.Decision.TheVariants as policy
 use Rattle.tab_policy.specs.declared.permission.Permission.{Permission}
 use Rattle.tab_policy.specs.Actions.{table_named, needs}
 use Rattle.tab_policy.specs.Decisions.{Standing, decision, judged, table_missing, permission_missing}
-use Rattle.tab_policy.specs.State.{State, standing_of, user_exists, auths_of, system_granted, table_granted, table_exists}
+use Rattle.tab_policy.specs.State.{standing_of, user_exists, system_granted, table_granted, table_exists}
 use Rattle.tab_policy.specs.Roots.{root}
 use Rattle.tab_mutation.specs.Shape.{or_else, first_some}
 use Rattle.tab_history.specs.declared.event.Act.{Act}
 use Rattle.tab_history.specs.declared.event.Event.{Event}
 use Rattle.tab_history.specs.declared.reply.Refusal.{Refusal}
 use Rattle.tab_history.specs.declared.reply.Reply.{Reply}
-use Rattle.tab_history.specs.declared.reply.Reply.TheVariants.{Done, Refused, Opened, Batch}
+use Rattle.tab_history.specs.declared.reply.Reply.TheVariants.{Refused}
 use Rattle.tab_history.specs.Bases.{Base, BaseTable}
-use Rattle.tab_history.specs.Settings.{Settings}
-use Rattle.tab_history.specs.Changes.{Change}
-use Rattle.tab_history.specs.Readings.{has_user, held_auths, has_system_right, may_system, has_table_right, base_settings, base_records, settings_of, next_number, updates_of}
-use Rattle.tab_history.specs.Checks.{Caller, standing, exists_in, user_named, own_checks, action_of, denial, refusal_of}
-use Rattle.tab_history.specs.Answers.{Told, told, granted, event_answer, session_list}
+use Rattle.tab_history.specs.Readings.{has_user, held_auths, has_system_right, has_table_right, base_settings, base_records, settings_of, next_number, updates_of}
+use Rattle.tab_history.specs.Checks.{standing, exists_in, user_named, own_checks, action_of, denial, refusal_of}
+use Rattle.tab_history.specs.Answers.{Told, told, granted, event_answer}
 use Rattle.tab_history.specs.Sessions.{Held}
 use Rattle.tab_history.specs.Legal.{IsExhausted}
 use Rattle.tab_history.specs.Answers.{told_of}
-use Rattle.tab_core.specs.Stepping.{HandsOut, Steps, changes_told, moves_clock, Becomes, Acts, own_answer, IsAdmitted, IsCore}
+use Rattle.tab_core.specs.Stepping.{Steps, moves_clock, Becomes, Acts, own_answer, IsAdmitted, IsCore}
 use Rattle.tab_core.proofs.Steps.{steps}
 
 -- ---- a core that an act leaves as it was
@@ -51,6 +47,10 @@ becomes_same b core = record {
 pub refused : (answer : Told) (b : Base) (now : ℤ) (user : List ℕ) (act : Act) (refusal : Refusal) → IsCore b → (Refused refusal ≡ answer) ⊎ IsExhausted (Refused refusal) → Acts answer b now user act (Refused refusal) b
 refused answer b now user act refusal core is = record { answers = is; becomes = becomes_same b core; hands = tt }
 
+-- an event that the first failing check of its own refuses
+pub own_refused : (b : Base) (now : ℤ) (user : List ℕ) (act : Act) (r : Refusal) → IsCore b → first_some (own_checks (standing b [] user) (exists_in b [] (user_named act)) now act) ≡ Some r → Acts (own_answer b now user act) b now user act (Refused r) b
+own_refused b now user act r core e = refused (own_answer b now user act) b now user act r core (inl (sym (ap (λ o. told o (granted (standing b [] user) act)) e)))
+
 -- ---- what the policy decides
 standing_same : (b : Base) → IsCore b → (user : List ℕ) → standing_of b.policy user ≡ (standing b [] user).policy
 unfolding standing has_user has_system_right has_table_right
@@ -65,9 +65,9 @@ decided : (b : Base) → IsCore b → (user : List ℕ) (act : Act) → denial u
 decided b core user act = ap (λ s. denial user (decision s (action_of act))) (standing_same b core user)
 
 answer_is : (b : Base) (now : ℤ) (user : List ℕ) (act : Act) (d : Option Refusal) → denial user (decision (standing b [] user).policy (action_of act)) ≡ d
-    → event_answer b [] now user act ≡ told (or_else d (first_some (own_checks (standing b [] user) (exists_in b [] (user_named act)) now act))) (granted act)
+    → event_answer b [] now user act ≡ told (or_else d (first_some (own_checks (standing b [] user) (exists_in b [] (user_named act)) now act))) (granted (standing b [] user) act)
 unfolding refusal_of
-answer_is b now user act d e = ap (λ o. told (or_else o (first_some (own_checks (standing b [] user) (exists_in b [] (user_named act)) now act))) (granted act)) e
+answer_is b now user act d e = ap (λ o. told (or_else o (first_some (own_checks (standing b [] user) (exists_in b [] (user_named act)) now act))) (granted (standing b [] user) act)) e
 
 pub denied : (b : Base) (now : ℤ) (user : List ℕ) (act : Act) (r : Refusal) → IsCore b → denial user (decision (standing_of b.policy user) (action_of act)) ≡ Some r → Acts (event_answer b [] now user act) b now user act (Refused r) b
 denied b now user act r core e = refused (event_answer b [] now user act) b now user act r core (inl (sym (answer_is b now user act (Some r) (sym (decided b core user act) ∙ e))))

@@ -1,8 +1,12 @@
 pub mod Acting
+pub mod Dropping
 pub mod Found
 pub mod Limits
 pub mod Making
 pub mod OwnerLemmas
+pub mod RightActs
 pub mod Runs
 pub mod SlotLemmas
 pub mod Steps
+pub mod UserActs
+pub mod Picked

@@ -1,5 +1,5 @@
 -- Numbers that the checks of a mutation report.
-use Rattle.std.proofs.Common.{◌≡◌, ℕ, zero, suc, ◌+◌, ◌<◌, ◌≤◌, List, [], ◌∷◌, Bool, true, false, length, refl, arith, Option, Some, None, Result, Ok, Err, ap, ◌∙◌}
+use Rattle.std.proofs.Common.{◌≡◌, ℕ, zero, suc, ◌+◌, ◌<◌, ◌≤◌, List, [], ◌∷◌, Bool, true, false, length, refl, arith, Option, Some, None, Result, Ok, Err}
 use Rattle.std.specs.Prelude.{nat_lt, Result}
 use Rattle.std.specs.List.{slice_index_or}
 use Rattle.std.proofs.lemmas.Bool.Decides.{nat_tests}
@@ -36,15 +36,15 @@ judged_within text auths n e = go (label_of text) refl e
     go (Err m) is e = let same : m ≡ n = cc in let w = reads_within text 0 start m is in omega (arith, w, same)
 
 -- ---- a mutation of good shape has short labels
-none_left : {X : Type 0} (a b : Option X) → or_else a b ≡ None → a ≡ None
+pub none_left : {X : Type 0} (a b : Option X) → or_else a b ≡ None → a ≡ None
 none_left None b e = refl
 none_left (Some x) b e = absurd (cc)
 
-none_right : {X : Type 0} (a b : Option X) → or_else a b ≡ None → b ≡ None
+pub none_right : {X : Type 0} (a b : Option X) → or_else a b ≡ None → b ≡ None
 none_right None b e = e
 none_right (Some x) b e = absurd (cc)
 
-unmet : {X : Type 0} (b : Bool) (x : X) → when b x ≡ None → b ≡ false
+pub unmet : {X : Type 0} (b : Bool) (x : X) → when b x ≡ None → b ≡ false
 unmet true x e = absurd (cc)
 unmet false x e = refl
 

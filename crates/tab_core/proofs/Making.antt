@@ -1,13 +1,13 @@
 -- What each act makes of a core.
-use Rattle.std.proofs.Common.{◌≡◌, ◌⊎◌, inl, inr, ℕ, ◌+◌, ◌<◌, List, [], ◌∷◌, ◌++◌, Bool, true, false, cond, not, ◌&&◌, ◌||◌, refl, sym, ◌∙◌, ap, subst, Option, Some, None, reverse, map, arith}
-use Rattle.std.specs.Prelude.{ℤ, Contains, is_some, bytes_eq, find, IfSome}
+use Rattle.std.proofs.Common.{◌≡◌, ◌⊎◌, inl, inr, ℕ, ◌+◌, ◌<◌, List, [], ◌∷◌, ◌++◌, Bool, true, false, cond, not, ◌&&◌, refl, sym, ◌∙◌, ap, subst, Option, Some, None, reverse, map, arith}
+use Rattle.std.specs.Prelude.{ℤ, Contains, is_some, bytes_eq, find}
 use Rattle.std.specs.List.Sorted.{IsStrictlySortedBy}
 use Rattle.std.proofs.lemmas.Slice.Eq.{bytes_eq-Decides}
 use Rattle.tab_key.specs.Records.{Record, Cell}
 use Rattle.tab_key.specs.Order.{record_cmp}
-use Rattle.tab_key.specs.Sorted.{sorted, IsDistinct}
+use Rattle.tab_key.specs.Sorted.{sorted}
 use Rattle.tab_key.specs.declared.part.Part.TheVariants as part
-use Rattle.tab_key.proofs.Rising.{IsIn, in_from, rising_sorted}
+use Rattle.tab_key.proofs.Rising.{in_from, rising_sorted}
 use Rattle.tab_list.proofs.Lists.{sorted_rising}
 use Rattle.tab_list.proofs.Numbered.{distinct_new}
 use Rattle.tab_list.proofs.Written.{written_below}
@@ -25,20 +25,18 @@ use Rattle.tab_history.specs.declared.event.Scan.{Scan}
 use Rattle.tab_history.specs.declared.event.TimeMode.{TimeMode}
 use Rattle.tab_history.specs.declared.reply.Refusal.{Refusal}
 use Rattle.tab_history.specs.declared.reply.Refusal.TheVariants.{TooLarge, TableExists, NoUser, NoMemory}
-use Rattle.tab_history.specs.declared.reply.Reply.{Reply}
-use Rattle.tab_history.specs.declared.reply.Reply.TheVariants.{Done, Refused, Opened, Batch}
+use Rattle.tab_history.specs.declared.reply.Reply.TheVariants.{Done, Refused, Opened}
 use Rattle.tab_history.specs.Bases.{Base, BaseTable}
 use Rattle.tab_history.specs.Settings.{Settings, made_with}
-use Rattle.tab_history.specs.Changes.{Change, AuthsSet, TableGiven, TableMade, ConstraintsSet, Written, Posted, posted, all_rights}
+use Rattle.tab_history.specs.Changes.{Posted, posted}
 use Rattle.tab_history.specs.Readings.{has_user, held_auths, has_system_right, has_table_right, base_settings, base_records, constrained, settings_of, next_number, numbered, updates_of}
-use Rattle.tab_history.specs.Checks.{standing, exists_in, own_checks, mutation_checks, scan_checks, too_many_auths}
-use Rattle.tab_history.specs.Answers.{Told, told, told_opened, granted, session_list, listed, query_of}
+use Rattle.tab_history.specs.Checks.{standing, exists_in, mutation_checks, scan_checks, too_many_auths}
+use Rattle.tab_history.specs.Answers.{Told, told, told_opened, session_list, listed, query_of}
 use Rattle.tab_history.specs.Sessions.{Held}
 use Rattle.tab_history.specs.Legal.{IsExhausted}
 use Rattle.tab_history.proofs.Held.{rising_distinct}
 use Rattle.tab_core.specs.Tables.{settings_in, records_in}
-use Rattle.tab_history.specs.Answers.{told_of}
-use Rattle.tab_core.specs.Stepping.{HandsOut, Becomes, Acts, own_answer, IsAdmitted, IsCore}
+use Rattle.tab_core.specs.Stepping.{Acts, own_answer, IsAdmitted, IsCore}
 use Rattle.tab_core.proofs.Acting.{becomes_same, refused}
 
 abbrev exhausted : IsExhausted (Refused NoMemory)
@@ -150,7 +148,7 @@ rights_made user t n s p old = go (bytes_eq user n) (bytes_eq t s) p
     go true false table.Grant = refl
     go true false table.DropTable = refl
 
-core_cleared : (v : Bool) (us : List Record) → IsStrictlySortedBy record_cmp us → IsStrictlySortedBy record_cmp (cond v [] us)
+pub core_cleared : (v : Bool) (us : List Record) → IsStrictlySortedBy record_cmp us → IsStrictlySortedBy record_cmp (cond v [] us)
 unfolding IsStrictlySortedBy
 core_cleared true us r = tt
 core_cleared false us r = r

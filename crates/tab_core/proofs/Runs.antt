@@ -1,5 +1,5 @@
 -- A step of a run makes its history longer.
-use Rattle.std.proofs.Common.{get_or, ◌≡◌, ◌⊎◌, inl, inr, ℕ, zero, suc, ◌+◌, ◌<◌, ◌≤◌, Bool, true, false, cond, ◌&&◌, List, [], ◌∷◌, ◌++◌, length, take, Option, Some, None, refl, sym, ap, ◌∙◌, subst, arith}
+use Rattle.std.proofs.Common.{get_or, ◌≡◌, ◌⊎◌, inl, inr, ℕ, ◌+◌, ◌<◌, Bool, true, false, cond, ◌&&◌, List, [], ◌∷◌, ◌++◌, length, take, Option, Some, None, refl, sym, ap, ◌∙◌, subst, arith}
 use Rattle.std.specs.Prelude.{reverse, bytes_eq}
 use Rattle.std.proofs.lemmas.List.{reverse-append, take_more, length-take-le}
 use Rattle.std.proofs.lemmas.Slice.Eq.{bytes_eq-Decides}
@@ -11,18 +11,18 @@ use Rattle.tab_history.specs.declared.event.Step.TheVariants.{Event as IsEvent, 
 use Rattle.tab_history.specs.declared.reply.Refusal.{Refusal}
 use Rattle.tab_history.specs.declared.reply.Refusal.TheVariants.{NoMemory, TooLarge, NoSession}
 use Rattle.tab_history.specs.declared.reply.Reply.{Reply}
-use Rattle.tab_history.specs.declared.reply.Reply.TheVariants.{Done, Refused, Opened, Batch}
+use Rattle.tab_history.specs.declared.reply.Reply.TheVariants.{Done, Refused, Opened, Batch, Rights}
 use Rattle.tab_history.specs.Bases.{Base}
 use Rattle.tab_history.specs.Answers.{Told, told_of, session_of, answer, event_answer, next_answer, close_answer, is_open, moves_by, session_list}
-use Rattle.tab_history.specs.Sessions.{Held, Move, Opening, Taking, Closing, is_full, session_in}
-use Rattle.tab_history.specs.Histories.{Entry, World, world_of, world_after, clock_of, clock_at, journal, user_of, is_by, moves_of}
-use Rattle.tab_history.specs.Legal.{IsAnswer, IsExhausted, Legal}
+use Rattle.tab_history.specs.Sessions.{Held, Move, Opening, Taking, Closing, is_full}
+use Rattle.tab_history.specs.Histories.{Entry, World, world_of, world_after, clock_of, clock_at, journal, user_of, moves_of}
+use Rattle.tab_history.specs.Legal.{IsAnswer, IsExhausted}
 use Rattle.tab_history.specs.Standing.{StandsFor}
 use Rattle.tab_history.specs.Runs.{IsNoEvent}
 use Rattle.tab_history.proofs.Playing.{unmoved}
 use Rattle.tab_core.specs.Stepping.{Steps, HandsOut}
 use Rattle.tab_core.specs.Slots.{slot_at, are_full, NextFrom, CloseFrom, SlotsAre, entries_of, history_of}
-use Rattle.tab_core.specs.Owners.{slots_of, LeavesOthers, OwnersStand, RunsOn, kept_with, AnswersIn, OpensIn}
+use Rattle.tab_core.specs.Owners.{slots_of, LeavesOthers, OwnersStand, RunsOn, kept_with, OpensIn}
 use Rattle.tab_core.specs.declared.running.Owner.{Owner}
 use Rattle.tab_core.proofs.SlotLemmas.{slots_none, slots_opened, slots_taken, slots_closed, full_alike}
 
@@ -45,6 +45,7 @@ next_slots : (w : World) (j : List Move) (b : Base) (h : List Entry) (user : Lis
 next_slots w j b h user slot n (Batch cells) ss ss' from are = subst (λ (l : List (Option Held)). SlotsAre (Taking slot (length cells) ∷ j) l) (sym from.after) (slots_taken j ss slot (length cells) are)
 next_slots w j b h user slot n Done ss ss' from are = subst (λ (l : List (Option Held)). SlotsAre j l) (sym from.after) are
 next_slots w j b h user slot n (Refused r) ss ss' from are = subst (λ (l : List (Option Held)). SlotsAre j l) (sym from.after) are
+next_slots w j b h user slot n (Rights r) ss ss' from are = subst (λ (l : List (Option Held)). SlotsAre j l) (sym from.after) are
 next_slots w j b h user slot n (Opened s) ss ss' from are = subst (λ (l : List (Option Held)). SlotsAre j l) (sym from.after) are
 
 next_answers : (w : World) (h : List Entry) (user : List ℕ) (slot n : ℕ) (reply : Told) (ss ss' : List (Option Held)) → NextFrom ss slot n reply ss' → SlotsAre (moves_of w user h) ss → IsAnswer w h h (Next user slot n) reply ⊎ IsExhausted reply
@@ -71,6 +72,7 @@ close_slots w j b h user slot Done ss ss' from are = go (slot_at ss slot) refl
     go (Some held) some = subst (λ (l : List (Option Held)). SlotsAre (Closing slot ∷ j) l) (sym from.after) (slots_closed j ss slot held some are)
 close_slots w j b h user slot (Batch cells) ss ss' from are = subst (λ (l : List (Option Held)). SlotsAre j l) (sym from.after) are
 close_slots w j b h user slot (Refused r) ss ss' from are = subst (λ (l : List (Option Held)). SlotsAre j l) (sym from.after) are
+close_slots w j b h user slot (Rights r) ss ss' from are = subst (λ (l : List (Option Held)). SlotsAre j l) (sym from.after) are
 close_slots w j b h user slot (Opened s) ss ss' from are = subst (λ (l : List (Option Held)). SlotsAre j l) (sym from.after) are
 
 close_answers : (w : World) (h : List Entry) (user : List ℕ) (slot : ℕ) (reply : Told) (ss ss' : List (Option Held)) → CloseFrom ss slot reply ss' → SlotsAre (moves_of w user h) ss → IsAnswer w h h (Close user slot) reply ⊎ IsExhausted reply
@@ -97,6 +99,7 @@ other_slots : (w : World) (j : List Move) (h : List Entry) (event : Event) (repl
 other_slots w j h event (Batch cells) ss none_opens are = are
 other_slots w j h event Done ss none_opens are = are
 other_slots w j h event (Refused r) ss none_opens are = are
+other_slots w j h event (Rights r) ss none_opens are = are
 other_slots w j h event (Opened s) ss none_opens are = subst (λ (b : Bool). SlotsAre (cond b (Opening (session_list w.base (journal w h) event.act) ∷ []) [] ++ j) ss) (sym none_opens) are
 
 pub runs_other : (old new : Base) (os : List Owner) (event : Event) (r : Reply Held) (reply : Told) → is_open event.act ≡ false → Steps old event r new → reply ≡ told_of r → RunsOn old os (IsEvent event) reply new os
@@ -115,6 +118,7 @@ kept_slots : (w : World) (j : List Move) (h : List Entry) (event : Event) (r : R
 kept_slots w j h event (Batch cells) ss opens hands are = are
 kept_slots w j h event Done ss opens hands are = are
 kept_slots w j h event (Refused x) ss opens hands are = are
+kept_slots w j h event (Rights x) ss opens hands are = are
 kept_slots w j h event (Opened s) ss opens hands are =
     let list : List Cell = session_list w.base (journal w h) event.act in
     let there : SlotsAre (Opening list ∷ j) (ss ++ Some s ∷ []) = subst (λ (x : Held). SlotsAre (Opening list ∷ j) (ss ++ Some x ∷ [])) (sym hands) (slots_opened j ss list are) in

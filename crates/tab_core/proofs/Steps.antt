@@ -1,34 +1,32 @@
 -- From what an act does to a core to what a step does to every history that the core stood for.
-use Rattle.std.proofs.Common.{◌≡◌, ◌⊎◌, inl, inr, ℕ, ◌<◌, List, [], ◌∷◌, ◌++◌, Bool, true, false, cond, ◌&&◌, ◌↔◌, refl, sym, ◌∙◌, ap, subst, Option, Some, None}
+use Rattle.std.proofs.Common.{◌≡◌, ◌⊎◌, inl, inr, List, [], ◌∷◌, ◌++◌, Bool, true, false, cond, ◌&&◌, ◌↔◌, refl, sym, ◌∙◌, ap, subst}
 use Rattle.std.specs.Prelude.{ℤ, Contains}
 use Rattle.std.specs.Int.{int_max}
 use Rattle.std.proofs.lemmas.List.{append-nil}
-use Rattle.tab_key.specs.Records.{Record, Cell}
-use Rattle.tab_key.specs.Sorted.{sorted, IsDistinct}
+use Rattle.tab_key.specs.Records.{Record}
+use Rattle.tab_key.specs.Sorted.{sorted}
 use Rattle.tab_key.specs.declared.part.Part.TheVariants as part
-use Rattle.tab_history.specs.declared.event.Act.{Act}
 use Rattle.tab_history.specs.declared.event.Event.{Event}
 use Rattle.tab_history.specs.declared.event.Step.TheVariants.{Event as IsEvent}
 use Rattle.tab_history.specs.declared.reply.Refusal.{Refusal}
 use Rattle.tab_history.specs.declared.reply.Refusal.TheVariants as refusal
 use Rattle.tab_history.specs.declared.reply.Reply.{Reply}
-use Rattle.tab_history.specs.declared.reply.Reply.TheVariants.{Done, Refused, Opened, Batch}
+use Rattle.tab_history.specs.declared.reply.Reply.TheVariants.{Done, Refused, Opened, Batch, Rights}
 use Rattle.tab_history.specs.Bases.{Base}
-use Rattle.tab_history.specs.Settings.{Settings}
-use Rattle.tab_history.specs.Changes.{Change, changes_of}
+use Rattle.tab_history.specs.Changes.{Change}
 use Rattle.tab_history.specs.Readings.{has_user, held_auths, has_system_right, has_table_right, settings_of, next_number, updates_of}
-use Rattle.tab_history.specs.Answers.{Told, answer, event_answer, is_open, changes_by, session_list}
-use Rattle.tab_history.specs.Sessions.{Held, Move, opened, closed, is_full}
-use Rattle.tab_history.specs.Histories.{Entry, World, world_of, world_after, clock_of, clock_at, clock_after, journal, moves_of}
+use Rattle.tab_history.specs.Answers.{Told, answer, event_answer, is_open, changes_by}
+use Rattle.tab_history.specs.Sessions.{Held, opened, closed, is_full}
+use Rattle.tab_history.specs.Histories.{Entry, World, world_of, world_after, clock_of, clock_after, journal, moves_of}
 use Rattle.tab_history.specs.Legal.{IsAnswer, LegalAlone, IsExhausted}
 use Rattle.tab_history.specs.Standing.{StandsFor, IsSound, IsAlike}
 use Rattle.tab_history.specs.Chains.{GoesRight, HasRoom, GoesOnFrom}
 use Rattle.tab_history.proofs.Chains.{right_step}
 use Rattle.tab_history.proofs.GoesOnLemmas.{goes_on}
 use Rattle.tab_history.proofs.Held.{rising_distinct}
-use Rattle.tab_key.proofs.Rising.{IsIn, in_from, in_to, in_sorted, sorted_in}
+use Rattle.tab_key.proofs.Rising.{in_from, in_to, in_sorted, sorted_in}
 use Rattle.tab_history.specs.Answers.{told_of}
-use Rattle.tab_core.specs.Stepping.{entry, HandsOut, Steps, changes_told, moves_clock, Becomes, Acts, IsCore}
+use Rattle.tab_core.specs.Stepping.{entry, HandsOut, Steps, changes_told, moves_clock, Acts, IsCore}
 
 -- ---- the clock
 refusal_moved : (e : Event) (x : Refusal) (c : ℤ) → clock_after (IsEvent e) (Refused x) c ≡ cond (moves_clock (Refused x)) (int_max c e.moment) c
@@ -54,8 +52,11 @@ refusal_moved e (refusal.ConstraintViolation fs) c = refl
 refusal_moved e (refusal.TimestampNotAllowed i) c = refl
 refusal_moved e refusal.EmptyMutation c = refl
 refusal_moved e (refusal.TableExists n) c = refl
+refusal_moved e (refusal.UserExists n) c = refl
 refusal_moved e (refusal.NoUser n) c = refl
 refusal_moved e refusal.BadRange c = refl
+refusal_moved e refusal.RootFixed c = refl
+refusal_moved e refusal.GrantInvalid c = refl
 refusal_moved e (refusal.BelowHorizon i) c = refl
 
 clock_moved : (e : Event) (r : Told) (c : ℤ) → clock_after (IsEvent e) r c ≡ cond (moves_clock r) (int_max c e.moment) c
@@ -63,6 +64,7 @@ clock_moved e Done c = refl
 clock_moved e (Refused x) c = refusal_moved e x c
 clock_moved e (Opened u) c = refl
 clock_moved e (Batch cells) c = refl
+clock_moved e (Rights rights) c = refl
 
 -- ---- one step, seen from the core alone
 members_of : (xs us : List Record) → xs ≡ sorted us → (u : Record) → Contains xs u ↔ Contains us u
@@ -73,6 +75,7 @@ changes_alike now e Done = refl
 changes_alike now e (Refused x) = refl
 changes_alike now e (Opened u) = refl
 changes_alike now e (Batch cells) = refl
+changes_alike now e (Rights rights) = refl
 
 sound_core : (b : Base) → IsCore b → IsSound (world_of b)
 unfolding next_number

@@ -13,14 +13,14 @@ use Rattle.tab_history.specs.declared.event.Event.{Event}
 use Rattle.tab_history.specs.declared.event.Step.TheVariants.{Event as IsEvent}
 use Rattle.tab_history.specs.declared.reply.Refusal.TheVariants.{NoMemory, TooLarge, NoSession}
 use Rattle.tab_history.specs.declared.reply.Reply.{Reply}
-use Rattle.tab_history.specs.declared.reply.Reply.TheVariants.{Done, Refused, Opened, Batch}
+use Rattle.tab_history.specs.declared.reply.Reply.TheVariants.{Done, Refused, Opened, Batch, Rights}
 use Rattle.tab_history.specs.Bases.{Base}
 use Rattle.tab_key.specs.declared.part.Part.TheVariants.{Sessions}
 use Rattle.tab_policy.specs.Actions.{table_named}
 use Rattle.tab_history.specs.Changes.{Change, changes_of}
 use Rattle.tab_history.specs.Readings.{has_user, held_auths, has_system_right, has_table_right, settings_of, next_number, updates_of}
 use Rattle.tab_history.specs.Checks.{standing, exists_in, user_named, own_checks, action_of}
-use Rattle.tab_history.specs.Answers.{Told, told_of, told, granted, changes_by, session_list}
+use Rattle.tab_history.specs.Answers.{Told, told_of, told, granted, session_list}
 use Rattle.tab_history.specs.Sessions.{Held}
 use Rattle.tab_history.specs.Histories.{Entry, World, world_of, world_after, journal}
 use Rattle.tab_history.specs.Legal.{IsAnswer, LegalAlone, IsExhausted}
@@ -37,6 +37,7 @@ HandsOut (Opened session) all = session ≡ record { all = all; given = 0 }
 HandsOut Done all = Unit {0}
 HandsOut (Refused refusal) all = Unit {0}
 HandsOut (Batch cells) all = Unit {0}
+HandsOut (Rights rights) all = Unit {0}
 
 -- What an event did to a core that was old before, as every history sees it that the core stood for.
 pub record Steps (old : Base) (event : Event) (reply : Reply Held) (new : Base) : Type 0 where
@@ -85,7 +86,7 @@ pub record Acts (answer : Told) (old : Base) (now : ℤ) (user : List ℕ) (act 
 
 -- the answer to an act that the policy admits
 abbrev pub own_answer : Base → ℤ → List ℕ → Act → Told
-own_answer old now user act = told (first_some (own_checks (standing old [] user) (exists_in old [] (user_named act)) now act)) (granted act)
+own_answer old now user act = told (first_some (own_checks (standing old [] user) (exists_in old [] (user_named act)) now act)) (granted (standing old [] user) act)
 
 -- the caller is known, and the table that the act names is there, if it must exist
 abbrev pub IsAdmitted : Base → List ℕ → Act → Type 0

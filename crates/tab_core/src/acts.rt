@@ -1,4 +1,4 @@
-//! What each event does.
+//! What each event does; those on users and on permissions stand in `users` and `granting`.
 ghost use Rattle.std.specs.Prelude.{◌≡◌, true};
 ghost use Rattle.tab_core.specs.Stepping.{Acts, IsAdmitted, own_answer};
 
@@ -41,6 +41,15 @@ impl Core {
                 Reply::Refused(Refusal::NoMemory)
             }
         }
+    }
+
+    // A table taken away, with its records and all rights on it. It takes no memory.
+    pub(crate) fn drop_table(&mut self, now: i64, user: Name, table: Name) -> Reply<Session>
+        ensures { Acts (own_answer self.old now user (Act.DropTable table)) self.old now user (Act.DropTable table) result self.new }
+    {
+        self.tables.remove(&table);
+        self.policy.drop_table(&table);
+        Reply::Done
     }
 
     // The table's constraints.

@@ -1,18 +1,21 @@
 //! The checks that are an event's own.
-ghost use Rattle.std.specs.Prelude.{◌≡◌, ◌<◌, ◌≤◌, ◌⊎◌, ◌^◌, ℕ, Some, None, true, false, length, IsSome};
+ghost use Rattle.std.specs.Prelude.{◌≡◌, ◌<◌, ◌≤◌, ◌⊎◌, ◌^◌, ℕ, Some, None, true, false, length, IsSome, bytes_eq};
 ghost use Rattle.tab_mutation.specs.Shape.{first_some, misshape};
 ghost use Rattle.tab_label.specs.Reading.{label_of};
-ghost use Rattle.tab_history.specs.Checks.{malformed_at, malformed, stamped, outdated, violated, mutation_checks, scan_checks, too_many_auths, shape_refusal};
+ghost use Rattle.tab_policy.specs.Roots.{root};
+ghost use Rattle.tab_history.specs.Checks.{malformed_at, malformed, stamped, outdated, violated, mutation_checks, scan_checks, too_many_auths, shape_refusal, right_checks};
 ghost use Rattle.tab_core.specs.Tables.{table_settings};
 
 use crate::table::Table;
 use std::alloc::{AllocError, Global};
 use tab_history::{Refusal, Scan, TimeMode};
 use tab_key::{
-    ByteString, Items, MAX_AUTHORIZATION_LEN, MAX_AUTHORIZATIONS, MAX_COLUMNS, Part, is_bad_range,
+    ByteString, Items, MAX_AUTHORIZATION_LEN, MAX_AUTHORIZATIONS, MAX_COLUMNS, Name, Part,
+    is_bad_range,
 };
 use tab_label::{AuthSet, judge};
 use tab_mutation::{Misshape, Mutation, UpdateRef};
+use tab_policy::{Permission, SystemPermission};
 use tab_rules::{Failing, check};
 
 fn shape_refusal(misshape: Misshape) -> Refusal
@@ -143,5 +146,30 @@ pub fn scan_refusal(alloc: Global, held: &AuthSet, scan: &Scan) -> Option<Refusa
             Ok(term) => Some(Refusal::BadAuthorizations(term)),
             Err(AllocError) => Some(Refusal::NoMemory),
         },
+    }
+}
+
+/// Whether this is root.
+pub fn is_root(user: &Name) -> bool
+    ensures { result ≡ bytes_eq user.now root }
+{
+    user.as_bytes() == b"root".as_slice()
+}
+
+/// Why granting the permission to the user, or revoking it from him, is refused; `known` says whether he exists.
+pub fn right_refusal(known: bool, user: Name, permission: &Permission) -> Option<Refusal>
+    ensures { result ≡ first_some (right_checks known user permission.now) }
+{
+    let fixed = match permission {
+        Permission::OfSystem(SystemPermission::Grant) => return Some(Refusal::GrantInvalid),
+        Permission::OfSystem(_) => is_root(&user),
+        Permission::OfTable(_, _) => false,
+    };
+    if !known {
+        Some(Refusal::NoUser(user))
+    } else if fixed {
+        Some(Refusal::RootFixed)
+    } else {
+        None
     }
 }

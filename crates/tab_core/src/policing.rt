@@ -14,8 +14,14 @@ pub fn action_of(act: &Act) -> Action
         Act::Open(scan) => Action::Open(scan.table),
         Act::Write(table, _) => Action::Write(*table),
         Act::CreateTable(_, _, _) => Action::CreateTable,
+        Act::DropTable(table) => Action::DropTable(*table),
         Act::SetConstraints(table, _) => Action::SetConstraints(*table),
+        Act::CreateUser(_) => Action::CreateUser,
+        Act::DropUser(_) => Action::DropUser,
         Act::SetAuths(_, _) => Action::SetAuths,
+        Act::Grant(_, permission) => Action::Grant(*permission),
+        Act::Revoke(_, permission) => Action::Revoke(*permission),
+        Act::Rights(table) => Action::Rights(*table),
     }
 }
 

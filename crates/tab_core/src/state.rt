@@ -54,9 +54,9 @@ impl Core {
     /// Applies one event, and answers it.
     ///
     /// The first failing check gives the refusal: the caller is unknown; a table that is named doesn't exist; a permission
-    /// is missing; then the event's own checks. A refused event changes no cell, right or table; it moves the clock to its
-    /// moment unless it was refused for memory, when the core stands as before. A session that is handed out shows the
-    /// scan's answer as it is now, for good.
+    /// is missing; then the event's own checks. A refused event changes no user, cell, right or table; it moves the clock
+    /// to its moment unless it was refused for memory, when the core stands as before. A session that is handed out shows
+    /// the scan's answer as it is now, for good.
     pub fn step(&mut self, alloc: Global, event: Event) -> Reply<Session>
         ensures { Steps self.old event result self.new }
     {
@@ -91,13 +91,19 @@ impl Core {
             Act::CreateTable(table, time, versions) => self.create_table(
                 alloc, now, user, table, time, versions,
             ),
+            Act::DropTable(table) => self.drop_table(now, user, table),
             Act::SetConstraints(table, constraints) => self.set_constraints(
                 now,
                 user,
                 table,
                 constraints,
             ),
+            Act::CreateUser(name) => self.create_user(now, user, name),
+            Act::DropUser(name) => self.drop_user(now, user, name),
             Act::SetAuths(name, auths) => self.set_auths(now, user, name, auths),
+            Act::Grant(name, permission) => self.grant(now, user, name, permission),
+            Act::Revoke(name, permission) => self.revoke(now, user, name, permission),
+            Act::Rights(table) => self.rights(now, user, table),
         }
     }
 }

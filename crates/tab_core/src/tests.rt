@@ -2,11 +2,12 @@
 
 mod accepted;
 mod asking;
-mod denied;
+mod comparing;
 mod refused;
 mod runs;
 mod sessions;
 mod texts;
+mod users;
 
 use crate::{Core, Session, told};
 use asking::{Ask, act_of, name};

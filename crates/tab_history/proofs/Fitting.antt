@@ -1,38 +1,34 @@
 -- What an accepted event changes keeps to the settings of its table.
-use Rattle.std.proofs.Common.{◌≡◌, ◌⊎◌, inl, inr, ℕ, ◌+◌, List, [], ◌∷◌, ◌++◌, Bool, true, false, cond, ◌&&◌, refl, sym, subst, arith}
+use Rattle.std.proofs.Common.{◌≡◌, ◌⊎◌, inl, inr, ℕ, ◌+◌, List, [], ◌∷◌, ◌++◌, Bool, true, false, cond, refl, sym, subst, arith}
 use Rattle.std.specs.Prelude.{ℤ, int_le, int_lt, Option, Some, None, map, reverse, unwrap_or, is_some, option_map}
 use Rattle.std.specs.List.{AllByRecursion}
 use Rattle.std.proofs.lemmas.Int.{ints}
 use Rattle.std.proofs.lemmas.Grind.{reverse_onto}
 use mathlib.Core.Bool.{true≢false}
-use Rattle.tab_key.specs.declared.part.Part.TheVariants.{Sessions, Numbers}
+use Rattle.tab_policy.specs.declared.permission.Permission.{Permission}
+use Rattle.tab_policy.specs.declared.permission.Permission.TheVariants.{OfSystem, OfTable}
 use Rattle.tab_history.specs.declared.event.TimeMode.{TimeMode}
 use Rattle.tab_history.specs.declared.event.TimeMode.TheVariants.{Any, Server}
 use Rattle.tab_history.specs.declared.event.Act.{Act}
-use Rattle.tab_history.specs.declared.event.Act.TheVariants.{Open, Write, CreateTable, SetConstraints, SetAuths}
-use Rattle.tab_history.specs.declared.event.Event.{Event as TheEvent}
+use Rattle.tab_history.specs.declared.event.Act.TheVariants.{Open, Write, CreateTable, DropTable, SetConstraints, CreateUser, DropUser, SetAuths, Grant, Revoke, Rights}
 use Rattle.tab_history.specs.declared.event.Step.{Step}
-use Rattle.tab_history.specs.declared.event.Step.TheVariants.{Event}
-use Rattle.tab_history.specs.declared.reply.Refusal.{Refusal}
-use Rattle.tab_history.specs.declared.reply.Refusal.TheVariants.{TimestampNotAllowed, BelowHorizon, NoMemory, TooLarge}
-use Rattle.tab_history.specs.declared.reply.Reply.TheVariants.{Refused}
+use Rattle.tab_history.specs.declared.reply.Refusal.TheVariants.{TimestampNotAllowed, BelowHorizon}
 use Rattle.tab_key.specs.Records.{Record}
 use Rattle.tab_key.proofs.Rising.{IsIn}
-use Rattle.tab_history.specs.Answers.{Told, granted, told, event_answer, is_open, answer, changes_by}
+use Rattle.tab_history.specs.Answers.{Told, changes_by}
 use Rattle.tab_history.specs.Bases.{Base}
-use Rattle.tab_history.specs.Changes.{Posted, Change, Written, posted, changes_of}
-use Rattle.tab_history.specs.Checks.{Caller, standing, user_named, exists_in, action_of, denial, shape_refusal, malformed, stamped, outdated, violated, mutation_checks, own_checks, refusal_of}
+use Rattle.tab_history.specs.Changes.{Posted, Change, Written, posted, given, taken, changes_of}
+use Rattle.tab_history.specs.Checks.{standing, user_named, exists_in, shape_refusal, malformed, stamped, outdated, violated, mutation_checks, refusal_of}
 use Rattle.tab_history.specs.Held.{floor_of}
-use Rattle.tab_history.specs.Histories.{Entry, World, clock_of, clock_at, journal, user_of, moves_of}
+use Rattle.tab_history.specs.Histories.{Entry, World, clock_of, clock_at, journal}
 use Rattle.tab_history.specs.Legal.{IsAnswer, IsExhausted}
 use Rattle.tab_mutation.specs.Mutations.{Update, Mutation}
-use Rattle.tab_policy.specs.Decisions.{decision}
 use Rattle.tab_history.specs.Readings.{next_number, numbered}
-use Rattle.tab_history.specs.Sessions.{Move, is_full}
 use Rattle.tab_history.specs.Settings.{Settings, takes_timestamps}
 use Rattle.tab_mutation.specs.Shape.{first_some, first_place, misshape}
 use Rattle.tab_rules.specs.Verdict.{violations}
 use Rattle.tab_history.proofs.Options.{or_else_left, or_else_right, unmapped}
+use Rattle.tab_history.proofs.Accepted.{own_pass, of_legal}
 use Rattle.tab_history.proofs.StandsFor.{table_floor, Fits, FitAll}
 
 -- ---- lists
@@ -87,11 +83,6 @@ in_numbered low seq row (p ∷ ps) a u (inl e) = subst (λ (r : Record). int_le 
 in_numbered low seq row (p ∷ ps) a u (inr h) = in_numbered low seq row ps a.1 u h
 
 -- ---- by acts
--- what an event's own checks say, once it is admitted
-own_pass : (c : Caller) (there : Bool) (now : ℤ) (user : List ℕ) (act : Act) → refusal_of c there now user act ≡ None → first_some (own_checks c there now act) ≡ None
-unfolding refusal_of
-own_pass c there now user act e = or_else_right (denial user (decision c.policy (action_of act))) _ e
-
 module _ (b : Base) (j : List Change) (now : ℤ) (user : List ℕ) where
   write_fits : (there : Bool) (t : List ℕ) (m : Mutation) → refusal_of (standing b j user) there now user (Write t m) ≡ None → Fits b j now (Written t m.row (reverse (map (posted now) m.updates)))
   unfolding standing
@@ -103,46 +94,30 @@ module _ (b : Base) (j : List Change) (now : ℤ) (user : List ℕ) where
       tail : first_some (stamped s m ∷ outdated s now m ∷ violated (violations s.constraints (standing b j user).auths m) ∷ []) ≡ None
       tail = or_else_right (malformed m) _ (or_else_right (option_map shape_refusal (misshape m)) _ passed)
 
+  given_fits : (n : List ℕ) (p : Permission) → FitAll b j now (given n p ∷ [])
+  given_fits n (OfSystem p) = (tt, tt)
+  given_fits n (OfTable p t) = (tt, tt)
+
+  taken_fits : (n : List ℕ) (p : Permission) → FitAll b j now (taken n p ∷ [])
+  taken_fits n (OfSystem p) = (tt, tt)
+  taken_fits n (OfTable p t) = (tt, tt)
+
   -- the changes of an event that isn't refused fit
   act_fits : (there : Bool) (act : Act) → refusal_of (standing b j user) there now user act ≡ None → FitAll b j now (changes_of now user act)
   act_fits there (Write t m) e = (tt, write_fits there t m e)
   act_fits there (Open scan) e = tt
   act_fits there (CreateTable t time n) e = ((((((tt, tt), tt), tt), tt), tt), tt)
+  act_fits there (DropTable t) e = (tt, tt)
   act_fits there (SetConstraints t cs) e = (tt, tt)
+  act_fits there (CreateUser n) e = (tt, tt)
+  act_fits there (DropUser n) e = (tt, tt)
   act_fits there (SetAuths n auths) e = (tt, tt)
+  act_fits there (Grant n p) e = given_fits n p
+  act_fits there (Revoke n p) e = taken_fits n p
+  act_fits there (Rights t) e = tt
 
--- those of a refused one are none
-refused_fits : (b : Base) (j : List Change) (now : ℤ) (step : Step) (x : Refusal) → FitAll b j now (changes_by now step (Refused x))
-refused_fits b j now (Event e) x = tt
-refused_fits b j now _ x = tt
-
-granted_fits : (b : Base) (j : List Change) (now : ℤ) (e : TheEvent) → FitAll b j now (changes_of now e.user e.act) → (act : Act) → act ≡ e.act → FitAll b j now (changes_by now (Event e) (granted act))
-granted_fits b j now e f (Open scan) q = f
-granted_fits b j now e f (Write t m) q = f
-granted_fits b j now e f (CreateTable t time n) q = f
-granted_fits b j now e f (SetConstraints t cs) q = f
-granted_fits b j now e f (SetAuths n auths) q = f
-
-event_fits : (b : Base) (j : List Change) (now : ℤ) (e : TheEvent) (o : Option Refusal) → (o ≡ None → FitAll b j now (changes_of now e.user e.act)) → FitAll b j now (changes_by now (Event e) (told o (granted e.act)))
-event_fits b j now e None f = granted_fits b j now e (f refl) e.act refl
-event_fits b j now e (Some x) f = tt
-
--- the changes of a step that is answered fit
-step_fits : (b : Base) (j : List Change) (moves : List Move) (now : ℤ) (step : Step) → FitAll b j now (changes_by now step (answer b j moves now step))
-unfolding answer
-step_fits b j moves now (Event e) = go (is_open e.act && is_full moves)
-  where
-    go : (v : Bool) → FitAll b j now (changes_by now (Event e) (cond v (Refused (TooLarge Sessions)) (event_answer b j now e.user e.act)))
-    go true = tt
-    go false = event_fits b j now e (refusal_of (standing b j e.user) (exists_in b j (user_named e.act)) now e.user e.act) (act_fits b j now e.user (exists_in b j (user_named e.act)) e.act)
-step_fits b j moves now _ = tt
-
--- the changes of an entry that is an answer fit
-pub fits_answer : (w : World) (es own : List Entry) (step : Step) (r : Told) → IsAnswer w es own step r → FitAll w.base (journal w es) (clock_at (clock_of w es) step) (changes_by (clock_at (clock_of w es) step) step r)
-fits_answer w es own step r h = subst (λ x. FitAll w.base (journal w es) (clock_at (clock_of w es) step) (changes_by (clock_at (clock_of w es) step) step x)) (sym h) (step_fits w.base (journal w es) (moves_of w (user_of step) own) (clock_at (clock_of w es) step) step)
-
--- and those of any entry of a legal history
+-- and so do those of each entry of a legal history
 pub fits_legal : (w : World) (es own : List Entry) (step : Step) (r : Told) → IsAnswer w es own step r ⊎ IsExhausted r → FitAll w.base (journal w es) (clock_at (clock_of w es) step) (changes_by (clock_at (clock_of w es) step) step r)
-fits_legal w es own step r (inl h) = fits_answer w es own step r h
-fits_legal w es own step r (inr (inl e)) = subst (λ x. FitAll w.base (journal w es) (clock_at (clock_of w es) step) (changes_by (clock_at (clock_of w es) step) step x)) (sym e) (refused_fits w.base (journal w es) (clock_at (clock_of w es) step) step NoMemory)
-fits_legal w es own step r (inr (inr e)) = subst (λ x. FitAll w.base (journal w es) (clock_at (clock_of w es) step) (changes_by (clock_at (clock_of w es) step) step x)) (sym e) (refused_fits w.base (journal w es) (clock_at (clock_of w es) step) step (TooLarge Numbers))
+fits_legal w es own step r a =
+    let now = clock_at (clock_of w es) step in
+    of_legal w es own step r (FitAll w.base (journal w es) now) tt (λ e passed. act_fits w.base (journal w es) now e.user (exists_in w.base (journal w es) (user_named e.act)) e.act passed) a

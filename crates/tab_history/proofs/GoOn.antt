@@ -71,7 +71,7 @@ module _ (v w : World) (h : StandsFor v w) where
   exists_same (Some n) = h.known n
 
   event_same : (now : ℤ) (user : List ℕ) (act : Act) → event_answer v.base v.changes now user act ≡ event_answer w.base w.changes now user act
-  event_same now user act = λ i. told (refusal_of (standing_same user i) (exists_same (user_named act) i) now user act) (granted act)
+  event_same now user act = λ i. told (refusal_of (standing_same user i) (exists_same (user_named act) i) now user act) (granted (standing_same user i) act)
 
   pub answer_same : (moves : List Move) (now : ℤ) (step : Step) → answer v.base v.changes moves now step ≡ answer w.base w.changes moves now step
   unfolding answer

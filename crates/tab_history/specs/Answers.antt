@@ -6,18 +6,19 @@ use Rattle.tab_history.specs.Bases.{Base}
 use Rattle.tab_history.specs.Changes.{Change, changes_of}
 use Rattle.tab_history.specs.Readings.{settings_of, updates_of}
 use Rattle.tab_history.specs.Cells.{Query, cells}
-use Rattle.tab_history.specs.Checks.{standing, refusal_of, user_named, exists_in}
+use Rattle.tab_history.specs.Checks.{Caller, standing, refusal_of, user_named, exists_in}
+use Rattle.tab_history.specs.OwnRights.{own_rights}
 use Rattle.tab_history.specs.Sessions.{Move, Opening, Taking, Closing, Held, is_full, session_in, batch}
 use Rattle.tab_key.specs.declared.part.Part.TheVariants.{Sessions}
 use Rattle.tab_history.specs.declared.event.Scan.{Scan}
 use Rattle.tab_history.specs.declared.event.Act.{Act}
-use Rattle.tab_history.specs.declared.event.Act.TheVariants.{Open}
+use Rattle.tab_history.specs.declared.event.Act.TheVariants.{Open, Rights as AsksRights}
 use Rattle.tab_history.specs.declared.event.Step.{Step}
 use Rattle.tab_history.specs.declared.event.Step.TheVariants.{Event, Next, Close}
 use Rattle.tab_history.specs.declared.reply.Refusal.{Refusal}
 use Rattle.tab_history.specs.declared.reply.Refusal.TheVariants.{TooLarge, NoSession}
 use Rattle.tab_history.specs.declared.reply.Reply.{Reply}
-use Rattle.tab_history.specs.declared.reply.Reply.TheVariants.{Done, Refused, Opened, Batch}
+use Rattle.tab_history.specs.declared.reply.Reply.TheVariants.{Done, Refused, Opened, Batch, Rights}
 
 -- a reply without the session that goes with it
 abbrev pub Told : Type 0
@@ -33,6 +34,7 @@ told_of Done = Done
 told_of (Refused refusal) = Refused refusal
 told_of (Opened session) = told_opened
 told_of (Batch cells) = Batch cells
+told_of (Rights rights) = Rights rights
 
 -- the session that goes with a reply
 abbrev pub session_of : {S : Type 0} → Reply S → Option S
@@ -40,12 +42,14 @@ session_of Done = None
 session_of (Refused refusal) = None
 session_of (Opened session) = Some session
 session_of (Batch cells) = None
+session_of (Rights rights) = None
 
 -- ---- answers
--- what is told of an event that isn't refused
-abbrev pub granted : Act → Told
-granted (Open scan) = told_opened
-granted _ = Done
+-- what the caller is told of an event that isn't refused
+abbrev pub granted : Caller → Act → Told
+granted c (Open scan) = told_opened
+granted c (AsksRights t) = Rights (own_rights c t)
+granted c _ = Done
 
 -- the refusal, if there is one
 abbrev pub told : Option Refusal → Told → Told
@@ -54,7 +58,7 @@ told (Some r) reply = Refused r
 
 -- the answer to an event; now is the clock, with the event's own moment in it
 abbrev pub event_answer : Base → List Change → ℤ → List ℕ → Act → Told
-event_answer b j now user act = told (refusal_of (standing b j user) (exists_in b j (user_named act)) now user act) (granted act)
+event_answer b j now user act = told (refusal_of (standing b j user) (exists_in b j (user_named act)) now user act) (granted (standing b j user) act)
 
 -- whether the event opens a session
 abbrev pub is_open : Act → Bool

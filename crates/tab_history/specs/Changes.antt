@@ -3,11 +3,14 @@ use Rattle.std.specs.Prelude.{ℕ, ℤ, List, [], ◌∷◌, unwrap_or, map, rev
 use Rattle.tab_mutation.specs.Mutations.{Update}
 use Rattle.tab_key.specs.declared.key.Kind.{Kind}
 use Rattle.tab_rules.specs.declared.constraint.Constraint.{Constraint}
+use Rattle.tab_policy.specs.declared.permission.SystemPermission.{SystemPermission}
 use Rattle.tab_policy.specs.declared.permission.TablePermission.{TablePermission}
 use Rattle.tab_policy.specs.declared.permission.TablePermission.TheVariants as table
+use Rattle.tab_policy.specs.declared.permission.Permission.{Permission}
+use Rattle.tab_policy.specs.declared.permission.Permission.TheVariants.{OfSystem, OfTable}
 use Rattle.tab_history.specs.declared.event.TimeMode.{TimeMode}
 use Rattle.tab_history.specs.declared.event.Act.{Act}
-use Rattle.tab_history.specs.declared.event.Act.TheVariants.{Open, Write, CreateTable, SetConstraints, SetAuths}
+use Rattle.tab_history.specs.declared.event.Act.TheVariants.{Open, Write, CreateTable, DropTable, SetConstraints, CreateUser, DropUser, SetAuths, Grant, Revoke, Rights}
 
 -- an update of an accepted mutation, its timestamp settled
 pub record Posted : Type 0 where
@@ -20,12 +23,24 @@ pub record Posted : Type 0 where
 
 -- one change
 pub data Change : Type 0 where
+  -- the user is made
+  UserMade : List ℕ → Change
+  -- the user is dropped
+  UserDropped : List ℕ → Change
   -- the user holds these authorizations, and no others
   AuthsSet : List ℕ → List (List ℕ) → Change
+  -- the user has the system permission
+  SystemGiven : List ℕ → SystemPermission → Change
+  -- the user has the system permission no more
+  SystemTaken : List ℕ → SystemPermission → Change
   -- the user has the permission for the table
   TableGiven : List ℕ → TablePermission → List ℕ → Change
+  -- the user has the permission for the table no more
+  TableTaken : List ℕ → TablePermission → List ℕ → Change
   -- the table is made, with this time mode and number of versions
   TableMade : List ℕ → TimeMode → ℕ → Change
+  -- the table is dropped
+  TableDropped : List ℕ → Change
   -- the table has these constraints, and no others
   ConstraintsSet : List ℕ → List Constraint → Change
   -- the table, the row and the updates, the last of them first
@@ -39,10 +54,26 @@ posted now u = record { kind = u.kind; family = u.family; qualifier = u.qualifie
 abbrev pub all_rights : List ℕ → List ℕ → List Change → List Change
 all_rights user t rest = TableGiven user table.Read t ∷ TableGiven user table.Write t ∷ TableGiven user table.AlterTable t ∷ TableGiven user table.Grant t ∷ TableGiven user table.DropTable t ∷ rest
 
+-- the user gets the permission
+abbrev pub given : List ℕ → Permission → Change
+given n (OfSystem p) = SystemGiven n p
+given n (OfTable p t) = TableGiven n p t
+
+-- the user loses the permission
+abbrev pub taken : List ℕ → Permission → Change
+taken n (OfSystem p) = SystemTaken n p
+taken n (OfTable p t) = TableTaken n p t
+
 -- what an accepted event of the user changes, where the clock is now
 abbrev pub changes_of : ℤ → List ℕ → Act → List Change
 changes_of now user (Open scan) = []
 changes_of now user (Write t m) = Written t m.row (reverse (map (posted now) m.updates)) ∷ []
 changes_of now user (CreateTable t time n) = all_rights user t (TableMade t time n ∷ [])
+changes_of now user (DropTable t) = TableDropped t ∷ []
 changes_of now user (SetConstraints t cs) = ConstraintsSet t cs ∷ []
+changes_of now user (CreateUser n) = UserMade n ∷ []
+changes_of now user (DropUser n) = UserDropped n ∷ []
 changes_of now user (SetAuths n auths) = AuthsSet n auths ∷ []
+changes_of now user (Grant n p) = given n p ∷ []
+changes_of now user (Revoke n p) = taken n p ∷ []
+changes_of now user (Rights t) = []

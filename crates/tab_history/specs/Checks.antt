@@ -1,5 +1,5 @@
 -- Why an event is refused: its checks, in their order.
-use Rattle.std.specs.Prelude.{ℕ, ℤ, List, [], ◌∷◌, Bool, true, not, ◌||◌, nat_lt, int_lt, Option, Some, None, Result, Ok, Err, is_some, length, unwrap_or, cond, option_map}
+use Rattle.std.specs.Prelude.{ℕ, ℤ, List, [], ◌∷◌, Bool, true, false, not, ◌||◌, nat_lt, int_lt, bytes_eq, Option, Some, None, Result, Ok, Err, is_some, length, unwrap_or, cond, option_map}
 use Rattle.tab_label.specs.Sets.{has_longer, first_missing}
 use Rattle.tab_label.specs.Reading.{label_of}
 use Rattle.tab_key.specs.Ranges.{is_bad_range}
@@ -7,6 +7,7 @@ use Rattle.tab_mutation.specs.Mutations.{Update, Mutation}
 use Rattle.tab_mutation.specs.Shape.{first_some, when, first_place, first_found, misshape}
 use Rattle.tab_rules.specs.Verdict.{violations}
 use Rattle.tab_policy.specs.Decisions.{Standing, decision}
+use Rattle.tab_policy.specs.Roots.{root}
 use Rattle.tab_history.specs.Settings.{Settings, takes_timestamps}
 use Rattle.tab_history.specs.Bases.{Base}
 use Rattle.tab_history.specs.Changes.{Change}
@@ -15,15 +16,19 @@ use Rattle.tab_mutation.specs.declared.misshape.Misshape.{Misshape}
 use Rattle.tab_mutation.specs.declared.misshape.Misshape.TheVariants as shape
 use Rattle.tab_rules.specs.declared.failing.Failing.{Failing}
 use Rattle.tab_key.specs.declared.part.Part.TheVariants.{Columns, Authorizations}
+use Rattle.tab_policy.specs.declared.permission.SystemPermission.{SystemPermission}
+use Rattle.tab_policy.specs.declared.permission.SystemPermission.TheVariants as system
+use Rattle.tab_policy.specs.declared.permission.Permission.{Permission}
+use Rattle.tab_policy.specs.declared.permission.Permission.TheVariants.{OfSystem, OfTable}
 use Rattle.tab_policy.specs.declared.action.Action.{Action}
 use Rattle.tab_policy.specs.declared.action.Action.TheVariants as action
 use Rattle.tab_policy.specs.declared.action.Decision.{Decision}
 use Rattle.tab_policy.specs.declared.action.Decision.TheVariants as policy
 use Rattle.tab_history.specs.declared.event.Scan.{Scan}
 use Rattle.tab_history.specs.declared.event.Act.{Act}
-use Rattle.tab_history.specs.declared.event.Act.TheVariants.{Open, Write, CreateTable, SetConstraints, SetAuths}
+use Rattle.tab_history.specs.declared.event.Act.TheVariants.{Open, Write, CreateTable, DropTable, SetConstraints, CreateUser, DropUser, SetAuths, Grant, Revoke, Rights}
 use Rattle.tab_history.specs.declared.reply.Refusal.{Refusal}
-use Rattle.tab_history.specs.declared.reply.Refusal.TheVariants.{UnknownUser, NoTable, PermissionDenied, BadAuthorizations, MalformedVisibility, ConstraintViolation, TimestampNotAllowed, EmptyMutation, TooLarge, TableExists, NoUser, BadRange, BelowHorizon}
+use Rattle.tab_history.specs.declared.reply.Refusal.TheVariants.{UnknownUser, NoTable, PermissionDenied, BadAuthorizations, MalformedVisibility, ConstraintViolation, TimestampNotAllowed, EmptyMutation, TooLarge, TableExists, UserExists, NoUser, BadRange, RootFixed, GrantInvalid, BelowHorizon}
 
 -- ---- what the checks of an event look at
 -- the caller's standing with the policy, the authorizations that he holds, and what each table is set to
@@ -42,7 +47,11 @@ standing b j user = record {
 
 -- the user that an event names beside its caller
 abbrev pub user_named : Act → Option (List ℕ)
+user_named (CreateUser n) = Some n
+user_named (DropUser n) = Some n
 user_named (SetAuths n auths) = Some n
+user_named (Grant n p) = Some n
+user_named (Revoke n p) = Some n
 user_named _ = None
 
 -- whether that user exists, where one is named
@@ -56,8 +65,14 @@ abbrev pub action_of : Act → Action
 action_of (Open scan) = action.Open scan.table
 action_of (Write t m) = action.Write t
 action_of (CreateTable t time n) = action.CreateTable
+action_of (DropTable t) = action.DropTable t
 action_of (SetConstraints t cs) = action.SetConstraints t
+action_of (CreateUser n) = action.CreateUser
+action_of (DropUser n) = action.DropUser
 action_of (SetAuths n auths) = action.SetAuths
+action_of (Grant n p) = action.Grant p
+action_of (Revoke n p) = action.Revoke p
+action_of (Rights t) = action.Rights t
 
 -- why the policy doesn't admit the user's event
 abbrev pub denial : List ℕ → Decision → Option Refusal
@@ -109,13 +124,29 @@ abbrev pub scan_checks : List (List ℕ) → Scan → List (Option Refusal)
 scan_checks auths scan =
     when (nat_lt 1000 (length scan.columns)) (TooLarge Columns) ∷ when (too_many_auths scan.authorizations) (TooLarge Authorizations) ∷ when (is_bad_range scan.bounds.low scan.bounds.high) BadRange ∷ option_map BadAuthorizations (first_missing scan.authorizations auths) ∷ []
 
+-- whether it is the permission to grant the others
+abbrev pub is_grant : SystemPermission → Bool
+is_grant system.Grant = true
+is_grant _ = false
+
+-- of a grant or a revocation, where there says whether its user exists: the permission to grant is root's alone, and root's system permissions don't change
+abbrev pub right_checks : Bool → List ℕ → Permission → List (Option Refusal)
+right_checks there n (OfSystem p) = when (is_grant p) GrantInvalid ∷ when (not there) (NoUser n) ∷ when (bytes_eq n root) RootFixed ∷ []
+right_checks there n (OfTable p t) = when (not there) (NoUser n) ∷ []
+
 -- the checks that are an event's own, where the clock is now; there says whether the user that it names exists
 abbrev pub own_checks : Caller → Bool → ℤ → Act → List (Option Refusal)
 own_checks c there now (Open scan) = scan_checks c.auths scan
 own_checks c there now (Write t m) = mutation_checks (c.settings t) c.auths now m
 own_checks c there now (CreateTable t time n) = when (is_some (c.settings t)) (TableExists t) ∷ []
+own_checks c there now (DropTable t) = []
 own_checks c there now (SetConstraints t cs) = []
+own_checks c there now (CreateUser n) = when there (UserExists n) ∷ []
+own_checks c there now (DropUser n) = when (not there) (NoUser n) ∷ when (bytes_eq n root) RootFixed ∷ []
 own_checks c there now (SetAuths n auths) = when (too_many_auths auths) (TooLarge Authorizations) ∷ when (not there) (NoUser n) ∷ []
+own_checks c there now (Grant n p) = right_checks there n p
+own_checks c there now (Revoke n p) = right_checks there n p
+own_checks c there now (Rights t) = []
 
 -- why the event is refused: the first failing check, the policy's before its own
 unfoldable pub refusal_of : Caller → Bool → ℤ → List ℕ → Act → Option Refusal

@@ -4,10 +4,13 @@ pub mod Changes
 pub mod Readings
 pub mod Cells
 pub mod Checks
+pub mod OwnRights
 pub mod Sessions
 pub mod Answers
 pub mod Histories
+pub mod Lives
 pub mod Legal
+pub mod Rooted
 pub mod Held
 pub mod Standing
 pub mod Chains

@@ -5,6 +5,7 @@ use std::alloc::AllocError;
 use tab_key::{Bounds, Column, Items, Name};
 use tab_label::AuthSet;
 use tab_mutation::Mutation;
+use tab_policy::Permission;
 use tab_rules::Constraint;
 
 /// Whether a table takes timestamps from its writers, or gives them itself. A timestamp and the clock count in a unit of the callers' own.
@@ -41,11 +42,26 @@ pub enum Act {
     /// Make a table with this time mode and number of versions, 1 to 1,000. The caller gets its five permissions. Refused where there is
     /// a table of the name.
     CreateTable(Name, TimeMode, u32),
+    /// Take the table away with its cells and all rights on it. A table made under its name later begins with none of them. Sessions
+    /// that were opened on it go on.
+    DropTable(Name),
     /// Set which constraints the table has, in place of those that it had. (Accumulo user manual: constraints)
     SetConstraints(Name, Items<Constraint>),
+    /// Make a user without rights and authorizations, whatever a dropped user of the name had. Refused where there is a user of the name.
+    CreateUser(Name),
+    /// Take the user away with his rights and authorizations; his sessions go on. Refused where there is no such user, and for root.
+    DropUser(Name),
     /// Give the user these authorizations in place of those that he holds: at most 1,024, each of at most 1,024 bytes. Refused where
     /// there are more, and where there is no such user.
     SetAuths(Name, AuthSet),
+    /// Grant the permission to the user; nothing changes where he has it. One on a table names a table that must exist, and is refused
+    /// where there is no such user. A system permission is refused where it is the one to grant, which root alone has, where there is no
+    /// such user, and for root, whose system permissions don't change.
+    Grant(Name, Permission),
+    /// Revoke the permission from the user; nothing changes where he doesn't have it. Refused as a grant is.
+    Revoke(Name, Permission),
+    /// Tell the caller his own system permissions, his permissions on the table, and his authorizations. It needs no permission.
+    Rights(Name),
 }
 
 /// What a user asks at a moment. Events are the atomic steps of a core. The clock is the greatest moment of all events so far, refused

@@ -1,5 +1,8 @@
 //! Laws of the definitions. Each is the contract of a function that does nothing, so that it is proved.
 ghost use Rattle.tab_history.specs.Cells.{OneAnswerList};
+ghost use Rattle.tab_history.specs.OwnRights.{RightsAreTold};
+ghost use Rattle.tab_history.specs.Lives.{LivesAreApart};
+ghost use Rattle.tab_history.specs.Rooted.{RootStays};
 ghost use Rattle.tab_history.specs.Standing.{SameHistories, SameEvents, StandsOver, StandsForItself, NewCoreIsSound, NewCoreStands, StandingIsSound, AlikeStands, AnswersAreOne};
 ghost use Rattle.tab_history.specs.Chains.{RightStep, GoesOn, ChainsStand};
 ghost use Rattle.tab_history.specs.Runs.{EveryRunIsAnswered, OneHistory, Unmoved};
@@ -7,6 +10,21 @@ ghost use Rattle.tab_history.specs.Runs.{EveryRunIsAnswered, OneHistory, Unmoved
 /// A scan of updates of which no two stand at one place has one answer, and it is what the definitions compute.
 pub fn one_answer_list()
     ensures { OneAnswerList }
+{}
+
+/// What a user is told of his rights has just the permissions that he has, and his authorizations.
+pub fn rights_are_told()
+    ensures { RightsAreTold }
+{}
+
+/// A table or a user that is made begins with nothing of what an earlier one of its name had, and nothing stays of one that is dropped.
+pub fn lives_are_apart()
+    ensures { LivesAreApart }
+{}
+
+/// In each legal history from a new core root is a user, and no one else may grant system permissions.
+pub fn root_stays()
+    ensures { RootStays }
 {}
 
 /// Each list of steps has a legal history.

@@ -1,10 +1,11 @@
 //! What is answered.
 
+use crate::rights::Rights;
 use tab_key::{ByteString, Cell, Items, Name, Part};
 use tab_policy::Permission;
 use tab_rules::Failing;
 
-/// Why a step is refused. A refused event changes no cell, right or table; all but `NoMemory` and a full list of sessions move the clock.
+/// Why a step is refused. A refused event changes no user, cell, right or table; all but `NoMemory` and a full list of sessions move the clock.
 #[derive(Drop)]
 pub enum Refusal {
     /// There is no user of the caller's name.
@@ -27,7 +28,9 @@ pub enum Refusal {
     TooLarge(Part),
     /// There is a table of this name already.
     TableExists(Name),
-    /// There is no user of this name to be changed.
+    /// There is a user of this name already.
+    UserExists(Name),
+    /// There is no user of this name to be changed or dropped.
     NoUser(Name),
     /// The low row is above the high row, or equal to it with an exclusive end.
     BadRange,
@@ -35,6 +38,10 @@ pub enum Refusal {
     NoSession(u32),
     /// There was no memory; the step had no effect at all.
     NoMemory,
+    /// Root can't be dropped, and its system permissions don't change.
+    RootFixed,
+    /// The permission to grant system permissions is root's alone: it can't be granted or revoked.
+    GrantInvalid,
     /// The first update whose timestamp is below the table's horizon.
     BelowHorizon(u32),
 }
@@ -50,6 +57,8 @@ pub enum Reply<S = ()> {
     Opened(S),
     /// The next cells of a session.
     Batch(Items<Cell>),
+    /// What the caller may do and holds.
+    Rights(Rights),
 }
 
 impl<S> Reply<S> {
@@ -66,6 +75,7 @@ impl<S> Reply<S> {
             Reply::Refused(refusal) => (Reply::Refused(refusal), None),
             Reply::Opened(session) => (Reply::Opened(()), Some(session)),
             Reply::Batch(cells) => (Reply::Batch(cells), None),
+            Reply::Rights(rights) => (Reply::Rights(rights), None),
         }
     }
 }

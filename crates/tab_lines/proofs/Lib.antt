@@ -11,4 +11,5 @@ pub mod NumberLaw
 pub mod ListLaw
 pub mod ColumnLaw
 pub mod UpdateLaw
+pub mod PermissionLaw
 pub mod LineLaw

@@ -12,9 +12,10 @@ use Rattle.tab_key.specs.declared.column.Column.{Column}
 use Rattle.tab_label.specs.Sets.{set_of}
 use Rattle.tab_mutation.specs.Mutations.{Mutation, Update}
 use Rattle.tab_rules.specs.declared.constraint.Constraint.{Constraint}
+use Rattle.tab_policy.specs.declared.permission.Permission.{Permission}
 use Rattle.tab_history.specs.declared.event.TimeMode.{TimeMode}
 use Rattle.tab_history.specs.declared.event.TimeMode.TheVariants.{Any, Server}
-use Rattle.tab_history.specs.declared.event.Act.TheVariants.{CreateTable, SetAuths, SetConstraints, Write}
+use Rattle.tab_history.specs.declared.event.Act.TheVariants.{CreateTable, DropTable, CreateUser, DropUser, SetAuths, Grant, Revoke, SetConstraints, Write, Rights}
 use Rattle.tab_lines.specs.declared.line.Line.{Line}
 use Rattle.tab_lines.specs.declared.line.Line.TheVariants as says
 use Rattle.tab_lines.specs.declared.command.Command.{Command}
@@ -26,17 +27,18 @@ use Rattle.tab_text.specs.Words.{IsWord}
 use Rattle.tab_text.specs.Reading.{bytes_of}
 use Rattle.tab_lines.specs.Fields.{name_of, signed_of, time_word, versions_word, list_of, constraints_of, bound_of, columns_of}
 use Rattle.tab_lines.specs.Updates.{row_of, with_update, with_updates, put_of, delete_of, updates_of}
-use Rattle.tab_lines.specs.Lines.{settings_at, settings, createtable_of, setauths_of, constraints_line_of, insert_of, delete_line_of, mutate_of, bounds_of, scan_of, at_of, command_of, commanded, said, is_comment, line_of}
-use Rattle.tab_lines.specs.Forms.{IsNameWord, IsNumber, IsList, IsConstraint, IsBound, IsVersions, time_name, AreSettings, IsLastTimestamp, AreUpdates, AreLimits, Form, IsLine, LinesAreForms}
+use Rattle.tab_lines.specs.Lines.{name_alone, grant_of, settings_at, settings, createtable_of, setauths_of, constraints_line_of, insert_of, delete_line_of, mutate_of, bounds_of, scan_of, at_of, command_of, commanded, said, is_comment, line_of}
+use Rattle.tab_lines.specs.Forms.{IsNameWord, IsNumber, IsList, IsConstraint, IsBound, IsVersions, time_name, AreSettings, IsPermission, IsLastTimestamp, AreUpdates, AreLimits, Form, IsLine, LinesAreForms}
 use Rattle.tab_lines.specs.Forms.AreSettings.{neither as set_neither, time as set_time, versions as set_versions, both as set_both}
 use Rattle.tab_lines.specs.Forms.AreLimits.{all as limit_all, rows as limit_rows, columns as limit_columns}
-use Rattle.tab_lines.specs.Forms.Form.{blank as form_blank, at as form_at, createtable as form_createtable, setauths as form_setauths, constraints as form_constraints, insert as form_insert, delete as form_delete, mutate as form_mutate, scan as form_scan}
+use Rattle.tab_lines.specs.Forms.Form.{blank as form_blank, asker as form_asker, at as form_at, createtable as form_createtable, droptable as form_droptable, createuser as form_createuser, dropuser as form_dropuser, setauths as form_setauths, grant as form_grant, revoke as form_revoke, rights as form_rights, constraints as form_constraints, insert as form_insert, delete as form_delete, mutate as form_mutate, scan as form_scan}
 use Rattle.tab_lines.specs.Forms.IsLine.{comment as line_comment, words as line_words}
 use Rattle.tab_lines.proofs.WordLaw.{words_read}
 use Rattle.tab_lines.proofs.WordsLaw.{words_sound, words_complete}
 use Rattle.tab_lines.proofs.NumberLaw.{numbers_read, versions_read}
 use Rattle.tab_lines.proofs.ListLaw.{names_read, lists_read, constraints_read, bounds_read}
 use Rattle.tab_lines.proofs.ColumnLaw.{columns_read}
+use Rattle.tab_lines.proofs.PermissionLaw.{on_name_alone, name_alone_complete, on_grant, grant_complete}
 use Rattle.tab_lines.proofs.UpdateLaw.{put_with, delete_with, on_put, put_complete, on_delete, delete_complete, last_timestamp, last_complete, updates_sound, updates_complete}
 use Rattle.tab_lines.proofs.Inverting.{Words, some_inj, bind_some, field_some, on_bind, on_map, on_field, on_read, on_ends, on_optional}
 
@@ -308,38 +310,74 @@ at_complete t moment is = bind_some (field signed_of (t ∷ [])) (moment, []) _ 
 
 -- the word of a command
 abbrev command_name : Command → List ℕ
+command_name command.As = codes "as"
+command_name command.At = codes "at"
 command_name command.CreateTable = codes "createtable"
+command_name command.DropTable = codes "droptable"
+command_name command.CreateUser = codes "createuser"
+command_name command.DropUser = codes "dropuser"
 command_name command.SetAuths = codes "setauths"
+command_name command.Grant = codes "grant"
+command_name command.Revoke = codes "revoke"
+command_name command.Rights = codes "rights"
 command_name command.Constraints = codes "constraints"
 command_name command.Insert = codes "insert"
 command_name command.Delete = codes "delete"
 command_name command.Mutate = codes "mutate"
 command_name command.Scan = codes "scan"
-command_name command.At = codes "at"
 
 command_sound : (word : List ℕ) (c : Command) → command_of word ≡ Some c → word ≡ command_name c
 command_sound word c is =
-    on_cond (bytes_eq word (codes "createtable")) (Some command.CreateTable) _ c (word ≡ command_name c) is (λ yes e. named (codes "createtable") command.CreateTable yes refl e) (λ no1 e1.
-    on_cond (bytes_eq word (codes "setauths")) (Some command.SetAuths) _ c (word ≡ command_name c) e1 (λ yes e. named (codes "setauths") command.SetAuths yes refl e) (λ no2 e2.
-    on_cond (bytes_eq word (codes "constraints")) (Some command.Constraints) _ c (word ≡ command_name c) e2 (λ yes e. named (codes "constraints") command.Constraints yes refl e) (λ no3 e3.
-    on_cond (bytes_eq word (codes "insert")) (Some command.Insert) _ c (word ≡ command_name c) e3 (λ yes e. named (codes "insert") command.Insert yes refl e) (λ no4 e4.
-    on_cond (bytes_eq word (codes "delete")) (Some command.Delete) _ c (word ≡ command_name c) e4 (λ yes e. named (codes "delete") command.Delete yes refl e) (λ no5 e5.
-    on_cond (bytes_eq word (codes "mutate")) (Some command.Mutate) _ c (word ≡ command_name c) e5 (λ yes e. named (codes "mutate") command.Mutate yes refl e) (λ no6 e6.
-    on_cond (bytes_eq word (codes "scan")) (Some command.Scan) _ c (word ≡ command_name c) e6 (λ yes e. named (codes "scan") command.Scan yes refl e) (λ no7 e7.
-    on_cond (bytes_eq word (codes "at")) (Some command.At) _ c (word ≡ command_name c) e7 (λ yes e. named (codes "at") command.At yes refl e) (λ no8 e8. absurd cc))))))))
+    on_cond (bytes_eq word (codes "as")) (Some command.As) _ c (word ≡ command_name c) is (λ yes e. named (codes "as") command.As yes refl e) (λ no1 e1.
+    on_cond (bytes_eq word (codes "at")) (Some command.At) _ c (word ≡ command_name c) e1 (λ yes e. named (codes "at") command.At yes refl e) (λ no2 e2.
+    on_cond (bytes_eq word (codes "createtable")) (Some command.CreateTable) _ c (word ≡ command_name c) e2 (λ yes e. named (codes "createtable") command.CreateTable yes refl e) (λ no3 e3.
+    on_cond (bytes_eq word (codes "droptable")) (Some command.DropTable) _ c (word ≡ command_name c) e3 (λ yes e. named (codes "droptable") command.DropTable yes refl e) (λ no4 e4.
+    on_cond (bytes_eq word (codes "createuser")) (Some command.CreateUser) _ c (word ≡ command_name c) e4 (λ yes e. named (codes "createuser") command.CreateUser yes refl e) (λ no5 e5.
+    on_cond (bytes_eq word (codes "dropuser")) (Some command.DropUser) _ c (word ≡ command_name c) e5 (λ yes e. named (codes "dropuser") command.DropUser yes refl e) (λ no6 e6.
+    on_cond (bytes_eq word (codes "setauths")) (Some command.SetAuths) _ c (word ≡ command_name c) e6 (λ yes e. named (codes "setauths") command.SetAuths yes refl e) (λ no7 e7.
+    on_cond (bytes_eq word (codes "grant")) (Some command.Grant) _ c (word ≡ command_name c) e7 (λ yes e. named (codes "grant") command.Grant yes refl e) (λ no8 e8.
+    on_cond (bytes_eq word (codes "revoke")) (Some command.Revoke) _ c (word ≡ command_name c) e8 (λ yes e. named (codes "revoke") command.Revoke yes refl e) (λ no9 e9.
+    on_cond (bytes_eq word (codes "rights")) (Some command.Rights) _ c (word ≡ command_name c) e9 (λ yes e. named (codes "rights") command.Rights yes refl e) (λ no10 e10.
+    on_cond (bytes_eq word (codes "constraints")) (Some command.Constraints) _ c (word ≡ command_name c) e10 (λ yes e. named (codes "constraints") command.Constraints yes refl e) (λ no11 e11.
+    on_cond (bytes_eq word (codes "insert")) (Some command.Insert) _ c (word ≡ command_name c) e11 (λ yes e. named (codes "insert") command.Insert yes refl e) (λ no12 e12.
+    on_cond (bytes_eq word (codes "delete")) (Some command.Delete) _ c (word ≡ command_name c) e12 (λ yes e. named (codes "delete") command.Delete yes refl e) (λ no13 e13.
+    on_cond (bytes_eq word (codes "mutate")) (Some command.Mutate) _ c (word ≡ command_name c) e13 (λ yes e. named (codes "mutate") command.Mutate yes refl e) (λ no14 e14.
+    on_cond (bytes_eq word (codes "scan")) (Some command.Scan) _ c (word ≡ command_name c) e14 (λ yes e. named (codes "scan") command.Scan yes refl e) (λ no15 e15. absurd cc)))))))))))))))
   where
     named : (text : List ℕ) (d : Command) → bytes_eq word text ≡ true → text ≡ command_name d → Some d ≡ Some c → word ≡ command_name c
     named text d same name e = (bytes_eq-Decides word text).0 same ∙ name ∙ ap command_name (some_inj d c e)
 
+-- a line of a command and one name
+named_sound : (text : List ℕ) (said : List ℕ → Line) (words : Words) (line : Line) → ((w name : List ℕ) → IsNameWord w name → Form (text ∷ w ∷ []) (said name))
+    → option_map said (name_alone words) ≡ Some line → Form (text ∷ words) line
+named_sound text said words line form is =
+    on_map said (name_alone words) line (Form (text ∷ words) line) is (λ name read e.
+    subst (λ (y : Line). Form (text ∷ words) y) e (on_name_alone words name (λ ws. Form (text ∷ ws) (said name)) read (λ w named. form w name named)))
+
+-- a line of a command, a user and a permission
+grant_sound : (text : List ℕ) (said : List ℕ × Permission → Line) (words : Words) (line : Line)
+    → ((u user : List ℕ) (ws : Words) (p : Permission) → IsNameWord u user → IsPermission ws p → Form (text ∷ u ∷ ws) (said (user, p)))
+    → option_map said (grant_of words) ≡ Some line → Form (text ∷ words) line
+grant_sound text said words line form is =
+    on_map said (grant_of words) line (Form (text ∷ words) line) is (λ grant read e.
+    subst (λ (y : Line). Form (text ∷ words) y) e (on_grant words grant (λ ws. Form (text ∷ ws) (said grant)) read (λ u rest named given. form u grant.0 rest grant.1 named given)))
+
 commanded_sound : (c : Command) (words : Words) (line : Line) → commanded c words ≡ Some line → Form (command_name c ∷ words) line
+commanded_sound command.As words line is = named_sound (codes "as") (λ user. says.As user) words line form_asker is
+commanded_sound command.At words line is = at_sound words line is
 commanded_sound command.CreateTable words line is = createtable_sound words line is
+commanded_sound command.DropTable words line is = named_sound (codes "droptable") (λ name. says.Act (DropTable name)) words line form_droptable is
+commanded_sound command.CreateUser words line is = named_sound (codes "createuser") (λ name. says.Act (CreateUser name)) words line form_createuser is
+commanded_sound command.DropUser words line is = named_sound (codes "dropuser") (λ name. says.Act (DropUser name)) words line form_dropuser is
 commanded_sound command.SetAuths words line is = setauths_sound words line is
+commanded_sound command.Grant words line is = grant_sound (codes "grant") (λ grant. says.Act (Grant grant.0 grant.1)) words line form_grant is
+commanded_sound command.Revoke words line is = grant_sound (codes "revoke") (λ grant. says.Act (Revoke grant.0 grant.1)) words line form_revoke is
+commanded_sound command.Rights words line is = named_sound (codes "rights") (λ name. says.Act (Rights name)) words line form_rights is
 commanded_sound command.Constraints words line is = constraints_sound words line is
 commanded_sound command.Insert words line is = insert_sound words line is
 commanded_sound command.Delete words line is = delete_sound words line is
 commanded_sound command.Mutate words line is = mutate_sound words line is
 commanded_sound command.Scan words line is = scan_sound words line is
-commanded_sound command.At words line is = at_sound words line is
 
 said_sound : (words : Words) (line : Line) → said words ≡ Some line → Form words line
 said_sound [] line is = subst (λ (y : Line). Form [] y) (some_inj says.Blank line is) form_blank
@@ -348,9 +386,16 @@ said_sound (word ∷ words) line is = on_bind (command_of word) (λ c. commanded
 
 said_complete : (words : Words) (line : Line) → Form words line → said words ≡ Some line
 said_complete words line form_blank = refl
+said_complete words line (form_asker u user name) = ap (λ (o : Option (List ℕ)). option_map (λ n. says.As n) o) (name_alone_complete u user name)
 said_complete words line (form_at t moment is) = at_complete t moment is
 said_complete words line (form_createtable t table ws mode versions name are) = createtable_complete t table ws mode versions name are
+said_complete words line (form_droptable t table name) = ap (λ (o : Option (List ℕ)). option_map (λ n. says.Act (DropTable n)) o) (name_alone_complete t table name)
+said_complete words line (form_createuser u user name) = ap (λ (o : Option (List ℕ)). option_map (λ n. says.Act (CreateUser n)) o) (name_alone_complete u user name)
+said_complete words line (form_dropuser u user name) = ap (λ (o : Option (List ℕ)). option_map (λ n. says.Act (DropUser n)) o) (name_alone_complete u user name)
 said_complete words line (form_setauths u l user members name list) = setauths_complete u l user members name list
+said_complete words line (form_grant u user ws p name is) = ap (λ (o : Option (List ℕ × Permission)). option_map (λ g. says.Act (Grant g.0 g.1)) o) (grant_complete u user ws p name is)
+said_complete words line (form_revoke u user ws p name is) = ap (λ (o : Option (List ℕ × Permission)). option_map (λ g. says.Act (Revoke g.0 g.1)) o) (grant_complete u user ws p name is)
+said_complete words line (form_rights t table name) = ap (λ (o : Option (List ℕ)). option_map (λ n. says.Act (Rights n)) o) (name_alone_complete t table name)
 said_complete words line (form_constraints t l table members name list) = constraints_complete t l table members name list
 said_complete words line (form_insert t r f q l v table row family qualifier label value ws timestamp name w0 w1 w2 w3 w4 time) =
     insert_complete t r f q l v table row family qualifier label value ws timestamp name w0 w1 w2 w3 w4 time

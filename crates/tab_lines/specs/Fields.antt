@@ -10,6 +10,9 @@ use Rattle.tab_key.specs.declared.column.Column.{Column}
 use Rattle.tab_key.specs.declared.column.Column.TheVariants.{Family, Qualified}
 use Rattle.tab_rules.specs.declared.constraint.Constraint.{Constraint}
 use Rattle.tab_rules.specs.declared.constraint.Constraint.TheVariants.{KeySize, Alphanumeric, Numeric, Visibility}
+use Rattle.tab_policy.specs.Permissions.{system_by_name, table_by_name}
+use Rattle.tab_policy.specs.declared.permission.Permission.{Permission}
+use Rattle.tab_policy.specs.declared.permission.Permission.TheVariants.{OfSystem, OfTable}
 use Rattle.tab_history.specs.declared.event.TimeMode.{TimeMode}
 use Rattle.tab_history.specs.declared.event.TimeMode.TheVariants.{Any, Server}
 use Rattle.tab_lines.specs.Words.{parts_at}
@@ -82,6 +85,16 @@ is_version_count n = nat_le 1 n && nat_le n 1000
 -- how many versions, behind the nine bytes versions=
 abbrev pub versions_word : List ℕ → Option ℕ
 versions_word word = if bytes_eq (take 9 word) (codes "versions=") then option_and_then (only_if is_version_count) (magnitude_of (drop 9 word)) else None
+
+-- ---- permissions
+
+-- the system permission of this name
+unfoldable pub system_permission : List ℕ → Option Permission
+system_permission word = option_map (λ p. OfSystem p) (system_by_name word)
+
+-- the table permission of this name, on the table that the next word spells
+unfoldable pub table_permission : List ℕ → List ℕ → Option Permission
+table_permission word t = option_and_then (λ p. option_map (λ table. OfTable p table) (name_of t)) (table_by_name word)
 
 -- ---- lists, bounds, columns
 

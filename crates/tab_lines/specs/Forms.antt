@@ -13,9 +13,12 @@ use Rattle.tab_label.specs.Sets.{set_of}
 use Rattle.tab_mutation.specs.Mutations.{Update}
 use Rattle.tab_rules.specs.declared.constraint.Constraint.{Constraint}
 use Rattle.tab_rules.specs.declared.constraint.Constraint.TheVariants.{KeySize, Alphanumeric, Numeric, Visibility}
+use Rattle.tab_policy.specs.Permissions.{system_name, table_name}
+use Rattle.tab_policy.specs.declared.permission.Permission.{Permission}
+use Rattle.tab_policy.specs.declared.permission.Permission.TheVariants.{OfSystem, OfTable}
 use Rattle.tab_history.specs.declared.event.TimeMode.{TimeMode}
 use Rattle.tab_history.specs.declared.event.TimeMode.TheVariants.{Any, Server}
-use Rattle.tab_history.specs.declared.event.Act.TheVariants.{CreateTable, SetAuths, SetConstraints, Write}
+use Rattle.tab_history.specs.declared.event.Act.TheVariants.{CreateTable, DropTable, CreateUser, DropUser, SetAuths, Grant, Revoke, SetConstraints, Write, Rights}
 use Rattle.tab_lines.specs.declared.line.Line.{Line}
 use Rattle.tab_lines.specs.declared.line.Line.TheVariants as line
 use Rattle.tab_lines.specs.Words.{parts_at}
@@ -91,6 +94,11 @@ pub data AreSettings : List (List ℕ) → TimeMode → ℕ → Type 0 where
   versions : (v : List ℕ) (n : ℕ) → IsVersions v n → AreSettings (v ∷ []) Any n
   both : (mode : TimeMode) (v : List ℕ) (n : ℕ) → IsVersions v n → AreSettings (time_name mode ∷ v ∷ []) mode n
 
+-- the words are a permission: the name of a system permission, or the name of a table permission and a word for the table
+abbrev pub IsPermission : List (List ℕ) → Permission → Type 0
+IsPermission words (OfSystem permission) = words ≡ system_name permission ∷ []
+IsPermission words (OfTable permission table) = (t : List ℕ) × (words ≡ table_name permission ∷ t ∷ []) × IsNameWord t table
+
 -- the last words of a write: a timestamp, or none
 abbrev pub IsLastTimestamp : List (List ℕ) → Option ℤ → Type 0
 IsLastTimestamp words None = words ≡ []
@@ -124,11 +132,20 @@ pub data AreLimits : List (List ℕ) → Bounds → List Column → Type 0 where
 -- the words are a line that says this
 pub data Form : List (List ℕ) → Line → Type 0 where
   blank : Form [] line.Blank
+  asker : (u user : List ℕ) → IsNameWord u user → Form (codes "as" ∷ u ∷ []) (line.As user)
   at : (t : List ℕ) (moment : ℤ) → IsNumber t moment → Form (codes "at" ∷ t ∷ []) (line.At moment)
   createtable : (t table : List ℕ) (words : List (List ℕ)) (mode : TimeMode) (versions : ℕ) → IsNameWord t table → AreSettings words mode versions
       → Form (codes "createtable" ∷ t ∷ words) (line.Act (CreateTable table mode versions))
+  droptable : (t table : List ℕ) → IsNameWord t table → Form (codes "droptable" ∷ t ∷ []) (line.Act (DropTable table))
+  createuser : (u user : List ℕ) → IsNameWord u user → Form (codes "createuser" ∷ u ∷ []) (line.Act (CreateUser user))
+  dropuser : (u user : List ℕ) → IsNameWord u user → Form (codes "dropuser" ∷ u ∷ []) (line.Act (DropUser user))
   setauths : (u l user : List ℕ) (members : List (List ℕ)) → IsNameWord u user → IsList IsWord l members
       → Form (codes "setauths" ∷ u ∷ l ∷ []) (line.Act (SetAuths user (set_of members)))
+  grant : (u user : List ℕ) (words : List (List ℕ)) (permission : Permission) → IsNameWord u user → IsPermission words permission
+      → Form (codes "grant" ∷ u ∷ words) (line.Act (Grant user permission))
+  revoke : (u user : List ℕ) (words : List (List ℕ)) (permission : Permission) → IsNameWord u user → IsPermission words permission
+      → Form (codes "revoke" ∷ u ∷ words) (line.Act (Revoke user permission))
+  rights : (t table : List ℕ) → IsNameWord t table → Form (codes "rights" ∷ t ∷ []) (line.Act (Rights table))
   constraints : (t l table : List ℕ) (members : List Constraint) → IsNameWord t table → IsList IsConstraint l members
       → Form (codes "constraints" ∷ t ∷ l ∷ []) (line.Act (SetConstraints table members))
   insert : (t r f q l v table row family qualifier label value : List ℕ) (words : List (List ℕ)) (timestamp : Option ℤ)

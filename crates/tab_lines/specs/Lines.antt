@@ -1,12 +1,14 @@
 -- What a line says.
 use Rattle.std.specs.Prelude.{ℕ, ◌==◌, Bool, false, List, [], ◌∷◌, codes, Option, Some, None, if◌then◌else◌}
+use Rattle.std.specs.Option.{option_map}
 use Rattle.std.specs.Str.{bytes_eq}
 use Rattle.tab_key.specs.declared.range.Bounds.{Bounds}
 use Rattle.tab_key.specs.declared.range.Bound.TheVariants.{Unbounded}
 use Rattle.tab_label.specs.Sets.{set_of}
+use Rattle.tab_policy.specs.declared.permission.Permission.{Permission}
 use Rattle.tab_history.specs.declared.event.TimeMode.{TimeMode}
 use Rattle.tab_history.specs.declared.event.TimeMode.TheVariants.{Any}
-use Rattle.tab_history.specs.declared.event.Act.TheVariants.{CreateTable, SetAuths, SetConstraints, Write}
+use Rattle.tab_history.specs.declared.event.Act.TheVariants.{CreateTable, DropTable, CreateUser, DropUser, SetAuths, Grant, Revoke, SetConstraints, Write, Rights}
 use Rattle.tab_lines.specs.declared.line.Line.{Line}
 use Rattle.tab_lines.specs.declared.line.Line.TheVariants as line
 use Rattle.tab_lines.specs.declared.command.Command.{Command}
@@ -14,8 +16,29 @@ use Rattle.tab_lines.specs.declared.command.Command.TheVariants as command
 use Rattle.tab_lines.specs.declared.updates.Stamp.TheVariants.{Optional}
 use Rattle.tab_lines.specs.Gives.{◌>>=◌, field, ends, optional}
 use Rattle.tab_lines.specs.Words.{words_of}
-use Rattle.tab_lines.specs.Fields.{name_of, signed_of, time_word, versions_word, list_of, constraints_of, bound_of, columns_of}
+use Rattle.tab_lines.specs.Fields.{name_of, signed_of, time_word, versions_word, system_permission, table_permission, list_of, constraints_of, bound_of, columns_of}
 use Rattle.tab_lines.specs.Updates.{row_of, with_update, with_updates, put_of, delete_of, updates_of}
+
+-- one word, which spells a name
+unfoldable pub name_alone : List (List ℕ) → Option (List ℕ)
+name_alone words = do
+  name ← field name_of words
+  end ← ends name.1
+  Some name.0
+
+-- one word names a system permission, two name a table permission and its table
+abbrev pub permission_of : List (List ℕ) → Option Permission
+permission_of [] = None
+permission_of (word ∷ []) = system_permission word
+permission_of (word ∷ table ∷ []) = table_permission word table
+permission_of (word ∷ table ∷ more ∷ words) = None
+
+-- a user and a permission: the words behind the command of a line grant U P, grant U P T, revoke U P or revoke U P T
+unfoldable pub grant_of : List (List ℕ) → Option (List ℕ × Permission)
+grant_of words = do
+  user ← field name_of words
+  permission ← permission_of user.1
+  Some (user.0, permission)
 
 -- the settings behind a word that says who gives the timestamps, or without one
 abbrev pub settings_at : Option TimeMode → List ℕ → List (List ℕ) → Option (TimeMode × ℕ)
@@ -110,26 +133,40 @@ at_of words = do
 -- the first word of a line
 abbrev pub command_of : List ℕ → Option Command
 command_of word =
-    if bytes_eq word (codes "createtable") then Some command.CreateTable
+    if bytes_eq word (codes "as") then Some command.As
+    else if bytes_eq word (codes "at") then Some command.At
+    else if bytes_eq word (codes "createtable") then Some command.CreateTable
+    else if bytes_eq word (codes "droptable") then Some command.DropTable
+    else if bytes_eq word (codes "createuser") then Some command.CreateUser
+    else if bytes_eq word (codes "dropuser") then Some command.DropUser
     else if bytes_eq word (codes "setauths") then Some command.SetAuths
+    else if bytes_eq word (codes "grant") then Some command.Grant
+    else if bytes_eq word (codes "revoke") then Some command.Revoke
+    else if bytes_eq word (codes "rights") then Some command.Rights
     else if bytes_eq word (codes "constraints") then Some command.Constraints
     else if bytes_eq word (codes "insert") then Some command.Insert
     else if bytes_eq word (codes "delete") then Some command.Delete
     else if bytes_eq word (codes "mutate") then Some command.Mutate
     else if bytes_eq word (codes "scan") then Some command.Scan
-    else if bytes_eq word (codes "at") then Some command.At
     else None
 
 -- the words after the command
 abbrev pub commanded : Command → List (List ℕ) → Option Line
+commanded command.As words = option_map (λ user. line.As user) (name_alone words)
+commanded command.At words = at_of words
 commanded command.CreateTable words = createtable_of words
+commanded command.DropTable words = option_map (λ table. line.Act (DropTable table)) (name_alone words)
+commanded command.CreateUser words = option_map (λ user. line.Act (CreateUser user)) (name_alone words)
+commanded command.DropUser words = option_map (λ user. line.Act (DropUser user)) (name_alone words)
 commanded command.SetAuths words = setauths_of words
+commanded command.Grant words = option_map (λ grant. line.Act (Grant grant.0 grant.1)) (grant_of words)
+commanded command.Revoke words = option_map (λ grant. line.Act (Revoke grant.0 grant.1)) (grant_of words)
+commanded command.Rights words = option_map (λ table. line.Act (Rights table)) (name_alone words)
 commanded command.Constraints words = constraints_line_of words
 commanded command.Insert words = insert_of words
 commanded command.Delete words = delete_line_of words
 commanded command.Mutate words = mutate_of words
 commanded command.Scan words = scan_of words
-commanded command.At words = at_of words
 
 -- what the words of a line say; no words say nothing
 abbrev pub said : List (List ℕ) → Option Line

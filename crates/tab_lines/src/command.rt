@@ -5,10 +5,26 @@ ghost use Rattle.tab_lines.specs.Lines.{command_of};
 /// The first word of a line: what it asks for.
 #[derive(Clone, Copy)]
 pub enum Command {
+    /// `as`
+    As,
+    /// `at`
+    At,
     /// `createtable`
     CreateTable,
+    /// `droptable`
+    DropTable,
+    /// `createuser`
+    CreateUser,
+    /// `dropuser`
+    DropUser,
     /// `setauths`
     SetAuths,
+    /// `grant`
+    Grant,
+    /// `revoke`
+    Revoke,
+    /// `rights`
+    Rights,
     /// `constraints`
     Constraints,
     /// `insert`
@@ -19,8 +35,6 @@ pub enum Command {
     Mutate,
     /// `scan`
     Scan,
-    /// `at`
-    At,
 }
 
 /// The command that a word is. Commands are literal: nothing in them may be escaped.
@@ -28,14 +42,21 @@ pub fn command_of(word: &[u8]) -> Option<Command>
     ensures { result ≡ command_of word.now }
 {
     match word {
+        b"as" => Some(Command::As),
+        b"at" => Some(Command::At),
         b"createtable" => Some(Command::CreateTable),
+        b"droptable" => Some(Command::DropTable),
+        b"createuser" => Some(Command::CreateUser),
+        b"dropuser" => Some(Command::DropUser),
         b"setauths" => Some(Command::SetAuths),
+        b"grant" => Some(Command::Grant),
+        b"revoke" => Some(Command::Revoke),
+        b"rights" => Some(Command::Rights),
         b"constraints" => Some(Command::Constraints),
         b"insert" => Some(Command::Insert),
         b"delete" => Some(Command::Delete),
         b"mutate" => Some(Command::Mutate),
         b"scan" => Some(Command::Scan),
-        b"at" => Some(Command::At),
         _ => None,
     }
 }

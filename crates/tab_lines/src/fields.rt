@@ -6,6 +6,7 @@ ghost use Rattle.tab_lines.specs.Words.{words_left};
 ghost use Rattle.tab_text.specs.Reading.{bytes_of};
 ghost use Rattle.tab_lines.specs.Spelling.{bytes_spelled};
 ghost use Rattle.tab_lines.specs.Fields.{name_of, signed_of, list_of, bound_of};
+ghost use Rattle.tab_lines.specs.Lines.{name_alone};
 
 use crate::Stop;
 use crate::bounds::bound_of;
@@ -65,6 +66,16 @@ pub fn a_bound(alloc: Global, words: &mut Words) -> Result<Bound, Stop>
         return Err(Stop::Fault);
     };
     bound_of(alloc, word)
+}
+
+/// Takes the last word, which spells a name.
+#[tactic(auto, unfolding(crate::specs::Lines::name_alone))]
+pub fn name_alone(alloc: Global, words: &mut Words) -> Result<Name, Stop>
+    ensures { Gives (λ x. x) result (name_alone (words_left words.old)) }
+{
+    let name = a_name(alloc, words)?;
+    ends(words)?;
+    Ok(name)
 }
 
 /// No word may be left.

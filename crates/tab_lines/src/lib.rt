@@ -6,17 +6,24 @@
 //!
 //! | Line | What it says |
 //! |---|---|
+//! | `as U` | the user who asks from now on |
 //! | `at MOMENT` | the moment of later events |
 //! | `createtable T [time=any\|time=server] [versions=N]` | make a table; `time=any` and 1 where nothing is said |
+//! | `droptable T` | take a table away |
+//! | `createuser U`, `dropuser U` | make a user, take one away |
 //! | `setauths U LIST` | give a user these authorizations |
+//! | `grant U P`, `revoke U P` | a system permission of a user |
+//! | `grant U P T`, `revoke U P T` | a table permission of a user |
+//! | `rights T` | tell the asking user his own rights, those on this table among them |
 //! | `constraints T LIST` | set which constraints a table has: `keysize`, `alphanum`, `numeric`, `visibility` |
 //! | `insert T ROW FAM QUAL LABEL VALUE [TS]` | a mutation of one put |
 //! | `delete T ROW FAM QUAL LABEL [TS]` | a mutation of one delete |
 //! | `mutate T ROW`, updates parted by the word `;` | a mutation of `put FAM QUAL LABEL VALUE TS` and `del FAM QUAL LABEL TS`, TS a number or `-` for none |
 //! | `scan T AUTHS [LOW HIGH [COLS]]` | a whole scan |
 //!
-//! Commands and the words `put`, `del`, `;`, `-`, `time=..` and `versions=` are literal. Names, rows and the other parts
-//! are byte words (crate `tab_text`). The forms of updates have fixed lengths and are read by place, so a value may be
+//! Commands, the names of permissions and the words `put`, `del`, `;`, `-`, `time=..` and `versions=` are literal. Names
+//! of users and tables, rows and the other parts are byte words (crate `tab_text`). P is the name of a permission as
+//! crate `tab_policy` has it: of a system permission where it is the last word, else of a table permission. The forms of updates have fixed lengths and are read by place, so a value may be
 //! the word `;`. A number is decimal digits, leading zeros are accepted, a minus stands before a negative one alone, and
 //! what an i64 can't hold is a fault. N is 1 to 1,000. A list is byte words between commas, or the word `\0` for none;
 //! each member has at least one byte of text. A bound is `\0` for none, or a byte word behind `[` (in the range) or `(`
@@ -27,7 +34,7 @@
 //! |---|---|
 //! | `words` | the words of a line that are left |
 //! | `spelling`, `names`, `numbers`, `bounds`, `lists` | what one word says |
-//! | `fields`, `updates` | one word after another, and the updates of a mutation |
+//! | `fields`, `updates`, `permissions` | one word after another, the updates of a mutation, and what is granted to whom |
 //! | `command`, `line` | the first word, and the lines |
 //! | `laws` | reading is exactly the forms of lines |
 //!
@@ -44,6 +51,7 @@ mod line;
 mod lists;
 mod names;
 mod numbers;
+mod permissions;
 mod spelling;
 mod stop;
 mod updates;

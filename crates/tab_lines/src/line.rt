@@ -8,15 +8,16 @@ ghost use Rattle.tab_lines.specs.Lines.{settings, createtable_of, setauths_of, c
 use crate::Stop;
 use crate::bounds::bound_of;
 use crate::command::{Command, command_of};
-use crate::fields::{a_bound, a_list, a_name, a_number, ends};
+use crate::fields::{a_bound, a_list, a_name, a_number, ends, name_alone};
 use crate::lists::{columns_of, constraints_of};
 use crate::names::time_word;
 use crate::numbers::versions_word;
+use crate::permissions::a_grant;
 use crate::updates::{Stamp, a_row, add_delete, add_put, add_updates};
 use crate::words::Words;
 use std::alloc::Global;
 use tab_history::{Act, Scan, TimeMode};
-use tab_key::{Bound, Bounds, Column, Items};
+use tab_key::{Bound, Bounds, Column, Items, Name};
 use tab_label::AuthSet;
 
 /// What a line of a script says.
@@ -24,6 +25,8 @@ use tab_label::AuthSet;
 pub enum Line {
     /// Nothing: the line is empty, has spaces alone, or is a comment.
     Blank,
+    /// The user who asks from now on.
+    As(Name),
     /// The moment of later events.
     At(i64),
     /// One event.
@@ -180,14 +183,27 @@ fn commanded(alloc: Global, command: Command, words: &mut Words) -> Result<Line,
     ensures { Gives (λ x. x) result (commanded command (words_left words.old)) }
 {
     match command {
+        Command::As => Ok(Line::As(name_alone(alloc, words)?)),
+        Command::At => at(words),
         Command::CreateTable => createtable(alloc, words),
+        Command::DropTable => Ok(Line::Act(Act::DropTable(name_alone(alloc, words)?))),
+        Command::CreateUser => Ok(Line::Act(Act::CreateUser(name_alone(alloc, words)?))),
+        Command::DropUser => Ok(Line::Act(Act::DropUser(name_alone(alloc, words)?))),
         Command::SetAuths => setauths(alloc, words),
+        Command::Grant => {
+            let (user, permission) = a_grant(alloc, words)?;
+            Ok(Line::Act(Act::Grant(user, permission)))
+        }
+        Command::Revoke => {
+            let (user, permission) = a_grant(alloc, words)?;
+            Ok(Line::Act(Act::Revoke(user, permission)))
+        }
+        Command::Rights => Ok(Line::Act(Act::Rights(name_alone(alloc, words)?))),
         Command::Constraints => constraints(alloc, words),
         Command::Insert => insert(alloc, words),
         Command::Delete => delete(alloc, words),
         Command::Mutate => mutate(alloc, words),
         Command::Scan => scan(alloc, words),
-        Command::At => at(words),
     }
 }
 

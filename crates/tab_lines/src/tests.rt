@@ -1,5 +1,6 @@
 //! Tables of lines, with what they say.
 mod showing;
+mod users;
 
 use crate::lines_are_forms;
 use showing::shown;
@@ -340,12 +341,6 @@ fn knows_no_other_lines(rt: HostRuntime) -> Result<(), Fail> {
             b"Scan t \\0",
             b"x",
             b"put f q l v 1",
-            b"as root",
-            b"droptable t",
-            b"createuser u",
-            b"dropuser u",
-            b"grant u READ t",
-            b"revoke u READ t",
             b"open t \\0",
             b"next 0 1",
             b"close 0",
@@ -355,7 +350,6 @@ fn knows_no_other_lines(rt: HostRuntime) -> Result<(), Fail> {
             b"addsplit t r",
             b"splits t",
             b"status t",
-            b"rights t",
             b"versions t 2",
             b"horizon t 5",
             b"begin t r full",

@@ -1,6 +1,6 @@
 -- No line asks for a session that stays open.
 use Rattle.std.proofs.Common.{ℕ, true, false, cond, List, [], ◌∷◌, refl, subst, Option, Some, None, Result, Ok, Err}
-use Rattle.std.specs.Prelude.{Result}
+use Rattle.std.specs.Prelude.{Result, option_map}
 use Rattle.tab_lines.specs.declared.line.Line.{Line}
 use Rattle.tab_lines.specs.declared.line.Line.TheVariants as line
 use Rattle.tab_lines.specs.declared.stop.Stop.{Stop}
@@ -11,7 +11,7 @@ use Rattle.tab_lines.specs.Gives.{◌>>=◌, Gives, field, ends, optional}
 use Rattle.tab_lines.specs.Words.{words_of}
 use Rattle.tab_lines.specs.Fields.{name_of, signed_of, list_of, constraints_of, columns_of}
 use Rattle.tab_lines.specs.Updates.{row_of, put_of, delete_of, updates_of}
-use Rattle.tab_lines.specs.Lines.{settings, createtable_of, setauths_of, constraints_line_of, insert_of, delete_line_of, mutate_of, bounds_of, scan_of, at_of, command_of, commanded, said, is_comment, line_of}
+use Rattle.tab_lines.specs.Lines.{settings, createtable_of, setauths_of, constraints_line_of, insert_of, delete_line_of, mutate_of, bounds_of, scan_of, at_of, name_alone, grant_of, command_of, commanded, said, is_comment, line_of}
 use Rattle.tab_shell.specs.Ahead.{OpensNone}
 
 -- nothing is read, or what is read opens no session that stays
@@ -22,6 +22,10 @@ IsShut (Some l) = OpensNone (Ok l)
 after : {A : Type 0} (o : Option A) (f : A → Option Line) → ((a : A) → IsShut (f a)) → IsShut (o >>= f)
 after None f h = tt
 after (Some a) f h = h a
+
+mapped : {A : Type 0} (o : Option A) (f : A → Line) → ((a : A) → OpensNone (Ok (f a))) → IsShut (option_map f o)
+mapped None f h = tt
+mapped (Some a) f h = h a
 
 createtable_shut : (words : List (List ℕ)) → IsShut (createtable_of words)
 unfolding createtable_of
@@ -56,7 +60,14 @@ unfolding at_of
 at_shut words = after (field signed_of words) _ (λ m. after (ends m.1) _ (λ e. tt))
 
 commanded_shut : (c : Command) (words : List (List ℕ)) → IsShut (commanded c words)
+commanded_shut command.As words = mapped (name_alone words) _ (λ user. tt)
 commanded_shut command.CreateTable words = createtable_shut words
+commanded_shut command.DropTable words = mapped (name_alone words) _ (λ table. refl)
+commanded_shut command.CreateUser words = mapped (name_alone words) _ (λ user. refl)
+commanded_shut command.DropUser words = mapped (name_alone words) _ (λ user. refl)
+commanded_shut command.Grant words = mapped (grant_of words) _ (λ grant. refl)
+commanded_shut command.Revoke words = mapped (grant_of words) _ (λ grant. refl)
+commanded_shut command.Rights words = mapped (name_alone words) _ (λ table. refl)
 commanded_shut command.SetAuths words = setauths_shut words
 commanded_shut command.Constraints words = constraints_shut words
 commanded_shut command.Insert words = insert_shut words

@@ -5,7 +5,7 @@ use Rattle.tab_history.specs.declared.event.Act.{Act}
 use Rattle.tab_history.specs.declared.event.Event.{Event}
 use Rattle.tab_history.specs.declared.event.Step.TheVariants.{Event as IsEvent}
 use Rattle.tab_history.specs.declared.reply.Reply.{Reply}
-use Rattle.tab_history.specs.declared.reply.Reply.TheVariants.{Done, Refused, Opened, Batch}
+use Rattle.tab_history.specs.declared.reply.Reply.TheVariants.{Done, Refused, Opened, Batch, Rights as OwnRights}
 use Rattle.tab_history.specs.declared.reply.Refusal.TheVariants as refusal
 use Rattle.tab_history.specs.Bases.{Base}
 use Rattle.tab_history.specs.Answers.{Told, is_open, session_list}
@@ -44,6 +44,19 @@ blank_answered s = silent s (Ok line.Blank) [] refl (λ w h. (refl, refl))
 pub blank_prints : (s : ScriptState) (c : Option (List ℕ)) (h : List ℕ) → Prints s (Ok line.Blank) s c h c h
 blank_prints s c h = ([], blank_answered s, put_none c h)
 
+-- the script with another user
+abbrev pub with_user : ScriptState → List ℕ → ScriptState
+with_user s user = record s { asker = record s.asker { user = user } }
+
+user_answered : (s : ScriptState) (user : List ℕ) → Answered s (Ok (line.As user)) [] (with_user s user)
+user_answered s user = record {
+  asker = refl;
+  goes = λ w h stands legal. ([], (refl, refl), legal, record { core = stands.core; opened = stands.opened; closed = stands.closed });
+}
+
+pub user_prints : (s : ScriptState) (user : List ℕ) (c : Option (List ℕ)) (h : List ℕ) → Prints s (Ok (line.As user)) (with_user s user) c h c h
+user_prints s user c h = ([], user_answered s user, put_none c h)
+
 -- the script at another moment
 abbrev pub at_moment : ScriptState → ℤ → ScriptState
 at_moment s moment = record s { asker = record s.asker { moment = moment } }
@@ -79,7 +92,7 @@ pub memory_fails : {E : Type 0} (s : ScriptState) (c : Option (List ℕ)) (h : L
 memory_fails s c h c1 h1 r p = prints_err s s (Err stop.NoMemory) (codes "refused 17 NoMemory\n") c h c1 h1 r (memory_answered s) p
 
 -- ---- an act is one step of the core
-same_cond : {A : Type 0} (b : Bool) (x : A) → cond b x x ≡ x
+pub same_cond : {A : Type 0} (b : Bool) (x : A) → cond b x x ≡ x
 same_cond true x = refl
 same_cond false x = refl
 
@@ -91,6 +104,7 @@ act_moves w user h event (Refused r) shut = same_cond (is_by user (IsEvent event
 act_moves w user h event (Opened u) shut =
     ap (λ (t : Bool). cond (is_by user (IsEvent event)) (cond t (Opening (session_list w.base (journal w h) event.act) ∷ []) [] ++ moves_of w user h) (moves_of w user h)) shut ∙ same_cond (is_by user (IsEvent event)) (moves_of w user h)
 act_moves w user h event (Batch cells) shut = same_cond (is_by user (IsEvent event)) (moves_of w user h)
+act_moves w user h event (OwnRights rights) shut = same_cond (is_by user (IsEvent event)) (moves_of w user h)
 
 -- the script with another core
 abbrev pub with_core : ScriptState → Base → ScriptState
@@ -101,14 +115,14 @@ act_answered s core act reply shut steps = record {
   asker = refl;
   goes = λ w h stands legal.
       let event : Event = event_by s.asker act in
-      let moves : moves_of w s.asker.user (entry event (told_of reply) ∷ h) ≡ moves_of w s.asker.user h = act_moves w s.asker.user h event (told_of reply) shut in (
+      let moves = λ (user : List ℕ). act_moves w user h event (told_of reply) shut in (
         entry event (told_of reply) ∷ [],
         (told_of reply, refl, refl),
         (legal, steps.answers w h stands.core h (λ opening. absurd (clash act opening shut))),
         record {
           core = steps.stands w h stands.core;
-          opened = ap opened moves ∙ stands.opened;
-          closed = ap closed moves ∙ stands.closed;
+          opened = λ user. ap opened (moves user) ∙ stands.opened user;
+          closed = λ user. ap closed (moves user) ∙ stands.closed user;
         },
       );
 }

@@ -1,5 +1,5 @@
 -- A scan: a session is opened, read to its end and closed.
-use Rattle.std.proofs.Common.{ℕ, zero, suc, ◌≡◌, ◌+◌, ◌-◌, ◌*◌, ◌/◌, ◌<◌, ◌≤◌, ◌==◌, Bool, true, false, cond, ◌||◌, ◌&&◌, ◌⊎◌, inl, inr, List, [], ◌∷◌, ◌++◌, length, drop, refl, sym, ap, ◌∙◌, subst, arith, append_assoc, length-take, length-drop, Option, Some, None, Ok}
+use Rattle.std.proofs.Common.{ℕ, zero, suc, ◌≡◌, ◌+◌, ◌-◌, ◌*◌, ◌/◌, ◌<◌, ◌≤◌, ◌==◌, Bool, true, false, cond, ◌||◌, ◌&&◌, ◌⊎◌, inl, inr, List, [], ◌∷◌, ◌++◌, length, drop, refl, sym, ap, ◌∙◌, subst, arith, append_assoc, length-take, length-drop, Option, Some, None, Result, Ok}
 use Rattle.std.specs.Prelude.{nat_le, bytes_eq, option_map}
 use Rattle.std.proofs.lemmas.Slice.Eq.{bytes_eq-Decides}
 use Rattle.std.proofs.lemmas.Bool.{eq-eqb, lt-leb}
@@ -12,12 +12,12 @@ use Rattle.tab_history.specs.declared.event.Step.TheVariants.{Event as IsEvent, 
 use Rattle.tab_history.specs.declared.reply.Refusal.{Refusal}
 use Rattle.tab_history.specs.declared.reply.Refusal.TheVariants.{NoMemory, TooLarge}
 use Rattle.tab_history.specs.declared.reply.Reply.{Reply}
-use Rattle.tab_history.specs.declared.reply.Reply.TheVariants.{Done, Refused, Opened, Batch}
+use Rattle.tab_history.specs.declared.reply.Reply.TheVariants.{Done, Refused, Opened, Batch, Rights as OwnRights}
 use Rattle.tab_history.specs.Bases.{Base}
 use Rattle.tab_history.specs.Checks.{standing, refusal_of, exists_in, user_named}
-use Rattle.tab_history.specs.Answers.{Told, told, granted, answer, event_answer, session_list, next_answer, close_answer}
+use Rattle.tab_history.specs.Answers.{Told, told, answer, event_answer, moves_by, session_list, next_answer, close_answer}
 use Rattle.tab_history.specs.Sessions.{Held, Move, Opening, Taking, Closing, gave, opened, closed, is_full, session_in}
-use Rattle.tab_history.specs.Histories.{Entry, World, world_of, world_after, clock_of, clock_at, journal, moves_of}
+use Rattle.tab_history.specs.Histories.{Entry, World, world_of, world_after, clock_of, clock_at, journal, is_by, moves_of}
 use Rattle.tab_history.specs.Legal.{Legal, IsAnswer, IsExhausted}
 use Rattle.tab_history.specs.Standing.{StandsFor}
 use Rattle.tab_history.proofs.Playing.{unmoved}
@@ -25,6 +25,10 @@ use Rattle.tab_core.specs.Stepping.{Steps}
 use Rattle.tab_history.specs.Answers.{told_of}
 use Rattle.tab_lines.specs.declared.line.Line.TheVariants as line
 use Rattle.tab_shell.specs.Texts.{reply_text, refusal_text, scan_text}
+use Rattle.tab_shell.specs.Counts.{count_of}
+use Rattle.tab_shell.proofs.Saying.{same_cond}
+use Rattle.tab_lines.specs.declared.line.Line.{Line}
+use Rattle.tab_lines.specs.declared.stop.Stop.{Stop}
 use Rattle.tab_shell.specs.Runs.{Asker, ScriptState, ScriptStands, Scans, Answered, event_by, entry, batch_at, batches, read_out}
 
 bytes_self : (x : List ℕ) → bytes_eq x x ≡ true
@@ -39,9 +43,9 @@ open_moves : (w : World) (who : Asker) (h : List Entry) (scan : Scan) (u : Unit 
 unfolding moves_of
 open_moves w who h scan u = by_self who.user (Opening (session_list w.base (journal w h) (Open scan)) ∷ moves_of w who.user h) (moves_of w who.user h)
 
-refused_moves : (w : World) (who : Asker) (h : List Entry) (scan : Scan) (r : Refusal) → moves_of w who.user (entry (event_by who (Open scan)) (Refused r) ∷ h) ≡ moves_of w who.user h
+refused_moves : (w : World) (user : List ℕ) (who : Asker) (h : List Entry) (scan : Scan) (r : Refusal) → moves_of w user (entry (event_by who (Open scan)) (Refused r) ∷ h) ≡ moves_of w user h
 unfolding moves_of
-refused_moves w who h scan r = by_self who.user (moves_of w who.user h) (moves_of w who.user h)
+refused_moves w user who h scan r = same_cond (bytes_eq who.user user) (moves_of w user h)
 
 next_moves : (w : World) (user : List ℕ) (es : List Entry) (slot : ℕ) (cells : List Cell) → moves_of w user (record { step = Next user slot 1000; reply = Batch cells } ∷ es) ≡ Taking slot (length cells) ∷ moves_of w user es
 unfolding moves_of
@@ -50,6 +54,11 @@ next_moves w user es slot cells = by_self user (Taking slot (length cells) ∷ m
 close_moves : (w : World) (user : List ℕ) (es : List Entry) (slot : ℕ) → moves_of w user (record { step = Close user slot; reply = Done } ∷ es) ≡ Closing slot ∷ moves_of w user es
 unfolding moves_of
 close_moves w user es slot = by_self user (Closing slot ∷ moves_of w user es) (moves_of w user es)
+
+-- ---- the moves of another user
+other_moves : (w : World) (user : List ℕ) (e : Entry) (es : List Entry) → is_by user e.step ≡ false → moves_of w user (e ∷ es) ≡ moves_of w user es
+unfolding moves_of
+other_moves w user e es not = ap (λ (t : Bool). cond t (moves_by w.base (journal w es) e.step e.reply ++ moves_of w user es) (moves_of w user es)) not
 
 slot_self : (slot : ℕ) → (slot == slot) ≡ true
 slot_self slot = eq-eqb slot slot refl
@@ -135,6 +144,11 @@ module _ (w : World) (user : List ℕ) (slot : ℕ) (all : List Cell) where
   batches_unmoved zero es = refl
   batches_unmoved (suc k) es = unmoved w (batches user slot all k ++ es) (taken k) tt ∙ batches_unmoved k es
 
+  -- they are none of another user's
+  batches_others : (other : List ℕ) (k : ℕ) (es : List Entry) → bytes_eq user other ≡ false → moves_of w other (batches user slot all k ++ es) ≡ moves_of w other es
+  batches_others other zero es not = refl
+  batches_others other (suc k) es not = other_moves w other (taken k) (batches user slot all k ++ es) not ∙ batches_others other k es not
+
   -- the whole session, and its close
   read_legal : (es : List Entry) → Legal w es → Gave es 0 → Legal w (read_out user slot all ++ es)
   read_legal es legal g =
@@ -154,6 +168,10 @@ module _ (w : World) (user : List ℕ) (slot : ℕ) (all : List Cell) where
       let before : List Entry = batches user slot all (suc (length all / 1000)) ++ es in
       ap closed (close_moves w user before slot) ∙ closing_closed (moves_of w user before) slot ∙ ap (λ n. n + 1) (batches_closed (suc (length all / 1000)) es)
 
+  read_others : (other : List ℕ) (es : List Entry) → bytes_eq user other ≡ false → moves_of w other (read_out user slot all ++ es) ≡ moves_of w other es
+  read_others other es not =
+      other_moves w other (record { step = Close user slot; reply = Done }) (batches user slot all (suc (length all / 1000)) ++ es) not ∙ batches_others other (suc (length all / 1000)) es not
+
   read_unmoved : (es : List Entry) → world_after w (read_out user slot all ++ es) ≡ world_after w es
   read_unmoved es = unmoved w (batches user slot all (suc (length all / 1000)) ++ es) (record { step = Close user slot; reply = Done }) tt ∙ batches_unmoved (suc (length all / 1000)) es
 
@@ -172,13 +190,17 @@ is_spent ms o = ap (λ n. nat_le 65536 (n - closed ms) || nat_le 4294967295 n) o
     or_true true = refl
     or_true false = refl
 
--- the script with another core, and so many sessions
-abbrev pub with_sessions : ScriptState → Base → ℕ → ScriptState
-with_sessions s core n = record { core = core; asker = s.asker; opened = n }
+-- the script with another core, and these counts of sessions
+abbrev pub with_sessions : ScriptState → Base → List (List ℕ × ℕ) → ScriptState
+with_sessions s core counts = record { core = core; asker = s.asker; opened = counts }
 
-legal_open : (s : ScriptState) (core : Base) (scan : Scan) (reply : Reply Held) (w : World) (h : List Entry) → s.opened < 4294967295 → Steps s.core (event_by s.asker (Open scan)) reply core → ScriptStands s w h
+-- how many sessions the asker opened
+abbrev pub asked : ScriptState → ℕ
+asked s = count_of s.opened s.asker.user
+
+legal_open : (s : ScriptState) (core : Base) (scan : Scan) (reply : Reply Held) (w : World) (h : List Entry) → asked s < 4294967295 → Steps s.core (event_by s.asker (Open scan)) reply core → ScriptStands s w h
     → IsAnswer w h h (IsEvent (event_by s.asker (Open scan))) (told_of reply) ⊎ IsExhausted (told_of reply)
-legal_open s core scan reply w h lt steps stands = steps.answers w h stands.core h (λ yes. has_room (moves_of w s.asker.user h) s.opened stands.opened stands.closed lt)
+legal_open s core scan reply w h lt steps stands = steps.answers w h stands.core h (λ yes. has_room (moves_of w s.asker.user h) (asked s) (stands.opened s.asker.user) (stands.closed s.asker.user) lt)
 
 -- the session's cells are those that are defined
 scanned_text : (session : Held) (all : List Cell) → session ≡ record { all = all; given = 0 } → scan_text (drop session.given session.all) ≡ scan_text all
@@ -190,9 +212,50 @@ unfolding journal
 opened_scans who w h scan all text is t =
     (ap (λ (xs : List Cell). read_out who.user (opened (moves_of w who.user h)) xs ++ entry (event_by who (Open scan)) (Opened tt) ∷ []) is, t ∙ ap scan_text is)
 
-pub scan_answered : (s : ScriptState) (core : Base) (scan : Scan) (session : Held) → s.opened < 4294967295 → Steps s.core (event_by s.asker (Open scan)) (Opened session) core
-    → Answered s (Ok (line.Scan scan)) (scan_text (drop session.given session.all)) (with_sessions s core (s.opened + 1))
-scan_answered s core scan session lt steps = record {
+-- ---- one more session is counted
+-- a number that rises by one for the user alone
+rises : (user : List ℕ) (after before : List ℕ → ℕ) → after user ≡ before user + 1 → ((other : List ℕ) → bytes_eq user other ≡ false → after other ≡ before other)
+    → (n : List ℕ) → after n ≡ cond (bytes_eq user n) (before n + 1) (before n)
+rises user after before own others n = go (bytes_eq user n) refl
+  where
+    go : (b : Bool) → bytes_eq user n ≡ b → after n ≡ cond b (before n + 1) (before n)
+    go true same = subst (λ (m : List ℕ). after m ≡ before m + 1) ((bytes_eq-Decides user n).0 same) own
+    go false not = others n not
+
+-- counts that rise as the moves do
+counts_rise : (user : List ℕ) (after : List ℕ → ℕ) (before : List ℕ → ℕ) (old new : List (List ℕ × ℕ)) → ((n : List ℕ) → after n ≡ cond (bytes_eq user n) (before n + 1) (before n))
+    → ((n : List ℕ) → before n ≡ count_of old n) → ((n : List ℕ) → count_of new n ≡ cond (bytes_eq user n) (count_of old n + 1) (count_of old n)) → (n : List ℕ) → after n ≡ count_of new n
+counts_rise user after before old new risen same raised n = risen n ∙ ap (λ (k : ℕ). cond (bytes_eq user n) (k + 1) k) (same n) ∙ sym (raised n)
+
+-- the moves of an opened session that was read out
+module _ (w : World) (who : Asker) (h : List Entry) (scan : Scan) where
+  abbrev all_cells : List Cell
+  all_cells = session_list w.base (journal w h) (Open scan)
+
+  abbrev begins : List Entry
+  begins = entry (event_by who (Open scan)) (Opened tt) ∷ h
+
+  abbrev scanned : List Entry
+  scanned = read_out who.user (opened (moves_of w who.user h)) all_cells ++ begins
+
+  others_unmoved : (other : List ℕ) → bytes_eq who.user other ≡ false → moves_of w other scanned ≡ moves_of w other h
+  others_unmoved other not =
+      read_others w who.user (opened (moves_of w who.user h)) all_cells other begins not ∙ other_moves w other (entry (event_by who (Open scan)) (Opened tt)) h not
+
+  scan_opened : (n : List ℕ) → opened (moves_of w n scanned) ≡ cond (bytes_eq who.user n) (opened (moves_of w n h) + 1) (opened (moves_of w n h))
+  scan_opened = rises who.user (λ n. opened (moves_of w n scanned)) (λ n. opened (moves_of w n h))
+      (read_opened w who.user (opened (moves_of w who.user h)) all_cells begins ∙ ap opened (open_moves w who h scan tt) ∙ opening_opened (moves_of w who.user h) all_cells)
+      (λ other not. ap opened (others_unmoved other not))
+
+  scan_closed : (n : List ℕ) → closed (moves_of w n scanned) ≡ cond (bytes_eq who.user n) (closed (moves_of w n h) + 1) (closed (moves_of w n h))
+  scan_closed = rises who.user (λ n. closed (moves_of w n scanned)) (λ n. closed (moves_of w n h))
+      (read_closed w who.user (opened (moves_of w who.user h)) all_cells begins ∙ ap (λ n. n + 1) (ap closed (open_moves w who h scan tt) ∙ opening_closed (moves_of w who.user h) all_cells))
+      (λ other not. ap closed (others_unmoved other not))
+
+pub scan_answered : (s : ScriptState) (core : Base) (counts : List (List ℕ × ℕ)) (scan : Scan) (session : Held) → asked s < 4294967295 → Steps s.core (event_by s.asker (Open scan)) (Opened session) core
+    → ((n : List ℕ) → count_of counts n ≡ cond (bytes_eq s.asker.user n) (count_of s.opened n + 1) (count_of s.opened n))
+    → Answered s (Ok (line.Scan scan)) (scan_text (drop session.given session.all)) (with_sessions s core counts)
+scan_answered s core counts scan session lt steps raised = record {
   asker = refl;
   goes = λ w h stands legal.
       let user : List ℕ = s.asker.user in
@@ -206,12 +269,12 @@ scan_answered s core scan session lt steps = record {
       let held : session_in (moves_of w user first) slot ≡ Some (record { all = all; given = 0 }) = ap (λ ms. session_in ms slot) moved ∙ session_opened (moves_of w user h) all in
       let whole : (out ++ e ∷ []) ++ h ≡ out ++ first = append_assoc out (e ∷ []) h in
       let after : StandsFor (world_of core) (world_after w (out ++ first)) = subst (λ (v : World). StandsFor (world_of core) v) (sym (read_unmoved w user slot all first)) (steps.stands w h stands.core) in
-      let count : opened (moves_of w user (out ++ first)) ≡ s.opened + 1 =
-      read_opened w user slot all first ∙ ap opened moved ∙ opening_opened (moves_of w user h) all ∙ ap (λ n. n + 1) stands.opened in
-      let done : closed (moves_of w user (out ++ first)) ≡ s.opened + 1 =
-      read_closed w user slot all first ∙ ap (λ n. n + 1) (ap closed moved ∙ opening_closed (moves_of w user h) all ∙ stands.closed) in
-      let new : ScriptState = with_sessions s core (s.opened + 1) in
-      let stood : ScriptStands new w (out ++ first) = record { core = after; opened = count; closed = done } in (
+      let new : ScriptState = with_sessions s core counts in
+      let stood : ScriptStands new w (out ++ first) = record {
+        core = after;
+        opened = counts_rise user (λ n. opened (moves_of w n (out ++ first))) (λ n. opened (moves_of w n h)) s.opened counts (scan_opened w s.asker h scan) stands.opened raised;
+        closed = counts_rise user (λ n. closed (moves_of w n (out ++ first))) (λ n. closed (moves_of w n h)) s.opened counts (scan_closed w s.asker h scan) stands.closed raised;
+      } in (
         out ++ e ∷ [],
         (Opened tt, opened_scans s.asker w h scan all (scan_text (drop session.given session.all)) refl (scanned_text session all (steps.hands w h stands.core))),
         subst (λ (es : List Entry). Legal w es) (sym whole) (read_legal w user slot all first begun held),
@@ -221,7 +284,7 @@ scan_answered s core scan session lt steps = record {
 
 -- ---- what isn't opened
 -- an Open is answered so, or refused
-open_told : (o : Option Refusal) (scan : Scan) → (told o (granted (Open scan)) ≡ Opened tt) ⊎ ((r : Refusal) × (told o (granted (Open scan)) ≡ Refused r))
+open_told : (o : Option Refusal) (scan : Scan) → (told o (Opened tt) ≡ Opened tt) ⊎ ((r : Refusal) × (told o (Opened tt) ≡ Refused r))
 open_told None scan = inl refl
 open_told (Some r) scan = inr (r, refl)
 
@@ -235,7 +298,7 @@ not_done w h who scan reply (inl is) =
     let o : Option Refusal = refusal_of (standing w.base (journal w h) who.user) (exists_in w.base (journal w h) (user_named (Open scan))) now who.user (Open scan) in
     subst (λ (t : Told). (t ≡ Opened tt) ⊎ ((r : Refusal) × (t ≡ Refused r))) (sym is) (go (is_full (moves_of w who.user h)) o)
   where
-    go : (b : Bool) (o : Option Refusal) → (cond (true && b) (Refused (TooLarge Sessions)) (told o (granted (Open scan))) ≡ Opened tt) ⊎ ((r : Refusal) × (cond (true && b) (Refused (TooLarge Sessions)) (told o (granted (Open scan))) ≡ Refused r))
+    go : (b : Bool) (o : Option Refusal) → (cond (true && b) (Refused (TooLarge Sessions)) (told o (Opened tt)) ≡ Opened tt) ⊎ ((r : Refusal) × (cond (true && b) (Refused (TooLarge Sessions)) (told o (Opened tt)) ≡ Refused r))
     go true o = inr (TooLarge Sessions, refl)
     go false o = open_told o scan
 
@@ -245,10 +308,10 @@ with_new_core s core = record s { core = core }
 refused_stands : (s : ScriptState) (core : Base) (scan : Scan) (r : Refusal) (w : World) (h : List Entry) → StandsFor (world_of core) (world_after w (entry (event_by s.asker (Open scan)) (Refused r) ∷ h)) → ScriptStands s w h
     → ScriptStands (with_new_core s core) w (entry (event_by s.asker (Open scan)) (Refused r) ∷ h)
 refused_stands s core scan r w h after stands =
-    let moves : moves_of w s.asker.user (entry (event_by s.asker (Open scan)) (Refused r) ∷ h) ≡ moves_of w s.asker.user h = refused_moves w s.asker h scan r in
-    record { core = after; opened = ap opened moves ∙ stands.opened; closed = ap closed moves ∙ stands.closed }
+    let moves = λ (n : List ℕ). refused_moves w n s.asker h scan r in
+    record { core = after; opened = λ n. ap opened (moves n) ∙ stands.opened n; closed = λ n. ap closed (moves n) ∙ stands.closed n }
 
-refused_answered : (s : ScriptState) (core : Base) (scan : Scan) (r : Refusal) → s.opened < 4294967295 → Steps s.core (event_by s.asker (Open scan)) (Refused r) core
+refused_answered : (s : ScriptState) (core : Base) (scan : Scan) (r : Refusal) → asked s < 4294967295 → Steps s.core (event_by s.asker (Open scan)) (Refused r) core
     → Answered s (Ok (line.Scan scan)) (refusal_text r) (with_new_core s core)
 refused_answered s core scan r lt steps = record {
   asker = refl;
@@ -266,6 +329,7 @@ Opens Done = ⊥
 Opens (Refused r) = Unit {0}
 Opens (Opened u) = Unit {0}
 Opens (Batch cells) = ⊥
+Opens (OwnRights rights) = ⊥
 
 opens : (reply : Told) → (reply ≡ Opened tt) ⊎ ((r : Refusal) × (reply ≡ Refused r)) → Opens reply
 opens reply (inl e) = subst Opens (sym e) tt
@@ -276,12 +340,13 @@ never : (s : ScriptState) (core : Base) (scan : Scan) (text : List ℕ) → ((w 
 never s core scan text nowhere = record { asker = refl; goes = λ w h stands legal. absurd (nowhere w h stands) }
 
 -- each reply but an opened session
-pub kept_answered : (s : ScriptState) (core : Base) (scan : Scan) (reply : Reply Held) → s.opened < 4294967295 → Steps s.core (event_by s.asker (Open scan)) reply core → ((session : Held) → reply ≡ Opened session → ⊥)
+pub kept_answered : (s : ScriptState) (core : Base) (scan : Scan) (reply : Reply Held) → asked s < 4294967295 → Steps s.core (event_by s.asker (Open scan)) reply core → ((session : Held) → reply ≡ Opened session → ⊥)
     → Answered s (Ok (line.Scan scan)) (reply_text (told_of reply)) (with_new_core s core)
 kept_answered s core scan (Refused r) lt steps other = refused_answered s core scan r lt steps
 kept_answered s core scan (Opened session) lt steps other = absurd (other session refl)
 kept_answered s core scan Done lt steps other = never s core scan (reply_text Done) (λ w h stands. opens Done (not_done w h s.asker scan Done (legal_open s core scan Done w h lt steps stands)))
 kept_answered s core scan (Batch cells) lt steps other = never s core scan (reply_text (Batch cells)) (λ w h stands. opens (Batch cells) (not_done w h s.asker scan (Batch cells) (legal_open s core scan (Batch cells) w h lt steps stands)))
+kept_answered s core scan (OwnRights rights) lt steps other = never s core scan (reply_text (OwnRights rights)) (λ w h stands. opens (OwnRights rights) (not_done w h s.asker scan (OwnRights rights) (legal_open s core scan (OwnRights rights) w h lt steps stands)))
 
 -- ---- a full list of sessions
 spent_right : (w : World) (h : List Entry) (who : Asker) (scan : Scan) → is_full (moves_of w who.user h) ≡ true → IsAnswer w h h (IsEvent (event_by who (Open scan))) (Refused (TooLarge Sessions))
@@ -290,7 +355,7 @@ spent_right w h who scan full =
     let event : Event = event_by who (Open scan) in
     sym (ap (λ (b : Bool). cond (true && b) (Refused (TooLarge Sessions)) (event_answer w.base (journal w h) (clock_at (clock_of w h) (IsEvent event)) who.user (Open scan))) full)
 
-pub spent_answered : (s : ScriptState) (scan : Scan) → s.opened ≡ 4294967295 → Answered s (Ok (line.Scan scan)) (refusal_text (TooLarge Sessions)) s
+pub spent_answered : (s : ScriptState) (scan : Scan) → asked s ≡ 4294967295 → Answered s (Ok (line.Scan scan)) (refusal_text (TooLarge Sessions)) s
 spent_answered s scan spent = record {
   asker = refl;
   goes = λ w h stands legal.
@@ -298,7 +363,42 @@ spent_answered s scan spent = record {
       let after : StandsFor (world_of s.core) (world_after w (e ∷ h)) = subst (λ (v : World). StandsFor (world_of s.core) v) (sym (unmoved w h e tt)) stands.core in (
         e ∷ [],
         (Refused (TooLarge Sessions), (refl, refl)),
-        (legal, inl (spent_right w h s.asker scan (is_spent (moves_of w s.asker.user h) (stands.opened ∙ spent)))),
+        (legal, inl (spent_right w h s.asker scan (is_spent (moves_of w s.asker.user h) (stands.opened s.asker.user ∙ spent)))),
         refused_stands s s.core scan (TooLarge Sessions) w h after stands,
       );
+}
+
+-- ---- no memory to count a session
+pub starved_answered : (s : ScriptState) (scan : Scan) → Answered s (Ok (line.Scan scan)) (refusal_text NoMemory) s
+starved_answered s scan = record {
+  asker = refl;
+  goes = λ w h stands legal.
+      let e : Entry = entry (event_by s.asker (Open scan)) (Refused NoMemory) in
+      let after : StandsFor (world_of s.core) (world_after w (e ∷ h)) = subst (λ (v : World). StandsFor (world_of s.core) v) (sym (unmoved w h e tt)) stands.core in (
+        e ∷ [],
+        (Refused NoMemory, (refl, refl)),
+        (legal, inr (inl refl)),
+        refused_stands s s.core scan NoMemory w h after stands,
+      );
+}
+
+-- ---- the same counts kept otherwise
+-- the script with these counts
+abbrev pub with_counts : ScriptState → List (List ℕ × ℕ) → ScriptState
+with_counts s counts = record s { opened = counts }
+
+pub recounted : (s : ScriptState) (counts : List (List ℕ × ℕ)) (said : Result Line Stop) (text : List ℕ) (new : ScriptState) → ((n : List ℕ) → count_of counts n ≡ count_of s.opened n)
+    → Answered (with_counts s counts) said text new → Answered s said text new
+recounted s counts said text new same answered = record {
+  asker = answered.asker;
+  goes = λ w h stands legal. answered.goes w h (record { core = stands.core; opened = λ n. stands.opened n ∙ sym (same n); closed = λ n. stands.closed n ∙ sym (same n) }) legal;
+}
+
+pub kept_counts : (s : ScriptState) (counts : List (List ℕ × ℕ)) (said : Result Line Stop) (text : List ℕ) → ((n : List ℕ) → count_of counts n ≡ count_of s.opened n)
+    → Answered s said text s → Answered s said text (with_counts s counts)
+kept_counts s counts said text same answered = record {
+  asker = answered.asker;
+  goes = λ w h stands legal.
+      let x = answered.goes w h stands legal in
+      (x.0, x.1, x.2, record { core = x.3.core; opened = λ n. x.3.opened n ∙ sym (same n); closed = λ n. x.3.closed n ∙ sym (same n) });
 }

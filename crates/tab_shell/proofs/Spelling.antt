@@ -1,10 +1,12 @@
 -- Texts of many things, one after another.
-use Rattle.std.proofs.Common.{◌≡◌, ℕ, suc, ◌+◌, ◌<◌, List, [], ◌∷◌, ◌++◌, length, get_or, take, drop, map, refl, sym, ap, ◌∙◌, subst, arith, append_assoc, append-nil, Option, take-append-drop, drop-cons}
+use Rattle.std.proofs.Common.{◌≡◌, ℕ, suc, Bool, true, false, cond, ◌+◌, ◌<◌, List, [], ◌∷◌, ◌++◌, length, get_or, take, drop, map, refl, sym, ap, ◌∙◌, subst, arith, append_assoc, append-nil, Option, take-append-drop, drop-cons}
+use Rattle.std.specs.Prelude.{filter}
 use Rattle.std.specs.List.{flat_map}
 use Rattle.std.proofs.Math.Seq.{take-suc}
 use Rattle.tab_io.specs.Streams.{HasPut, AppendsFront}
 use Rattle.tab_io.proofs.Putting.{put_more, front_more, front_longer}
 use Rattle.tab_text.specs.Lines.{after_spaces}
+use Rattle.tab_shell.specs.Texts.{held_word}
 
 each-append : {X : Type 0} (f : X → List ℕ) (a b : List X) → flat_map f (a ++ b) ≡ flat_map f a ++ flat_map f b
 each-append f [] b = refl
@@ -41,3 +43,12 @@ each_front f c h c1 h1 c2 xs i d lt p q =
 pub spaced_each : {X : Type 0} (f : X → List ℕ) (xs : List X) → flat_map (λ x. 32 ∷ f x) xs ≡ after_spaces (map f xs)
 spaced_each f [] = refl
 spaced_each f (x ∷ xs) = ap (λ t. 32 ∷ (f x ++ t)) (spaced_each f xs)
+
+-- the words of what is held, behind spaces
+pub held_each : {X : Type 0} (c : X → Bool) (f : X → List ℕ) (xs : List X) → flat_map (λ x. held_word (c x) (f x)) xs ≡ after_spaces (map f (filter c xs))
+held_each c f [] = refl
+held_each {X} c f (x ∷ xs) = go (c x) (held_each c f xs)
+  where
+    go : (b : Bool) → flat_map (λ y. held_word (c y) (f y)) xs ≡ after_spaces (map f (filter c xs)) → held_word b (f x) ++ flat_map (λ y. held_word (c y) (f y)) xs ≡ after_spaces (map f (cond b (x ∷ filter c xs) (filter c xs)))
+    go true ih = ap (λ t. 32 ∷ (f x ++ t)) ih
+    go false ih = ih

@@ -46,6 +46,7 @@ TakesOn r p r' p' = (todo : List ℕ) → Ahead r p todo → Ahead r' p' todo
 -- what was read isn't an act that opens a session and keeps it
 abbrev pub OpensNone : Result Line Stop → Type 0
 OpensNone (Ok line.Blank) = Unit {0}
+OpensNone (Ok (line.As user)) = Unit {0}
 OpensNone (Ok (line.At moment)) = Unit {0}
 OpensNone (Ok (line.Act act)) = is_open act ≡ false
 OpensNone (Ok (line.Scan scan)) = Unit {0}

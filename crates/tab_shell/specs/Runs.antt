@@ -8,7 +8,7 @@ use Rattle.tab_history.specs.declared.event.Act.TheVariants.{Open}
 use Rattle.tab_history.specs.declared.event.Event.{Event}
 use Rattle.tab_history.specs.declared.event.Step.TheVariants.{Event as IsEvent, Next, Close}
 use Rattle.tab_history.specs.declared.reply.Refusal.TheVariants as refusal
-use Rattle.tab_history.specs.declared.reply.Reply.TheVariants.{Done, Refused, Opened, Batch}
+use Rattle.tab_history.specs.declared.reply.Reply.TheVariants.{Done, Refused, Opened, Batch, Rights as OwnRights}
 use Rattle.tab_history.specs.Bases.{Base}
 use Rattle.tab_history.specs.Answers.{Told, session_list}
 use Rattle.tab_history.specs.Sessions.{opened, closed}
@@ -21,6 +21,7 @@ use Rattle.tab_lines.specs.declared.stop.Stop.{Stop}
 use Rattle.tab_lines.specs.declared.stop.Stop.TheVariants as stop
 use Rattle.tab_lines.specs.Gives.{Gives}
 use Rattle.tab_lines.specs.Lines.{line_of}
+use Rattle.tab_shell.specs.Counts.{count_of}
 use Rattle.tab_shell.specs.Texts.{reply_text, refusal_text, fault_text, scan_text}
 
 -- ---- what a script holds between lines
@@ -29,21 +30,21 @@ pub record Asker : Type 0 where
   pub user : List ℕ
   pub moment : ℤ
 
--- the core, who asks, and how many sessions its lines opened for him, and closed
+-- the core, who asks, and how many sessions its lines opened for each user, and closed
 pub record ScriptState : Type 0 where
   pub core : Base
   pub asker : Asker
-  pub opened : ℕ
+  pub opened : List (List ℕ × ℕ)
 
 -- a script over this core: root asks at moment 0, and no session was opened
 abbrev pub new_script : Base → ScriptState
-new_script core = record { core = core; asker = record { user = root; moment = pos 0 }; opened = 0 }
+new_script core = record { core = core; asker = record { user = root; moment = pos 0 }; opened = [] }
 
--- The script stands for the history h of w: its core does, and h opened and closed as many sessions of its user as the script did.
+-- The script stands for the history h of w: its core does, and h opened and closed as many sessions of each user as the script did.
 pub record ScriptStands (s : ScriptState) (w : World) (h : List Entry) : Type 0 where
   pub core : StandsFor (world_of s.core) (world_after w h)
-  pub opened : opened (moves_of w s.asker.user h) ≡ s.opened
-  pub closed : closed (moves_of w s.asker.user h) ≡ s.opened
+  pub opened : (user : List ℕ) → opened (moves_of w user h) ≡ count_of s.opened user
+  pub closed : (user : List ℕ) → closed (moves_of w user h) ≡ count_of s.opened user
 
 -- ---- the steps of one line
 -- what he asks
@@ -75,10 +76,12 @@ Scans who w h event (Opened session) es text =
     (es ≡ read_out who.user (opened (moves_of w who.user h)) all ++ entry event (Opened session) ∷ []) × (text ≡ scan_text all)
 Scans who w h event Done es text = ⊥
 Scans who w h event (Batch cells) es text = ⊥
+Scans who w h event (OwnRights rights) es text = ⊥
 
 -- after the history h of w the line makes these entries, the last one first, and prints this text
 abbrev pub Does : Asker → World → List Entry → Line → List Entry → List ℕ → Type 0
 Does who w h line.Blank es text = (es ≡ []) × (text ≡ [])
+Does who w h (line.As user) es text = (es ≡ []) × (text ≡ [])
 Does who w h (line.At moment) es text = (es ≡ []) × (text ≡ [])
 Does who w h (line.Act act) es text = (reply : Told) × (es ≡ entry (event_by who act) reply ∷ []) × (text ≡ reply_text reply)
 Does who w h (line.Scan scan) es text = (reply : Told) × Scans who w h (event_by who (Open scan)) reply es text
@@ -91,6 +94,7 @@ Answers who w h (Err stop.NoMemory) es text = (es ≡ []) × (text ≡ refusal_t
 
 -- who asks after the line
 abbrev pub asker_after : Asker → Result Line Stop → Asker
+asker_after who (Ok (line.As user)) = record who { user = user }
 asker_after who (Ok (line.At moment)) = record who { moment = moment }
 asker_after who (Ok line.Blank) = who
 asker_after who (Ok (line.Act act)) = who

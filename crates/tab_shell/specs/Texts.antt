@@ -1,5 +1,5 @@
 -- The lines of a text, and the texts of replies.
-use Rattle.std.specs.Prelude.{ℕ, List, [], ◌∷◌, ◌++◌, map, codes, if◌then◌else◌}
+use Rattle.std.specs.Prelude.{ℕ, Bool, cond, List, [], ◌∷◌, ◌++◌, map, codes, if◌then◌else◌}
 use Rattle.std.specs.List.{flat_map}
 use Rattle.std.specs.Fmt.{decimal}
 use Rattle.tab_key.specs.Records.{Cell}
@@ -7,11 +7,16 @@ use Rattle.tab_key.specs.declared.part.Part.{Part}
 use Rattle.tab_key.specs.declared.part.Part.TheVariants as part
 use Rattle.tab_history.specs.declared.reply.Refusal.{Refusal}
 use Rattle.tab_history.specs.declared.reply.Refusal.TheVariants as refusal
-use Rattle.tab_history.specs.declared.reply.Reply.TheVariants.{Done, Refused, Opened, Batch}
+use Rattle.tab_history.specs.declared.reply.Reply.TheVariants.{Done, Refused, Opened, Batch, Rights as OwnRights}
+use Rattle.tab_history.specs.declared.rights.Rights.{Rights}
 use Rattle.tab_history.specs.Answers.{Told}
 use Rattle.tab_lines.specs.Words.{parts_at, is_filled}
 use Rattle.tab_text.specs.Words.{word}
-use Rattle.tab_text.specs.Lines.{spaced, cell_text}
+use Rattle.tab_text.specs.Lines.{spaced, after_spaces, cell_text}
+use Rattle.tab_policy.specs.declared.sets.SystemPermissions.{SystemPermissions}
+use Rattle.tab_policy.specs.declared.sets.TablePermissions.{TablePermissions}
+use Rattle.tab_policy.specs.Sets.{system_members, table_members}
+use Rattle.tab_policy.specs.Permissions.{system_name, table_name}
 use Rattle.tab_rules.specs.declared.failing.Failing.{Failing}
 use Rattle.tab_rules.specs.Constraints.{constraint_number}
 use Rattle.tab_policy.specs.declared.permission.SystemPermission.{SystemPermission}
@@ -85,14 +90,36 @@ refusal_words (refusal.TimestampNotAllowed update) = codes "7" ∷ codes "Timest
 refusal_words refusal.EmptyMutation = codes "8" ∷ codes "EmptyMutation" ∷ []
 refusal_words (refusal.TooLarge p) = codes "9" ∷ codes "TooLarge" ∷ part_name p ∷ []
 refusal_words (refusal.TableExists t) = codes "10" ∷ codes "TableExists" ∷ word t ∷ []
+refusal_words (refusal.UserExists user) = codes "11" ∷ codes "UserExists" ∷ word user ∷ []
 refusal_words (refusal.NoUser user) = codes "12" ∷ codes "NoUser" ∷ word user ∷ []
 refusal_words refusal.BadRange = codes "13" ∷ codes "BadRange" ∷ []
 refusal_words (refusal.NoSession slot) = codes "15" ∷ codes "NoSession" ∷ decimal slot ∷ []
 refusal_words refusal.NoMemory = codes "17" ∷ codes "NoMemory" ∷ []
+refusal_words refusal.RootFixed = codes "18" ∷ codes "RootFixed" ∷ []
+refusal_words refusal.GrantInvalid = codes "19" ∷ codes "GrantInvalid" ∷ []
 refusal_words (refusal.BelowHorizon update) = codes "22" ∷ codes "BelowHorizon" ∷ decimal update ∷ []
 
 abbrev pub refusal_text : Refusal → List ℕ
 refusal_text r = spaced (codes "refused" ∷ refusal_words r)
+
+-- the permissions of a set, in their order
+unfoldable pub system_text : SystemPermissions → List ℕ
+system_text held = codes "system" ++ (after_spaces (map system_name (system_members held)) ++ 10 ∷ [])
+
+unfoldable pub table_text : TablePermissions → List ℕ
+table_text held = codes "table" ++ (after_spaces (map table_name (table_members held)) ++ 10 ∷ [])
+
+-- a word behind a space, where something is held
+abbrev pub held_word : Bool → List ℕ → List ℕ
+held_word held w = cond held (32 ∷ w) []
+
+-- an authorization
+abbrev pub auth_text : List ℕ → List ℕ
+auth_text term = spaced (codes "auth" ∷ word term ∷ [])
+
+-- a user's own rights: his system permissions, those on the table, his authorizations, and an end
+abbrev pub rights_text : Rights → List ℕ
+rights_text r = system_text r.system ++ (table_text r.table ++ (flat_map auth_text r.authorizations ++ codes "end\n"))
 
 -- The text of a reply. The number of an opened session is printed by the line that keeps it.
 abbrev pub reply_text : Told → List ℕ
@@ -100,6 +127,7 @@ reply_text Done = codes "ok\n"
 reply_text (Refused r) = refusal_text r
 reply_text (Opened session) = []
 reply_text (Batch cells) = flat_map cell_text cells
+reply_text (OwnRights rights) = rights_text rights
 
 -- a line outside the grammar
 abbrev pub fault_text : List ℕ

@@ -4,7 +4,9 @@
 //!
 //! | File | What |
 //! |---|---|
+//! | `rights` | the text of one's own rights |
 //! | `script` | a core that answers lines: one line, the lines that are here, a whole input |
+//! | `counts` | how many sessions were opened for each user |
 //! | `pending` | the line that has begun, and how the next one is taken |
 //! | `reply` | the texts of replies |
 //! | `refusal` | the texts of refusals |
@@ -13,9 +15,11 @@
 //! history that the core stands for, `specs/Going` how far a run has come, also where the reader or the writer failed.
 #![tactic(auto)]
 
+mod counts;
 mod pending;
 mod refusal;
 mod reply;
+mod rights;
 mod script;
 
 pub use reply::write_reply;

@@ -58,6 +58,12 @@ pub fn put_refusal<W: Output>(output: &mut W, refusal: &Refusal) -> Result<(), W
             b"TableExists",
             Word::Bytes(table.as_bytes()),
         ),
+        Refusal::UserExists(user) => put_named(
+            output,
+            b"11",
+            b"UserExists",
+            Word::Bytes(user.as_bytes()),
+        ),
         Refusal::NoUser(user) => put_named(output, b"12", b"NoUser", Word::Bytes(user.as_bytes())),
         Refusal::BadRange => put_bare(output, b"13", b"BadRange"),
         Refusal::NoSession(slot) => put_named(
@@ -67,6 +73,8 @@ pub fn put_refusal<W: Output>(output: &mut W, refusal: &Refusal) -> Result<(), W
             Word::Number(*slot as u64),
         ),
         Refusal::NoMemory => put_bare(output, b"17", b"NoMemory"),
+        Refusal::RootFixed => put_bare(output, b"18", b"RootFixed"),
+        Refusal::GrantInvalid => put_bare(output, b"19", b"GrantInvalid"),
         Refusal::BelowHorizon(update) => put_named(
             output,
             b"22",

@@ -6,6 +6,7 @@ ghost use Rattle.tab_text.specs.Lines.{cell_text};
 ghost use Rattle.tab_shell.specs.Texts.{reply_text, scan_text};
 
 use crate::refusal::put_refusal;
+use crate::rights::put_rights;
 use tab_history::Reply;
 use tab_io::{Output, WriteFault};
 use tab_key::Cell;
@@ -13,7 +14,8 @@ use tab_text::put_cell;
 
 /// Writes the text of the reply. It takes no memory.
 ///
-/// `ok`; `refused`, the refusal's number, its name and its words; or a batch's cells, each on a line of its own. An
+/// `ok`; `refused`, the refusal's number, its name and its words; a batch's cells, each on a line of its own; or one's own
+/// rights, a line for each kind of permission and for each authorization, and `end`. An
 /// opened session has no text of its own: the line that keeps it prints its number. After an error a beginning of the
 /// text may have been written.
 pub fn write_reply<W: Output>(output: &mut W, reply: &Reply) -> Result<(), WriteFault>
@@ -25,6 +27,7 @@ pub fn write_reply<W: Output>(output: &mut W, reply: &Reply) -> Result<(), Write
         Reply::Refused(refusal) => put_refusal(output, refusal),
         Reply::Opened(_) => output.put(b""),
         Reply::Batch(cells) => put_cells(output, cells.as_slice()),
+        Reply::Rights(rights) => put_rights(output, rights),
     }
 }
 

@@ -1,17 +1,20 @@
 //! Scripts: a core that answers lines.
-ghost use Rattle.std.specs.Prelude.{◌≡◌, [], Some, false, IfErr, IfSome, OnOk, OnErr};
+ghost use Rattle.std.specs.Prelude.{◌≡◌, ◌<◌, [], Some, true, false, is_some, IfErr, IfSome, OnOk, OnErr};
 ghost use Rattle.tab_history.specs.Answers.{told_of};
 ghost use Rattle.tab_io.specs.Streams.{Puts, FailsByFault};
 ghost use Rattle.tab_shell.specs.Texts.{reply_text};
 ghost use Rattle.tab_policy.specs.Roots.{root};
 ghost use Rattle.tab_history.specs.Answers.{is_open};
+ghost use Rattle.tab_policy.specs.Entries.{at_name};
+ghost use Rattle.tab_shell.specs.Counts.{count_of};
 ghost use Rattle.tab_shell.specs.Runs.{event_by, new_script};
 ghost use Rattle.tab_shell.specs.Ahead.{OpensNone};
 ghost use Rattle.tab_shell.specs.Going.{Prints, PrintsFront, Goes, Fails, Stopped, Ends, StopsAfter, FailedSide};
 
+use crate::counts::Counts;
 use crate::pending::{Pending, take_line};
 use crate::reply::{put_scan, write_reply};
-use std::alloc::Global;
+use std::alloc::{AllocError, Global};
 use std::marker::Model;
 use tab_core::{Core, Session, told};
 use tab_history::{Act, Event, Refusal, Reply, Scan};
@@ -37,16 +40,17 @@ pub enum ScriptFault {
     Write,
 }
 
-/// A core, who asks it, and how many sessions its lines have opened.
+/// A core, who asks it, and how many sessions its lines have opened for each user.
 ///
-/// Lines are asked by one user at one moment, `root` at 0 until a line says otherwise.
+/// Lines are asked by one user at one moment, `root` at 0 until a line says otherwise. A line may name a user who isn't there:
+/// what he then asks is refused.
 #[derive(Drop)]
 pub struct Script {
     alloc: Global,
     core: Core,
     user: Name,
     moment: i64,
-    opened: u32,
+    opened: Counts,
 }
 
 impl Model for Script {
@@ -83,7 +87,7 @@ impl Script {
             core,
             user: root_name(),
             moment: 0,
-            opened: 0,
+            opened: Counts::new(alloc),
         }
     }
 
@@ -106,12 +110,25 @@ impl Script {
         ensures faults { FailsByFault result (W.faults output.old) (W.faults output.new) (W.budget output.new) }
     {
         match said {
-            Ok(Line::Blank) => self.says_nothing(output),
-            Ok(Line::At(moment)) => self.sets_moment(moment, output),
-            Ok(Line::Act(act)) => self.act(act, output),
-            Ok(Line::Scan(scan)) => self.scan(scan, output),
+            Ok(line) => self.does(line, output),
             Err(Stop::Fault) => self.faults(output),
             Err(Stop::NoMemory) => self.lacks_memory(output),
+        }
+    }
+
+    // Does what a line of the grammar says.
+    fn does<W: Output>(&mut self, line: Line, output: &mut W) -> Result<(), WriteFault>
+        requires { OpensNone (Ok line) }
+        ensures ok { OnOk result (Prints self.old (Ok line) self.new (W.contents output.old) (W.held output.old) (W.contents output.new) (W.held output.new)) }
+        ensures err { OnErr result (PrintsFront self.old (Ok line) self.new (W.contents output.old) (W.held output.old) (W.contents output.new)) }
+        ensures faults { FailsByFault result (W.faults output.old) (W.faults output.new) (W.budget output.new) }
+    {
+        match line {
+            Line::Blank => self.says_nothing(output),
+            Line::As(user) => self.sets_user(user, output),
+            Line::At(moment) => self.sets_moment(moment, output),
+            Line::Act(act) => self.act(act, output),
+            Line::Scan(scan) => self.scan(scan, output),
         }
     }
 
@@ -121,6 +138,15 @@ impl Script {
         ensures err { OnErr result (PrintsFront self.old (Ok Line.Blank) self.new (W.contents output.old) (W.held output.old) (W.contents output.new)) }
         ensures faults { FailsByFault result (W.faults output.old) (W.faults output.new) (W.budget output.new) }
     {
+        Ok(())
+    }
+
+    fn sets_user<W: Output>(&mut self, user: Name, output: &mut W) -> Result<(), WriteFault>
+        ensures ok { OnOk result (Prints self.old (Ok (Line.As user)) self.new (W.contents output.old) (W.held output.old) (W.contents output.new) (W.held output.new)) }
+        ensures err { OnErr result (PrintsFront self.old (Ok (Line.As user)) self.new (W.contents output.old) (W.held output.old) (W.contents output.new)) }
+        ensures faults { FailsByFault result (W.faults output.old) (W.faults output.new) (W.budget output.new) }
+    {
+        self.user = user;
         Ok(())
     }
 
@@ -174,20 +200,32 @@ impl Script {
         }
     }
 
-    // One line and several steps: an Open, batches until one isn't full, and a Close. All cells of the session are
-    // written as they lie in it, which is what its batches give.
+    // One line and several steps: an Open, batches until one isn't full, and a Close.
     fn scan<W: Output>(&mut self, scan: Scan, output: &mut W) -> Result<(), WriteFault>
         ensures ok { OnOk result (Prints self.old (Ok (Line.Scan scan)) self.new (W.contents output.old) (W.held output.old) (W.contents output.new) (W.held output.new)) }
         ensures err { OnErr result (PrintsFront self.old (Ok (Line.Scan scan)) self.new (W.contents output.old) (W.held output.old) (W.contents output.new)) }
         ensures faults { FailsByFault result (W.faults output.old) (W.faults output.new) (W.budget output.new) }
     {
-        if self.opened == u32::MAX {
-            return write_reply(output, &Reply::Refused(Refusal::TooLarge(Part::Sessions)));
+        match self.opened.ready(self.user) {
+            Ok(u32::MAX) => write_reply(output, &Reply::Refused(Refusal::TooLarge(Part::Sessions))),
+            Ok(_) => self.open(scan, output),
+            Err(AllocError) => write_reply(output, &Reply::Refused(Refusal::NoMemory)),
         }
+    }
+
+    // The same where one more session can be counted. All cells of the session are written as they lie in it, which is
+    // what its batches give.
+    fn open<W: Output>(&mut self, scan: Scan, output: &mut W) -> Result<(), WriteFault>
+        requires there { is_some (at_name self.old.asker.user self.old.opened) ≡ true }
+        requires few { count_of self.old.opened self.old.asker.user < 4294967295 }
+        ensures ok { OnOk result (Prints self.old (Ok (Line.Scan scan)) self.new (W.contents output.old) (W.held output.old) (W.contents output.new) (W.held output.new)) }
+        ensures err { OnErr result (PrintsFront self.old (Ok (Line.Scan scan)) self.new (W.contents output.old) (W.held output.old) (W.contents output.new)) }
+        ensures faults { FailsByFault result (W.faults output.old) (W.faults output.new) (W.budget output.new) }
+    {
         let event = self.event(Act::Open(scan));
         match self.core.step(self.alloc, event) {
             Reply::Opened(session) => {
-                self.opened += 1;
+                self.opened.raise(&self.user);
                 put_scan(output, session.rest())
             }
             reply => write_told(output, reply),

@@ -6,6 +6,7 @@ use tab_history::{Act, Scan, TimeMode};
 use tab_key::{Bound, Bounds, ByteString, Column, Items, Name};
 use tab_label::AuthSet;
 use tab_mutation::Mutation;
+use tab_policy::{Permission, SystemPermission, TablePermission};
 use tab_rules::Constraint;
 
 // What is asked.
@@ -21,6 +22,18 @@ pub enum Ask {
     Puts(&'static [&'static [u8]]),
     // A mutation of a row of this many bytes and this many updates.
     Sized(usize, usize),
+    // That the table goes.
+    Drop,
+    // That there is a user of this name, and that there is none.
+    MakeUser(&'static [u8]),
+    DropUser(&'static [u8]),
+    // That this user gets a system permission, or a permission on the table, or loses it.
+    Grant(&'static [u8], SystemPermission),
+    GrantOn(&'static [u8], TablePermission),
+    Revoke(&'static [u8], SystemPermission),
+    RevokeOn(&'static [u8], TablePermission),
+    // What the caller may do and holds.
+    Rights,
     // That values are numerals.
     Numeric,
     // That this user holds this one authorization.
@@ -45,14 +58,43 @@ pub fn act_of(alloc: Global, ask: Ask) -> Result<Act, Fail> {
     let table = name(b"t")?;
     match ask {
         Ask::Create(time, versions) => Ok(Act::CreateTable(table, time, versions)),
+        Ask::Drop => Ok(Act::DropTable(table)),
+        Ask::Rights => Ok(Act::Rights(table)),
         Ask::Numeric => Ok(Act::SetConstraints(table, numeric(alloc)?)),
         Ask::Auths(user, term) => Ok(Act::SetAuths(name(user)?, one_term(alloc, term)?)),
+        Ask::MakeUser(_)
+        | Ask::DropUser(_)
+        | Ask::Grant(_, _)
+        | Ask::GrantOn(_, _)
+        | Ask::Revoke(_, _)
+        | Ask::RevokeOn(_, _) => user_act(table, ask),
         Ask::Put(_, _, _) | Ask::Delete(_) | Ask::Puts(_) | Ask::Sized(_, _) => {
             Ok(Act::Write(table, mutation_of(alloc, ask)?))
         }
         Ask::Scan(_) | Ask::ScanBy(_) | Ask::Rows(_, _) | Ask::Columns(_) => {
             Ok(Act::Open(scan_of(alloc, table, ask)?))
         }
+    }
+}
+
+// What is asked of a user; his rights on the table, where it is something else.
+fn user_act(table: Name, ask: Ask) -> Result<Act, Fail> {
+    match ask {
+        Ask::MakeUser(user) => Ok(Act::CreateUser(name(user)?)),
+        Ask::DropUser(user) => Ok(Act::DropUser(name(user)?)),
+        Ask::Grant(user, permission) => {
+            Ok(Act::Grant(name(user)?, Permission::OfSystem(permission)))
+        }
+        Ask::GrantOn(user, permission) => {
+            Ok(Act::Grant(name(user)?, Permission::OfTable(permission, table)))
+        }
+        Ask::Revoke(user, permission) => {
+            Ok(Act::Revoke(name(user)?, Permission::OfSystem(permission)))
+        }
+        Ask::RevokeOn(user, permission) => {
+            Ok(Act::Revoke(name(user)?, Permission::OfTable(permission, table)))
+        }
+        _ => Ok(Act::Rights(table)),
     }
 }
 

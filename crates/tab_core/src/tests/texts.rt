@@ -1,7 +1,7 @@
 //! Replies as text.
 
 use std::alloc::{AllocError, Global};
-use tab_history::{Refusal, Reply};
+use tab_history::{Refusal, Reply, Rights};
 use tab_key::{Cell, Part};
 use tab_policy::{Permission, SystemPermission};
 use tab_rules::Failing;
@@ -13,7 +13,22 @@ pub fn reply_text(alloc: Global, reply: &Reply) -> Result<Vec<u8>, AllocError> {
         Reply::Refused(refusal) => refusal_text(alloc, refusal),
         Reply::Opened(()) => Vec::from_slice(alloc, b"opened"),
         Reply::Batch(cells) => values(alloc, cells.as_slice()),
+        Reply::Rights(rights) => rights_text(alloc, rights),
     }
+}
+
+// How many permissions of each kind are held, and how many authorizations.
+fn rights_text(alloc: Global, rights: &Rights) -> Result<Vec<u8>, AllocError> {
+    let system = rights.system.members(alloc)?.len();
+    let table = rights.table.members(alloc)?.len();
+    let counts = [
+        digit(system as u64),
+        b' ',
+        digit(table as u64),
+        b' ',
+        digit(rights.authorizations.len() as u64),
+    ];
+    joined(alloc, b"rights ", &counts)
 }
 
 // The values of the cells, each with its timestamp's last digit behind it, and a blank.
@@ -52,10 +67,13 @@ fn refusal_text(alloc: Global, refusal: &Refusal) -> Result<Vec<u8>, AllocError>
         Refusal::EmptyMutation => joined(alloc, b"EmptyMutation", b""),
         Refusal::TooLarge(part) => joined(alloc, b"TooLarge ", part_name(*part)),
         Refusal::TableExists(table) => joined(alloc, b"TableExists ", table.as_bytes()),
+        Refusal::UserExists(user) => joined(alloc, b"UserExists ", user.as_bytes()),
         Refusal::NoUser(user) => joined(alloc, b"NoUser ", user.as_bytes()),
         Refusal::BadRange => joined(alloc, b"BadRange", b""),
         Refusal::NoSession(slot) => joined(alloc, b"NoSession ", &[digit(*slot as u64)]),
         Refusal::NoMemory => joined(alloc, b"NoMemory", b""),
+        Refusal::RootFixed => joined(alloc, b"RootFixed", b""),
+        Refusal::GrantInvalid => joined(alloc, b"GrantInvalid", b""),
         Refusal::BelowHorizon(_) => joined(alloc, b"BelowHorizon", b""),
     }
 }

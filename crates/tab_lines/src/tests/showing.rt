@@ -2,8 +2,9 @@
 use crate::{Line, Stop, read_line};
 use std::alloc::{AllocError, Global};
 use tab_history::{Act, Scan, TimeMode};
-use tab_key::{Bound, Column, Kind};
+use tab_key::{Bound, Column, Kind, Name};
 use tab_mutation::Mutation;
+use tab_policy::Permission;
 
 fn show_part(out: &mut Vec<u8>, bytes: &[u8]) -> Result<(), AllocError> {
     out.extend_from_slice(b"|")?;
@@ -69,6 +70,28 @@ fn show_scan(out: &mut Vec<u8>, scan: &Scan) -> Result<(), AllocError> {
     Ok(())
 }
 
+fn show_grant(
+    out: &mut Vec<u8>,
+    verb: &[u8],
+    user: &Name,
+    permission: &Permission,
+) -> Result<(), AllocError> {
+    show_part(out, verb)?;
+    show_part(out, user.as_bytes())?;
+    match permission {
+        Permission::OfSystem(permission) => show_part(out, permission.name()),
+        Permission::OfTable(permission, table) => {
+            show_part(out, permission.name())?;
+            show_part(out, table.as_bytes())
+        }
+    }
+}
+
+fn show_name(out: &mut Vec<u8>, verb: &[u8], name: &Name) -> Result<(), AllocError> {
+    show_part(out, verb)?;
+    show_part(out, name.as_bytes())
+}
+
 fn show_act(alloc: Global, out: &mut Vec<u8>, act: &Act) -> Result<(), AllocError> {
     match act {
         Act::Open(scan) => show_scan(out, scan),
@@ -85,6 +108,12 @@ fn show_act(alloc: Global, out: &mut Vec<u8>, act: &Act) -> Result<(), AllocErro
             show_part(out, mode)?;
             show_number(alloc, out, *versions as i64)
         }
+        Act::DropTable(table) => show_name(out, b"droptable", table),
+        Act::CreateUser(user) => show_name(out, b"createuser", user),
+        Act::DropUser(user) => show_name(out, b"dropuser", user),
+        Act::Grant(user, permission) => show_grant(out, b"grant", user, permission),
+        Act::Revoke(user, permission) => show_grant(out, b"revoke", user, permission),
+        Act::Rights(table) => show_name(out, b"rights", table),
         Act::SetConstraints(table, constraints) => {
             show_part(out, table.as_bytes())?;
             for constraint in constraints.as_slice() {
@@ -103,16 +132,23 @@ fn show_act(alloc: Global, out: &mut Vec<u8>, act: &Act) -> Result<(), AllocErro
     }
 }
 
+fn show_line(alloc: Global, out: &mut Vec<u8>, line: &Line) -> Result<(), AllocError> {
+    match line {
+        Line::Blank => out.extend_from_slice(b"blank"),
+        Line::As(user) => show_name(out, b"as", user),
+        Line::At(moment) => show_number(alloc, out, *moment),
+        Line::Act(act) => show_act(alloc, out, act),
+        Line::Scan(scan) => show_scan(out, scan),
+    }
+}
+
 // What the line says, or `fault`.
 pub(super) fn shown(alloc: Global, text: &[u8]) -> Result<Vec<u8>, AllocError> {
     let mut out = Vec::new(alloc);
     match read_line(alloc, text) {
         Err(Stop::Fault) => out.extend_from_slice(b"fault")?,
         Err(Stop::NoMemory) => return Err(AllocError),
-        Ok(Line::Blank) => out.extend_from_slice(b"blank")?,
-        Ok(Line::At(moment)) => show_number(alloc, &mut out, moment)?,
-        Ok(Line::Act(act)) => show_act(alloc, &mut out, &act)?,
-        Ok(Line::Scan(scan)) => show_scan(&mut out, &scan)?,
+        Ok(line) => show_line(alloc, &mut out, &line)?,
     }
     Ok(out)
 }

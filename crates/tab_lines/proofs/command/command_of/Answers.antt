@@ -4,11 +4,35 @@ use Rattle.tab_lines.specs.Lines.{command_of}
 use Rattle.tab_lines.proofs.Looking.{found}
 use Rattle.tab_lines.proofs.command.command_of.Goals as goal
 
+pub returns-in-as : goal.returns-in-as
+returns-in-as c = found command_of c.args.word.now (codes "as") (omega arith) (search rules)
+
+pub returns-in-at : goal.returns-in-at
+returns-in-at c = found command_of c.args.word.now (codes "at") (omega arith) (search rules)
+
 pub returns-in-createtable : goal.returns-in-createtable
 returns-in-createtable c = found command_of c.args.word.now (codes "createtable") (omega arith) (search rules)
 
+pub returns-in-droptable : goal.returns-in-droptable
+returns-in-droptable c = found command_of c.args.word.now (codes "droptable") (omega arith) (search rules)
+
+pub returns-in-createuser : goal.returns-in-createuser
+returns-in-createuser c = found command_of c.args.word.now (codes "createuser") (omega arith) (search rules)
+
+pub returns-in-dropuser : goal.returns-in-dropuser
+returns-in-dropuser c = found command_of c.args.word.now (codes "dropuser") (omega arith) (search rules)
+
 pub returns-in-setauths : goal.returns-in-setauths
 returns-in-setauths c = found command_of c.args.word.now (codes "setauths") (omega arith) (search rules)
+
+pub returns-in-grant : goal.returns-in-grant
+returns-in-grant c = found command_of c.args.word.now (codes "grant") (omega arith) (search rules)
+
+pub returns-in-revoke : goal.returns-in-revoke
+returns-in-revoke c = found command_of c.args.word.now (codes "revoke") (omega arith) (search rules)
+
+pub returns-in-rights : goal.returns-in-rights
+returns-in-rights c = found command_of c.args.word.now (codes "rights") (omega arith) (search rules)
 
 pub returns-in-constraints : goal.returns-in-constraints
 returns-in-constraints c = found command_of c.args.word.now (codes "constraints") (omega arith) (search rules)
@@ -24,6 +48,3 @@ returns-in-mutate c = found command_of c.args.word.now (codes "mutate") (omega a
 
 pub returns-in-scan : goal.returns-in-scan
 returns-in-scan c = found command_of c.args.word.now (codes "scan") (omega arith) (search rules)
-
-pub returns-in-at : goal.returns-in-at
-returns-in-at c = found command_of c.args.word.now (codes "at") (omega arith) (search rules)

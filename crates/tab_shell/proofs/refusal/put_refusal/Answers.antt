@@ -53,6 +53,12 @@ returns-in-TableExists-clause-bytes g c =
     let P : List ℕ → Type 0 = λ n. Puts (g.W.Output.contents c.args.output.now) (g.W.Output.held c.args.output.now) (g.W.Output.contents c.put_named-in-TableExists.new.output) (g.W.Output.held c.put_named-in-TableExists.new.output) (spaced (codes "refused" ∷ codes "10" ∷ codes "TableExists" ∷ word n ∷ [])) c.put_named-in-TableExists.result in
     subst S (sym c.in-TableExists.is) (subst P c.as_bytes-in-TableExists.ensures.value c.put_named-in-TableExists.ensures.bytes)
 
+pub returns-in-UserExists-clause-bytes : goal.returns-in-UserExists-clause-bytes
+returns-in-UserExists-clause-bytes g c =
+    let S : Refusal → Type 0 = λ x. Puts (g.W.Output.contents c.args.output.now) (g.W.Output.held c.args.output.now) (g.W.Output.contents c.put_named-in-UserExists.new.output) (g.W.Output.held c.put_named-in-UserExists.new.output) (refusal_text x) c.put_named-in-UserExists.result in
+    let P : List ℕ → Type 0 = λ n. Puts (g.W.Output.contents c.args.output.now) (g.W.Output.held c.args.output.now) (g.W.Output.contents c.put_named-in-UserExists.new.output) (g.W.Output.held c.put_named-in-UserExists.new.output) (spaced (codes "refused" ∷ codes "11" ∷ codes "UserExists" ∷ word n ∷ [])) c.put_named-in-UserExists.result in
+    subst S (sym c.in-UserExists.is) (subst P c.as_bytes-in-UserExists.ensures.value c.put_named-in-UserExists.ensures.bytes)
+
 pub returns-in-NoUser-clause-bytes : goal.returns-in-NoUser-clause-bytes
 returns-in-NoUser-clause-bytes g c =
     let S : Refusal → Type 0 = λ x. Puts (g.W.Output.contents c.args.output.now) (g.W.Output.held c.args.output.now) (g.W.Output.contents c.put_named-in-NoUser.new.output) (g.W.Output.held c.put_named-in-NoUser.new.output) (refusal_text x) c.put_named-in-NoUser.result in

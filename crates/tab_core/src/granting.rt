@@ -1,0 +1,75 @@
+//! Permissions granted and revoked, and what a user is told of his own.
+ghost use Rattle.tab_core.specs.Stepping.{Acts, IsAdmitted, own_answer};
+
+use crate::Core;
+use crate::checking::right_refusal;
+use crate::session::Session;
+use std::alloc::AllocError;
+use tab_history::{Act, Refusal, Reply, Rights};
+use tab_key::Name;
+use tab_policy::Permission;
+
+impl Core {
+    // A permission given to a user.
+    pub(crate) fn grant(
+        &mut self,
+        now: i64,
+        user: Name,
+        name: Name,
+        permission: Permission,
+    ) -> Reply<Session>
+        requires { IsAdmitted self.old user (Act.Grant name permission) }
+        ensures { Acts (own_answer self.old now user (Act.Grant name permission)) self.old now user (Act.Grant name permission) result self.new }
+    {
+        let known = self.policy.user_exists(&name);
+        if let Some(refusal) = right_refusal(known, name, &permission) {
+            return Reply::Refused(refusal);
+        }
+        match self.policy.grant(&name, &permission) {
+            Ok(()) => Reply::Done,
+            Err(AllocError) => Reply::Refused(Refusal::NoMemory),
+        }
+    }
+
+    // A permission taken from a user. It takes no memory.
+    pub(crate) fn revoke(
+        &mut self,
+        now: i64,
+        user: Name,
+        name: Name,
+        permission: Permission,
+    ) -> Reply<Session>
+        ensures { Acts (own_answer self.old now user (Act.Revoke name permission)) self.old now user (Act.Revoke name permission) result self.new }
+    {
+        let known = self.policy.user_exists(&name);
+        if let Some(refusal) = right_refusal(known, name, &permission) {
+            return Reply::Refused(refusal);
+        }
+        self.policy.revoke(&name, &permission);
+        Reply::Done
+    }
+
+    // What the caller may do, on this table too, and holds.
+    pub(crate) fn rights(&self, now: i64, user: Name, table: Name) -> Reply<Session>
+        requires { IsAdmitted self.now user (Act.Rights table) }
+        ensures { Acts (own_answer self.now now user (Act.Rights table)) self.now now user (Act.Rights table) result self.now }
+    {
+        let Some(system) = self.policy.system_of(&user) else {
+            return Reply::Refused(Refusal::UnknownUser(user));
+        };
+        let Some(on_table) = self.policy.rights_on(&table, &user) else {
+            return Reply::Refused(Refusal::NoTable(table));
+        };
+        let Some(auths) = self.policy.auths_of(&user) else {
+            return Reply::Refused(Refusal::UnknownUser(user));
+        };
+        match auths.clone() {
+            Ok(authorizations) => Reply::Rights(Rights {
+                system,
+                table: on_table,
+                authorizations,
+            }),
+            Err(AllocError) => Reply::Refused(Refusal::NoMemory),
+        }
+    }
+}

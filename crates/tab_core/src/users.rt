@@ -1,0 +1,38 @@
+//! Users made and dropped.
+ghost use Rattle.tab_core.specs.Stepping.{Acts, own_answer};
+
+use crate::Core;
+use crate::checking::is_root;
+use crate::session::Session;
+use std::alloc::AllocError;
+use tab_history::{Act, Refusal, Reply};
+use tab_key::Name;
+
+impl Core {
+    // A new user, without rights and authorizations.
+    pub(crate) fn create_user(&mut self, now: i64, user: Name, name: Name) -> Reply<Session>
+        ensures { Acts (own_answer self.old now user (Act.CreateUser name)) self.old now user (Act.CreateUser name) result self.new }
+    {
+        if self.policy.user_exists(&name) {
+            return Reply::Refused(Refusal::UserExists(name));
+        }
+        match self.policy.create_user(&name) {
+            Ok(()) => Reply::Done,
+            Err(AllocError) => Reply::Refused(Refusal::NoMemory),
+        }
+    }
+
+    // A user taken away, with his rights and authorizations. It takes no memory.
+    pub(crate) fn drop_user(&mut self, now: i64, user: Name, name: Name) -> Reply<Session>
+        ensures { Acts (own_answer self.old now user (Act.DropUser name)) self.old now user (Act.DropUser name) result self.new }
+    {
+        if !self.policy.user_exists(&name) {
+            return Reply::Refused(Refusal::NoUser(name));
+        }
+        if is_root(&name) {
+            return Reply::Refused(Refusal::RootFixed);
+        }
+        self.policy.drop_user(&name);
+        Reply::Done
+    }
+}
