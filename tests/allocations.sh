@@ -60,6 +60,22 @@ scan s A,B
 scan s C
 insert t r f q (((A))) a-longer-value-than-before 7
 scan t A
+createuser bob
+setauths bob A
+grant bob READ t
+grant bob CREATE_USER
+as bob
+rights t
+scan t A
+createuser eve
+insert t r f q A v 8
+as root
+revoke bob READ t
+dropuser eve
+droptable s
+createtable s
+scan s A
+rights s
 S
 total=$(wc -l <"$work/script")
 "$program" script <"$work/script" >"$work/always"

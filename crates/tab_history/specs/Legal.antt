@@ -11,7 +11,7 @@ use Rattle.tab_history.specs.declared.reply.Reply.TheVariants.{Refused}
 abbrev pub IsAnswer : World → List Entry → List Entry → Step → Told → Type 0
 IsAnswer w es own step reply = reply ≡ answer w.base (journal w es) (moves_of w (user_of step) own) (clock_at (clock_of w es) step) step
 
--- memory, and the numbers of mutations and tables, may run out at any step
+-- memory, and the numbers of mutations, may run out at any step
 abbrev pub IsExhausted : Told → Type 0
 IsExhausted reply = (reply ≡ Refused NoMemory) ⊎ (reply ≡ Refused (TooLarge Numbers))
 

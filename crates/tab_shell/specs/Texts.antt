@@ -121,7 +121,7 @@ auth_text term = spaced (codes "auth" ∷ word term ∷ [])
 abbrev pub rights_text : Rights → List ℕ
 rights_text r = system_text r.system ++ (table_text r.table ++ (flat_map auth_text r.authorizations ++ codes "end\n"))
 
--- The text of a reply. The number of an opened session is printed by the line that keeps it.
+-- The text of a reply. An opened session has none: the line that opened it prints its cells.
 abbrev pub reply_text : Told → List ℕ
 reply_text Done = codes "ok\n"
 reply_text (Refused r) = refusal_text r

@@ -11,8 +11,9 @@
 //! | `reply` | the texts of replies |
 //! | `refusal` | the texts of refusals |
 //!
-//! `specs/Texts` has the lines of a text and the texts of replies, `specs/Runs` what a line does and prints, for every
-//! history that the core stands for, `specs/Going` how far a run has come, also where the reader or the writer failed.
+//! `specs/Texts` has the lines of a text and the texts of replies, `specs/Counts` counts by user, `specs/Runs` what a line
+//! does and prints, for every history that the core stands for, `specs/Ahead` what is to come where a line has begun,
+//! `specs/Going` how far a run has come, also where the reader or the writer failed.
 #![tactic(auto)]
 
 mod counts;

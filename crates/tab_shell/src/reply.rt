@@ -16,7 +16,7 @@ use tab_text::put_cell;
 ///
 /// `ok`; `refused`, the refusal's number, its name and its words; a batch's cells, each on a line of its own; or one's own
 /// rights, a line for each kind of permission and for each authorization, and `end`. An
-/// opened session has no text of its own: the line that keeps it prints its number. After an error a beginning of the
+/// opened session has no text of its own: the line that opened it prints its cells. After an error a beginning of the
 /// text may have been written.
 pub fn write_reply<W: Output>(output: &mut W, reply: &Reply) -> Result<(), WriteFault>
     ensures bytes { Puts (W.contents output.old) (W.held output.old) (W.contents output.new) (W.held output.new) (reply_text reply.now) result }

@@ -47,6 +47,14 @@ fn writes_replies(rt: HostRuntime) -> Result<(), Fail> {
             b"refused 9 TooLarge sessions\n".as_slice(),
         ),
         (
+            Reply::Refused(Refusal::RootFixed),
+            b"refused 18 RootFixed\n".as_slice(),
+        ),
+        (
+            Reply::Refused(Refusal::GrantInvalid),
+            b"refused 19 GrantInvalid\n".as_slice(),
+        ),
+        (
             Reply::Refused(Refusal::NoSession(4_294_967_295)),
             b"refused 15 NoSession 4294967295\n".as_slice(),
         ),

@@ -4,7 +4,7 @@
 pub type Row = (&'static [u8], &'static [u8]);
 
 /// All of them, read from the first line.
-pub const ROWS: [Row; 21] = [
+pub const ROWS: [Row; 31] = [
     // The scan of a new table has no cell.
     (b"createtable t time=any\nscan t \\0\n", b"ok\nend\n"),
     // A table made twice, a table that is not there, a range that is upside down, a line that is none.
@@ -99,5 +99,55 @@ pub const ROWS: [Row; 21] = [
     (
         b"createtable t time=any\nat 5\nmutate t r\ninsert t r f q \\e v\nscan t \\0\ndelete t r f q \\e\nconstraints t numeric\ncreatetable u versions=2\ncreatetable s time=server\ncreatetable w time=any versions=1\n",
         b"ok\nrefused 8 EmptyMutation\nok\nr f q \\e 5 v\nend\nok\nok\nok\nok\nok\n",
+    ),
+    // Each line on users and rights.
+    (
+        b"createtable t time=any\ncreateuser bob\ngrant bob READ t\nrevoke bob READ t\ngrant bob CREATE_USER\nrevoke bob CREATE_USER\nas bob\nrights t\nas root\ndropuser bob\ndroptable t\n",
+        b"ok\nok\nok\nok\nok\nok\nsystem\ntable\nend\nok\nok\n",
+    ),
+    // A missing table is told before a missing permission, and a refusal names the first permission that would do.
+    (
+        b"createtable t time=any\ncreateuser bob\nas bob\nscan nope \\0\ngrant bob READ t\n",
+        b"ok\nok\nrefused 2 NoTable nope\nrefused 3 PermissionDenied System.ALTER_TABLE\n",
+    ),
+    // The reader sees his own label's cell.
+    (
+        b"createtable t time=any\ncreateuser bob\nsetauths bob A\ngrant bob READ t\ninsert t r f q A x 5\nas bob\nscan t A\n",
+        b"ok\nok\nok\nok\nok\nr f q A 5 x\nend\n",
+    ),
+    // Writes under a label that he never holds change nothing that the reader sees.
+    (
+        b"createtable t time=any\ncreateuser bob\nsetauths bob A\ngrant bob READ t\ninsert t r f q A x 5\ninsert t r f q B y 6\ndelete t r f q B 6\nas bob\nscan t A\n",
+        b"ok\nok\nok\nok\nok\nok\nok\nr f q A 5 x\nend\n",
+    ),
+    // Root cannot be dropped or lose a system permission, GRANT cannot be granted, and a missing user is named.
+    (
+        b"createtable t time=any\ndropuser root\nrevoke root SYSTEM\ngrant nobody GRANT\ngrant nobody SYSTEM\n",
+        b"ok\nrefused 18 RootFixed\nrefused 18 RootFixed\nrefused 19 GrantInvalid\nrefused 12 NoUser nobody\n",
+    ),
+    // A user with GRANT on a table grants himself WRITE there, and his rights show both in order.
+    (
+        b"createtable t time=any\ncreateuser bob\ngrant bob GRANT t\nas bob\ngrant bob WRITE t\nrights t\n",
+        b"ok\nok\nok\nok\nsystem\ntable WRITE GRANT\nend\n",
+    ),
+    // A table dropped and made again has no cell of before, its creator's five permissions and nobody else's.
+    (
+        b"createtable t time=any\ninsert t r f q \\e v 5\ncreateuser bob\ngrant bob READ t\ndroptable t\ncreatetable t\nscan t \\0\nrights t\nas bob\nscan t \\0\n",
+        b"ok\nok\nok\nok\nok\nok\nend\nsystem GRANT CREATE_TABLE DROP_TABLE ALTER_TABLE CREATE_USER DROP_USER ALTER_USER SYSTEM\ntable READ WRITE ALTER_TABLE GRANT DROP_TABLE\nend\nrefused 3 PermissionDenied Table.READ t\n",
+    ),
+    // A caller that is no user is refused before anything else.
+    (
+        b"createtable t time=any\nas ghost\nscan t \\0\n",
+        b"ok\nrefused 1 UnknownUser ghost\n",
+    ),
+    // A user without WRITE is refused by name and nothing is written.
+    (
+        b"createtable t time=any\ncreateuser bob\nas bob\ninsert t r f q \\e v 5\nas root\nscan t \\0\n",
+        b"ok\nok\nrefused 3 PermissionDenied Table.WRITE t\nend\n",
+    ),
+    // Authorizations told with one's rights, rising, as byte words.
+    (
+        b"createtable t\nsetauths root b\\x20c,A\nrights t\nrights s\n",
+        b"ok\nok\nsystem GRANT CREATE_TABLE DROP_TABLE ALTER_TABLE CREATE_USER DROP_USER ALTER_USER SYSTEM\ntable READ WRITE ALTER_TABLE GRANT DROP_TABLE\nauth A\nauth b\\x20c\nend\nrefused 2 NoTable s\n",
     ),
 ];
