@@ -22,7 +22,11 @@ fn reads_lines_of_one_name(rt: HostRuntime) -> Result<(), Fail> {
             (b"dropuser root", b"|dropuser|root"),
             (b"rights t", b"|rights|t"),
         ],
-    )?;
+    )
+}
+
+#[test]
+fn refuses_other_lines_of_one_name(rt: HostRuntime) -> Result<(), Fail> {
     are_faults(
         &rt,
         rt.alloc(),
@@ -74,7 +78,11 @@ fn reads_system_permissions(rt: HostRuntime) -> Result<(), Fail> {
             (b"revoke bob GRANT", b"|revoke|bob|GRANT"),
             (b"revoke bob CREATE_USER", b"|revoke|bob|CREATE_USER"),
         ],
-    )?;
+    )
+}
+
+#[test]
+fn refuses_other_system_permissions(rt: HostRuntime) -> Result<(), Fail> {
     are_faults(
         &rt,
         rt.alloc(),
