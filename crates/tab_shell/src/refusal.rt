@@ -1,13 +1,14 @@
 //! The texts of refusals.
 ghost use Rattle.std.specs.Prelude.{◌≡◌, ◌++◌, [], ◌∷◌, map, codes, decimal};
 ghost use Rattle.tab_io.specs.Streams.{Puts, FailsByFault};
+ghost use Rattle.tab_text.specs.Words.{word};
 ghost use Rattle.tab_text.specs.Lines.{spaced, after_spaces, word_text};
 ghost use Rattle.tab_rules.specs.Constraints.{constraint_number};
 ghost use Rattle.tab_shell.specs.Texts.{part_name, system_word, table_word, permission_words, failing_word, refusal_text};
 
 use tab_history::Refusal;
 use tab_io::{Output, WriteFault, put_byte, put_decimal};
-use tab_key::Part;
+use tab_key::{Name, Part};
 use tab_policy::{Permission, SystemPermission, TablePermission};
 use tab_rules::Failing;
 use tab_text::{Word, put_spaced};
@@ -18,18 +19,8 @@ pub fn put_refusal<W: Output>(output: &mut W, refusal: &Refusal) -> Result<(), W
     ensures faults { FailsByFault result (W.faults output.old) (W.faults output.new) (W.budget output.new) }
 {
     match refusal {
-        Refusal::UnknownUser(user) => put_named(
-            output,
-            b"1",
-            b"UnknownUser",
-            Word::Bytes(user.as_bytes()),
-        ),
-        Refusal::NoTable(table) => put_named(
-            output,
-            b"2",
-            b"NoTable",
-            Word::Bytes(table.as_bytes()),
-        ),
+        Refusal::UnknownUser(user) => put_name(output, b"1", b"UnknownUser", user),
+        Refusal::NoTable(table) => put_name(output, b"2", b"NoTable", table),
         Refusal::PermissionDenied(permission) => put_denied(output, permission),
         Refusal::BadAuthorizations(term) => put_named(
             output,
@@ -39,12 +30,9 @@ pub fn put_refusal<W: Output>(output: &mut W, refusal: &Refusal) -> Result<(), W
         ),
         Refusal::MalformedVisibility(update, offset) => put_malformed(output, *update, *offset),
         Refusal::ConstraintViolation(failing) => put_violation(output, failing.as_slice()),
-        Refusal::TimestampNotAllowed(update) => put_named(
-            output,
-            b"7",
-            b"TimestampNotAllowed",
-            Word::Number(*update as u64),
-        ),
+        Refusal::TimestampNotAllowed(update) => {
+            put_number(output, b"7", b"TimestampNotAllowed", *update)
+        }
         Refusal::EmptyMutation => put_bare(output, b"8", b"EmptyMutation"),
         Refusal::TooLarge(part) => put_named(
             output,
@@ -52,36 +40,42 @@ pub fn put_refusal<W: Output>(output: &mut W, refusal: &Refusal) -> Result<(), W
             b"TooLarge",
             Word::Text(part_name(*part)),
         ),
-        Refusal::TableExists(table) => put_named(
-            output,
-            b"10",
-            b"TableExists",
-            Word::Bytes(table.as_bytes()),
-        ),
-        Refusal::UserExists(user) => put_named(
-            output,
-            b"11",
-            b"UserExists",
-            Word::Bytes(user.as_bytes()),
-        ),
-        Refusal::NoUser(user) => put_named(output, b"12", b"NoUser", Word::Bytes(user.as_bytes())),
+        Refusal::TableExists(table) => put_name(output, b"10", b"TableExists", table),
+        Refusal::UserExists(user) => put_name(output, b"11", b"UserExists", user),
+        Refusal::NoUser(user) => put_name(output, b"12", b"NoUser", user),
         Refusal::BadRange => put_bare(output, b"13", b"BadRange"),
-        Refusal::NoSession(slot) => put_named(
-            output,
-            b"15",
-            b"NoSession",
-            Word::Number(*slot as u64),
-        ),
+        Refusal::NoSession(slot) => put_number(output, b"15", b"NoSession", *slot),
         Refusal::NoMemory => put_bare(output, b"17", b"NoMemory"),
         Refusal::RootFixed => put_bare(output, b"18", b"RootFixed"),
         Refusal::GrantInvalid => put_bare(output, b"19", b"GrantInvalid"),
-        Refusal::BelowHorizon(update) => put_named(
-            output,
-            b"22",
-            b"BelowHorizon",
-            Word::Number(*update as u64),
-        ),
+        Refusal::BelowHorizon(update) => put_number(output, b"22", b"BelowHorizon", *update),
     }
+}
+
+// A refusal that names a user or a table.
+fn put_name<'a, W: Output>(
+    output: &mut W,
+    number: &'a [u8],
+    name: &'a [u8],
+    named: &'a Name,
+) -> Result<(), WriteFault>
+    ensures bytes { Puts (W.contents output.old) (W.held output.old) (W.contents output.new) (W.held output.new) (spaced (codes "refused" ∷ number.now ∷ name.now ∷ word named.now ∷ [])) result }
+    ensures faults { FailsByFault result (W.faults output.old) (W.faults output.new) (W.budget output.new) }
+{
+    put_named(output, number, name, Word::Bytes(named.as_bytes()))
+}
+
+// A refusal with one number.
+fn put_number<'a, W: Output>(
+    output: &mut W,
+    number: &'a [u8],
+    name: &'a [u8],
+    told: u32,
+) -> Result<(), WriteFault>
+    ensures bytes { Puts (W.contents output.old) (W.held output.old) (W.contents output.new) (W.held output.new) (spaced (codes "refused" ∷ number.now ∷ name.now ∷ decimal told ∷ [])) result }
+    ensures faults { FailsByFault result (W.faults output.old) (W.faults output.new) (W.budget output.new) }
+{
+    put_named(output, number, name, Word::Number(told as u64))
 }
 
 // A refusal without words.

@@ -1,24 +1,21 @@
-use Rattle.std.proofs.Common.{◌≡◌, ◌+◌, ◌<◌, ℕ, List, drop, Option, Ok, sym, ap, ◌∙◌, subst, arith, rules}
+use Rattle.std.proofs.Common.{◌≡◌, ◌<◌, ℕ, List, drop, Option, Ok, sym, ap, ◌∙◌, subst}
 use Rattle.std.specs.Prelude.{OnOk, OnErr}
 use Rattle.tab_key.specs.Records.{Cell}
-use Rattle.tab_key.specs.declared.part.Part.TheVariants.{Sessions}
 use Rattle.tab_history.specs.Bases.{Base}
 use Rattle.tab_history.specs.Sessions.{Held}
 use Rattle.tab_history.specs.declared.event.Act.TheVariants.{Open}
 use Rattle.tab_history.specs.declared.event.Event.{Event}
-use Rattle.tab_history.specs.declared.reply.Refusal.TheVariants.{TooLarge, NoMemory}
 use Rattle.tab_history.specs.declared.reply.Reply.{Reply}
 use Rattle.tab_history.specs.declared.reply.Reply.TheVariants.{Opened}
 use Rattle.tab_core.specs.Stepping.{Steps}
 use Rattle.tab_history.specs.Answers.{told_of}
 use Rattle.tab_io.specs.Streams.{Puts}
 use Rattle.tab_lines.specs.declared.line.Line.TheVariants as line
-use Rattle.tab_shell.specs.Texts.{reply_text, refusal_text, scan_text}
-use Rattle.tab_shell.specs.Counts.{count_of}
+use Rattle.tab_shell.specs.Texts.{reply_text, scan_text}
 use Rattle.tab_shell.specs.Runs.{ScriptState, Answered, event_by}
 use Rattle.tab_shell.specs.Going.{Prints, PrintsFront}
 use Rattle.tab_shell.proofs.Saying.{prints_ok, prints_err}
-use Rattle.tab_shell.proofs.Scanning.{asked, with_sessions, with_counts, scan_answered, kept_answered, spent_answered, starved_answered, recounted, kept_counts}
+use Rattle.tab_shell.proofs.Scanning.{asked, with_sessions, scan_answered, kept_answered}
 use Rattle.tab_shell.proofs.script.Script.open.Goals as goal
 
 pub returns-in-Opened-clause-ok : goal.returns-in-Opened-clause-ok
