@@ -1,0 +1,40 @@
+-- Several lists of records as one rising list.
+use Rattle.std.specs.Prelude.{◌≡◌, ℕ, ◌<◌, ◌-◌, Option, Some, None, List, [], ◌∷◌, ◌++◌, Bool, true, false, drop, length, slice_index_or, ◌≢◌}
+use Rattle.std.specs.Ordering.{is_lt}
+use Rattle.tab_key.specs.Order.{record_cmp}
+use Rattle.tab_key.specs.Records.{Record}
+use Rattle.tab_iter.specs.Lists.{first_of}
+
+-- the records of all of the lists
+abbrev pub flat : List (List Record) → List Record
+flat [] = []
+flat (xs ∷ xss) = xs ++ flat xss
+
+-- the list at this place stands first by its first record
+pub record IsFirstAt (xss : List (List Record)) (n b : ℕ) : Type 0 where
+  pub inside : b < n
+  pub first : Record
+  pub is : first_of (slice_index_or xss b []) ≡ Some first
+  pub least : (k : ℕ) (u : Record) → k < n → first_of (slice_index_or xss k []) ≡ Some u → is_lt (record_cmp u first) ≡ false
+
+-- whether the first record of one list stands before that of the other
+abbrev pub is_better : Option Record → Option Record → Bool
+is_better None o = false
+is_better (Some r) None = true
+is_better (Some r) (Some s) = is_lt (record_cmp r s)
+
+-- the first record of the list at this place
+abbrev pub first_in : List (List Record) → ℕ → Option Record
+first_in xss k = first_of (slice_index_or xss k [])
+
+-- of the first n lists none stands before the one at b
+abbrev pub Leads : List (List Record) → ℕ → ℕ → Type 0
+Leads xss n b = (k : ℕ) → k < n → is_better (first_in xss k) (first_in xss b) ≡ false
+
+-- of the first n lists none but the one at b stands before the one at s
+abbrev pub Follows : List (List Record) → ℕ → ℕ → ℕ → Type 0
+Follows xss n b s = (k : ℕ) → k < n → k ≢ b → is_better (first_in xss k) (first_in xss s) ≡ false
+
+-- xs is what is left of w after some of its first records, said as an equation
+abbrev pub IsEnding : List Record → List Record → Type 0
+IsEnding xs w = xs ≡ drop (length w - length xs) w

@@ -1,0 +1,37 @@
+-- What a rule remembers of the records passed: one column.
+use Rattle.std.specs.Prelude.{◌≡◌, ℕ, ◌-◌, Option, Some, None, List, Bool, false, cond, ◌||◌, filter, length}
+use Rattle.std.specs.Ordering.{is_gt}
+use Rattle.tab_key.specs.Order.{column_cmp}
+use Rattle.tab_key.specs.Records.{Key, Record}
+use Rattle.tab_key.specs.Kept.{same_column, is_deleted}
+use Rattle.tab_key.proofs.Rising.{IsIn}
+use Rattle.tab_iter.specs.Layers.{is_newer}
+
+-- the key is of the column of the record
+abbrev pub is_of : Option Record → Key → Bool
+is_of None k = false
+is_of (Some c) k = same_column c.key k
+
+-- the record's column doesn't stand after that of k
+abbrev pub is_upto : Option Record → Key → Type 0
+is_upto None k = Unit {0}
+is_upto (Some c) k = is_gt (column_cmp c.key k) ≡ false
+
+-- the column is that of the key
+pub record IsColumnOf (column : Option Record) (key : Key) : Type 0 where
+  pub same : (k : Key) → is_of column k ≡ same_column key k
+  pub upto : (k : Key) → is_gt (column_cmp key k) ≡ false → is_upto column k
+
+-- of what was passed, a marker hides just the puts of this column
+pub record KnowsDeleted (column : Option Record) (w rs : List Record) : Type 0 where
+  pub deleted : (u : Record) → IsIn rs u → is_deleted w u ≡ (is_of column u.key || is_deleted rs u)
+  pub ahead : (u : Record) → IsIn rs u → is_upto column u.key
+
+-- how many of n more may pass
+abbrev pub left_of : ℕ → Option Record → ℕ → Key → ℕ
+left_of n column left k = cond (is_of column k) left n
+
+-- the puts passed of this column leave so many of n, and there are none of later columns
+pub record KnowsCount (n : ℕ) (column : Option Record) (left : ℕ) (w rs : List Record) : Type 0 where
+  pub counted : (u : Record) → IsIn rs u → n - length (filter (is_newer u) w) ≡ left_of n column left u.key - length (filter (is_newer u) rs)
+  pub ahead : (u : Record) → IsIn rs u → is_upto column u.key

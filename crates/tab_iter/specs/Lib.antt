@@ -1,0 +1,13 @@
+pub mod Lists
+pub mod ListLaws
+pub mod ListSourceLaws
+pub mod Layers
+pub mod Columns
+pub mod Remembered
+pub mod ColumnLaws
+pub mod FilteredLaws
+pub mod Bags
+pub mod BagLaws
+pub mod MergingLaws
+pub mod Stack
+pub mod StackLaws

@@ -1,0 +1,24 @@
+-- What a stack of layers lists.
+use Rattle.std.specs.Prelude.{◌≡◌, ℕ, List, Bool, true, false, filter}
+use Rattle.tab_key.specs.Records.{Key, Record}
+use Rattle.tab_key.specs.Kept.{same_column}
+use Rattle.tab_key.specs.declared.column.Column.{Column}
+use Rattle.tab_key.specs.declared.range.Bound.TheVariants.{Unbounded}
+use Rattle.tab_history.specs.Cells.{Query}
+use Rattle.tab_iter.specs.Layers.{is_left, is_among}
+
+-- these columns of all rows, under these authorizations
+abbrev pub query_of : List Column → List (List ℕ) → Query
+query_of columns auths = record { bounds = record { low = Unbounded; high = Unbounded }; columns = columns; authorizations = auths }
+
+-- the test asks of the column alone
+abbrev pub IsOfColumns : (Key → Bool) → Type 0
+IsOfColumns m = (a b : Key) → same_column a b ≡ true → m a ≡ m b
+
+-- deleting, fetching, visible and versioning over a list w
+abbrev pub stacked : List Record → ℕ → (Key → Bool) → (Key → Bool) → List Record
+stacked w n chosen seen =
+    let undeleted = filter (is_left false w) w in
+    let fetched = filter (λ u. chosen u.key) undeleted in
+    let visible = filter (λ u. seen u.key) fetched in
+    filter (is_among n visible) visible
