@@ -1,0 +1,107 @@
+-- Where the records from a start on begin.
+use Rattle.std.proofs.Common.{◌≡◌, ◌⊎◌, inl, inr, ℕ, zero, suc, ◌+◌, ◌<◌, ◌≤◌, List, [], ◌∷◌, Bool, true, false, cond, refl, sym, ◌∙◌, ap, length, drop, arith, one-add}
+use Rattle.std.specs.List.{AllByRecursion, slice_index_or, prefix_len}
+use Rattle.std.specs.List.Sorted.{IsStrictlySortedBy}
+use Rattle.std.specs.Cmp.{IsTotalOrder}
+use Rattle.std.specs.Cmp.Lexicographic.{nat_list_cmp_total}
+use Rattle.std.specs.Ordering.{nat_cmp, is_lt, ordering_then}
+use Rattle.std.specs.declared.cmp.Ordering.{Ordering}
+use Rattle.std.specs.declared.cmp.Ordering.TheVariants.{Less, Equal, Greater}
+use mathlib.Core.Bool.{true≢false}
+use Rattle.tab_key.specs.Bytes.{bytes_cmp}
+use Rattle.tab_key.specs.KeyOf.{key_of}
+use Rattle.tab_key.specs.Records.{Key, Record}
+use Rattle.tab_key.specs.Order.{kind_rank, column_cmp, key_cmp, place_cmp, newer_cmp, record_cmp}
+use Rattle.tab_key.proofs.Order.{column_cmp_total, key_cmp_total}
+use Rattle.tab_mem.specs.Lists.{from_key, from_column, from_row}
+use Rattle.tab_mem.specs.Starts.{is_before, from_start}
+use Rattle.tab_mem.specs.declared.start.Start.{Start}
+use Rattle.tab_mem.specs.declared.start.Start.TheVariants.{AtKey, AtColumn, AtRow}
+
+-- ---- what is left after the records before a start
+dropped : (v : Bool) (p : Record → Bool) (r : Record) (rs from : List Record) → drop (prefix_len p rs) rs ≡ from → drop (cond v (1 + prefix_len p rs) 0) (r ∷ rs) ≡ cond v from (r ∷ rs)
+dropped true p r rs from ih = rw one-add ih
+dropped false p r rs from ih = refl
+
+key_drops : (k : Key) (rs : List Record) → drop (prefix_len (λ r. is_lt (key_cmp r.key k)) rs) rs ≡ from_key k rs
+key_drops k [] = refl
+key_drops k (r ∷ rs) = dropped (is_lt (key_cmp r.key k)) _ r rs (from_key k rs) (key_drops k rs)
+
+column_drops : (k : Key) (rs : List Record) → drop (prefix_len (λ r. is_lt (column_cmp r.key k)) rs) rs ≡ from_column k rs
+column_drops k [] = refl
+column_drops k (r ∷ rs) = dropped (is_lt (column_cmp r.key k)) _ r rs (from_column k rs) (column_drops k rs)
+
+row_drops : (row : List ℕ) (rs : List Record) → drop (prefix_len (λ r. is_lt (bytes_cmp r.key.row row)) rs) rs ≡ from_row row rs
+row_drops row [] = refl
+row_drops row (r ∷ rs) = dropped (is_lt (bytes_cmp r.key.row row)) _ r rs (from_row row rs) (row_drops row rs)
+
+pub start_drops : (s : Start) (rs : List Record) → drop (prefix_len (is_before s) rs) rs ≡ from_start s rs
+unfolding is_before from_start
+start_drops (AtKey k) rs = key_drops (key_of k) rs
+start_drops (AtColumn k) rs = column_drops (key_of k) rs
+start_drops (AtRow row) rs = row_drops row.now rs
+
+-- ---- who stands before a record before the start is before the start
+-- what stands before isn't after, by a part of the order that is compared first
+abbrev IsUpto : Ordering → Type 0
+IsUpto o = (o ≡ Less) ⊎ (o ≡ Equal)
+
+upto_first : (a b : Ordering) → IsUpto (ordering_then a b) → IsUpto a
+upto_first Less b u = inl refl
+upto_first Equal b u = inr refl
+upto_first Greater b u = u
+
+upto_key : (x y : Record) → record_cmp x y ≡ Less → IsUpto (key_cmp x.key y.key)
+unfolding place_cmp
+upto_key x y less = upto_first (key_cmp x.key y.key) (nat_cmp (kind_rank x.kind) (kind_rank y.kind)) (upto_first (place_cmp x y) (newer_cmp x y) (inl less))
+
+upto_column : (x y : Record) → record_cmp x y ≡ Less → IsUpto (column_cmp x.key y.key)
+unfolding key_cmp
+upto_column x y less = upto_first (column_cmp x.key y.key) _ (upto_key x y less)
+
+upto_row : (x y : Record) → record_cmp x y ≡ Less → IsUpto (bytes_cmp x.key.row y.key.row)
+unfolding column_cmp
+upto_row x y less = upto_first (bytes_cmp x.key.row y.key.row) _ (upto_first _ (bytes_cmp x.key.qualifier y.key.qualifier) (upto_first _ (bytes_cmp x.key.label y.key.label) (upto_column x y less)))
+
+lt_less : (o : Ordering) → is_lt o ≡ true → o ≡ Less
+lt_less Less e = refl
+lt_less Equal e = absurd (true≢false (sym e))
+lt_less Greater e = absurd (true≢false (sym e))
+
+down : {K : Type 0} (cmp : K → K → Ordering) → IsTotalOrder cmp → (x y k : K) → IsUpto (cmp x y) → is_lt (cmp y k) ≡ true → is_lt (cmp x k) ≡ true
+down cmp total x y k (inl e) b = ap is_lt (total.trans x y k e (lt_less (cmp y k) b))
+down cmp total x y k (inr e) b = ap is_lt (total.congr x y k e) ∙ b
+
+before_down : (s : Start) (x y : Record) → record_cmp x y ≡ Less → is_before s y ≡ true → is_before s x ≡ true
+unfolding is_before
+before_down (AtKey k) x y less b = down key_cmp key_cmp_total x.key y.key (key_of k) (upto_key x y less) b
+before_down (AtColumn k) x y less b = down column_cmp column_cmp_total x.key y.key (key_of k) (upto_column x y less) b
+before_down (AtRow row) x y less b = down bytes_cmp nat_list_cmp_total x.key.row y.key.row row.now (upto_row x y less) b
+
+-- ---- one step of the search
+all_at : (P : Record → Type 0) (xs : List Record) → AllByRecursion P xs → (i : ℕ) (d : Record) → i < length xs → P (slice_index_or xs i d)
+all_at P [] a i d low = absurd (omega (arith, low))
+all_at P (x ∷ xs) a zero d low = a.0
+all_at P (x ∷ xs) a (suc i) d low = all_at P xs a.1 i d (omega (arith, low))
+
+-- in rising records, whatever is before the start is among the first of them that are
+pub before_earlier : (s : Start) (rs : List Record) → IsStrictlySortedBy record_cmp rs → (i : ℕ) (d : Record) → i < length rs → is_before s (slice_index_or rs i d) ≡ true → i < prefix_len (is_before s) rs
+unfolding IsStrictlySortedBy
+before_earlier s [] r i d low b = absurd (omega (arith, low))
+before_earlier s (x ∷ xs) r i d low b = go (is_before s x) refl i low b (λ j. before_earlier s xs r.1 j d)
+  where
+    go : (v : Bool) → is_before s x ≡ v → (i : ℕ) → i < length (x ∷ xs) → is_before s (slice_index_or (x ∷ xs) i d) ≡ true → ((j : ℕ) → j < length xs → is_before s (slice_index_or xs j d) ≡ true → j < prefix_len (is_before s) xs) → i < cond v (1 + prefix_len (is_before s) xs) 0
+    go true e zero low b ih = omega arith
+    go true e (suc j) low b ih = let later : j < prefix_len (is_before s) xs = ih j (omega (arith, low)) b in omega (arith, later)
+    go false e zero low b ih = absurd (true≢false (sym b ∙ e))
+    go false e (suc j) low b ih = absurd (true≢false (sym (before_down s x (slice_index_or xs j d) (all_at (λ y. record_cmp x y ≡ Less) xs r.0 j d (omega (arith, low))) b) ∙ e))
+
+-- and what isn't, stands behind these
+pub before_later : (s : Start) (rs : List Record) (i : ℕ) (d : Record) → is_before s (slice_index_or rs i d) ≡ false → i < length rs → prefix_len (is_before s) rs ≤ i
+before_later s [] i d f low = absurd (omega (arith, low))
+before_later s (x ∷ xs) i d f low = go (is_before s x) refl i low f (λ j. before_later s xs j d)
+  where
+    go : (v : Bool) → is_before s x ≡ v → (i : ℕ) → i < length (x ∷ xs) → is_before s (slice_index_or (x ∷ xs) i d) ≡ false → ((j : ℕ) → is_before s (slice_index_or xs j d) ≡ false → j < length xs → prefix_len (is_before s) xs ≤ j) → cond v (1 + prefix_len (is_before s) xs) 0 ≤ i
+    go true e zero low f ih = absurd (true≢false (sym e ∙ f))
+    go true e (suc j) low f ih = let later : prefix_len (is_before s) xs ≤ j = ih j f (omega (arith, low)) in omega (arith, later)
+    go false e i low f ih = omega arith

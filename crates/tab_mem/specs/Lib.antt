@@ -1,0 +1,6 @@
+pub mod Fronts
+pub mod Lists
+pub mod ListLaws
+pub mod Starts
+pub mod Cursors
+pub mod SourceLaws

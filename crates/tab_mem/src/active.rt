@@ -1,0 +1,95 @@
+//! What is written to a table, until it is frozen.
+ghost use Rattle.std.specs.Prelude.{◌≡◌, ◌<◌, ◌++◌, ◌==◌, [], length, map, reverse, IfOk, OnOk, OnErr, Contains};
+ghost use Rattle.std.specs.List.{slice_index_or};
+ghost use Rattle.tab_key.specs.Records.{Record as Fields};
+ghost use Rattle.tab_key.specs.Sorted.{IsDistinct, sorted};
+ghost use Rattle.tab_history.specs.Changes.{posted};
+ghost use Rattle.tab_history.specs.Readings.{numbered};
+
+use crate::Run;
+use crate::packed::Packed;
+use crate::sorting::sorted_copy;
+use std::alloc::{AllocError, Global};
+use std::marker::Model;
+use std::sync::Arc;
+use tab_key::RecordRef;
+use tab_mutation::Mutation;
+
+/// The records that were written since the last freeze, in the order in which they were written. A contract sees their list.
+///
+/// No two stand at one place in the order of records.
+#[derive(Drop)]
+pub struct Active {
+    records: Packed,
+}
+
+impl Model for Active {
+    ghost use Rattle.std.specs.Prelude.{List};
+    ghost use Rattle.tab_key.specs.Records.{Record as Fields};
+    ghost use Rattle.tab_key.specs.Sorted.{IsDistinct};
+
+    ghost Value = { List Fields };
+
+    ghost view = { λ a. a.records };
+
+    ghost invariant = { λ a. IsDistinct a.records };
+}
+
+impl Active {
+    /// No records. It takes no memory.
+    pub fn new(alloc: Global) -> Active
+        ensures { result ≡ [] }
+    {
+        Active {
+            records: Packed::new(alloc),
+        }
+    }
+
+    /// How many records there are, markers and hidden ones among them.
+    pub fn len(&self) -> usize
+        ensures len { result ≡ length self.now }
+        ensures distinct { IsDistinct self.now }
+    {
+        self.records.len()
+    }
+
+    /// Whether there is no record.
+    pub fn is_empty(&self) -> bool
+        ensures { result ≡ (length self.now == 0) }
+    {
+        self.records.is_empty()
+    }
+
+    /// The record at an index, counted from 0 in the order in which they were written.
+    pub fn get(&self, index: usize) -> RecordRef<'_>
+        requires { index < length self.now }
+        ensures { result ≡ slice_index_or self.now index result }
+    {
+        self.records.get(index)
+    }
+
+    /// Adds the updates of an accepted mutation: each with this number, its place in the mutation counted from 0,
+    /// and the clock where it gives no timestamp. It takes time linear in the mutation, however much was written before.
+    ///
+    /// `AllocError` leaves all as it was: the mutation goes in whole or not at all.
+    pub fn write(&mut self, mutation: &Mutation, seq: u64, clock: i64) -> Result<(), AllocError>
+        requires { (u : Fields) → Contains self.old u → u.seq < seq }
+        ensures ok { OnOk result (self.new ≡ self.old ++ numbered seq mutation.now.row (reverse (map (posted clock) mutation.now.updates))) }
+        ensures err { OnErr result (self.new ≡ self.old) }
+    {
+        self.records.write(mutation, seq, clock)
+    }
+
+    /// The records as a run, written anew in their order; none are kept here.
+    ///
+    /// It takes memory for the run and, until it returns, for 24 bytes a record. `AllocError` leaves all as it was.
+    pub fn freeze(&mut self, alloc: Global) -> Result<Arc<Run>, AllocError>
+        ensures ok { IfOk result (λ run. run.value ≡ sorted self.old) }
+        ensures empty { OnOk result (self.new ≡ []) }
+        ensures err { OnErr result (self.new ≡ self.old) }
+    {
+        let run = Arc::new(alloc, Run::of(sorted_copy(alloc, &self.records)?))?;
+        self.records.clear();
+        Ok(run)
+    }
+}

@@ -1,0 +1,32 @@
+//! The memory part of a table: records as they are written, and frozen runs of them in their order.
+//!
+//! A write goes to the end of one body of bytes, and nothing is ordered by it. Whoever wants to read freezes first: the records
+//! are sorted once and written anew, one after another, as a run that nothing changes.
+//!
+//! | File | What |
+//! |---|---|
+//! | `active` | what is written, until it is frozen |
+//! | `packed` | records in one body of bytes |
+//! | `posting` | the records of an accepted mutation |
+//! | `item`, `sorting` | what a freeze sorts, and the sort |
+//! | `run` | a frozen run |
+//! | `start` | where in a run a search goes |
+//! | `cursor`, `source` | a run that is gone over, as a source of `tab_iter` |
+#![tactic(auto)]
+
+mod active;
+mod cursor;
+mod item;
+mod packed;
+mod posting;
+mod run;
+mod sorting;
+mod source;
+mod start;
+
+pub use active::Active;
+pub use cursor::RunCursor;
+pub use run::Run;
+
+#[cfg(test)]
+mod tests;

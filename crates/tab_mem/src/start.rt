@@ -1,0 +1,30 @@
+//! Where a search in a run goes.
+ghost use Rattle.std.specs.Prelude.{◌≡◌};
+ghost use Rattle.tab_mem.specs.Starts.{is_before};
+
+use tab_key::{Key, RecordRef};
+
+/// The first place that a search may stop at.
+#[derive(Clone, Copy)]
+pub(crate) enum Start<'a> {
+    /// The first record whose key isn't before this one.
+    AtKey(Key<'a>),
+    /// The first record whose column isn't before that of the key.
+    AtColumn(Key<'a>),
+    /// The first record whose row isn't before this one.
+    AtRow(&'a [u8]),
+}
+
+impl<'a> Start<'a> {
+    /// Whether the record stands before the start.
+    #[tactic(auto, unfolding(crate::specs::Starts::is_before))]
+    pub(crate) fn is_after(self, other: &RecordRef<'_>) -> bool
+        ensures { result ≡ is_before self.entry other.now }
+    {
+        match self {
+            Start::AtKey(key) => other.key().cmp(key).is_lt(),
+            Start::AtColumn(key) => other.key().column_cmp(key).is_lt(),
+            Start::AtRow(row) => other.row().cmp(row).is_lt(),
+        }
+    }
+}
