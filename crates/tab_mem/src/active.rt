@@ -82,7 +82,7 @@ impl Active {
 
     /// The records as a run, written anew in their order; none are kept here.
     ///
-    /// It takes memory for the run and, until it returns, for 24 bytes a record. `AllocError` leaves all as it was.
+    /// It takes memory for the run and, until it returns, for 32 bytes a record. `AllocError` leaves all as it was.
     pub fn freeze(&mut self, alloc: Global) -> Result<Arc<Run>, AllocError>
         ensures ok { IfOk result (λ run. run.value ≡ sorted self.old) }
         ensures empty { OnOk result (self.new ≡ []) }
