@@ -3,6 +3,7 @@ pub mod Taking
 pub mod GoingLemmas
 pub mod Reading
 pub mod Saying
+pub mod Batching
 pub mod Scanning
 pub mod Ending
 pub mod Spelling

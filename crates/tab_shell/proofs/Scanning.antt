@@ -24,12 +24,13 @@ use Rattle.tab_history.proofs.Playing.{unmoved}
 use Rattle.tab_core.specs.Stepping.{Steps}
 use Rattle.tab_history.specs.Answers.{told_of}
 use Rattle.tab_lines.specs.declared.line.Line.TheVariants as line
-use Rattle.tab_shell.specs.Texts.{reply_text, refusal_text, scan_text}
+use Rattle.tab_shell.specs.Texts.{reply_text, refusal_text}
+use Rattle.tab_shell.specs.Batches.{IsRestText, left_of}
 use Rattle.tab_shell.specs.Counts.{count_of}
 use Rattle.tab_shell.proofs.Saying.{same_cond}
 use Rattle.tab_lines.specs.declared.line.Line.{Line}
 use Rattle.tab_lines.specs.declared.stop.Stop.{Stop}
-use Rattle.tab_shell.specs.Runs.{Asker, ScriptState, ScriptStands, Scans, Answered, event_by, entry, batch_at, batches, read_out}
+use Rattle.tab_shell.specs.Runs.{Asker, ScriptState, ScriptStands, Scans, Answered, event_by, entry, batch_at, batches, read_out, read_part, ReadsOut}
 
 bytes_self : (x : List ℕ) → bytes_eq x x ≡ true
 bytes_self x = (bytes_eq-Decides x x).1 refl
@@ -175,6 +176,67 @@ module _ (w : World) (user : List ℕ) (slot : ℕ) (all : List Cell) where
   read_unmoved : (es : List Entry) → world_after w (read_out user slot all ++ es) ≡ world_after w es
   read_unmoved es = unmoved w (batches user slot all (suc (length all / 1000)) ++ es) (record { step = Close user slot; reply = Done }) tt ∙ batches_unmoved (suc (length all / 1000)) es
 
+  -- the batch for which memory lacked
+  abbrev lacked : Entry
+  lacked = record { step = Next user slot 1000; reply = Refused NoMemory }
+
+  lacked_moves : (other : List ℕ) (es : List Entry) → moves_of w other (lacked ∷ es) ≡ moves_of w other es
+  unfolding moves_of
+  lacked_moves other es = same_cond (bytes_eq user other) (moves_of w other es)
+
+  lacked_gave : (n : ℕ) (es : List Entry) → Gave es n → Gave (lacked ∷ es) n
+  lacked_gave n es g = ap (λ ms. session_in ms slot) (lacked_moves user es) ∙ g
+
+  -- full batches, one that lacked, and a close
+  part_legal : (k : ℕ) (es : List Entry) → 1000 * k ≤ length all → Legal w es → Gave es 0 → Legal w (read_part user slot all k ++ es)
+  part_legal k es fits legal g =
+      let b = batches_legal k es fits legal g in
+      let before : List Entry = batches user slot all k ++ es in
+      ((b.0, inr (inl refl)), inl (close_right (1000 * k) (lacked ∷ before) (lacked_gave (1000 * k) before b.1)))
+
+  part_opened : (k : ℕ) (es : List Entry) → opened (moves_of w user (read_part user slot all k ++ es)) ≡ opened (moves_of w user es)
+  part_opened k es =
+      let before : List Entry = batches user slot all k ++ es in
+      ap opened (close_moves w user (lacked ∷ before) slot) ∙ closing_opened (moves_of w user (lacked ∷ before)) slot ∙ ap opened (lacked_moves user before) ∙ batches_opened k es
+
+  part_closed : (k : ℕ) (es : List Entry) → closed (moves_of w user (read_part user slot all k ++ es)) ≡ closed (moves_of w user es) + 1
+  part_closed k es =
+      let before : List Entry = batches user slot all k ++ es in
+      ap closed (close_moves w user (lacked ∷ before) slot) ∙ closing_closed (moves_of w user (lacked ∷ before)) slot ∙ ap (λ ms. closed ms + 1) (lacked_moves user before) ∙ ap (λ n. n + 1) (batches_closed k es)
+
+  part_others : (other : List ℕ) (k : ℕ) (es : List Entry) → bytes_eq user other ≡ false → moves_of w other (read_part user slot all k ++ es) ≡ moves_of w other es
+  part_others other k es not =
+      let before : List Entry = batches user slot all k ++ es in
+      other_moves w other (record { step = Close user slot; reply = Done }) (lacked ∷ before) not ∙ lacked_moves other before ∙ batches_others other k es not
+
+  part_unmoved : (k : ℕ) (es : List Entry) → world_after w (read_part user slot all k ++ es) ≡ world_after w es
+  part_unmoved k es =
+      let before : List Entry = batches user slot all k ++ es in
+      unmoved w (lacked ∷ before) (record { step = Close user slot; reply = Done }) tt ∙ unmoved w before lacked tt ∙ batches_unmoved k es
+
+  -- entries that read the session and close it
+  record Reads (out : List Entry) : Type 0 where
+    legal : (es : List Entry) → Legal w es → Gave es 0 → Legal w (out ++ es)
+    opened : (es : List Entry) → opened (moves_of w user (out ++ es)) ≡ opened (moves_of w user es)
+    closed : (es : List Entry) → closed (moves_of w user (out ++ es)) ≡ closed (moves_of w user es) + 1
+    others : (other : List ℕ) (es : List Entry) → bytes_eq user other ≡ false → moves_of w other (out ++ es) ≡ moves_of w other es
+    unmoved : (es : List Entry) → world_after w (out ++ es) ≡ world_after w es
+
+  reads_whole : Reads (read_out user slot all)
+  reads_whole = record { legal = read_legal; opened = read_opened; closed = read_closed; others = read_others; unmoved = read_unmoved }
+
+  reads_part : (k : ℕ) → 1000 * k ≤ length all → Reads (read_part user slot all k)
+  reads_part k fits = record { legal = λ es. part_legal k es fits; opened = part_opened k; closed = part_closed k; others = λ other. part_others other k; unmoved = part_unmoved k }
+
+  reads_out : (out : List Entry) (text : List ℕ) → ReadsOut user slot all out text → Reads out
+  reads_out out text (inl (is, t)) = subst Reads (sym is) reads_whole
+  reads_out out text (inr (k, fits, is, t)) = subst Reads (sym is) (reads_part k fits)
+
+  -- for each text that reading may print there are such entries
+  out_of : (text : List ℕ) → IsRestText all text → (out : List Entry) × ReadsOut user slot all out text
+  out_of text (inl t) = (read_out user slot all, inl (refl, t))
+  out_of text (inr (k, fits, t)) = (read_part user slot all k, inr (k, fits, refl, t))
+
 -- ---- the Open
 -- where fewer were opened than may be, and as many closed, there is room
 has_room : (ms : List Move) (n : ℕ) → opened ms ≡ n → closed ms ≡ n → n < 4294967295 → is_full ms ≡ false
@@ -203,14 +265,14 @@ legal_open : (s : ScriptState) (core : Base) (scan : Scan) (reply : Reply Held) 
 legal_open s core scan reply w h lt steps stands = steps.answers w h stands.core h (λ yes. has_room (moves_of w s.asker.user h) (asked s) (stands.opened s.asker.user) (stands.closed s.asker.user) lt)
 
 -- the session's cells are those that are defined
-scanned_text : (session : Held) (all : List Cell) → session ≡ record { all = all; given = 0 } → scan_text (drop session.given session.all) ≡ scan_text all
-scanned_text session all is = ap (λ (s : Held). scan_text (drop s.given s.all)) is
+scanned_text : (session : Held) (all : List Cell) (text : List ℕ) → session ≡ record { all = all; given = 0 } → IsRestText (left_of session) text → IsRestText all text
+scanned_text session all text is rest = subst (λ (s : Held). IsRestText (left_of s) text) is rest
 
-opened_scans : (who : Asker) (w : World) (h : List Entry) (scan : Scan) (all : List Cell) (text : List ℕ) → all ≡ session_list w.base (journal w h) (Open scan) → text ≡ scan_text all
-    → Scans who w h (event_by who (Open scan)) (Opened tt) (read_out who.user (opened (moves_of w who.user h)) all ++ entry (event_by who (Open scan)) (Opened tt) ∷ []) text
+opened_scans : (who : Asker) (w : World) (h : List Entry) (scan : Scan) (all : List Cell) (out : List Entry) (text : List ℕ) → all ≡ session_list w.base (journal w h) (Open scan) → ReadsOut who.user (opened (moves_of w who.user h)) all out text
+    → Scans who w h (event_by who (Open scan)) (Opened tt) (out ++ entry (event_by who (Open scan)) (Opened tt) ∷ []) text
 unfolding journal
-opened_scans who w h scan all text is t =
-    (ap (λ (xs : List Cell). read_out who.user (opened (moves_of w who.user h)) xs ++ entry (event_by who (Open scan)) (Opened tt) ∷ []) is, t ∙ ap scan_text is)
+opened_scans who w h scan all out text is reads =
+    (out, subst (λ (xs : List Cell). ReadsOut who.user (opened (moves_of w who.user h)) xs out text) is reads, refl)
 
 -- ---- one more session is counted
 -- a number that rises by one for the user alone
@@ -228,7 +290,7 @@ counts_rise : (user : List ℕ) (after : List ℕ → ℕ) (before : List ℕ �
 counts_rise user after before old new risen same raised n = risen n ∙ ap (λ (k : ℕ). cond (bytes_eq user n) (k + 1) k) (same n) ∙ sym (raised n)
 
 -- the moves of an opened session that was read out
-module _ (w : World) (who : Asker) (h : List Entry) (scan : Scan) where
+module _ (w : World) (who : Asker) (h : List Entry) (scan : Scan) (out : List Entry) where
   abbrev all_cells : List Cell
   all_cells = session_list w.base (journal w h) (Open scan)
 
@@ -236,26 +298,28 @@ module _ (w : World) (who : Asker) (h : List Entry) (scan : Scan) where
   begins = entry (event_by who (Open scan)) (Opened tt) ∷ h
 
   abbrev scanned : List Entry
-  scanned = read_out who.user (opened (moves_of w who.user h)) all_cells ++ begins
+  scanned = out ++ begins
 
-  others_unmoved : (other : List ℕ) → bytes_eq who.user other ≡ false → moves_of w other scanned ≡ moves_of w other h
-  others_unmoved other not =
-      read_others w who.user (opened (moves_of w who.user h)) all_cells other begins not ∙ other_moves w other (entry (event_by who (Open scan)) (Opened tt)) h not
+  abbrev ReadsIt : Type 0
+  ReadsIt = Reads w who.user (opened (moves_of w who.user h)) all_cells out
 
-  scan_opened : (n : List ℕ) → opened (moves_of w n scanned) ≡ cond (bytes_eq who.user n) (opened (moves_of w n h) + 1) (opened (moves_of w n h))
-  scan_opened = rises who.user (λ n. opened (moves_of w n scanned)) (λ n. opened (moves_of w n h))
-      (read_opened w who.user (opened (moves_of w who.user h)) all_cells begins ∙ ap opened (open_moves w who h scan tt) ∙ opening_opened (moves_of w who.user h) all_cells)
-      (λ other not. ap opened (others_unmoved other not))
+  others_unmoved : ReadsIt → (other : List ℕ) → bytes_eq who.user other ≡ false → moves_of w other scanned ≡ moves_of w other h
+  others_unmoved reads other not = reads.others other begins not ∙ other_moves w other (entry (event_by who (Open scan)) (Opened tt)) h not
 
-  scan_closed : (n : List ℕ) → closed (moves_of w n scanned) ≡ cond (bytes_eq who.user n) (closed (moves_of w n h) + 1) (closed (moves_of w n h))
-  scan_closed = rises who.user (λ n. closed (moves_of w n scanned)) (λ n. closed (moves_of w n h))
-      (read_closed w who.user (opened (moves_of w who.user h)) all_cells begins ∙ ap (λ n. n + 1) (ap closed (open_moves w who h scan tt) ∙ opening_closed (moves_of w who.user h) all_cells))
-      (λ other not. ap closed (others_unmoved other not))
+  scan_opened : ReadsIt → (n : List ℕ) → opened (moves_of w n scanned) ≡ cond (bytes_eq who.user n) (opened (moves_of w n h) + 1) (opened (moves_of w n h))
+  scan_opened reads = rises who.user (λ n. opened (moves_of w n scanned)) (λ n. opened (moves_of w n h))
+      (reads.opened begins ∙ ap opened (open_moves w who h scan tt) ∙ opening_opened (moves_of w who.user h) all_cells)
+      (λ other not. ap opened (others_unmoved reads other not))
 
-pub scan_answered : (s : ScriptState) (core : Base) (counts : List (List ℕ × ℕ)) (scan : Scan) (session : Held) → asked s < 4294967295 → Steps s.core (event_by s.asker (Open scan)) (Opened session) core
+  scan_closed : ReadsIt → (n : List ℕ) → closed (moves_of w n scanned) ≡ cond (bytes_eq who.user n) (closed (moves_of w n h) + 1) (closed (moves_of w n h))
+  scan_closed reads = rises who.user (λ n. closed (moves_of w n scanned)) (λ n. closed (moves_of w n h))
+      (reads.closed begins ∙ ap (λ n. n + 1) (ap closed (open_moves w who h scan tt) ∙ opening_closed (moves_of w who.user h) all_cells))
+      (λ other not. ap closed (others_unmoved reads other not))
+
+pub scan_answered : (s : ScriptState) (core : Base) (counts : List (List ℕ × ℕ)) (scan : Scan) (session : Held) (text : List ℕ) → asked s < 4294967295 → Steps s.core (event_by s.asker (Open scan)) (Opened session) core
     → ((n : List ℕ) → count_of counts n ≡ cond (bytes_eq s.asker.user n) (count_of s.opened n + 1) (count_of s.opened n))
-    → Answered s (Ok (line.Scan scan)) (scan_text (drop session.given session.all)) (with_sessions s core counts)
-scan_answered s core counts scan session lt steps raised = record {
+    → IsRestText (left_of session) text → Answered s (Ok (line.Scan scan)) text (with_sessions s core counts)
+scan_answered s core counts scan session text lt steps raised rest = record {
   asker = refl;
   goes = λ w h stands legal.
       let user : List ℕ = s.asker.user in
@@ -263,21 +327,23 @@ scan_answered s core counts scan session lt steps raised = record {
       let all : List Cell = session_list w.base (journal w h) (Open scan) in
       let slot : ℕ = opened (moves_of w user h) in
       let first : List Entry = e ∷ h in
-      let out : List Entry = read_out user slot all in
+      let read = out_of w user slot all text (scanned_text session all text (steps.hands w h stands.core) rest) in
+      let out : List Entry = read.0 in
+      let reads : Reads w user slot all out = reads_out w user slot all out text read.1 in
       let moved : moves_of w user first ≡ Opening all ∷ moves_of w user h = open_moves w s.asker h scan tt in
       let begun : Legal w first = (legal, legal_open s core scan (Opened session) w h lt steps stands) in
       let held : session_in (moves_of w user first) slot ≡ Some (record { all = all; given = 0 }) = ap (λ ms. session_in ms slot) moved ∙ session_opened (moves_of w user h) all in
       let whole : (out ++ e ∷ []) ++ h ≡ out ++ first = append_assoc out (e ∷ []) h in
-      let after : StandsFor (world_of core) (world_after w (out ++ first)) = subst (λ (v : World). StandsFor (world_of core) v) (sym (read_unmoved w user slot all first)) (steps.stands w h stands.core) in
+      let after : StandsFor (world_of core) (world_after w (out ++ first)) = subst (λ (v : World). StandsFor (world_of core) v) (sym (reads.unmoved first)) (steps.stands w h stands.core) in
       let new : ScriptState = with_sessions s core counts in
       let stood : ScriptStands new w (out ++ first) = record {
         core = after;
-        opened = counts_rise user (λ n. opened (moves_of w n (out ++ first))) (λ n. opened (moves_of w n h)) s.opened counts (scan_opened w s.asker h scan) stands.opened raised;
-        closed = counts_rise user (λ n. closed (moves_of w n (out ++ first))) (λ n. closed (moves_of w n h)) s.opened counts (scan_closed w s.asker h scan) stands.closed raised;
+        opened = counts_rise user (λ n. opened (moves_of w n (out ++ first))) (λ n. opened (moves_of w n h)) s.opened counts (scan_opened w s.asker h scan out reads) stands.opened raised;
+        closed = counts_rise user (λ n. closed (moves_of w n (out ++ first))) (λ n. closed (moves_of w n h)) s.opened counts (scan_closed w s.asker h scan out reads) stands.closed raised;
       } in (
         out ++ e ∷ [],
-        (Opened tt, opened_scans s.asker w h scan all (scan_text (drop session.given session.all)) refl (scanned_text session all (steps.hands w h stands.core))),
-        subst (λ (es : List Entry). Legal w es) (sym whole) (read_legal w user slot all first begun held),
+        (Opened tt, opened_scans s.asker w h scan all out text refl read.1),
+        subst (λ (es : List Entry). Legal w es) (sym whole) (reads.legal first begun held),
         subst (λ (es : List Entry). ScriptStands new w es) (sym whole) stood,
       );
 }

@@ -8,7 +8,7 @@ use Rattle.tab_io.proofs.Putting.{put_more, front_more, front_longer}
 use Rattle.tab_text.specs.Lines.{after_spaces}
 use Rattle.tab_shell.specs.Texts.{held_word}
 
-each-append : {X : Type 0} (f : X → List ℕ) (a b : List X) → flat_map f (a ++ b) ≡ flat_map f a ++ flat_map f b
+pub each-append : {X : Type 0} (f : X → List ℕ) (a b : List X) → flat_map f (a ++ b) ≡ flat_map f a ++ flat_map f b
 each-append f [] b = refl
 each-append f (x ∷ xs) b = ap (λ t. f x ++ t) (each-append f xs b) ∙ sym (append_assoc (f x) (flat_map f xs) (flat_map f b))
 

@@ -1,5 +1,5 @@
 -- What a script's lines do, and what is printed.
-use Rattle.std.specs.Prelude.{ℕ, zero, suc, ℤ, pos, ◌≡◌, ◌==◌, ◌*◌, ◌/◌, Bool, not, List, [], ◌∷◌, ◌++◌, length, take, drop, Result, Ok, Err}
+use Rattle.std.specs.Prelude.{ℕ, zero, suc, ℤ, pos, ◌≡◌, ◌≤◌, ◌⊎◌, ◌==◌, ◌*◌, ◌/◌, Bool, not, List, [], ◌∷◌, ◌++◌, length, take, drop, Result, Ok, Err}
 use Rattle.std.specs.List.{prefix_len}
 use Rattle.tab_key.specs.Records.{Cell}
 use Rattle.tab_policy.specs.Roots.{root}
@@ -22,7 +22,7 @@ use Rattle.tab_lines.specs.declared.stop.Stop.TheVariants as stop
 use Rattle.tab_lines.specs.Gives.{Gives}
 use Rattle.tab_lines.specs.Lines.{line_of}
 use Rattle.tab_shell.specs.Counts.{count_of}
-use Rattle.tab_shell.specs.Texts.{reply_text, refusal_text, fault_text, scan_text}
+use Rattle.tab_shell.specs.Texts.{reply_text, refusal_text, fault_text, scan_text, lacking_text}
 
 -- ---- what a script holds between lines
 -- who asks, and when
@@ -68,12 +68,22 @@ batches user slot all (suc k) = record { step = Next user slot 1000; reply = Bat
 abbrev pub read_out : List ℕ → ℕ → List Cell → List Entry
 read_out user slot all = record { step = Close user slot; reply = Done } ∷ batches user slot all (suc (length all / 1000))
 
--- a scan's steps and its text: a refusal; or all batches of the session that the Open gave, a close, and all its cells with an end
+-- k full batches, one for which memory lacked, and then a close
+abbrev pub read_part : List ℕ → ℕ → List Cell → ℕ → List Entry
+read_part user slot all k = record { step = Close user slot; reply = Done } ∷ record { step = Next user slot 1000; reply = Refused refusal.NoMemory } ∷ batches user slot all k
+
+-- the steps that read a session, and their text: all batches, and all cells with an end; or full batches until memory lacked, and their cells with the refusal
+abbrev pub ReadsOut : List ℕ → ℕ → List Cell → List Entry → List ℕ → Type 0
+ReadsOut user slot all es text =
+    ((es ≡ read_out user slot all) × (text ≡ scan_text all))
+    ⊎ ((k : ℕ) × (1000 * k ≤ length all) × (es ≡ read_part user slot all k) × (text ≡ lacking_text (take (1000 * k) all)))
+
+-- a scan's steps and its text: a refusal; or those that read the session that the Open gave
 abbrev pub Scans : Asker → World → List Entry → Event → Told → List Entry → List ℕ → Type 0
 Scans who w h event (Refused r) es text = (es ≡ entry event (Refused r) ∷ []) × (text ≡ refusal_text r)
 Scans who w h event (Opened session) es text =
     let all : List Cell = session_list w.base (journal w (entry event (Opened session) ∷ h)) event.act in
-    (es ≡ read_out who.user (opened (moves_of w who.user h)) all ++ entry event (Opened session) ∷ []) × (text ≡ scan_text all)
+    (out : List Entry) × ReadsOut who.user (opened (moves_of w who.user h)) all out text × (es ≡ out ++ entry event (Opened session) ∷ [])
 Scans who w h event Done es text = ⊥
 Scans who w h event (Batch cells) es text = ⊥
 Scans who w h event (OwnRights rights) es text = ⊥

@@ -136,3 +136,7 @@ fault_text = codes "line fault\n"
 -- all cells of a scan, and an end
 abbrev pub scan_text : List Cell → List ℕ
 scan_text cells = flat_map cell_text cells ++ codes "end\n"
+
+-- the cells of some batches of a scan, and that memory lacked for the next one
+abbrev pub lacking_text : List Cell → List ℕ
+lacking_text cells = flat_map cell_text cells ++ refusal_text refusal.NoMemory

@@ -6,16 +6,18 @@
 //! |---|---|
 //! | `rights` | the text of one's own rights |
 //! | `script` | a core that answers lines: one line, the lines that are here, a whole input |
+//! | `batches` | a scan's cells, batch by batch |
 //! | `counts` | how many sessions were opened for each user |
 //! | `pending` | the line that has begun, and how the next one is taken |
 //! | `reply` | the texts of replies |
 //! | `refusal` | the texts of refusals |
 //!
 //! `specs/Texts` has the lines of a text and the texts of replies, `specs/Counts` counts by user, `specs/Runs` what a line
-//! does and prints, for every history that the core stands for, `specs/Ahead` what is to come where a line has begun,
+//! does and prints, for every history that the core stands for, `specs/Batches` what reading a session prints, `specs/Ahead` what is to come where a line has begun,
 //! `specs/Going` how far a run has come, also where the reader or the writer failed.
 #![tactic(auto)]
 
+mod batches;
 mod counts;
 mod pending;
 mod refusal;

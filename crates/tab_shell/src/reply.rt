@@ -3,7 +3,7 @@ ghost use Rattle.std.specs.Prelude.{◌≡◌};
 ghost use Rattle.std.specs.List.{flat_map};
 ghost use Rattle.tab_io.specs.Streams.{Puts, FailsByFault};
 ghost use Rattle.tab_text.specs.Lines.{cell_text};
-ghost use Rattle.tab_shell.specs.Texts.{reply_text, scan_text};
+ghost use Rattle.tab_shell.specs.Texts.{reply_text};
 
 use crate::refusal::put_refusal;
 use crate::rights::put_rights;
@@ -31,18 +31,8 @@ pub fn write_reply<W: Output>(output: &mut W, reply: &Reply) -> Result<(), Write
     }
 }
 
-/// Writes all cells of a scan, and an end.
-#[tactic(auto, using(tab_io::proofs::Putting::puts_more, tab_io::proofs::Putting::front_longer))]
-pub fn put_scan<W: Output>(output: &mut W, cells: &[Cell]) -> Result<(), WriteFault>
-    ensures bytes { Puts (W.contents output.old) (W.held output.old) (W.contents output.new) (W.held output.new) (scan_text cells.now) result }
-    ensures faults { FailsByFault result (W.faults output.old) (W.faults output.new) (W.budget output.new) }
-{
-    put_cells(output, cells)?;
-    output.put(b"end\n")
-}
-
-// Each cell on a line of its own.
-fn put_cells<W: Output>(output: &mut W, cells: &[Cell]) -> Result<(), WriteFault>
+/// Each cell on a line of its own.
+pub(crate) fn put_cells<W: Output>(output: &mut W, cells: &[Cell]) -> Result<(), WriteFault>
     ensures bytes { Puts (W.contents output.old) (W.held output.old) (W.contents output.new) (W.held output.new) (flat_map cell_text cells.now) result }
     ensures faults { FailsByFault result (W.faults output.old) (W.faults output.new) (W.budget output.new) }
 {

@@ -11,9 +11,10 @@ ghost use Rattle.tab_shell.specs.Runs.{event_by, new_script};
 ghost use Rattle.tab_shell.specs.Ahead.{OpensNone};
 ghost use Rattle.tab_shell.specs.Going.{Prints, PrintsFront, Goes, Fails, Stopped, Ends, StopsAfter, FailedSide};
 
+use crate::batches::put_session;
 use crate::counts::Counts;
 use crate::pending::{Pending, take_line};
-use crate::reply::{put_scan, write_reply};
+use crate::reply::write_reply;
 use std::alloc::{AllocError, Global};
 use std::marker::Model;
 use tab_core::{Core, Session, told};
@@ -213,8 +214,7 @@ impl Script {
         }
     }
 
-    // The same where one more session can be counted. All cells of the session are written as they lie in it, which is
-    // what its batches give.
+    // The same where one more session can be counted. Its session is read to the end, or until memory lacks, and dropped.
     fn open<W: Output>(&mut self, scan: Scan, output: &mut W) -> Result<(), WriteFault>
         requires there { is_some (at_name self.old.asker.user self.old.opened) ≡ true }
         requires few { count_of self.old.opened self.old.asker.user < 4294967295 }
@@ -224,9 +224,9 @@ impl Script {
     {
         let event = self.event(Act::Open(scan));
         match self.core.step(self.alloc, event) {
-            Reply::Opened(session) => {
+            Reply::Opened(mut session) => {
                 self.opened.raise(&self.user);
-                put_scan(output, session.rest())
+                put_session(self.alloc, &mut session, output)
             }
             reply => write_told(output, reply),
         }

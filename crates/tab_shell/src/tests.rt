@@ -33,6 +33,33 @@ fn answers_lines(rt: HostRuntime) -> Result<(), Fail> {
     Ok(())
 }
 
+// Adds a line that writes one cell in this row of table t.
+fn push_insert(lines: &mut Vec<u8>, row: usize) -> Result<(), Fail> {
+    lines.extend_from_slice(b"insert t ")?;
+    for unit in [1000, 100, 10, 1] {
+        lines.push(b'0' + (row / unit % 10) as u8)?;
+    }
+    lines.extend_from_slice(b" f q \\e v 1\n")?;
+    Ok(())
+}
+
+// So many cells are one line each behind the replies to their writes, and an end, whatever batches they come in.
+#[test]
+fn prints_scans_of_several_batches(rt: HostRuntime) -> Result<(), Fail> {
+    for cells in [999, 1000, 1001, 2000] {
+        let mut lines = Vec::from_slice(rt.alloc(), b"createtable t\n")?;
+        for row in 0..cells {
+            push_insert(&mut lines, row)?;
+        }
+        lines.extend_from_slice(b"scan t \\0\n")?;
+        let text = printed(rt.alloc(), lines.as_slice(), 1000)?;
+        let ends = text.iter().filter(|byte| **byte == b'\n').count();
+        assert_eq!(rt; ends, 2 + 2 * cells);
+        assert!(rt; text.as_slice().ends_with(b" f q \\e 1 v\nend\n"));
+    }
+    Ok(())
+}
+
 #[test]
 fn writes_replies(rt: HostRuntime) -> Result<(), Fail> {
     for (reply, want) in [
