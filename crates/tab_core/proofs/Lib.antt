@@ -3,6 +3,7 @@ pub mod Dropping
 pub mod Found
 pub mod Limits
 pub mod Making
+pub mod Opening
 pub mod OwnerLemmas
 pub mod RightActs
 pub mod Runs

@@ -72,10 +72,3 @@ shaped_labels m i d e lt =
     let rows = none_right (when (nat_lt 1000 (length m.updates)) (TooLarge part.Updates)) (first_some (when (is_too_long m.row) (TooLarge part.Row) ∷ first_found long_name 0 m.updates ∷ first_found long_value 0 m.updates ∷ [])) size in
     let names = none_right (when (is_too_long m.row) (TooLarge part.Row)) (first_some (first_found long_name 0 m.updates ∷ first_found long_value 0 m.updates ∷ [])) rows in
     names_short m.updates 0 i d (none_left (first_found long_name 0 m.updates) (first_some (first_found long_value 0 m.updates ∷ [])) names) lt
-
-pub shaped_few : (m : Mutation) → misshape m ≡ None → length m.updates ≤ 1000
-unfolding misshape
-shaped_few m e =
-    let size = none_right (empty m.updates) (oversize m) e in
-    let few : nat_lt 1000 (length m.updates) ≡ false = unmet _ _ (none_left (when (nat_lt 1000 (length m.updates)) (TooLarge part.Updates)) (first_some (when (is_too_long m.row) (TooLarge part.Row) ∷ first_found long_name 0 m.updates ∷ first_found long_value 0 m.updates ∷ [])) size) in
-    grind (arith, nat_tests)

@@ -1,9 +1,9 @@
 -- What each act makes of a core.
-use Rattle.std.proofs.Common.{◌≡◌, ◌⊎◌, inl, inr, ℕ, ◌+◌, ◌<◌, List, [], ◌∷◌, ◌++◌, Bool, true, false, cond, not, ◌&&◌, refl, sym, ◌∙◌, ap, subst, Option, Some, None, reverse, map, arith}
-use Rattle.std.specs.Prelude.{ℤ, Contains, is_some, bytes_eq, find}
+use Rattle.std.proofs.Common.{◌≡◌, ◌⊎◌, inl, inr, ℕ, ◌+◌, ◌<◌, List, [], ◌∷◌, ◌++◌, Bool, true, false, cond, not, ◌&&◌, refl, sym, ◌∙◌, ap, subst, Option, Some, None, Result, Ok, Err, reverse, map, arith}
+use Rattle.std.specs.Prelude.{ℤ, IfOk, OnErr, Contains, is_some, bytes_eq, find}
 use Rattle.std.specs.List.Sorted.{IsStrictlySortedBy}
 use Rattle.std.proofs.lemmas.Slice.Eq.{bytes_eq-Decides}
-use Rattle.tab_key.specs.Records.{Record, Cell}
+use Rattle.tab_key.specs.Records.{Record}
 use Rattle.tab_key.specs.Order.{record_cmp}
 use Rattle.tab_key.specs.Sorted.{sorted}
 use Rattle.tab_key.specs.declared.part.Part.TheVariants as part
@@ -25,6 +25,7 @@ use Rattle.tab_history.specs.declared.event.Scan.{Scan}
 use Rattle.tab_history.specs.declared.event.TimeMode.{TimeMode}
 use Rattle.tab_history.specs.declared.reply.Refusal.{Refusal}
 use Rattle.tab_history.specs.declared.reply.Refusal.TheVariants.{TooLarge, TableExists, NoUser, NoMemory}
+use Rattle.tab_history.specs.declared.reply.Reply.{Reply}
 use Rattle.tab_history.specs.declared.reply.Reply.TheVariants.{Done, Refused, Opened}
 use Rattle.tab_history.specs.Bases.{Base, BaseTable}
 use Rattle.tab_history.specs.Settings.{Settings, made_with}
@@ -331,19 +332,29 @@ open_refused b now user scan auths r core held h = refused (own_answer b now use
     go (inl e) = inl (ap (λ o. told o told_opened) e ∙ sym (own_open b now user scan auths held))
     go (inr e) = let is : r ≡ NoMemory = cc in inr (inl (ap (λ x. Refused x) is))
 
-pub open_done : (b : Base) (now : ℤ) (user : List ℕ) (scan : Scan) (auths : List (List ℕ)) (cells : List Cell) (session : Held) → IsCore b → auths_of b.policy user ≡ auths
-    → (None ≡ first_some (scan_checks auths scan)) ⊎ (None ≡ Some NoMemory) → cells ≡ listed (records_in b.tables scan.table) (query_of scan) (settings_in b.tables scan.table) → session ≡ record { all = cells; given = 0 }
+pub open_done : (b : Base) (now : ℤ) (user : List ℕ) (scan : Scan) (auths : List (List ℕ)) (session : Held) → IsCore b → auths_of b.policy user ≡ auths
+    → (None ≡ first_some (scan_checks auths scan)) ⊎ (None ≡ Some NoMemory) → session ≡ record { all = listed (records_in b.tables scan.table) (query_of scan) (settings_in b.tables scan.table); given = 0 }
     → Acts (own_answer b now user (act.Open scan)) b now user (act.Open scan) (Opened session) b
 unfolding session_list settings_of updates_of
-open_done b now user scan auths cells session core held h shows is = record {
+open_done b now user scan auths session core held h is = record {
   answers = inl (go h ∙ sym (own_open b now user scan auths held));
   becomes = becomes_same b core;
-  hands = is ∙ ap (λ all. record { all = all; given = 0 }) shows;
+  hands = is;
 }
   where
     go : (None ≡ first_some (scan_checks auths scan)) ⊎ (None ≡ Some NoMemory) → told_opened ≡ told (first_some (scan_checks auths scan)) told_opened
     go (inl e) = ap (λ o. told o told_opened) e
     go (inr e) = absurd (cc)
+
+-- whether there was memory for it or not
+pub open_either : {E : Type 0} (b : Base) (now : ℤ) (user : List ℕ) (scan : Scan) (auths : List (List ℕ)) (made : Result Held E) (reply : Reply Held) → IsCore b → auths_of b.policy user ≡ auths
+    → (None ≡ first_some (scan_checks auths scan)) ⊎ (None ≡ Some NoMemory) → IfOk made (λ session. session ≡ record { all = listed (records_in b.tables scan.table) (query_of scan) (settings_in b.tables scan.table); given = 0 })
+    → IfOk made (λ session. reply ≡ Opened session) → OnErr made (reply ≡ Refused NoMemory)
+    → Acts (own_answer b now user (act.Open scan)) b now user (act.Open scan) reply b
+open_either b now user scan auths (Ok session) reply core held h is opened failed =
+    subst (λ r. Acts (own_answer b now user (act.Open scan)) b now user (act.Open scan) r b) (sym opened) (open_done b now user scan auths session core held h is)
+open_either b now user scan auths (Err e) reply core held h is opened failed =
+    subst (λ r. Acts (own_answer b now user (act.Open scan)) b now user (act.Open scan) r b) (sym failed) (lacked (own_answer b now user (act.Open scan)) b now user (act.Open scan) core)
 
 -- ---- who is admitted
 pub is_known : (b : Base) (user : List ℕ) (a : Act) → IsAdmitted b user a → user_exists b.policy user ≡ true

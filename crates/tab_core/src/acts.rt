@@ -1,11 +1,10 @@
 //! What each event does; those on users and on permissions stand in `users` and `granting`.
-ghost use Rattle.std.specs.Prelude.{◌≡◌, true};
+ghost use Rattle.std.specs.Prelude.{◌≡◌, true, IfOk, OnErr};
 ghost use Rattle.tab_core.specs.Stepping.{Acts, IsAdmitted, own_answer};
 
-use crate::Core;
 use crate::checking::{mutation_refusal, scan_refusal, too_many_auths};
-use crate::session::Session;
 use crate::table::Table;
+use crate::{Core, Session};
 use std::alloc::{AllocError, Global};
 use tab_history::{Act, Refusal, Reply, Scan, TimeMode};
 use tab_key::{Items, Name, Part};
@@ -112,7 +111,7 @@ impl Core {
         if self.next == u64::MAX {
             return Reply::Refused(Refusal::TooLarge(Part::Numbers));
         }
-        match self.tables.write(alloc, &table, &mutation, self.next, now) {
+        match self.tables.write(&table, &mutation, self.next, now) {
             Ok(()) => {
                 self.next += 1;
                 Reply::Done
@@ -132,9 +131,17 @@ impl Core {
         if let Some(refusal) = scan_refusal(alloc, auths, &scan) {
             return Reply::Refused(refusal);
         }
-        match self.tables.scan(alloc, &scan) {
-            Ok(cells) => Reply::Opened(Session::new(cells)),
-            Err(AllocError) => Reply::Refused(Refusal::NoMemory),
-        }
+        handed(self.tables.scan(alloc, scan))
+    }
+}
+
+// The session is handed out, if it could be made.
+fn handed(made: Result<Session, AllocError>) -> Reply<Session>
+    ensures ok { IfOk made (λ session. result ≡ Reply.Opened session) }
+    ensures err { OnErr made (result ≡ Reply.Refused Refusal.NoMemory) }
+{
+    match made {
+        Ok(session) => Reply::Opened(session),
+        Err(AllocError) => Reply::Refused(Refusal::NoMemory),
     }
 }

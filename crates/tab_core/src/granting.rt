@@ -1,9 +1,8 @@
 //! Permissions granted and revoked, and what a user is told of his own.
 ghost use Rattle.tab_core.specs.Stepping.{Acts, IsAdmitted, own_answer};
 
-use crate::Core;
 use crate::checking::right_refusal;
-use crate::session::Session;
+use crate::{Core, Session};
 use std::alloc::AllocError;
 use tab_history::{Act, Refusal, Reply, Rights};
 use tab_key::Name;

@@ -3,7 +3,7 @@ ghost use Rattle.std.specs.Prelude.{◌≡◌};
 ghost use Rattle.tab_history.specs.Answers.{told_of};
 ghost use Rattle.tab_core.specs.Stepping.{moves_clock};
 
-use crate::session::Session;
+use crate::Session;
 use tab_history::{Refusal, Reply};
 use tab_key::Part;
 

@@ -4,7 +4,7 @@ ghost use Rattle.tab_history.specs.Sessions.{Held};
 ghost use Rattle.tab_core.specs.Slots.{slot_at, are_full, NextFrom, CloseFrom};
 ghost use Rattle.tab_core.specs.Owners.{kept_with};
 
-use crate::session::Session;
+use crate::Session;
 use std::alloc::{AllocError, Global};
 use std::marker::Model;
 use std::mem;
@@ -47,7 +47,7 @@ impl Slots {
     fn count_open(&self) -> usize
         ensures { result ≡ count_by is_some self.now }
     {
-        self.slots.iter().filter(|slot| slot.is_some()).count()
+        count_full(&self.slots)
     }
 
     /// Adds an empty slot, before the session is there.
@@ -74,7 +74,7 @@ impl Slots {
         ensures { (slots : List (Option Held)) → self.old ≡ slots ++ None ∷ [] → self.new ≡ slots ++ Some session ∷ [] }
     {
         if let Some(last) = self.slots.len().checked_sub(1) {
-            let _ = mem::replace(&mut self.slots[last], Some(session));
+            put(&mut self.slots[last], Some(session));
         }
     }
 
@@ -119,4 +119,18 @@ impl Slots {
             None => Reply::Refused(Refusal::NoSession(slot)),
         }
     }
+}
+
+// How many of the places hold something.
+fn count_full<T>(places: &[Option<T>]) -> usize
+    ensures { result ≡ count_by is_some places.now }
+{
+    places.iter().filter(|place| place.is_some()).count()
+}
+
+// Puts the value into the place, and drops what stood there.
+fn put<T: Drop>(place: &mut T, value: T)
+    ensures { place.new ≡ value }
+{
+    let _ = mem::replace(place, value);
 }

@@ -7,9 +7,9 @@ ghost use Rattle.tab_history.specs.Histories.{world_of};
 ghost use Rattle.tab_history.specs.Standing.{StandsFor};
 ghost use Rattle.tab_core.specs.Stepping.{Steps, Acts, IsAdmitted, own_answer};
 
+use crate::Session;
 use crate::policing::{action_of, denial};
 use crate::reply::moves_clock;
-use crate::session::Session;
 use crate::tables::Tables;
 use std::alloc::{AllocError, Global};
 use std::marker::Model;

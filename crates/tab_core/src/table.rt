@@ -1,12 +1,15 @@
 //! One table.
-ghost use Rattle.std.specs.Prelude.{◌≡◌, []};
+ghost use Rattle.std.specs.Prelude.{◌≡◌, [], IfOk};
+ghost use Rattle.tab_history.specs.Answers.{query_of};
+ghost use Rattle.tab_history.specs.Cells.{cells};
 ghost use Rattle.tab_history.specs.Settings.{least};
 
-use std::alloc::Global;
-use tab_history::TimeMode;
+use crate::Session;
+use std::alloc::{AllocError, Global};
+use tab_history::{Scan, TimeMode};
 use tab_key::Items;
-use tab_list::RecordList;
 use tab_rules::Constraint;
+use tab_tablet::Tablet;
 
 /// What a table is set to, and its records.
 #[derive(Drop)]
@@ -20,7 +23,7 @@ pub struct Table {
     /// The time below which it takes no update.
     pub horizon: i64,
     /// All records that it was given.
-    pub records: RecordList,
+    pub records: Tablet,
 }
 
 impl Table {
@@ -33,7 +36,16 @@ impl Table {
             versions,
             constraints: Items::new(alloc),
             horizon: i64::MIN,
-            records: RecordList::new(alloc),
+            records: Tablet::new(alloc),
         }
+    }
+
+    /// A session on what the scan shows of the table as it is now. An error leaves the table as it was.
+    pub fn open(&mut self, alloc: Global, scan: Scan) -> Result<Session, AllocError>
+        ensures same { self.new ≡ self.old }
+        ensures opened { IfOk result (λ s. s ≡ record { all = cells self.old.records self.old.versions (query_of scan); given = 0 }) }
+    {
+        let version = self.records.open(alloc, &scan.bounds)?;
+        Ok(Session::new(version, scan.columns, scan.authorizations, self.versions))
     }
 }

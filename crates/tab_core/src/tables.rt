@@ -1,7 +1,5 @@
 //! Tables by name.
-ghost use Rattle.std.specs.Prelude.{◌≡◌, ◌<◌, ◌≤◌, ◌++◌, ℕ, List, [], Option, Some, None, true, false, cond, reverse, map, length, Contains, is_some, bytes_eq, option_copied, IfOk, OnOk, OnErr};
-ghost use Rattle.std.specs.List.Sorted.{IsStrictlySortedBy};
-ghost use Rattle.tab_key.specs.Order.{record_cmp};
+ghost use Rattle.std.specs.Prelude.{◌≡◌, ◌<◌, ◌++◌, ℕ, List, [], Option, Some, None, true, false, cond, reverse, map, Contains, is_some, bytes_eq, option_copied, IfOk, OnOk, OnErr};
 ghost use Rattle.tab_key.specs.Records.{Record};
 ghost use Rattle.tab_key.specs.Sorted.{sorted};
 ghost use Rattle.tab_policy.specs.Entries.{at_name, changed_at};
@@ -10,14 +8,16 @@ ghost use Rattle.tab_history.specs.Readings.{numbered, constrained};
 ghost use Rattle.tab_history.specs.Answers.{listed, query_of};
 ghost use Rattle.tab_core.specs.Tables.{settings_in, records_in, found_settings, found_records, table_settings, with_constraints, with_records};
 
+use crate::Session;
 use crate::table::Table;
 use std::alloc::{AllocError, Global};
 use std::collections::BTreeMap;
 use std::marker::Model;
 use tab_history::Scan;
-use tab_key::{Cell, Items, Name};
+use tab_key::{Items, Name};
 use tab_mutation::Mutation;
 use tab_rules::Constraint;
+use tab_version::Version;
 
 /// The tables that there are.
 #[derive(Drop)]
@@ -116,51 +116,68 @@ impl Tables {
     /// Puts the updates of an accepted mutation into the table, which must be there. An error leaves the tables as they were.
     pub fn write(
         &mut self,
-        alloc: Global,
         name: &Name,
         mutation: &Mutation,
         seq: u64,
         clock: i64,
     ) -> Result<(), AllocError>
         requires there { is_some (settings_in self.old name.now) ≡ true }
-        requires few { length mutation.now.updates ≤ 1000 }
         requires unused { (u : Record) → Contains (records_in self.old name.now) u → u.seq < seq }
         ensures settings { (q : List ℕ) → settings_in self.new q ≡ settings_in self.old q }
         ensures records { OnOk result ((q : List ℕ) → records_in self.new q ≡ cond (bytes_eq name.now q)
             (sorted (numbered seq mutation.now.row (reverse (map (posted clock) mutation.now.updates)) ++ records_in self.old name.now)) (records_in self.old q)) }
         ensures err { OnErr result ((q : List ℕ) → records_in self.new q ≡ records_in self.old q) }
     {
-        write(&mut self.by_name, alloc, name, mutation, seq, clock)
+        write(&mut self.by_name, name, mutation, seq, clock)
     }
 
-    /// What a scan shows; nothing, where there is no such table.
-    pub fn scan(&self, alloc: Global, scan: &Scan) -> Result<Items<Cell>, AllocError>
-        ensures { IfOk result (λ cells. cells ≡ listed (records_in self.now scan.now.table) (query_of scan.now) (settings_in self.now scan.now.table)) }
+    /// A session on what a scan shows; on nothing, where there is no such table. An error leaves the tables as they were.
+    pub fn scan(&mut self, alloc: Global, scan: Scan) -> Result<Session, AllocError>
+        ensures same { self.new ≡ self.old }
+        ensures opened { IfOk result (λ s. s ≡ record { all = listed (records_in self.old scan.table) (query_of scan) (settings_in self.old scan.table); given = 0 }) }
     {
-        let Some(table) = self.get(&scan.table) else {
-            return Ok(Items::new(alloc));
-        };
-        Ok(Items::from_vec(table.records.scan(alloc, table.versions, scan)?))
+        scan_in(&mut self.by_name, alloc, scan)
     }
 }
 
 fn write(
     tables: &mut BTreeMap<Name, Table>,
-    alloc: Global,
     name: &Name,
     mutation: &Mutation,
     seq: u64,
     clock: i64,
 ) -> Result<(), AllocError>
     requires there { is_some (at_name name.now tables.old.entries) ≡ true }
-    requires few { length mutation.now.updates ≤ 1000 }
     requires unused { (u : Record) → Contains (found_records (at_name name.now tables.old.entries)) u → u.seq < seq }
     ensures ok { OnOk result ((q : List ℕ) → at_name q tables.new.entries ≡ changed_at name.now
         (with_records (sorted (numbered seq mutation.now.row (reverse (map (posted clock) mutation.now.updates)) ++ found_records (at_name name.now tables.old.entries)))) tables.old.entries q) }
     ensures err { OnErr result ((q : List ℕ) → at_name q tables.new.entries ≡ at_name q tables.old.entries) }
 {
     match tables.get_mut(name) {
-        Some(table) => table.records.write(alloc, mutation, seq, clock),
+        Some(table) => table.records.write(mutation, seq, clock),
         None => Ok(()),
     }
+}
+
+// A session on what the scan shows of its table, or on nothing.
+fn scan_in(
+    tables: &mut BTreeMap<Name, Table>,
+    alloc: Global,
+    scan: Scan,
+) -> Result<Session, AllocError>
+    ensures same { tables.new.entries ≡ tables.old.entries }
+    ensures opened { IfOk result (λ s. s ≡ record { all = listed (found_records (at_name scan.table tables.old.entries)) (query_of scan) (found_settings (at_name scan.table tables.old.entries)); given = 0 }) }
+{
+    match tables.get_mut(&scan.table) {
+        Some(table) => table.open(alloc, scan),
+        None => Ok(empty(alloc, scan)),
+    }
+}
+
+// A session without cells. It takes no memory.
+fn empty(alloc: Global, scan: Scan) -> Session
+    ensures { result ≡ record { all = []; given = 0 } }
+{
+    let version = Version::new(Vec::new(alloc));
+    Session::new(version, scan.columns, scan.authorizations, 0)
 }

@@ -3,6 +3,8 @@
 mod accepted;
 mod asking;
 mod comparing;
+mod plain_list;
+mod random;
 mod refused;
 mod runs;
 mod sessions;
@@ -36,9 +38,15 @@ fn answered(
 // The text of an answer: the values that a session shows, or what is told.
 fn answer_text(alloc: Global, reply: Reply<Session>) -> Result<Vec<u8>, Fail> {
     match reply {
-        Reply::Opened(session) => Ok(values(alloc, session.rest())?),
+        Reply::Opened(mut session) => next(&mut session, alloc, u32::MAX),
         reply => Ok(reply_text(alloc, &told(reply))?),
     }
+}
+
+// The text of the next batch.
+fn next(session: &mut Session, alloc: Global, count: u32) -> Result<Vec<u8>, Fail> {
+    let cells = session.next_batch(alloc, count)?;
+    Ok(values(alloc, cells.as_slice())?)
 }
 
 // Asks line by line, and compares the answers.

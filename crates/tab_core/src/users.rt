@@ -1,9 +1,8 @@
 //! Users made and dropped.
 ghost use Rattle.tab_core.specs.Stepping.{Acts, own_answer};
 
-use crate::Core;
 use crate::checking::is_root;
-use crate::session::Session;
+use crate::{Core, Session};
 use std::alloc::AllocError;
 use tab_history::{Act, Refusal, Reply};
 use tab_key::Name;

@@ -1,2 +1,4 @@
 pub mod Steps
 pub mod Apart
+pub mod Orders
+pub mod Judgements

@@ -1,5 +1,6 @@
 -- Several lists of records as one rising list.
-use Rattle.std.specs.Prelude.{◌≡◌, ℕ, ◌<◌, ◌-◌, Option, Some, None, List, [], ◌∷◌, ◌++◌, Bool, true, false, drop, length, slice_index_or, ◌≢◌}
+use Rattle.std.specs.Prelude.{◌≡◌, ℕ, ◌<◌, ◌-◌, Option, Some, None, List, [], ◌∷◌, ◌++◌, Bool, true, false, drop, length, slice_index_or, ◌≢◌, ⊤, IsSome, is_some}
+use Rattle.std.specs.List.{AllByRecursion}
 use Rattle.std.specs.Ordering.{is_lt}
 use Rattle.tab_key.specs.Order.{record_cmp}
 use Rattle.tab_key.specs.Records.{Record}
@@ -27,13 +28,26 @@ is_better (Some r) (Some s) = is_lt (record_cmp r s)
 abbrev pub first_in : List (List Record) → ℕ → Option Record
 first_in xss k = first_of (slice_index_or xss k [])
 
--- of the first n lists none stands before the one at b
-abbrev pub Leads : List (List Record) → ℕ → ℕ → Type 0
-Leads xss n b = (k : ℕ) → k < n → is_better (first_in xss k) (first_in xss b) ≡ false
+-- none of the lists stands before the one at b
+abbrev pub Leads : List (List Record) → ℕ → Type 0
+Leads xss b = (k : ℕ) → is_better (first_in xss k) (first_in xss b) ≡ false
 
--- of the first n lists none but the one at b stands before the one at s
-abbrev pub Follows : List (List Record) → ℕ → ℕ → ℕ → Type 0
-Follows xss n b s = (k : ℕ) → k < n → k ≢ b → is_better (first_in xss k) (first_in xss s) ≡ false
+-- the place is none of these
+abbrev pub IsOutside : List ℕ → ℕ → Type 0
+IsOutside os k = AllByRecursion (λ o. o ≢ k) os
+
+-- the list at o is another than the one at p, and doesn't stand before it
+abbrev pub IsBehind : List (List Record) → ℕ → ℕ → Type 0
+IsBehind xss o p = (o ≢ p) × (is_better (first_in xss o) (first_in xss p) ≡ false)
+
+-- along these places the first records fall: each list has one, and is behind the lists of the places after it
+abbrev pub Falls : List (List Record) → List ℕ → Type 0
+Falls xss [] = ⊤
+Falls xss (o ∷ os) = IsSome (first_in xss o) × (AllByRecursion (IsBehind xss o) os × Falls xss os)
+
+-- a list outside these places is empty
+abbrev pub Covers : List (List Record) → List ℕ → Type 0
+Covers xss os = (k : ℕ) → IsOutside os k → is_some (first_in xss k) ≡ false
 
 -- xs is what is left of w after some of its first records, said as an equation
 abbrev pub IsEnding : List Record → List Record → Type 0

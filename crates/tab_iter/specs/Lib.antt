@@ -1,8 +1,10 @@
 pub mod Lists
 pub mod ListLaws
 pub mod ListSourceLaws
+pub mod Lost
 pub mod Layers
 pub mod Columns
+pub mod Judging
 pub mod Remembered
 pub mod ColumnLaws
 pub mod FilteredLaws

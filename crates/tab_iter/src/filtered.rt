@@ -35,6 +35,18 @@ impl<S: Source + Drop, R: Rule + Drop> Filtered<S, R> {
             lost: false,
         })
     }
+
+    /// The same, of which nothing was read: there is no top, and each advance answers NoMemory, until a seek succeeds.
+    pub fn unread(source: S, rule: R) -> Filtered<S, R>
+        ensures whole { ⟦<Filtered<S, R> as Source>⟧.whole result ≡ filter (R.admits rule (S.whole source)) (S.whole source) }
+        ensures lost { ⟦<Filtered<S, R> as Source>⟧.is_lost result ≡ true }
+    {
+        Filtered {
+            source,
+            rule,
+            lost: true,
+        }
+    }
 }
 
 impl<S: Source, R: Rule> Source for Filtered<S, R> {

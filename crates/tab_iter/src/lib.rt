@@ -30,7 +30,7 @@ mod versioning;
 pub use choosing::Chosen;
 pub use deleting::Deletes;
 pub use filtered::Filtered;
-pub use layers::{Deleting, Fetching, Stack, Versioning, Visible, stack_of};
+pub use layers::{Deleting, Fetching, Stack, Versioning, Visible, stack_of, unread_stack_of};
 pub use list_source::{ListSource, is_rising};
 pub use merging::Merging;
 pub use rule::Rule;

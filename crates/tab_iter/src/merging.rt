@@ -1,53 +1,51 @@
 //! The one rising list of several sources.
-ghost use Rattle.std.specs.Prelude.{◌≡◌, ◌≢◌, ◌+◌, ℕ, ◌<◌, None, IsSome, List, [], Bool, true, false, cond, map, length, IfOk, IfSome, OnOk, Option, slice_index_or, slice_set};
+ghost use Rattle.std.specs.Prelude.{◌≡◌, ◌≢◌, ℕ, ◌<◌, ◌≤◌, None, IsSome, List, [], Bool, true, false, cond, map, length, IfOk, IfSome, OnOk, Option, slice_index_or, slice_set};
 ghost use Rattle.std.specs.Bool.{OnTrue, OnFalse};
+ghost use Rattle.std.specs.List.{AllByRecursion};
+ghost use Rattle.std.specs.List.Sorted.{IsPartitionPoint};
 ghost use Rattle.tab_key.specs.Records.{Record};
 ghost use Rattle.tab_key.specs.KeyOf.{key_of};
 ghost use Rattle.tab_key.specs.Sorted.{sorted, IsDistinct};
 ghost use Rattle.tab_iter.specs.Lists.{first_of, tail, from_key};
-ghost use Rattle.tab_iter.specs.Bags.{flat, IsEnding, is_better, first_in, Leads, Follows};
-ghost use Rattle.tab_iter.specs.MergingLaws.{IsDistinct-prop, Leads-prop, Follows-prop};
+ghost use Rattle.tab_iter.specs.Bags.{flat, IsEnding, is_better, first_in, Falls, Covers, IsOutside};
+ghost use Rattle.tab_iter.specs.MergingLaws.{IsDistinct-prop, Falls-prop, Covers-prop};
 
 use crate::{NoMemory, Source};
 use tab_key::{Key, RecordRef};
 
-// The place of the source whose first record stands before those of the others, and of the one that is next to it.
-// A place past the end stands for no source.
-#[derive(Clone, Copy)]
-struct Ahead {
-    first: usize,
-    second: usize,
-}
-
 /// The records of several sources, no two of which stand at one place.
 ///
-/// As long as records come from one source, an advance compares two of them; else it compares the first records of all sources.
+/// It keeps its sources in the order of their first records. An advance mostly compares two records; where another source
+/// comes first, it finds the new place by halves, and a source that has ended leaves the order.
 #[derive(Drop)]
 pub struct Merging<S: Source> {
     sources: Vec<S>,
-    ahead: Ahead,
+    // the places of the sources that have records left; the one whose first record stands before the others is the last
+    order: Vec<usize>,
     // NoMemory was answered, and no seek has succeeded since
     lost: bool,
     ghost distinct: { IsDistinct (flat (map S.whole sources.items)) } by { IsDistinct-prop (flat (map S.whole sources.items)) },
     ghost synced: { lost ≡ false → IsEnding (sorted (flat (map S.rest sources.items))) (sorted (flat (map S.whole sources.items))) },
-    ghost leads: { lost ≡ false → Leads (map S.rest sources.items) (length sources.items) ahead.first } by { λ p q. Leads-prop lost (map S.rest sources.items) (length sources.items) ahead.first p q },
-    ghost follows: { lost ≡ false → Follows (map S.rest sources.items) (length sources.items) ahead.first ahead.second } by { λ p q. Follows-prop lost (map S.rest sources.items) (length sources.items) ahead.first ahead.second p q },
+    ghost falls: { lost ≡ false → Falls (map S.rest sources.items) order.items } by { λ p q. Falls-prop lost (map S.rest sources.items) order.items p q },
+    ghost covers: { lost ≡ false → Covers (map S.rest sources.items) order.items } by { λ p q. Covers-prop lost (map S.rest sources.items) order.items p q },
 }
 
-impl<S: Source> Merging<S> {
-    /// The records of all of these.
-    pub fn new(sources: Vec<S>) -> Merging<S>
+impl<S: Source + Drop> Merging<S> {
+    /// The records of all of these. The error comes only from want of memory.
+    pub fn new(sources: Vec<S>) -> Result<Merging<S>, NoMemory>
         requires distinct { IsDistinct (flat (map S.whole sources.items)) }
         requires at_start { map S.rest sources.items ≡ map S.whole sources.items }
-        ensures whole { ⟦<Merging<S> as Source>⟧.whole result ≡ sorted (flat (map S.whole sources.items)) }
-        ensures rest { ⟦<Merging<S> as Source>⟧.rest result ≡ sorted (flat (map S.rest sources.items)) }
+        ensures whole { IfOk result (λ m. ⟦<Merging<S> as Source>⟧.whole m ≡ sorted (flat (map S.whole sources.items))) }
+        ensures rest { IfOk result (λ m. ⟦<Merging<S> as Source>⟧.rest m ≡ sorted (flat (map S.rest sources.items))) }
     {
-        let ahead = ahead_of(&sources);
-        Merging {
+        let alloc = *sources.allocator();
+        let mut order = Vec::with_capacity(alloc, sources.len())?;
+        put_all(&sources, &mut order)?;
+        Ok(Merging {
             sources,
-            ahead,
+            order,
             lost: false,
-        }
+        })
     }
 }
 
@@ -74,82 +72,88 @@ impl<S: Source> Source for Merging<S> {
         if self.lost {
             return None;
         }
-        top_at(&self.sources, self.ahead.first)
+        match self.order.last() {
+            None => None,
+            Some(place) => top_at(&self.sources, *place),
+        }
     }
 
     fn advance(&mut self) -> Result<(), NoMemory> {
         if self.lost {
             return Err(NoMemory);
         }
-        if is_empty_at(&self.sources, self.ahead.first) {
-            return Ok(());
+        match self.order.pop() {
+            None => Ok(()),
+            Some(place) => {
+                self.lost = true;
+                advance_at(&mut self.sources, place)?;
+                put(&self.sources, &mut self.order, place)?;
+                self.lost = false;
+                Ok(())
+            }
         }
-        self.lost = true;
-        advance_at(&mut self.sources, self.ahead.first)?;
-        self.ahead = ahead_after(&self.sources, self.ahead);
-        self.lost = false;
-        Ok(())
     }
 
     fn seek(&mut self, key: Key<'_>) -> Result<(), NoMemory> {
         self.lost = true;
         seek_all(&mut self.sources, key)?;
-        self.ahead = ahead_of(&self.sources);
+        put_all(&self.sources, &mut self.order)?;
         self.lost = false;
         Ok(())
     }
 }
 
-// The sources whose first records stand first and next.
-fn ahead_of<S: Source>(sources: &[S]) -> Ahead
-    ensures leads { Leads (map S.rest sources.now) (length sources.now) result.first }
-    ensures follows { Follows (map S.rest sources.now) (length sources.now) result.first result.second }
+// Makes the order of all sources anew.
+fn put_all<S: Source>(sources: &[S], order: &mut Vec<usize>) -> Result<(), NoMemory>
+    ensures falls { OnOk result (Falls (map S.rest sources.now) order.new.items) }
+    ensures covers { OnOk result (Covers (map S.rest sources.now) order.new.items) }
 {
-    let mut ahead = Ahead {
-        first: sources.len(),
-        second: sources.len(),
-    };
+    order.clear();
     for i in 0..sources.len() {
-        ahead = ahead_with(sources, ahead, i);
+        put(sources, order, i)?;
     }
-    ahead
+    Ok(())
 }
 
-// The same for one source more than those before it.
-fn ahead_with<S: Source>(sources: &[S], ahead: Ahead, i: usize) -> Ahead
-    requires leads { Leads (map S.rest sources.now) i ahead.first }
-    requires follows { Follows (map S.rest sources.now) i ahead.first ahead.second }
-    ensures leads { Leads (map S.rest sources.now) (i + 1) result.first }
-    ensures follows { Follows (map S.rest sources.now) (i + 1) result.first result.second }
+// Puts the source at this place into the order, if it has records left.
+fn put<S: Source>(sources: &[S], order: &mut Vec<usize>, place: usize) -> Result<(), NoMemory>
+    requires falls { Falls (map S.rest sources.now) order.old.items }
+    requires outside { IsOutside order.old.items place }
+    ensures falls { OnOk result (Falls (map S.rest sources.now) order.new.items) }
+    ensures inside { OnOk result (IsOutside order.new.items place → first_in (map S.rest sources.now) place ≡ None) }
+    ensures kept { OnOk result ((k : ℕ) → IsOutside order.new.items k → IsOutside order.old.items k) }
+    ensures others { OnOk result ((k : ℕ) → k ≢ place → IsOutside order.old.items k → IsOutside order.new.items k) }
 {
-    if is_better(sources, i, ahead.first) {
-        return Ahead {
-            first: i,
-            second: ahead.first,
-        };
+    if is_empty_at(sources, place) {
+        return Ok(());
     }
-    if is_better(sources, i, ahead.second) {
-        return Ahead {
-            first: ahead.first,
-            second: i,
-        };
+    if is_next(sources, order, place) {
+        order.push(place)?;
+        return Ok(());
     }
-    ahead
+    let at = count_behind(sources, order, place);
+    order.insert(at, place)?;
+    Ok(())
 }
 
-// The same once the first source has advanced. Mostly its next record too stands before that of the second.
-fn ahead_after<S: Source>(sources: &[S], ahead: Ahead) -> Ahead
-    requires { ahead.second ≢ ahead.first → Follows (map S.rest sources.now) (length sources.now) ahead.first ahead.second }
-    ensures leads { Leads (map S.rest sources.now) (length sources.now) result.first }
-    ensures follows { Follows (map S.rest sources.now) (length sources.now) result.first result.second }
+// Whether no source of the order stands before this one.
+fn is_next<S: Source>(sources: &[S], order: &[usize], place: usize) -> bool
+    requires { Falls (map S.rest sources.now) order.now }
+    ensures { OnTrue result (AllByRecursion (λ o. is_better (first_in (map S.rest sources.now) o) (first_in (map S.rest sources.now) place) ≡ false) order.now) }
 {
-    if ahead.second == ahead.first {
-        return ahead_of(sources);
+    match order.last() {
+        None => true,
+        Some(first) => !is_better(sources, *first, place),
     }
-    if is_better(sources, ahead.second, ahead.first) {
-        return ahead_of(sources);
-    }
-    ahead
+}
+
+// How many sources of the order don't stand before this one. They are its first ones.
+fn count_behind<S: Source>(sources: &[S], order: &[usize], place: usize) -> usize
+    requires { Falls (map S.rest sources.now) order.now }
+    ensures within { result ≤ length order.now }
+    ensures parted { IsPartitionPoint (λ o. is_better (first_in (map S.rest sources.now) o) (first_in (map S.rest sources.now) place) ≡ false) (λ o. is_better (first_in (map S.rest sources.now) o) (first_in (map S.rest sources.now) place) ≡ true) order.now result }
+{
+    order.partition_point(|other| !is_better(sources, *other, place))
 }
 
 // Whether the first record of one source stands before that of the other. One that is empty stands last.

@@ -3,7 +3,7 @@ ghost use Rattle.std.specs.Prelude.{◌≡◌, List, [], Bool, true, OnOk, IsErr
 ghost use Rattle.std.specs.Result.{is_err};
 ghost use Rattle.tab_key.specs.KeyOf.{key_of};
 
-use std::alloc::AllocError;
+use std::alloc::{AllocError, AllocFailed};
 use tab_key::{Key, RecordRef};
 
 /// A growth was refused.
@@ -12,6 +12,12 @@ pub struct NoMemory;
 
 impl From<AllocError> for NoMemory {
     fn from(_: AllocError) -> NoMemory {
+        NoMemory
+    }
+}
+
+impl<T: Drop> From<AllocFailed<T>> for NoMemory {
+    fn from(_: AllocFailed<T>) -> NoMemory {
         NoMemory
     }
 }

@@ -17,6 +17,9 @@ use std::test::Fail;
 use tab_key::{ByteString, Column, Key, Kind, Record};
 use tab_label::AuthSet;
 
+mod failing;
+mod many;
+
 #[derive(Clone, Copy)]
 struct Line {
     key: Key<'static>,
@@ -119,7 +122,7 @@ fn from_key(alloc: Global, want: &[u64], key: Key<'_>) -> Result<Vec<u64>, Alloc
 // The numbers of the records that are left.
 fn numbers<S: Source>(alloc: Global, source: &mut S) -> Result<Vec<u64>, AllocError> {
     let mut numbers = Vec::new(alloc);
-    for _ in 0..100 {
+    for _ in 0..1000 {
         let Some(record) = source.top() else {
             return Ok(numbers);
         };
@@ -296,7 +299,8 @@ fn dealt(rt: &impl Abort, alloc: Global) -> Result<Vec<ListSource>, AllocError>
 #[test]
 fn merges(rt: HostRuntime) -> Result<(), Fail> {
     let alloc = rt.alloc();
-    let mut merged = Merging::new(dealt(&rt, alloc)?);
+    let merged = Merging::new(dealt(&rt, alloc)?);
+    let mut merged = merged.or(Err(AllocError))?;
     let all = [7, 6, 8, 5, 4, 10, 9, 3, 11, 12, 14, 13, 15, 16, 17];
     reads(&rt, alloc, &mut merged, &all)?;
     Ok(())

@@ -10,7 +10,7 @@ use Rattle.std.specs.List.{AllByRecursion}
 use Rattle.tab_key.specs.Bytes.{bytes_cmp}
 use Rattle.tab_key.specs.Order.{column_cmp, key_cmp, place_cmp, record_cmp}
 use Rattle.tab_key.proofs.Order.{record_cmp_total}
-use Rattle.tab_mem.proofs.Eights.{less_eight}
+use Rattle.tab_mem.proofs.Sixteens.{less_sixteen}
 use Rattle.tab_key.specs.Records.{Record}
 use Rattle.tab_mem.specs.Fronts.{padded, IsFront}
 
@@ -72,7 +72,7 @@ less_from m n e = grind (arith, nat_tests)
 
 less_fronts : (a b : Record) (m n : ℕ) → IsFront m a.key.row → IsFront n b.key.row → nat_cmp m n ≡ Less → record_cmp a b ≡ Less
 less_fronts a b m n p q e =
-    row_first a b (less_rows 8 a.key.row b.key.row (less_eight (padded 8 a.key.row) (padded 8 b.key.row) (length_padded 8 a.key.row) (length_padded 8 b.key.row) q.bytes (omega (arith, less_from m n e, p.value, q.value))))
+    row_first a b (less_rows 16 a.key.row b.key.row (less_sixteen (padded 16 a.key.row) (padded 16 b.key.row) (length_padded 16 a.key.row) (length_padded 16 b.key.row) q.bytes (omega (arith, less_from m n e, p.value, q.value))))
 
 pub front_decides : (a b : Record) (m n : ℕ) (o : Ordering) → IsFront m a.key.row → IsFront n b.key.row → nat_cmp m n ≡ o → o ≢ Equal → o ≡ record_cmp a b
 front_decides a b m n Less p q e other = sym (less_fronts a b m n p q e)

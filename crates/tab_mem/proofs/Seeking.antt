@@ -1,5 +1,6 @@
 -- Where the records from a start on begin.
-use Rattle.std.proofs.Common.{◌≡◌, ◌⊎◌, inl, inr, ℕ, zero, suc, ◌+◌, ◌<◌, ◌≤◌, List, [], ◌∷◌, Bool, true, false, cond, refl, sym, ◌∙◌, ap, length, drop, arith, one-add}
+use Rattle.std.proofs.Common.{◌≡◌, ◌⊎◌, inl, inr, ℕ, zero, suc, ◌+◌, ◌<◌, ◌≤◌, List, [], ◌∷◌, Bool, true, false, cond, not, refl, sym, ◌∙◌, ap, length, take, drop, arith, one-add}
+use Rattle.std.specs.Prelude.{filter}
 use Rattle.std.specs.List.{AllByRecursion, slice_index_or, prefix_len}
 use Rattle.std.specs.List.Sorted.{IsStrictlySortedBy}
 use Rattle.std.specs.Cmp.{IsTotalOrder}
@@ -9,6 +10,7 @@ use Rattle.std.specs.declared.cmp.Ordering.{Ordering}
 use Rattle.std.specs.declared.cmp.Ordering.TheVariants.{Less, Equal, Greater}
 use mathlib.Core.Bool.{true≢false}
 use Rattle.tab_key.specs.Bytes.{bytes_cmp}
+use Rattle.tab_key.specs.Ranges.{is_above, is_below}
 use Rattle.tab_key.specs.KeyOf.{key_of}
 use Rattle.tab_key.specs.Records.{Key, Record}
 use Rattle.tab_key.specs.Order.{kind_rank, column_cmp, key_cmp, place_cmp, newer_cmp, record_cmp}
@@ -16,7 +18,8 @@ use Rattle.tab_key.proofs.Order.{column_cmp_total, key_cmp_total}
 use Rattle.tab_mem.specs.Lists.{from_key, from_column, from_row}
 use Rattle.tab_mem.specs.Starts.{is_before, from_start}
 use Rattle.tab_mem.specs.declared.start.Start.{Start}
-use Rattle.tab_mem.specs.declared.start.Start.TheVariants.{AtKey, AtColumn, AtRow}
+use Rattle.tab_mem.specs.declared.start.Start.TheVariants.{AtKey, AtColumn, AtRow, AtLow, PastHigh}
+use Rattle.tab_mem.proofs.Rows.{by_bool, twice, rows_rise, above_more, below_less}
 
 -- ---- what is left after the records before a start
 dropped : (v : Bool) (p : Record → Bool) (r : Record) (rs from : List Record) → drop (prefix_len p rs) rs ≡ from → drop (cond v (1 + prefix_len p rs) 0) (r ∷ rs) ≡ cond v from (r ∷ rs)
@@ -34,12 +37,6 @@ column_drops k (r ∷ rs) = dropped (is_lt (column_cmp r.key k)) _ r rs (from_co
 row_drops : (row : List ℕ) (rs : List Record) → drop (prefix_len (λ r. is_lt (bytes_cmp r.key.row row)) rs) rs ≡ from_row row rs
 row_drops row [] = refl
 row_drops row (r ∷ rs) = dropped (is_lt (bytes_cmp r.key.row row)) _ r rs (from_row row rs) (row_drops row rs)
-
-pub start_drops : (s : Start) (rs : List Record) → drop (prefix_len (is_before s) rs) rs ≡ from_start s rs
-unfolding is_before from_start
-start_drops (AtKey k) rs = key_drops (key_of k) rs
-start_drops (AtColumn k) rs = column_drops (key_of k) rs
-start_drops (AtRow row) rs = row_drops row.now rs
 
 -- ---- who stands before a record before the start is before the start
 -- what stands before isn't after, by a part of the order that is compared first
@@ -72,11 +69,51 @@ down : {K : Type 0} (cmp : K → K → Ordering) → IsTotalOrder cmp → (x y k
 down cmp total x y k (inl e) b = ap is_lt (total.trans x y k e (lt_less (cmp y k) b))
 down cmp total x y k (inr e) b = ap is_lt (total.congr x y k e) ∙ b
 
-before_down : (s : Start) (x y : Record) → record_cmp x y ≡ Less → is_before s y ≡ true → is_before s x ≡ true
+pub before_down : (s : Start) (x y : Record) → record_cmp x y ≡ Less → is_before s y ≡ true → is_before s x ≡ true
 unfolding is_before
 before_down (AtKey k) x y less b = down key_cmp key_cmp_total x.key y.key (key_of k) (upto_key x y less) b
 before_down (AtColumn k) x y less b = down column_cmp column_cmp_total x.key y.key (key_of k) (upto_column x y less) b
 before_down (AtRow row) x y less b = down bytes_cmp nat_list_cmp_total x.key.row y.key.row row.now (upto_row x y less) b
+before_down (AtLow low) x y less b = by_bool (is_above low.now x.key.row) (λ e. absurd (true≢false (sym b ∙ ap not (above_more low.now x.key.row y.key.row (rows_rise x y less) e)))) (λ e. ap not e)
+before_down (PastHigh high) x y less b = below_less high.now x.key.row y.key.row (rows_rise x y less) b
+
+-- ---- what a test that only the first records of a rising list pass keeps, and what it leaves
+all_kept : (p q : Record → Bool) → ((x y : Record) → record_cmp x y ≡ Less → p y ≡ true → p x ≡ true) → ((u : Record) → q u ≡ not (p u)) → (x : Record) → p x ≡ false → (ys : List Record) → AllByRecursion (λ y. record_cmp x y ≡ Less) ys → filter q ys ≡ ys
+all_kept p q falls turned x never [] a = refl
+all_kept p q falls turned x never (y ∷ ys) a =
+    let kept : q y ≡ true = by_bool (p y) (λ e. absurd (true≢false (sym (falls x y a.0 e) ∙ never))) (λ e. turned y ∙ ap not e) in
+    rw kept (ap (λ ls. y ∷ ls) (all_kept p q falls turned x never ys a.1))
+
+none_kept : (p : Record → Bool) → ((x y : Record) → record_cmp x y ≡ Less → p y ≡ true → p x ≡ true) → (x : Record) → p x ≡ false → (ys : List Record) → AllByRecursion (λ y. record_cmp x y ≡ Less) ys → filter p ys ≡ []
+none_kept p falls x never [] a = refl
+none_kept p falls x never (y ∷ ys) a =
+    let left : p y ≡ false = by_bool (p y) (λ e. absurd (true≢false (sym (falls x y a.0 e) ∙ never))) (λ e. e) in
+    rw left (none_kept p falls x never ys a.1)
+
+rest_kept : (p q : Record → Bool) → ((x y : Record) → record_cmp x y ≡ Less → p y ≡ true → p x ≡ true) → ((u : Record) → q u ≡ not (p u)) → (rs : List Record) → IsStrictlySortedBy record_cmp rs → drop (prefix_len p rs) rs ≡ filter q rs
+unfolding IsStrictlySortedBy
+rest_kept p q falls turned [] r = refl
+rest_kept p q falls turned (x ∷ xs) r = by_bool (p x)
+    (λ e. rw (e, turned x, e, one-add) (rest_kept p q falls turned xs r.1))
+    (λ e. rw (e, turned x, e) (ap (λ ls. x ∷ ls) (sym (all_kept p q falls turned x e xs r.0))))
+
+front_kept : (p : Record → Bool) → ((x y : Record) → record_cmp x y ≡ Less → p y ≡ true → p x ≡ true) → (rs : List Record) → IsStrictlySortedBy record_cmp rs → take (prefix_len p rs) rs ≡ filter p rs
+unfolding IsStrictlySortedBy
+front_kept p falls [] r = refl
+front_kept p falls (x ∷ xs) r = by_bool (p x)
+    (λ e. rw (e, one-add) (ap (λ ls. x ∷ ls) (front_kept p falls xs r.1)))
+    (λ e. rw e (sym (none_kept p falls x e xs r.0)))
+
+pub start_drops : (s : Start) (rs : List Record) → IsStrictlySortedBy record_cmp rs → drop (prefix_len (is_before s) rs) rs ≡ from_start s rs
+unfolding is_before from_start
+start_drops (AtKey k) rs r = key_drops (key_of k) rs
+start_drops (AtColumn k) rs r = column_drops (key_of k) rs
+start_drops (AtRow row) rs r = row_drops row.now rs
+start_drops (AtLow low) rs r = rest_kept _ (λ u. is_above low.now u.key.row) (before_down (AtLow low)) (λ u. twice (is_above low.now u.key.row)) rs r
+start_drops (PastHigh high) rs r = rest_kept _ (λ u. not (is_below high.now u.key.row)) (before_down (PastHigh high)) (λ u. refl) rs r
+
+pub start_takes : (s : Start) (rs : List Record) → IsStrictlySortedBy record_cmp rs → take (prefix_len (is_before s) rs) rs ≡ filter (is_before s) rs
+start_takes s rs r = front_kept (is_before s) (before_down s) rs r
 
 -- ---- one step of the search
 all_at : (P : Record → Type 0) (xs : List Record) → AllByRecursion P xs → (i : ℕ) (d : Record) → i < length xs → P (slice_index_or xs i d)

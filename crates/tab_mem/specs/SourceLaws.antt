@@ -1,5 +1,5 @@
 -- A cursor over a run is a source.
-use Rattle.std.specs.Prelude.{◌≡◌, List, [], true, false, take}
+use Rattle.std.specs.Prelude.{◌≡◌, [], true, false}
 use mathlib.Core.Bool.{true≢false}
 use Rattle.std.proofs.Common.{sym}
 use Rattle.tab_iter.specs.Lists.{IsRising, IsTimely, IsEnd}

@@ -82,14 +82,15 @@ impl Active {
 
     /// The records as a run, written anew in their order; none are kept here.
     ///
-    /// It takes memory for the run and, until it returns, for 32 bytes a record. `AllocError` leaves all as it was.
+    /// It takes memory for the run and, until it returns, for 48 bytes a record; the memory of what was written is given back.
+    /// `AllocError` leaves all as it was.
     pub fn freeze(&mut self, alloc: Global) -> Result<Arc<Run>, AllocError>
         ensures ok { IfOk result (λ run. run.value ≡ sorted self.old) }
         ensures empty { OnOk result (self.new ≡ []) }
         ensures err { OnErr result (self.new ≡ self.old) }
     {
         let run = Arc::new(alloc, Run::of(sorted_copy(alloc, &self.records)?))?;
-        self.records.clear();
+        self.records = Packed::new(alloc);
         Ok(run)
     }
 }

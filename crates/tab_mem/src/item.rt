@@ -7,10 +7,11 @@ use std::cmp::Ordering;
 use std::marker::Model;
 use tab_key::RecordRef;
 
-/// A record, lent, with the first eight bytes of its row as a number. Mostly that number decides which record stands before.
+/// A record, lent, with the first 16 bytes of its row as a number. Mostly that number decides which record stands before, and
+/// the record's own bytes, which lie elsewhere, aren't read.
 #[derive(Drop)]
 pub(crate) struct Item<'a> {
-    front: u64,
+    front: u128,
     lent: RecordRef<'a>,
 }
 
@@ -53,19 +54,19 @@ impl<'a> Item<'a> {
     }
 }
 
-// The number that the first eight bytes of the row spell, with zeros behind a shorter row.
-fn front_of(row: &[u8]) -> u64
+// The number that the first 16 bytes of the row spell, with zeros behind a shorter row.
+fn front_of(row: &[u8]) -> u128
     ensures { IsFront result row.now }
 {
-    u64::from_be_bytes(padded(row))
+    u128::from_be_bytes(padded(row))
 }
 
-// The first eight bytes of the row, with zeros behind a shorter row.
-fn padded(row: &[u8]) -> [u8; 8]
-    ensures { result ≡ padded 8 row.now }
+// The first 16 bytes of the row, with zeros behind a shorter row.
+fn padded(row: &[u8]) -> [u8; 16]
+    ensures { result ≡ padded 16 row.now }
 {
-    let mut front = [0u8; 8];
-    write_front(&mut front, &row[..row.len().min(8)]);
+    let mut front = [0u8; 16];
+    write_front(&mut front, &row[..row.len().min(16)]);
     front
 }
 

@@ -10,8 +10,8 @@
 //! | `posting` | the records of an accepted mutation |
 //! | `item`, `sorting` | what a freeze sorts, and the sort |
 //! | `run` | a frozen run |
-//! | `start` | where in a run a search goes |
-//! | `cursor`, `source` | a run that is gone over, as a source of `tab_iter` |
+//! | `start`, `searching` | where in a run a search goes, and the searches |
+//! | `cursor`, `source` | a part of a run that is gone over, as a source of `tab_iter` |
 #![tactic(auto)]
 
 mod active;
@@ -20,6 +20,7 @@ mod item;
 mod packed;
 mod posting;
 mod run;
+mod searching;
 mod sorting;
 mod source;
 mod start;

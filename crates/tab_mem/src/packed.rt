@@ -115,12 +115,4 @@ impl Packed {
             }
         }
     }
-
-    /// Drops all records, and keeps the memory for others.
-    pub(crate) fn clear(&mut self)
-        ensures { self.new ≡ [] }
-    {
-        self.body.clear();
-        self.places.clear();
-    }
 }

@@ -40,7 +40,7 @@ fn copied(alloc: Global, items: &[Item<'_>], bytes: usize) -> Result<Packed, All
 
 /// Copies of the records in their order, one after another in one body of the same size.
 ///
-/// It takes memory for the copies and, until it returns, for 32 bytes a record.
+/// It takes memory for the copies and, until it returns, for 48 bytes a record.
 pub(crate) fn sorted_copy(alloc: Global, records: &Packed) -> Result<Packed, AllocError>
     requires { IsDistinct records.now }
     ensures { IfOk result (λ p. p ≡ sorted records.now) }

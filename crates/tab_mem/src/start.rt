@@ -2,7 +2,7 @@
 ghost use Rattle.std.specs.Prelude.{◌≡◌};
 ghost use Rattle.tab_mem.specs.Starts.{is_before};
 
-use tab_key::{Key, RecordRef};
+use tab_key::{Bound, Key, RecordRef};
 
 /// The first place that a search may stop at.
 #[derive(Clone, Copy)]
@@ -13,6 +13,10 @@ pub(crate) enum Start<'a> {
     AtColumn(Key<'a>),
     /// The first record whose row isn't before this one.
     AtRow(&'a [u8]),
+    /// The first record whose row isn't below this low end.
+    AtLow(&'a Bound),
+    /// The first record whose row is above this high end.
+    PastHigh(&'a Bound),
 }
 
 impl<'a> Start<'a> {
@@ -25,6 +29,8 @@ impl<'a> Start<'a> {
             Start::AtKey(key) => other.key().cmp(key).is_lt(),
             Start::AtColumn(key) => other.key().column_cmp(key).is_lt(),
             Start::AtRow(row) => other.row().cmp(row).is_lt(),
+            Start::AtLow(low) => !low.is_above(other.row()),
+            Start::PastHigh(high) => high.is_below(other.row()),
         }
     }
 }

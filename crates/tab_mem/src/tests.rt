@@ -6,18 +6,18 @@ use std::alloc::{AllocError, Global};
 use std::cmp::Ordering;
 use std::process::Abort;
 use std::test::Fail;
-use tab_key::{Key, RecordRef};
+use tab_key::{Bound, Bounds, ByteString, Key, RecordRef};
 use tab_mutation::Mutation;
 
-// The rows in the order of their bytes: some are alike in the first eight.
+// The rows in the order of their bytes: some are alike in the first 16.
 const ROWS: [&[u8]; 8] = [
     b"",
     b"\0",
     b"k",
     b"k\0",
-    b"kkkkkkkk",
-    b"kkkkkkkk\0",
-    b"kkkkkkkkl",
+    b"kkkkkkkkkkkkkkkk",
+    b"kkkkkkkkkkkkkkkk\0",
+    b"kkkkkkkkkkkkkkkkl",
     b"\xff",
 ];
 
@@ -211,10 +211,9 @@ fn from<'a>(all: &'a [Seen], sought: &Seen, by: By) -> &'a [Seen] {
 }
 
 // Seeks from wherever the cursor stands, by key, column and row.
-fn expect_seeks(rt: &impl Abort, run: &Run, all: &[Seen], random: &mut Random) {
-    let mut cursor = RunCursor::new(run);
+fn expect_seeks(rt: &impl Abort, mut cursor: RunCursor<'_>, all: &[Seen], random: &mut Random) {
     expect_rest(rt, &mut cursor, all);
-    for _ in 0..20 {
+    for _ in 0..10 {
         let row = random.below(8) as usize;
         let sought = random_update(random, row, 0, 0);
         let key = Key {
@@ -231,6 +230,47 @@ fn expect_seeks(rt: &impl Abort, run: &Run, all: &[Seen], random: &mut Random) {
         cursor.seek_row(key.row);
         expect_rest(rt, &mut cursor, from(all, &sought, By::Row));
     }
+}
+
+// The rows behind one of the rows, up to another.
+fn bounds_of(alloc: Global, low: usize, high: usize) -> Result<Bounds, AllocError> {
+    let low = ROWS.get(low).copied().unwrap_or(b"");
+    let high = ROWS.get(high).copied().unwrap_or(b"");
+    Ok(Bounds {
+        low: Bound::Exclusive(ByteString::from_slice(alloc, low)?),
+        high: Bound::Inclusive(ByteString::from_slice(alloc, high)?),
+    })
+}
+
+// Those of these rows.
+fn in_rows(alloc: Global, all: &[Seen], low: usize, high: usize) -> Result<Vec<Seen>, AllocError> {
+    let mut within = Vec::new(alloc);
+    for u in all {
+        if low < u.row && u.row <= high {
+            within.push(*u)?;
+        }
+    }
+    Ok(within)
+}
+
+// A part of the run, and of this some rows.
+fn expect_part(
+    rt: &impl Abort,
+    alloc: Global,
+    run: &Run,
+    all: &[Seen],
+    random: &mut Random,
+) -> Result<(), AllocError> {
+    let end = (random.below(30) as usize).min(run.len());
+    let from = (random.below(30) as usize).min(end);
+    let part = all.get(from..end).unwrap_or(&[]);
+    expect_seeks(rt, RunCursor::over(run, from, end), part, random);
+    let low = random.below(8) as usize;
+    let high = random.below(8) as usize;
+    let rows = run.rows_in(from, end, &bounds_of(alloc, low, high)?);
+    let want = in_rows(alloc, part, low, high)?;
+    expect_rest(rt, &mut RunCursor::over(run, rows.start, rows.end), &want);
+    Ok(())
 }
 
 #[test]
@@ -255,7 +295,10 @@ fn freezes_in_order(rt: HostRuntime) -> Result<(), Fail> {
             (frozen.len(), frozen.is_empty()),
             (all.len(), all.is_empty())
         );
-        expect_seeks(&rt, &frozen, &all, &mut random);
+        expect_seeks(&rt, RunCursor::new(&frozen), &all, &mut random);
+        for _ in 0..10 {
+            expect_part(&rt, alloc, &frozen, &all, &mut random)?;
+        }
     }
     Ok(())
 }

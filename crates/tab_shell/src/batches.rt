@@ -14,9 +14,21 @@ use tab_key::{Cell, Items};
 /// How many cells a batch takes.
 const BATCH: u32 = 1000;
 
-/// Writes all cells of a session in batches of 1,000, and an end. Where memory lacks for a batch, the refusal that says so
-/// stands in place of the cells that are left and the end.
+/// Writes all cells of a session in batches of 1,000, and an end, and drops it. Where memory lacks for a batch, the refusal
+/// that says so stands in place of the cells that are left and the end.
 pub fn put_session<W: Output>(
+    alloc: Global,
+    mut session: Session,
+    output: &mut W,
+) -> Result<(), WriteFault>
+    ensures bytes { PutsRest (left_of session) (W.contents output.old) (W.held output.old) (W.contents output.new) (W.held output.new) result }
+    ensures faults { FailsByFault result (W.faults output.old) (W.faults output.new) (W.budget output.new) }
+{
+    put_rest(alloc, &mut session, output)
+}
+
+// The same with what is left of a session.
+fn put_rest<W: Output>(
     alloc: Global,
     session: &mut Session,
     output: &mut W,

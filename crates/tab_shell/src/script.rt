@@ -224,9 +224,9 @@ impl Script {
     {
         let event = self.event(Act::Open(scan));
         match self.core.step(self.alloc, event) {
-            Reply::Opened(mut session) => {
+            Reply::Opened(session) => {
                 self.opened.raise(&self.user);
-                put_session(self.alloc, &mut session, output)
+                put_session(self.alloc, session, output)
             }
             reply => write_told(output, reply),
         }

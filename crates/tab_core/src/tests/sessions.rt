@@ -1,8 +1,7 @@
 //! Sessions, and that they stay as they opened.
 
 use super::asking::Ask;
-use super::texts::values;
-use super::{answered, play, played};
+use super::{answered, next, play, played};
 use crate::{Core, Session, told};
 use std::alloc::Global;
 use std::test::Fail;
@@ -14,12 +13,6 @@ fn opened(core: &mut Core, alloc: Global) -> Result<Session, Fail> {
         Reply::Opened(session) => Ok(session),
         _ => Err("a session".into()),
     }
-}
-
-// The text of the next batch.
-fn next(session: &mut Session, alloc: Global, count: u32) -> Result<Vec<u8>, Fail> {
-    let cells = session.next_batch(alloc, count)?;
-    Ok(values(alloc, cells.as_slice())?)
 }
 
 const THREE: [(i64, Ask, &[u8]); 4] = [
@@ -43,18 +36,6 @@ fn batches_go_through_the_cells_once(rt: HostRuntime) -> Result<(), Fail> {
         let text = next(&mut session, alloc, count)?;
         assert_eq!(rt; text.as_slice(), want);
     }
-    Ok(())
-}
-
-#[test]
-fn the_rest_is_what_was_not_given(rt: HostRuntime) -> Result<(), Fail> {
-    let alloc = rt.alloc();
-    let mut core = played(&rt, alloc, &THREE)?;
-    let mut session = opened(&mut core, alloc)?;
-    assert_eq!(rt; session.rest().len(), 3);
-    let _ = next(&mut session, alloc, 2)?;
-    let rest = values(alloc, session.rest())?;
-    assert_eq!(rt; rest.as_slice(), b"one@1 ".as_slice());
     Ok(())
 }
 

@@ -1,22 +1,35 @@
 //! A cursor, moved.
-ghost use Rattle.std.specs.Prelude.{◌≡◌};
+ghost use Rattle.std.specs.Prelude.{◌≡◌, ◌≤◌, length};
 ghost use Rattle.tab_key.specs.KeyOf.{key_of};
 ghost use Rattle.tab_mem.specs.Cursors.{whole, rest};
-ghost use Rattle.tab_mem.specs.Lists.{first_of, tail, from_key, from_column, from_row};
+ghost use Rattle.tab_mem.specs.Lists.{part, first_of, tail, from_key, from_column, from_row};
 
+use crate::start::Start;
 use crate::{Run, RunCursor};
 use tab_key::{Key, RecordRef};
 
 impl<'a> RunCursor<'a> {
-    /// A cursor at the first record of the run.
+    /// A cursor over the whole run, at its first record.
     pub fn new(run: &'a Run) -> RunCursor<'a>
         ensures whole { whole result ≡ run.now }
         ensures rest { rest result ≡ run.now }
     {
+        RunCursor::over(run, 0, run.len())
+    }
+
+    /// A cursor over the records from one index up to another, that one excluded, at the first of them.
+    pub fn over(run: &'a Run, from: usize, end: usize) -> RunCursor<'a>
+        requires ends { from ≤ end }
+        requires inside { end ≤ length run.now }
+        ensures whole { whole result ≡ part from end run.now }
+        ensures rest { rest result ≡ part from end run.now }
+    {
+        let _records = run.len();
         RunCursor {
             run,
-            at: 0,
-            end: run.len(),
+            from,
+            at: from,
+            end,
         }
     }
 
@@ -42,28 +55,31 @@ impl<'a> RunCursor<'a> {
         }
     }
 
-    /// Goes to the first record whose key isn't before this one, from wherever it stands. It takes time logarithmic in the run.
+    /// Goes to the first record whose key isn't before this one, from wherever it stands. It takes time logarithmic in the part.
+    #[tactic(auto, unfolding(crate::specs::Starts::from_start))]
     pub fn seek(&mut self, key: Key<'_>)
         ensures whole { whole self.new ≡ whole self.old }
         ensures rest { rest self.new ≡ from_key (key_of key.entry) (whole self.old) }
     {
-        self.at = self.run.first_from_key(key);
+        self.at = self.run.first_at(self.from, self.end, Start::AtKey(key));
     }
 
     /// Goes to the first record whose column isn't before that of the key, from wherever it stands. It takes time logarithmic
-    /// in the run.
+    /// in the part.
+    #[tactic(auto, unfolding(crate::specs::Starts::from_start))]
     pub fn seek_column(&mut self, key: Key<'_>)
         ensures whole { whole self.new ≡ whole self.old }
         ensures rest { rest self.new ≡ from_column (key_of key.entry) (whole self.old) }
     {
-        self.at = self.run.first_from_column(key);
+        self.at = self.run.first_at(self.from, self.end, Start::AtColumn(key));
     }
 
-    /// Goes to the first record whose row isn't before this one, from wherever it stands. It takes time logarithmic in the run.
+    /// Goes to the first record whose row isn't before this one, from wherever it stands. It takes time logarithmic in the part.
+    #[tactic(auto, unfolding(crate::specs::Starts::from_start))]
     pub fn seek_row(&mut self, row: &[u8])
         ensures whole { whole self.new ≡ whole self.old }
         ensures rest { rest self.new ≡ from_row row.now (whole self.old) }
     {
-        self.at = self.run.first_from_row(row);
+        self.at = self.run.first_at(self.from, self.end, Start::AtRow(row));
     }
 }

@@ -1,4 +1,4 @@
-use Rattle.std.proofs.Common.{◌≡◌, ◌++◌, ◌<◌, List, ℕ, Some, sym, ap, ◌∙◌, subst, rules, reverse, map, Contains, ℤ, OnOk, to_z, of_z, w64}
+use Rattle.std.proofs.Common.{◌≡◌, ◌++◌, List, ℕ, Some, sym, ap, ◌∙◌, subst, rules, reverse, map, Contains, ℤ, OnOk, to_z, of_z, w64}
 use Rattle.std.proofs.lemmas.Result.{on_ok_weaker, on_err_weaker}
 use Rattle.tab_key.specs.Records.{Record}
 use Rattle.tab_key.specs.Sorted.{sorted}
@@ -11,10 +11,10 @@ use Rattle.tab_core.specs.Tables.{found_records, with_records}
 use Rattle.tab_core.proofs.Found.{table_kept}
 use Rattle.tab_core.proofs.tables.write.Goals as goal
 
-pub write-requires-clause-unused : goal.write-requires-clause-unused
-write-requires-clause-unused c =
+pub write-requires : goal.write-requires
+write-requires c =
     let had : at_name c.args.name.now c.args.tables.now.entries ≡ Some c.in-Some.table.now = search rules in
-    λ u h. c.requires.unused u (subst (λ o. Contains (found_records o) u) (sym had) h)
+    record { unused = λ u h. c.requires.unused u (subst (λ o. Contains (found_records o) u) (sym had) h) }
 
 pub returns-in-Some-clause-ok : goal.returns-in-Some-clause-ok
 returns-in-Some-clause-ok c =

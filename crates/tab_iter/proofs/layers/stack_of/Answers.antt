@@ -6,17 +6,17 @@ use Rattle.tab_iter.proofs.layers.stack_of.Goals as goal
 
 pub returns-clause-shown : goal.returns-clause-shown
 returns-clause-shown g c = stack_chain (flat (map g.S.Source.whole c.args.sources.items)) c.args.versions _ _ c.args.columns.now _ c.args.auths.now _ _ _ _ _ _
-    c.new-merged.ensures.whole c.new.ensures c.in_ok-undeleted.ensures.whole
-    c.new-3.ensures c.in_ok-fetched.ensures.whole
-    c.new-5.ensures c.in_ok-visible.ensures.whole
-    c.new-7.ensures c.in_ok-shown.ensures.whole
+    c.in_ok-merged.ensures.whole c.new-2.ensures c.in_ok-undeleted.ensures.whole
+    c.new-4.ensures c.in_ok-fetched.ensures.whole
+    c.new-6.ensures c.in_ok-visible.ensures.whole
+    c.new-8.ensures c.in_ok-shown.ensures.whole
     c.requires.distinct
 
 pub returns-clause-cells : goal.returns-clause-cells
 returns-clause-cells g c = stack_cells (flat (map g.S.Source.whole c.args.sources.items)) _ c.args.versions (query_of c.args.columns.now c.args.auths.now)
     (stack_chain (flat (map g.S.Source.whole c.args.sources.items)) c.args.versions _ _ c.args.columns.now _ c.args.auths.now _ _ _ _ _ _
-    c.new-merged.ensures.whole c.new.ensures c.in_ok-undeleted.ensures.whole
-    c.new-3.ensures c.in_ok-fetched.ensures.whole
-    c.new-5.ensures c.in_ok-visible.ensures.whole
-    c.new-7.ensures c.in_ok-shown.ensures.whole
+    c.in_ok-merged.ensures.whole c.new-2.ensures c.in_ok-undeleted.ensures.whole
+    c.new-4.ensures c.in_ok-fetched.ensures.whole
+    c.new-6.ensures c.in_ok-visible.ensures.whole
+    c.new-8.ensures c.in_ok-shown.ensures.whole
     c.requires.distinct)

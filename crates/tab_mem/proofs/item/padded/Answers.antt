@@ -7,6 +7,6 @@ use Rattle.tab_mem.proofs.item.padded.Goals as goal
 pub returns : goal.returns
 returns c =
     let row = c.args.row.now in
-    let amount : c.min.result ≡ min 8 (length row) = omega (arith, c.min.ensures) in
-    let part : take c.min.result row ≡ take 8 row = ap (λ (n : ℕ). take n row) amount ∙ take_min 8 row in
-    c.write_front.ensures ∙ ap (λ (xs : List ℕ). xs ++ drop (length xs) (replicate 8 0)) part ∙ padded_take 8 row
+    let amount : c.min.result ≡ min 16 (length row) = omega (arith, c.min.ensures) in
+    let part : take c.min.result row ≡ take 16 row = ap (λ (n : ℕ). take n row) amount ∙ take_min 16 row in
+    c.write_front.ensures ∙ ap (λ (xs : List ℕ). xs ++ drop (length xs) (replicate 16 0)) part ∙ padded_take 16 row

@@ -1,21 +1,19 @@
-use Rattle.std.proofs.Common.{◌≡◌, ◌⊎◌, ◌<◌, ◌≤◌, ◌+◌, true, false, cond, subst, sym, ap, ◌∙◌, rules, List, ℕ, ℤ, Some, None, refl, length, to_z, of_z, w64}
-use Rattle.std.specs.Prelude.{is_some, Option, bytes_eq, Contains}
+use Rattle.std.proofs.Common.{◌≡◌, ◌⊎◌, ◌+◌, true, cond, subst, sym, ap, ◌∙◌, rules, List, ℕ, ℤ, Some, None, to_z, of_z, w64}
+use Rattle.std.specs.Prelude.{is_some, Option, bytes_eq}
 use mathlib.Core.Bool.{true≢false}
-use Rattle.tab_key.specs.Records.{Record}
-use Rattle.tab_policy.specs.State.{user_exists, auths_of}
-use Rattle.tab_mutation.specs.Shape.{first_some, misshape}
+use Rattle.tab_policy.specs.State.{user_exists}
+use Rattle.tab_mutation.specs.Shape.{first_some}
 use Rattle.tab_history.specs.declared.event.Act.{Act}
 use Rattle.tab_history.specs.declared.event.Act.TheVariants as act
 use Rattle.tab_history.specs.declared.reply.Refusal.{Refusal}
 use Rattle.tab_history.specs.declared.reply.Refusal.TheVariants.{NoMemory}
 use Rattle.tab_history.specs.declared.reply.Reply.TheVariants.{Done, Refused}
-use Rattle.tab_history.specs.Bases.{Base, BaseTable}
+use Rattle.tab_history.specs.Bases.{Base}
 use Rattle.tab_history.specs.Settings.{Settings}
 use Rattle.tab_history.specs.Checks.{mutation_checks}
-use Rattle.tab_core.specs.Tables.{settings_in, records_in, table_settings, found_settings}
+use Rattle.tab_core.specs.Tables.{settings_in, records_in, table_settings}
 use Rattle.tab_core.specs.Stepping.{Acts, own_answer, IsCore}
-use Rattle.tab_core.proofs.Limits.{shaped_few}
-use Rattle.tab_core.proofs.Making.{lacked, numbers_out, is_known, has_table, numbered_in, write_refused, write_done, written_list, core_written, core_back, lacked_alike}
+use Rattle.tab_core.proofs.Making.{numbers_out, is_known, has_table, numbered_in, write_refused, write_done, written_list, core_written, core_back, lacked_alike}
 use Rattle.tab_core.proofs.state.Core.write.Goals as goal
 
 pub returns-in_default : goal.returns-in_default
@@ -51,11 +49,6 @@ returns-then-self c =
     let a : Act = act.Write c.args.table c.args.mutation in
     let core : IsCore c.args.self.now = subst (λ (b : Base). IsCore b) c.self.view_is c.self.invariant in
     numbers_out (own_answer c.args.self.now c.args.now c.args.user a) c.args.self.now c.args.now c.args.user a core
-
-pub write-requires-clause-few : goal.write-requires-clause-few
-write-requires-clause-few c =
-    let none : c.mutation_refusal.result ≡ None = search rules in
-    shaped_few c.args.mutation (c.mutation_refusal.ensures.shape none)
 
 pub write-requires-clause-unused : goal.write-requires-clause-unused
 write-requires-clause-unused c = numbered_in _ c.args.table c.self.invariant

@@ -2,7 +2,7 @@ use Rattle.std.proofs.Common.{subst, ap, ◌∙◌, map, length, arith}
 use Rattle.tab_key.specs.KeyOf.{key_of}
 use Rattle.tab_key.specs.Sorted.{sorted}
 use Rattle.tab_iter.specs.Lists.{from_key}
-use Rattle.tab_iter.specs.Bags.{flat, Leads, Follows}
+use Rattle.tab_iter.specs.Bags.{flat, Falls, Covers}
 use Rattle.tab_iter.specs.BagLaws.{sought_key, each_rises}
 use Rattle.tab_iter.specs.MergingLaws.{synced_key, distinct_same, kept}
 use Rattle.tab_iter.proofs.merging.MergingSource.seek.Goals as goal
@@ -15,8 +15,8 @@ invariant_of-self-2 g c =
     record {
       distinct = distinct_same (map g.S.Source.whole c.args.self.now.sources.items) _ w c.args.self.now.distinct;
       synced = λ _. synced_key (key_of c.args.key) _ (map g.S.Source.whole c.args.self.now.sources.items) _ (ap (map g.S.Source.rest) e ∙ c.in_ok-seek_all.ensures.rest ∙ ap (λ l. map (from_key (key_of c.args.key)) (map g.S.Source.whole l)) v) w (each_rises g.S.Source.whole g.met.S.Source.rises c.args.self.now.sources.items) c.args.self.now.distinct;
-      leads = λ _. subst (λ l. Leads (map g.S.Source.rest l) (length l) c.ahead_of-self.result.first) c.deref.ensures.value c.ahead_of-self.ensures.leads;
-      follows = λ _. subst (λ l. Follows (map g.S.Source.rest l) (length l) c.ahead_of-self.result.first c.ahead_of-self.result.second) c.deref.ensures.value c.ahead_of-self.ensures.follows;
+      falls = λ _. subst (λ l. Falls (map g.S.Source.rest l) c.put_all.new.order.items) c.deref.ensures.value c.in_ok-put_all.ensures.falls;
+      covers = λ _. subst (λ l. Covers (map g.S.Source.rest l) c.put_all.new.order.items) c.deref.ensures.value c.in_ok-put_all.ensures.covers;
     }
 
 pub returns-clause-rest : goal.returns-clause-rest

@@ -1,0 +1,4 @@
+pub mod Marks
+pub mod Taken
+pub mod Held
+pub mod Apart

@@ -1,0 +1,22 @@
+//! Open scans: what they show, and how far they have come.
+//!
+//! A session holds no cells. It owns the version of the table that it was opened on, and reads each batch from it anew: it goes to
+//! the record at which the last batch ended, and takes the cells from there on.
+//!
+//! | File | What |
+//! |---|---|
+//! | `session` | an open scan, which gives its cells batch by batch |
+//! | `scan` | what a session reads: a version, and what is asked of it |
+//! | `bookmark` | where a session goes on |
+//! | `taking` | the cells of a batch |
+#![tactic(auto)]
+
+mod bookmark;
+mod scan;
+mod session;
+mod taking;
+
+pub use session::Session;
+
+#[cfg(test)]
+mod tests;

@@ -1,0 +1,69 @@
+//! An open scan.
+ghost use Rattle.std.specs.Prelude.{◌≡◌, length, IfOk, OnOk, OnErr};
+ghost use Rattle.tab_history.specs.Cells.{cells};
+ghost use Rattle.tab_history.specs.Sessions.{batch, gave};
+ghost use Rattle.tab_iter.specs.Stack.{query_of};
+
+use crate::bookmark::Bookmark;
+use crate::scan::Scan;
+use std::alloc::{AllocError, Global};
+use std::marker::Model;
+use tab_iter::NoMemory;
+use tab_key::{Cell, Column, Items};
+use tab_label::AuthSet;
+use tab_version::Version;
+
+/// An open scan: the cells that it shows, as the table stood when it was opened, and how many were given.
+///
+/// Nothing that happens afterwards changes it. It holds none of its cells: each batch is read anew from the version that it owns.
+/// (Accumulo user manual: scanner)
+#[derive(Drop)]
+pub struct Session {
+    scan: Scan,
+    // none once all cells were given
+    next: Option<Bookmark>,
+}
+
+impl Model for Session {
+    ghost use Rattle.std.specs.Prelude.{map};
+    ghost use Rattle.tab_key.specs.Records.{cell_of};
+    ghost use Rattle.tab_history.specs.Sessions.{Held};
+    ghost use Rattle.tab_session.specs.Bookmarks.{given_of};
+
+    ghost Value = { Held };
+
+    ghost view = { λ s. record { all = map cell_of s.scan; given = given_of s.next s.scan } };
+}
+
+impl Session {
+    /// A session on what a scan of all rows of the version shows: of these columns, under these authorizations, so many versions
+    /// of each column. None of its cells was given.
+    pub fn new(version: Version, columns: Items<Column>, auths: AuthSet, versions: u32) -> Session
+        ensures { result ≡ record { all = cells version versions (query_of columns auths); given = 0 } }
+    {
+        Session {
+            scan: Scan::new(version, columns, auths, versions),
+            next: Some(Bookmark::Beginning),
+        }
+    }
+
+    /// The next `count` cells, fewer only at the end. Where memory lacks, the session is as before.
+    ///
+    /// Each batch but the first makes one seek, and reads nothing before its place. Nothing is copied but the cells and one key.
+    pub fn next_batch(&mut self, alloc: Global, count: u32) -> Result<Items<Cell>, AllocError>
+        ensures ok { IfOk result (λ cells. cells ≡ batch self.old count) }
+        ensures after { OnOk result (self.new ≡ gave (length (batch self.old count)) self.old) }
+        ensures err { OnErr result (self.new ≡ self.old) }
+    {
+        let Some(from) = &self.next else {
+            return Ok(Items::new(alloc));
+        };
+        match self.scan.read(alloc, from, count) {
+            Ok(batch) => {
+                self.next = batch.next;
+                Ok(Items::from_vec(batch.cells))
+            }
+            Err(NoMemory) => Err(AllocError),
+        }
+    }
+}

@@ -1,0 +1,31 @@
+//! The cells of a batch.
+ghost use Rattle.std.specs.Prelude.{◌≡◌, map, take, drop, IfOk, OnOk};
+ghost use Rattle.tab_key.specs.Records.{cell_of};
+
+use std::alloc::Global;
+use tab_iter::{NoMemory, Source};
+use tab_key::Cell;
+
+/// The cells of the first `count` records that the source has left, fewer only at its end. It passes these records.
+///
+/// Memory is taken as the cells come, whatever the count.
+pub(crate) fn take<S: Source>(
+    alloc: Global,
+    source: &mut S,
+    count: u32,
+) -> Result<Vec<Cell>, NoMemory>
+    ensures whole { S.whole source.new ≡ S.whole source.old }
+    ensures cells { IfOk result (λ v. v.items ≡ take count (map cell_of (S.rest source.old))) }
+    ensures rest { OnOk result (S.rest source.new ≡ drop count (S.rest source.old)) }
+{
+    let mut cells = Vec::new(alloc);
+    for _ in 0..count {
+        let Some(record) = source.top() else {
+            break;
+        };
+        cells.reserve(1)?;
+        cells.push_reserved(Cell::of(alloc, &record)?);
+        source.advance()?;
+    }
+    Ok(cells)
+}

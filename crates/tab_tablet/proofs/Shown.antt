@@ -1,0 +1,58 @@
+-- What a scan of the rows in range shows.
+use Rattle.std.proofs.Common.{◌≡◌, ℕ, List, Bool, true, false, ◌&&◌, refl, sym, ◌∙◌, ap}
+use Rattle.std.specs.Prelude.{filter, map}
+use Rattle.tab_key.specs.Records.{Record, cell_of}
+use Rattle.tab_key.specs.Kept.{is_kept}
+use Rattle.tab_key.specs.Sorted.{sorted, IsDistinct}
+use Rattle.tab_key.specs.Ranges.{is_in_range}
+use Rattle.tab_key.specs.Columns.{is_selected}
+use Rattle.tab_key.specs.declared.column.Column.{Column}
+use Rattle.tab_key.specs.declared.range.Bounds.{Bounds}
+use Rattle.tab_label.specs.Holding.{label_holds}
+use Rattle.tab_key.proofs.Rising.{rising_sorted, distinct_filter}
+use Rattle.tab_history.proofs.Held.{rising_distinct}
+use Rattle.tab_history.specs.Cells.{Query, matches, is_shown, cells}
+use Rattle.tab_iter.specs.Layers.{is_left, is_among}
+use Rattle.tab_iter.specs.Stack.{query_of}
+use Rattle.tab_iter.specs.BagLaws.{sorted_filter}
+use Rattle.tab_iter.specs.StackLaws.{stack_chain, stack_cells}
+use Rattle.tab_list.proofs.Lists.{and_false, sorted_rising}
+use Rattle.tab_list.proofs.Rows.{filter_seen, kept_seen}
+
+-- the records in another order show the same
+cells_sorted : (us : List Record) (n : ℕ) (columns : List Column) (auths : List (List ℕ)) → IsDistinct us → cells us n (query_of columns auths) ≡ cells (sorted us) n (query_of columns auths)
+cells_sorted us n columns auths d =
+    let left : List Record = filter (is_left false (sorted us)) (sorted us) in
+    let fetched : List Record = filter (λ u. is_selected columns u.key) left in
+    let visible : List Record = filter (λ u. label_holds u.key.label auths) fetched in
+    let shown : List Record = filter (is_among n visible) visible in
+    let once : sorted (sorted us) ≡ sorted us = sorted_rising (sorted us) (rising_sorted us d) in
+    sym (stack_cells us shown n (query_of columns auths) (stack_chain us n n false columns columns auths auths (sorted us) left fetched visible shown refl refl refl refl refl refl refl refl refl d))
+    ∙ stack_cells (sorted us) shown n (query_of columns auths) (stack_chain (sorted us) n n false columns columns auths auths (sorted us) left fetched visible shown (sym once) refl refl refl refl refl refl refl refl (rising_distinct (sorted us) (rising_sorted us d)))
+
+-- all rows of what is in range show what the range shows of all
+module _ (us : List Record) (n : ℕ) (bounds : Bounds) (columns : List Column) (auths : List (List ℕ)) where
+  abbrev asked : Query
+  asked = record { bounds = bounds; columns = columns; authorizations = auths }
+
+  abbrev part : List Record
+  part = filter (λ u. is_in_range bounds u.key.row) us
+
+  cells_part : cells part n (query_of columns auths) ≡ cells us n asked
+  unfolding cells matches
+  cells_part = ap (λ l. map cell_of (sorted l)) (sym (filter_seen (λ u. is_in_range bounds u.key.row) (is_shown us n asked) (is_shown part n (query_of columns auths)) skip same us))
+    where
+      skip : (u : Record) → is_in_range bounds u.key.row ≡ false → is_shown us n asked u ≡ false
+      skip u e = rw e (ap (λ v. v && is_selected columns u.key && is_kept us n u) (and_false (label_holds u.key.label auths)))
+
+      same : (u : Record) → is_in_range bounds u.key.row ≡ true → is_shown us n asked u ≡ is_shown part n (query_of columns auths) u
+      same u e = rw (e, kept_seen bounds us n u e) refl
+
+-- so do the records in range in any order
+pub cells_open : (us : List Record) (n : ℕ) (bounds : Bounds) (columns : List Column) (auths : List (List ℕ)) → IsDistinct us
+    → cells (filter (λ u. is_in_range bounds u.key.row) us) n (query_of columns auths) ≡ cells (sorted us) n (record { bounds = bounds; columns = columns; authorizations = auths })
+cells_open us n bounds columns auths d =
+    let p : Record → Bool = λ u. is_in_range bounds u.key.row in
+    cells_sorted (filter p us) n columns auths (distinct_filter p us d)
+    ∙ ap (λ l. cells l n (query_of columns auths)) (sorted_filter p us d)
+    ∙ cells_part (sorted us) n bounds columns auths
