@@ -85,7 +85,7 @@ S
         printf 'mutate t r%s' "$part"
         for column in $(seq 600); do
             [ "$column" -eq 1 ] || printf ' ;'
-            printf ' put f q%s \\e - v' "$column"
+            printf ' put f q%s \\e v -' "$column"
         done
         echo
     done

@@ -4,10 +4,17 @@
 # Usage: tests/outliving.sh   (from anywhere; proves the lower crates if they aren't built)
 set -eu
 top=$(cd "$(dirname -- "${BASH_SOURCE[0]}")/.." && pwd)
-work=$(mktemp -d)
+mkdir -p "$top/out"
+work=$(mktemp -d "$top/out/outliving.XXXXXX")
 trap 'rm -rf "$work"' EXIT
-mkdir "$work/top"
-cp -a "$top/crates" "$top/crates.txt" "$top/HANDLES" "$work/top"
+# a repository of its own, in which the other crates lie as they are, with what is built of them
+mkdir -p "$work/top/crates/tab_version"
+cp "$top/crates.txt" "$top/HANDLES" "$work/top"
+git init -q "$work/top"
+for crate in "$top"/crates/*; do
+    [ "${crate##*/}" = tab_version ] || cp -al "$crate" "$work/top/crates"
+done
+cp -a "$top"/crates/tab_version/{src,specs,proofs} "$work/top/crates/tab_version"
 cd "$work/top/crates/tab_version"
 cp src/version.rt "$work/version.rt"
 
