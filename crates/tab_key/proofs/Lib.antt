@@ -8,5 +8,5 @@ pub mod Sorting
 pub mod Bodies
 pub mod Listing
 pub mod Ties
-pub mod Facts
+pub mod Examples
 pub mod Packed

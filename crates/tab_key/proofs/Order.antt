@@ -1,11 +1,11 @@
 -- The order of records is total.
-use Rattle.std.proofs.Common.{◌≡◌, ◌⊎◌, ◌<◌, false, ap, arith}
+use Rattle.std.proofs.Common.{◌≡◌, false, ap, arith}
 use Rattle.std.specs.Cmp.{IsTotalOrder, then_total, on_total, back_total, nat_cmp_total, int_cmp_total, tied_itself}
 use Rattle.std.specs.Cmp.Lexicographic.{nat_list_cmp_total}
 use Rattle.std.specs.Ordering.{is_lt}
 use Rattle.std.specs.declared.cmp.Ordering.TheVariants.{Less, Greater}
 use Rattle.std.proofs.lemmas.Bool.Decides.{nat_tests}
-use Rattle.tab_key.specs.Order.{kind_rank, column_cmp, key_cmp, place_cmp, newer_cmp, record_cmp, stands_before}
+use Rattle.tab_key.specs.Order.{kind_rank, column_cmp, key_cmp, place_cmp, newer_cmp, record_cmp, stands_before, IsNewer}
 use Rattle.tab_key.specs.Records.{Key, Record}
 
 pub column_cmp_total : IsTotalOrder column_cmp
@@ -29,10 +29,6 @@ record_cmp_total = then_total place_cmp_total newer_cmp_total
 
 pub not_before_itself : (r : Record) → stands_before r r ≡ false
 not_before_itself r = ap is_lt (tied_itself record_cmp_total r)
-
--- x was accepted after y
-abbrev pub IsNewer : Record → Record → Type 0
-IsNewer x y = (y.seq < x.seq) ⊎ ((y.seq ≡ x.seq) × (y.idx < x.idx))
 
 pub newer_first : (x y : Record) → IsNewer x y → newer_cmp x y ≡ Less
 unfolding newer_cmp

@@ -1,13 +1,10 @@
 -- A record's parts, copied in one piece.
-use Rattle.std.proofs.Common.{◌≡◌, ℕ, ◌+◌, ◌-◌, List, [], ◌++◌, refl, ◌∙◌, ap, length, take, drop, arith, append_assoc, append-nil, length-append}
-use Rattle.std.specs.Prelude.{ℤ}
+use Rattle.std.proofs.Common.{◌≡◌, ℕ, ◌+◌, ◌-◌, List, [], ◌++◌, ◌∙◌, ap, length, take, drop, arith, append_assoc, append-nil, length-append}
 use Rattle.std.specs.List.{slice_range}
 use Rattle.std.proofs.Math.Seq.{take-append_seam, drop-append_seam}
-use Rattle.tab_key.specs.Records.{Record, cell_of}
-use Rattle.tab_key.specs.Places.{record_in, IsWithin, packed}
-use Rattle.tab_key.specs.CellPlaces.{cell_in, AreWithin}
-use Rattle.tab_key.specs.declared.place.Place.{Place}
-use Rattle.tab_key.specs.declared.cell.Ends.{Ends}
+use Rattle.tab_key.specs.Records.{Record}
+use Rattle.tab_key.specs.RecordSpans.{record_in, IsWithin, packed}
+use Rattle.tab_key.specs.declared.record_span.RecordSpan.{RecordSpan}
 
 pub part_of : (xs pre part post : List ℕ) (i j : ℕ) → xs ≡ pre ++ part ++ post → i ≡ length pre → j ≡ i + length part → slice_range xs i j ≡ part
 part_of xs pre part post i j e low high =
@@ -19,7 +16,7 @@ pub length-packed : (r : Record) → length (packed r) ≡ length r.key.row + le
 length-packed r = simp length-append
 
 -- the ends are those of the parts, laid out from the place's start
-pub record LaysOut (old : List ℕ) (r : Record) (body : List ℕ) (p : Place) : Type 0 where
+pub record LaysOut (old : List ℕ) (r : Record) (body : List ℕ) (p : RecordSpan) : Type 0 where
   pub whole : body ≡ old ++ packed r
   pub start : p.start ≡ length old
   pub row : p.row_end ≡ p.start + length r.key.row
@@ -32,7 +29,7 @@ pub record LaysOut (old : List ℕ) (r : Record) (body : List ℕ) (p : Place) :
   pub seq : p.seq ≡ r.seq
   pub idx : p.idx ≡ r.idx
 
-pub laid_within : (old : List ℕ) (r : Record) (body : List ℕ) (p : Place) → LaysOut old r body p → IsWithin body p
+pub laid_within : (old : List ℕ) (r : Record) (body : List ℕ) (p : RecordSpan) → LaysOut old r body p → IsWithin body p
 laid_within old r body p l = record {
   row = omega (arith, l.row);
   family = omega (arith, l.family);
@@ -42,7 +39,7 @@ laid_within old r body p l = record {
   whole = omega (arith, l.start, l.row, l.family, l.qualifier, l.label, l.value, ap length l.whole, length-append old (packed r), length-packed r);
 }
 
-pub laid_record : (old : List ℕ) (r : Record) (body : List ℕ) (p : Place) → LaysOut old r body p → record_in body p ≡ r
+pub laid_record : (old : List ℕ) (r : Record) (body : List ℕ) (p : RecordSpan) → LaysOut old r body p → record_in body p ≡ r
 laid_record old r body p l =
     let k = r.key in
     let row = part_of body old k.row (k.family ++ k.qualifier ++ k.label ++ r.value) p.start p.row_end (l.whole ∙ simp append_assoc) l.start l.row in
@@ -57,41 +54,3 @@ laid_record old r body p l =
       seq = l.seq i;
       idx = l.idx i;
     }
-
--- a cell's ends, laid out in the body that a record's parts make
-pub record LaysOutCell (r : Record) (body : List ℕ) (e : Ends) : Type 0 where
-  pub whole : body ≡ packed r
-  pub row : e.row_end ≡ length r.key.row
-  pub family : e.family_end ≡ e.row_end + length r.key.family
-  pub qualifier : e.qualifier_end ≡ e.family_end + length r.key.qualifier
-  pub label : e.label_end ≡ e.qualifier_end + length r.key.label
-  pub value : length body ≡ e.label_end + length r.value
-
-abbrev place_of : Record → List ℕ → Ends → Place
-place_of r body e = record { start = 0; row_end = e.row_end; family_end = e.family_end; qualifier_end = e.qualifier_end; label_end = e.label_end; end = length body; timestamp = r.key.timestamp; seq = r.seq; idx = r.idx; kind = r.kind }
-
-as_record : (r : Record) (body : List ℕ) (e : Ends) → LaysOutCell r body e → LaysOut [] r body (place_of r body e)
-as_record r body e l = record {
-  whole = l.whole;
-  start = refl;
-  row = omega (arith, l.row);
-  family = l.family;
-  qualifier = l.qualifier;
-  label = l.label;
-  value = l.value;
-  timestamp = refl;
-  kind = refl;
-  seq = refl;
-  idx = refl;
-}
-
-pub laid_cell : (r : Record) (body : List ℕ) (e : Ends) (timestamp : ℤ) → timestamp ≡ r.key.timestamp → LaysOutCell r body e → cell_in body e timestamp ≡ cell_of r
-laid_cell r body e timestamp time l = ap (cell_in body e) time ∙ ap cell_of (laid_record [] r body (place_of r body e) (as_record r body e l))
-
-pub cell_within : (r : Record) (body : List ℕ) (e : Ends) → LaysOutCell r body e → AreWithin body e
-cell_within r body e l = record {
-  family = omega (arith, l.family);
-  qualifier = omega (arith, l.qualifier);
-  label = omega (arith, l.label);
-  whole = omega (arith, l.value);
-}

@@ -8,14 +8,10 @@ use Rattle.std.specs.declared.cmp.Ordering.{Ordering}
 use Rattle.std.specs.declared.cmp.Ordering.TheVariants.{Less, Equal, Greater}
 use mathlib.Core.Bool.{true≢false}
 use Rattle.tab_key.specs.Order.{record_cmp, stands_before}
-use Rattle.tab_key.specs.Sorted.{inserted, sorted, IsDistinct}
+use Rattle.tab_key.specs.Sorted.{inserted, sorted, IsDistinct, IsIn}
 use Rattle.tab_key.specs.Records.{Record}
 use Rattle.tab_key.proofs.Order.{record_cmp_total}
-
--- membership by cases on the list
-abbrev pub IsIn : List Record → Record → Type 0
-IsIn [] u = ⊥
-IsIn (x ∷ xs) u = (x ≡ u) ⊎ IsIn xs u
+use Rattle.tab_key.proofs.Each.{each_map, each_filter}
 
 pub in_from : (xs : List Record) (u : Record) → Contains xs u → IsIn xs u
 in_from [] u c = absurd (omega (arith, c.1))
@@ -124,10 +120,6 @@ pub all_sorted : (P : Record → Type 0) (xs : List Record) → AllByRecursion P
 all_sorted P [] a = tt
 all_sorted P (x ∷ xs) a = all_inserted P x (sorted xs) a.0 (all_sorted P xs a.1)
 
-pub all_after : (P Q : Record → Type 0) → ((u : Record) → P u → Q u) → (xs : List Record) → AllByRecursion P xs → AllByRecursion Q xs
-all_after P Q f [] a = tt
-all_after P Q f (x ∷ xs) a = (f x a.0, all_after P Q f xs a.1)
-
 pub is_less : (o : Ordering) → is_lt o ≡ true → o ≡ Less
 is_less Less e = refl
 is_less Equal e = absurd (true≢false (sym e))
@@ -146,7 +138,7 @@ rising_inserted x (y ∷ ys) d r = go (stands_before x y) refl (rising_inserted 
     go : (v : Bool) → stands_before x y ≡ v → IsStrictlySortedBy record_cmp (inserted x ys) → IsStrictlySortedBy record_cmp (cond v (x ∷ y ∷ ys) (y ∷ inserted x ys))
     go true e ih =
         let less : record_cmp x y ≡ Less = is_less (record_cmp x y) e in
-        ((less, all_after (λ z. record_cmp y z ≡ Less) (λ z. record_cmp x z ≡ Less) (λ z k. record_cmp_total.trans x y z less k) ys r.0), r)
+        ((less, each_map (λ z. record_cmp y z ≡ Less) (λ z. record_cmp x z ≡ Less) (λ z k. record_cmp_total.trans x y z less k) ys r.0), r)
     go false e ih =
         let more : record_cmp y x ≡ Less = record_cmp_total.antisymm y x ∙ ap ordering_reverse (is_greater (record_cmp x y) e d.0) in
         (all_inserted (λ z. record_cmp y z ≡ Less) x ys more r.0, ih)
@@ -156,20 +148,12 @@ unfolding IsStrictlySortedBy
 rising_sorted [] d = tt
 rising_sorted (x ∷ xs) d = rising_inserted x (sorted xs) (all_sorted (λ y. record_cmp x y ≢ Equal) xs d.0) (rising_sorted xs d.1)
 
-pub all_filter : (P : Record → Type 0) (p : Record → Bool) (xs : List Record) → AllByRecursion P xs → AllByRecursion P (filter p xs)
-all_filter P p [] a = tt
-all_filter P p (x ∷ xs) a = go (p x) (all_filter P p xs a.1)
-  where
-    go : (v : Bool) → AllByRecursion P (filter p xs) → AllByRecursion P (cond v (x ∷ filter p xs) (filter p xs))
-    go true ih = (a.0, ih)
-    go false ih = ih
-
 pub distinct_filter : (p : Record → Bool) (xs : List Record) → IsDistinct xs → IsDistinct (filter p xs)
 distinct_filter p [] d = tt
 distinct_filter p (x ∷ xs) d = go (p x) (distinct_filter p xs d.1)
   where
     go : (v : Bool) → IsDistinct (filter p xs) → IsDistinct (cond v (x ∷ filter p xs) (filter p xs))
-    go true ih = (all_filter (λ y. record_cmp x y ≢ Equal) p xs d.0, ih)
+    go true ih = (each_filter (λ y. record_cmp x y ≢ Equal) p xs d.0, ih)
     go false ih = ih
 
 pub in_filter : (p : Record → Bool) (xs : List Record) (u : Record) → IsIn (filter p xs) u → IsIn xs u × (p u ≡ true)

@@ -3,8 +3,7 @@ pub mod Names
 pub mod NameFields
 pub mod Records
 pub mod KeyOf
-pub mod Places
-pub mod CellPlaces
+pub mod RecordSpans
 pub mod Order
 pub mod Kept
 pub mod Sorted

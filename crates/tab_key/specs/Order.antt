@@ -1,5 +1,6 @@
 -- The order of keys and of records. (Accumulo user manual: sorted keys)
-use Rattle.std.specs.Prelude.{ℕ, Bool, ◌≡◌, ◌↔◌}
+use Rattle.std.specs.Prelude.{ℕ, List, Bool, ◌≡◌, ◌<◌, ◌⊎◌, ◌↔◌}
+use Rattle.std.specs.List.{AllByRecursion}
 use Rattle.std.specs.declared.cmp.Ordering.{Ordering}
 use Rattle.std.specs.declared.cmp.Ordering.TheVariants.{Equal}
 use Rattle.std.specs.Ordering.{nat_cmp, int_cmp, on, flip_args, then_cmp, is_lt}
@@ -28,6 +29,14 @@ place_cmp = then_cmp (on (λ r. r.key) key_cmp) (on (λ r. kind_rank r.kind) nat
 -- the greater mutation number, then the greater place in the mutation
 unfoldable pub newer_cmp : Record → Record → Ordering
 newer_cmp = then_cmp (flip_args (on (λ r. r.seq) nat_cmp)) (flip_args (on (λ r. r.idx) nat_cmp))
+
+-- the first record was accepted after the second
+abbrev pub IsNewer : Record → Record → Type 0
+IsNewer x y = (y.seq < x.seq) ⊎ ((y.seq ≡ x.seq) × (y.idx < x.idx))
+
+-- all mutation numbers lie below n
+abbrev pub NumbersBelow : ℕ → List Record → Type 0
+NumbersBelow n records = AllByRecursion (λ r. r.seq < n) records
 
 -- the order of records
 abbrev pub record_cmp : Record → Record → Ordering

@@ -1,5 +1,5 @@
 -- Records in their order.
-use Rattle.std.specs.Prelude.{List, [], ◌∷◌, Bool, true, cond, filter, Contains, ◌≡◌, ◌≢◌, ◌↔◌}
+use Rattle.std.specs.Prelude.{List, [], ◌∷◌, Bool, true, cond, filter, Contains, ◌≡◌, ◌≢◌, ◌⊎◌, ◌↔◌}
 use Rattle.std.specs.List.{AllByRecursion}
 use Rattle.std.specs.List.Sorted.{IsStrictlySortedBy}
 use Rattle.std.specs.declared.cmp.Ordering.TheVariants.{Equal}
@@ -20,6 +20,11 @@ sorted (r ∷ rs) = inserted r (sorted rs)
 abbrev pub IsDistinct : List Record → Type 0
 IsDistinct [] = Unit {0}
 IsDistinct (r ∷ rs) = AllByRecursion (λ s. record_cmp r s ≢ Equal) rs × IsDistinct rs
+
+-- the record is one of the list
+abbrev pub IsIn : List Record → Record → Type 0
+IsIn [] u = ⊥
+IsIn (x ∷ xs) u = (x ≡ u) ⊎ IsIn xs u
 
 -- ---- The same, said without computing it.
 -- a strictly rising list whose members are exactly the records that pass the test

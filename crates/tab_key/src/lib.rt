@@ -3,15 +3,30 @@
 //! | File | What |
 //! |---|---|
 //! | `byte_string`, `items` | a string of bytes and a list that contracts see as lists |
+//! | `spelled` | how a byte string is printed for a reader |
 //! | `name` | names of users and tables |
+//! | `part` | parts of an event that have a limit, and the limits |
 //! | `key` | a key, lent, and the order of keys |
-//! | `place`, `record`, `record_ref` | records, each packed in one piece of memory, and their order |
+//! | `record_span` | where the parts of a record lie in a body of bytes, and how a record is appended to one |
+//! | `record`, `record_ref` | a record in a body of its own, and one lent from a body; their order |
 //! | `cell` | what a scan shows of a put |
 //! | `column`, `range` | what a scan asks for |
-//! | `part` | parts of an event that have a limit, and the limits |
+//! | `laws` | the order is total, and sorting gives the one rising list |
 //!
-//! Every definition that the contracts cite stands in `specs`: `Order` is the order of records, `Kept` says which records are hidden
-//! and which are shown, `Sorted` puts a list in its order.
+//! Every definition that the contracts cite stands in `specs`:
+//!
+//! | File | What |
+//! |---|---|
+//! | `Bytes`, `Order` | the order of byte strings, keys and records |
+//! | `Names`, `NameFields` | which bytes make a name, and how a name keeps them |
+//! | `Records`, `KeyOf` | keys, records and cells as contracts see them |
+//! | `RecordSpans` | the record that lies in a body of bytes |
+//! | `Kept` | which records are hidden, and which are kept |
+//! | `Sorted` | records in their order, computed and said without computing |
+//! | `Ranges`, `Columns` | which rows are in a range, which keys are of a column |
+//!
+//! In `proofs`, `Order`, `Ties`, `Numbers`, `Rising`, `Sorting` and `Listing` are on the order and on lists in it, `Bodies` and
+//! `Packed` on records in bytes, `Columns` and `Selecting` on columns, `Each` on lists, and `Examples` has worked examples.
 #![tactic(auto)]
 
 mod byte_string;
@@ -22,10 +37,10 @@ mod key;
 pub mod laws;
 mod name;
 mod part;
-mod place;
 mod range;
 mod record;
 mod record_ref;
+mod record_span;
 mod spelled;
 
 pub use byte_string::ByteString;
@@ -35,13 +50,10 @@ pub use items::Items;
 pub use key::{Key, Kind};
 pub use name::{MAX_NAME_LEN, Name};
 pub use part::{
-    MAX_AUTHORIZATION_LEN, MAX_AUTHORIZATIONS, MAX_COLUMNS, MAX_FRAME_LEN, MAX_LABEL_DEPTH,
-    MAX_OPENED, MAX_PART_LEN, MAX_RANGES, MAX_SESSIONS, MAX_UPDATES, MAX_VERSIONS, Part,
+    MAX_AUTHORIZATION_LEN, MAX_AUTHORIZATIONS, MAX_COLUMNS, MAX_LABEL_DEPTH, MAX_OPENED,
+    MAX_PART_LEN, MAX_SESSIONS, MAX_UPDATES, MAX_VERSIONS, Part,
 };
-pub use place::{Place, append, append_copy};
 pub use range::{BadRange, Bound, Bounds, Range, is_bad_range};
 pub use record::Record;
 pub use record_ref::RecordRef;
-
-#[cfg(test)]
-mod tests;
+pub use record_span::{RecordSpan, append, append_copy};

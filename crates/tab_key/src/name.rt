@@ -19,7 +19,7 @@ pub const MAX_NAME_LEN: usize = 128;
 /// A name of a user or a table: 1 to 128 bytes of `a-z A-Z 0-9 _ - .`, kept in place.
 #[derive(Clone, Copy)]
 pub struct Name {
-    bytes: [u8; 128],
+    bytes: [u8; MAX_NAME_LEN],
     len: usize,
 }
 
@@ -64,12 +64,12 @@ impl Name {
     }
 }
 
-// The bytes, and zeros up to 128.
-fn padded(bytes: &[u8]) -> [u8; 128]
-    requires { length bytes.now ≤ 128 }
-    ensures { result ≡ bytes.now ++ replicate (128 - length bytes.now) 0 }
+// The bytes, and zeros up to the longest name.
+fn padded(bytes: &[u8]) -> [u8; MAX_NAME_LEN]
+    requires { length bytes.now ≤ MAX_NAME_LEN }
+    ensures { result ≡ bytes.now ++ replicate (MAX_NAME_LEN - length bytes.now) 0 }
 {
-    let mut kept = [0u8; 128];
+    let mut kept = [0u8; MAX_NAME_LEN];
     write_front(&mut kept, bytes);
     kept
 }

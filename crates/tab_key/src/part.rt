@@ -19,9 +19,9 @@ pub enum Part {
     Columns,
     /// A set of authorizations: at most [`MAX_AUTHORIZATIONS`], each of at most [`MAX_AUTHORIZATION_LEN`] bytes.
     Authorizations,
-    /// The ranges of one request: at most [`MAX_RANGES`].
+    /// The ranges of one request.
     Ranges,
-    /// Sessions: at most [`MAX_SESSIONS`] kept at once, [`MAX_OPENED`] opened in a connection's life.
+    /// Sessions of one user: at most [`MAX_SESSIONS`] open at once, [`MAX_OPENED`] opened in all.
     Sessions,
     /// The numbers of mutations, which end below 2^64 - 1.
     Numbers,
@@ -42,17 +42,11 @@ pub const MAX_AUTHORIZATIONS: usize = 1_024;
 /// The most bytes in one authorization.
 pub const MAX_AUTHORIZATION_LEN: usize = 1_024;
 
-/// The most ranges of one request.
-pub const MAX_RANGES: usize = 1_000;
-
-/// The most sessions kept at once.
+/// The most sessions that one user has open at once.
 pub const MAX_SESSIONS: usize = 65_536;
 
-/// The most sessions opened in the life of a connection.
+/// The most sessions that one user opens in a run or a script.
 pub const MAX_OPENED: u64 = 4_294_967_295;
-
-/// The most bytes in a frame.
-pub const MAX_FRAME_LEN: usize = 8_388_608;
 
 /// The most versions of a cell that a table shows; the least is 1.
 pub const MAX_VERSIONS: u32 = 1_000;

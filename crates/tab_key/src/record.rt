@@ -4,8 +4,8 @@ ghost use Rattle.tab_key.specs.Order.{record_cmp};
 ghost use Rattle.tab_key.specs.Kept.{same_column};
 ghost use Rattle.tab_key.specs.KeyOf.{key_of};
 
-use crate::place::{append, append_copy};
-use crate::{Key, Kind, Place, RecordRef};
+use crate::record_span::{append, append_copy, byte_count};
+use crate::{Key, Kind, RecordRef, RecordSpan};
 use std::alloc::{AllocError, Global};
 use std::cmp::Ordering;
 use std::marker::Model;
@@ -16,7 +16,7 @@ use std::marker::Model;
 #[derive(Drop)]
 pub struct Record {
     body: Vec<u8>,
-    place: Place,
+    span: RecordSpan,
 }
 
 impl Model for Record {
@@ -24,11 +24,11 @@ impl Model for Record {
 
     ghost Value = { Fields };
 
-    ghost use Rattle.tab_key.specs.Places.{record_in, IsWithin};
+    ghost use Rattle.tab_key.specs.RecordSpans.{record_in, IsWithin};
 
-    ghost view = { λ r. record_in r.body.items r.place };
+    ghost view = { λ r. record_in r.body.items r.span };
 
-    ghost invariant = { λ r. IsWithin r.body.items r.place };
+    ghost invariant = { λ r. IsWithin r.body.items r.span };
 }
 
 impl Record {
@@ -43,16 +43,9 @@ impl Record {
     ) -> Result<Record, AllocError>
         ensures { IfOk result (λ r. r ≡ record { key = key_of key.entry; kind = kind; value = value.now; seq = seq; idx = idx }) }
     {
-        let len = key
-            .row
-            .len()
-            .saturating_add(key.family.len())
-            .saturating_add(key.qualifier.len())
-            .saturating_add(key.label.len())
-            .saturating_add(value.len());
-        let mut body = Vec::with_capacity(alloc, len)?;
-        let place = append(&mut body, key, kind, value, seq, idx)?;
-        Ok(Record { body, place })
+        let mut body = Vec::with_capacity(alloc, byte_count(key, value))?;
+        let span = append(&mut body, key, kind, value, seq, idx)?;
+        Ok(Record { body, span })
     }
 
     /// A copy of the record, in one piece of memory.
@@ -60,15 +53,15 @@ impl Record {
         ensures { IfOk result (λ r. r ≡ source.now) }
     {
         let mut body = Vec::with_capacity(alloc, source.packed().len())?;
-        let place = append_copy(&mut body, source)?;
-        Ok(Record { body, place })
+        let span = append_copy(&mut body, source)?;
+        Ok(Record { body, span })
     }
 
     /// The record, lent.
     pub fn as_ref(&self) -> RecordRef<'_>
         ensures { result ≡ self.now }
     {
-        RecordRef::at(self.body.as_slice(), &self.place)
+        RecordRef::at(self.body.as_slice(), &self.span)
     }
 
     /// The order of records.
@@ -92,7 +85,7 @@ impl Clone for Record {
     fn clone(&self) -> Result<Record, AllocError> {
         Ok(Record {
             body: self.body.clone()?,
-            place: self.place,
+            span: self.span,
         })
     }
 }

@@ -3,9 +3,9 @@ ghost use Rattle.std.specs.Prelude.{◌≡◌, ◌++◌};
 ghost use Rattle.tab_key.specs.Order.{place_cmp, newer_cmp, record_cmp};
 ghost use Rattle.tab_key.specs.Kept.{same_column, hides};
 ghost use Rattle.tab_key.specs.KeyOf.{key_of};
-ghost use Rattle.tab_key.specs.Places.{record_in, IsWithin, packed};
+ghost use Rattle.tab_key.specs.RecordSpans.{record_in, IsWithin, packed};
 
-use crate::{Key, Kind, Place};
+use crate::{Key, Kind, RecordSpan};
 use std::cmp::Ordering;
 use std::marker::Model;
 
@@ -13,7 +13,7 @@ use std::marker::Model;
 #[derive(Drop)]
 pub struct RecordRef<'a> {
     body: &'a [u8],
-    place: &'a Place,
+    span: &'a RecordSpan,
 }
 
 impl<'a> Model for RecordRef<'a> {
@@ -21,20 +21,20 @@ impl<'a> Model for RecordRef<'a> {
 
     ghost Value = { Fields };
 
-    ghost use Rattle.tab_key.specs.Places.{record_in, IsWithin};
+    ghost use Rattle.tab_key.specs.RecordSpans.{record_in, IsWithin};
 
-    ghost view = { λ r. record_in r.body.now r.place.now };
+    ghost view = { λ r. record_in r.body.now r.span.now };
 
-    ghost invariant = { λ r. IsWithin r.body.now r.place.now };
+    ghost invariant = { λ r. IsWithin r.body.now r.span.now };
 }
 
 impl<'a> RecordRef<'a> {
-    /// The record at a place of a body. The place has to lie within the body, as `append` leaves it.
-    pub fn at(body: &'a [u8], place: &'a Place) -> RecordRef<'a>
-        requires { IsWithin body.now place.now }
-        ensures { result ≡ record_in body.now place.now }
+    /// The record whose parts lie there in the body. The span has to lie within the body, as `append` leaves it.
+    pub fn at(body: &'a [u8], span: &'a RecordSpan) -> RecordRef<'a>
+        requires { IsWithin body.now span.now }
+        ensures { result ≡ record_in body.now span.now }
     {
-        RecordRef { body, place }
+        RecordRef { body, span }
     }
 
     /// The same record, lent once more.
@@ -43,7 +43,7 @@ impl<'a> RecordRef<'a> {
     {
         RecordRef {
             body: self.body,
-            place: self.place,
+            span: self.span,
         }
     }
 
@@ -51,63 +51,63 @@ impl<'a> RecordRef<'a> {
     pub fn row(&self) -> &'a [u8]
         ensures { result.now ≡ self.now.key.row }
     {
-        &self.body[self.place.start..self.place.row_end]
+        &self.body[self.span.start..self.span.row_end]
     }
 
     /// The column family.
     pub fn family(&self) -> &'a [u8]
         ensures { result.now ≡ self.now.key.family }
     {
-        &self.body[self.place.row_end..self.place.family_end]
+        &self.body[self.span.row_end..self.span.family_end]
     }
 
     /// The column qualifier.
     pub fn qualifier(&self) -> &'a [u8]
         ensures { result.now ≡ self.now.key.qualifier }
     {
-        &self.body[self.place.family_end..self.place.qualifier_end]
+        &self.body[self.span.family_end..self.span.qualifier_end]
     }
 
     /// The label, which Accumulo calls column visibility.
     pub fn label(&self) -> &'a [u8]
         ensures { result.now ≡ self.now.key.label }
     {
-        &self.body[self.place.qualifier_end..self.place.label_end]
+        &self.body[self.span.qualifier_end..self.span.label_end]
     }
 
     /// The value; a marker has none.
     pub fn value(&self) -> &'a [u8]
         ensures { result.now ≡ self.now.value }
     {
-        &self.body[self.place.label_end..self.place.end]
+        &self.body[self.span.label_end..self.span.end]
     }
 
     /// The timestamp.
     pub fn timestamp(&self) -> i64
         ensures { result ≡ self.now.key.timestamp }
     {
-        self.place.timestamp
+        self.span.timestamp
     }
 
     /// Whether it is a put or a delete marker.
     pub fn kind(&self) -> Kind
         ensures { result ≡ self.now.kind }
     {
-        self.place.kind
+        self.span.kind
     }
 
     /// The number of its mutation.
     pub fn seq(&self) -> u64
         ensures { result ≡ self.now.seq }
     {
-        self.place.seq
+        self.span.seq
     }
 
     /// Its place in its mutation.
     pub fn idx(&self) -> u32
         ensures { result ≡ self.now.idx }
     {
-        self.place.idx
+        self.span.idx
     }
 
     /// The key, lent for as long as the record is.
@@ -159,7 +159,7 @@ impl<'a> RecordRef<'a> {
     pub(crate) fn packed(&self) -> &'a [u8]
         ensures { result.now ≡ packed self.now }
     {
-        &self.body[self.place.start..self.place.end]
+        &self.body[self.span.start..self.span.end]
     }
 
     // Row, family, qualifier and label in one piece.
@@ -167,7 +167,7 @@ impl<'a> RecordRef<'a> {
     fn column(&self) -> &'a [u8]
         ensures { result.now ≡ self.now.key.row ++ self.now.key.family ++ self.now.key.qualifier ++ self.now.key.label }
     {
-        &self.body[self.place.start..self.place.label_end]
+        &self.body[self.span.start..self.span.label_end]
     }
 
     /// Whether the records are of one column: the same row, family, qualifier and label, byte for byte.

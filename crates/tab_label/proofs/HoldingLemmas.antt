@@ -3,7 +3,7 @@ use Rattle.std.proofs.Common.{◌≡◌, ℕ, ◌↔◌, inl, inr, Bool, true, L
 use Rattle.tab_label.specs.declared.joiner.Joiner.TheVariants.{And, Or}
 use Rattle.tab_label.specs.Grammar.{Expr, TermOf, JoinOf, Exprs, Start, With, Label, All_see, Only_if}
 use Rattle.tab_label.specs.Holding.{expr_holds, all_hold, some_holds, ExprHolds, AllHold, SomeHolds, Holds, holds}
-use Rattle.tab_label.proofs.TestLemmas.{both, either, from_both, from_either, same_test}
+use Rattle.tab_label.proofs.BoolLemmas.{both, either, from_both, from_either, same_test}
 use Rattle.tab_label.proofs.SetLemmas.{has_is}
 
 mutual

@@ -10,7 +10,7 @@ use Rattle.tab_label.specs.Grammar.{Expr, TermOf, Label, Only_if, is_term_byte, 
 use Rattle.tab_label.specs.Sets.{has}
 use Rattle.tab_label.specs.Machine as machine
 use Rattle.tab_label.specs.Holding.{expr_holds, all_hold, some_holds, holds, read_judged, judged}
-use Rattle.tab_label.specs.Judging.{undone, unescaped, Place, Awaiting, InPlain, InQuotes, Escaping, Behind, Judgement, start, closed, joined, at, await, up, after, behind_quotes, step_in, step, settled, outermost, ending, run}
+use Rattle.tab_label.specs.Judging.{undone, unescaped, Phase, Awaiting, InPlain, InQuotes, Escaping, Behind, Judgement, start, closed, joined, at, await, up, after, behind_quotes, step_in, step, settled, outermost, ending, run}
 use Rattle.tab_label.specs.JudgeViews.{or_length}
 use Rattle.tab_label.proofs.Sound.{escaped_push, escaped_self, escaped_escape}
 use Rattle.tab_label.proofs.Runs.{stops_at, stops_at_end, reads_at_end}
@@ -34,17 +34,17 @@ module _ (auths : List (List ℕ)) where
   level_of (machine.Joined And xs) = Joined And (all_hold xs auths)
   level_of (machine.Joined Or xs) = Joined Or (some_holds xs auths)
 
-  -- what the place in it comes to
-  abbrev pub place_of : machine.Phase → Place
-  place_of machine.Awaiting = Awaiting
-  place_of (machine.InPlain bytes) = InPlain bytes
-  place_of (machine.InQuotes bytes) = InQuotes (escaped bytes)
-  place_of (machine.Escaping bytes) = Escaping (escaped bytes ++ 92 ∷ [])
-  place_of (machine.Behind e) = Behind (expr_holds e auths)
+  -- what the phase in it comes to
+  abbrev pub phase_of : machine.Phase → Phase
+  phase_of machine.Awaiting = Awaiting
+  phase_of (machine.InPlain bytes) = InPlain bytes
+  phase_of (machine.InQuotes bytes) = InQuotes (escaped bytes)
+  phase_of (machine.Escaping bytes) = Escaping (escaped bytes ++ 92 ∷ [])
+  phase_of (machine.Behind e) = Behind (expr_holds e auths)
 
   -- what a state of the builder comes to
   abbrev pub shown : machine.State → Judgement
-  shown s = record { below = map level_of s.below; level = level_of s.frame; place = place_of s.phase }
+  shown s = record { below = map level_of s.below; level = level_of s.frame; phase = phase_of s.phase }
 
   abbrev pub shown_or_none : Option machine.State → Option Judgement
   shown_or_none = option_map shown
@@ -75,7 +75,7 @@ module _ (auths : List (List ℕ)) where
   shown_after below frame e b false false false is_and is_or is_close = rw (is_and, is_or, is_close) refl
 
   Steps : List machine.Frame → machine.Frame → machine.Phase → ℕ → Type 0
-  Steps below frame p b = shown_or_none (machine.step_in below frame p b) ≡ step_in auths (map level_of below) (level_of frame) (place_of p) b
+  Steps below frame p b = shown_or_none (machine.step_in below frame p b) ≡ step_in auths (map level_of below) (level_of frame) (phase_of p) b
 
   from_awaiting : (below : List machine.Frame) (frame : machine.Frame) (b : ℕ) (p q r t : Bool) → is_term_byte b ≡ p → (b == 34) ≡ q → (b == 40) ≡ r → nat_lt (length below) 64 ≡ t → Steps below frame machine.Awaiting b
   unfolding Steps
@@ -101,7 +101,7 @@ module _ (auths : List (List ℕ)) where
   at_quote : (below : List machine.Frame) (frame : machine.Frame) (bytes : List ℕ)
       → shown_or_none (option_and_then (machine.at below frame) (machine.nonempty_term bytes)) ≡ option_and_then (at (map level_of below) (level_of frame)) (behind_quotes auths (escaped bytes))
   at_quote below frame [] = refl
-  at_quote below frame (b ∷ bytes) = sym (ap (λ (o : Option Place). option_and_then (at (map level_of below) (level_of frame)) o) (behind_term (escaped (b ∷ bytes)) (b ∷ bytes) (escaped-nonempty b bytes) (unescaped-escaped (b ∷ bytes))))
+  at_quote below frame (b ∷ bytes) = sym (ap (λ (o : Option Phase). option_and_then (at (map level_of below) (level_of frame)) o) (behind_term (escaped (b ∷ bytes)) (b ∷ bytes) (escaped-nonempty b bytes) (unescaped-escaped (b ∷ bytes))))
 
   from_quotes : (below : List machine.Frame) (frame : machine.Frame) (bytes : List ℕ) (b : ℕ) (p q : Bool) → (b == 92) ≡ p → (b == 34) ≡ q → Steps below frame (machine.InQuotes bytes) b
   unfolding Steps
@@ -140,14 +140,14 @@ module _ (auths : List (List ℕ)) where
   run_shown (b ∷ bytes) o = run_shown bytes _ ∙ ap (λ (q : Option Judgement). run auths q bytes) (next_shown o b)
 
   settled_shown : (frame : machine.Frame) (p : machine.Phase)
-      → option_map (λ m. holds m auths) (option_and_then (λ e. Some (Only_if (machine.closed frame e))) (machine.settled p)) ≡ option_map (closed (level_of frame)) (settled auths (place_of p))
+      → option_map (λ m. holds m auths) (option_and_then (λ e. Some (Only_if (machine.closed frame e))) (machine.settled p)) ≡ option_map (closed (level_of frame)) (settled auths (phase_of p))
   settled_shown frame machine.Awaiting = refl
   settled_shown frame (machine.InPlain bytes) = ap (λ (v : Bool). Some v) (shown_closed frame (TermOf bytes))
   settled_shown frame (machine.InQuotes bytes) = refl
   settled_shown frame (machine.Escaping bytes) = refl
   settled_shown frame (machine.Behind e) = ap (λ (v : Bool). Some v) (shown_closed frame e)
 
-  outermost_shown : (below : List machine.Frame) (frame : machine.Frame) (p : machine.Phase) → option_map (λ m. holds m auths) (machine.outermost below frame p) ≡ outermost auths (map level_of below) (level_of frame) (place_of p)
+  outermost_shown : (below : List machine.Frame) (frame : machine.Frame) (p : machine.Phase) → option_map (λ m. holds m auths) (machine.outermost below frame p) ≡ outermost auths (map level_of below) (level_of frame) (phase_of p)
   outermost_shown [] machine.Fresh machine.Awaiting = refl
   outermost_shown [] machine.Fresh (machine.InPlain bytes) = refl
   outermost_shown [] machine.Fresh (machine.InQuotes bytes) = refl

@@ -1,14 +1,14 @@
-pub mod TestLemmas
+pub mod BoolLemmas
 pub mod SetLemmas
 pub mod AuthLemmas
 pub mod Complete
 pub mod Sound
 pub mod Runs
 pub mod LabelOf
-pub mod Vectors
+pub mod Examples
 pub mod ViewLemmas
 pub mod HoldingLemmas
-pub mod HoldsLemmas
+pub mod OperandLemmas
 pub mod Slices
 pub mod Judged
 pub mod Unions

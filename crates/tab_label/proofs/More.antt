@@ -4,10 +4,10 @@ use Rattle.tab_label.specs.declared.joiner.Joiner.TheVariants.{And, Or}
 use Rattle.tab_label.specs.Grammar.{Expr, TermOf, JoinOf, Exprs, Start, With, Label, All_see, Only_if}
 use Rattle.tab_label.specs.Reading.{label_of}
 use Rattle.tab_label.specs.Holding.{expr_holds, all_hold, some_holds, read_holds, label_holds}
-use Rattle.tab_label.specs.Laws.{IsWithin}
-use Rattle.tab_label.proofs.TestLemmas.{both, either, from_both, from_either}
+use Rattle.tab_label.specs.Laws.{IsSubset}
+use Rattle.tab_label.proofs.BoolLemmas.{both, either, from_both, from_either}
 
-module _ (few many : List (List ℕ)) (within : IsWithin few many) where
+module _ (few many : List (List ℕ)) (within : IsSubset few many) where
   mutual
     expr_more : (e : Expr) → expr_holds e few ≡ true → expr_holds e many ≡ true
     expr_more (TermOf term) h = within term h

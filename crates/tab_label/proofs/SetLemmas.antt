@@ -9,8 +9,9 @@ use Rattle.std.specs.declared.cmp.Ordering.{Ordering}
 use Rattle.std.specs.declared.cmp.Ordering.TheVariants.{Less, Equal, Greater}
 use Rattle.std.proofs.lemmas.Cmp.{nat_list_cmp_total, tied_itself}
 use Rattle.std.proofs.lemmas.Slice.Eq.{bytes_eq-Decides}
-use Rattle.tab_label.specs.Sets.{has, by_order, bytes_cmp, with_member, set_of, IsRising}
-use Rattle.tab_label.proofs.TestLemmas.{either, from_either, same_test}
+use Rattle.tab_key.specs.Bytes.{bytes_cmp}
+use Rattle.tab_label.specs.Sets.{has, by_order, with_member, set_of, IsRising}
+use Rattle.tab_label.proofs.BoolLemmas.{either, from_either, same_test}
 
 has_so : (set : List (List ℕ)) (term : List ℕ) → has set term ≡ true → Contains set term
 has_so [] term h = absurd cc

@@ -3,7 +3,7 @@ use Rattle.std.proofs.Common.{◌≡◌, ℕ, ◌+◌, ◌-◌, ◌<◌, ◌≤�
 use Rattle.std.proofs.lemmas.List.{take_more}
 use Rattle.std.proofs.Math.ListN.{drop_of_length-le}
 use Rattle.std.specs.declared.cmp.Ordering.TheVariants.{Greater}
-use Rattle.tab_label.specs.Sets.{bytes_cmp}
+use Rattle.tab_key.specs.Bytes.{bytes_cmp}
 use Rattle.tab_label.specs.Judging.{undone}
 
 -- a part that ends a byte later

@@ -1,6 +1,7 @@
 -- The grammar of column visibility labels: which texts read as what.
 use Rattle.std.specs.Prelude.{◌≡◌, ◌≢◌, ℕ, suc, ◌<◌, ◌≤◌, ◌==◌, ◌||◌, ◌&&◌, Bool, nat_le, List, [], ◌∷◌, ◌++◌, length, take, if◌then◌else◌}
 use Rattle.std.specs.List.{All, flat_map}
+use Rattle.tab_key.specs.declared.part.TheConstants.{MAX_LABEL_DEPTH}
 use Rattle.tab_label.specs.declared.joiner.Joiner.{Joiner}
 use Rattle.tab_label.specs.declared.joiner.Joiner.TheVariants.{And, Or}
 
@@ -58,7 +59,7 @@ mutual
 -- The whole text says this: the empty text that everybody sees, or an expression with parentheses at most 64 deep.
 pub data Reads : List ℕ → Label → Type 0 where
   nothing : Reads [] All_see
-  expression : {text : List ℕ} {e : Expr} → ReadsExpr 64 text e → Reads text (Only_if e)
+  expression : {text : List ℕ} {e : Expr} → ReadsExpr MAX_LABEL_DEPTH text e → Reads text (Only_if e)
 
 -- Some label begins with this front.
 abbrev pub Begins : List ℕ → Type 0

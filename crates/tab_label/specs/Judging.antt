@@ -1,5 +1,6 @@
 -- The states of one who judges a text without building anything, as one goes over it byte by byte.
 use Rattle.std.specs.Prelude.{ℕ, ◌==◌, ◌||◌, ◌&&◌, Bool, true, false, nat_lt, List, [], ◌∷◌, ◌++◌, length, if◌then◌else◌, Option, Some, None, option_and_then, option_map}
+use Rattle.tab_key.specs.declared.part.TheConstants.{MAX_LABEL_DEPTH}
 use Rattle.tab_label.specs.declared.joiner.Joiner.{Joiner}
 use Rattle.tab_label.specs.declared.joiner.Joiner.TheVariants.{And, Or}
 use Rattle.tab_label.specs.declared.levels.Level.{Level}
@@ -18,22 +19,22 @@ abbrev pub unescaped : List ℕ → List ℕ
 unescaped bytes = undone bytes false
 
 -- where in a level: an operand must come; inside a term, with its bytes as they stand in the text; behind an operand, with its value
-pub data Place : Type 0 where
-  Awaiting : Place
-  InPlain : List ℕ → Place
-  InQuotes : List ℕ → Place
-  Escaping : List ℕ → Place
-  Behind : Bool → Place
+pub data Phase : Type 0 where
+  Awaiting : Phase
+  InPlain : List ℕ → Phase
+  InQuotes : List ℕ → Phase
+  Escaping : List ℕ → Phase
+  Behind : Bool → Phase
 
 -- the levels below, the innermost first; the open level; where in it
 pub record Judgement : Type 0 where
   pub below : List Level
   pub level : Level
-  pub place : Place
+  pub phase : Phase
 
 -- before the first byte
 abbrev pub start : Judgement
-start = record { below = []; level = Empty; place = Awaiting }
+start = record { below = []; level = Empty; phase = Awaiting }
 
 -- the level's value, with a last operand of this value
 abbrev pub closed : Level → Bool → Bool
@@ -49,9 +50,9 @@ joined Or (Joined Or before) value = Some (Joined Or (before || value))
 joined And (Joined Or before) value = None
 joined Or (Joined And before) value = None
 
--- at this place of this level
-abbrev pub at : List Level → Level → Place → Option Judgement
-at below level place = Some (record { below = below; level = level; place = place })
+-- in this phase of this level
+abbrev pub at : List Level → Level → Phase → Option Judgement
+at below level phase = Some (record { below = below; level = level; phase = phase })
 
 -- where the next operand must come
 abbrev pub await : List Level → Level → Option Judgement
@@ -70,16 +71,16 @@ after below level value b =
     else (if b == 41 then up below (closed level value) else None))
 
 -- behind a quoted term, which has a byte at least
-abbrev pub behind_quotes : List (List ℕ) → List ℕ → Option Place
+abbrev pub behind_quotes : List (List ℕ) → List ℕ → Option Phase
 behind_quotes auths [] = None
 behind_quotes auths (b ∷ bytes) = Some (Behind (has auths (unescaped (b ∷ bytes))))
 
--- the step over one byte, from each place
-abbrev pub step_in : List (List ℕ) → List Level → Level → Place → ℕ → Option Judgement
+-- the step over one byte, from each phase
+abbrev pub step_in : List (List ℕ) → List Level → Level → Phase → ℕ → Option Judgement
 step_in auths below level Awaiting b =
     if is_term_byte b then at below level (InPlain (b ∷ []))
     else (if b == 34 then at below level (InQuotes [])
-    else (if b == 40 then (if nat_lt (length below) 64 then at (level ∷ below) Empty Awaiting else None) else None))
+    else (if b == 40 then (if nat_lt (length below) MAX_LABEL_DEPTH then at (level ∷ below) Empty Awaiting else None) else None))
 step_in auths below level (InPlain bytes) b = if is_term_byte b then at below level (InPlain (bytes ++ b ∷ [])) else after below level (has auths bytes) b
 step_in auths below level (InQuotes bytes) b =
     if b == 92 then at below level (Escaping (bytes ++ b ∷ []))
@@ -89,25 +90,25 @@ step_in auths below level (Behind value) b = after below level value b
 
 -- the step over one byte
 unfoldable pub step : List (List ℕ) → Judgement → ℕ → Option Judgement
-step auths s b = step_in auths s.below s.level s.place b
+step auths s b = step_in auths s.below s.level s.phase b
 
 -- the value of the operand that is complete here
-abbrev pub settled : List (List ℕ) → Place → Option Bool
+abbrev pub settled : List (List ℕ) → Phase → Option Bool
 settled auths Awaiting = None
 settled auths (InPlain bytes) = Some (has auths bytes)
 settled auths (InQuotes bytes) = None
 settled auths (Escaping bytes) = None
 settled auths (Behind value) = Some value
 
--- the value of a text that ends in this level, at this place
-abbrev pub outermost : List (List ℕ) → List Level → Level → Place → Option Bool
+-- the value of a text that ends in this level and phase
+abbrev pub outermost : List (List ℕ) → List Level → Level → Phase → Option Bool
 outermost auths [] Empty Awaiting = Some true
-outermost auths [] level place = option_map (closed level) (settled auths place)
-outermost auths (l ∷ below) level place = None
+outermost auths [] level phase = option_map (closed level) (settled auths phase)
+outermost auths (l ∷ below) level phase = None
 
 -- the value of a text that ends here, if a label may end here
 unfoldable pub ending : List (List ℕ) → Judgement → Option Bool
-ending auths s = outermost auths s.below s.level s.place
+ending auths s = outermost auths s.below s.level s.phase
 
 -- the state behind a text, if some label begins with it
 unfoldable pub run : List (List ℕ) → Option Judgement → List ℕ → Option Judgement

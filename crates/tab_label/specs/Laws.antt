@@ -32,9 +32,9 @@ abbrev pub HoldingIsTheRelation : Type 0
 HoldingIsTheRelation = (label : Label) (auths : List (List ℕ)) → (holds label auths ≡ true) ↔ Holds label auths
 
 -- each member of the first set is one of the second
-abbrev pub IsWithin : List (List ℕ) → List (List ℕ) → Type 0
-IsWithin few many = (term : List ℕ) → has few term ≡ true → has many term ≡ true
+abbrev pub IsSubset : List (List ℕ) → List (List ℕ) → Type 0
+IsSubset few many = (term : List ℕ) → has few term ≡ true → has many term ≡ true
 
 -- What holds under some authorizations holds under more.
 abbrev pub MoreAuthsHoldMore : Type 0
-MoreAuthsHoldMore = (few many : List (List ℕ)) → IsWithin few many → (text : List ℕ) → label_holds text few ≡ true → label_holds text many ≡ true
+MoreAuthsHoldMore = (few many : List (List ℕ)) → IsSubset few many → (text : List ℕ) → label_holds text few ≡ true → label_holds text many ≡ true

@@ -1,5 +1,6 @@
 -- The states of one who reads a text as a label, byte by byte.
 use Rattle.std.specs.Prelude.{ℕ, ◌==◌, ◌||◌, nat_lt, List, [], ◌∷◌, ◌++◌, length, if◌then◌else◌, Option, Some, None, option_and_then}
+use Rattle.tab_key.specs.declared.part.TheConstants.{MAX_LABEL_DEPTH}
 use Rattle.tab_label.specs.declared.joiner.Joiner.{Joiner}
 use Rattle.tab_label.specs.declared.joiner.Joiner.TheVariants.{And, Or}
 use Rattle.tab_label.specs.Grammar.{Expr, TermOf, JoinOf, Exprs, Start, With, Label, All_see, Only_if, is_term_byte}
@@ -61,16 +62,16 @@ abbrev pub nonempty_term : List ℕ → Option Phase
 nonempty_term [] = None
 nonempty_term (b ∷ bytes) = Some (Behind (TermOf (b ∷ bytes)))
 
--- at this place of this level
+-- in this phase of this level
 abbrev pub at : List Frame → Frame → Phase → Option State
 at below frame phase = Some (record { below = below; frame = frame; phase = phase })
 
--- the step over one byte, from each place; a parenthesis opens where fewer than 64 are open
+-- the step over one byte, from each phase; a parenthesis opens where fewer than 64 are open
 abbrev pub step_in : List Frame → Frame → Phase → ℕ → Option State
 step_in below frame Awaiting b =
     if is_term_byte b then at below frame (InPlain (b ∷ []))
     else (if b == 34 then at below frame (InQuotes [])
-    else (if b == 40 then (if nat_lt (length below) 64 then at (frame ∷ below) Fresh Awaiting else None) else None))
+    else (if b == 40 then (if nat_lt (length below) MAX_LABEL_DEPTH then at (frame ∷ below) Fresh Awaiting else None) else None))
 step_in below frame (InPlain bytes) b = if is_term_byte b then at below frame (InPlain (bytes ++ b ∷ [])) else after below frame (TermOf bytes) b
 step_in below frame (InQuotes bytes) b =
     if b == 92 then at below frame (Escaping bytes)
@@ -90,7 +91,7 @@ settled (InQuotes bytes) = None
 settled (Escaping bytes) = None
 settled (Behind e) = Some e
 
--- what a text says that ends in this level, at this place
+-- what a text says that ends in this level and phase
 abbrev pub outermost : List Frame → Frame → Phase → Option Label
 outermost [] Fresh Awaiting = Some All_see
 outermost [] frame phase = option_and_then (λ e. Some (Only_if (closed frame e))) (settled phase)

@@ -8,8 +8,8 @@ use Rattle.tab_label.specs.declared.state.Frame.TheVariants as frames
 use Rattle.tab_label.specs.declared.state.Phase.{Phase}
 use Rattle.tab_label.specs.declared.state.Phase.TheVariants as phases
 use Rattle.tab_label.specs.declared.state.State.{State}
-use Rattle.tab_label.specs.declared.state.Stop.{Stop}
-use Rattle.tab_label.specs.declared.state.Stop.TheVariants as stops
+use Rattle.tab_label.specs.declared.state.StepError.{StepError}
+use Rattle.tab_label.specs.declared.state.StepError.TheVariants as errors
 use Rattle.tab_label.specs.Grammar.{Exprs, Start}
 use Rattle.tab_label.specs.Views.{expr_of, followed}
 use Rattle.tab_label.specs.Machine as machine
@@ -23,7 +23,7 @@ abbrev pub frame_of : Frame → machine.Frame
 frame_of frames.Fresh = machine.Fresh
 frame_of (frames.Joined j v) = machine.Joined j (exprs_of v.items)
 
--- what the place in a level stands for
+-- what the phase stands for
 abbrev pub phase_of : Phase → machine.Phase
 phase_of phases.Awaiting = machine.Awaiting
 phase_of (phases.InPlain v) = machine.InPlain v.items
@@ -40,16 +40,16 @@ abbrev pub state_of : State → machine.State
 state_of s = record { below = levels_of s.below.items; frame = frame_of s.frame; phase = phase_of s.phase }
 
 -- What a function returned, seen by view, is this, unless memory ran out.
-abbrev pub Gives : {X Y : Type 0} → (X → Y) → Result X Stop → Option Y → Type 0
+abbrev pub Gives : {X Y : Type 0} → (X → Y) → Result X StepError → Option Y → Type 0
 Gives view (Ok x) o = o ≡ Some (view x)
-Gives view (Err stops.Dead) o = o ≡ None
-Gives view (Err stops.NoMemory) o = Unit {0}
+Gives view (Err errors.NoLabel) o = o ≡ None
+Gives view (Err errors.NoMemory) o = Unit {0}
 
 -- The state took the byte, or no state does, unless memory ran out.
-abbrev pub Advances : Result (Unit {0}) Stop → machine.State → ℕ → machine.State → Type 0
+abbrev pub Advances : Result (Unit {0}) StepError → machine.State → ℕ → machine.State → Type 0
 Advances (Ok u) s b t = machine.step s b ≡ Some t
-Advances (Err stops.Dead) s b t = machine.step s b ≡ None
-Advances (Err stops.NoMemory) s b t = Unit {0}
+Advances (Err errors.NoLabel) s b t = machine.step s b ≡ None
+Advances (Err errors.NoMemory) s b t = Unit {0}
 
 -- the byte that spells the joiner
 abbrev pub is_joined_by : Joiner → ℕ → Bool
@@ -57,8 +57,8 @@ is_joined_by And b = b == 38
 is_joined_by Or b = b == 124
 
 -- The state took the byte, or is as it was, unless memory ran out.
-abbrev pub Takes : Result Bool Stop → machine.State → ℕ → machine.State → Type 0
+abbrev pub Takes : Result Bool StepError → machine.State → ℕ → machine.State → Type 0
 Takes (Ok true) s b t = machine.step s b ≡ Some t
 Takes (Ok false) s b t = t ≡ s
-Takes (Err stops.Dead) s b t = ⊥
-Takes (Err stops.NoMemory) s b t = Unit {0}
+Takes (Err errors.NoLabel) s b t = ⊥
+Takes (Err errors.NoMemory) s b t = Unit {0}

@@ -3,18 +3,14 @@ use Rattle.std.specs.Prelude.{◌≡◌, ℕ, false, Bool, not, List, [], ◌∷
 use Rattle.std.specs.declared.alloc.Global.{Global}
 use Rattle.std.specs.declared.cmp.Ordering.{Ordering}
 use Rattle.std.specs.declared.cmp.Ordering.TheVariants.{Less, Equal, Greater}
-use Rattle.std.specs.Cmp.Lexicographic.{slice_cmp}
-use Rattle.std.specs.Ordering.{nat_cmp, is_lt}
+use Rattle.std.specs.Ordering.{is_lt}
 use Rattle.std.specs.List.{Contains, list_any}
 use Rattle.std.specs.List.Sorted.{IsStrictlySortedBy}
-
--- the order by unsigned bytes, in which a beginning stands before what goes on
-abbrev pub bytes_cmp : List ℕ → List ℕ → Ordering
-bytes_cmp = slice_cmp nat_cmp
+use Rattle.tab_key.specs.Bytes.{bytes_cmp}
 
 -- each byte string is below the next
 abbrev pub IsRising : List (List ℕ) → Type 0
-IsRising = IsStrictlySortedBy (slice_cmp nat_cmp)
+IsRising = IsStrictlySortedBy bytes_cmp
 
 -- whether the set has the member
 abbrev pub has : List (List ℕ) → List ℕ → Bool
@@ -28,7 +24,7 @@ first_missing set other = find (λ term. not (has other term)) set
 pub record IsFirstMissing (xs ys : List (List ℕ)) (term : List ℕ) : Type 0 where
   pub held : Contains xs term
   pub missing : Contains ys term → ⊥
-  pub least : (other : List ℕ) → Contains xs other → (Contains ys other → ⊥) → is_lt (slice_cmp nat_cmp other term) ≡ false
+  pub least : (other : List ℕ) → Contains xs other → (Contains ys other → ⊥) → is_lt (bytes_cmp other term) ≡ false
 
 -- whether some member is longer than this many bytes
 abbrev pub has_longer : List (List ℕ) → ℕ → Bool

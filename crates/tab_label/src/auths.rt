@@ -1,3 +1,4 @@
+//! Sets of authorizations.
 ghost use Rattle.std.specs.Prelude.{◌≡◌, ◌↔◌, ◌==◌, [], IsTrue, IsNone, IfSome, length, nat_lt, option_copied};
 ghost use Rattle.std.specs.List.{All, Contains, list_any};
 ghost use Rattle.tab_label.specs.Sets.{byte_lists, IsRising, IsFirstMissing, has, has_longer, first_missing, set_of};

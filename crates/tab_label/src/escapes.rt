@@ -1,5 +1,6 @@
+//! Escapes between quotes, read without building anything.
 ghost use Rattle.std.specs.Prelude.{◌≡◌};
-ghost use Rattle.tab_label.specs.Sets.{bytes_cmp};
+ghost use Rattle.tab_key.specs.Bytes.{bytes_cmp};
 ghost use Rattle.tab_label.specs.Judging.{unescaped};
 
 use std::cmp::Ordering;

@@ -1,3 +1,4 @@
+//! Why a text was not read as a label.
 use thiserror::Error;
 
 /// Why a text was not read as a label.

@@ -1,3 +1,4 @@
+//! Whether a label holds under authorizations.
 ghost use Rattle.std.specs.Prelude.{◌≡◌, ◌↔◌, IsTrue};
 ghost use Rattle.tab_label.specs.Holding.{ExprHolds, Holds, holds};
 ghost use Rattle.tab_label.specs.Views.{expr_of, meaning_of};

@@ -1,3 +1,4 @@
+//! What joins operands.
 /// What joins the operands of an expression.
 #[derive(Clone, Copy, Debug, PartialEq, Eq)]
 pub enum Joiner {

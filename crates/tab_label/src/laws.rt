@@ -1,3 +1,4 @@
+//! Laws of the definitions, each shown by a function that does nothing.
 ghost use Rattle.tab_label.specs.Laws.{OneMeaning, ReadingIsTheGrammar, TheGrammarIsReading, HoldingIsTheRelation, MoreAuthsHoldMore};
 
 /// No text says two things.

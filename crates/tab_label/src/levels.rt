@@ -1,43 +1,45 @@
+//! A stack of levels that lies in place.
+ghost use Rattle.tab_key.specs.declared.part.TheConstants.{MAX_LABEL_DEPTH};
 ghost use Rattle.std.specs.Prelude.{◌≡◌, ◌≤◌, ◌<◌, ◌==◌, ◌∷◌, [], length, nat_lt, MatchOption};
 
 use crate::joiner::Joiner;
-
-/// How deep parentheses may nest in a label.
-pub const DEEPEST: usize = 64;
+use tab_key::MAX_LABEL_DEPTH;
 
 /// What a level of an expression comes to so far: nothing yet, or the value of the operands up to a joiner.
 #[derive(Clone, Copy)]
 pub enum Level {
+    /// No operand is complete.
     Empty,
+    /// Operands with a joiner behind the last: what joins them, and their value.
     Joined(Joiner, bool),
 }
 
-/// The levels below the open one, in place: at most `DEEPEST`.
+/// The levels below the open one, in place: at most `MAX_LABEL_DEPTH`.
 #[derive(Drop)]
 pub struct Levels {
-    held: [Level; 64],
+    held: [Level; MAX_LABEL_DEPTH],
     count: usize,
-    ghost in_range: { count ≤ 64 },
+    ghost in_range: { count ≤ MAX_LABEL_DEPTH },
 }
 
 impl Levels {
     ghost use Rattle.tab_label.specs.JudgeViews.{levels_held};
 
-    /// No level.
+    /// The stack without a level.
     pub fn new() -> Self
         ensures { levels_held result ≡ [] }
     {
         Levels {
-            held: [Level::Empty; 64],
+            held: [Level::Empty; MAX_LABEL_DEPTH],
             count: 0,
         }
     }
 
     /// Whether one more may be pushed.
     pub fn has_room(&self) -> bool
-        ensures { result ≡ nat_lt (length (levels_held self.now)) 64 }
+        ensures { result ≡ nat_lt (length (levels_held self.now)) MAX_LABEL_DEPTH }
     {
-        self.count < DEEPEST
+        self.count < MAX_LABEL_DEPTH
     }
 
     /// Whether there is none.
@@ -49,7 +51,7 @@ impl Levels {
 
     /// One more, the innermost.
     pub fn push(&mut self, level: Level)
-        requires { length (levels_held self.old) < 64 }
+        requires { length (levels_held self.old) < MAX_LABEL_DEPTH }
         ensures { levels_held self.new ≡ level ∷ levels_held self.old }
     {
         self.held[self.count] = level;

@@ -10,6 +10,23 @@
 //!
 //! `Label::parse` builds a label. `judge` decides a text under a set of authorizations without any memory.
 //! Both find the offset of a text that is no label: the length of its longest front with which some label begins.
+//!
+//! | File | What |
+//! |---|---|
+//! | `auths` | sets of authorizations |
+//! | `tree`, `joiner` | a label as it is built: its expression, and what joins operands |
+//! | `parser`, `state`, `steps` | reading a text as a label: the whole way, the state behind a front of it, and the step over a byte |
+//! | `fault` | why a text was not read as a label |
+//! | `holds` | whether a label holds |
+//! | `judgement`, `levels` | judging a text in one pass, and the stack of levels for it |
+//! | `escapes` | comparing with what stands between quotes |
+//! | `laws` | reading is the grammar, and holding the relation |
+//!
+//! `specs/Grammar` says which texts are labels, `specs/Holding` when a label holds, `specs/Sets` what sets are, `specs/Laws` the laws.
+//! `Machine` and `Reading` read a text byte by byte, `Judging` judges it so; `Views`, `ParserViews` and `JudgeViews` say what
+//! the code's types stand for. In `proofs`, `Sound`, `Complete`, `Runs` and `LabelOf` tie reading to the grammar, `Judged` judging to
+//! reading, `HoldingLemmas` and `OperandLemmas` the test of a label to the fact, `More` is the law of more authorizations,
+//! `SetLemmas`, `AuthLemmas` and `Unions` are on sets, and `Examples` has worked examples.
 #![tactic(auto)]
 
 mod auths;
@@ -23,8 +40,6 @@ mod levels;
 mod parser;
 mod state;
 mod steps;
-#[cfg(test)]
-mod tests;
 mod tree;
 
 pub use auths::AuthSet;

@@ -1,10 +1,11 @@
+//! Reading a text as a label.
 ghost use Rattle.std.specs.Prelude.{◌≡◌, IfOk, IfErr};
 ghost use Rattle.tab_label.specs.Grammar.{Reads, IsNoLabel, IsOffset};
 ghost use Rattle.tab_label.specs.Reading.{label_of};
 ghost use Rattle.tab_label.specs.Views.{meaning_of, IfMalformed, IsReadAs, IsReadBy};
 
 use crate::fault::LabelFault;
-use crate::state::{State, Stop};
+use crate::state::{State, StepError};
 use crate::steps::finish;
 use crate::tree::Label;
 use std::alloc::Global;
@@ -36,13 +37,13 @@ fn parse(alloc: Global, text: &[u8]) -> Result<Label, LabelFault>
     for i in 0..text.len() {
         match state.advance(alloc, text[i]) {
             Ok(()) => {}
-            Err(Stop::Dead) => return Err(LabelFault::Malformed(i)),
-            Err(Stop::NoMemory) => return Err(LabelFault::NoMemory),
+            Err(StepError::NoLabel) => return Err(LabelFault::Malformed(i)),
+            Err(StepError::NoMemory) => return Err(LabelFault::NoMemory),
         }
     }
     match finish(state) {
         Ok(label) => Ok(label),
-        Err(Stop::Dead) => Err(LabelFault::Malformed(text.len())),
-        Err(Stop::NoMemory) => Err(LabelFault::NoMemory),
+        Err(StepError::NoLabel) => Err(LabelFault::Malformed(text.len())),
+        Err(StepError::NoMemory) => Err(LabelFault::NoMemory),
     }
 }

@@ -1,3 +1,4 @@
+//! The steps of the parser, byte by byte.
 ghost use Rattle.std.specs.Prelude.{◌≡◌, [], ◌∷◌, IfOk};
 ghost use Rattle.tab_label.specs.Grammar.{is_term_byte};
 ghost use Rattle.tab_label.specs.Machine as machine;
@@ -5,10 +6,11 @@ ghost use Rattle.tab_label.specs.Views.{expr_of, meaning_of};
 ghost use Rattle.tab_label.specs.ParserViews.{frame_of, phase_of, levels_of, state_of, is_joined_by, Gives, Advances, Takes};
 
 use crate::joiner::Joiner;
-use crate::state::{Frame, Phase, State, Stop};
+use crate::state::{Frame, Phase, State, StepError};
 use crate::tree::{Label, Tree};
 use std::alloc::{AllocError, Global};
 use std::mem;
+use tab_key::MAX_LABEL_DEPTH;
 
 /// Whether the byte may stand in an unquoted term.
 #[tactic(auto, unfolding(crate::specs::Grammar::is_term_byte))]
@@ -42,7 +44,7 @@ fn closed(frame: Frame, last: Tree) -> Result<Tree, AllocError>
 
 /// The open level with one more operand and a joiner behind it.
 #[tactic(auto, using(crate::proofs::ViewLemmas::made_trees))]
-fn joined(alloc: Global, joiner: Joiner, frame: Frame, last: Tree) -> Result<Frame, Stop>
+fn joined(alloc: Global, joiner: Joiner, frame: Frame, last: Tree) -> Result<Frame, StepError>
     ensures { Gives frame_of result (machine.joined joiner (frame_of frame) (expr_of last)) }
 {
     match (frame, joiner) {
@@ -61,12 +63,18 @@ fn joined(alloc: Global, joiner: Joiner, frame: Frame, last: Tree) -> Result<Fra
             operands.push(last)?;
             Ok(Frame::Joined(Joiner::Or, operands))
         }
-        _ => Err(Stop::Dead),
+        _ => Err(StepError::NoLabel),
     }
 }
 
 /// Takes a byte behind an operand.
-fn after(alloc: Global, below: Vec<Frame>, frame: Frame, last: Tree, b: u8) -> Result<State, Stop>
+fn after(
+    alloc: Global,
+    below: Vec<Frame>,
+    frame: Frame,
+    last: Tree,
+    b: u8,
+) -> Result<State, StepError>
     ensures { Gives state_of result (machine.after (levels_of below.items) (frame_of frame) (expr_of last) b) }
 {
     match b {
@@ -83,7 +91,7 @@ fn after(alloc: Global, below: Vec<Frame>, frame: Frame, last: Tree, b: u8) -> R
         b')' => {
             let mut below = below;
             match below.pop() {
-                None => Err(Stop::Dead),
+                None => Err(StepError::NoLabel),
                 Some(outer) => Ok(State {
                     below,
                     frame: outer,
@@ -91,12 +99,12 @@ fn after(alloc: Global, below: Vec<Frame>, frame: Frame, last: Tree, b: u8) -> R
                 }),
             }
         }
-        _ => Err(Stop::Dead),
+        _ => Err(StepError::NoLabel),
     }
 }
 
 /// Takes a byte where an operand has to begin.
-fn awaiting(alloc: Global, below: Vec<Frame>, frame: Frame, b: u8) -> Result<State, Stop>
+fn awaiting(alloc: Global, below: Vec<Frame>, frame: Frame, b: u8) -> Result<State, StepError>
     ensures { Gives state_of result (machine.step_in (levels_of below.items) (frame_of frame) machine.Awaiting b) }
 {
     if is_term_byte(b) {
@@ -115,7 +123,7 @@ fn awaiting(alloc: Global, below: Vec<Frame>, frame: Frame, b: u8) -> Result<Sta
             phase: Phase::InQuotes(Vec::new(alloc)),
         });
     }
-    if b == b'(' && below.len() < 64 {
+    if b == b'(' && below.len() < MAX_LABEL_DEPTH {
         let mut below = below;
         below.push(frame)?;
         return Ok(State {
@@ -124,12 +132,12 @@ fn awaiting(alloc: Global, below: Vec<Frame>, frame: Frame, b: u8) -> Result<Sta
             phase: Phase::Awaiting,
         });
     }
-    Err(Stop::Dead)
+    Err(StepError::NoLabel)
 }
 
 /// Takes a byte between quotes, behind these bytes of a term.
 #[tactic(auto, using(crate::proofs::ViewLemmas::made_trees))]
-fn in_quotes(below: Vec<Frame>, frame: Frame, bytes: Vec<u8>, b: u8) -> Result<State, Stop>
+fn in_quotes(below: Vec<Frame>, frame: Frame, bytes: Vec<u8>, b: u8) -> Result<State, StepError>
     ensures { Gives state_of result (machine.step_in (levels_of below.items) (frame_of frame) (machine.InQuotes bytes.items) b) }
 {
     if b == b'\\' {
@@ -141,7 +149,7 @@ fn in_quotes(below: Vec<Frame>, frame: Frame, bytes: Vec<u8>, b: u8) -> Result<S
     }
     if b == b'"' {
         if bytes.is_empty() {
-            return Err(Stop::Dead);
+            return Err(StepError::NoLabel);
         }
         return Ok(State {
             below,
@@ -159,11 +167,11 @@ fn in_quotes(below: Vec<Frame>, frame: Frame, bytes: Vec<u8>, b: u8) -> Result<S
 }
 
 /// Takes a byte behind an escaping `\`.
-fn escaping(below: Vec<Frame>, frame: Frame, bytes: Vec<u8>, b: u8) -> Result<State, Stop>
+fn escaping(below: Vec<Frame>, frame: Frame, bytes: Vec<u8>, b: u8) -> Result<State, StepError>
     ensures { Gives state_of result (machine.step_in (levels_of below.items) (frame_of frame) (machine.Escaping bytes.items) b) }
 {
     if b != b'"' && b != b'\\' {
-        return Err(Stop::Dead);
+        return Err(StepError::NoLabel);
     }
     let mut bytes = bytes;
     bytes.push(b)?;
@@ -176,7 +184,7 @@ fn escaping(below: Vec<Frame>, frame: Frame, bytes: Vec<u8>, b: u8) -> Result<St
 
 /// Takes a byte anywhere.
 #[tactic(auto, using(crate::proofs::ViewLemmas::made_trees), unfolding(crate::specs::Machine::step))]
-fn step(alloc: Global, state: State, b: u8) -> Result<State, Stop>
+fn step(alloc: Global, state: State, b: u8) -> Result<State, StepError>
     ensures { Gives state_of result (machine.step (state_of state) b) }
 {
     let State {
@@ -219,7 +227,7 @@ impl State {
 
     /// Takes one byte. After an error the state is any.
     #[tactic(auto, using(crate::proofs::ViewLemmas::made_trees), unfolding(crate::specs::Machine::step))]
-    pub fn advance(&mut self, alloc: Global, b: u8) -> Result<(), Stop>
+    pub fn advance(&mut self, alloc: Global, b: u8) -> Result<(), StepError>
         ensures { Advances result (state_of self.old) b (state_of self.new) }
     {
         if self.grow(alloc, b)? || self.join(b)? {
@@ -232,7 +240,7 @@ impl State {
 
     // Takes a byte of an unquoted term in place, and leaves any other byte.
     #[tactic(auto, using(crate::proofs::ViewLemmas::made_trees), unfolding(crate::specs::Machine::step))]
-    fn grow(&mut self, alloc: Global, b: u8) -> Result<bool, Stop>
+    fn grow(&mut self, alloc: Global, b: u8) -> Result<bool, StepError>
         ensures { Takes result (state_of self.old) b (state_of self.new) }
     {
         if !is_term_byte(b) {
@@ -253,7 +261,7 @@ impl State {
 
     // Takes the joiner of the open level behind an unquoted term in place, and leaves any other byte.
     #[tactic(auto, using(crate::proofs::ViewLemmas::made_trees, crate::proofs::Joining::step_joins))]
-    fn join(&mut self, b: u8) -> Result<bool, Stop>
+    fn join(&mut self, b: u8) -> Result<bool, StepError>
         ensures { Takes result (state_of self.old) b (state_of self.new) }
     {
         match &mut self.frame {
@@ -295,7 +303,7 @@ fn is_joined_by(joiner: Joiner, b: u8) -> bool
 
 /// What a text says that ends here.
 #[tactic(auto, using(crate::proofs::ViewLemmas::made_trees), unfolding(crate::specs::Machine::ending))]
-pub fn finish(state: State) -> Result<Label, Stop>
+pub fn finish(state: State) -> Result<Label, StepError>
     ensures { Gives meaning_of result (machine.ending (state_of state)) }
 {
     let State {
@@ -304,16 +312,16 @@ pub fn finish(state: State) -> Result<Label, Stop>
         phase,
     } = state;
     if !below.is_empty() {
-        return Err(Stop::Dead);
+        return Err(StepError::NoLabel);
     }
     match phase {
         Phase::Awaiting => match frame {
             Frame::Fresh => Ok(Label::Everyone),
-            Frame::Joined(_, _) => Err(Stop::Dead),
+            Frame::Joined(_, _) => Err(StepError::NoLabel),
         },
         Phase::InPlain(bytes) => Ok(Label::Only(closed(frame, Tree::Term(bytes))?)),
         Phase::Behind(last) => Ok(Label::Only(closed(frame, last)?)),
-        Phase::InQuotes(_) => Err(Stop::Dead),
-        Phase::Escaping(_) => Err(Stop::Dead),
+        Phase::InQuotes(_) => Err(StepError::NoLabel),
+        Phase::Escaping(_) => Err(StepError::NoLabel),
     }
 }

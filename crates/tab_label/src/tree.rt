@@ -1,3 +1,4 @@
+//! Labels, as they are built.
 use crate::joiner::Joiner;
 
 /// An expression: a term with its escapes undone, or two or more operands under one joiner.
@@ -5,7 +6,9 @@ use crate::joiner::Joiner;
 /// joins nest only through parentheses, of which at most 64 stand open.
 #[derive(Debug, Drop)]
 pub enum Tree {
+    /// A term, by its bytes.
     Term(Vec<u8>),
+    /// Two or more operands under one joiner.
     Join(Joiner, Vec<Tree>),
 }
 

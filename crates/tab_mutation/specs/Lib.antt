@@ -1,4 +1,4 @@
 pub mod Mutations
-pub mod Places
+pub mod UpdateSpans
 pub mod Shape
 pub mod MutationFields

@@ -8,21 +8,21 @@
 //! |---|---|
 //! | `mutation` | making a mutation, reading it, and the limits on its shape |
 //! | `update`, `updates` | one update, lent, and going over all of them |
-//! | `place` | where an update's parts lie in the buffer |
-//! | `misshape` | why a mutation is refused for its size |
+//! | `update_span` | where an update's parts lie in the buffer |
+//! | `shape_error` | why a mutation is refused for its shape |
 //!
-//! `specs/Mutations.antt` has mutations as contracts see them, `specs/Shape.antt` the limits.
+//! `specs/Mutations` has mutations as contracts see them, `specs/Shape` the limits, `specs/UpdateSpans` and
+//! `specs/MutationFields` the updates and the mutation that lie in a buffer. In `proofs`, `Bodies` is on buffers that grow,
+//! `Firsts` on the first answer in a list.
 #![tactic(auto)]
 
-mod misshape;
 mod mutation;
-mod place;
-#[cfg(test)]
-mod tests;
+mod shape_error;
 mod update;
+mod update_span;
 mod updates;
 
-pub use misshape::Misshape;
 pub use mutation::Mutation;
+pub use shape_error::ShapeError;
 pub use update::UpdateRef;
 pub use updates::Updates;

@@ -1,19 +1,18 @@
 //! A row and the updates for it.
 ghost use Rattle.std.specs.Prelude.{◌≡◌, ◌<◌, ◌^◌, ◌==◌, [], IfOk, OnOk, OnErr, None, length};
 ghost use Rattle.std.specs.List.{slice_index_or};
-ghost use Rattle.tab_key.specs.declared.key.Kind.TheVariants.{Delete, Put};
-ghost use Rattle.tab_mutation.specs.Mutations.{with_update};
-ghost use Rattle.tab_mutation.specs.Shape.{first_found, long_name, long_value, misshape};
+ghost use Rattle.tab_mutation.specs.Mutations.{with_update, put_update, delete_update};
+ghost use Rattle.tab_mutation.specs.Shape.{first_found, long_name, long_value, shape_error};
 
-use crate::misshape::is_too_long;
-use crate::place::{Place, append};
-use crate::{Misshape, UpdateRef, Updates};
+use crate::shape_error::is_too_long;
+use crate::update_span::{UpdateSpan, append};
+use crate::{ShapeError, UpdateRef, Updates};
 use std::alloc::{AllocError, Global};
 use std::marker::Model;
 use tab_key::{Kind, MAX_UPDATES, Part};
 
-/// The most updates that a mutation can hold, far more than one may have to be accepted.
-const MAX_PLACES: usize = 4_294_967_295;
+/// The most updates that a mutation can store, far more than one may have to be accepted.
+const MAX_STORED_UPDATES: usize = 4_294_967_295;
 
 /// A row and the puts and deletes that are to be applied to it together.
 ///
@@ -23,7 +22,7 @@ const MAX_PLACES: usize = 4_294_967_295;
 pub struct Mutation {
     body: Vec<u8>,
     row_end: usize,
-    places: Vec<Place>,
+    spans: Vec<UpdateSpan>,
 }
 
 impl Model for Mutation {
@@ -48,7 +47,7 @@ impl Mutation {
         Ok(Mutation {
             body,
             row_end: row.len(),
-            places: Vec::new(alloc),
+            spans: Vec::new(alloc),
         })
     }
 
@@ -72,11 +71,11 @@ impl Mutation {
         })) }
         ensures err { OnErr result (self.new ≡ self.old) }
     {
-        if self.places.len() >= MAX_PLACES {
+        if self.spans.len() >= MAX_STORED_UPDATES {
             return Err(AllocError);
         }
-        self.places.reserve(1)?;
-        let place = append(
+        self.spans.reserve(1)?;
+        let span = append(
             &mut self.body,
             kind,
             family,
@@ -85,7 +84,7 @@ impl Mutation {
             timestamp,
             value,
         )?;
-        self.places.push_reserved(place);
+        self.spans.push_reserved(span);
         Ok(())
     }
 
@@ -102,14 +101,7 @@ impl Mutation {
         timestamp: Option<i64>,
         value: &[u8],
     ) -> Result<(), AllocError>
-        ensures ok { OnOk result (self.new ≡ with_update self.old (record {
-          kind = Put;
-          family = family.now;
-          qualifier = qualifier.now;
-          label = label.now;
-          timestamp = timestamp;
-          value = value.now;
-        })) }
+        ensures ok { OnOk result (self.new ≡ with_update self.old (put_update family.now qualifier.now label.now timestamp value.now)) }
         ensures err { OnErr result (self.new ≡ self.old) }
     {
         self.add(Kind::Put, family, qualifier, label, timestamp, value)
@@ -128,14 +120,7 @@ impl Mutation {
         label: &[u8],
         timestamp: Option<i64>,
     ) -> Result<(), AllocError>
-        ensures ok { OnOk result (self.new ≡ with_update self.old (record {
-          kind = Delete;
-          family = family.now;
-          qualifier = qualifier.now;
-          label = label.now;
-          timestamp = timestamp;
-          value = [];
-        })) }
+        ensures ok { OnOk result (self.new ≡ with_update self.old (delete_update family.now qualifier.now label.now timestamp)) }
         ensures err { OnErr result (self.new ≡ self.old) }
     {
         self.add(Kind::Delete, family, qualifier, label, timestamp, &[])
@@ -153,14 +138,14 @@ impl Mutation {
         ensures len { result ≡ length self.now.updates }
         ensures bound { length self.now.updates < 2 ^ 32 }
     {
-        self.places.len()
+        self.spans.len()
     }
 
     /// Whether there are no updates.
     pub fn is_empty(&self) -> bool
         ensures { result ≡ (length self.now.updates == 0) }
     {
-        self.places.is_empty()
+        self.spans.is_empty()
     }
 
     /// The update at an index, counted from 0.
@@ -168,18 +153,18 @@ impl Mutation {
         requires { index < length self.now.updates }
         ensures { result ≡ slice_index_or self.now.updates index result }
     {
-        UpdateRef::at(self.body.as_slice(), &self.places[index])
+        UpdateRef::at(self.body.as_slice(), &self.spans[index])
     }
 
     /// The updates, in the order in which they were added.
     pub fn updates(&self) -> Updates<'_>
         ensures { result ≡ self.now.updates }
     {
-        Updates::at(self.body.as_slice(), self.places.as_slice())
+        Updates::at(self.body.as_slice(), self.spans.as_slice())
     }
 
     // The first family, qualifier or label that is too long, update by update.
-    fn long_name(&self) -> Option<Misshape>
+    fn long_name(&self) -> Option<ShapeError>
         ensures { result ≡ first_found long_name 0 self.now.updates }
     {
         for index in 0..self.len() {
@@ -191,7 +176,7 @@ impl Mutation {
     }
 
     // The first value that is too long.
-    fn long_value(&self) -> Option<Misshape>
+    fn long_value(&self) -> Option<ShapeError>
         ensures { result ≡ first_found long_value 0 self.now.updates }
     {
         for index in 0..self.len() {
@@ -202,22 +187,22 @@ impl Mutation {
         None
     }
 
-    /// What keeps the mutation from being accepted for its size, if anything does.
+    /// What keeps the mutation from being accepted for its shape, if anything does.
     ///
     /// Looked at in this order: no update; over 1,000 updates; then over 1,048,576 bytes in the row,
     /// in each update's family, qualifier and label in turn, and after all of these in the values.
-    #[tactic(auto, unfolding(crate::specs::Shape::misshape))]
-    pub fn shape(&self) -> Option<Misshape>
-        ensures { result ≡ misshape self.now }
+    #[tactic(auto, unfolding(crate::specs::Shape::shape_error))]
+    pub fn shape(&self) -> Option<ShapeError>
+        ensures { result ≡ shape_error self.now }
     {
         if self.is_empty() {
-            return Some(Misshape::Empty);
+            return Some(ShapeError::Empty);
         }
         if self.len() > MAX_UPDATES {
-            return Some(Misshape::TooLarge(Part::Updates));
+            return Some(ShapeError::TooLarge(Part::Updates));
         }
         if is_too_long(self.row()) {
-            return Some(Misshape::TooLarge(Part::Row));
+            return Some(ShapeError::TooLarge(Part::Row));
         }
         match self.long_name() {
             Some(found) => Some(found),
@@ -233,7 +218,7 @@ impl Clone for Mutation {
         Ok(Mutation {
             body: self.body.clone()?,
             row_end: self.row_end,
-            places: self.places.clone()?,
+            spans: self.spans.clone()?,
         })
     }
 }

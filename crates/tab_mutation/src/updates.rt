@@ -2,10 +2,10 @@
 ghost use Rattle.std.specs.Prelude.{◌≡◌, map};
 ghost use Rattle.std.specs.Iterator.{YieldsFirst, item_count};
 ghost use Rattle.std.specs.List.{AllByRecursion};
-ghost use Rattle.tab_mutation.specs.Places.{update_in, IsWithin};
+ghost use Rattle.tab_mutation.specs.UpdateSpans.{update_in, IsWithin};
 
 use crate::UpdateRef;
-use crate::place::Place;
+use crate::update_span::UpdateSpan;
 use std::marker::Model;
 
 /// The updates of a mutation that are left, in the order in which they were added.
@@ -14,7 +14,7 @@ use std::marker::Model;
 #[derive(Drop)]
 pub struct Updates<'a> {
     body: &'a [u8],
-    places: &'a [Place],
+    spans: &'a [UpdateSpan],
 }
 
 impl<'a> Model for Updates<'a> {
@@ -24,20 +24,20 @@ impl<'a> Model for Updates<'a> {
 
     ghost Value = { List Update };
 
-    ghost use Rattle.tab_mutation.specs.Places.{update_in, IsWithin};
+    ghost use Rattle.tab_mutation.specs.UpdateSpans.{update_in, IsWithin};
 
-    ghost view = { λ u. map (update_in u.body.now) u.places.now };
+    ghost view = { λ u. map (update_in u.body.now) u.spans.now };
 
-    ghost invariant = { λ u. AllByRecursion (IsWithin u.body.now) u.places.now };
+    ghost invariant = { λ u. AllByRecursion (IsWithin u.body.now) u.spans.now };
 }
 
 impl<'a> Updates<'a> {
-    // The updates at these places of a body.
-    pub(crate) fn at(body: &'a [u8], places: &'a [Place]) -> Updates<'a>
-        requires { AllByRecursion (IsWithin body.now) places.now }
-        ensures { result ≡ map (update_in body.now) places.now }
+    // The updates at these spans of a body.
+    pub(crate) fn at(body: &'a [u8], spans: &'a [UpdateSpan]) -> Updates<'a>
+        requires { AllByRecursion (IsWithin body.now) spans.now }
+        ensures { result ≡ map (update_in body.now) spans.now }
     {
-        Updates { body, places }
+        Updates { body, spans }
     }
 }
 
@@ -49,8 +49,8 @@ impl<'a> Iterator for Updates<'a> {
     ghost remaining = { item_count (λ rest. rest) };
 
     fn next(&mut self) -> Option<UpdateRef<'a>> {
-        let (first, others) = self.places.split_first()?;
-        self.places = others;
+        let (first, others) = self.spans.split_first()?;
+        self.spans = others;
         Some(UpdateRef::at(self.body, first))
     }
 }

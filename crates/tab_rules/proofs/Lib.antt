@@ -1,2 +1,2 @@
 pub mod Digits
-pub mod Places
+pub mod FirstIndex

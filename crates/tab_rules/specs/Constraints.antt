@@ -30,6 +30,6 @@ abbrev pub name_or_nothing : Option Constraint → List ℕ
 name_or_nothing None = []
 name_or_nothing (Some c) = constraint_name c
 
--- the text of a failing pair of number and code: the name, but for the one pair that has a sentence
+-- the text of a violation's number and code: the name, but for the one pair that has a sentence
 abbrev pub text_of : ℕ → ℕ → List ℕ
 text_of number code = cond (number == 4 && code == 2) (codes "User does not have authorization on column visibility") (name_or_nothing (constraint_numbered number))

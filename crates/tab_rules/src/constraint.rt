@@ -63,7 +63,7 @@ impl Constraint {
     }
 }
 
-/// What a failing pair of constraint number and code means.
+/// What the constraint number and the code of a violation mean.
 ///
 /// It is the constraint's name, the empty text for an unknown number, and a sentence for the
 /// number 4 with the code 2.

@@ -3,8 +3,8 @@ ghost use Rattle.std.specs.Prelude.{◌≡◌, ◌+◌, nat_lt, length};
 ghost use Rattle.tab_rules.specs.Verdict.{fails};
 
 use crate::Constraint;
-use crate::failing::Test;
 use crate::syntax::{is_all_alphanumeric, is_numeral};
+use crate::violation::Test;
 use tab_key::MAX_PART_LEN;
 use tab_label::{AuthSet, is_visible};
 use tab_mutation::UpdateRef;
@@ -27,7 +27,7 @@ pub fn fails(auths: &AuthSet, row: &[u8], test: Test, update: &UpdateRef<'_>) ->
 
 // Whether row, family, qualifier and label have together more than 1,048,576 bytes.
 fn has_long_key(row: &[u8], update: &UpdateRef<'_>) -> bool
-    ensures { result ≡ nat_lt 1048576 (length row.now + length update.now.family
+    ensures { result ≡ nat_lt MAX_PART_LEN (length row.now + length update.now.family
         + length update.now.qualifier + length update.now.label) }
 {
     row.len()

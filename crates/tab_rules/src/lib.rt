@@ -6,21 +6,21 @@
 //! | File | What |
 //! |---|---|
 //! | `constraint` | the four constraints, their numbers, names and texts |
+//! | `violation` | what a check answers, and the tests that it makes |
 //! | `syntax` | what letters and digits, and numerals, are |
-//! | `fails` | whether one update fails one constraint in one way |
-//! | `verdict` | the list of all that a mutation fails |
+//! | `fails` | whether one update fails one test |
+//! | `verdict` | the list of all that a mutation violates |
 //!
-//! `specs/Verdict.antt` defines that list.
+//! `specs/Verdict` defines that list, `specs/Constraints` numbers, names and texts. In `proofs`, `Digits` is on numerals and
+//! `FirstIndex` on the first update that fails.
 #![tactic(auto)]
 
 mod constraint;
-mod failing;
 mod fails;
 mod syntax;
-#[cfg(test)]
-mod tests;
 mod verdict;
+mod violation;
 
 pub use constraint::{Constraint, text};
-pub use failing::{Failing, Verdict};
 pub use verdict::check;
+pub use violation::{Verdict, Violation};

@@ -1,18 +1,19 @@
 //! The forms that constraints ask of byte strings.
-ghost use Rattle.std.specs.Prelude.{◌≡◌, ◌&&◌, nat_le};
+ghost use Rattle.std.specs.Prelude.{◌≡◌};
+ghost use Rattle.std.specs.Char.{is_ascii_digit, is_ascii_alphanumeric};
 ghost use Rattle.std.specs.List.{list_all};
-ghost use Rattle.tab_rules.specs.Verdict.{is_alphanumeric, is_digits, is_numeral};
+ghost use Rattle.tab_rules.specs.Verdict.{is_digits, is_numeral};
 
 /// Whether all bytes are ASCII letters and digits.
 pub fn is_all_alphanumeric(bytes: &[u8]) -> bool
-    ensures { result ≡ list_all is_alphanumeric bytes.now }
+    ensures { result ≡ list_all is_ascii_alphanumeric bytes.now }
 {
     bytes.iter().all(|byte| byte.is_ascii_alphanumeric())
 }
 
 // Whether all bytes are ASCII digits.
 fn is_all_digits(bytes: &[u8]) -> bool
-    ensures { result ≡ list_all (λ d. nat_le 48 d && nat_le d 57) bytes.now }
+    ensures { result ≡ list_all is_ascii_digit bytes.now }
 {
     bytes.iter().all(|byte| byte.is_ascii_digit())
 }

@@ -1,13 +1,14 @@
 //! The check of a mutation against a table's constraints.
 ghost use Rattle.std.specs.Prelude.{◌≡◌, IfOk, not};
+ghost use Rattle.std.specs.Char.{is_ascii_alphanumeric};
 ghost use Rattle.std.specs.List.{filter_map, list_all};
-ghost use Rattle.tab_mutation.specs.Shape.{first_place};
-ghost use Rattle.tab_rules.specs.Verdict.{fails, is_alphanumeric, is_set, violation, violations};
+ghost use Rattle.tab_mutation.specs.Shape.{first_index};
+ghost use Rattle.tab_rules.specs.Verdict.{fails, is_set, violation, violations};
 
-use crate::failing::Test;
 use crate::fails::fails;
 use crate::syntax::is_all_alphanumeric;
-use crate::{Constraint, Failing, Verdict};
+use crate::violation::Test;
+use crate::{Constraint, Verdict, Violation};
 use std::alloc::{AllocError, Global};
 use tab_key::Items;
 use tab_label::AuthSet;
@@ -52,7 +53,7 @@ fn is_set(constraints: &[Constraint], constraint: Constraint) -> bool
 
 // The first update, where there is one and the row isn't all letters and digits.
 fn first_by_row(mutation: &Mutation) -> Option<u32>
-    ensures { result ≡ first_place (λ u. not (list_all is_alphanumeric mutation.now.row)) 0
+    ensures { result ≡ first_index (λ u. not (list_all is_ascii_alphanumeric mutation.now.row)) 0
         mutation.now.updates }
 {
     if mutation.is_empty() {
@@ -67,7 +68,7 @@ fn first_by_row(mutation: &Mutation) -> Option<u32>
 
 // The first update that fails the test.
 fn first_failing(mutation: &Mutation, auths: &AuthSet, test: Test) -> Option<u32>
-    ensures { result ≡ first_place (fails auths.now mutation.now.row test.constraint test.code) 0
+    ensures { result ≡ first_index (fails auths.now mutation.now.row test.constraint test.code) 0
         mutation.now.updates }
 {
     for index in 0..mutation.len() {
@@ -78,14 +79,14 @@ fn first_failing(mutation: &Mutation, auths: &AuthSet, test: Test) -> Option<u32
     None
 }
 
-// The pair, where its constraint is set and an update fails it. The row is looked at once, however
-// many updates there are.
+// The violation of the test, where its constraint is set and an update fails it. The row is looked at
+// once, however many updates there are.
 fn violation(
     constraints: &[Constraint],
     auths: &AuthSet,
     mutation: &Mutation,
     test: Test,
-) -> Option<Failing>
+) -> Option<Violation>
     ensures { result ≡ violation constraints.now auths.now mutation.now test }
 {
     if !is_set(constraints, test.constraint) {
@@ -96,7 +97,7 @@ fn violation(
         _ => first_failing(mutation, auths, test),
     };
     match first {
-        Some(update) => Some(Failing {
+        Some(update) => Some(Violation {
             constraint: test.constraint,
             code: test.code,
             update,
@@ -105,14 +106,14 @@ fn violation(
     }
 }
 
-// The failing pairs among these, in their order.
-fn failing_among(
+// The violations of these tests, in their order.
+fn violations_among(
     alloc: Global,
     tests: &[Test],
     constraints: &[Constraint],
     auths: &AuthSet,
     mutation: &Mutation,
-) -> Result<Vec<Failing>, AllocError>
+) -> Result<Vec<Violation>, AllocError>
     ensures { IfOk result (λ v. v.items ≡
         filter_map (violation constraints.now auths.now mutation.now) tests.now) }
 {
@@ -124,8 +125,8 @@ fn failing_among(
 
 /// What the mutation fails of a table's constraints, for a writer who holds these authorizations.
 ///
-/// Every failing pair of constraint and code is listed, rising, each with the first update that
-/// fails so, counted from 0. The list is empty where nothing fails. Constraints may stand in any
+/// Every violation is listed, rising by constraint and code, each with the first update that fails
+/// so, counted from 0. The list is empty where nothing fails. Constraints may stand in any
 /// order, and more than once.
 #[tactic(auto, unfolding(crate::specs::Verdict::violations))]
 pub fn check(
@@ -136,6 +137,6 @@ pub fn check(
 ) -> Result<Verdict, AllocError>
     ensures { IfOk result (λ v. v ≡ violations constraints.now auths.now mutation.now) }
 {
-    let failing = failing_among(alloc, &TESTS, constraints, auths, mutation)?;
-    Ok(Items::from_vec(failing))
+    let violations = violations_among(alloc, &TESTS, constraints, auths, mutation)?;
+    Ok(Items::from_vec(violations))
 }

@@ -1,5 +1,5 @@
 use Rattle.std.proofs.Common.{◌≡◌, ◌≤◌, drop, length}
-use Rattle.tab_label.specs.Sets.{bytes_cmp}
+use Rattle.tab_key.specs.Bytes.{bytes_cmp}
 use Rattle.tab_label.specs.Judging.{unescaped, undone}
 use Rattle.tab_label.proofs.escapes.compare.Given as goal
 

@@ -1,17 +1,17 @@
 use Rattle.std.proofs.Common.{◌≡◌, ◌<◌, not, true, false, ap, sym, length, arith}
 use Rattle.std.proofs.lemmas.Bool.Decides.{nat_tests}
 use Rattle.std.specs.List.{list_all}
-use Rattle.tab_rules.specs.Verdict.{is_alphanumeric}
-use Rattle.tab_rules.proofs.Places.{constant_nowhere, constant_first}
+use Rattle.std.specs.Char.{is_ascii_alphanumeric}
+use Rattle.tab_rules.proofs.FirstIndex.{first_index-never, first_index-always}
 use Rattle.tab_rules.proofs.verdict.first_by_row.Goals as goal
 
 pub returns-then-is_all_alphanumeric : goal.returns-then-is_all_alphanumeric
 returns-then-is_all_alphanumeric c =
-    let passes : list_all is_alphanumeric c.args.mutation.now.row ≡ true = cc in
-    sym (constant_nowhere (not (list_all is_alphanumeric c.args.mutation.now.row)) c.args.mutation.now.updates (ap not passes))
+    let passes : list_all is_ascii_alphanumeric c.args.mutation.now.row ≡ true = cc in
+    sym (first_index-never (not (list_all is_ascii_alphanumeric c.args.mutation.now.row)) c.args.mutation.now.updates (ap not passes))
 
 pub returns-else-is_all_alphanumeric : goal.returns-else-is_all_alphanumeric
 returns-else-is_all_alphanumeric c =
-    let fails : list_all is_alphanumeric c.args.mutation.now.row ≡ false = cc in
+    let fails : list_all is_ascii_alphanumeric c.args.mutation.now.row ≡ false = cc in
     let some : 0 < length c.args.mutation.now.updates = grind (arith, nat_tests) in
-    sym (constant_first (not (list_all is_alphanumeric c.args.mutation.now.row)) c.args.mutation.now.updates (ap not fails) some)
+    sym (first_index-always (not (list_all is_ascii_alphanumeric c.args.mutation.now.row)) c.args.mutation.now.updates (ap not fails) some)

@@ -1,5 +1,5 @@
 use Rattle.tab_rules.specs.Verdict.{fails}
-use Rattle.tab_rules.proofs.Places.{IsLater}
+use Rattle.tab_rules.proofs.FirstIndex.{IsLater}
 use Rattle.tab_rules.proofs.verdict.first_failing.Given as goal
 
 abbrev pub invariant-loop-index : goal.invariant-loop-index

@@ -1,5 +1,5 @@
 use Rattle.std.proofs.Common.{refl, arith}
-use Rattle.tab_label.proofs.HoldsLemmas.{and_holds, and_fails, or_holds, or_fails}
+use Rattle.tab_label.proofs.OperandLemmas.{and_holds, and_fails, or_holds, or_fails}
 use Rattle.tab_label.proofs.tree.Tree.+holds.Goals as goal
 
 pub returns-then-not-holds : goal.returns-then-not-holds
