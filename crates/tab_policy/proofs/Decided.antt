@@ -1,5 +1,6 @@
 -- What the sets of a caller say of the permissions that admit an action.
-use Rattle.std.proofs.Common.{◌≡◌, ℕ, Bool, true, false, cond, ◌||◌, List, [], ◌∷◌, Some, None, refl, sym, ap, ◌∙◌, Option, unwrap_or}
+use Rattle.std.proofs.Common.{◌≡◌, ℕ, Bool, true, false, cond, ◌||◌, List, [], ◌∷◌, Some, None, refl, sym, ap, ◌∙◌, subst, Option, unwrap_or, Result, Ok, Err}
+use Rattle.std.specs.Prelude.{IfOk}
 use Rattle.std.specs.List.{list_any}
 use Rattle.tab_policy.specs.declared.permission.SystemPermission.{SystemPermission}
 use Rattle.tab_policy.specs.declared.permission.TablePermission.{TablePermission}
@@ -7,13 +8,14 @@ use Rattle.tab_policy.specs.declared.permission.Permission.{Permission}
 use Rattle.tab_policy.specs.declared.permission.Permission.TheVariants.{OfSystem, OfTable}
 use Rattle.tab_policy.specs.declared.sets.SystemPermissions.{SystemPermissions}
 use Rattle.tab_policy.specs.declared.sets.TablePermissions.{TablePermissions}
-use Rattle.tab_policy.specs.declared.action.Action.{Action}
-use Rattle.tab_policy.specs.declared.action.Decision.TheVariants.{UnknownUser}
+use Rattle.tab_policy.specs.declared.decision.Caller.{Caller}
+use Rattle.tab_policy.specs.declared.decision.Denial.{Denial}
+use Rattle.tab_policy.specs.declared.decision.Denial.TheVariants.{UnknownUser, NoTable}
 use Rattle.tab_policy.specs.Sets.{system_contains, table_contains}
-use Rattle.tab_policy.specs.Actions.{needs, table_named}
+use Rattle.tab_policy.specs.Actions.{Action, needs, table_named}
 use Rattle.tab_policy.specs.Needs.{on_table, listed, is_met, first_of_needs}
 use Rattle.tab_policy.specs.Decisions.{Standing, holds_permission, unless_any, permission_missing, table_missing, judged, decision}
-use Rattle.tab_policy.specs.State.{State, standing_of, user_exists, table_exists, table_granted, has_system}
+use Rattle.tab_policy.specs.State.{State, IsCaller, standing_of, user_exists, table_exists, table_granted, has_system}
 
 unless_is : (b : Bool) (p : Permission) → unless_any b p ≡ cond b None (Some p)
 unless_is true p = refl
@@ -50,4 +52,43 @@ decided_on_table state user a held rights t system ps known named exists one man
     let as_listed : needs a ≡ listed system ps t = listing ∙ ap (λ o. listed system ps (unwrap_or o [])) named in
     let missing : permission_missing s (needs a) ≡ cond (is_met system ps held rights) None (first_of_needs system ps (Some t)) =
     ap (permission_missing s) as_listed ∙ missing_listed s held rights t (λ p. sym (one p)) (λ p. sym (many p)) system ps in
-    sym (λ i. cond (known i) (judged (no_table_missing i) (missing i)) UnknownUser)
+    sym (λ i. cond (known i) (judged (no_table_missing i) (missing i)) (Some UnknownUser))
+
+-- the decision on an unknown caller
+pub decided_unknown : (state : State) (user : List ℕ) (a : Action) → user_exists state user ≡ false → Some UnknownUser ≡ decision (standing_of state user) a
+decided_unknown state user a unknown =
+    let s : Standing = standing_of state user in
+    sym (ap (λ b. cond b (judged (table_missing s (table_named a)) (permission_missing s (needs a))) (Some UnknownUser)) unknown)
+
+-- the decision on an action that names a table which doesn't exist
+pub decided_on_none : (state : State) (user : List ℕ) (a : Action) (t : List ℕ) → user_exists state user ≡ true → table_named a ≡ Some t → table_exists state t ≡ false
+    → Some (NoTable t) ≡ decision (standing_of state user) a
+decided_on_none state user a t known named gone =
+    let s : Standing = standing_of state user in
+    let missing : table_missing s (table_named a) ≡ Some t = ap (table_missing s) named ∙ ap (λ b. cond b None (Some t)) gone in
+    sym (λ i. cond (known i) (judged (missing i) (permission_missing s (needs a))) (Some UnknownUser))
+
+-- the one permission for the whole server is missing where it isn't in the set
+missing_of_system : (s : Standing) (held : SystemPermissions) (rights : TablePermissions) (t : List ℕ) → ((p : SystemPermission) → s.system p ≡ system_contains held p)
+    → (system : Option SystemPermission) → permission_missing s (listed system [] t) ≡ cond (is_met system [] held rights) None (first_of_needs system [] None)
+missing_of_system s held rights t one None = refl
+missing_of_system s held rights t one (Some q) = ap (λ b. unless_any (b || false) (OfSystem q)) (one q) ∙ unless_is _ _
+
+-- the decision on an action that names no table
+pub decided_on_server : (state : State) (user : List ℕ) (a : Action) (held : SystemPermissions) (rights : TablePermissions) (system : Option SystemPermission) (ps : List TablePermission)
+    → user_exists state user ≡ true → table_named a ≡ None → ((p : SystemPermission) → system_contains held p ≡ has_system state user p)
+    → needs a ≡ listed system ps (unwrap_or (table_named a) []) → ps ≡ []
+    → judged None (cond (is_met system ps held rights) None (first_of_needs system ps None)) ≡ decision (standing_of state user) a
+decided_on_server state user a held rights system ps known named one listing none =
+    let s : Standing = standing_of state user in
+    let no_table_missing : table_missing s (table_named a) ≡ None = ap (table_missing s) named in
+    let missing : permission_missing s (needs a) ≡ cond (is_met system ps held rights) None (first_of_needs system ps None) =
+    ap (permission_missing s) (listing ∙ ap (λ qs. listed system qs (unwrap_or (table_named a) [])) none) ∙ missing_of_system s held rights _ (λ p. sym (one p)) system
+    ∙ ap (λ qs. cond (is_met system qs held rights) None (first_of_needs system qs None)) (sym none) in
+    sym (λ i. cond (known i) (judged (no_table_missing i) (missing i)) (Some UnknownUser))
+
+-- who is admitted is the caller that was found
+pub found : (r : Result Caller Denial) (caller : Caller) (state : State) (user : List ℕ) (named : Option (List ℕ)) → IfOk r (λ admitted. admitted ≡ caller) → IsCaller caller state user named
+    → IfOk r (λ admitted. IsCaller admitted state user named)
+found (Ok admitted) caller state user named is holds = subst (λ x. IsCaller x state user named) (sym is) holds
+found (Err denial) caller state user named is holds = is

@@ -2,4 +2,5 @@ pub mod NameLemmas
 pub mod Decided
 pub mod EntryLemmas
 pub mod Readings
+pub mod Changes
 pub mod RightsLemmas

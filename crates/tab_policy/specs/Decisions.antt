@@ -5,10 +5,9 @@ use Rattle.tab_policy.specs.declared.permission.SystemPermission.{SystemPermissi
 use Rattle.tab_policy.specs.declared.permission.TablePermission.{TablePermission}
 use Rattle.tab_policy.specs.declared.permission.Permission.{Permission}
 use Rattle.tab_policy.specs.declared.permission.Permission.TheVariants.{OfSystem, OfTable}
-use Rattle.tab_policy.specs.declared.action.Action.{Action}
-use Rattle.tab_policy.specs.declared.action.Decision.{Decision}
-use Rattle.tab_policy.specs.declared.action.Decision.TheVariants.{Admitted, UnknownUser, NoTable, Denied}
-use Rattle.tab_policy.specs.Actions.{table_named, needs}
+use Rattle.tab_policy.specs.declared.decision.Denial.{Denial}
+use Rattle.tab_policy.specs.declared.decision.Denial.TheVariants.{UnknownUser, NoTable, PermissionDenied}
+use Rattle.tab_policy.specs.Actions.{Action, table_named, needs}
 
 -- what a decision looks at: whether the caller is known, his permissions, and which tables exist
 pub record Standing : Type 0 where
@@ -38,11 +37,11 @@ table_missing s None = None
 table_missing s (Some t) = if s.exists t then None else Some t
 
 -- a missing table comes before a missing permission
-abbrev pub judged : Option (List ℕ) → Option Permission → Decision
-judged (Some t) missing = NoTable t
-judged None (Some p) = Denied p
-judged None None = Admitted
+abbrev pub judged : Option (List ℕ) → Option Permission → Option Denial
+judged (Some t) missing = Some (NoTable t)
+judged None (Some p) = Some (PermissionDenied p)
+judged None None = None
 
--- an unknown caller first, then a table that doesn't exist, then the permissions
-abbrev pub decision : Standing → Action → Decision
-decision s a = if s.known then judged (table_missing s (table_named a)) (permission_missing s (needs a)) else UnknownUser
+-- why the action isn't admitted, if it isn't: an unknown caller first, then a table that doesn't exist, then the permissions
+abbrev pub decision : Standing → Action → Option Denial
+decision s a = if s.known then judged (table_missing s (table_named a)) (permission_missing s (needs a)) else Some UnknownUser

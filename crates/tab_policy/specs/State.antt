@@ -1,9 +1,10 @@
 -- What a policy holds, and how it is read.
-use Rattle.std.specs.Prelude.{ℕ, List, [], Bool, false, ◌||◌, Option, Some, None, is_some, bytes_eq}
+use Rattle.std.specs.Prelude.{ℕ, ◌≡◌, List, [], Bool, false, ◌||◌, Option, Some, None, IfSome, is_some, bytes_eq}
 use Rattle.tab_policy.specs.declared.permission.SystemPermission.{SystemPermission}
 use Rattle.tab_policy.specs.declared.permission.TablePermission.{TablePermission}
 use Rattle.tab_policy.specs.declared.sets.TablePermissions.{TablePermissions}
 use Rattle.tab_policy.specs.declared.account.Account.{Account}
+use Rattle.tab_policy.specs.declared.decision.Caller.{Caller}
 use Rattle.tab_policy.specs.Sets.{system_contains, table_contains}
 use Rattle.tab_policy.specs.Entries.{at_name}
 use Rattle.tab_policy.specs.Decisions.{Standing}
@@ -66,3 +67,22 @@ standing_of s user = record {
   table = table_granted s user;
   exists = table_exists s;
 }
+
+-- What was found of the user holds: his authorizations, his system permissions, and his permissions on the table, if one is named.
+pub record IsCaller (caller : Caller) (s : State) (user : List ℕ) (named : Option (List ℕ)) : Type 0 where
+  pub authorizations : caller.authorizations.now ≡ auths_of s user
+  pub system : (p : SystemPermission) → system_contains caller.system p ≡ has_system s user p
+  pub on_table : IfSome named (λ t. (p : TablePermission) → table_contains caller.on_table p ≡ table_granted s user p t)
+
+-- ---- the whole state, as it is read
+-- all that is read of a policy: which users and tables there are, and what each user holds
+pub record Readings : Type 0 where
+  pub users : List ℕ → Bool
+  pub auths : List ℕ → List (List ℕ)
+  pub system : List ℕ → SystemPermission → Bool
+  pub rights : List ℕ → TablePermission → List ℕ → Bool
+  pub tables : List ℕ → Bool
+
+-- what is read of this policy
+unfoldable pub readings : State → Readings
+readings s = record { users = user_exists s; auths = auths_of s; system = system_granted s; rights = table_granted s; tables = table_exists s }

@@ -1,12 +1,13 @@
 //! What is kept of a user.
-ghost use Rattle.std.specs.Prelude.{◌≡◌, ℕ, List, [], false, bytes_eq};
+ghost use Rattle.std.specs.Prelude.{◌≡◌, ◌||◌, ℕ, List, [], false, bytes_eq};
 ghost use Rattle.tab_policy.specs.Roots.{root};
 ghost use Rattle.tab_policy.specs.Sets.{system_contains};
 ghost use Rattle.tab_policy.specs.Accounts.{with_auths, with_system};
 ghost use Rattle.tab_policy.specs.Entries.{at_name, changed_at};
 
+use crate::decision::Caller;
 use crate::permission::SystemPermission;
-use crate::sets::SystemPermissions;
+use crate::sets::{SystemPermissions, TablePermissions};
 use std::alloc::Global;
 use std::collections::BTreeMap;
 use tab_key::Name;
@@ -30,16 +31,40 @@ impl Account {
             auths: AuthSet::empty(alloc),
         }
     }
+
+    // What the account's user holds, with these permissions on a table. Root has all for the whole server.
+    pub fn caller(&self, user: &Name, on_table: TablePermissions) -> Caller<'_>
+        ensures system { (p : _) → system_contains result.system p ≡ bytes_eq user.now root || system_contains self.now.system p }
+        ensures on_table { result.on_table ≡ on_table }
+        ensures authorizations { result.authorizations.now ≡ self.now.auths }
+    {
+        Caller {
+            system: self.system_of(user),
+            on_table,
+            authorizations: &self.auths,
+        }
+    }
+
+    // The system permissions of the account's user, all for root.
+    pub fn system_of(&self, user: &Name) -> SystemPermissions
+        ensures { (p : _) → system_contains result p ≡ bytes_eq user.now root || system_contains self.now.system p }
+    {
+        if is_root(user) {
+            SystemPermissions::all()
+        } else {
+            self.system
+        }
+    }
 }
 
-// `root`, the user that is there from the first.
+// The name of the user that is there from the first.
 pub fn root_name() -> Name
     ensures { result ≡ root }
 {
     Name::new(b"root").unwrap()
 }
 
-// Whether this is root.
+/// Whether this is `root`, the user that is there from the first.
 pub fn is_root(user: &Name) -> bool
     ensures { result ≡ bytes_eq user.now root }
 {

@@ -1,105 +1,86 @@
-//! What a user may ask for, and what a decision says.
-ghost use Rattle.std.specs.Prelude.{◌≡◌};
-ghost use Rattle.tab_policy.specs.Actions.{table_named};
+//! What a user may ask for.
+ghost use Rattle.std.specs.Prelude.{◌≡◌, option_copied};
+ghost use Rattle.tab_policy.specs.Actions.{asked_for, table_named};
 
 use crate::permission::Permission;
 use tab_key::Name;
 
-/// An event's kind, with the table and the permission that it names.
+/// What is done to one table, which must exist.
 #[derive(Clone, Copy, PartialEq, Eq)]
-pub enum Action {
-    /// To open a scan of the table.
-    Open(Name),
-    /// To write to the table.
-    Write(Name),
+pub enum TableAction {
+    /// To open a scan of it.
+    Open,
+    /// To write to it.
+    Write,
+    /// To drop it.
+    DropTable,
+    /// To split one of its tablets at a row.
+    AddSplit,
+    /// To split one of its tablets if it has grown to a size.
+    SplitBySize,
+    /// To list the rows at which it is split.
+    Splits,
+    /// To count what its tablets hold.
+    Status,
+    /// To set its constraints.
+    SetConstraints,
+    /// To lower the number of versions that it keeps.
+    SetVersions,
+    /// To raise the timestamp below which it takes no update.
+    SetHorizon,
+    /// To run a minor compaction of each of its tablets.
+    Flush,
+    /// To run a major compaction of each of its tablets.
+    Compact,
+    /// To begin a compaction of one of its tablets.
+    Begin,
+    /// To put the result of a compaction in its place.
+    Install,
+    /// To list one's own rights, on it too.
+    Rights,
+}
+
+/// What is done to users, to new tables and to the server.
+#[derive(Clone, Copy, PartialEq, Eq)]
+pub enum ServerAction {
     /// To create a table.
     CreateTable,
-    /// To drop the table.
-    DropTable(Name),
-    /// To split a tablet of the table at a row.
-    AddSplit(Name),
-    /// To split a tablet of the table if it has grown to a size.
-    SplitBySize(Name),
-    /// To list the rows at which the table is split.
-    Splits(Name),
-    /// To count what the table's tablets hold.
-    Status(Name),
-    /// To set the table's constraints.
-    SetConstraints(Name),
-    /// To lower the number of versions that the table keeps.
-    SetVersions(Name),
-    /// To raise the timestamp below which the table takes no update.
-    SetHorizon(Name),
-    /// To run a minor compaction of each of the table's tablets.
-    Flush(Name),
-    /// To run a major compaction of each of the table's tablets.
-    Compact(Name),
-    /// To begin a compaction of one of the table's tablets.
-    Begin(Name),
-    /// To put the result of a compaction in its place.
-    Install(Name),
     /// To create a user.
     CreateUser,
     /// To drop a user.
     DropUser,
     /// To set a user's authorizations.
     SetAuths,
-    /// To grant the permission to a user.
-    Grant(Permission),
-    /// To revoke the permission from a user.
-    Revoke(Permission),
     /// To save an image of everything.
     Save,
     /// To load an image in place of everything.
     Load,
     /// To begin a new part of the history.
     Rotate,
-    /// To list one's own rights, on the table too.
-    Rights(Name),
 }
 
-/// What a policy says of an action.
-#[derive(Clone, Copy, PartialEq, Eq)]
-pub enum Decision {
-    /// It may be done, as far as permissions go.
-    Admitted,
-    /// There is no user of the caller's name.
-    UnknownUser,
-    /// The table that the action names doesn't exist.
-    NoTable(Name),
-    /// The caller has none of the permissions that admit the action; this is the first of them.
-    Denied(Permission),
+/// An event's kind, with the table or the permission that it names. A contract reads it by `asked_for`.
+#[derive(Clone, Copy)]
+pub enum Action<'a> {
+    /// Something that is done to the table of this name.
+    OnTable(TableAction, &'a Name),
+    /// Something that is done to no table that exists.
+    OnServer(ServerAction),
+    /// To grant the permission to a user.
+    Grant(&'a Permission),
+    /// To revoke the permission from a user.
+    Revoke(&'a Permission),
 }
 
-impl Action {
+impl<'a> Action<'a> {
     /// The table that must exist for the action.
-    pub fn table(&self) -> Option<Name>
-        ensures { result ≡ table_named self.now }
+    pub fn table(&self) -> Option<&'a Name>
+        ensures { option_copied result ≡ table_named (asked_for self.now) }
     {
         match self {
-            Action::Open(table)
-            | Action::Write(table)
-            | Action::DropTable(table)
-            | Action::AddSplit(table)
-            | Action::SplitBySize(table)
-            | Action::Splits(table)
-            | Action::Status(table)
-            | Action::SetConstraints(table)
-            | Action::SetVersions(table)
-            | Action::SetHorizon(table)
-            | Action::Flush(table)
-            | Action::Compact(table)
-            | Action::Begin(table)
-            | Action::Install(table)
-            | Action::Rights(table) => Some(*table),
+            Action::OnTable(_, table) => Some(*table),
+            Action::OnServer(_) => None,
             Action::Grant(permission) | Action::Revoke(permission) => permission.table(),
-            Action::CreateTable
-            | Action::CreateUser
-            | Action::DropUser
-            | Action::SetAuths
-            | Action::Save
-            | Action::Load
-            | Action::Rotate => None,
         }
     }
 }

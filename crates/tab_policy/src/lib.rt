@@ -7,7 +7,8 @@
 //! |---|---|
 //! | `permission` | the permissions, their order and their names |
 //! | `sets` | sets of permissions |
-//! | `action` | what a user may ask for, and what a decision says |
+//! | `action` | what a user may ask for |
+//! | `decision` | what a decision says, and what it found |
 //! | `needs` | which permissions admit which action |
 //! | `account`, `rights` | what is kept of a user, and of a table |
 //! | `entries` | maps by name |
@@ -19,16 +20,17 @@
 
 mod account;
 mod action;
+mod decision;
 mod entries;
 mod needs;
 mod permission;
 mod policy;
 mod rights;
 mod sets;
-#[cfg(test)]
-mod tests;
 
-pub use action::{Action, Decision};
+pub use account::is_root;
+pub use action::{Action, ServerAction, TableAction};
+pub use decision::{Caller, Decision, Denial};
 pub use permission::{Permission, SystemPermission, TablePermission};
 pub use policy::Policy;
 pub use sets::{SystemPermissions, TablePermissions};

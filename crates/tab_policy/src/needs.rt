@@ -1,12 +1,14 @@
 //! Which permissions admit which action. (This server's own profile of Accumulo's rules.)
-ghost use Rattle.std.specs.Prelude.{◌≡◌, [], unwrap_or, if◌then◌else◌};
-ghost use Rattle.tab_policy.specs.Actions.{needs, table_named, hands_out, table_of};
+ghost use Rattle.std.specs.Prelude.{◌≡◌, [], IfOk, unwrap_or, option_copied, if◌then◌else◌};
+ghost use Rattle.std.specs.Result.{result_err};
+ghost use Rattle.tab_policy.specs.Actions.{asked_for, needs, needs_on, server_permission, table_named, hands_out, table_of};
 ghost use Rattle.tab_policy.specs.Needs.{listed, is_met, first_of_needs};
 ghost use Rattle.tab_policy.specs.Sets.{table_contains};
 ghost use Rattle.tab_policy.specs.Decisions.{judged};
 ghost use Rattle.std.specs.List.{list_any};
 
-use crate::action::{Action, Decision};
+use crate::action::{Action, ServerAction, TableAction};
+use crate::decision::{Caller, Decision, Denial};
 use crate::permission::{Permission, SystemPermission, TablePermission};
 use crate::sets::{SystemPermissions, TablePermissions};
 use tab_key::Name;
@@ -32,37 +34,40 @@ const COMPACTS: Needs = Needs {
 
 impl Needs {
     // What admits the action.
-    pub fn of(action: &Action) -> Needs
-        ensures listed { needs action.now ≡ listed result.system result.on_table.now (unwrap_or (table_named action.now) []) }
-        ensures tableless { table_named action.now ≡ None → result.on_table.now ≡ [] }
+    pub fn of(action: &Action<'_>) -> Needs
+        ensures listed { needs (asked_for action.now) ≡ listed result.system result.on_table.now (unwrap_or (table_named (asked_for action.now)) []) }
+        ensures tableless { table_named (asked_for action.now) ≡ None → result.on_table.now ≡ [] }
     {
         match action {
-            Action::Open(_) => Needs::for_table(&[TablePermission::Read]),
-            Action::Write(_) => Needs::for_table(&[TablePermission::Write]),
-            Action::CreateTable => Needs::of_system(SystemPermission::CreateTable),
-            Action::DropTable(_) => Needs {
-                system: Some(SystemPermission::DropTable),
-                on_table: &[TablePermission::DropTable],
-            },
-            Action::AddSplit(_)
-            | Action::SplitBySize(_)
-            | Action::Splits(_)
-            | Action::Status(_)
-            | Action::SetConstraints(_)
-            | Action::SetVersions(_)
-            | Action::SetHorizon(_) => ALTERS,
-            Action::Flush(_) | Action::Compact(_) | Action::Begin(_) | Action::Install(_) =>
-                COMPACTS,
-            Action::CreateUser => Needs::of_system(SystemPermission::CreateUser),
-            Action::DropUser => Needs::of_system(SystemPermission::DropUser),
-            Action::SetAuths => Needs::of_system(SystemPermission::AlterUser),
+            Action::OnTable(action, _) => Needs::for_table(*action),
+            Action::OnServer(action) => Needs::of_system(system_permission(*action)),
             Action::Grant(permission) | Action::Revoke(permission) => Needs::to_hand_out(
                 permission,
             ),
-            Action::Save | Action::Load | Action::Rotate => Needs::of_system(
-                SystemPermission::System,
-            ),
-            Action::Rights(_) => Needs::for_table(&[]),
+        }
+    }
+
+    // What admits the action on a table.
+    fn for_table(action: TableAction) -> Needs
+        ensures { (t : _) → needs_on action t ≡ listed result.system result.on_table.now t }
+    {
+        match action {
+            TableAction::Open => Needs::of_table(&[TablePermission::Read]),
+            TableAction::Write => Needs::of_table(&[TablePermission::Write]),
+            TableAction::DropTable => Needs {
+                system: Some(SystemPermission::DropTable),
+                on_table: &[TablePermission::DropTable],
+            },
+            TableAction::AddSplit
+            | TableAction::SplitBySize
+            | TableAction::Splits
+            | TableAction::Status
+            | TableAction::SetConstraints
+            | TableAction::SetVersions
+            | TableAction::SetHorizon => ALTERS,
+            TableAction::Flush | TableAction::Compact | TableAction::Begin | TableAction::Install =>
+                COMPACTS,
+            TableAction::Rights => Needs::of_table(&[]),
         }
     }
 
@@ -77,8 +82,8 @@ impl Needs {
         }
     }
 
-    // The permission for the table, and no other.
-    fn for_table(permissions: &'static [TablePermission]) -> Needs
+    // These permissions for the table, and no other.
+    fn of_table(permissions: &'static [TablePermission]) -> Needs
         ensures system { result.system ≡ None }
         ensures on_table { result.on_table.now ≡ permissions.now }
     {
@@ -120,32 +125,41 @@ impl Needs {
             .any(|permission| rights.contains(*permission))
     }
 
-    // Admitted if one of them is in the sets, else denied by the first. Those for a table are for this one.
-    pub fn decide(
-        &self,
-        system: SystemPermissions,
-        rights: TablePermissions,
-        table: Option<Name>,
-    ) -> Decision
-        ensures { result ≡ judged None (if is_met self.now.system self.now.on_table.now system rights then None else first_of_needs self.now.system self.now.on_table.now table) }
+    // The caller if he has one of them or none is needed, else denied by the first. Those for a table are for this one.
+    pub fn decide<'a>(&self, caller: Caller<'a>, table: Option<&Name>) -> Decision<'a>
+        ensures decided { result_err result ≡ judged None (if is_met self.now.system self.now.on_table.now caller.entry.system caller.entry.on_table then None else first_of_needs self.now.system self.now.on_table.now (option_copied table.entry)) }
+        ensures caller { IfOk result (λ admitted. admitted ≡ caller.entry) }
     {
-        if self.are_met(system, rights) {
-            return Decision::Admitted;
+        if self.are_met(caller.system, caller.on_table) {
+            return Ok(caller);
         }
         match self.first(table) {
-            None => Decision::Admitted,
-            Some(permission) => Decision::Denied(permission),
+            None => Ok(caller),
+            Some(permission) => Err(Denial::PermissionDenied(permission)),
         }
     }
 
     // The first of them, those for a table being for this one.
-    fn first(&self, table: Option<Name>) -> Option<Permission>
-        ensures { result ≡ first_of_needs self.now.system self.now.on_table.now table }
+    fn first(&self, table: Option<&Name>) -> Option<Permission>
+        ensures { result ≡ first_of_needs self.now.system self.now.on_table.now (option_copied table.entry) }
     {
         if let Some(permission) = self.system {
             return Some(Permission::OfSystem(permission));
         }
         let first = self.on_table.first()?;
-        Some(Permission::OfTable(*first, table?))
+        Some(Permission::OfTable(*first, *table?))
+    }
+}
+
+// The permission that admits the action on the server.
+fn system_permission(action: ServerAction) -> SystemPermission
+    ensures { result ≡ server_permission action }
+{
+    match action {
+        ServerAction::CreateTable => SystemPermission::CreateTable,
+        ServerAction::CreateUser => SystemPermission::CreateUser,
+        ServerAction::DropUser => SystemPermission::DropUser,
+        ServerAction::SetAuths => SystemPermission::AlterUser,
+        ServerAction::Save | ServerAction::Load | ServerAction::Rotate => SystemPermission::System,
     }
 }

@@ -1,5 +1,5 @@
 //! The permissions. (Accumulo user manual: permissions.)
-ghost use Rattle.std.specs.Prelude.{◌≡◌};
+ghost use Rattle.std.specs.Prelude.{◌≡◌, option_copied};
 ghost use Rattle.tab_policy.specs.Permissions.{system_name, table_name, system_by_name, table_by_name};
 ghost use Rattle.tab_policy.specs.Actions.{table_of};
 
@@ -52,12 +52,12 @@ pub enum Permission {
 
 impl Permission {
     /// The table that the permission is for.
-    pub fn table(&self) -> Option<Name>
-        ensures { result ≡ table_of self.now }
+    pub fn table(&self) -> Option<&Name>
+        ensures { option_copied result ≡ table_of self.now }
     {
         match self {
             Permission::OfSystem(_) => None,
-            Permission::OfTable(_, table) => Some(*table),
+            Permission::OfTable(_, table) => Some(table),
         }
     }
 }

@@ -1,14 +1,16 @@
 //! The users and tables, and what may be done.
 ghost use Rattle.std.specs.Prelude.{◌≡◌, [], ℕ, List, IfOk, OnOk, OnErr, IfSome, true, false, bytes_eq, is_some, ◌&&◌, if◌then◌else◌};
+ghost use Rattle.std.specs.Result.{result_err};
 ghost use Rattle.tab_policy.specs.Roots.{root};
 ghost use Rattle.tab_policy.specs.Sets.{system_contains, table_contains};
 
-use crate::account::{Account, is_root, root_name, set_auths, set_system};
-use crate::action::{Action, Decision};
+use crate::account::{Account, root_name, set_auths, set_system};
+use crate::action::Action;
+use crate::decision::{Decision, Denial};
 use crate::entries::{put, take_away};
 use crate::needs::Needs;
 use crate::permission::Permission;
-use crate::rights::{Rights, forget, give, take};
+use crate::rights::{TableRights, forget, give, take};
 use crate::sets::{SystemPermissions, TablePermissions};
 use std::alloc::{AllocError, Global};
 use std::collections::BTreeMap;
@@ -21,7 +23,7 @@ use tab_label::AuthSet;
 pub struct Policy {
     alloc: Global,
     users: BTreeMap<Name, Account>,
-    tables: BTreeMap<Name, Rights>,
+    tables: BTreeMap<Name, TableRights>,
 }
 
 impl Model for Policy {
@@ -33,29 +35,34 @@ impl Model for Policy {
 }
 
 impl Policy {
-    ghost use Rattle.tab_policy.specs.State.{standing_of};
+    ghost use Rattle.tab_policy.specs.State.{standing_of, IsCaller};
+    ghost use Rattle.tab_policy.specs.Actions.{asked_for, table_named};
     ghost use Rattle.tab_policy.specs.Decisions.{decision};
 
-    /// What the policy says of the action of this user. It takes no memory.
-    pub fn decide(&self, user: &Name, action: &Action) -> Decision
-        ensures { result ≡ decision (standing_of self.now user.now) action.now }
+    /// What the policy says of the action of this user: why he isn't admitted, or else what he holds. It takes no memory.
+    pub fn decide(&self, user: &Name, action: &Action<'_>) -> Decision<'_>
+        ensures decided { result_err result ≡ decision (standing_of self.now user.now) (asked_for action.now) }
+        ensures caller { IfOk result (λ caller. IsCaller caller self.now user.now (table_named (asked_for action.now))) }
     {
-        let Some(system) = self.system_of(user) else {
-            return Decision::UnknownUser;
+        let Some(account) = self.users.get(user) else {
+            return Err(Denial::UnknownUser);
         };
         let Some(table) = action.table() else {
-            return Needs::of(action).decide(system, TablePermissions::none(), None);
+            return Needs::of(action).decide(account.caller(user, TablePermissions::none()), None);
         };
-        match self.rights_on(&table, user) {
-            None => Decision::NoTable(table),
-            Some(rights) => Needs::of(action).decide(system, rights, Some(table)),
+        match self.tables.get(table) {
+            None => Err(Denial::NoTable(*table)),
+            Some(rights) => Needs::of(action).decide(
+                account.caller(user, rights.of(user)),
+                Some(table),
+            ),
         }
     }
 }
 
-#[tactic(auto, using(crate::proofs::Readings::auths_set), unfolding(crate::specs::State::user_exists, crate::specs::State::auths_of, crate::specs::State::system_granted, crate::specs::State::table_granted, crate::specs::State::table_exists))]
+#[tactic(auto, unfolding(crate::specs::State::user_exists, crate::specs::State::auths_of, crate::specs::State::system_granted, crate::specs::State::table_granted, crate::specs::State::table_exists))]
 impl Policy {
-    ghost use Rattle.tab_policy.specs.State.{user_exists, auths_of, system_granted, has_system, table_granted, table_exists};
+    ghost use Rattle.tab_policy.specs.State.{readings, user_exists, auths_of, system_granted, has_system, table_granted, table_exists};
     ghost use Rattle.tab_policy.specs.Granting.{can_hold, is_system_right, is_table_right};
 
     /// A policy with the one user `root`, who has all system permissions and no authorizations, and with no table.
@@ -112,10 +119,7 @@ impl Policy {
         ensures system { IfSome result (λ set. (p : _) → system_contains set p ≡ has_system self.now user.now p) }
     {
         let account = self.users.get(user)?;
-        if is_root(user) {
-            return Some(SystemPermissions::all());
-        }
-        Some(account.system)
+        Some(account.system_of(user))
     }
 
     /// The permissions that the user has on the table; `None` where there is no such table.
@@ -130,11 +134,9 @@ impl Policy {
     /// Sets the authorizations of the user, in place of those that he held. It takes no memory.
     /// Where there is no such user nothing changes.
     pub fn set_auths(&mut self, user: &Name, auths: AuthSet)
-        ensures users { (n : List ℕ) → user_exists self.new n ≡ user_exists self.old n }
-        ensures auths { (n : List ℕ) → auths_of self.new n ≡ (if user_exists self.old user.now && bytes_eq user.now n then auths else auths_of self.old n) }
-        ensures system { (n : List ℕ) (p : _) → system_granted self.new n p ≡ system_granted self.old n p }
-        ensures rights { (n : List ℕ) (p : _) (t : List ℕ) → table_granted self.new n p t ≡ table_granted self.old n p t }
-        ensures tables { (t : List ℕ) → table_exists self.new t ≡ table_exists self.old t }
+        ensures { readings self.new ≡ record (readings self.old) {
+          auths = λ n. if user_exists self.old user.now && bytes_eq user.now n then auths else auths_of self.old n;
+        } }
     {
         set_auths(&mut self.users, user, auths);
     }
@@ -145,24 +147,22 @@ impl Policy {
     ///
     /// There was no memory for the table. The policy is then as it was.
     pub fn create_table(&mut self, creator: &Name, table: &Name) -> Result<(), AllocError>
-        ensures users { OnOk result ((n : List ℕ) → user_exists self.new n ≡ user_exists self.old n) }
-        ensures auths { OnOk result ((n : List ℕ) → auths_of self.new n ≡ auths_of self.old n) }
-        ensures system { OnOk result ((n : List ℕ) (p : _) → system_granted self.new n p ≡ system_granted self.old n p) }
-        ensures rights { OnOk result ((n : List ℕ) (p : _) (t : List ℕ) → table_granted self.new n p t ≡ (if bytes_eq table.now t then bytes_eq creator.now n else table_granted self.old n p t)) }
-        ensures tables { OnOk result ((t : List ℕ) → table_exists self.new t ≡ (if bytes_eq table.now t then true else table_exists self.old t)) }
+        ensures ok { OnOk result (readings self.new ≡ record (readings self.old) {
+          rights = λ n p t. if bytes_eq table.now t then bytes_eq creator.now n else table_granted self.old n p t;
+          tables = λ t. if bytes_eq table.now t then true else table_exists self.old t;
+        }) }
         ensures err { OnErr result (self.new ≡ self.old) }
     {
-        let rights = Rights::new(self.alloc, creator)?;
+        let rights = TableRights::new(self.alloc, creator)?;
         put(&mut self.tables, *table, rights)
     }
 
     /// Takes the table away, with all rights on it. It takes no memory.
     pub fn drop_table(&mut self, table: &Name)
-        ensures users { (n : List ℕ) → user_exists self.new n ≡ user_exists self.old n }
-        ensures auths { (n : List ℕ) → auths_of self.new n ≡ auths_of self.old n }
-        ensures system { (n : List ℕ) (p : _) → system_granted self.new n p ≡ system_granted self.old n p }
-        ensures rights { (n : List ℕ) (p : _) (t : List ℕ) → table_granted self.new n p t ≡ (if bytes_eq table.now t then false else table_granted self.old n p t) }
-        ensures tables { (t : List ℕ) → table_exists self.new t ≡ (if bytes_eq table.now t then false else table_exists self.old t) }
+        ensures { readings self.new ≡ record (readings self.old) {
+          rights = λ n p t. if bytes_eq table.now t then false else table_granted self.old n p t;
+          tables = λ t. if bytes_eq table.now t then false else table_exists self.old t;
+        } }
     {
         take_away(&mut self.tables, table);
     }
@@ -173,11 +173,12 @@ impl Policy {
     ///
     /// There was no memory for the user. The policy is then as it was.
     pub fn create_user(&mut self, user: &Name) -> Result<(), AllocError>
-        ensures users { OnOk result ((n : List ℕ) → user_exists self.new n ≡ (if bytes_eq user.now n then true else user_exists self.old n)) }
-        ensures auths { OnOk result ((n : List ℕ) → auths_of self.new n ≡ (if bytes_eq user.now n then [] else auths_of self.old n)) }
-        ensures system { OnOk result ((n : List ℕ) (p : _) → system_granted self.new n p ≡ (if bytes_eq user.now n then false else system_granted self.old n p)) }
-        ensures rights { OnOk result ((n : List ℕ) (p : _) (t : List ℕ) → table_granted self.new n p t ≡ (if bytes_eq user.now n then false else table_granted self.old n p t)) }
-        ensures tables { OnOk result ((t : List ℕ) → table_exists self.new t ≡ table_exists self.old t) }
+        ensures ok { OnOk result (readings self.new ≡ record (readings self.old) {
+          users = λ n. if bytes_eq user.now n then true else user_exists self.old n;
+          auths = λ n. if bytes_eq user.now n then [] else auths_of self.old n;
+          system = λ n p. if bytes_eq user.now n then false else system_granted self.old n p;
+          rights = λ n p t. if bytes_eq user.now n then false else table_granted self.old n p t;
+        }) }
         ensures err { OnErr result (self.new ≡ self.old) }
     {
         put(&mut self.users, *user, Account::new(self.alloc))?;
@@ -187,11 +188,12 @@ impl Policy {
 
     /// Takes the user away, with his rights and authorizations. It takes no memory.
     pub fn drop_user(&mut self, user: &Name)
-        ensures users { (n : List ℕ) → user_exists self.new n ≡ (if bytes_eq user.now n then false else user_exists self.old n) }
-        ensures auths { (n : List ℕ) → auths_of self.new n ≡ (if bytes_eq user.now n then [] else auths_of self.old n) }
-        ensures system { (n : List ℕ) (p : _) → system_granted self.new n p ≡ (if bytes_eq user.now n then false else system_granted self.old n p) }
-        ensures rights { (n : List ℕ) (p : _) (t : List ℕ) → table_granted self.new n p t ≡ (if bytes_eq user.now n then false else table_granted self.old n p t) }
-        ensures tables { (t : List ℕ) → table_exists self.new t ≡ table_exists self.old t }
+        ensures { readings self.new ≡ record (readings self.old) {
+          users = λ n. if bytes_eq user.now n then false else user_exists self.old n;
+          auths = λ n. if bytes_eq user.now n then [] else auths_of self.old n;
+          system = λ n p. if bytes_eq user.now n then false else system_granted self.old n p;
+          rights = λ n p t. if bytes_eq user.now n then false else table_granted self.old n p t;
+        } }
     {
         take_away(&mut self.users, user);
         forget(&mut self.tables, user);
@@ -203,11 +205,10 @@ impl Policy {
     ///
     /// There was no memory for the right. The policy is then as it was.
     pub fn grant(&mut self, user: &Name, permission: &Permission) -> Result<(), AllocError>
-        ensures users { OnOk result ((n : List ℕ) → user_exists self.new n ≡ user_exists self.old n) }
-        ensures auths { OnOk result ((n : List ℕ) → auths_of self.new n ≡ auths_of self.old n) }
-        ensures system { OnOk result ((n : List ℕ) (p : _) → system_granted self.new n p ≡ (if can_hold self.old user.now permission.now && is_system_right user.now permission.now n p then true else system_granted self.old n p)) }
-        ensures rights { OnOk result ((n : List ℕ) (p : _) (t : List ℕ) → table_granted self.new n p t ≡ (if can_hold self.old user.now permission.now && is_table_right user.now permission.now n p t then true else table_granted self.old n p t)) }
-        ensures tables { OnOk result ((t : List ℕ) → table_exists self.new t ≡ table_exists self.old t) }
+        ensures ok { OnOk result (readings self.new ≡ record (readings self.old) {
+          system = λ n p. if can_hold self.old user.now permission.now && is_system_right user.now permission.now n p then true else system_granted self.old n p;
+          rights = λ n p t. if can_hold self.old user.now permission.now && is_table_right user.now permission.now n p t then true else table_granted self.old n p t;
+        }) }
         ensures err { OnErr result (self.new ≡ self.old) }
     {
         match permission {
@@ -226,11 +227,10 @@ impl Policy {
 
     /// Revokes the permission from the user. Where he doesn't have it nothing changes. It takes no memory.
     pub fn revoke(&mut self, user: &Name, permission: &Permission)
-        ensures users { (n : List ℕ) → user_exists self.new n ≡ user_exists self.old n }
-        ensures auths { (n : List ℕ) → auths_of self.new n ≡ auths_of self.old n }
-        ensures system { (n : List ℕ) (p : _) → system_granted self.new n p ≡ (if is_system_right user.now permission.now n p then false else system_granted self.old n p) }
-        ensures rights { (n : List ℕ) (p : _) (t : List ℕ) → table_granted self.new n p t ≡ (if is_table_right user.now permission.now n p t then false else table_granted self.old n p t) }
-        ensures tables { (t : List ℕ) → table_exists self.new t ≡ table_exists self.old t }
+        ensures { readings self.new ≡ record (readings self.old) {
+          system = λ n p. if is_system_right user.now permission.now n p then false else system_granted self.old n p;
+          rights = λ n p t. if is_table_right user.now permission.now n p t then false else table_granted self.old n p t;
+        } }
     {
         match permission {
             Permission::OfSystem(taken) => set_system(&mut self.users, user, *taken, false),

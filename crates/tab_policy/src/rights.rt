@@ -15,11 +15,11 @@ use tab_key::Name;
 
 // The rights that users have on one table.
 #[derive(Drop)]
-pub struct Rights {
+pub struct TableRights {
     users: BTreeMap<Name, TablePermissions>,
 }
 
-impl Model for Rights {
+impl Model for TableRights {
     ghost use Rattle.std.specs.Prelude.{ℕ, List};
     ghost use Rattle.tab_policy.specs.declared.sets.TablePermissions.{TablePermissions};
 
@@ -28,14 +28,14 @@ impl Model for Rights {
     ghost view = { λ r. r.users.entries };
 }
 
-impl Rights {
+impl TableRights {
     // All rights for the creator, and none for others.
-    pub fn new(alloc: Global, creator: &Name) -> Result<Rights, AllocError>
+    pub fn new(alloc: Global, creator: &Name) -> Result<TableRights, AllocError>
         ensures { IfOk result (λ rights. (n : List ℕ) (p : _) → some_contains (at_name n rights) p ≡ bytes_eq creator.now n) }
     {
         let mut users = BTreeMap::new(alloc);
         put(&mut users, *creator, TablePermissions::all())?;
-        Ok(Rights { users })
+        Ok(TableRights { users })
     }
 
     // The rights of the user.
@@ -79,7 +79,7 @@ impl Rights {
 
 // Gives the user the permission on the table, if there is such a table. An error leaves everything as it was.
 pub fn give(
-    tables: &mut BTreeMap<Name, Rights>,
+    tables: &mut BTreeMap<Name, TableRights>,
     table: &Name,
     user: &Name,
     permission: TablePermission,
@@ -96,7 +96,7 @@ pub fn give(
 
 // Takes the permission on the table from the user.
 pub fn take(
-    tables: &mut BTreeMap<Name, Rights>,
+    tables: &mut BTreeMap<Name, TableRights>,
     table: &Name,
     user: &Name,
     permission: TablePermission,
@@ -110,7 +110,7 @@ pub fn take(
 }
 
 // Takes all permissions on all tables from the user.
-pub fn forget(tables: &mut BTreeMap<Name, Rights>, user: &Name)
+pub fn forget(tables: &mut BTreeMap<Name, TableRights>, user: &Name)
     ensures tables { (t : List ℕ) → is_some (at_name t tables.new.entries) ≡ is_some (at_name t tables.old.entries) }
     ensures rights { (t : List ℕ) (n : List ℕ) (p : _) → table_gives (at_name t tables.new.entries) n p ≡ (if bytes_eq user.now n then false else table_gives (at_name t tables.old.entries) n p) }
 {

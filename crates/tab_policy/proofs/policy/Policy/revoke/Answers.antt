@@ -1,10 +1,10 @@
-use Rattle.std.proofs.Common.{◌∙◌, ap}
-use Rattle.tab_policy.specs.State.{system_granted, account_system}
-use Rattle.tab_policy.proofs.Readings.{system_taken}
+use Rattle.tab_policy.proofs.Changes.{system_revoked, right_revoked}
 use Rattle.tab_policy.proofs.policy.Policy.revoke.Goals as goal
 
-pub returns-in-OfSystem-clause-system : goal.returns-in-OfSystem-clause-system
-unfolding system_granted
-returns-in-OfSystem-clause-system c =
-    rw (c.in-OfSystem.is, ← c.self.view_is)
-    (λ n p. ap (λ o. account_system o p) (c.set_system.ensures n) ∙ system_taken c.args.user.now n c.self.inside.users.entries c.in-OfSystem.taken p)
+pub returns-in-OfSystem : goal.returns-in-OfSystem
+returns-in-OfSystem c = rw (c.in-OfSystem.is, ← c.self.view_is)
+    (system_revoked c.self.inside.users.entries c.set_system.new.users.entries c.self.inside.tables.entries c.args.user.now c.in-OfSystem.taken c.set_system.ensures)
+
+pub returns-in-OfTable : goal.returns-in-OfTable
+returns-in-OfTable c = rw (c.in-OfTable.is, ← c.self.view_is)
+    (right_revoked c.self.inside.users.entries c.self.inside.tables.entries c.take.new.tables.entries c.args.user.now c.in-OfTable.table c.in-OfTable.taken c.take.ensures.tables c.take.ensures.rights)

@@ -2,7 +2,7 @@ use Rattle.std.proofs.Common.{◌∙◌, ℕ, List, ap}
 use Rattle.tab_policy.specs.declared.sets.TablePermissions.{TablePermissions}
 use Rattle.tab_policy.specs.Entries.{changed_at}
 use Rattle.tab_policy.proofs.RightsLemmas.{taken_at}
-use Rattle.tab_policy.proofs.rights.Rights.take.Goals as goal
+use Rattle.tab_policy.proofs.rights.TableRights.take.Goals as goal
 
 pub returns-else-is_empty : goal.returns-else-is_empty
 returns-else-is_empty c =
