@@ -14,22 +14,23 @@ use Rattle.tab_history.specs.declared.event.Act.TheVariants.{Open, Write, Create
 use Rattle.tab_history.specs.declared.event.Step.{Step}
 use Rattle.tab_history.specs.declared.reply.Refusal.TheVariants.{TimestampNotAllowed, BelowHorizon}
 use Rattle.tab_key.specs.Records.{Record}
-use Rattle.tab_key.proofs.Rising.{IsIn}
+use Rattle.tab_key.specs.Sorted.{IsIn}
 use Rattle.tab_history.specs.Answers.{Told, changes_by}
 use Rattle.tab_history.specs.Bases.{Base}
-use Rattle.tab_history.specs.Changes.{Posted, Change, Written, posted, given, taken, changes_of}
+use Rattle.tab_cells.specs.Written.{TimedUpdate, timed, records_of}
+use Rattle.tab_history.specs.Changes.{Change, Written, given, taken, changes_of}
 use Rattle.tab_history.specs.Checks.{standing, user_named, exists_in, shape_refusal, malformed, stamped, outdated, violated, mutation_checks, refusal_of}
 use Rattle.tab_history.specs.Held.{floor_of}
 use Rattle.tab_history.specs.Histories.{Entry, World, clock_of, clock_at, journal}
 use Rattle.tab_history.specs.Legal.{IsAnswer, IsExhausted}
 use Rattle.tab_mutation.specs.Mutations.{Update, Mutation}
-use Rattle.tab_history.specs.Readings.{next_number, numbered}
+use Rattle.tab_history.specs.Readings.{next_number}
 use Rattle.tab_history.specs.Settings.{Settings, takes_timestamps}
-use Rattle.tab_mutation.specs.Shape.{first_some, first_place, misshape}
+use Rattle.tab_mutation.specs.Shape.{first_some, first_index, shape_error}
 use Rattle.tab_rules.specs.Verdict.{violations}
 use Rattle.tab_history.proofs.Options.{or_else_left, or_else_right, unmapped}
 use Rattle.tab_history.proofs.Accepted.{own_pass, of_legal}
-use Rattle.tab_history.proofs.StandsFor.{table_floor, Fits, FitAll}
+use Rattle.tab_history.proofs.Refines.{table_floor, Fits, FitAll}
 
 -- ---- lists
 all_map : {X Y : Type 0} (P : Y → Type 0) (f : X → Y) (xs : List X) → AllByRecursion (λ x. P (f x)) xs → AllByRecursion P (map f xs)
@@ -48,11 +49,11 @@ all_weaker : {X : Type 0} (P Q : X → Type 0) → ((x : X) → P x → Q x) →
 all_weaker P Q f [] a = tt
 all_weaker P Q f (x ∷ xs) a = (f x a.0, all_weaker P Q f xs a.1)
 
-no_place : {X : Type 0} (p : X → Bool) (i : ℕ) (xs : List X) → first_place p i xs ≡ None → AllByRecursion (λ x. p x ≡ false) xs
+no_place : {X : Type 0} (p : X → Bool) (i : ℕ) (xs : List X) → first_index p i xs ≡ None → AllByRecursion (λ x. p x ≡ false) xs
 no_place p i [] e = tt
 no_place p i (x ∷ xs) e = go (p x) refl e (no_place p (i + 1) xs)
   where
-    go : (v : Bool) → p x ≡ v → cond v (Some i) (first_place p (i + 1) xs) ≡ None → (first_place p (i + 1) xs ≡ None → AllByRecursion (λ y. p y ≡ false) xs) → AllByRecursion (λ y. p y ≡ false) (x ∷ xs)
+    go : (v : Bool) → p x ≡ v → cond v (Some i) (first_index p (i + 1) xs) ≡ None → (first_index p (i + 1) xs ≡ None → AllByRecursion (λ y. p y ≡ false) xs) → AllByRecursion (λ y. p y ≡ false) (x ∷ xs)
     go true t e ih = absurd (cc)
     go false t e ih = (t, ih e)
 
@@ -72,27 +73,27 @@ settled : (s : Settings) (m : Mutation) (now : ℤ) → stamped s m ≡ None →
 unfolding stamped outdated
 settled s m now e f = go s.time e
   where
-    go : (time : TimeMode) → cond (takes_timestamps time) None (option_map TimestampNotAllowed (first_place (λ (u : Update). is_some u.timestamp) 0 m.updates)) ≡ None → AllByRecursion (λ (u : Update). int_le (floor_of time now s.horizon) (unwrap_or u.timestamp now) ≡ true) m.updates
+    go : (time : TimeMode) → cond (takes_timestamps time) None (option_map TimestampNotAllowed (first_index (λ (u : Update). is_some u.timestamp) 0 m.updates)) ≡ None → AllByRecursion (λ (u : Update). int_le (floor_of time now s.horizon) (unwrap_or u.timestamp now) ≡ true) m.updates
     go Any e = all_weaker _ _ (λ u p. not_under (unwrap_or u.timestamp now) s.horizon p) m.updates (no_place (λ (u : Update). int_lt (unwrap_or u.timestamp now) s.horizon) 0 m.updates (unmapped BelowHorizon _ f))
     go Server e = all_weaker _ _ (λ u p. the_clock u.timestamp now p) m.updates (no_place (λ (u : Update). is_some u.timestamp) 0 m.updates (unmapped TimestampNotAllowed _ e))
 
-in_numbered : (low : ℤ) (seq : ℕ) (row : List ℕ) (ps : List Posted) → AllByRecursion (λ (p : Posted). int_le low p.timestamp ≡ true) ps → (u : Record) → IsIn (numbered seq row ps) u → int_le low u.key.timestamp ≡ true
-unfolding numbered
+in_numbered : (low : ℤ) (seq : ℕ) (row : List ℕ) (ps : List TimedUpdate) → AllByRecursion (λ (p : TimedUpdate). int_le low p.timestamp ≡ true) ps → (u : Record) → IsIn (records_of seq row ps) u → int_le low u.key.timestamp ≡ true
+unfolding records_of
 in_numbered low seq row [] a u h = absurd h
 in_numbered low seq row (p ∷ ps) a u (inl e) = subst (λ (r : Record). int_le low r.key.timestamp ≡ true) e a.0
 in_numbered low seq row (p ∷ ps) a u (inr h) = in_numbered low seq row ps a.1 u h
 
 -- ---- by acts
 module _ (b : Base) (j : List Change) (now : ℤ) (user : List ℕ) where
-  write_fits : (there : Bool) (t : List ℕ) (m : Mutation) → refusal_of (standing b j user) there now user (Write t m) ≡ None → Fits b j now (Written t m.row (reverse (map (posted now) m.updates)))
+  write_fits : (there : Bool) (t : List ℕ) (m : Mutation) → refusal_of (standing b j user) there now user (Write t m) ≡ None → Fits b j now (Written t m.row (reverse (map (timed now) m.updates)))
   unfolding standing
-  write_fits there t m e s q u h = in_numbered (table_floor s now) (next_number b j) m.row _ (all_reverse _ _ (all_map _ (posted now) m.updates (settled s m now (or_else_left (stamped s m) _ tail) (or_else_left (outdated s now m) _ (or_else_right (stamped s m) _ tail))))) u h
+  write_fits there t m e s q u h = in_numbered (table_floor s now) (next_number b j) m.row _ (all_reverse _ _ (all_map _ (timed now) m.updates (settled s m now (or_else_left (stamped s m) _ tail) (or_else_left (outdated s now m) _ (or_else_right (stamped s m) _ tail))))) u h
     where
       passed : first_some (mutation_checks (Some s) (standing b j user).auths now m) ≡ None
       passed = subst (λ o. first_some (mutation_checks o (standing b j user).auths now m) ≡ None) q (own_pass (standing b j user) there now user (Write t m) e)
 
       tail : first_some (stamped s m ∷ outdated s now m ∷ violated (violations s.constraints (standing b j user).auths m) ∷ []) ≡ None
-      tail = or_else_right (malformed m) _ (or_else_right (option_map shape_refusal (misshape m)) _ passed)
+      tail = or_else_right (malformed m) _ (or_else_right (option_map shape_refusal (shape_error m)) _ passed)
 
   given_fits : (n : List ℕ) (p : Permission) → FitAll b j now (given n p ∷ [])
   given_fits n (OfSystem p) = (tt, tt)

@@ -1,4 +1,4 @@
--- A right step goes on with each history that the core stands for.
+-- A right step goes on with each history that the core refines.
 use Rattle.std.proofs.Common.{◌≡◌, ◌⊎◌, inl, inr, List, [], ◌∷◌, Bool, true, false, cond, ◌&&◌, refl, sym, ◌∙◌, ap}
 use Rattle.std.specs.Prelude.{ℤ}
 use Rattle.tab_key.specs.declared.part.Part.TheVariants.{Sessions}
@@ -13,8 +13,8 @@ use Rattle.tab_history.specs.Changes.{Change}
 use Rattle.tab_history.specs.Histories.{Entry, World, world_of, clock_of, clock_at, journal, world_after, user_of, moves_of}
 use Rattle.tab_history.specs.Legal.{IsAnswer, IsExhausted}
 use Rattle.tab_history.specs.Sessions.{opened, closed, is_full}
-use Rattle.tab_history.specs.Standing.{StandsFor}
-use Rattle.tab_history.proofs.Chains.{stands_over, one_more, after_more}
+use Rattle.tab_history.specs.Refinement.{Refines}
+use Rattle.tab_history.proofs.Chains.{refinement_is_transitive, one_more, after_more}
 use Rattle.tab_history.proofs.GoOn.{list_same, events_down}
 
 -- where there is room for a session, it doesn't matter which there are
@@ -37,10 +37,10 @@ pub goes_on : GoesOn
 unfolding journal clock_of
 goes_on w h before e after s goes =
     let d = events_down (world_of before) (world_after w h) s (e ∷ []) goes.legal in
-    let stands : StandsFor (world_of after) (world_after w (e ∷ h)) = after_more (world_of after) w h e (stands_over (world_of after) (world_after (world_of before) (e ∷ [])) (world_after (world_after w h) (e ∷ [])) goes.stands d.1) in
+    let refines : Refines (world_of after) (world_after w (e ∷ h)) = after_more (world_of after) w h e (refinement_is_transitive (world_of after) (world_after (world_of before) (e ∷ [])) (world_after (world_after w h) (e ∷ [])) goes.refines d.1) in
     record {
       answers = λ own room. room_too w h own e.step e.reply room (one_more w h e d.0);
-      stands = stands;
+      refines = refines;
       list_before = list_same (world_of before) (world_after w h) s;
-      list_after = list_same (world_of after) (world_after w (e ∷ h)) stands;
+      list_after = list_same (world_of after) (world_after w (e ∷ h)) refines;
     }

@@ -5,10 +5,11 @@ use Rattle.tab_history.specs.Settings.{Settings}
 use Rattle.tab_history.specs.Bases.{Base}
 use Rattle.tab_history.specs.Changes.{Change, changes_of}
 use Rattle.tab_history.specs.Readings.{settings_of, updates_of}
-use Rattle.tab_history.specs.Cells.{Query, cells}
+use Rattle.tab_cells.specs.Cells.{Query, cells}
 use Rattle.tab_history.specs.Checks.{Caller, standing, refusal_of, user_named, exists_in}
 use Rattle.tab_history.specs.OwnRights.{own_rights}
-use Rattle.tab_history.specs.Sessions.{Move, Opening, Taking, Closing, Held, is_full, session_in, batch}
+use Rattle.tab_history.specs.Sessions.{Move, Opening, Taking, Closing, is_full, session_in}
+use Rattle.tab_cells.specs.SessionState.{SessionState, batch}
 use Rattle.tab_key.specs.declared.part.Part.TheVariants.{Sessions}
 use Rattle.tab_history.specs.declared.event.Scan.{Scan}
 use Rattle.tab_history.specs.declared.event.Act.{Act}
@@ -66,12 +67,12 @@ is_open (Open scan) = true
 is_open _ = false
 
 -- the next n cells of the session in the slot
-abbrev pub next_answer : Option Held → ℕ → ℕ → Told
+abbrev pub next_answer : Option SessionState → ℕ → ℕ → Told
 next_answer None slot n = Refused (NoSession slot)
 next_answer (Some held) slot n = Batch (batch held n)
 
 -- a session in the slot can be closed
-abbrev pub close_answer : Option Held → ℕ → Told
+abbrev pub close_answer : Option SessionState → ℕ → Told
 close_answer None slot = Refused (NoSession slot)
 close_answer (Some held) slot = Done
 

@@ -1,7 +1,6 @@
 -- The changes that accepted events make. All state is read from a list of them, the newest first.
-use Rattle.std.specs.Prelude.{ℕ, ℤ, List, [], ◌∷◌, unwrap_or, map, reverse}
-use Rattle.tab_mutation.specs.Mutations.{Update}
-use Rattle.tab_key.specs.declared.key.Kind.{Kind}
+use Rattle.std.specs.Prelude.{ℕ, ℤ, List, [], ◌∷◌, map, reverse}
+use Rattle.tab_cells.specs.Written.{TimedUpdate, timed}
 use Rattle.tab_rules.specs.declared.constraint.Constraint.{Constraint}
 use Rattle.tab_policy.specs.declared.permission.SystemPermission.{SystemPermission}
 use Rattle.tab_policy.specs.declared.permission.TablePermission.{TablePermission}
@@ -11,15 +10,6 @@ use Rattle.tab_policy.specs.declared.permission.Permission.TheVariants.{OfSystem
 use Rattle.tab_history.specs.declared.event.TimeMode.{TimeMode}
 use Rattle.tab_history.specs.declared.event.Act.{Act}
 use Rattle.tab_history.specs.declared.event.Act.TheVariants.{Open, Write, CreateTable, DropTable, SetConstraints, CreateUser, DropUser, SetAuths, Grant, Revoke, Rights}
-
--- an update of an accepted mutation, its timestamp settled
-pub record Posted : Type 0 where
-  pub kind : Kind
-  pub family : List ℕ
-  pub qualifier : List ℕ
-  pub label : List ℕ
-  pub timestamp : ℤ
-  pub value : List ℕ
 
 -- one change
 pub data Change : Type 0 where
@@ -44,11 +34,7 @@ pub data Change : Type 0 where
   -- the table has these constraints, and no others
   ConstraintsSet : List ℕ → List Constraint → Change
   -- the table, the row and the updates, the last of them first
-  Written : List ℕ → List ℕ → List Posted → Change
-
--- an update without a timestamp gets the clock
-abbrev pub posted : ℤ → Update → Posted
-posted now u = record { kind = u.kind; family = u.family; qualifier = u.qualifier; label = u.label; timestamp = unwrap_or u.timestamp now; value = u.value }
+  Written : List ℕ → List ℕ → List TimedUpdate → Change
 
 -- the creator of a table gets its five permissions
 abbrev pub all_rights : List ℕ → List ℕ → List Change → List Change
@@ -67,7 +53,7 @@ taken n (OfTable p t) = TableTaken n p t
 -- what an accepted event of the user changes, where the clock is now
 abbrev pub changes_of : ℤ → List ℕ → Act → List Change
 changes_of now user (Open scan) = []
-changes_of now user (Write t m) = Written t m.row (reverse (map (posted now) m.updates)) ∷ []
+changes_of now user (Write t m) = Written t m.row (reverse (map (timed now) m.updates)) ∷ []
 changes_of now user (CreateTable t time n) = all_rights user t (TableMade t time n ∷ [])
 changes_of now user (DropTable t) = TableDropped t ∷ []
 changes_of now user (SetConstraints t cs) = ConstraintsSet t cs ∷ []

@@ -4,7 +4,7 @@ use Rattle.tab_label.specs.Sets.{has_longer, first_missing}
 use Rattle.tab_label.specs.Reading.{label_of}
 use Rattle.tab_key.specs.Ranges.{is_bad_range}
 use Rattle.tab_mutation.specs.Mutations.{Update, Mutation}
-use Rattle.tab_mutation.specs.Shape.{first_some, when, first_place, first_found, misshape}
+use Rattle.tab_mutation.specs.Shape.{first_some, when, first_index, first_found, shape_error}
 use Rattle.tab_rules.specs.Verdict.{violations}
 use Rattle.tab_policy.specs.Decisions.{Standing, decision}
 use Rattle.tab_policy.specs.Roots.{root}
@@ -12,18 +12,20 @@ use Rattle.tab_history.specs.Settings.{Settings, takes_timestamps}
 use Rattle.tab_history.specs.Bases.{Base}
 use Rattle.tab_history.specs.Changes.{Change}
 use Rattle.tab_history.specs.Readings.{has_user, held_auths, may_system, has_table_right, settings_of}
-use Rattle.tab_mutation.specs.declared.misshape.Misshape.{Misshape}
-use Rattle.tab_mutation.specs.declared.misshape.Misshape.TheVariants as shape
-use Rattle.tab_rules.specs.declared.failing.Failing.{Failing}
+use Rattle.tab_mutation.specs.declared.shape_error.ShapeError.{ShapeError}
+use Rattle.tab_mutation.specs.declared.shape_error.ShapeError.TheVariants as shape
+use Rattle.tab_rules.specs.declared.violation.Violation.{Violation}
 use Rattle.tab_key.specs.declared.part.Part.TheVariants.{Columns, Authorizations}
 use Rattle.tab_policy.specs.declared.permission.SystemPermission.{SystemPermission}
 use Rattle.tab_policy.specs.declared.permission.SystemPermission.TheVariants as system
 use Rattle.tab_policy.specs.declared.permission.Permission.{Permission}
 use Rattle.tab_policy.specs.declared.permission.Permission.TheVariants.{OfSystem, OfTable}
-use Rattle.tab_policy.specs.declared.action.Action.{Action}
-use Rattle.tab_policy.specs.declared.action.Action.TheVariants as action
-use Rattle.tab_policy.specs.declared.action.Decision.{Decision}
-use Rattle.tab_policy.specs.declared.action.Decision.TheVariants as policy
+use Rattle.tab_policy.specs.declared.action.TableAction.TheVariants as on
+use Rattle.tab_policy.specs.declared.action.ServerAction.TheVariants as server
+use Rattle.tab_policy.specs.declared.decision.Denial.{Denial}
+use Rattle.tab_policy.specs.declared.decision.Denial.TheVariants as policy
+use Rattle.tab_policy.specs.Actions as action
+use Rattle.tab_policy.specs.Actions.{Action}
 use Rattle.tab_history.specs.declared.event.Scan.{Scan}
 use Rattle.tab_history.specs.declared.event.Act.{Act}
 use Rattle.tab_history.specs.declared.event.Act.TheVariants.{Open, Write, CreateTable, DropTable, SetConstraints, CreateUser, DropUser, SetAuths, Grant, Revoke, Rights}
@@ -62,28 +64,28 @@ exists_in b j (Some n) = has_user b j n
 -- ---- unknown users, unknown tables and missing permissions, which the policy decides
 -- what the policy is asked for an event
 abbrev pub action_of : Act → Action
-action_of (Open scan) = action.Open scan.table
-action_of (Write t m) = action.Write t
-action_of (CreateTable t time n) = action.CreateTable
-action_of (DropTable t) = action.DropTable t
-action_of (SetConstraints t cs) = action.SetConstraints t
-action_of (CreateUser n) = action.CreateUser
-action_of (DropUser n) = action.DropUser
-action_of (SetAuths n auths) = action.SetAuths
+action_of (Open scan) = action.OnTable on.Open scan.table
+action_of (Write t m) = action.OnTable on.Write t
+action_of (CreateTable t time n) = action.OnServer server.CreateTable
+action_of (DropTable t) = action.OnTable on.DropTable t
+action_of (SetConstraints t cs) = action.OnTable on.SetConstraints t
+action_of (CreateUser n) = action.OnServer server.CreateUser
+action_of (DropUser n) = action.OnServer server.DropUser
+action_of (SetAuths n auths) = action.OnServer server.SetAuths
 action_of (Grant n p) = action.Grant p
 action_of (Revoke n p) = action.Revoke p
-action_of (Rights t) = action.Rights t
+action_of (Rights t) = action.OnTable on.Rights t
 
 -- why the policy doesn't admit the user's event
-abbrev pub denial : List ℕ → Decision → Option Refusal
-denial user policy.Admitted = None
-denial user policy.UnknownUser = Some (UnknownUser user)
-denial user (policy.NoTable t) = Some (NoTable t)
-denial user (policy.Denied p) = Some (PermissionDenied p)
+abbrev pub denial : List ℕ → Option Denial → Option Refusal
+denial user None = None
+denial user (Some policy.UnknownUser) = Some (UnknownUser user)
+denial user (Some (policy.NoTable t)) = Some (NoTable t)
+denial user (Some (policy.PermissionDenied p)) = Some (PermissionDenied p)
 
 -- ---- the checks of a mutation
 -- the shape of a mutation: no update, or a part that is too large
-abbrev pub shape_refusal : Misshape → Refusal
+abbrev pub shape_refusal : ShapeError → Refusal
 shape_refusal shape.Empty = EmptyMutation
 shape_refusal (shape.TooLarge part) = TooLarge part
 
@@ -98,21 +100,21 @@ malformed m = first_found (λ i u. malformed_at i (label_of u.label)) 0 m.update
 
 -- the first update with a timestamp, where the table gives them
 unfoldable pub stamped : Settings → Mutation → Option Refusal
-stamped s m = cond (takes_timestamps s.time) None (option_map TimestampNotAllowed (first_place (λ (u : Update). is_some u.timestamp) 0 m.updates))
+stamped s m = cond (takes_timestamps s.time) None (option_map TimestampNotAllowed (first_index (λ (u : Update). is_some u.timestamp) 0 m.updates))
 
 -- the first update below the horizon, its timestamp given or the clock's
 unfoldable pub outdated : Settings → ℤ → Mutation → Option Refusal
-outdated s now m = option_map BelowHorizon (first_place (λ (u : Update). int_lt (unwrap_or u.timestamp now) s.horizon) 0 m.updates)
+outdated s now m = option_map BelowHorizon (first_index (λ (u : Update). int_lt (unwrap_or u.timestamp now) s.horizon) 0 m.updates)
 
 -- the constraints that the mutation fails, if any
-abbrev pub violated : List Failing → Option Refusal
+abbrev pub violated : List Violation → Option Refusal
 violated [] = None
 violated (f ∷ fs) = Some (ConstraintViolation (f ∷ fs))
 
 -- the checks of a mutation by a caller with these authorizations, in their order
 abbrev pub mutation_checks : Option Settings → List (List ℕ) → ℤ → Mutation → List (Option Refusal)
 mutation_checks None auths now m = []
-mutation_checks (Some s) auths now m = option_map shape_refusal (misshape m) ∷ malformed m ∷ stamped s m ∷ outdated s now m ∷ violated (violations s.constraints auths m) ∷ []
+mutation_checks (Some s) auths now m = option_map shape_refusal (shape_error m) ∷ malformed m ∷ stamped s m ∷ outdated s now m ∷ violated (violations s.constraints auths m) ∷ []
 
 -- ---- the checks of the other events
 -- over 1,024 authorizations, or one of over 1,024 bytes

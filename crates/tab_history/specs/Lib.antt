@@ -2,7 +2,6 @@ pub mod Settings
 pub mod Bases
 pub mod Changes
 pub mod Readings
-pub mod Cells
 pub mod Checks
 pub mod OwnRights
 pub mod Sessions
@@ -12,7 +11,8 @@ pub mod Lives
 pub mod Legal
 pub mod Rooted
 pub mod Held
-pub mod Standing
+pub mod Refinement
 pub mod Chains
 pub mod Runs
-pub mod Rows
+pub mod ExampleWords
+pub mod Examples

@@ -1,16 +1,10 @@
 //! Laws of the definitions. Each is the contract of a function that does nothing, so that it is proved.
-ghost use Rattle.tab_history.specs.Cells.{OneAnswerList};
 ghost use Rattle.tab_history.specs.OwnRights.{RightsAreTold};
 ghost use Rattle.tab_history.specs.Lives.{LivesAreApart};
 ghost use Rattle.tab_history.specs.Rooted.{RootStays};
-ghost use Rattle.tab_history.specs.Standing.{SameHistories, SameEvents, StandsOver, StandsForItself, NewCoreIsSound, NewCoreStands, StandingIsSound, AlikeStands, AnswersAreOne};
-ghost use Rattle.tab_history.specs.Chains.{RightStep, GoesOn, ChainsStand};
+ghost use Rattle.tab_history.specs.Refinement.{SameHistories, SameEvents, RefinementIsTransitive, SoundRefinesItself, NewCoreIsSound, NewCoreRefines, RefinementIsSound, AlikeRefines, AnswersAreOne};
+ghost use Rattle.tab_history.specs.Chains.{RightStep, GoesOn, ChainsRefine};
 ghost use Rattle.tab_history.specs.Runs.{EveryRunIsAnswered, OneHistory, Unmoved};
-
-/// A scan of updates of which no two stand at one place has one answer, and it is what the definitions compute.
-pub fn one_answer_list()
-    ensures { OneAnswerList }
-{}
 
 /// What a user is told of his rights has just the permissions that he has, and his authorizations.
 pub fn rights_are_told()
@@ -42,7 +36,7 @@ pub fn unmoved()
     ensures { Unmoved }
 {}
 
-/// Where one world stands for another, the same runs are legal from both, and each user's sessions are the same.
+/// Where one world refines another, the same runs are legal from both, and each user's sessions are the same.
 pub fn same_histories()
     ensures { SameHistories }
 {}
@@ -52,14 +46,14 @@ pub fn same_events()
     ensures { SameEvents }
 {}
 
-/// What stands for what stands for a world stands for it.
-pub fn stands_over()
-    ensures { StandsOver }
+/// What refines what refines a world refines it.
+pub fn refinement_is_transitive()
+    ensures { RefinementIsTransitive }
 {}
 
-/// A world of which no two records stand at one place, and all numbers are used up, stands for itself.
-pub fn stands_for_itself()
-    ensures { StandsForItself }
+/// A world of which no two records stand at one place, and all numbers are used up, refines itself.
+pub fn sound_refines_itself()
+    ensures { SoundRefinesItself }
 {}
 
 /// A new core is sound.
@@ -67,19 +61,19 @@ pub fn new_core_is_sound()
     ensures { NewCoreIsSound }
 {}
 
-/// A base that reads as a new core stands for it.
-pub fn new_core_stands()
-    ensures { NewCoreStands }
+/// A base that reads as a new core refines it.
+pub fn new_core_refines()
+    ensures { NewCoreRefines }
 {}
 
-/// A base that stands for some world is sound.
-pub fn standing_is_sound()
-    ensures { StandingIsSound }
+/// A base that refines some world is sound.
+pub fn refinement_is_sound()
+    ensures { RefinementIsSound }
 {}
 
-/// A world that reads the same as another one, and holds the same records in any order, stands for it.
-pub fn alike_stands()
-    ensures { AlikeStands }
+/// A world that reads the same as another one, and holds the same records in any order, refines it.
+pub fn alike_refines()
+    ensures { AlikeRefines }
 {}
 
 /// After a legal run from a sound world each scan has one answer.
@@ -92,12 +86,12 @@ pub fn right_step()
     ensures { RightStep }
 {}
 
-/// A step that is right on what a core holds goes on with each history that the core stands for.
+/// A step that is right on what a core holds goes on with each history that the core refines.
 pub fn goes_on()
     ensures { GoesOn }
 {}
 
-/// A chain of right steps makes a legal history, for which its last core stands.
-pub fn chains_stand()
-    ensures { ChainsStand }
+/// A chain of right steps makes a legal history, which its last core refines.
+pub fn chains_refine()
+    ensures { ChainsRefine }
 {}

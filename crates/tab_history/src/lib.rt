@@ -10,7 +10,7 @@
 //! The definitions stand in `specs`, in this order of reading: `Settings`, `Bases`, `Changes`, `Readings` (what there is after some
 //! changes), `Cells` (what a scan shows), `Checks` (why an event is refused), `OwnRights` (what a user is told of his rights),
 //! `Sessions`, `Answers` (the answer to each step), `Histories`, `Lives` (what a creation begins with), `Legal` (which histories are),
-//! `Rooted` (root stays), `Held` and `Standing` (which cores stand for which histories), `Chains`, `Runs`. `Rows` computes worked
+//! `Rooted` (root stays), `Held` and `Refinement` (which cores refine which histories), `Chains`, `Runs`. `Examples` computes
 //! examples. The definitions of records, labels, mutations, constraints and permissions stand in the crates below.
 #![tactic(auto)]
 
@@ -21,13 +21,10 @@ mod rights;
 
 pub use event::{Act, Event, Scan, Step, TimeMode, copied};
 pub use laws::{
-    alike_stands, answers_are_one, chains_stand, every_run_is_answered, goes_on, lives_are_apart,
-    new_core_is_sound, new_core_stands, one_answer_list, one_history, right_step, rights_are_told,
-    root_stays, same_events, same_histories, standing_is_sound, stands_for_itself, stands_over,
-    unmoved,
+    alike_refines, answers_are_one, chains_refine, every_run_is_answered, goes_on, lives_are_apart,
+    new_core_is_sound, new_core_refines, one_history, refinement_is_sound,
+    refinement_is_transitive, right_step, rights_are_told, root_stays, same_events, same_histories,
+    sound_refines_itself, unmoved,
 };
 pub use reply::{Refusal, Reply};
 pub use rights::Rights;
-
-#[cfg(test)]
-mod tests;

@@ -3,7 +3,7 @@
 use crate::rights::Rights;
 use tab_key::{ByteString, Cell, Items, Name, Part};
 use tab_policy::Permission;
-use tab_rules::Failing;
+use tab_rules::Violation;
 
 /// Why a step is refused. A refused event changes no user, cell, right or table; all but `NoMemory` and a full list of sessions move the clock.
 #[derive(Drop)]
@@ -19,7 +19,7 @@ pub enum Refusal {
     /// The first update, counted from 0, whose label is malformed, and the length of the label's longest front that begins some label.
     MalformedVisibility(u32, u32),
     /// Each failing pair of constraint and code, rising, with its first failing update. The whole mutation is refused.
-    ConstraintViolation(Items<Failing>),
+    ConstraintViolation(Items<Violation>),
     /// The first update with a timestamp, where the table gives them.
     TimestampNotAllowed(u32),
     /// The mutation has no update.

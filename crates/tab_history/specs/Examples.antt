@@ -1,0 +1,403 @@
+-- Worked examples, computed: lists of steps from a new core, and the replies to them that say more than that all went well.
+use Rattle.std.specs.Prelude.{◌≡◌, ℕ, ℤ, pos, List, [], ◌∷◌, ◌++◌, Bool, true, false, cond, Option, Some, None, codes, reverse, replicate, refl}
+use Rattle.tab_key.specs.Records.{Cell}
+use Rattle.tab_key.specs.Order.{column_cmp, key_cmp, place_cmp, newer_cmp}
+use Rattle.tab_key.specs.Kept.{same_column, hides, is_deleted, outranks, is_kept}
+use Rattle.tab_key.specs.declared.key.Kind.TheVariants.{Put, Delete}
+use Rattle.tab_key.specs.declared.range.Bounds.{Bounds}
+use Rattle.tab_key.specs.declared.range.Bound.TheVariants.{Inclusive, Exclusive}
+use Rattle.tab_label.specs.Grammar.{is_term_byte}
+use Rattle.tab_label.specs.Machine.{step, ending}
+use Rattle.tab_label.specs.Reading.{reads_on, label_of}
+use Rattle.tab_mutation.specs.Mutations.{Update}
+use Rattle.tab_mutation.specs.Shape.{shape_error}
+use Rattle.tab_rules.specs.Verdict.{violations}
+use Rattle.tab_policy.specs.Roots.{root}
+use Rattle.tab_policy.specs.State.{user_exists, auths_of, system_granted, table_granted}
+use Rattle.tab_history.specs.Settings.{least, made_with}
+use Rattle.tab_history.specs.Bases.{Base, new_policy, new_core}
+use Rattle.tab_history.specs.Readings.{has_user, held_auths, has_system_right, has_table_right, settings_of, next_number, updates_of}
+use Rattle.tab_cells.specs.Written.{records_of}
+use Rattle.tab_cells.specs.Cells.{matches, cells}
+use Rattle.tab_history.specs.Checks.{standing, malformed, stamped, outdated, refusal_of}
+use Rattle.tab_history.specs.Sessions.{opened, closed, session_in}
+use Rattle.tab_history.specs.Answers.{Told, answer, session_list}
+use Rattle.tab_history.specs.Histories.{Entry, world_of, clock_of, journal, moves_of}
+use Rattle.tab_history.specs.Runs.{played}
+use Rattle.tab_rules.specs.declared.constraint.Constraint.TheVariants.{Visibility}
+use Rattle.tab_policy.specs.declared.permission.Permission.TheVariants.{OfSystem, OfTable}
+use Rattle.tab_policy.specs.declared.permission.SystemPermission.TheVariants as system
+use Rattle.tab_policy.specs.declared.permission.TablePermission.TheVariants as table
+use Rattle.tab_policy.specs.declared.sets.SystemPermissions.{SystemPermissions}
+use Rattle.tab_policy.specs.declared.sets.TablePermissions.{TablePermissions}
+use Rattle.tab_history.specs.declared.event.TimeMode.TheVariants.{Any, Server}
+use Rattle.tab_history.specs.declared.event.Act.{Act}
+use Rattle.tab_history.specs.declared.event.Act.TheVariants as act
+use Rattle.tab_history.specs.declared.event.Step.{Step}
+use Rattle.tab_history.specs.declared.event.Step.TheVariants.{Next, Close}
+use Rattle.tab_history.specs.declared.reply.Refusal.TheVariants.{UnknownUser, NoTable, PermissionDenied, BadAuthorizations, MalformedVisibility, ConstraintViolation, TimestampNotAllowed, EmptyMutation, TableExists, UserExists, NoUser, BadRange, NoSession, RootFixed, GrantInvalid, BelowHorizon}
+use Rattle.tab_history.specs.declared.reply.Reply.TheVariants.{Done, Refused, Opened, Batch, Rights}
+use Rattle.tab_history.specs.ExampleWords.{t, r, f, q, v, bob, everywhere, asks, as_root, as_bob}
+
+-- whether the reply says no more than that all went well
+abbrev pub is_done : Told → Bool
+is_done Done = true
+is_done (Opened session) = true
+is_done _ = false
+
+-- the other replies, in the order of the entries
+abbrev pub shown : List Entry → List Told
+shown [] = []
+shown (e ∷ es) = cond (is_done e.reply) (shown es) (e.reply ∷ shown es)
+
+-- those of a run of these steps from a base
+abbrev pub replies_from : Base → List Step → List Told
+replies_from b steps = shown (reverse (played (world_of b) [] steps))
+
+-- those of a run from a new core
+abbrev pub replies : List Step → List Told
+replies steps = replies_from new_core steps
+
+-- names what the examples look into
+everything : ℕ
+unfolding is_term_byte step ending reads_on label_of column_cmp key_cmp place_cmp newer_cmp same_column hides is_deleted outranks is_kept matches cells user_exists auths_of system_granted table_granted has_user held_auths has_system_right has_table_right settings_of next_number records_of updates_of shape_error malformed stamped outdated violations standing refusal_of opened closed session_in answer session_list clock_of journal moves_of
+everything = 0
+
+-- ---- steps, updates and cells of the examples
+-- a put with this label, value and timestamp
+abbrev put : List ℕ → List ℕ → Option ℤ → Update
+put label value ts = record { kind = Put; family = f; qualifier = q; label = label; timestamp = ts; value = value }
+
+-- a delete with this label and timestamp
+abbrev del : List ℕ → Option ℤ → Update
+del label ts = record { kind = Delete; family = f; qualifier = q; label = label; timestamp = ts; value = [] }
+
+-- writes these updates of one row to t
+abbrev writes : List ℕ → List Update → Act
+writes row updates = act.Write t (record { row = row; updates = updates })
+
+-- opens a session on these rows of t, under these authorizations
+abbrev opens : Bounds → List (List ℕ) → Act
+opens bounds auths = act.Open (record { table = t; bounds = bounds; columns = []; authorizations = auths })
+
+-- opens a session on all rows of t, and takes as many cells
+abbrev scan : List (List ℕ) → ℕ → List Step
+scan auths slot = as_root (opens everywhere auths) ∷ Next root slot 1000 ∷ []
+
+-- a cell of the family and qualifier
+abbrev cell : List ℕ → List ℕ → ℤ → List ℕ → Cell
+cell row label ts value = record { key = record { row = row; family = f; qualifier = q; label = label; timestamp = ts }; value = value }
+
+-- makes t with one version
+abbrev make : Step
+make = as_root (act.CreateTable t Any 1)
+
+-- makes t with two versions
+abbrev make_two : Step
+make_two = as_root (act.CreateTable t Any 2)
+
+-- gives root these authorizations
+abbrev holds : List (List ℕ) → Step
+holds auths = as_root (act.SetAuths root auths)
+
+-- ---- puts, deletes and versions
+-- a new table shows nothing
+empty_table : replies (make ∷ scan [] 0) ≡ Batch [] ∷ []
+unfolding everything
+empty_table = refl
+
+-- what was put is shown
+one_put : replies (make ∷ as_root (writes r (put [] v (Some (pos 5)) ∷ [])) ∷ scan [] 0) ≡ Batch (cell r [] (pos 5) v ∷ []) ∷ []
+unfolding everything
+one_put = refl
+
+-- two versions; `A` and `(A)` are two columns; a delete hides the older put of its own column
+versions_and_labels : replies (make_two ∷ holds (codes "A" ∷ []) ∷ as_root (writes r (put (codes "A") (codes "x") (Some (pos 5)) ∷ [])) ∷ as_root (writes r (put (codes "A") (codes "y") (Some (pos 6)) ∷ [])) ∷ as_root (writes r (put (codes "(A)") (codes "z") (Some (pos 3)) ∷ [])) ∷ as_root (writes r (del (codes "A") (Some (pos 5)) ∷ [])) ∷ scan (codes "A" ∷ []) 0)
+    ≡ Batch (cell r (codes "(A)") (pos 3) (codes "z") ∷ cell r (codes "A") (pos 6) (codes "y") ∷ []) ∷ []
+unfolding everything
+versions_and_labels = refl
+
+-- one version is kept of each label, and a marker hides under its own label alone
+labels_apart : replies (make ∷ holds (codes "A" ∷ []) ∷ as_root (writes r (put (codes "A") (codes "x") (Some (pos 5)) ∷ put (codes "(A)") (codes "z") (Some (pos 3)) ∷ [])) ∷ scan (codes "A" ∷ []) 0 ++ as_root (writes r (del (codes "A") (Some (pos 9)) ∷ [])) ∷ scan (codes "A" ∷ []) 1)
+    ≡ Batch (cell r (codes "(A)") (pos 3) (codes "z") ∷ cell r (codes "A") (pos 5) (codes "x") ∷ []) ∷ Batch (cell r (codes "(A)") (pos 3) (codes "z") ∷ []) ∷ []
+unfolding everything
+labels_apart = refl
+
+-- a marker hides what is written later below it
+hidden_later : replies (make ∷ as_root (writes r (del [] (Some (pos 5)) ∷ [])) ∷ as_root (writes r (put [] v (Some (pos 4)) ∷ [])) ∷ scan [] 0) ≡ Batch [] ∷ []
+unfolding everything
+hidden_later = refl
+
+-- two puts with equal keys are two versions, the newer first, and batches of one give both
+equal_keys : replies (make_two ∷ as_root (writes r (put [] (codes "x") (Some (pos 7)) ∷ [])) ∷ as_root (writes r (put [] (codes "y") (Some (pos 7)) ∷ [])) ∷ as_root (opens everywhere []) ∷ Next root 0 1 ∷ Next root 0 1 ∷ Next root 0 1 ∷ [])
+    ≡ Batch (cell r [] (pos 7) (codes "y") ∷ []) ∷ Batch (cell r [] (pos 7) (codes "x") ∷ []) ∷ Batch [] ∷ []
+unfolding everything
+equal_keys = refl
+
+-- of one version the newer is kept, also of two updates of one mutation
+one_version : replies (make ∷ as_root (writes r (put [] (codes "x") (Some (pos 7)) ∷ put [] (codes "y") (Some (pos 7)) ∷ [])) ∷ scan [] 0) ≡ Batch (cell r [] (pos 7) (codes "y") ∷ []) ∷ []
+unfolding everything
+one_version = refl
+
+-- the least and the greatest timestamp
+extremes : replies (make_two ∷ as_root (writes r (put [] (codes "lo") (Some least) ∷ [])) ∷ as_root (writes r (put [] (codes "hi") (Some (pos 9223372036854775807)) ∷ [])) ∷ scan [] 0) ≡ Batch (cell r [] (pos 9223372036854775807) (codes "hi") ∷ cell r [] least (codes "lo") ∷ []) ∷ []
+unfolding everything
+extremes = refl
+
+-- ---- labels
+-- the offset of a malformed label is the length of its longest front that begins some label; nothing is written
+abbrev malformed_put : List ℕ → List Told
+malformed_put label = replies (make ∷ as_root (writes r (put [] v (Some (pos 5)) ∷ put label v (Some (pos 5)) ∷ [])) ∷ scan [] 0)
+
+-- both joiners at one level
+mixed_joiners : malformed_put (codes "a|b&c") ≡ Refused (MalformedVisibility 1 3) ∷ Batch [] ∷ []
+unfolding everything
+mixed_joiners = refl
+
+-- a joiner with nothing behind it
+no_operand : malformed_put (codes "a&") ≡ Refused (MalformedVisibility 1 2) ∷ Batch [] ∷ []
+unfolding everything
+no_operand = refl
+
+-- parentheses with nothing inside
+nothing_inside : malformed_put (codes "()") ≡ Refused (MalformedVisibility 1 1) ∷ Batch [] ∷ []
+unfolding everything
+nothing_inside = refl
+
+-- a term in n parentheses
+abbrev nested : ℕ → List ℕ
+nested n = replicate n 40 ++ codes "a" ++ replicate n 41
+
+-- what is 64 deep is written
+deep : replies (make ∷ as_root (writes r (put (nested 64) v (Some (pos 5)) ∷ [])) ∷ scan [] 0) ≡ Batch [] ∷ []
+unfolding everything
+deep = refl
+
+-- what is 65 deep fails behind the 64th
+too_deep : malformed_put (nested 65) ≡ Refused (MalformedVisibility 1 64) ∷ Batch [] ∷ []
+unfolding everything
+too_deep = refl
+
+-- an escape of what isn't escaped
+wrong_escape : malformed_put (codes "\"a\\b\"") ≡ Refused (MalformedVisibility 1 3) ∷ Batch [] ∷ []
+unfolding everything
+wrong_escape = refl
+
+-- a quoted term stands for its bytes with the escapes undone
+quoted : replies (make ∷ holds (codes "a\"b" ∷ []) ∷ as_root (writes r (put (codes "\"a\\\"b\"|c") v (Some (pos 5)) ∷ [])) ∷ scan (codes "a\"b" ∷ []) 0) ≡ Batch (cell r (codes "\"a\\\"b\"|c") (pos 5) v ∷ []) ∷ []
+unfolding everything
+quoted = refl
+
+-- a label is judged by the authorizations of the scan
+joined : replies (make ∷ holds (codes "a" ∷ codes "c d" ∷ []) ∷ as_root (writes r (put (codes "a&(b|\"c d\")") v (Some (pos 5)) ∷ [])) ∷ scan (codes "a" ∷ []) 0 ++ scan (codes "a" ∷ codes "c d" ∷ []) 1)
+    ≡ Batch [] ∷ Batch (cell r (codes "a&(b|\"c d\")") (pos 5) v ∷ []) ∷ []
+unfolding everything
+joined = refl
+
+-- the least authorization that the caller lacks
+least_missing : replies (make ∷ holds (codes "A" ∷ []) ∷ as_root (opens everywhere (codes "A" ∷ codes "B" ∷ codes "C" ∷ [])) ∷ []) ≡ Refused (BadAuthorizations (codes "B")) ∷ []
+unfolding everything
+least_missing = refl
+
+-- ---- time
+-- the clock gives timestamps and doesn't go back; a given one is refused
+server_time : replies (as_root (act.CreateTable t Server 1) ∷ asks root (pos 100) (writes r (put [] v None ∷ [])) ∷ asks root (pos 50) (writes r (put [] (codes "w") None ∷ [])) ∷ scan [] 0 ++ as_root (writes r (put [] (codes "x") (Some (pos 7)) ∷ [])) ∷ [])
+    ≡ Batch (cell r [] (pos 100) (codes "w") ∷ []) ∷ Refused (TimestampNotAllowed 0) ∷ []
+unfolding everything
+server_time = refl
+
+-- a refused event moves the clock too, but not what the list of sessions refused
+refused_moment : replies (as_root (act.CreateTable t Server 1) ∷ asks root (pos 9) (act.CreateTable t Server 1) ∷ Next root 5 1 ∷ as_root (writes r (put [] v None ∷ [])) ∷ scan [] 0) ≡ Refused (TableExists t) ∷ Refused (NoSession 5) ∷ Batch (cell r [] (pos 9) v ∷ []) ∷ []
+unfolding everything
+refused_moment = refl
+
+-- a marker hides a put of the same moment, and not one of a later moment
+same_moment : replies (as_root (act.CreateTable t Server 1) ∷ asks root (pos 5) (writes r (put [] v None ∷ [])) ∷ asks root (pos 5) (writes r (del [] None ∷ [])) ∷ asks root (pos 5) (writes r (put [] (codes "w") None ∷ [])) ∷ scan [] 0 ++ asks root (pos 6) (writes r (put [] (codes "x") None ∷ [])) ∷ scan [] 1)
+    ≡ Batch [] ∷ Batch (cell r [] (pos 6) (codes "x") ∷ []) ∷ []
+unfolding everything
+same_moment = refl
+
+-- ---- sessions
+-- a table with one cell in each of three rows
+abbrev three_rows : List Step
+three_rows = make ∷ as_root (writes (codes "a") (put [] v (Some (pos 1)) ∷ [])) ∷ as_root (writes (codes "b") (put [] v (Some (pos 1)) ∷ [])) ∷ as_root (writes (codes "c") (put [] v (Some (pos 1)) ∷ [])) ∷ []
+
+-- a session answers from the moment it was opened
+as_it_opened : replies (three_rows ++ as_root (opens everywhere []) ∷ Next root 0 1 ∷ as_root (writes (codes "a") (del [] (Some (pos 1)) ∷ [])) ∷ as_root (writes (codes "b") (del [] (Some (pos 1)) ∷ [])) ∷ as_root (writes (codes "c") (del [] (Some (pos 1)) ∷ [])) ∷ Next root 0 5 ∷ scan [] 1)
+    ≡ Batch (cell (codes "a") [] (pos 1) v ∷ []) ∷ Batch (cell (codes "b") [] (pos 1) v ∷ cell (codes "c") [] (pos 1) v ∷ []) ∷ Batch [] ∷ []
+unfolding everything
+as_it_opened = refl
+
+-- a batch of none gives none, and the session goes on
+batch_of_none : replies (make ∷ as_root (writes r (put [] v (Some (pos 5)) ∷ [])) ∷ as_root (opens everywhere []) ∷ Next root 0 0 ∷ Next root 0 1 ∷ []) ≡ Batch [] ∷ Batch (cell r [] (pos 5) v ∷ []) ∷ []
+unfolding everything
+batch_of_none = refl
+
+-- a closed session is gone, its slot isn't given again, and a user's slots are his own
+closing : replies (make ∷ as_root (opens everywhere []) ∷ Close root 0 ∷ Next root 0 1 ∷ Close root 0 ∷ as_root (opens everywhere []) ∷ Next root 1 1 ∷ Next bob 1 1 ∷ []) ≡ Refused (NoSession 0) ∷ Refused (NoSession 0) ∷ Batch [] ∷ Refused (NoSession 1) ∷ []
+unfolding everything
+closing = refl
+
+-- the ends of a range
+ranges : replies (three_rows ++ as_root (opens (record { low = Exclusive (codes "a"); high = Inclusive (codes "b") }) []) ∷ Next root 0 9 ∷ as_root (opens (record { low = Exclusive (codes "b"); high = Inclusive (codes "b") }) []) ∷ []) ≡ Batch (cell (codes "b") [] (pos 1) v ∷ []) ∷ Refused BadRange ∷ []
+unfolding everything
+ranges = refl
+
+-- ---- refusals
+-- a constraint refuses the whole mutation
+violating : replies (make ∷ holds (codes "A" ∷ []) ∷ as_root (act.SetConstraints t (Visibility ∷ [])) ∷ as_root (writes r (put (codes "A") (codes "x") (Some (pos 1)) ∷ put (codes "B") (codes "y") (Some (pos 1)) ∷ [])) ∷ scan (codes "A" ∷ []) 0)
+    ≡ Refused (ConstraintViolation (record { constraint = Visibility; code = 2; update = 1 } ∷ [])) ∷ Batch [] ∷ []
+unfolding everything
+violating = refl
+
+-- of several faults the first check's is told: labels, then timestamps, then constraints; of a scan the range before the authorizations
+order_of_checks : replies (as_root (act.CreateTable t Server 1) ∷ as_root (act.SetConstraints t (Visibility ∷ [])) ∷ as_root (writes r (put (codes "B") v (Some (pos 5)) ∷ put (codes "a&") v None ∷ [])) ∷ as_root (writes r (put (codes "B") v None ∷ put (codes "B") v (Some (pos 5)) ∷ [])) ∷ as_root (writes r (put (codes "B") v None ∷ [])) ∷ as_root (opens (record { low = Inclusive (codes "b"); high = Inclusive (codes "a") }) (codes "B" ∷ [])) ∷ [])
+    ≡ Refused (MalformedVisibility 1 2) ∷ Refused (TimestampNotAllowed 1) ∷ Refused (ConstraintViolation (record { constraint = Visibility; code = 2; update = 0 } ∷ [])) ∷ Refused BadRange ∷ []
+unfolding everything
+order_of_checks = refl
+
+-- an unknown user before an unknown table, and an empty mutation
+refusals : replies (asks bob (pos 0) (opens everywhere []) ∷ as_root (opens everywhere []) ∷ make ∷ make ∷ as_root (writes r []) ∷ as_root (act.SetAuths bob []) ∷ [])
+    ≡ Refused (UnknownUser bob) ∷ Refused (NoTable t) ∷ Refused (TableExists t) ∷ Refused EmptyMutation ∷ Refused (NoUser bob) ∷ []
+unfolding everything
+refusals = refl
+
+-- ---- users and rights
+-- an event of bob at 0
+-- makes bob
+abbrev make_bob : Step
+make_bob = as_root (act.CreateUser bob)
+
+-- grants bob the permission to read t
+abbrev let_bob_read : Step
+let_bob_read = as_root (act.Grant bob (OfTable table.Read t))
+
+-- opens a session of bob on all rows of t, and takes as many cells
+abbrev bob_scans : List (List ℕ) → ℕ → List Step
+bob_scans auths slot = as_bob (opens everywhere auths) ∷ Next bob slot 1000 ∷ []
+
+-- all system permissions, or none
+abbrev all_of_system : Bool → SystemPermissions
+all_of_system held = record { grant = held; create_table = held; drop_table = held; alter_table = held; create_user = held; drop_user = held; alter_user = held; system = held }
+
+-- all permissions on a table, or none
+abbrev all_of_table : Bool → TablePermissions
+all_of_table held = record { read = held; write = held; alter_table = held; grant = held; drop_table = held }
+
+-- what a user is told who may nothing and holds nothing
+abbrev no_rights : Told
+no_rights = Rights (record { system = all_of_system false; table = all_of_table false; authorizations = [] })
+
+-- rights come and go, and so do users and tables
+each_of_them : replies (make ∷ make_bob ∷ let_bob_read ∷ as_root (act.Revoke bob (OfTable table.Read t)) ∷ as_root (act.Grant bob (OfSystem system.CreateUser)) ∷ as_root (act.Revoke bob (OfSystem system.CreateUser)) ∷ as_bob (act.Rights t) ∷ as_root (act.DropUser bob) ∷ as_root (act.DropTable t) ∷ []) ≡ no_rights ∷ []
+unfolding everything
+each_of_them = refl
+
+-- a user without the permission; the first that would admit him is named, and nothing is written
+denied : replies (make ∷ make_bob ∷ as_bob (writes r (put [] v (Some (pos 5)) ∷ [])) ∷ as_bob (act.SetConstraints t []) ∷ scan [] 0) ≡ Refused (PermissionDenied (OfTable table.Write t)) ∷ Refused (PermissionDenied (OfSystem system.AlterTable)) ∷ Batch [] ∷ []
+unfolding everything
+denied = refl
+
+-- a missing table is told before a missing permission, and of the permissions that would do the first
+table_before_permission : replies (make ∷ make_bob ∷ as_bob (act.Rights (codes "nope")) ∷ as_bob (act.Grant bob (OfTable table.Read (codes "nope"))) ∷ as_bob (act.Grant bob (OfTable table.Read t)) ∷ as_bob (act.DropTable t) ∷ [])
+    ≡ Refused (NoTable (codes "nope")) ∷ Refused (NoTable (codes "nope")) ∷ Refused (PermissionDenied (OfSystem system.AlterTable)) ∷ Refused (PermissionDenied (OfSystem system.DropTable)) ∷ []
+unfolding everything
+table_before_permission = refl
+
+-- root stays with all system permissions, its permission to grant is its own, and a missing user is named
+root_is_fixed : replies (make ∷ as_root (act.DropUser root) ∷ as_root (act.Revoke root (OfSystem system.System)) ∷ as_root (act.Grant root (OfSystem system.System)) ∷ as_root (act.Grant bob (OfSystem system.Grant)) ∷ as_root (act.Revoke root (OfSystem system.Grant)) ∷ as_root (act.Grant bob (OfSystem system.System)) ∷ as_root (act.Grant bob (OfTable table.Read t)) ∷ as_root (act.DropUser bob) ∷ as_root (act.CreateUser root) ∷ [])
+    ≡ Refused RootFixed ∷ Refused RootFixed ∷ Refused RootFixed ∷ Refused GrantInvalid ∷ Refused GrantInvalid ∷ Refused (NoUser bob) ∷ Refused (NoUser bob) ∷ Refused (NoUser bob) ∷ Refused (UserExists root) ∷ []
+unfolding everything
+root_is_fixed = refl
+
+-- but not with its permissions on a table: those are like anyone's
+root_without_read : replies (make ∷ as_root (act.Revoke root (OfTable table.Read t)) ∷ as_root (opens everywhere []) ∷ as_root (act.Rights t) ∷ []) ≡ Refused (PermissionDenied (OfTable table.Read t)) ∷ Rights (record { system = all_of_system true; table = record (all_of_table true) { read = false }; authorizations = [] }) ∷ []
+unfolding everything
+root_without_read = refl
+
+-- who isn't admitted is told so before all else of his event
+permission_first : replies (make_bob ∷ as_bob (act.Grant bob (OfSystem system.Grant)) ∷ as_bob (act.CreateUser bob) ∷ as_bob (act.DropUser root) ∷ as_bob (act.SetAuths bob []) ∷ [])
+    ≡ Refused (PermissionDenied (OfSystem system.Grant)) ∷ Refused (PermissionDenied (OfSystem system.CreateUser)) ∷ Refused (PermissionDenied (OfSystem system.DropUser)) ∷ Refused (PermissionDenied (OfSystem system.AlterUser)) ∷ []
+unfolding everything
+permission_first = refl
+
+-- who may grant for a table may grant to himself; what is granted twice is held once, and revoking what isn't held is no fault
+granted_on : replies (make ∷ make_bob ∷ as_root (act.SetAuths bob (codes "A" ∷ codes "B" ∷ [])) ∷ as_root (act.Grant bob (OfTable table.Grant t)) ∷ as_bob (act.Grant bob (OfTable table.Write t)) ∷ as_bob (act.Grant bob (OfTable table.Write t)) ∷ as_bob (act.Revoke bob (OfTable table.Read t)) ∷ as_bob (act.Rights t) ∷ [])
+    ≡ Rights (record { system = all_of_system false; table = record (all_of_table false) { write = true; grant = true }; authorizations = codes "A" ∷ codes "B" ∷ [] }) ∷ []
+unfolding everything
+granted_on = refl
+
+-- a system permission that was granted admits its holder, and is told
+may_make_users : replies (make ∷ make_bob ∷ as_root (act.Grant bob (OfSystem system.CreateUser)) ∷ as_bob (act.CreateUser (codes "ann")) ∷ as_bob (act.CreateUser (codes "ann")) ∷ as_bob (act.Rights t) ∷ asks (codes "ann") (pos 0) (act.Rights t) ∷ [])
+    ≡ Refused (UserExists (codes "ann")) ∷ Rights (record { system = record (all_of_system false) { create_user = true }; table = all_of_table false; authorizations = [] }) ∷ no_rights ∷ []
+unfolding everything
+may_make_users = refl
+
+-- ---- lives
+-- a table made again has no cell of before, its maker's five permissions and nobody else's
+new_life : replies (make ∷ as_root (writes r (put [] v (Some (pos 5)) ∷ [])) ∷ make_bob ∷ let_bob_read ∷ as_root (act.DropTable t) ∷ make ∷ scan [] 0 ++ as_root (act.Rights t) ∷ bob_scans [] 0)
+    ≡ Batch [] ∷ Rights (record { system = all_of_system true; table = all_of_table true; authorizations = [] }) ∷ Refused (PermissionDenied (OfTable table.Read t)) ∷ Refused (NoSession 0) ∷ []
+unfolding everything
+new_life = refl
+
+-- its constraints and its number of versions are the new one's too, and a dropped table is none
+new_settings : replies (make_two ∷ as_root (act.SetConstraints t (Visibility ∷ [])) ∷ as_root (act.DropTable t) ∷ as_root (act.DropTable t) ∷ scan [] 0 ++ make ∷ as_root (writes r (put (codes "A") v (Some (pos 5)) ∷ put [] (codes "x") (Some (pos 5)) ∷ put [] (codes "y") (Some (pos 6)) ∷ [])) ∷ scan [] 0)
+    ≡ Refused (NoTable t) ∷ Refused (NoTable t) ∷ Refused (NoSession 0) ∷ Batch (cell r [] (pos 6) (codes "y") ∷ []) ∷ []
+unfolding everything
+new_settings = refl
+
+-- a session answers on once its table is dropped and the permission to read it is gone
+beyond_the_table : replies (three_rows ++ make_bob ∷ let_bob_read ∷ as_bob (opens everywhere []) ∷ Next bob 0 1 ∷ as_root (act.Revoke bob (OfTable table.Read t)) ∷ as_bob (opens everywhere []) ∷ as_root (act.DropTable t) ∷ Next bob 0 5 ∷ [])
+    ≡ Batch (cell (codes "a") [] (pos 1) v ∷ []) ∷ Refused (PermissionDenied (OfTable table.Read t)) ∷ Batch (cell (codes "b") [] (pos 1) v ∷ cell (codes "c") [] (pos 1) v ∷ []) ∷ []
+unfolding everything
+beyond_the_table = refl
+
+-- what bob is given, in one life
+abbrev give_bob : List Step
+give_bob = make_bob ∷ let_bob_read ∷ as_root (act.Grant bob (OfSystem system.CreateUser)) ∷ as_root (act.SetAuths bob (codes "A" ∷ [])) ∷ []
+
+-- a user made again has no right and no authorization of before; while there is none of his name he is unknown
+new_user : replies (make ∷ give_bob ++ as_root (act.DropUser bob) ∷ as_bob (act.Rights t) ∷ as_root (act.SetAuths bob []) ∷ make_bob ∷ as_bob (act.Rights t) ∷ let_bob_read ∷ as_bob (opens everywhere (codes "A" ∷ [])) ∷ [])
+    ≡ Refused (UnknownUser bob) ∷ Refused (NoUser bob) ∷ no_rights ∷ Refused (BadAuthorizations (codes "A")) ∷ []
+unfolding everything
+new_user = refl
+
+-- sessions go by the user's name: they outlive him, and are those of who gets his name
+beyond_the_user : replies (three_rows ++ make_bob ∷ let_bob_read ∷ as_bob (opens everywhere []) ∷ Next bob 0 1 ∷ as_root (act.DropUser bob) ∷ Next bob 0 1 ∷ make_bob ∷ let_bob_read ∷ Next bob 0 5 ∷ as_bob (opens everywhere []) ∷ Next bob 1 1 ∷ [])
+    ≡ Batch (cell (codes "a") [] (pos 1) v ∷ []) ∷ Batch (cell (codes "b") [] (pos 1) v ∷ []) ∷ Batch (cell (codes "c") [] (pos 1) v ∷ []) ∷ Batch (cell (codes "a") [] (pos 1) v ∷ []) ∷ []
+unfolding everything
+beyond_the_user = refl
+
+-- ---- what a reader can't see
+-- bob reads under A, and what stands between is written by root
+abbrev reader : List Step → List Step
+reader between = make ∷ make_bob ∷ as_root (act.SetAuths bob (codes "A" ∷ [])) ∷ let_bob_read ∷ as_root (writes r (put (codes "A") (codes "x") (Some (pos 5)) ∷ [])) ∷ between ++ as_bob (opens everywhere (codes "A" ∷ [])) ∷ Next bob 0 1 ∷ Next bob 0 1 ∷ []
+
+-- what he is told
+abbrev read_alone : List Told
+read_alone = Batch (cell r (codes "A") (pos 5) (codes "x") ∷ []) ∷ Batch [] ∷ []
+
+-- of his own label alone
+reads_his_own : replies (reader []) ≡ read_alone
+unfolding everything
+reads_his_own = refl
+
+-- and the same where something is written and deleted under a label that he never holds
+reads_no_other : replies (reader (as_root (writes r (put (codes "B") (codes "y") (Some (pos 6)) ∷ [])) ∷ as_root (writes r (del (codes "B") (Some (pos 6)) ∷ [])) ∷ [])) ≡ read_alone
+unfolding everything
+reads_no_other = refl
+
+-- ---- bases
+-- a core whose table t has one record and a horizon at 10, and where root may read and write it
+abbrev with_table : Base
+with_table = record new_core {
+  next = 1;
+  policy = record new_policy { tables = (t, (root, record (all_of_table false) { read = true; write = true }) ∷ []) ∷ [] };
+  tables = record { name = t; settings = record (made_with Any 2) { horizon = pos 10 }; records = record { key = record { row = r; family = f; qualifier = q; label = []; timestamp = pos 3 }; kind = Put; value = codes "old"; seq = 0; idx = 0 } ∷ [] } ∷ [];
+}
+
+-- a history goes on from what a base holds; what is below the horizon is refused, and what is at it isn't
+from_base : replies_from with_table (scan [] 0 ++ as_root (writes r (put [] v (Some (pos 10)) ∷ put [] v (Some (pos 9)) ∷ [])) ∷ as_root (writes r (put [] v (Some (pos 10)) ∷ [])) ∷ scan [] 1)
+    ≡ Batch (cell r [] (pos 3) (codes "old") ∷ []) ∷ Refused (BelowHorizon 1) ∷ Batch (cell r [] (pos 10) v ∷ cell r [] (pos 3) (codes "old") ∷ []) ∷ []
+unfolding everything
+from_base = refl

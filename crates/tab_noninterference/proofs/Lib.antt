@@ -1,0 +1,9 @@
+pub mod SeenBase
+pub mod SeenState
+pub mod Pairs
+pub mod SeenCells
+pub mod SeenUpdates
+pub mod Auths
+pub mod Effects
+pub mod Replay
+pub mod EqualViews

@@ -1,0 +1,176 @@
+-- Examples, computed: what bob sees of a history, and what he is told, where root writes beside him what he can't see.
+use Rattle.std.specs.Prelude.{◌≡◌, ℕ, ℤ, pos, List, [], ◌∷◌, ◌++◌, true, false, Option, Some, None, codes, refl}
+use Rattle.tab_key.specs.Records.{Cell}
+use Rattle.tab_key.specs.Order.{column_cmp, key_cmp, place_cmp, newer_cmp}
+use Rattle.tab_key.specs.Kept.{same_column, hides, is_deleted, outranks, is_kept}
+use Rattle.tab_key.specs.declared.key.Kind.{Kind}
+use Rattle.tab_key.specs.declared.key.Kind.TheVariants.{Put, Delete}
+use Rattle.tab_key.specs.declared.range.Bound.TheVariants.{Unbounded}
+use Rattle.tab_label.specs.Grammar.{is_term_byte}
+use Rattle.tab_label.specs.Machine.{step, ending}
+use Rattle.tab_label.specs.Reading.{reads_on, label_of}
+use Rattle.tab_mutation.specs.Mutations.{Update}
+use Rattle.tab_mutation.specs.Shape.{shape_error}
+use Rattle.tab_rules.specs.Verdict.{violations}
+use Rattle.tab_rules.specs.declared.constraint.Constraint.TheVariants.{Numeric}
+use Rattle.tab_policy.specs.Roots.{root}
+use Rattle.tab_policy.specs.State.{user_exists, auths_of, system_granted, table_granted}
+use Rattle.tab_policy.specs.declared.permission.Permission.TheVariants.{OfTable}
+use Rattle.tab_policy.specs.declared.permission.TablePermission.TheVariants as table
+use Rattle.tab_history.specs.Bases.{new_core}
+use Rattle.tab_history.specs.Changes.{UserMade, AuthsSet, TableGiven, TableMade, ConstraintsSet, Written}
+use Rattle.tab_cells.specs.Written.{TimedUpdate, records_of}
+use Rattle.tab_history.specs.Readings.{has_user, held_auths, has_system_right, has_table_right, settings_of, next_number, updates_of}
+use Rattle.tab_cells.specs.Cells.{matches, cells}
+use Rattle.tab_history.specs.Checks.{standing, malformed, stamped, outdated, refusal_of}
+use Rattle.tab_history.specs.Sessions.{opened, closed, session_in}
+use Rattle.tab_history.specs.Answers.{Told, told_opened, answer, session_list}
+use Rattle.tab_history.specs.Histories.{Entry, world_of, clock_of, journal, moves_of}
+use Rattle.tab_history.specs.Runs.{played}
+use Rattle.tab_history.specs.declared.event.TimeMode.TheVariants.{Any}
+use Rattle.tab_history.specs.declared.event.Act.{Act}
+use Rattle.tab_history.specs.declared.event.Act.TheVariants as act
+use Rattle.tab_history.specs.declared.event.Step.{Step}
+use Rattle.tab_history.specs.declared.event.Step.TheVariants.{Next}
+use Rattle.tab_history.specs.declared.reply.Refusal.TheVariants.{PermissionDenied}
+use Rattle.tab_history.specs.declared.reply.Reply.TheVariants.{Refused, Batch, Rights}
+use Rattle.tab_history.specs.ExampleWords.{t, r, f, q, bob, eve, asks, as_root, as_bob}
+use Rattle.tab_noninterference.specs.Given.{auths_given}
+use Rattle.tab_noninterference.specs.Views.{Asked, Changed, sights, View, view}
+use Rattle.tab_noninterference.specs.Hearing.{Heard, heard}
+
+-- names what the examples look into
+everything : ℕ
+unfolding is_term_byte step ending reads_on label_of column_cmp key_cmp place_cmp newer_cmp same_column hides is_deleted outranks is_kept matches cells user_exists auths_of system_granted table_granted has_user held_auths has_system_right has_table_right settings_of next_number records_of updates_of shape_error malformed stamped outdated violations standing refusal_of opened closed session_in answer session_list clock_of journal moves_of auths_given sights heard
+everything = 0
+
+-- ---- steps, updates and cells of the examples
+-- an update with this kind, label, value and timestamp
+abbrev update : Kind → List ℕ → List ℕ → Option ℤ → Update
+update kind label value ts = record { kind = kind; family = f; qualifier = q; label = label; timestamp = ts; value = value }
+
+-- the same, its timestamp settled
+abbrev settled : Kind → List ℕ → List ℕ → ℤ → TimedUpdate
+settled kind label value ts = record { kind = kind; family = f; qualifier = q; label = label; timestamp = ts; value = value }
+
+-- writes these updates of r to t
+abbrev writes : List Update → Act
+writes updates = act.Write t (record { row = r; updates = updates })
+
+-- opens a session on all of t under the authorization A
+abbrev opens : Act
+opens = act.Open (record { table = t; bounds = record { low = Unbounded; high = Unbounded }; columns = []; authorizations = codes "A" ∷ [] })
+
+-- a cell of r with this label, timestamp and value
+abbrev cell : List ℕ → ℤ → List ℕ → Cell
+cell label ts value = record { key = record { row = r; family = f; qualifier = q; label = label; timestamp = ts }; value = value }
+
+-- makes t, and bob who may read it and holds A
+abbrev make : List Step
+make = as_root (act.CreateTable t Any 1) ∷ as_root (act.CreateUser bob) ∷ as_root (act.SetAuths bob (codes "A" ∷ [])) ∷ as_root (act.Grant bob (OfTable table.Read t)) ∷ []
+
+-- the history of these steps from a new core
+abbrev history : List Step → List Entry
+history steps = played (world_of new_core) [] steps
+
+-- what bob sees of it
+abbrev sees : List Step → View
+sees steps = view new_core bob (history steps)
+
+-- the covered replies to him, the newest first
+abbrev hears : List Step → List Heard
+hears steps = heard bob (world_of new_core) (history steps)
+
+-- a covered reply to a step that opens no session
+abbrev said : Told → Heard
+said reply = record { reply = reply; list = [] }
+
+-- a session was opened on this list
+abbrev opened_on : List Cell → Heard
+opened_on list = record { reply = told_opened; list = list }
+
+-- ---- two worlds
+-- a history in which others take some steps before bob's first scan, and some between its two batches; then he scans again
+abbrev beside : List Step → List Step → List Step
+beside before between =
+    make ++ as_root (writes (update Put (codes "A") (codes "x") (Some (pos 5)) ∷ [])) ∷ before ++ as_bob opens ∷ Next bob 0 1 ∷ between ++ Next bob 0 1 ∷ as_bob opens ∷ Next bob 1 9 ∷ as_bob (act.Rights t) ∷ as_bob (writes []) ∷ []
+
+-- what he is told in it, the newest reply first: he has no permission to write
+abbrev told_beside : List Heard
+told_beside =
+    said (Refused (PermissionDenied (OfTable table.Write t)))
+    ∷ said (Rights (record {
+      system = record { grant = false; create_table = false; drop_table = false; alter_table = false; create_user = false; drop_user = false; alter_user = false; system = false };
+      table = record { read = true; write = false; alter_table = false; grant = false; drop_table = false };
+      authorizations = codes "A" ∷ [];
+    }))
+    ∷ said (Batch (cell (codes "A") (pos 5) (codes "x") ∷ []))
+    ∷ opened_on (cell (codes "A") (pos 5) (codes "x") ∷ [])
+    ∷ said (Batch [])
+    ∷ said (Batch (cell (codes "A") (pos 5) (codes "x") ∷ []))
+    ∷ opened_on (cell (codes "A") (pos 5) (codes "x") ∷ [])
+    ∷ []
+
+-- a write and a rewrite under a label that bob never holds
+abbrev unseen_writes : List Step
+unseen_writes = as_root (writes (update Put (codes "B") (codes "y") (Some (pos 6)) ∷ [])) ∷ as_root (writes (update Put (codes "B") (codes "z") (Some (pos 7)) ∷ [])) ∷ []
+
+-- and a delete
+abbrev unseen_delete : List Step
+unseen_delete = as_root (writes (update Delete (codes "B") [] (Some (pos 7)) ∷ [])) ∷ []
+
+-- what concerns others: another user, her rights, authorizations of root, a refused event
+abbrev unseen_events : List Step
+unseen_events = as_root (act.CreateUser eve) ∷ as_root (act.Grant eve (OfTable table.Read t)) ∷ as_root (act.SetAuths root (codes "B" ∷ [])) ∷ asks eve (pos 0) (act.CreateTable (codes "u") Any 1) ∷ as_root (act.Revoke eve (OfTable table.Read t)) ∷ as_root (act.DropUser eve) ∷ []
+
+-- what bob sees in both: his own steps among the changes that concern him
+abbrev seen_beside : View
+seen_beside = record {
+  held = codes "A" ∷ [];
+  sights = Asked (as_bob (writes [])) (Some (pos 0)) ∷ Asked (as_bob (act.Rights t)) (Some (pos 0)) ∷ Asked (Next bob 1 9) None ∷ Asked (as_bob opens) (Some (pos 0)) ∷ Asked (Next bob 0 1) None ∷ Asked (Next bob 0 1) None ∷ Asked (as_bob opens) (Some (pos 0))
+      ∷ Changed (Written t r (settled Put (codes "A") (codes "x") (pos 5) ∷ []))
+      ∷ Changed (TableGiven bob table.Read t) ∷ Changed (AuthsSet bob (codes "A" ∷ [])) ∷ Changed (UserMade bob) ∷ Changed (TableMade t Any 1) ∷ [];
+}
+
+-- the two histories look alike to him
+seen_alone : sees (beside [] []) ≡ seen_beside
+unfolding everything
+seen_alone = refl
+
+seen_beside_others : sees (beside (unseen_writes ++ unseen_events) unseen_delete) ≡ seen_beside
+unfolding everything
+seen_beside_others = refl
+
+-- and he is told the same, as the law says
+told_alone : hears (beside [] []) ≡ told_beside
+unfolding everything
+told_alone = refl
+
+told_beside_others : hears (beside (unseen_writes ++ unseen_events) unseen_delete) ≡ told_beside
+unfolding everything
+told_beside_others = refl
+
+-- ---- what is seen
+-- tables, their settings, himself and his rights, without who changed them and when; what others ask and what they may isn't
+concerns : sees (make ++ as_root (act.CreateUser eve) ∷ as_root (act.Grant eve (OfTable table.Read t)) ∷ asks eve (pos 3) opens ∷ asks root (pos 7) (act.SetConstraints t (Numeric ∷ [])) ∷ [])
+    ≡ record { held = codes "A" ∷ []; sights = Changed (ConstraintsSet t (Numeric ∷ [])) ∷ Changed (TableGiven bob table.Read t) ∷ Changed (AuthsSet bob (codes "A" ∷ [])) ∷ Changed (UserMade bob) ∷ Changed (TableMade t Any 1) ∷ [] }
+unfolding everything
+concerns = refl
+
+-- of a mutation with three updates he sees those whose labels hold for him, the last first, the clock as the timestamp of one without; a mutation without such is no sight
+updates_seen : (sees (make ++ asks root (pos 4) (writes (update Put (codes "A") (codes "x") None ∷ update Put (codes "B") (codes "y") None ∷ update Delete [] [] (Some (pos 2)) ∷ [])) ∷ as_root (writes (update Put (codes "A&B") (codes "z") None ∷ [])) ∷ [])).sights
+    ≡ Changed (Written t r (settled Delete [] [] (pos 2) ∷ settled Put (codes "A") (codes "x") (pos 4) ∷ [])) ∷ (sees make).sights
+unfolding everything
+updates_seen = refl
+
+-- what he is given later, or no longer holds, counts for the whole history
+ever_held : sees (make ++ as_root (writes (update Put (codes "B") (codes "y") (Some (pos 6)) ∷ [])) ∷ as_root (act.SetAuths bob (codes "B" ∷ [])) ∷ as_root (act.SetAuths bob []) ∷ [])
+    ≡ record { held = codes "A" ∷ codes "B" ∷ []; sights = Changed (AuthsSet bob []) ∷ Changed (AuthsSet bob (codes "B" ∷ [])) ∷ Changed (Written t r (settled Put (codes "B") (codes "y") (pos 6) ∷ [])) ∷ (sees make).sights }
+unfolding everything
+ever_held = refl
+
+-- his own steps, refused ones too, each event with the clock after it
+own_steps : (sees (make ++ asks root (pos 9) (act.CreateUser eve) ∷ asks bob (pos 3) (writes []) ∷ Next bob 0 5 ∷ asks bob (pos 12) opens ∷ [])).sights
+    ≡ Asked (asks bob (pos 12) opens) (Some (pos 12)) ∷ Asked (Next bob 0 5) None ∷ Asked (asks bob (pos 3) (writes [])) (Some (pos 9)) ∷ (sees make).sights
+unfolding everything
+own_steps = refl
