@@ -1,4 +1,10 @@
+-- The lemmas of this crate.
+pub mod ListLaws
+pub mod ListSourceLaws
+pub mod ColumnLaws
+pub mod BagLaws
+pub mod MergingLaws
+pub mod StackLaws
 pub mod Steps
-pub mod Apart
 pub mod Orders
-pub mod Judgements
+pub mod Verdicts

@@ -9,31 +9,31 @@ use Rattle.std.specs.Ordering.{is_lt, ordering_reverse}
 use Rattle.std.specs.declared.cmp.Ordering.{Ordering}
 use Rattle.std.specs.declared.cmp.Ordering.TheVariants.{Less, Equal, Greater}
 use Rattle.std.proofs.lemmas.Bool.Decides.{nat_tests}
-use Rattle.std.proofs.lemmas.List.{take-append-drop, get_or-set_other, length-map}
+use Rattle.std.proofs.lemmas.List.{append-nil, take-append-drop, get_or-set_other, length-map}
 use mathlib.Core.Bool.{true≢false}
 use Rattle.tab_key.specs.Order.{record_cmp}
 use Rattle.tab_key.proofs.Order.{record_cmp_total}
 use Rattle.tab_key.proofs.Rising.{is_less}
 use Rattle.tab_key.specs.Records.{Record}
 use Rattle.tab_key.specs.Sorted.{sorted, IsDistinct}
+use Rattle.tab_cells.proofs.Lists.{by_bool}
 use Rattle.tab_iter.specs.Lists.{first_of, tail, IsRising, IsEnd}
-use Rattle.tab_iter.specs.ListLaws.{by_bool}
-use Rattle.tab_iter.specs.Bags.{flat, IsFirstAt, is_better, first_in, Leads, IsOutside, IsBehind, Falls, Covers}
-use Rattle.tab_iter.specs.BagLaws.{least_sorted, each_ends, each_rises, EachEnds, EachRises}
-use Rattle.tab_iter.specs.MergingLaws.{none_merged}
+use Rattle.tab_iter.specs.Bags.{flat, IsFirstAt, is_ahead, first_in, Leads, IsOutside, IsBehind, IsDescending, Covers}
+use Rattle.tab_iter.proofs.BagLaws.{least_sorted, each_ends, each_rises, EachEnds, EachRises}
+use Rattle.tab_iter.proofs.MergingLaws.{none_merged}
 
 is_empty : (xs : List Record) → is_some (first_of xs) ≡ false → xs ≡ []
 is_empty [] e = refl
 is_empty (x ∷ xs) e = absurd (true≢false e)
 
-better_itself : (o : Option Record) → is_better o o ≡ false
-better_itself None = refl
-better_itself (Some r) = ap is_lt (tied_itself record_cmp_total r)
+ahead_of_itself : (o : Option Record) → is_ahead o o ≡ false
+ahead_of_itself None = refl
+ahead_of_itself (Some r) = ap is_lt (tied_itself record_cmp_total r)
 
-better_not_back : (x y : Option Record) → is_better x y ≡ true → is_better y x ≡ false
-better_not_back None y e = absurd (true≢false (sym e))
-better_not_back (Some x) None e = refl
-better_not_back (Some x) (Some y) e = ap is_lt (record_cmp_total.antisymm y x ∙ ap ordering_reverse (is_less (record_cmp x y) e))
+ahead_not_back : (x y : Option Record) → is_ahead x y ≡ true → is_ahead y x ≡ false
+ahead_not_back None y e = absurd (true≢false (sym e))
+ahead_not_back (Some x) None e = refl
+ahead_not_back (Some x) (Some y) e = ap is_lt (record_cmp_total.antisymm y x ∙ ap ordering_reverse (is_less (record_cmp x y) e))
 
 not_before : (x y z : Record) → is_lt (record_cmp x y) ≡ false → is_lt (record_cmp y z) ≡ false → is_lt (record_cmp x z) ≡ false
 not_before x y z xy yz = by_bool (is_lt (record_cmp x z)) (λ t. absurd (true≢false (sym (ap is_lt (go (record_cmp y z) refl (is_less (record_cmp x z) t))) ∙ xy))) (λ t. t)
@@ -43,13 +43,13 @@ not_before x y z xy yz = by_bool (is_lt (record_cmp x z)) (λ t. absurd (true≢
     go Equal s t = record_cmp_total.antisymm x y ∙ ap ordering_reverse (record_cmp_total.congr y z x s ∙ record_cmp_total.antisymm z x ∙ ap ordering_reverse t)
     go Greater s t = record_cmp_total.trans x z y t (record_cmp_total.antisymm z y ∙ ap ordering_reverse s)
 
-not_better : (x y z : Option Record) → is_better x y ≡ false → is_better y z ≡ false → is_better x z ≡ false
-not_better None y z xy yz = refl
-not_better (Some x) None z xy yz = absurd (true≢false xy)
-not_better (Some x) (Some y) None xy yz = absurd (true≢false yz)
-not_better (Some x) (Some y) (Some z) xy yz = not_before x y z xy yz
+not_ahead : (x y z : Option Record) → is_ahead x y ≡ false → is_ahead y z ≡ false → is_ahead x z ≡ false
+not_ahead None y z xy yz = refl
+not_ahead (Some x) None z xy yz = absurd (true≢false xy)
+not_ahead (Some x) (Some y) None xy yz = absurd (true≢false yz)
+not_ahead (Some x) (Some y) (Some z) xy yz = not_before x y z xy yz
 
-none_worse : (x y : Option Record) → is_some x ≡ false → is_better x y ≡ false
+none_worse : (x y : Option Record) → is_some x ≡ false → is_ahead x y ≡ false
 none_worse None y e = refl
 none_worse (Some x) y e = absurd (true≢false e)
 
@@ -68,28 +68,28 @@ all_front : (P : ℕ → Type 0) (os : List ℕ) (b : ℕ) → AllByRecursion P 
 all_front P [] b a = tt
 all_front P (o ∷ os) b a = (a.0, all_front P os b a.1)
 
-pub falls_front : (xss : List (List Record)) (os : List ℕ) (b : ℕ) → Falls xss (os ++ b ∷ []) → Falls xss os
-falls_front xss [] b f = tt
-falls_front xss (o ∷ os) b f = (f.0, (all_front (IsBehind xss o) os b f.1.0, falls_front xss os b f.1.1))
+pub descending_front : (xss : List (List Record)) (os : List ℕ) (b : ℕ) → IsDescending xss (os ++ b ∷ []) → IsDescending xss os
+descending_front xss [] b f = tt
+descending_front xss (o ∷ os) b f = (f.0, (all_front (IsBehind xss o) os b f.1.0, descending_front xss os b f.1.1))
 
-pub outside_front : (xss : List (List Record)) (os : List ℕ) (b : ℕ) → Falls xss (os ++ b ∷ []) → IsOutside os b
+pub outside_front : (xss : List (List Record)) (os : List ℕ) (b : ℕ) → IsDescending xss (os ++ b ∷ []) → IsOutside os b
 outside_front xss [] b f = tt
 outside_front xss (o ∷ os) b f = ((all_last (IsBehind xss o) os b f.1.0).0, outside_front xss os b f.1.1)
 
-pub some_last : (xss : List (List Record)) (os : List ℕ) (b : ℕ) → Falls xss (os ++ b ∷ []) → IsSome (first_in xss b)
+pub some_last : (xss : List (List Record)) (os : List ℕ) (b : ℕ) → IsDescending xss (os ++ b ∷ []) → IsSome (first_in xss b)
 some_last xss [] b f = f.0
 some_last xss (o ∷ os) b f = some_last xss os b f.1.1
 
-behind_last : (xss : List (List Record)) (os : List ℕ) (b : ℕ) → Falls xss (os ++ b ∷ []) → AllByRecursion (λ o. is_better (first_in xss o) (first_in xss b) ≡ false) (os ++ b ∷ [])
-behind_last xss [] b f = (better_itself (first_in xss b), tt)
+behind_last : (xss : List (List Record)) (os : List ℕ) (b : ℕ) → IsDescending xss (os ++ b ∷ []) → AllByRecursion (λ o. is_ahead (first_in xss o) (first_in xss b) ≡ false) (os ++ b ∷ [])
+behind_last xss [] b f = (ahead_of_itself (first_in xss b), tt)
 behind_last xss (o ∷ os) b f = ((all_last (IsBehind xss o) os b f.1.0).1, behind_last xss os b f.1.1)
 
-pub leads_last : (xss : List (List Record)) (os : List ℕ) (b : ℕ) → Falls xss (os ++ b ∷ []) → Covers xss (os ++ b ∷ []) → Leads xss b
+pub leads_last : (xss : List (List Record)) (os : List ℕ) (b : ℕ) → IsDescending xss (os ++ b ∷ []) → Covers xss (os ++ b ∷ []) → Leads xss b
 leads_last xss os b f c k = go (os ++ b ∷ []) (behind_last xss os b f) (c k)
   where
-    go : (ps : List ℕ) → AllByRecursion (λ o. is_better (first_in xss o) (first_in xss b) ≡ false) ps → (IsOutside ps k → is_some (first_in xss k) ≡ false) → is_better (first_in xss k) (first_in xss b) ≡ false
+    go : (ps : List ℕ) → AllByRecursion (λ o. is_ahead (first_in xss o) (first_in xss b) ≡ false) ps → (IsOutside ps k → is_some (first_in xss k) ≡ false) → is_ahead (first_in xss k) (first_in xss b) ≡ false
     go [] a h = none_worse (first_in xss k) (first_in xss b) (h tt)
-    go (p ∷ ps) a h = by_bool (p == k) (λ t. ap (λ j. is_better (first_in xss j) (first_in xss b)) (sym (equal_places p k t)) ∙ a.0) (λ t. go ps a.1 (λ w. h (other_places p k t, w)))
+    go (p ∷ ps) a h = by_bool (p == k) (λ t. ap (λ j. is_ahead (first_in xss j) (first_in xss b)) (sym (equal_places p k t)) ∙ a.0) (λ t. go ps a.1 (λ w. h (other_places p k t, w)))
 
 -- the last place, as a look at it tells
 pub last_is : (os : List ℕ) (b : ℕ) → Some b ≡ slice_get os (length os - 1) → os ≡ take (length os - 1) os ++ b ∷ []
@@ -117,7 +117,7 @@ first_of_leads xss b some l = go (first_in xss b) refl some
       inside = inside_of xss b r is;
       first = r;
       is = is;
-      least = λ k u lt s. (λ i. is_better (sym s i) (sym is i)) ∙ l k;
+      least = λ k u lt s. (λ i. is_ahead (sym s i) (sym is i)) ∙ l k;
     }
 
 -- ---- one place more
@@ -133,20 +133,16 @@ all_middle : (P : ℕ → Type 0) (os ps : List ℕ) (b : ℕ) → AllByRecursio
 all_middle P [] ps b a = a.0
 all_middle P (o ∷ os) ps b a = all_middle P os ps b a.1
 
-falls_joined : (xss : List (List Record)) (os ps : List ℕ) (b : ℕ) → Falls xss (os ++ ps) → AllByRecursion (λ o. is_better (first_in xss o) (first_in xss b) ≡ false) os → AllByRecursion (λ o. is_better (first_in xss o) (first_in xss b) ≡ true) ps → IsOutside (os ++ ps) b → IsSome (first_in xss b) → Falls xss (os ++ b ∷ ps)
-falls_joined xss [] ps b f a c out some = (some, (go ps c out, f))
+descending_joined : (xss : List (List Record)) (os ps : List ℕ) (b : ℕ) → IsDescending xss (os ++ ps) → AllByRecursion (λ o. is_ahead (first_in xss o) (first_in xss b) ≡ false) os → AllByRecursion (λ o. is_ahead (first_in xss o) (first_in xss b) ≡ true) ps → IsOutside (os ++ ps) b → IsSome (first_in xss b) → IsDescending xss (os ++ b ∷ ps)
+descending_joined xss [] ps b f a c out some = (some, (go ps c out, f))
   where
-    go : (qs : List ℕ) → AllByRecursion (λ o. is_better (first_in xss o) (first_in xss b) ≡ true) qs → IsOutside qs b → AllByRecursion (IsBehind xss b) qs
+    go : (qs : List ℕ) → AllByRecursion (λ o. is_ahead (first_in xss o) (first_in xss b) ≡ true) qs → IsOutside qs b → AllByRecursion (IsBehind xss b) qs
     go [] c out = tt
-    go (q ∷ qs) c out = ((λ e. out.0 (sym e), better_not_back (first_in xss q) (first_in xss b) c.0), go qs c.1 out.1)
-falls_joined xss (o ∷ os) ps b f a c out some = (f.0, (all_joined (IsBehind xss o) os ps b f.1.0 (out.0, a.0), falls_joined xss os ps b f.1.1 a.1 c out.1 some))
+    go (q ∷ qs) c out = ((λ e. out.0 (sym e), ahead_not_back (first_in xss q) (first_in xss b) c.0), go qs c.1 out.1)
+descending_joined xss (o ∷ os) ps b f a c out some = (f.0, (all_joined (IsBehind xss o) os ps b f.1.0 (out.0, a.0), descending_joined xss os ps b f.1.1 a.1 c out.1 some))
 
-pub falls_pushed : (xss : List (List Record)) (os lent qs : List ℕ) (b : ℕ) → lent ≡ os → qs ≡ os ++ b ∷ [] → Falls xss os → AllByRecursion (λ o. is_better (first_in xss o) (first_in xss b) ≡ false) lent → IsOutside os b → IsSome (first_in xss b) → Falls xss qs
-falls_pushed xss os lent qs b v e f a out some = subst (Falls xss) (sym e) (falls_joined xss os [] b (subst (Falls xss) (sym (append-nil os)) f) (subst (AllByRecursion (λ o. is_better (first_in xss o) (first_in xss b) ≡ false)) v a) tt (subst (λ l. IsOutside l b) (sym (append-nil os)) out) some)
-  where
-    append-nil : (ps : List ℕ) → ps ++ [] ≡ ps
-    append-nil [] = refl
-    append-nil (p ∷ ps) = ap (λ l. p ∷ l) (append-nil ps)
+pub descending_pushed : (xss : List (List Record)) (os lent qs : List ℕ) (b : ℕ) → lent ≡ os → qs ≡ os ++ b ∷ [] → IsDescending xss os → AllByRecursion (λ o. is_ahead (first_in xss o) (first_in xss b) ≡ false) lent → IsOutside os b → IsSome (first_in xss b) → IsDescending xss qs
+descending_pushed xss os lent qs b v e f a out some = subst (IsDescending xss) (sym e) (descending_joined xss os [] b (subst (IsDescending xss) (sym (append-nil os)) f) (subst (AllByRecursion (λ o. is_ahead (first_in xss o) (first_in xss b) ≡ false)) v a) tt (subst (λ l. IsOutside l b) (sym (append-nil os)) out) some)
 
 within_take : (P : ℕ → Type 0) (os : List ℕ) (n : ℕ) → AllWithin P os 0 n → n ≤ length os → AllByRecursion P (take n os)
 within_take P os zero a h = tt
@@ -159,15 +155,15 @@ within_drop P (o ∷ os) zero a = (a 0 o (omega arith) (omega arith), within_dro
 within_drop P [] (suc n) a = tt
 within_drop P (o ∷ os) (suc n) a = within_drop P os n (λ k d low high. a (suc k) d (omega (arith, low)) (omega (arith, high)))
 
-pub falls_inserted : (xss : List (List Record)) (os lent qs : List ℕ) (b n : ℕ) → lent ≡ os → qs ≡ take n os ++ b ∷ drop n os → Falls xss os → n ≤ length lent → IsPartitionPoint (λ o. is_better (first_in xss o) (first_in xss b) ≡ false) (λ o. is_better (first_in xss o) (first_in xss b) ≡ true) lent n → IsOutside os b → IsSome (first_in xss b) → Falls xss qs
-falls_inserted xss os lent qs b n v e f upto cut out some =
+pub descending_inserted : (xss : List (List Record)) (os lent qs : List ℕ) (b n : ℕ) → lent ≡ os → qs ≡ take n os ++ b ∷ drop n os → IsDescending xss os → n ≤ length lent → IsPartitionPoint (λ o. is_ahead (first_in xss o) (first_in xss b) ≡ false) (λ o. is_ahead (first_in xss o) (first_in xss b) ≡ true) lent n → IsOutside os b → IsSome (first_in xss b) → IsDescending xss qs
+descending_inserted xss os lent qs b n v e f upto cut out some =
     let h : n ≤ length os = subst (λ l. n ≤ length l) v upto in
-    let parted = subst (λ l. IsPartitionPoint (λ o. is_better (first_in xss o) (first_in xss b) ≡ false) (λ o. is_better (first_in xss o) (first_in xss b) ≡ true) l n) v cut in
-    subst (Falls xss) (sym e)
-    (falls_joined xss (take n os) (drop n os) b
-    (subst (Falls xss) (sym (take-append-drop n os)) f)
-    (within_take (λ o. is_better (first_in xss o) (first_in xss b) ≡ false) os n parted.0 h)
-    (within_drop (λ o. is_better (first_in xss o) (first_in xss b) ≡ true) os n parted.1)
+    let parted = subst (λ l. IsPartitionPoint (λ o. is_ahead (first_in xss o) (first_in xss b) ≡ false) (λ o. is_ahead (first_in xss o) (first_in xss b) ≡ true) l n) v cut in
+    subst (IsDescending xss) (sym e)
+    (descending_joined xss (take n os) (drop n os) b
+    (subst (IsDescending xss) (sym (take-append-drop n os)) f)
+    (within_take (λ o. is_ahead (first_in xss o) (first_in xss b) ≡ false) os n parted.0 h)
+    (within_drop (λ o. is_ahead (first_in xss o) (first_in xss b) ≡ true) os n parted.1)
     (subst (λ l. IsOutside l b) (sym (take-append-drop n os)) out)
     some)
 
@@ -189,24 +185,24 @@ pushed os qs b e = e ∙ go os
     go (p ∷ ps) = ap (λ l. p ∷ l) (go ps)
 
 -- ---- where a place goes
-falls_far : (xss : List (List Record)) (b : ℕ) (os : List ℕ) → Falls xss os → IsPartitionedBy (λ o. not (is_better (first_in xss o) (first_in xss b))) os
-falls_far xss b [] f i j d upto lt e = absurd (omega (arith, lt))
-falls_far xss b (o ∷ os) f zero zero d upto lt e = e
-falls_far xss b (o ∷ os) f (suc i) zero d upto lt e = absurd (omega (arith, upto))
-falls_far xss b (o ∷ os) f (suc i) (suc j) d upto lt e = falls_far xss b os f.1.1 i j d (omega (arith, upto)) (omega (arith, lt)) e
-falls_far xss b (o ∷ os) f zero (suc j) d upto lt e = ap not (go os j f.1.0 (omega (arith, lt)) (is_false _ e))
+descending_far : (xss : List (List Record)) (b : ℕ) (os : List ℕ) → IsDescending xss os → IsPartitionedBy (λ o. not (is_ahead (first_in xss o) (first_in xss b))) os
+descending_far xss b [] f i j d upto lt e = absurd (omega (arith, lt))
+descending_far xss b (o ∷ os) f zero zero d upto lt e = e
+descending_far xss b (o ∷ os) f (suc i) zero d upto lt e = absurd (omega (arith, upto))
+descending_far xss b (o ∷ os) f (suc i) (suc j) d upto lt e = descending_far xss b os f.1.1 i j d (omega (arith, upto)) (omega (arith, lt)) e
+descending_far xss b (o ∷ os) f zero (suc j) d upto lt e = ap not (go os j f.1.0 (omega (arith, lt)) (is_false _ e))
   where
     is_false : (v : Bool) → not v ≡ true → v ≡ false
     is_false true e = absurd (true≢false (sym e))
     is_false false e = refl
 
-    go : (ps : List ℕ) (k : ℕ) → AllByRecursion (IsBehind xss o) ps → k < length ps → is_better (first_in xss (get_or ps k d)) (first_in xss b) ≡ false → is_better (first_in xss o) (first_in xss b) ≡ false
+    go : (ps : List ℕ) (k : ℕ) → AllByRecursion (IsBehind xss o) ps → k < length ps → is_ahead (first_in xss (get_or ps k d)) (first_in xss b) ≡ false → is_ahead (first_in xss o) (first_in xss b) ≡ false
     go [] k a less e = absurd (omega (arith, less))
-    go (p ∷ ps) zero a less e = not_better (first_in xss o) (first_in xss p) (first_in xss b) a.0.1 e
+    go (p ∷ ps) zero a less e = not_ahead (first_in xss o) (first_in xss p) (first_in xss b) a.0.1 e
     go (p ∷ ps) (suc k) a less e = go ps k a.1 (omega (arith, less)) e
 
-pub parted_by : (xss : List (List Record)) (b : ℕ) (os : List ℕ) → Falls xss os → IsPartitionedBy (λ o. not (is_better (first_in xss o) (first_in xss b))) os
-parted_by xss b os f = falls_far xss b os f
+pub parted_by : (xss : List (List Record)) (b : ℕ) (os : List ℕ) → IsDescending xss os → IsPartitionedBy (λ o. not (is_ahead (first_in xss o) (first_in xss b))) os
+parted_by xss b os f = descending_far xss b os f
 
 pub on_not : {P : Type 0} (v : Bool) → (v ≡ false → P) → OnTrue (not v) P
 on_not true f = tt
@@ -220,16 +216,16 @@ not_false : (v : Bool) → not v ≡ false → v ≡ true
 not_false true e = refl
 not_false false e = absurd (true≢false e)
 
-pub parted_at : (xss : List (List Record)) (b : ℕ) (os : List ℕ) (n : ℕ) → IsPartitionPoint (λ o. not (is_better (first_in xss o) (first_in xss b)) ≡ true) (λ o. not (is_better (first_in xss o) (first_in xss b)) ≡ false) os n → IsPartitionPoint (λ o. is_better (first_in xss o) (first_in xss b) ≡ false) (λ o. is_better (first_in xss o) (first_in xss b) ≡ true) os n
+pub parted_at : (xss : List (List Record)) (b : ℕ) (os : List ℕ) (n : ℕ) → IsPartitionPoint (λ o. not (is_ahead (first_in xss o) (first_in xss b)) ≡ true) (λ o. not (is_ahead (first_in xss o) (first_in xss b)) ≡ false) os n → IsPartitionPoint (λ o. is_ahead (first_in xss o) (first_in xss b) ≡ false) (λ o. is_ahead (first_in xss o) (first_in xss b) ≡ true) os n
 parted_at xss b os n p = ((λ k d low high. not_true _ (p.0 k d low high)), (λ k d low high. not_false _ (p.1 k d low high)))
 
 -- the last place isn't behind b, nor is any other
-pub none_better : (xss : List (List Record)) (os : List ℕ) (l b : ℕ) → Some l ≡ slice_get os (length os - 1) → Falls xss os → is_better (first_in xss l) (first_in xss b) ≡ false → AllByRecursion (λ o. is_better (first_in xss o) (first_in xss b) ≡ false) os
-none_better xss os l b is f e = subst (AllByRecursion (λ o. is_better (first_in xss o) (first_in xss b) ≡ false)) (sym (last_is os l is)) (go (take (length os - 1) os ++ l ∷ []) (behind_last xss (take (length os - 1) os) l (subst (Falls xss) (last_is os l is) f)))
+pub none_ahead : (xss : List (List Record)) (os : List ℕ) (l b : ℕ) → Some l ≡ slice_get os (length os - 1) → IsDescending xss os → is_ahead (first_in xss l) (first_in xss b) ≡ false → AllByRecursion (λ o. is_ahead (first_in xss o) (first_in xss b) ≡ false) os
+none_ahead xss os l b is f e = subst (AllByRecursion (λ o. is_ahead (first_in xss o) (first_in xss b) ≡ false)) (sym (last_is os l is)) (go (take (length os - 1) os ++ l ∷ []) (behind_last xss (take (length os - 1) os) l (subst (IsDescending xss) (last_is os l is) f)))
   where
-    go : (ps : List ℕ) → AllByRecursion (λ o. is_better (first_in xss o) (first_in xss l) ≡ false) ps → AllByRecursion (λ o. is_better (first_in xss o) (first_in xss b) ≡ false) ps
+    go : (ps : List ℕ) → AllByRecursion (λ o. is_ahead (first_in xss o) (first_in xss l) ≡ false) ps → AllByRecursion (λ o. is_ahead (first_in xss o) (first_in xss b) ≡ false) ps
     go [] a = tt
-    go (p ∷ ps) a = (not_better (first_in xss p) (first_in xss l) (first_in xss b) a.0 e, go ps a.1)
+    go (p ∷ ps) a = (not_ahead (first_in xss p) (first_in xss l) (first_in xss b) a.0 e, go ps a.1)
 
 pub none_at_all : (os : List ℕ) → is_some (slice_get os (length os - 1)) ≡ false → (k : ℕ) → IsOutside os k
 none_at_all [] e k = tt
@@ -247,22 +243,18 @@ none_of_none (o ∷ os) e k = absurd (omega (arith, e))
 pub same_others : (xss : List (List Record)) (b k : ℕ) (t : List Record) → k ≢ b → first_in (set xss b t) k ≡ first_in xss k
 same_others xss b k t other = ap first_of (get_or-set_other xss b k t [] other)
 
-pub falls_set : (xss : List (List Record)) (os : List ℕ) (b : ℕ) (t : List Record) → Falls xss os → IsOutside os b → Falls (set xss b t) os
-falls_set xss [] b t f out = tt
-falls_set xss (o ∷ os) b t f out = (subst IsSome (sym (same_others xss b o t out.0)) f.0, (go os f.1.0 out.1, falls_set xss os b t f.1.1 out.1))
+pub descending_set : (xss : List (List Record)) (os : List ℕ) (b : ℕ) (t : List Record) → IsDescending xss os → IsOutside os b → IsDescending (set xss b t) os
+descending_set xss [] b t f out = tt
+descending_set xss (o ∷ os) b t f out = (subst IsSome (sym (same_others xss b o t out.0)) f.0, (go os f.1.0 out.1, descending_set xss os b t f.1.1 out.1))
   where
     go : (ps : List ℕ) → AllByRecursion (IsBehind xss o) ps → IsOutside ps b → AllByRecursion (IsBehind (set xss b t) o) ps
     go [] a out = tt
-    go (p ∷ ps) a more = ((a.0.0, (λ i. is_better (same_others xss b o t out.0 i) (same_others xss b p t more.0 i)) ∙ a.0.1), go ps a.1 more.1)
+    go (p ∷ ps) a more = ((a.0.0, (λ i. is_ahead (same_others xss b o t out.0 i) (same_others xss b p t more.0 i)) ∙ a.0.1), go ps a.1 more.1)
 
 pub covers_set : (xss : List (List Record)) (os qs : List ℕ) (b : ℕ) (t : List Record) → Covers xss (os ++ b ∷ []) → ((k : ℕ) → IsOutside qs k → IsOutside os k) → (IsOutside qs b → first_in (set xss b t) b ≡ None) → Covers (set xss b t) qs
 covers_set xss os qs b t c kept inside k out = by_bool (k == b)
     (λ e. ap is_some (ap (first_in (set xss b t)) (equal_places k b e) ∙ inside (subst (IsOutside qs) (equal_places k b e) out)))
-    (λ e. ap is_some (same_others xss b k t (other_places k b e)) ∙ c k (all_joined (λ o. o ≢ k) os [] b (append-nil os (kept k out)) (λ s. other_places k b e (sym s))))
-  where
-    append-nil : (ps : List ℕ) → IsOutside ps k → IsOutside (ps ++ []) k
-    append-nil [] a = tt
-    append-nil (p ∷ ps) a = (a.0, append-nil ps a.1)
+    (λ e. ap is_some (same_others xss b k t (other_places k b e)) ∙ c k (all_joined (λ o. o ≢ k) os [] b (subst (λ l. IsOutside l k) (sym (append-nil os)) (kept k out)) (λ s. other_places k b e (sym s))))
 
 -- ---- all places
 pub covers_more : (xss : List (List Record)) (os qs : List ℕ) (i : ℕ) → ((k : ℕ) → k < i → IsOutside os k → is_some (first_in xss k) ≡ false) → ((k : ℕ) → IsOutside qs k → IsOutside os k) → (IsOutside qs i → first_in xss i ≡ None) → (k : ℕ) → k < i + 1 → IsOutside qs k → is_some (first_in xss k) ≡ false
@@ -289,26 +281,26 @@ first_least : (rs ws : List (List Record)) (b : ℕ) → EachEnds rs ws → Each
 first_least rs ws b e up d l = l.is ∙ sym (ap first_of (least_sorted rs ws b e up d l))
 
 -- ---- sources in their order
-pub first_last : {S : Type 0} (rest : S → List Record) (items : List S) (ps os : List ℕ) (b : ℕ) → ps ≡ os ++ b ∷ [] → Falls (map rest items) ps → Covers (map rest items) ps → IsFirstAt (map rest items) (length items) b
+pub first_last : {S : Type 0} (rest : S → List Record) (items : List S) (ps os : List ℕ) (b : ℕ) → ps ≡ os ++ b ∷ [] → IsDescending (map rest items) ps → Covers (map rest items) ps → IsFirstAt (map rest items) (length items) b
 first_last rest items ps os b e f c = subst (λ n. IsFirstAt (map rest items) n b) (length-map items rest)
-    (first_of_leads (map rest items) b (some_last (map rest items) os b (subst (Falls (map rest items)) e f)) (leads_last (map rest items) os b (subst (Falls (map rest items)) e f) (subst (Covers (map rest items)) e c)))
+    (first_of_leads (map rest items) b (some_last (map rest items) os b (subst (IsDescending (map rest items)) e f)) (leads_last (map rest items) os b (subst (IsDescending (map rest items)) e f) (subst (Covers (map rest items)) e c)))
 
 pub none_left : {S : Type 0} (rest : S → List Record) (items : List S) (os : List ℕ) → ((k : ℕ) → IsOutside os k) → Covers (map rest items) os → sorted (flat (map rest items)) ≡ []
 none_left rest items os out c = none_merged rest items (λ k lt. is_empty (get_or (map rest items) k []) (c k (out k)))
 
-pub first_step : {S : Type 0} (rest whole : S → List Record) → ((s : S) → IsEnd (rest s) (whole s)) → ((s : S) → IsRising (whole s)) → (items lent : List S) (os found : List ℕ) (b : ℕ) → lent ≡ items → found ≡ os → Some b ≡ slice_get found (length found - 1) → IsDistinct (flat (map whole items)) → Falls (map rest items) os → Covers (map rest items) os → first_in (map rest lent) b ≡ first_of (sorted (flat (map rest items)))
+pub first_step : {S : Type 0} (rest whole : S → List Record) → ((s : S) → IsEnd (rest s) (whole s)) → ((s : S) → IsRising (whole s)) → (items lent : List S) (os found : List ℕ) (b : ℕ) → lent ≡ items → found ≡ os → Some b ≡ slice_get found (length found - 1) → IsDistinct (flat (map whole items)) → IsDescending (map rest items) os → Covers (map rest items) os → first_in (map rest lent) b ≡ first_of (sorted (flat (map rest items)))
 first_step rest whole ends rises items lent os found b v same last apart f c =
-    let l = first_last rest items found (take (length found - 1) found) b (last_is found b last) (subst (Falls (map rest items)) (sym same) f) (subst (Covers (map rest items)) (sym same) c) in
+    let l = first_last rest items found (take (length found - 1) found) b (last_is found b last) (subst (IsDescending (map rest items)) (sym same) f) (subst (Covers (map rest items)) (sym same) c) in
     ap (λ l. first_in (map rest l) b) v
     ∙ first_least (map rest items) (map whole items) b (each_ends rest whole ends items) (each_rises whole rises items) apart (subst (λ n. IsFirstAt (map rest items) n b) (sym (length-map items rest)) l)
 
-pub inside_last : {S : Type 0} (rest : S → List Record) (items lent : List S) (ps os : List ℕ) (b : ℕ) → lent ≡ items → ps ≡ os ++ b ∷ [] → Falls (map rest items) ps → Covers (map rest items) ps → b < length lent
+pub inside_last : {S : Type 0} (rest : S → List Record) (items lent : List S) (ps os : List ℕ) (b : ℕ) → lent ≡ items → ps ≡ os ++ b ∷ [] → IsDescending (map rest items) ps → Covers (map rest items) ps → b < length lent
 inside_last rest items lent ps os b v e f c = subst (λ l. b < length l) (sym v) (first_last rest items ps os b e f c).inside
 
-pub falls_step : {S : Type 0} (rest : S → List Record) (items lent new found : List S) (ps os : List ℕ) (b : ℕ) → lent ≡ items → found ≡ new → map rest new ≡ set (map rest lent) b (tail (get_or (map rest lent) b [])) → ps ≡ os ++ b ∷ [] → Falls (map rest items) ps → Falls (map rest found) os
-falls_step rest items lent new found ps os b v w is e f =
-    subst (λ l. Falls l os) (sym (ap (map rest) w ∙ is ∙ ap (λ l. set (map rest l) b (tail (get_or (map rest l) b []))) v))
-    (falls_set (map rest items) os b (tail (get_or (map rest items) b [])) (falls_front (map rest items) os b (subst (Falls (map rest items)) e f)) (outside_front (map rest items) os b (subst (Falls (map rest items)) e f)))
+pub descending_step : {S : Type 0} (rest : S → List Record) (items lent new found : List S) (ps os : List ℕ) (b : ℕ) → lent ≡ items → found ≡ new → map rest new ≡ set (map rest lent) b (tail (get_or (map rest lent) b [])) → ps ≡ os ++ b ∷ [] → IsDescending (map rest items) ps → IsDescending (map rest found) os
+descending_step rest items lent new found ps os b v w is e f =
+    subst (λ l. IsDescending l os) (sym (ap (map rest) w ∙ is ∙ ap (λ l. set (map rest l) b (tail (get_or (map rest l) b []))) v))
+    (descending_set (map rest items) os b (tail (get_or (map rest items) b [])) (descending_front (map rest items) os b (subst (IsDescending (map rest items)) e f)) (outside_front (map rest items) os b (subst (IsDescending (map rest items)) e f)))
 
 pub covers_step : {S : Type 0} (rest : S → List Record) (items lent new found : List S) (ps os qs : List ℕ) (b : ℕ) → lent ≡ items → found ≡ new → map rest new ≡ set (map rest lent) b (tail (get_or (map rest lent) b [])) → ps ≡ os ++ b ∷ [] → Covers (map rest items) ps → ((k : ℕ) → IsOutside qs k → IsOutside os k) → (IsOutside qs b → first_in (map rest found) b ≡ None) → Covers (map rest found) qs
 covers_step rest items lent new found ps os qs b v w is e c kept inside =

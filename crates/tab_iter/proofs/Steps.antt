@@ -7,9 +7,10 @@ use mathlib.Core.Bool.{true≢false}
 use Rattle.tab_key.specs.Order.{record_cmp, stands_before}
 use Rattle.tab_key.specs.Records.{Record}
 use Rattle.tab_key.proofs.Order.{record_cmp_total}
-use Rattle.tab_key.proofs.Rising.{IsIn, is_less}
+use Rattle.tab_key.specs.Sorted.{IsIn}
+use Rattle.tab_key.proofs.Rising.{is_less}
 use Rattle.tab_iter.specs.Lists.{IsRising}
-use Rattle.tab_iter.specs.ListLaws.{rises_none, rises_more, first_less, later_rises}
+use Rattle.tab_iter.proofs.ListLaws.{rises_none, rises_more, first_less, later_rises}
 
 -- the record at this place comes after the one before it
 abbrev pub IsStep : List Record → ℕ → Type 0

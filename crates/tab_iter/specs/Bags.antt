@@ -19,18 +19,22 @@ pub record IsFirstAt (xss : List (List Record)) (n b : ℕ) : Type 0 where
   pub least : (k : ℕ) (u : Record) → k < n → first_of (slice_index_or xss k []) ≡ Some u → is_lt (record_cmp u first) ≡ false
 
 -- whether the first record of one list stands before that of the other
-abbrev pub is_better : Option Record → Option Record → Bool
-is_better None o = false
-is_better (Some r) None = true
-is_better (Some r) (Some s) = is_lt (record_cmp r s)
+abbrev pub is_ahead : Option Record → Option Record → Bool
+is_ahead None o = false
+is_ahead (Some r) None = true
+is_ahead (Some r) (Some s) = is_lt (record_cmp r s)
 
 -- the first record of the list at this place
 abbrev pub first_in : List (List Record) → ℕ → Option Record
 first_in xss k = first_of (slice_index_or xss k [])
 
+-- whether the list at one place stands before that at the other
+abbrev pub is_ahead_at : List (List Record) → ℕ → ℕ → Bool
+is_ahead_at xss o b = is_ahead (first_in xss o) (first_in xss b)
+
 -- none of the lists stands before the one at b
 abbrev pub Leads : List (List Record) → ℕ → Type 0
-Leads xss b = (k : ℕ) → is_better (first_in xss k) (first_in xss b) ≡ false
+Leads xss b = (k : ℕ) → is_ahead (first_in xss k) (first_in xss b) ≡ false
 
 -- the place is none of these
 abbrev pub IsOutside : List ℕ → ℕ → Type 0
@@ -38,12 +42,12 @@ IsOutside os k = AllByRecursion (λ o. o ≢ k) os
 
 -- the list at o is another than the one at p, and doesn't stand before it
 abbrev pub IsBehind : List (List Record) → ℕ → ℕ → Type 0
-IsBehind xss o p = (o ≢ p) × (is_better (first_in xss o) (first_in xss p) ≡ false)
+IsBehind xss o p = (o ≢ p) × (is_ahead (first_in xss o) (first_in xss p) ≡ false)
 
 -- along these places the first records fall: each list has one, and is behind the lists of the places after it
-abbrev pub Falls : List (List Record) → List ℕ → Type 0
-Falls xss [] = ⊤
-Falls xss (o ∷ os) = IsSome (first_in xss o) × (AllByRecursion (IsBehind xss o) os × Falls xss os)
+abbrev pub IsDescending : List (List Record) → List ℕ → Type 0
+IsDescending xss [] = ⊤
+IsDescending xss (o ∷ os) = IsSome (first_in xss o) × (AllByRecursion (IsBehind xss o) os × IsDescending xss os)
 
 -- a list outside these places is empty
 abbrev pub Covers : List (List Record) → List ℕ → Type 0

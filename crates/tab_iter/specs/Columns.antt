@@ -4,7 +4,7 @@ use Rattle.std.specs.Ordering.{is_gt}
 use Rattle.tab_key.specs.Order.{column_cmp}
 use Rattle.tab_key.specs.Records.{Key, Record}
 use Rattle.tab_key.specs.Kept.{same_column, is_deleted}
-use Rattle.tab_key.proofs.Rising.{IsIn}
+use Rattle.tab_key.specs.Sorted.{IsIn}
 use Rattle.tab_iter.specs.Layers.{is_newer}
 
 -- the key is of the column of the record

@@ -1,15 +1,11 @@
+-- The definitions of this crate.
 pub mod Lists
-pub mod ListLaws
-pub mod ListSourceLaws
-pub mod Lost
+pub mod Positions
 pub mod Layers
 pub mod Columns
-pub mod Judging
-pub mod Remembered
-pub mod ColumnLaws
-pub mod FilteredLaws
+pub mod LastColumn
+pub mod Verdicts
 pub mod Bags
-pub mod BagLaws
-pub mod MergingLaws
 pub mod Stack
-pub mod StackLaws
+pub mod SourceLaws
+pub mod Propositions

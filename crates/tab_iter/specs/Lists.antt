@@ -5,7 +5,7 @@ use Rattle.std.specs.declared.cmp.Ordering.TheVariants.{Less}
 use Rattle.std.specs.Ordering.{is_lt}
 use Rattle.tab_key.specs.Order.{column_cmp, key_cmp, record_cmp}
 use Rattle.tab_key.specs.Records.{Key, Record}
-use Rattle.tab_key.proofs.Rising.{IsIn}
+use Rattle.tab_key.specs.Sorted.{IsIn}
 
 -- the first record
 abbrev pub first_of : List Record → Option Record
@@ -36,8 +36,8 @@ abbrev pub latest : ℤ
 latest = pos 9223372036854775807
 
 -- no timestamp is greater than that
-abbrev pub IsTimely : List Record → Type 0
-IsTimely w = (u : Record) → IsIn w u → int_le u.key.timestamp latest ≡ true
+abbrev pub HasI64Timestamps : List Record → Type 0
+HasI64Timestamps w = (u : Record) → IsIn w u → int_le u.key.timestamp latest ≡ true
 
 -- the first key of the column of k
 abbrev pub column_start : Key → Key

@@ -4,12 +4,17 @@ use Rattle.tab_key.specs.Records.{Key, Record}
 use Rattle.tab_key.specs.Kept.{same_column}
 use Rattle.tab_key.specs.declared.column.Column.{Column}
 use Rattle.tab_key.specs.declared.range.Bound.TheVariants.{Unbounded}
-use Rattle.tab_history.specs.Cells.{Query}
+use Rattle.tab_key.specs.Sorted.{sorted}
+use Rattle.tab_cells.specs.Cells.{Query, is_shown}
 use Rattle.tab_iter.specs.Layers.{is_left, is_among}
 
 -- these columns of all rows, under these authorizations
 abbrev pub query_of : List Column → List (List ℕ) → Query
 query_of columns auths = record { bounds = record { low = Unbounded; high = Unbounded }; columns = columns; authorizations = auths }
+
+-- the records that a query shows of these, in their order
+abbrev pub shown_of : List Record → ℕ → Query → List Record
+shown_of us versions query = sorted (filter (is_shown us versions query) us)
 
 -- the test asks of the column alone
 abbrev pub IsOfColumns : (Key → Bool) → Type 0

@@ -2,9 +2,10 @@
 ghost use Rattle.std.specs.Prelude.{◌≡◌, List, [], Bool, true, false, cond, filter, IfOk, OnOk};
 ghost use Rattle.tab_key.specs.Records.{Record};
 ghost use Rattle.tab_key.specs.KeyOf.{key_of};
-ghost use Rattle.tab_iter.specs.Lists.{tail, is_settled, from_key, column_start};
+ghost use Rattle.tab_iter.specs.Lists.{tail, is_settled, from_key};
 
 use crate::{NoMemory, Rule, Source};
+use std::alloc::AllocError;
 use tab_key::{Key, RecordRef};
 
 /// The records of a source that pass a rule.
@@ -12,14 +13,14 @@ use tab_key::{Key, RecordRef};
 pub struct Filtered<S: Source, R: Rule> {
     source: S,
     rule: R,
-    // NoMemory was answered, and no seek has succeeded since
-    lost: bool,
-    ghost settled: { lost ≡ false → is_settled (R.admits rule (S.whole source)) (S.rest source) ≡ true },
-    ghost tied: { lost ≡ false → ∥ R.IsTied rule (S.whole source) (tail (S.rest source)) ∥₁ },
+    // there is no top until a seek succeeds
+    unpositioned: bool,
+    ghost settled: { unpositioned ≡ false → is_settled (R.admits rule (S.whole source)) (S.rest source) ≡ true },
+    ghost observed: { unpositioned ≡ false → ∥ R.HasObserved rule (S.whole source) (tail (S.rest source)) ∥₁ },
 }
 
 impl<S: Source + Drop, R: Rule + Drop> Filtered<S, R> {
-    /// The records of the source that pass, from the start.
+    /// The records of the source that pass, from the start. The error comes only from want of memory.
     pub fn new(source: S, rule: R) -> Result<Filtered<S, R>, NoMemory>
         requires { S.rest source ≡ S.whole source }
         ensures whole { IfOk result (λ f. ⟦<Filtered<S, R> as Source>⟧.whole f ≡ filter (R.admits rule (S.whole source)) (S.whole source)) }
@@ -27,84 +28,94 @@ impl<S: Source + Drop, R: Rule + Drop> Filtered<S, R> {
     {
         let mut source = source;
         let mut rule = rule;
-        rule.start();
+        rule.reset();
         settle(&mut source, &mut rule)?;
         Ok(Filtered {
             source,
             rule,
-            lost: false,
+            unpositioned: false,
         })
     }
 
-    /// The same, of which nothing was read: there is no top, and each advance answers NoMemory, until a seek succeeds.
-    pub fn unread(source: S, rule: R) -> Filtered<S, R>
+    // The same, unpositioned: nothing is read before a seek.
+    pub(crate) fn unpositioned(source: S, rule: R) -> Filtered<S, R>
         ensures whole { ⟦<Filtered<S, R> as Source>⟧.whole result ≡ filter (R.admits rule (S.whole source)) (S.whole source) }
-        ensures lost { ⟦<Filtered<S, R> as Source>⟧.is_lost result ≡ true }
+        ensures unpositioned { ⟦<Filtered<S, R> as Source>⟧.is_unpositioned result ≡ true }
     {
         Filtered {
             source,
             rule,
-            lost: true,
+            unpositioned: true,
         }
     }
 }
 
 impl<S: Source, R: Rule> Source for Filtered<S, R> {
-    ghost use Rattle.tab_iter.specs.FilteredLaws.{shown, shown_ends, shown_silent};
-    ghost use Rattle.tab_iter.specs.ListLaws.{rising_filter, timely_filter};
+    ghost use Rattle.tab_iter.specs.Positions.{unless};
+    ghost use Rattle.tab_iter.specs.SourceLaws.{ends_filter, i64_timestamps_filter, unless_ends, unless_empty};
+    ghost use Rattle.std.proofs.lemmas.List.Kept.{IsStrictlySortedBy-filter};
+    ghost use Rattle.tab_key.specs.Order.{record_cmp};
 
     ghost whole = { λ f. filter (R.admits f.rule (S.whole f.source)) (S.whole f.source) };
 
-    ghost rest = { λ f. shown f.lost (R.admits f.rule (S.whole f.source)) (S.rest f.source) };
+    ghost rest = { λ f. unless f.unpositioned (filter (R.admits f.rule (S.whole f.source)) (S.rest f.source)) };
 
-    ghost is_lost = { λ f. f.lost };
+    ghost is_unpositioned = { λ f. f.unpositioned };
 
-    ghost rises = { λ f. rising_filter (R.admits f.rule (S.whole f.source)) (S.whole f.source) (S.rises f.source) };
+    ghost whole_rises = { λ f. IsStrictlySortedBy-filter record_cmp (R.admits f.rule (S.whole f.source)) (S.whole f.source) (S.whole_rises f.source) };
 
-    ghost timely = { λ f. timely_filter (R.admits f.rule (S.whole f.source)) (S.whole f.source) (S.timely f.source) };
+    ghost has_i64_timestamps = { λ f. i64_timestamps_filter (R.admits f.rule (S.whole f.source)) (S.whole f.source) (S.has_i64_timestamps f.source) };
 
-    ghost ends = { λ f. shown_ends f.lost (R.admits f.rule (S.whole f.source)) (S.rest f.source) (S.whole f.source) (S.ends f.source) };
+    ghost rest_is_suffix = { λ f. unless_ends f.unpositioned (filter (R.admits f.rule (S.whole f.source)) (S.rest f.source)) (filter (R.admits f.rule (S.whole f.source)) (S.whole f.source)) (λ _. ends_filter (R.admits f.rule (S.whole f.source)) (S.rest f.source) (S.whole f.source) (S.rest_is_suffix f.source)) };
 
-    ghost silent = { λ f. shown_silent f.lost (R.admits f.rule (S.whole f.source)) (S.rest f.source) };
+    ghost unpositioned_is_empty = { λ f. unless_empty f.unpositioned (filter (R.admits f.rule (S.whole f.source)) (S.rest f.source)) };
 
     fn top(&self) -> Option<RecordRef<'_>> {
-        if self.lost { None } else { self.source.top() }
+        if self.unpositioned {
+            None
+        } else {
+            self.source.top()
+        }
     }
 
     fn advance(&mut self) -> Result<(), NoMemory> {
-        if self.lost {
-            return Err(NoMemory);
+        if self.unpositioned {
+            return Err(AllocError);
         }
-        self.lost = true;
+        self.unpositioned = true;
         self.source.advance()?;
         settle(&mut self.source, &mut self.rule)?;
-        self.lost = false;
+        self.unpositioned = false;
         Ok(())
     }
 
     fn seek(&mut self, key: Key<'_>) -> Result<(), NoMemory> {
-        self.lost = true;
+        self.unpositioned = true;
         // a rule has to see a column from its start
-        self.source.seek(column_start(key))?;
-        self.rule.start();
+        let start = Key {
+            timestamp: i64::MAX,
+            ..key
+        };
+        self.source.seek(start)?;
+        self.rule.reset();
         pass(&mut self.source, &mut self.rule, key)?;
         settle(&mut self.source, &mut self.rule)?;
-        self.lost = false;
+        self.unpositioned = false;
         Ok(())
     }
 }
 
 // Passes the records that the rule holds back, up to one that it doesn't.
 fn settle<S: Source, R: Rule>(source: &mut S, rule: &mut R) -> Result<(), NoMemory>
-    requires { ∥ R.IsTied rule.old (S.whole source.old) (S.rest source.old) ∥₁ }
+    requires { ∥ R.HasObserved rule.old (S.whole source.old) (S.rest source.old) ∥₁ }
     ensures whole { S.whole source.new ≡ S.whole source.old }
     ensures same { R.admits rule.new ≡ R.admits rule.old }
     ensures rest { OnOk result (filter (R.admits rule.old (S.whole source.old)) (S.rest source.new) ≡ filter (R.admits rule.old (S.whole source.old)) (S.rest source.old)) }
     ensures settled { OnOk result (is_settled (R.admits rule.old (S.whole source.old)) (S.rest source.new) ≡ true) }
-    ensures tied { OnOk result (∥ R.IsTied rule.new (S.whole source.old) (tail (S.rest source.new)) ∥₁) }
+    ensures observed { OnOk result (∥ R.HasObserved rule.new (S.whole source.old) (tail (S.rest source.new)) ∥₁) }
 {
     while let Some(record) = source.top() {
-        if rule.note(&record)? {
+        if rule.observe(&record)? {
             return Ok(());
         }
         source.advance()?;
@@ -114,31 +125,18 @@ fn settle<S: Source, R: Rule>(source: &mut S, rule: &mut R) -> Result<(), NoMemo
 
 // Passes the records before the key.
 fn pass<S: Source, R: Rule>(source: &mut S, rule: &mut R, key: Key<'_>) -> Result<(), NoMemory>
-    requires { ∥ R.IsTied rule.old (S.whole source.old) (S.rest source.old) ∥₁ }
+    requires { ∥ R.HasObserved rule.old (S.whole source.old) (S.rest source.old) ∥₁ }
     ensures whole { S.whole source.new ≡ S.whole source.old }
     ensures same { R.admits rule.new ≡ R.admits rule.old }
     ensures rest { OnOk result (S.rest source.new ≡ from_key (key_of key.entry) (S.rest source.old)) }
-    ensures tied { OnOk result (∥ R.IsTied rule.new (S.whole source.old) (S.rest source.new) ∥₁) }
+    ensures observed { OnOk result (∥ R.HasObserved rule.new (S.whole source.old) (S.rest source.new) ∥₁) }
 {
     while let Some(record) = source.top() {
         if record.key().cmp(key).is_ge() {
             break;
         }
-        let _ = rule.note(&record)?;
+        let _ = rule.observe(&record)?;
         source.advance()?;
     }
     Ok(())
-}
-
-// The first key of the key's column.
-fn column_start<'a>(key: Key<'a>) -> Key<'a>
-    ensures { key_of result ≡ column_start (key_of key.entry) }
-{
-    Key {
-        row: key.row,
-        family: key.family,
-        qualifier: key.qualifier,
-        label: key.label,
-        timestamp: i64::MAX,
-    }
 }

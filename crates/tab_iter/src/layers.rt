@@ -1,27 +1,31 @@
 //! The stack of layers that a scan reads.
-ghost use Rattle.std.specs.Prelude.{◌≡◌, true, filter, map, IfOk};
-ghost use Rattle.tab_key.specs.Sorted.{sorted, IsDistinct};
-ghost use Rattle.tab_history.specs.Cells.{is_shown, cells};
+ghost use Rattle.std.specs.Prelude.{◌≡◌, map, IfOk};
+ghost use Rattle.tab_key.specs.Sorted.{IsDistinct};
+ghost use Rattle.tab_cells.specs.Cells.{cells};
 ghost use Rattle.tab_key.specs.Records.{cell_of};
 ghost use Rattle.tab_iter.specs.Bags.{flat};
-ghost use Rattle.tab_iter.specs.Stack.{query_of};
+ghost use Rattle.tab_iter.specs.Lists.{from_key};
+ghost use Rattle.tab_iter.specs.Stack.{query_of, shown_of};
+ghost use Rattle.tab_key.specs.KeyOf.{key_of};
 
-use crate::{Chosen, Deletes, Filtered, Merging, Newest, NoMemory, Seen, Source};
+use crate::{
+    DeletingRule, FetchingRule, Filtered, Merging, NoMemory, Source, VersioningRule, VisibleRule,
+};
 use std::alloc::Global;
-use tab_key::Column;
+use tab_key::{Column, Key};
 use tab_label::AuthSet;
 
 /// The source without what its markers hide, and without the markers unless they are kept.
-pub type Deleting<S> = Filtered<S, Deletes>;
+pub type Deleting<S> = Filtered<S, DeletingRule>;
 
 /// The records of the source that are of the columns named.
-pub type Fetching<'a, S> = Filtered<S, Chosen<'a>>;
+pub type Fetching<'a, S> = Filtered<S, FetchingRule<'a>>;
 
 /// The records of the source whose label holds.
-pub type Visible<'a, S> = Filtered<S, Seen<'a>>;
+pub type Visible<'a, S> = Filtered<S, VisibleRule<'a>>;
 
 /// Of each column of the source the newest puts, and any markers.
-pub type Versioning<S> = Filtered<S, Newest>;
+pub type Versioning<S> = Filtered<S, VersioningRule>;
 
 /// What a scan reads: versions of what is visible of what is fetched of what isn't deleted of all sources.
 pub type Stack<'a, S> = Versioning<Visible<'a, Fetching<'a, Deleting<Merging<S>>>>>;
@@ -38,37 +42,40 @@ pub fn stack_of<'a, S: Source + Drop>(
 ) -> Result<Stack<'a, S>, NoMemory>
     requires distinct { IsDistinct (flat (map S.whole sources.items)) }
     requires at_start { map S.rest sources.items ≡ map S.whole sources.items }
-    ensures shown { IfOk result (λ s. ⟦<Stack<'a, S> as Source>⟧.whole s ≡ sorted (filter (is_shown (flat (map S.whole sources.items)) versions (query_of columns.now auths.now)) (flat (map S.whole sources.items)))) }
+    ensures shown { IfOk result (λ s. ⟦<Stack<'a, S> as Source>⟧.whole s ≡ shown_of (flat (map S.whole sources.items)) versions (query_of columns.now auths.now)) }
     ensures cells { IfOk result (λ s. map cell_of (⟦<Stack<'a, S> as Source>⟧.whole s) ≡ cells (flat (map S.whole sources.items)) versions (query_of columns.now auths.now)) }
     ensures at_start { IfOk result (λ s. ⟦<Stack<'a, S> as Source>⟧.rest s ≡ ⟦<Stack<'a, S> as Source>⟧.whole s) }
 {
     let merged = Merging::new(sources)?;
-    let undeleted = Filtered::new(merged, Deletes::new(alloc, false))?;
-    let fetched = Filtered::new(undeleted, Chosen::new(columns))?;
-    let visible = Filtered::new(fetched, Seen::new(alloc, auths))?;
-    let shown = Filtered::new(visible, Newest::new(alloc, versions))?;
+    let undeleted = Filtered::new(merged, DeletingRule::new(alloc, false))?;
+    let fetched = Filtered::new(undeleted, FetchingRule::new(columns))?;
+    let visible = Filtered::new(fetched, VisibleRule::new(alloc, auths))?;
+    let shown = Filtered::new(visible, VersioningRule::new(alloc, versions))?;
     Ok(shown)
 }
 
-/// The same records, of which nothing was read: there is no top, and each advance answers NoMemory, until a seek succeeds.
+/// The same stack, standing at the first record shown whose key isn't before this one. Nothing before the key's column is read:
+/// a scan that goes on in the middle of a table begins so.
 ///
-/// A scan that goes on from a key begins so: `stack_of` would read all that is hidden before the first record shown. The error
-/// comes only from want of memory.
-pub fn unread_stack_of<'a, S: Source + Drop>(
+/// The error comes only from want of memory.
+pub fn stack_from<'a, S: Source + Drop>(
     alloc: Global,
     sources: Vec<S>,
     columns: &'a [Column],
     auths: &'a AuthSet,
     versions: u32,
+    key: Key<'_>,
 ) -> Result<Stack<'a, S>, NoMemory>
     requires distinct { IsDistinct (flat (map S.whole sources.items)) }
     requires at_start { map S.rest sources.items ≡ map S.whole sources.items }
-    ensures shown { IfOk result (λ s. ⟦<Stack<'a, S> as Source>⟧.whole s ≡ sorted (filter (is_shown (flat (map S.whole sources.items)) versions (query_of columns.now auths.now)) (flat (map S.whole sources.items)))) }
-    ensures lost { IfOk result (λ s. ⟦<Stack<'a, S> as Source>⟧.is_lost s ≡ true) }
+    ensures shown { IfOk result (λ s. ⟦<Stack<'a, S> as Source>⟧.whole s ≡ shown_of (flat (map S.whole sources.items)) versions (query_of columns.now auths.now)) }
+    ensures from_key { IfOk result (λ s. ⟦<Stack<'a, S> as Source>⟧.rest s ≡ from_key (key_of key.entry) (⟦<Stack<'a, S> as Source>⟧.whole s)) }
 {
-    let merged = Merging::new(sources)?;
-    let undeleted = Filtered::unread(merged, Deletes::new(alloc, false));
-    let fetched = Filtered::unread(undeleted, Chosen::new(columns));
-    let visible = Filtered::unread(fetched, Seen::new(alloc, auths));
-    Ok(Filtered::unread(visible, Newest::new(alloc, versions)))
+    let merged = Merging::unpositioned(sources)?;
+    let undeleted = Filtered::unpositioned(merged, DeletingRule::new(alloc, false));
+    let fetched = Filtered::unpositioned(undeleted, FetchingRule::new(columns));
+    let visible = Filtered::unpositioned(fetched, VisibleRule::new(alloc, auths));
+    let mut shown = Filtered::unpositioned(visible, VersioningRule::new(alloc, versions));
+    shown.seek(key)?;
+    Ok(shown)
 }

@@ -5,38 +5,39 @@
 //! | `source` | what every source does: its first record, an advance, a seek |
 //! | `list_source` | a source over a rising list |
 //! | `merging` | the one rising list of several sources |
+//! | `source_order` | the order of several sources by their first records |
 //! | `filtered` | a source without the records that a rule holds back |
-//! | `rule` | what a rule is told, and what it tells |
-//! | `deleting`, `choosing`, `seeing`, `versioning` | the four rules: markers, columns, labels, versions |
-//! | `column` | the one column that a rule remembers |
+//! | `rule` | what a rule observes, and what it tells |
+//! | `deleting_rule`, `fetching_rule`, `visible_rule`, `versioning_rule` | the four rules: markers, columns, labels, versions |
+//! | `last_column` | the column of the last record that a rule observed |
+//! | `verdict` | verdicts on labels, kept and found again |
 //! | `layers` | the layers by their names, and the stack of them that a scan reads |
 //!
 //! Each layer lets a part of its source's whole list through, by a test of that list and the record. The tests stand in
 //! `specs/Layers`; `stack_of` says that all of them together show what the definition of a scan's answer shows.
 #![tactic(auto)]
 
-mod choosing;
-mod column;
-mod deleting;
+mod deleting_rule;
+mod fetching_rule;
 mod filtered;
+mod last_column;
 mod layers;
 mod list_source;
 mod merging;
 mod rule;
-mod seeing;
 mod source;
-mod versioning;
+mod source_order;
+mod verdict;
+mod versioning_rule;
+mod visible_rule;
 
-pub use choosing::Chosen;
-pub use deleting::Deletes;
+pub use deleting_rule::DeletingRule;
+pub use fetching_rule::FetchingRule;
 pub use filtered::Filtered;
-pub use layers::{Deleting, Fetching, Stack, Versioning, Visible, stack_of, unread_stack_of};
+pub use layers::{Deleting, Fetching, Stack, Versioning, Visible, stack_from, stack_of};
 pub use list_source::{ListSource, is_rising};
 pub use merging::Merging;
 pub use rule::Rule;
-pub use seeing::Seen;
 pub use source::{NoMemory, Source};
-pub use versioning::Newest;
-
-#[cfg(test)]
-mod tests;
+pub use versioning_rule::VersioningRule;
+pub use visible_rule::VisibleRule;

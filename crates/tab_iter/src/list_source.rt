@@ -5,8 +5,8 @@ ghost use Rattle.std.specs.List.Sorted.{IsStrictlySortedBy-prop};
 ghost use Rattle.std.specs.Ordering.{is_lt};
 ghost use Rattle.tab_key.specs.KeyOf.{key_of};
 ghost use Rattle.tab_key.specs.Order.{key_cmp, record_cmp};
-ghost use Rattle.tab_iter.specs.Lists.{IsRising, IsTimely};
-ghost use Rattle.tab_iter.specs.ListSourceLaws.{IsTimely-prop};
+ghost use Rattle.tab_iter.specs.Lists.{IsRising, HasI64Timestamps};
+ghost use Rattle.tab_iter.specs.Propositions.{HasI64Timestamps-prop};
 
 use crate::{NoMemory, Source};
 use tab_key::{Key, Record, RecordRef};
@@ -17,7 +17,7 @@ pub struct ListSource {
     records: Vec<Record>,
     passed: usize,
     ghost rising: { IsRising records.items } by { IsStrictlySortedBy-prop record_cmp records.items },
-    ghost timely: { IsTimely records.items } by { IsTimely-prop records.items },
+    ghost has_i64_timestamps: { HasI64Timestamps records.items } by { HasI64Timestamps-prop records.items },
 }
 
 impl ListSource {
@@ -27,27 +27,27 @@ impl ListSource {
         ensures whole { ⟦<ListSource as Source>⟧.whole result ≡ records.items }
         ensures rest { ⟦<ListSource as Source>⟧.rest result ≡ records.items }
     {
-        are_timely(&records);
+        read_timestamps(&records);
         ListSource { records, passed: 0 }
     }
 }
 
 impl Source for ListSource {
-    ghost use Rattle.tab_iter.specs.ListSourceLaws.{ends_drop, never_lost};
+    ghost use Rattle.tab_iter.specs.SourceLaws.{ends_drop, always_positioned};
 
     ghost whole = { λ s. s.records.items };
 
     ghost rest = { λ s. drop s.passed s.records.items };
 
-    ghost is_lost = { λ s. false };
+    ghost is_unpositioned = { λ s. false };
 
-    ghost rises = { λ s. s.rising };
+    ghost whole_rises = { λ s. s.rising };
 
-    ghost timely = { λ s. s.timely };
+    ghost has_i64_timestamps = { λ s. s.has_i64_timestamps };
 
-    ghost ends = { λ s. ends_drop s.passed s.records.items };
+    ghost rest_is_suffix = { λ s. ends_drop s.passed s.records.items };
 
-    ghost silent = { λ s. never_lost (drop s.passed s.records.items) };
+    ghost unpositioned_is_empty = { λ s. always_positioned (drop s.passed s.records.items) };
 
     fn top(&self) -> Option<RecordRef<'_>> {
         match self.records.get(self.passed) {
@@ -82,8 +82,8 @@ pub fn is_rising(records: &[Record]) -> bool
 }
 
 // Reads the timestamps, each of which is an `i64`.
-fn are_timely(records: &[Record])
-    ensures { IsTimely records.now }
+fn read_timestamps(records: &[Record])
+    ensures { HasI64Timestamps records.now }
 {
     for record in records {
         let _timestamp = record.as_ref().timestamp();

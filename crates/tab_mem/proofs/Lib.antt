@@ -1,8 +1,8 @@
-pub mod Appending
-pub mod Numbered
-pub mod Sixteens
-pub mod Fronts
-pub mod Places
-pub mod Rows
+pub mod KeptFront
+pub mod Written
+pub mod BigEndian
+pub mod RowPrefix
+pub mod RowOrder
 pub mod Seeking
 pub mod Parts
+pub mod Cursors

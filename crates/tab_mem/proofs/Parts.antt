@@ -1,22 +1,29 @@
 -- Parts of a list of records, and the searches in them.
-use Rattle.std.proofs.Common.{◌≡◌, inl, inr, ℕ, zero, suc, ◌+◌, ◌<◌, ◌≤◌, max, min, List, [], ◌∷◌, Bool, true, false, cond, ◌&&◌, Some, refl, sym, ◌∙◌, ap, length, take, drop, arith}
+use Rattle.std.proofs.Common.{◌≡◌, inl, inr, ℕ, zero, suc, ◌+◌, ◌<◌, ◌≤◌, max, min, List, [], ◌∷◌, Bool, true, false, cond, ◌&&◌, Some, refl, sym, ◌∙◌, ap, length, take, drop, arith, add-suc}
 use Rattle.std.specs.Prelude.{filter}
 use Rattle.std.specs.List.{AllByRecursion, prefix_len, slice_index_or}
 use Rattle.std.specs.List.Sorted.{IsStrictlySortedBy}
 use Rattle.std.specs.declared.cmp.Ordering.TheVariants.{Less}
 use Rattle.std.proofs.lemmas.List.{drop-take}
+use Rattle.std.proofs.Math.Seq.{drop-nil}
 use mathlib.Core.Bool.{true≢false}
 use Rattle.tab_key.specs.Records.{Record}
 use Rattle.tab_key.specs.Order.{record_cmp}
 use Rattle.tab_key.specs.Ranges.{is_above, is_below, is_in_range}
 use Rattle.tab_key.specs.declared.range.Bounds.{Bounds}
-use Rattle.tab_key.proofs.Rising.{IsIn}
-use Rattle.tab_mem.specs.Lists.{part, first_of, IsTimely}
-use Rattle.tab_mem.specs.PartLaws.{drop_none, drop_sum}
+use Rattle.tab_key.specs.Sorted.{IsIn}
+use Rattle.tab_cells.proofs.Lists.{by_bool}
+use Rattle.tab_iter.specs.Lists.{first_of, HasI64Timestamps}
+use Rattle.tab_mem.specs.Lists.{part}
 use Rattle.tab_mem.specs.Starts.{is_before, from_start}
 use Rattle.tab_mem.specs.declared.start.Start.{Start}
-use Rattle.tab_mem.proofs.Rows.{by_bool}
 use Rattle.tab_mem.proofs.Seeking.{before_down, start_drops, start_takes}
+
+-- what is left after some, and after some more
+pub drop_sum : (n m : ℕ) (rs : List Record) → drop (n + m) rs ≡ drop n (drop m rs)
+drop_sum n zero rs = ap (λ k. drop k rs) (omega arith)
+drop_sum n (suc m) [] = drop-nil (n + suc m) ∙ sym (drop-nil n)
+drop_sum n (suc m) (r ∷ rs) = rw add-suc (drop_sum n m rs)
 
 -- ---- what holds of a list holds of a part
 all_take : (P : Record → Type 0) (n : ℕ) (rs : List Record) → AllByRecursion P rs → AllByRecursion P (take n rs)
@@ -55,8 +62,8 @@ in_drop zero rs u h = h
 in_drop (suc n) [] u h = absurd h
 in_drop (suc n) (r ∷ rs) u h = inr (in_drop n rs u h)
 
-pub part_timely : (from end : ℕ) (rs : List Record) → IsTimely rs → IsTimely (part from end rs)
-part_timely from end rs t u h = t u (in_take end rs u (in_drop from (take end rs) u h))
+pub part_timestamps : (from end : ℕ) (rs : List Record) → HasI64Timestamps rs → HasI64Timestamps (part from end rs)
+part_timestamps from end rs t u h = t u (in_take end rs u (in_drop from (take end rs) u h))
 
 filter_both : (p q : Record → Bool) (rs : List Record) → filter q (filter p rs) ≡ filter (λ u. p u && q u) rs
 filter_both p q [] = refl
@@ -128,9 +135,3 @@ top_of_part [] at (suc end) u lt le e = absurd (omega (arith, le))
 top_of_part (r ∷ rs) at zero u lt le e = absurd (omega (arith, lt))
 top_of_part (r ∷ rs) zero (suc end) u lt le e = ap Some e
 top_of_part (r ∷ rs) (suc at) (suc end) u lt le e = top_of_part rs at end u (omega (arith, lt)) (omega (arith, le)) e
-
-pub past_part : (rs : List Record) (at end : ℕ) → end ≤ at → part at end rs ≡ []
-past_part rs at zero le = drop_none at
-past_part [] at (suc end) le = drop_none at
-past_part (r ∷ rs) zero (suc end) le = absurd (omega (arith, le))
-past_part (r ∷ rs) (suc at) (suc end) le = past_part rs at end (omega (arith, le))

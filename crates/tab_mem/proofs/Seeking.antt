@@ -3,23 +3,21 @@ use Rattle.std.proofs.Common.{◌≡◌, ◌⊎◌, inl, inr, ℕ, zero, suc, �
 use Rattle.std.specs.Prelude.{filter}
 use Rattle.std.specs.List.{AllByRecursion, slice_index_or, prefix_len}
 use Rattle.std.specs.List.Sorted.{IsStrictlySortedBy}
-use Rattle.std.specs.Cmp.{IsTotalOrder}
-use Rattle.std.specs.Cmp.Lexicographic.{nat_list_cmp_total}
 use Rattle.std.specs.Ordering.{nat_cmp, is_lt, ordering_then}
 use Rattle.std.specs.declared.cmp.Ordering.{Ordering}
 use Rattle.std.specs.declared.cmp.Ordering.TheVariants.{Less, Equal, Greater}
 use mathlib.Core.Bool.{true≢false}
-use Rattle.tab_key.specs.Bytes.{bytes_cmp}
 use Rattle.tab_key.specs.Ranges.{is_above, is_below}
 use Rattle.tab_key.specs.KeyOf.{key_of}
 use Rattle.tab_key.specs.Records.{Key, Record}
-use Rattle.tab_key.specs.Order.{kind_rank, column_cmp, key_cmp, place_cmp, newer_cmp, record_cmp}
-use Rattle.tab_key.proofs.Order.{column_cmp_total, key_cmp_total}
-use Rattle.tab_mem.specs.Lists.{from_key, from_column, from_row}
+use Rattle.tab_key.specs.Order.{kind_rank, key_cmp, place_cmp, newer_cmp, record_cmp}
+use Rattle.tab_key.proofs.Order.{key_cmp_total}
+use Rattle.tab_cells.proofs.Lists.{by_bool}
+use Rattle.tab_iter.specs.Lists.{from_key}
 use Rattle.tab_mem.specs.Starts.{is_before, from_start}
 use Rattle.tab_mem.specs.declared.start.Start.{Start}
-use Rattle.tab_mem.specs.declared.start.Start.TheVariants.{AtKey, AtColumn, AtRow, AtLow, PastHigh}
-use Rattle.tab_mem.proofs.Rows.{by_bool, twice, rows_rise, above_more, below_less}
+use Rattle.tab_mem.specs.declared.start.Start.TheVariants.{AtKey, AtLow, PastHigh}
+use Rattle.tab_mem.proofs.RowOrder.{twice, rows_rise, above_more, below_less}
 
 -- ---- what is left after the records before a start
 dropped : (v : Bool) (p : Record → Bool) (r : Record) (rs from : List Record) → drop (prefix_len p rs) rs ≡ from → drop (cond v (1 + prefix_len p rs) 0) (r ∷ rs) ≡ cond v from (r ∷ rs)
@@ -29,14 +27,6 @@ dropped false p r rs from ih = refl
 key_drops : (k : Key) (rs : List Record) → drop (prefix_len (λ r. is_lt (key_cmp r.key k)) rs) rs ≡ from_key k rs
 key_drops k [] = refl
 key_drops k (r ∷ rs) = dropped (is_lt (key_cmp r.key k)) _ r rs (from_key k rs) (key_drops k rs)
-
-column_drops : (k : Key) (rs : List Record) → drop (prefix_len (λ r. is_lt (column_cmp r.key k)) rs) rs ≡ from_column k rs
-column_drops k [] = refl
-column_drops k (r ∷ rs) = dropped (is_lt (column_cmp r.key k)) _ r rs (from_column k rs) (column_drops k rs)
-
-row_drops : (row : List ℕ) (rs : List Record) → drop (prefix_len (λ r. is_lt (bytes_cmp r.key.row row)) rs) rs ≡ from_row row rs
-row_drops row [] = refl
-row_drops row (r ∷ rs) = dropped (is_lt (bytes_cmp r.key.row row)) _ r rs (from_row row rs) (row_drops row rs)
 
 -- ---- who stands before a record before the start is before the start
 -- what stands before isn't after, by a part of the order that is compared first
@@ -52,28 +42,18 @@ upto_key : (x y : Record) → record_cmp x y ≡ Less → IsUpto (key_cmp x.key 
 unfolding place_cmp
 upto_key x y less = upto_first (key_cmp x.key y.key) (nat_cmp (kind_rank x.kind) (kind_rank y.kind)) (upto_first (place_cmp x y) (newer_cmp x y) (inl less))
 
-upto_column : (x y : Record) → record_cmp x y ≡ Less → IsUpto (column_cmp x.key y.key)
-unfolding key_cmp
-upto_column x y less = upto_first (column_cmp x.key y.key) _ (upto_key x y less)
-
-upto_row : (x y : Record) → record_cmp x y ≡ Less → IsUpto (bytes_cmp x.key.row y.key.row)
-unfolding column_cmp
-upto_row x y less = upto_first (bytes_cmp x.key.row y.key.row) _ (upto_first _ (bytes_cmp x.key.qualifier y.key.qualifier) (upto_first _ (bytes_cmp x.key.label y.key.label) (upto_column x y less)))
-
 lt_less : (o : Ordering) → is_lt o ≡ true → o ≡ Less
 lt_less Less e = refl
 lt_less Equal e = absurd (true≢false (sym e))
 lt_less Greater e = absurd (true≢false (sym e))
 
-down : {K : Type 0} (cmp : K → K → Ordering) → IsTotalOrder cmp → (x y k : K) → IsUpto (cmp x y) → is_lt (cmp y k) ≡ true → is_lt (cmp x k) ≡ true
-down cmp total x y k (inl e) b = ap is_lt (total.trans x y k e (lt_less (cmp y k) b))
-down cmp total x y k (inr e) b = ap is_lt (total.congr x y k e) ∙ b
+key_down : (x y k : Key) → IsUpto (key_cmp x y) → is_lt (key_cmp y k) ≡ true → is_lt (key_cmp x k) ≡ true
+key_down x y k (inl e) b = ap is_lt (key_cmp_total.trans x y k e (lt_less (key_cmp y k) b))
+key_down x y k (inr e) b = ap is_lt (key_cmp_total.congr x y k e) ∙ b
 
 pub before_down : (s : Start) (x y : Record) → record_cmp x y ≡ Less → is_before s y ≡ true → is_before s x ≡ true
 unfolding is_before
-before_down (AtKey k) x y less b = down key_cmp key_cmp_total x.key y.key (key_of k) (upto_key x y less) b
-before_down (AtColumn k) x y less b = down column_cmp column_cmp_total x.key y.key (key_of k) (upto_column x y less) b
-before_down (AtRow row) x y less b = down bytes_cmp nat_list_cmp_total x.key.row y.key.row row.now (upto_row x y less) b
+before_down (AtKey k) x y less b = key_down x.key y.key (key_of k) (upto_key x y less) b
 before_down (AtLow low) x y less b = by_bool (is_above low.now x.key.row) (λ e. absurd (true≢false (sym b ∙ ap not (above_more low.now x.key.row y.key.row (rows_rise x y less) e)))) (λ e. ap not e)
 before_down (PastHigh high) x y less b = below_less high.now x.key.row y.key.row (rows_rise x y less) b
 
@@ -107,8 +87,6 @@ front_kept p falls (x ∷ xs) r = by_bool (p x)
 pub start_drops : (s : Start) (rs : List Record) → IsStrictlySortedBy record_cmp rs → drop (prefix_len (is_before s) rs) rs ≡ from_start s rs
 unfolding is_before from_start
 start_drops (AtKey k) rs r = key_drops (key_of k) rs
-start_drops (AtColumn k) rs r = column_drops (key_of k) rs
-start_drops (AtRow row) rs r = row_drops row.now rs
 start_drops (AtLow low) rs r = rest_kept _ (λ u. is_above low.now u.key.row) (before_down (AtLow low)) (λ u. twice (is_above low.now u.key.row)) rs r
 start_drops (PastHigh high) rs r = rest_kept _ (λ u. not (is_below high.now u.key.row)) (before_down (PastHigh high)) (λ u. refl) rs r
 

@@ -1,7 +1,4 @@
-pub mod Fronts
+pub mod RowPrefix
 pub mod Lists
-pub mod ListLaws
-pub mod PartLaws
 pub mod Starts
 pub mod Cursors
-pub mod SourceLaws

@@ -1,10 +1,9 @@
 //! What is written to a table, until it is frozen.
-ghost use Rattle.std.specs.Prelude.{◌≡◌, ◌<◌, ◌++◌, ◌==◌, [], length, map, reverse, IfOk, OnOk, OnErr, Contains};
+ghost use Rattle.std.specs.Prelude.{◌≡◌, ◌<◌, ◌++◌, ◌==◌, [], length, IfOk, OnOk, OnErr, Contains};
 ghost use Rattle.std.specs.List.{slice_index_or};
 ghost use Rattle.tab_key.specs.Records.{Record as Fields};
 ghost use Rattle.tab_key.specs.Sorted.{IsDistinct, sorted};
-ghost use Rattle.tab_history.specs.Changes.{posted};
-ghost use Rattle.tab_history.specs.Readings.{numbered};
+ghost use Rattle.tab_cells.specs.Written.{mutation_records};
 
 use crate::Run;
 use crate::packed::Packed;
@@ -26,13 +25,13 @@ pub struct Active {
 impl Model for Active {
     ghost use Rattle.std.specs.Prelude.{List};
     ghost use Rattle.tab_key.specs.Records.{Record as Fields};
-    ghost use Rattle.tab_key.specs.Sorted.{IsDistinct};
+    ghost use Rattle.tab_mem.specs.Lists.{IsActive};
 
     ghost Value = { List Fields };
 
     ghost view = { λ a. a.records };
 
-    ghost invariant = { λ a. IsDistinct a.records };
+    ghost invariant = { λ a. IsActive a.records };
 }
 
 impl Active {
@@ -74,7 +73,7 @@ impl Active {
     /// `AllocError` leaves all as it was: the mutation goes in whole or not at all.
     pub fn write(&mut self, mutation: &Mutation, seq: u64, clock: i64) -> Result<(), AllocError>
         requires { (u : Fields) → Contains self.old u → u.seq < seq }
-        ensures ok { OnOk result (self.new ≡ self.old ++ numbered seq mutation.now.row (reverse (map (posted clock) mutation.now.updates))) }
+        ensures ok { OnOk result (self.new ≡ self.old ++ mutation_records seq clock mutation.now) }
         ensures err { OnErr result (self.new ≡ self.old) }
     {
         self.records.write(mutation, seq, clock)
@@ -89,7 +88,8 @@ impl Active {
         ensures empty { OnOk result (self.new ≡ []) }
         ensures err { OnErr result (self.new ≡ self.old) }
     {
-        let run = Arc::new(alloc, Run::of(sorted_copy(alloc, &self.records)?))?;
+        let records = sorted_copy(alloc, &self.records)?;
+        let run = Arc::new(alloc, Run { records })?;
         self.records = Packed::new(alloc);
         Ok(run)
     }

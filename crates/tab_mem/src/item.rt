@@ -1,7 +1,7 @@
 //! What a freeze sorts.
 ghost use Rattle.std.specs.Prelude.{◌≡◌, ◌≤◌, ◌++◌, length, drop};
 ghost use Rattle.tab_key.specs.Order.{record_cmp};
-ghost use Rattle.tab_mem.specs.Fronts.{padded, IsFront};
+ghost use Rattle.tab_mem.specs.RowPrefix.{padded, IsRowPrefix};
 
 use std::cmp::Ordering;
 use std::marker::Model;
@@ -11,7 +11,7 @@ use tab_key::RecordRef;
 /// the record's own bytes, which lie elsewhere, aren't read.
 #[derive(Drop)]
 pub(crate) struct Item<'a> {
-    front: u128,
+    prefix: u128,
     lent: RecordRef<'a>,
 }
 
@@ -20,11 +20,11 @@ impl<'a> Model for Item<'a> {
 
     ghost Value = { Fields };
 
-    ghost use Rattle.tab_mem.specs.Fronts.{IsFront};
+    ghost use Rattle.tab_mem.specs.RowPrefix.{IsRowPrefix};
 
     ghost view = { λ i. i.lent };
 
-    ghost invariant = { λ i. IsFront i.front i.lent.key.row };
+    ghost invariant = { λ i. IsRowPrefix i.prefix i.lent.key.row };
 }
 
 impl<'a> Item<'a> {
@@ -32,8 +32,8 @@ impl<'a> Item<'a> {
     pub(crate) fn new(lent: RecordRef<'a>) -> Item<'a>
         ensures { result ≡ lent.entry }
     {
-        let front = front_of(lent.row());
-        Item { front, lent }
+        let prefix = row_prefix(lent.row());
+        Item { prefix, lent }
     }
 
     /// The record.
@@ -47,7 +47,7 @@ impl<'a> Item<'a> {
     pub(crate) fn cmp(&self, other: &Item<'_>) -> Ordering
         ensures { result ≡ record_cmp self.now other.now }
     {
-        match self.front.cmp(&other.front) {
+        match self.prefix.cmp(&other.prefix) {
             Ordering::Equal => self.lent.cmp(&other.lent),
             decided => decided,
         }
@@ -55,8 +55,8 @@ impl<'a> Item<'a> {
 }
 
 // The number that the first 16 bytes of the row spell, with zeros behind a shorter row.
-fn front_of(row: &[u8]) -> u128
-    ensures { IsFront result row.now }
+fn row_prefix(row: &[u8]) -> u128
+    ensures { IsRowPrefix result row.now }
 {
     u128::from_be_bytes(padded(row))
 }
@@ -65,13 +65,13 @@ fn front_of(row: &[u8]) -> u128
 fn padded(row: &[u8]) -> [u8; 16]
     ensures { result ≡ padded 16 row.now }
 {
-    let mut front = [0u8; 16];
-    write_front(&mut front, &row[..row.len().min(16)]);
-    front
+    let mut bytes = [0u8; 16];
+    write_over(&mut bytes, &row[..row.len().min(16)]);
+    bytes
 }
 
 // Puts the bytes over the first ones.
-fn write_front(kept: &mut [u8], bytes: &[u8])
+fn write_over(kept: &mut [u8], bytes: &[u8])
     requires { length bytes.now ≤ length kept.old }
     ensures { kept.new ≡ bytes.now ++ drop (length bytes.now) kept.old }
 {

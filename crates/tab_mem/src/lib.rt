@@ -7,27 +7,23 @@
 //! |---|---|
 //! | `active` | what is written, until it is frozen |
 //! | `packed` | records in one body of bytes |
-//! | `posting` | the records of an accepted mutation |
+//! | `appending` | the records of an accepted mutation, put behind others |
 //! | `item`, `sorting` | what a freeze sorts, and the sort |
 //! | `run` | a frozen run |
 //! | `start`, `searching` | where in a run a search goes, and the searches |
-//! | `cursor`, `source` | a part of a run that is gone over, as a source of `tab_iter` |
+//! | `cursor` | a part of a run that is gone over, as a source of `tab_iter` |
 #![tactic(auto)]
 
 mod active;
+mod appending;
 mod cursor;
 mod item;
 mod packed;
-mod posting;
 mod run;
 mod searching;
 mod sorting;
-mod source;
 mod start;
 
 pub use active::Active;
 pub use cursor::RunCursor;
 pub use run::Run;
-
-#[cfg(test)]
-mod tests;

@@ -1,20 +1,20 @@
 //! Records in one body of bytes.
-ghost use Rattle.std.specs.Prelude.{◌≡◌, ◌<◌, ◌++◌, ◌∷◌, ◌==◌, [], IfOk, OnOk, OnErr, length, map, reverse};
+ghost use Rattle.std.specs.Prelude.{◌≡◌, ◌<◌, ◌++◌, ◌∷◌, ◌==◌, [], IfOk, OnOk, OnErr, length};
 ghost use Rattle.std.specs.List.{slice_index_or};
-ghost use Rattle.tab_history.specs.Changes.{posted};
-ghost use Rattle.tab_history.specs.Readings.{numbered};
+ghost use Rattle.tab_cells.specs.Written.{mutation_records};
+ghost use Rattle.tab_iter.specs.Lists.{HasI64Timestamps};
 
-use crate::posting::append_all;
+use crate::appending::append_all;
 use std::alloc::{AllocError, Global};
 use std::marker::Model;
-use tab_key::{Place, RecordRef, append_copy};
+use tab_key::{RecordRef, RecordSpan, append_copy};
 use tab_mutation::Mutation;
 
 /// Records, one after another. Their parts lie in one body, and each record has its place there.
 #[derive(Drop)]
 pub(crate) struct Packed {
     body: Vec<u8>,
-    places: Vec<Place>,
+    places: Vec<RecordSpan>,
 }
 
 impl Model for Packed {
@@ -24,7 +24,7 @@ impl Model for Packed {
 
     ghost Value = { List Fields };
 
-    ghost use Rattle.tab_key.specs.Places.{record_in, IsWithin};
+    ghost use Rattle.tab_key.specs.RecordSpans.{record_in, IsWithin};
 
     ghost view = { λ p. map (record_in p.body.items) p.places.items };
 
@@ -101,7 +101,8 @@ impl Packed {
         seq: u64,
         clock: i64,
     ) -> Result<(), AllocError>
-        ensures ok { OnOk result (self.new ≡ self.old ++ numbered seq mutation.now.row (reverse (map (posted clock) mutation.now.updates))) }
+        ensures ok { OnOk result (self.new ≡ self.old ++ mutation_records seq clock mutation.now) }
+        ensures timestamps { OnOk result (HasI64Timestamps (mutation_records seq clock mutation.now)) }
         ensures err { OnErr result (self.new ≡ self.old) }
     {
         let bytes = self.body.len();

@@ -1,7 +1,7 @@
 //! Frozen runs.
 ghost use Rattle.std.specs.Prelude.{◌≡◌, ◌<◌, ◌==◌, length};
 ghost use Rattle.std.specs.List.{slice_index_or};
-ghost use Rattle.tab_mem.specs.Lists.{IsRising, IsTimely};
+ghost use Rattle.tab_iter.specs.Lists.{IsRising, HasI64Timestamps};
 
 use crate::packed::Packed;
 use std::marker::Model;
@@ -12,7 +12,7 @@ use tab_key::RecordRef;
 /// Their parts lie in one body, one record after another.
 #[derive(Drop)]
 pub struct Run {
-    records: Packed,
+    pub(crate) records: Packed,
 }
 
 impl Model for Run {
@@ -28,20 +28,11 @@ impl Model for Run {
 }
 
 impl Run {
-    /// The run of the records.
-    pub(crate) fn of(records: Packed) -> Run
-        requires { IsRising records }
-        ensures { result ≡ records }
-    {
-        read_timestamps(&records);
-        Run { records }
-    }
-
     /// How many records there are, markers and hidden ones among them.
     pub fn len(&self) -> usize
         ensures len { result ≡ length self.now }
         ensures rising { IsRising self.now }
-        ensures timely { IsTimely self.now }
+        ensures timestamps { HasI64Timestamps self.now }
     {
         self.records.len()
     }
@@ -59,14 +50,5 @@ impl Run {
         ensures { result ≡ slice_index_or self.now index result }
     {
         self.records.get(index)
-    }
-}
-
-// Reads the timestamps, each of which is an `i64`.
-fn read_timestamps(records: &Packed)
-    ensures { IsTimely records.now }
-{
-    for index in 0..records.len() {
-        let _timestamp = records.get(index).timestamp();
     }
 }

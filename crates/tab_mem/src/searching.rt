@@ -1,25 +1,25 @@
-//! Searches in a part of a run.
-//!
-//! A length that is read and not used tells the proof that the records rise.
+//! Searches in records that rise.
 ghost use Rattle.std.specs.Prelude.{◌≡◌, ◌≤◌, length, max, min, filter};
 ghost use Rattle.std.specs.List.{prefix_len};
 ghost use Rattle.tab_key.specs.Ranges.{is_below, is_in_range};
+ghost use Rattle.tab_iter.specs.Lists.{IsRising};
 ghost use Rattle.tab_mem.specs.Lists.{part};
 ghost use Rattle.tab_mem.specs.Starts.{is_before, from_start};
 
 use crate::Run;
+use crate::packed::Packed;
 use crate::start::Start;
 use std::ops::Range;
 use tab_key::{Bound, Bounds};
 
-impl Run {
+impl Packed {
     // How many records stand before the start, but no fewer than `low` and no more than `high`: by halves between these.
     fn count_between(&self, mut low: usize, mut high: usize, start: Start<'_>) -> usize
+        requires rising { IsRising self.now }
         requires ends { low ≤ high }
         requires inside { high ≤ length self.now }
         ensures { result ≡ max low (min (prefix_len (is_before start.entry) self.now) high) }
     {
-        let _records = self.len();
         while low < high {
             let mid = low + (high - low) / 2;
             if start.is_after(&self.get(mid)) {
@@ -33,13 +33,13 @@ impl Run {
 
     // The same, by steps from `low` on that double, then by halves: it takes time logarithmic in how far the count is from `low`.
     fn count_from(&self, low: usize, high: usize, start: Start<'_>) -> usize
+        requires rising { IsRising self.now }
         requires ends { low ≤ high }
         requires inside { high ≤ length self.now }
         ensures { result ≡ max low (min (prefix_len (is_before start.entry) self.now) high) }
     {
         let mut near = low;
         let mut step: usize = 1;
-        let _records = self.len();
         while step < high - near {
             if !start.is_after(&self.get(near + step)) {
                 return self.count_between(near, near + step, start);
@@ -53,28 +53,30 @@ impl Run {
     /// The index of the first record of a part that isn't before the start, or the part's end. The part goes from one index up to
     /// another, that one excluded.
     pub(crate) fn first_at(&self, from: usize, end: usize, start: Start<'_>) -> usize
+        requires rising { IsRising self.now }
         requires ends { from ≤ end }
         requires inside { end ≤ length self.now }
         ensures low { from ≤ result }
         ensures high { result ≤ end }
         ensures found { part result end self.now ≡ from_start start.entry (part from end self.now) }
     {
-        let _records = self.len();
         self.count_between(from, end, start)
     }
 
     // The index behind those first records of a part whose rows aren't above the high end.
     fn past_rows(&self, from: usize, end: usize, high: &Bound) -> usize
+        requires rising { IsRising self.now }
         requires ends { from ≤ end }
         requires inside { end ≤ length self.now }
         ensures low { from ≤ result }
         ensures high { result ≤ end }
         ensures rows { part from result self.now ≡ filter (λ u. is_below high.now u.key.row) (part from end self.now) }
     {
-        let _records = self.len();
         self.count_from(from, end, Start::PastHigh(high))
     }
+}
 
+impl Run {
     /// The indexes of the records of a part whose rows are in bounds: these records stand together. The part goes from one index
     /// up to another, that one excluded.
     ///
@@ -87,8 +89,8 @@ impl Run {
         ensures high { result.end ≤ end }
         ensures rows { part result.start result.end self.now ≡ filter (λ u. is_in_range bounds.now u.key.row) (part from end self.now) }
     {
-        let first = self.first_at(from, end, Start::AtLow(&bounds.low));
-        let past = self.past_rows(first, end, &bounds.high);
+        let first = self.records.first_at(from, end, Start::AtLow(&bounds.low));
+        let past = self.records.past_rows(first, end, &bounds.high);
         first..past
     }
 }

@@ -9,10 +9,6 @@ use tab_key::{Bound, Key, RecordRef};
 pub(crate) enum Start<'a> {
     /// The first record whose key isn't before this one.
     AtKey(Key<'a>),
-    /// The first record whose column isn't before that of the key.
-    AtColumn(Key<'a>),
-    /// The first record whose row isn't before this one.
-    AtRow(&'a [u8]),
     /// The first record whose row isn't below this low end.
     AtLow(&'a Bound),
     /// The first record whose row is above this high end.
@@ -27,8 +23,6 @@ impl<'a> Start<'a> {
     {
         match self {
             Start::AtKey(key) => other.key().cmp(key).is_lt(),
-            Start::AtColumn(key) => other.key().column_cmp(key).is_lt(),
-            Start::AtRow(row) => other.row().cmp(row).is_lt(),
             Start::AtLow(low) => !low.is_above(other.row()),
             Start::PastHigh(high) => high.is_below(other.row()),
         }

@@ -1,4 +1,3 @@
 pub mod Marks
 pub mod Taken
-pub mod Held
-pub mod Apart
+pub mod Batches

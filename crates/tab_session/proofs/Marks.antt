@@ -7,7 +7,8 @@ use Rattle.tab_key.specs.Records.{Key, Record}
 use Rattle.tab_key.proofs.Order.{not_before_itself}
 use Rattle.tab_key.proofs.Rising.{is_less}
 use Rattle.tab_iter.specs.Lists.{first_of, from_key, IsRising, IsEnd}
-use Rattle.tab_iter.specs.ListLaws.{by_bool, first_less, later_rises, in_append}
+use Rattle.tab_cells.proofs.Lists.{by_bool, in_right}
+use Rattle.tab_iter.proofs.ListLaws.{first_less, later_rises}
 use Rattle.tab_session.specs.Bookmarks.{from_record}
 
 -- the order of records doesn't read the value
@@ -24,7 +25,7 @@ passes_first r u us e = ap (λ b. cond b (from_record r us) (u ∷ us)) e
 -- a place is found behind all that stands before it
 behind : (r n : Record) (ps us : List Record) → ((u : Record) → stands_before u r ≡ stands_before u n) → IsRising (ps ++ n ∷ us) → from_record r (ps ++ n ∷ us) ≡ n ∷ us
 behind r n [] us same up = stays_first r n us (same n ∙ not_before_itself n)
-behind r n (p ∷ ps) us same up = passes_first r p (ps ++ n ∷ us) (same p ∙ ap is_lt (first_less p (ps ++ n ∷ us) up n (in_append ps (n ∷ us) n (inl refl)))) ∙ behind r n ps us same (later_rises p (ps ++ n ∷ us) up)
+behind r n (p ∷ ps) us same up = passes_first r p (ps ++ n ∷ us) (same p ∙ ap is_lt (first_less p (ps ++ n ∷ us) up n (in_right ps (n ∷ us) n (inl refl)))) ∙ behind r n ps us same (later_rises p (ps ++ n ∷ us) up)
 
 pub at_first : (r n : Record) (rest w : List Record) → r ≡ record n { value = [] } → Some n ≡ first_of rest → IsRising w → IsEnd rest w → from_record r w ≡ rest
 at_first r n [] w e f up is = absurd (let bad : Some n ≡ None = f in cc)

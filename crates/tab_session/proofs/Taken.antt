@@ -1,6 +1,7 @@
 -- The first cells of a list, taken one by one.
-use Rattle.std.proofs.Common.{◌≡◌, ℕ, zero, suc, ◌+◌, ◌≤◌, List, [], ◌∷◌, ◌++◌, refl, sym, ◌∙◌, ap, map, take, drop, arith}
+use Rattle.std.proofs.Common.{◌≡◌, ℕ, zero, suc, ◌+◌, ◌≤◌, List, [], ◌∷◌, ◌++◌, sym, ◌∙◌, ap, map, take, drop, arith}
 use Rattle.std.specs.Prelude.{Some, None}
+use Rattle.std.proofs.Math.Seq.{take-nil, drop-nil}
 use Rattle.tab_key.specs.Records.{Record, Cell, cell_of}
 use Rattle.tab_iter.specs.Lists.{first_of}
 
@@ -17,23 +18,15 @@ takes_one i w rest u c before between after t r f is same more =
     let found : take (suc i) (map cell_of w) ≡ take i (map cell_of w) ++ cell_of u ∷ [] = one_more i w u (f ∙ ap first_of r) in
     more ∙ (λ k. (same ∙ t) k ++ is k ∷ []) ∙ sym found ∙ ap (λ n. take n (map cell_of w)) (sym next)
 
-take_none : (i : ℕ) → take {A = Cell} i [] ≡ []
-take_none zero = refl
-take_none (suc i) = refl
-
-drop_none : (i : ℕ) → drop {A = Record} i [] ≡ []
-drop_none zero = refl
-drop_none (suc i) = refl
-
 -- where nothing is left, no count takes more
 none_left : (i n : ℕ) (w : List Record) → i ≤ n → None ≡ first_of (drop i w) → take i (map cell_of w) ≡ take n (map cell_of w)
-none_left i n [] le e = take_none i ∙ sym (take_none n)
+none_left i n [] le e = take-nil i ∙ sym (take-nil n)
 none_left zero n (x ∷ xs) le e = absurd (let bad : None ≡ Some x = e in cc)
 none_left (suc i) zero (x ∷ xs) le e = absurd (omega (arith, le))
 none_left (suc i) (suc n) (x ∷ xs) le e = ap (λ l. cell_of x ∷ l) (none_left i n xs (omega (arith, le)) e)
 
 none_dropped : (i n : ℕ) (w : List Record) → i ≤ n → None ≡ first_of (drop i w) → drop i w ≡ drop n w
-none_dropped i n [] le e = drop_none i ∙ sym (drop_none n)
+none_dropped i n [] le e = drop-nil i ∙ sym (drop-nil n)
 none_dropped zero n (x ∷ xs) le e = absurd (let bad : None ≡ Some x = e in cc)
 none_dropped (suc i) zero (x ∷ xs) le e = absurd (omega (arith, le))
 none_dropped (suc i) (suc n) (x ∷ xs) le e = none_dropped i n xs (omega (arith, le)) e

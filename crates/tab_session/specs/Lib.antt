@@ -1,2 +1,1 @@
 pub mod Bookmarks
-pub mod Scans

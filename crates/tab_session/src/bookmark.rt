@@ -39,17 +39,8 @@ impl Bookmark {
     }
 }
 
-/// Goes to the first record of the source that doesn't stand before this one. It makes one seek, to the record's key.
-pub(crate) fn go_to<S: Source>(source: &mut S, first: &Record) -> Result<(), NoMemory>
-    ensures whole { S.whole source.new ≡ S.whole source.old }
-    ensures rest { OnOk result (S.rest source.new ≡ from_record first.now (S.whole source.old)) }
-{
-    source.seek(first.as_ref().key())?;
-    pass_before(source, first)
-}
-
-// Passes the records that stand before the first one sought.
-fn pass_before<S: Source>(source: &mut S, first: &Record) -> Result<(), NoMemory>
+/// Passes the records that stand before this one.
+pub(crate) fn pass_before<S: Source>(source: &mut S, first: &Record) -> Result<(), NoMemory>
     ensures whole { S.whole source.new ≡ S.whole source.old }
     ensures rest { OnOk result (S.rest source.new ≡ from_record first.now (S.rest source.old)) }
 {

@@ -6,17 +6,14 @@
 //! | File | What |
 //! |---|---|
 //! | `session` | an open scan, which gives its cells batch by batch |
-//! | `scan` | what a session reads: a version, and what is asked of it |
+//! | `snapshot_scan` | what a session reads: a version, and what is asked of it |
 //! | `bookmark` | where a session goes on |
 //! | `taking` | the cells of a batch |
 #![tactic(auto)]
 
 mod bookmark;
-mod scan;
 mod session;
+mod snapshot_scan;
 mod taking;
 
 pub use session::Session;
-
-#[cfg(test)]
-mod tests;

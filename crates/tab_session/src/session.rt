@@ -1,14 +1,13 @@
 //! An open scan.
 ghost use Rattle.std.specs.Prelude.{◌≡◌, length, IfOk, OnOk, OnErr};
-ghost use Rattle.tab_history.specs.Cells.{cells};
-ghost use Rattle.tab_history.specs.Sessions.{batch, gave};
+ghost use Rattle.tab_cells.specs.Cells.{cells};
+ghost use Rattle.tab_cells.specs.SessionState.{batch, gave};
 ghost use Rattle.tab_iter.specs.Stack.{query_of};
 
 use crate::bookmark::Bookmark;
-use crate::scan::Scan;
+use crate::snapshot_scan::SnapshotScan;
 use std::alloc::{AllocError, Global};
 use std::marker::Model;
-use tab_iter::NoMemory;
 use tab_key::{Cell, Column, Items};
 use tab_label::AuthSet;
 use tab_version::Version;
@@ -19,7 +18,7 @@ use tab_version::Version;
 /// (Accumulo user manual: scanner)
 #[derive(Drop)]
 pub struct Session {
-    scan: Scan,
+    scan: SnapshotScan,
     // none once all cells were given
     next: Option<Bookmark>,
 }
@@ -27,10 +26,10 @@ pub struct Session {
 impl Model for Session {
     ghost use Rattle.std.specs.Prelude.{map};
     ghost use Rattle.tab_key.specs.Records.{cell_of};
-    ghost use Rattle.tab_history.specs.Sessions.{Held};
+    ghost use Rattle.tab_cells.specs.SessionState.{SessionState};
     ghost use Rattle.tab_session.specs.Bookmarks.{given_of};
 
-    ghost Value = { Held };
+    ghost Value = { SessionState };
 
     ghost view = { λ s. record { all = map cell_of s.scan; given = given_of s.next s.scan } };
 }
@@ -42,14 +41,15 @@ impl Session {
         ensures { result ≡ record { all = cells version versions (query_of columns auths); given = 0 } }
     {
         Session {
-            scan: Scan::new(version, columns, auths, versions),
+            scan: SnapshotScan::new(version, columns, auths, versions),
             next: Some(Bookmark::Beginning),
         }
     }
 
     /// The next `count` cells, fewer only at the end. Where memory lacks, the session is as before.
     ///
-    /// Each batch but the first makes one seek, and reads nothing before its place. Nothing is copied but the cells and one key.
+    /// Each batch but the first makes one seek, and reads nothing before the column of its place. Nothing is copied but the cells and
+    /// one key.
     pub fn next_batch(&mut self, alloc: Global, count: u32) -> Result<Items<Cell>, AllocError>
         ensures ok { IfOk result (λ cells. cells ≡ batch self.old count) }
         ensures after { OnOk result (self.new ≡ gave (length (batch self.old count)) self.old) }
@@ -58,12 +58,8 @@ impl Session {
         let Some(from) = &self.next else {
             return Ok(Items::new(alloc));
         };
-        match self.scan.read(alloc, from, count) {
-            Ok(batch) => {
-                self.next = batch.next;
-                Ok(Items::from_vec(batch.cells))
-            }
-            Err(NoMemory) => Err(AllocError),
-        }
+        let batch = self.scan.read(alloc, from, count)?;
+        self.next = batch.next;
+        Ok(Items::from_vec(batch.cells))
     }
 }

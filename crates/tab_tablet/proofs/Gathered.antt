@@ -1,5 +1,5 @@
 -- The records of a tablet, wherever they lie.
-use Rattle.std.proofs.Common.{◌≡◌, ℕ, ◌<◌, List, [], ◌∷◌, ◌++◌, Bool, true, false, cond, sym, ◌∙◌, ap, subst, append_assoc, ◌+◌, length, take, get_or}
+use Rattle.std.proofs.Common.{◌≡◌, ℕ, ◌<◌, List, [], ◌∷◌, ◌++◌, Bool, true, false, cond, sym, ◌∙◌, ap, subst, append_assoc, ◌+◌, length, take, get_or, append-nil}
 use Rattle.std.specs.Prelude.{filter, Contains, Result, Ok, Err, ⊤, OnOk, OnErr}
 use Rattle.std.specs.List.Sorted.{IsPermutation}
 use Rattle.std.proofs.lemmas.List.Sorted.{IsPermutation-refl, IsPermutation-sym, IsPermutation-trans, IsPermutation-middle, IsPermutation-cons, IsPermutation-append_comm, IsPermutation-append_left, IsPermutation-append_right, Contains-permutation}
@@ -8,13 +8,12 @@ use Rattle.tab_key.specs.Records.{Record}
 use Rattle.tab_key.specs.Sorted.{inserted, sorted, IsDistinct}
 use Rattle.tab_key.proofs.Rising.{in_from, in_to, in_sorted, sorted_in, rising_sorted, same_rising}
 use Rattle.tab_key.proofs.Sorting.{distinct_permuted}
-use Rattle.tab_history.specs.Changes.{Posted}
-use Rattle.tab_history.specs.Readings.{numbered}
+use Rattle.tab_cells.specs.Written.{TimedUpdate, records_of}
 use Rattle.tab_iter.specs.Bags.{flat}
-use Rattle.tab_list.proofs.Lists.{append_nil, filter_append}
+use Rattle.tab_cells.proofs.Lists.{filter_append}
 use Rattle.std.proofs.lemmas.List.{take_more}
-use Rattle.tab_list.proofs.Numbered.{distinct_new}
-use Rattle.tab_list.proofs.Written.{contains_first, sorted_contains}
+use Rattle.tab_cells.proofs.Written.{distinct_new}
+use Rattle.tab_cells.proofs.Rising.{contains_first, sorted_contains}
 
 -- ---- sorting
 permuted_inserted : (x : Record) (xs : List Record) → IsPermutation (x ∷ xs) (inserted x xs)
@@ -51,7 +50,7 @@ frozen_sorted active runs d = sorted_once (active ++ runs) (runs ++ sorted activ
 
 -- the runs with one more
 pub flat_more : (xss : List (List Record)) (xs : List Record) → flat (xss ++ xs ∷ []) ≡ flat xss ++ xs
-flat_more [] xs = append_nil xs
+flat_more [] xs = append-nil xs
 flat_more (ys ∷ xss) xs = ap (λ l. ys ++ l) (flat_more xss xs) ∙ sym (append_assoc ys (flat xss) xs)
 
 -- ---- parts of the runs
@@ -64,9 +63,9 @@ parts_more p runs clips more i run part lt is of before after =
     ∙ ap (filter p) (sym (ap flat (take_more runs i run lt ∙ ap (λ x. take i runs ++ x ∷ []) (sym is)) ∙ flat_more (take i runs) run))
 
 -- ---- a write
-module _ (seq : ℕ) (row : List ℕ) (ps : List Posted) (active runs : List Record) (below : (u : Record) → Contains (sorted (active ++ runs)) u → u.seq < seq) (d : IsDistinct (active ++ runs)) where
+module _ (seq : ℕ) (row : List ℕ) (ps : List TimedUpdate) (active runs : List Record) (below : (u : Record) → Contains (sorted (active ++ runs)) u → u.seq < seq) (d : IsDistinct (active ++ runs)) where
   abbrev added : List Record
-  added = numbered seq row ps
+  added = records_of seq row ps
 
   pub active_below : (u : Record) → Contains active u → u.seq < seq
   active_below u c = below u (contains_first active runs u c)
@@ -87,7 +86,7 @@ module _ (seq : ℕ) (row : List ℕ) (ps : List Posted) (active runs : List Rec
       ∙ sorted_once (added ++ (active ++ runs)) (added ++ sorted (active ++ runs)) all_distinct (IsPermutation-append_right added (active ++ runs) (sorted (active ++ runs)) (permuted_sorted (active ++ runs)))
 
 -- whether a mutation went in or not
-pub distinct_after : {E : Type 0} (seq : ℕ) (row : List ℕ) (ps : List Posted) (active runs : List Record) → ((u : Record) → Contains (sorted (active ++ runs)) u → u.seq < seq) → IsDistinct (active ++ runs)
-    → (new : List Record) (r : Result ⊤ E) → OnOk r (new ≡ active ++ numbered seq row ps) → OnErr r (new ≡ active) → IsDistinct (new ++ runs)
+pub distinct_after : {E : Type 0} (seq : ℕ) (row : List ℕ) (ps : List TimedUpdate) (active runs : List Record) → ((u : Record) → Contains (sorted (active ++ runs)) u → u.seq < seq) → IsDistinct (active ++ runs)
+    → (new : List Record) (r : Result ⊤ E) → OnOk r (new ≡ active ++ records_of seq row ps) → OnErr r (new ≡ active) → IsDistinct (new ++ runs)
 distinct_after seq row ps active runs below d new (Ok x) ok err = subst (λ l. IsDistinct (l ++ runs)) (sym ok) (written_distinct seq row ps active runs below d)
 distinct_after seq row ps active runs below d new (Err e) ok err = subst (λ l. IsDistinct (l ++ runs)) (sym err) d

@@ -10,14 +10,14 @@ use Rattle.tab_key.specs.declared.column.Column.{Column}
 use Rattle.tab_key.specs.declared.range.Bounds.{Bounds}
 use Rattle.tab_label.specs.Holding.{label_holds}
 use Rattle.tab_key.proofs.Rising.{rising_sorted, distinct_filter}
-use Rattle.tab_history.proofs.Held.{rising_distinct}
-use Rattle.tab_history.specs.Cells.{Query, matches, is_shown, cells}
+use Rattle.tab_cells.proofs.Rising.{rising_distinct, sorted_rising}
+use Rattle.tab_cells.specs.Cells.{Query, matches, is_shown, cells}
 use Rattle.tab_iter.specs.Layers.{is_left, is_among}
 use Rattle.tab_iter.specs.Stack.{query_of}
-use Rattle.tab_iter.specs.BagLaws.{sorted_filter}
-use Rattle.tab_iter.specs.StackLaws.{stack_chain, stack_cells}
-use Rattle.tab_list.proofs.Lists.{and_false, sorted_rising}
-use Rattle.tab_list.proofs.Rows.{filter_seen, kept_seen}
+use Rattle.tab_iter.proofs.BagLaws.{sorted_filter}
+use Rattle.tab_iter.proofs.StackLaws.{stack_chain, stack_cells}
+use Rattle.tab_cells.proofs.Lists.{and_false, filter_seen}
+use Rattle.tab_cells.proofs.RowsInRange.{kept_seen}
 
 -- the records in another order show the same
 cells_sorted : (us : List Record) (n : ℕ) (columns : List Column) (auths : List (List ℕ)) → IsDistinct us → cells us n (query_of columns auths) ≡ cells (sorted us) n (query_of columns auths)

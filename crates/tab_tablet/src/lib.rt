@@ -15,6 +15,3 @@ mod freezing;
 mod tablet;
 
 pub use tablet::Tablet;
-
-#[cfg(test)]
-mod tests;

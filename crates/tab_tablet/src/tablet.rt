@@ -1,12 +1,9 @@
 //! The tablet.
-ghost use Rattle.std.specs.Prelude.{◌≡◌, ◌<◌, ◌++◌, ℕ, List, [], map, reverse, IfOk, OnOk, OnErr, Contains};
+ghost use Rattle.std.specs.Prelude.{◌≡◌, ◌<◌, ◌++◌, [], IfOk, OnOk, OnErr, Contains};
 ghost use Rattle.tab_key.specs.Records.{Record as Fields};
 ghost use Rattle.tab_key.specs.Sorted.{sorted};
-ghost use Rattle.tab_key.specs.declared.column.Column.{Column};
-ghost use Rattle.tab_history.specs.Changes.{posted};
-ghost use Rattle.tab_history.specs.Readings.{numbered};
-ghost use Rattle.tab_history.specs.Cells.{cells};
-ghost use Rattle.tab_iter.specs.Stack.{query_of};
+ghost use Rattle.tab_cells.specs.Written.{mutation_records};
+ghost use Rattle.tab_tablet.specs.Opened.{ShowsRowsOf};
 
 use crate::clipping::clips_in;
 use crate::freezing::freeze;
@@ -54,7 +51,7 @@ impl Tablet {
     /// `AllocError` leaves all as it was: the mutation goes in whole or not at all.
     pub fn write(&mut self, mutation: &Mutation, seq: u64, clock: i64) -> Result<(), AllocError>
         requires unused { (u : Fields) → Contains self.old u → u.seq < seq }
-        ensures ok { OnOk result (self.new ≡ sorted (numbered seq mutation.now.row (reverse (map (posted clock) mutation.now.updates)) ++ self.old)) }
+        ensures ok { OnOk result (self.new ≡ sorted (mutation_records seq clock mutation.now ++ self.old)) }
         ensures err { OnErr result (self.new ≡ self.old) }
     {
         self.active.write(mutation, seq, clock)
@@ -65,7 +62,7 @@ impl Tablet {
     /// It takes memory for the new run and for one clip a run; the records are shared. `AllocError` loses no record.
     pub fn open(&mut self, alloc: Global, bounds: &Bounds) -> Result<Version, AllocError>
         ensures same { self.new ≡ self.old }
-        ensures answers { IfOk result (λ v. (n : ℕ) (columns : List Column) (auths : List (List ℕ)) → cells v n (query_of columns auths) ≡ cells self.old n (record { bounds = bounds.now; columns = columns; authorizations = auths })) }
+        ensures answers { IfOk result (λ v. ShowsRowsOf bounds.now self.old v) }
     {
         freeze(alloc, &mut self.active, &mut self.runs)?;
         let clips = clips_in(alloc, &self.runs, bounds)?;

@@ -1,1 +1,2 @@
 pub mod Clips
+pub mod Shown

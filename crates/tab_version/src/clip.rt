@@ -1,7 +1,7 @@
 //! Parts of shared runs.
 ghost use Rattle.std.specs.Prelude.{◌≡◌, ◌==◌, IfOk, length, filter};
 ghost use Rattle.tab_key.specs.Ranges.{is_in_range};
-ghost use Rattle.tab_mem.specs.Lists.{IsRising};
+ghost use Rattle.tab_iter.specs.Lists.{IsRising};
 
 use std::alloc::AllocError;
 use std::marker::Model;
@@ -71,8 +71,6 @@ impl Clip {
         ensures len { result ≡ length self.now }
         ensures rising { IsRising self.now }
     {
-        // this tells the proof that the records rise
-        let _records = self.run.len();
         self.end - self.from
     }
 

@@ -10,7 +10,4 @@ mod clip;
 mod version;
 
 pub use clip::Clip;
-pub use version::Version;
-
-#[cfg(test)]
-mod tests;
+pub use version::{Stack, Version};

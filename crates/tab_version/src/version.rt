@@ -1,18 +1,24 @@
 //! Clips of several runs.
-ghost use Rattle.std.specs.Prelude.{◌≡◌, true, filter, map, IfOk};
-ghost use Rattle.tab_key.specs.Sorted.{sorted, IsDistinct};
+ghost use Rattle.std.specs.Prelude.{◌≡◌, map, IfOk};
+ghost use Rattle.tab_key.specs.KeyOf.{key_of};
+ghost use Rattle.tab_key.specs.Sorted.{IsDistinct};
 ghost use Rattle.tab_key.specs.Records.{cell_of};
-ghost use Rattle.tab_history.specs.Cells.{is_shown, cells};
+ghost use Rattle.tab_cells.specs.Cells.{cells};
 ghost use Rattle.tab_iter.specs.Bags.{flat};
+ghost use Rattle.tab_iter.specs.Lists.{from_key};
 ghost use Rattle.tab_iter.specs.Stack.{query_of};
+ghost use Rattle.tab_version.specs.Shown.{shown};
 
 use crate::Clip;
 use std::alloc::{AllocError, Global};
 use std::marker::Model;
-use tab_iter::{NoMemory, Source, Stack, stack_of, unread_stack_of};
-use tab_key::Column;
+use tab_iter::{NoMemory, Source, stack_from, stack_of};
+use tab_key::{Column, Key};
 use tab_label::AuthSet;
 use tab_mem::RunCursor;
+
+/// What a scan of a version reads: the layers over a cursor for each clip.
+pub type Stack<'a> = tab_iter::Stack<'a, RunCursor<'a>>;
 
 /// What a session reads: clips of shared runs, as they stood. No two records stand at one place. A contract sees the records of
 /// all clips, one clip after another.
@@ -52,31 +58,32 @@ impl Version {
         columns: &'a [Column],
         auths: &'a AuthSet,
         versions: u32,
-    ) -> Result<Stack<'a, RunCursor<'a>>, NoMemory>
-        ensures shown { IfOk result (λ s. ⟦<Stack<'a, RunCursor<'a>> as Source>⟧.whole s ≡ sorted (filter (is_shown self.now versions (query_of columns.now auths.now)) self.now)) }
-        ensures cells { IfOk result (λ s. map cell_of (⟦<Stack<'a, RunCursor<'a>> as Source>⟧.whole s) ≡ cells self.now versions (query_of columns.now auths.now)) }
-        ensures at_start { IfOk result (λ s. ⟦<Stack<'a, RunCursor<'a>> as Source>⟧.rest s ≡ ⟦<Stack<'a, RunCursor<'a>> as Source>⟧.whole s) }
+    ) -> Result<Stack<'a>, NoMemory>
+        ensures shown { IfOk result (λ s. ⟦<Stack<'a> as Source>⟧.whole s ≡ shown self.now versions columns.now auths.now) }
+        ensures cells { IfOk result (λ s. map cell_of (⟦<Stack<'a> as Source>⟧.whole s) ≡ cells self.now versions (query_of columns.now auths.now)) }
+        ensures at_start { IfOk result (λ s. ⟦<Stack<'a> as Source>⟧.rest s ≡ ⟦<Stack<'a> as Source>⟧.whole s) }
     {
         let cursors = cursors_of(alloc, &self.clips)?;
         stack_of(alloc, cursors, columns, auths, versions)
     }
 
-    /// The same records, of which nothing was read: there is no top before a seek. A scan that goes on from a key begins so, since
-    /// nothing before the key is read then.
+    /// The same stack, standing at the first record shown whose key isn't before this one. Nothing before the key's column is
+    /// read.
     ///
     /// NoMemory comes only from want of memory.
-    pub fn unread_stack<'a>(
+    pub fn stack_from<'a>(
         &'a self,
         alloc: Global,
         columns: &'a [Column],
         auths: &'a AuthSet,
         versions: u32,
-    ) -> Result<Stack<'a, RunCursor<'a>>, NoMemory>
-        ensures shown { IfOk result (λ s. ⟦<Stack<'a, RunCursor<'a>> as Source>⟧.whole s ≡ sorted (filter (is_shown self.now versions (query_of columns.now auths.now)) self.now)) }
-        ensures lost { IfOk result (λ s. ⟦<Stack<'a, RunCursor<'a>> as Source>⟧.is_lost s ≡ true) }
+        key: Key<'_>,
+    ) -> Result<Stack<'a>, NoMemory>
+        ensures shown { IfOk result (λ s. ⟦<Stack<'a> as Source>⟧.whole s ≡ shown self.now versions columns.now auths.now) }
+        ensures from_key { IfOk result (λ s. ⟦<Stack<'a> as Source>⟧.rest s ≡ from_key (key_of key.entry) (⟦<Stack<'a> as Source>⟧.whole s)) }
     {
         let sources = cursors_of(alloc, &self.clips)?;
-        unread_stack_of(alloc, sources, columns, auths, versions)
+        stack_from(alloc, sources, columns, auths, versions, key)
     }
 }
 

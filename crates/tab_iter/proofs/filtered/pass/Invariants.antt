@@ -1,3 +1,4 @@
+-- What stays true while the records before the key are passed.
 use Rattle.std.proofs.Common.{◌≡◌, length}
 use Rattle.tab_key.specs.KeyOf.{key_of}
 use Rattle.tab_iter.specs.Lists.{from_key}
@@ -8,7 +9,7 @@ invariant-loop-record g l = record {
   whole : g.S.Source.whole l.source ≡ g.S.Source.whole l.initial.source;
   same : g.R.Rule.admits l.rule ≡ g.R.Rule.admits l.initial.rule;
   rest : from_key (key_of l.key) (g.S.Source.rest l.source) ≡ from_key (key_of l.key) (g.S.Source.rest l.initial.source);
-  tied : ∥ g.R.Rule.IsTied l.rule (g.S.Source.whole l.initial.source) (g.S.Source.rest l.source) ∥₁;
+  observed : ∥ g.R.Rule.HasObserved l.rule (g.S.Source.whole l.initial.source) (g.S.Source.rest l.source) ∥₁;
 }
 
 abbrev pub decreases-loop-record : goal.decreases-loop-record

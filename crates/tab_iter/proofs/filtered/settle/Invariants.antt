@@ -1,3 +1,4 @@
+-- What stays true while the records held back are passed.
 use Rattle.std.proofs.Common.{◌≡◌, length, filter}
 use Rattle.tab_iter.proofs.filtered.settle.Given as goal
 
@@ -6,7 +7,7 @@ invariant-loop-record g l = record {
   whole : g.S.Source.whole l.source ≡ g.S.Source.whole l.initial.source;
   same : g.R.Rule.admits l.rule ≡ g.R.Rule.admits l.initial.rule;
   rest : filter (g.R.Rule.admits l.initial.rule (g.S.Source.whole l.initial.source)) (g.S.Source.rest l.source) ≡ filter (g.R.Rule.admits l.initial.rule (g.S.Source.whole l.initial.source)) (g.S.Source.rest l.initial.source);
-  tied : ∥ g.R.Rule.IsTied l.rule (g.S.Source.whole l.initial.source) (g.S.Source.rest l.source) ∥₁;
+  observed : ∥ g.R.Rule.HasObserved l.rule (g.S.Source.whole l.initial.source) (g.S.Source.rest l.source) ∥₁;
 }
 
 abbrev pub decreases-loop-record : goal.decreases-loop-record

@@ -1,7 +1,8 @@
+-- The tests of all layers together are the definition of what is shown.
 use Rattle.std.proofs.Common.{map}
 use Rattle.tab_iter.specs.Bags.{flat}
 use Rattle.tab_iter.specs.Stack.{query_of}
-use Rattle.tab_iter.specs.StackLaws.{stack_chain, stack_cells}
+use Rattle.tab_iter.proofs.StackLaws.{stack_chain, stack_cells}
 use Rattle.tab_iter.proofs.layers.stack_of.Goals as goal
 
 pub returns-clause-shown : goal.returns-clause-shown

@@ -1,3 +1,4 @@
+-- All steps rise, or one doesn't.
 use Rattle.std.proofs.Common.{arith, ap, refl, sym, ◌∙◌}
 use mathlib.Core.Bool.{true≢false}
 use Rattle.std.specs.Ordering.{is_lt}

@@ -1,3 +1,4 @@
+-- The steps up to here rise.
 use Rattle.std.proofs.Common.{ℕ, ◌<◌}
 use Rattle.tab_iter.proofs.Steps.{IsStep}
 use Rattle.tab_iter.proofs.list_source.is_rising.Given as goal

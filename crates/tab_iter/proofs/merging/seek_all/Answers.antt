@@ -1,7 +1,8 @@
+-- One source more has sought.
 use Rattle.std.proofs.Common.{◌<◌, length, arith}
 use Rattle.tab_key.specs.KeyOf.{key_of}
 use Rattle.tab_iter.specs.Lists.{from_key}
-use Rattle.tab_iter.specs.MergingLaws.{seek_whole, seek_step, seek_done}
+use Rattle.tab_iter.proofs.MergingLaws.{seek_whole, seek_step, seek_done}
 use Rattle.tab_iter.proofs.merging.seek_all.Goals as goal
 
 pub returns-in_err-seek-clause-whole : goal.returns-in_err-seek-clause-whole

@@ -1,3 +1,4 @@
+-- The sources up to here have sought.
 use Rattle.std.proofs.Common.{◌≡◌, ℕ, ◌<◌, [], map, get_or}
 use Rattle.tab_key.specs.KeyOf.{key_of}
 use Rattle.tab_iter.specs.Lists.{from_key}

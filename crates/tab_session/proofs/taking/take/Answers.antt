@@ -1,6 +1,6 @@
 use Rattle.std.proofs.Common.{◌≡◌, sym, ◌∙◌, ap, take, drop, map, arith}
 use Rattle.tab_key.specs.Records.{cell_of}
-use Rattle.tab_iter.specs.ListSourceLaws.{tail_drop}
+use Rattle.tab_iter.proofs.ListSourceLaws.{tail_drop}
 use Rattle.tab_iter.specs.Lists.{tail}
 use Rattle.tab_session.proofs.Taken.{takes_one, all_taken, all_passed}
 use Rattle.tab_session.proofs.taking.take.Goals as goal

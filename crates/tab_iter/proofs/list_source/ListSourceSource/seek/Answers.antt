@@ -1,5 +1,6 @@
+-- A seek passes the records before the key.
 use Rattle.tab_key.specs.KeyOf.{key_of}
-use Rattle.tab_iter.specs.ListSourceLaws.{lands_key}
+use Rattle.tab_iter.proofs.ListSourceLaws.{lands_key}
 use Rattle.tab_iter.proofs.list_source.ListSourceSource.seek.Goals as goal
 
 pub returns-clause-rest : goal.returns-clause-rest

@@ -1,10 +1,11 @@
+-- What each source has left from the key on is, merged, what the merged list has.
 use Rattle.std.proofs.Common.{subst, ap, ◌∙◌, map, length, arith}
 use Rattle.tab_key.specs.KeyOf.{key_of}
 use Rattle.tab_key.specs.Sorted.{sorted}
 use Rattle.tab_iter.specs.Lists.{from_key}
-use Rattle.tab_iter.specs.Bags.{flat, Falls, Covers}
-use Rattle.tab_iter.specs.BagLaws.{sought_key, each_rises}
-use Rattle.tab_iter.specs.MergingLaws.{synced_key, distinct_same, kept}
+use Rattle.tab_iter.specs.Bags.{flat, IsDescending, Covers}
+use Rattle.tab_iter.proofs.BagLaws.{sought_key, each_rises}
+use Rattle.tab_iter.proofs.MergingLaws.{synced_key, distinct_same, kept}
 use Rattle.tab_iter.proofs.merging.MergingSource.seek.Goals as goal
 
 pub invariant_of-self-2 : goal.invariant_of-self-2
@@ -14,8 +15,8 @@ invariant_of-self-2 g c =
     let w = ap (map g.S.Source.whole) e ∙ c.seek_all.ensures.whole ∙ ap (map g.S.Source.whole) v in
     record {
       distinct = distinct_same (map g.S.Source.whole c.args.self.now.sources.items) _ w c.args.self.now.distinct;
-      synced = λ _. synced_key (key_of c.args.key) _ (map g.S.Source.whole c.args.self.now.sources.items) _ (ap (map g.S.Source.rest) e ∙ c.in_ok-seek_all.ensures.rest ∙ ap (λ l. map (from_key (key_of c.args.key)) (map g.S.Source.whole l)) v) w (each_rises g.S.Source.whole g.met.S.Source.rises c.args.self.now.sources.items) c.args.self.now.distinct;
-      falls = λ _. subst (λ l. Falls (map g.S.Source.rest l) c.put_all.new.order.items) c.deref.ensures.value c.in_ok-put_all.ensures.falls;
+      synced = λ _. synced_key (key_of c.args.key) _ (map g.S.Source.whole c.args.self.now.sources.items) _ (ap (map g.S.Source.rest) e ∙ c.in_ok-seek_all.ensures.rest ∙ ap (λ l. map (from_key (key_of c.args.key)) (map g.S.Source.whole l)) v) w (each_rises g.S.Source.whole g.met.S.Source.whole_rises c.args.self.now.sources.items) c.args.self.now.distinct;
+      descending = λ _. subst (λ l. IsDescending (map g.S.Source.rest l) c.put_all.new.order.items) c.deref.ensures.value c.in_ok-put_all.ensures.descending;
       covers = λ _. subst (λ l. Covers (map g.S.Source.rest l) c.put_all.new.order.items) c.deref.ensures.value c.in_ok-put_all.ensures.covers;
     }
 
@@ -26,4 +27,4 @@ returns-clause-rest g c =
     ap (λ l. sorted (flat (map g.S.Source.rest l))) e
     ∙ ap (λ l. sorted (flat l)) c.in_ok-seek_all.ensures.rest
     ∙ ap (λ l. sorted (flat (map (from_key (key_of c.args.key)) (map g.S.Source.whole l)))) v
-    ∙ sought_key (key_of c.args.key) (map g.S.Source.whole c.args.self.now.sources.items) (each_rises g.S.Source.whole g.met.S.Source.rises c.args.self.now.sources.items) c.args.self.now.distinct
+    ∙ sought_key (key_of c.args.key) (map g.S.Source.whole c.args.self.now.sources.items) (each_rises g.S.Source.whole g.met.S.Source.whole_rises c.args.self.now.sources.items) c.args.self.now.distinct

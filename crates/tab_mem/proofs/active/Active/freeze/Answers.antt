@@ -1,9 +1,7 @@
 use Rattle.std.proofs.Common.{subst, sym}
-use Rattle.std.specs.List.Sorted.{IsStrictlySortedBy}
-use Rattle.tab_key.specs.Order.{record_cmp}
-use Rattle.tab_key.proofs.Rising.{rising_sorted}
+use Rattle.tab_mem.specs.Lists.{IsRun}
+use Rattle.tab_mem.proofs.Written.{active_sorted}
 use Rattle.tab_mem.proofs.active.Active.freeze.Goals as goal
 
-pub of-requires : goal.of-requires
-of-requires c =
-    subst (IsStrictlySortedBy record_cmp) (sym c.in_ok-sorted_copy.ensures) (rising_sorted c.self.inside.records c.self.invariant)
+pub invariant_of-new : goal.invariant_of-new
+invariant_of-new c = subst IsRun (sym c.in_ok-records.ensures) (active_sorted c.self.inside.records c.self.invariant)

@@ -1,6 +1,6 @@
 use Rattle.std.proofs.Common.{◌≡◌, ◌∙◌, ap, ◌++◌, ◌∷◌, []}
 use Rattle.std.specs.Prelude.{map}
-use Rattle.tab_key.specs.Places.{record_in}
+use Rattle.tab_key.specs.RecordSpans.{record_in}
 use Rattle.tab_key.proofs.Bodies.{pushed_within, pushed_records, same_records, at_err}
 use Rattle.tab_mem.proofs.packed.Packed.push.Goals as goal
 
@@ -11,7 +11,7 @@ returns-in_err-place-clause-err c =
 
 pub invariant_of-self-2 : goal.invariant_of-self-2
 invariant_of-self-2 c =
-    pushed_within _ _ _ _ c.in_ok-place.place (c.push_reserved.ensures.items ∙ ap (λ xs. xs ++ c.in_ok-place.place ∷ []) c.in_ok-reserve.ensures.items) c.append_copy.ensures.front c.self.invariant c.in_ok-place.ensures.place
+    pushed_within _ _ _ _ c.in_ok-place.place (c.push_reserved.ensures.items ∙ ap (λ xs. xs ++ c.in_ok-place.place ∷ []) c.in_ok-reserve.ensures.items) c.append_copy.ensures.front c.self.invariant c.in_ok-place.ensures.within
 
 pub returns-clause-ok : goal.returns-clause-ok
 returns-clause-ok c =

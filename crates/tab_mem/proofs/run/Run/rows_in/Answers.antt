@@ -4,4 +4,4 @@ use Rattle.tab_mem.proofs.run.Run.rows_in.Goals as goal
 
 pub returns-clause-rows : goal.returns-clause-rows
 unfolding from_start
-returns-clause-rows c = part_in_rows c.args.bounds.now c.args.self.now c.first_at-first.result c.past_rows-past.result c.args.from c.args.end c.first_at-first.ensures.found c.past_rows-past.ensures.rows
+returns-clause-rows c = rw (← c.self.view_is) (part_in_rows c.args.bounds.now c.self.inside.records c.first_at-first.result c.past_rows-past.result c.args.from c.args.end c.first_at-first.ensures.found c.past_rows-past.ensures.rows)

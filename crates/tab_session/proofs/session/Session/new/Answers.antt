@@ -1,4 +1,4 @@
-use Rattle.tab_session.proofs.Held.{begins}
+use Rattle.tab_session.proofs.Batches.{begins}
 use Rattle.tab_session.proofs.session.Session.new.Goals as goal
 
 pub returns : goal.returns

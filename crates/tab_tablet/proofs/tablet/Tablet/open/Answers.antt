@@ -5,7 +5,7 @@ use Rattle.tab_key.specs.Ranges.{is_in_range}
 use Rattle.tab_key.proofs.Rising.{distinct_filter}
 use Rattle.tab_iter.specs.Bags.{flat}
 use Rattle.tab_iter.specs.Stack.{query_of}
-use Rattle.tab_history.specs.Cells.{cells}
+use Rattle.tab_cells.specs.Cells.{cells}
 use Rattle.tab_tablet.proofs.Gathered.{frozen_distinct, frozen_sorted}
 use Rattle.tab_tablet.proofs.Shown.{cells_open}
 use Rattle.tab_tablet.proofs.tablet.Tablet.open.Goals as goal

@@ -3,8 +3,7 @@ use Rattle.std.specs.Prelude.{Contains}
 use Rattle.std.proofs.lemmas.Result.{on_ok_weaker}
 use Rattle.tab_key.specs.Records.{Record}
 use Rattle.tab_key.specs.Sorted.{sorted}
-use Rattle.tab_history.specs.Changes.{posted}
-use Rattle.tab_history.specs.Readings.{numbered}
+use Rattle.tab_cells.specs.Written.{timed, records_of}
 use Rattle.tab_iter.specs.Bags.{flat}
 use Rattle.tab_tablet.proofs.Gathered.{active_below, written_sorted, distinct_after}
 use Rattle.tab_tablet.proofs.tablet.Tablet.write.Goals as goal
@@ -27,6 +26,6 @@ returns-clause-ok c =
     let trip : to_z w64 (of_z w64 c.args.clock) ≡ c.args.clock = search rules in
     let below : (u : Record) → Contains (sorted (c.self.inside.active ++ runs)) u → u.seq < seq = subst (λ rs. (u : Record) → Contains rs u → u.seq < seq) (sym c.self.view_is) c.requires.unused in
     on_ok_weaker c.write.result
-    (λ e. ap (λ rs. sorted (rs ++ runs)) e ∙ written_sorted seq row (reverse (map (posted (to_z w64 (of_z w64 c.args.clock))) us)) c.self.inside.active runs below c.self.invariant
-    ∙ (λ i. sorted (numbered seq row (reverse (map (posted (trip i)) us)) ++ c.self.view_is i)))
+    (λ e. ap (λ rs. sorted (rs ++ runs)) e ∙ written_sorted seq row (reverse (map (timed (to_z w64 (of_z w64 c.args.clock))) us)) c.self.inside.active runs below c.self.invariant
+    ∙ (λ i. sorted (records_of seq row (reverse (map (timed (trip i)) us)) ++ c.self.view_is i)))
     c.write.ensures.ok

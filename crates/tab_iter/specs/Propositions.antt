@@ -1,0 +1,32 @@
+-- What ghost fields hold are propositions: each fact has one proof.
+use Rattle.std.specs.Prelude.{◌≡◌, ℕ, List, [], ◌∷◌, Bool, false}
+use Rattle.std.specs.List.{AllByRecursion-prop}
+use Rattle.std.specs.Coded.{×_prop, Unit-prop, Coded-set, coded_bool}
+use mathlib.Core.HLevel.{Π_prop, ⊥_prop}
+use Rattle.tab_key.specs.Records.{Record}
+use Rattle.tab_key.specs.Sorted.{IsDistinct}
+use Rattle.tab_iter.specs.Lists.{HasI64Timestamps}
+use Rattle.tab_iter.specs.Bags.{IsDescending, Covers}
+use Rattle.tab_iter.specs.Verdicts.{AreSound}
+use Rattle.tab_iter.specs.declared.verdict.Verdict.{Verdict}
+
+pub HasI64Timestamps-prop : (xs : List Record) → IsProp (HasI64Timestamps xs)
+HasI64Timestamps-prop xs = Π_prop λ _. Π_prop λ _. Coded-set coded_bool _ _
+
+pub IsDistinct-prop : (xs : List Record) → IsProp (IsDistinct xs)
+IsDistinct-prop [] = Unit-prop
+IsDistinct-prop (x ∷ xs) = ×_prop (AllByRecursion-prop _ (λ y. Π_prop λ _. ⊥_prop) xs) (IsDistinct-prop xs)
+
+pub IsDescending-prop : (unpositioned : Bool) (xss : List (List Record)) (os : List ℕ) → IsProp (unpositioned ≡ false → IsDescending xss os)
+IsDescending-prop unpositioned xss os = Π_prop λ _. go os
+  where
+    go : (ps : List ℕ) → IsProp (IsDescending xss ps)
+    go [] = Unit-prop
+    go (p ∷ ps) = ×_prop (Coded-set coded_bool _ _) (×_prop (AllByRecursion-prop _ (λ q. ×_prop (Π_prop λ _. ⊥_prop) (Coded-set coded_bool _ _)) ps) (go ps))
+
+pub Covers-prop : (unpositioned : Bool) (xss : List (List Record)) (os : List ℕ) → IsProp (unpositioned ≡ false → Covers xss os)
+Covers-prop unpositioned xss os = Π_prop λ _. Π_prop λ _. Π_prop λ _. Coded-set coded_bool _ _
+
+pub AreSound-prop : (auths : List (List ℕ)) (js : List Verdict) → IsProp (AreSound auths js)
+AreSound-prop auths [] = Unit-prop
+AreSound-prop auths (j ∷ js) = ×_prop (Coded-set coded_bool _ _) (AreSound-prop auths js)

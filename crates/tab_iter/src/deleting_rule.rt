@@ -1,0 +1,50 @@
+//! Which records the markers leave.
+ghost use Rattle.std.specs.Prelude.{◌≡◌, Bool};
+
+use crate::last_column::LastColumn;
+use crate::{NoMemory, Rule};
+use std::alloc::Global;
+use tab_key::{Kind, RecordRef};
+
+/// Holds back the puts that a marker of their column hides, and the markers unless they are kept.
+#[derive(Drop)]
+pub struct DeletingRule {
+    keeps: bool,
+    // the column of the last marker that was passed
+    column: LastColumn,
+}
+
+impl DeletingRule {
+    /// Markers are kept, or held back too.
+    pub fn new(alloc: Global, keeps: bool) -> DeletingRule
+        ensures { result.keeps ≡ keeps }
+    {
+        DeletingRule {
+            keeps,
+            column: LastColumn::none(alloc),
+        }
+    }
+}
+
+impl Rule for DeletingRule {
+    ghost use Rattle.tab_iter.specs.Layers.{is_left};
+    ghost use Rattle.tab_iter.specs.Columns.{KnowsDeleted};
+
+    ghost admits = { λ d. is_left d.keeps };
+
+    ghost HasObserved = { λ d. KnowsDeleted d.column };
+
+    fn reset(&mut self) {
+        self.column.forget();
+    }
+
+    fn observe(&mut self, next: &RecordRef<'_>) -> Result<bool, NoMemory> {
+        match next.kind() {
+            Kind::Put => Ok(!self.column.is_of(next)),
+            Kind::Delete => {
+                let _ = self.column.remember(next)?;
+                Ok(self.keeps)
+            }
+        }
+    }
+}

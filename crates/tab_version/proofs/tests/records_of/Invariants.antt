@@ -1,9 +1,0 @@
-use Rattle.std.proofs.Common.{◌≡◌, ◌+◌, ◌++◌, length}
-use Rattle.tab_mem.specs.Cursors.{whole, rest}
-use Rattle.tab_version.proofs.tests.records_of.Given as goal
-
-abbrev pub invariant-loop : goal.invariant-loop
-invariant-loop l = record {
-  all : l.records.items ++ rest l.cursor ≡ l.clip;
-  many : l.counter + length (rest l.cursor) ≡ length l.clip;
-}
