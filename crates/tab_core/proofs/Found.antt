@@ -10,11 +10,10 @@ use Rattle.tab_key.specs.Bytes.{bytes_cmp}
 use Rattle.tab_policy.specs.Entries.{at_name, changed_at}
 use Rattle.tab_policy.proofs.NameLemmas.{same_name}
 use Rattle.tab_policy.proofs.EntryLemmas.{changed_is}
-use Rattle.tab_history.specs.Settings.{Settings}
 use Rattle.tab_history.specs.Bases.{BaseTable}
 use Rattle.tab_history.specs.Readings.{base_settings, base_records, constrained}
 use Rattle.tab_core.specs.declared.table.Table.{Table}
-use Rattle.tab_core.specs.Tables.{table_settings, as_base, settings_in, records_in, found_settings, found_records, with_constraints, with_records}
+use Rattle.tab_core.specs.Tables.{as_base, settings_in, records_in, found_settings, found_records, with_constraints, with_records}
 
 bytes_sym : (a b : List ℕ) → bytes_eq a b ≡ bytes_eq b a
 bytes_sym a b = elim (bytes_eq a b) as (λ v. bytes_eq a b ≡ v → v ≡ bytes_eq b a) [
@@ -46,35 +45,19 @@ records_found (e ∷ es) q = ap (λ b. base_records (cond b (Some (as_base e)) (
     go false ih = ih
 
 -- ---- a table put in or taken away
-pub settings_put : (old new : List (List ℕ × Table)) (name : List ℕ) (t : Table) → ((q : List ℕ) → at_name q new ≡ cond (bytes_eq name q) (Some t) (at_name q old))
-    → (q : List ℕ) → settings_in (map as_base new) q ≡ cond (bytes_eq name q) (Some (table_settings t)) (settings_in (map as_base old) q)
-settings_put old new name t f q = settings_found new q ∙ ap found_settings (f q) ∙ go (bytes_eq name q)
+pub settings_renewed : (old new : List (List ℕ × Table)) (name : List ℕ) (o : Option Table) → ((q : List ℕ) → at_name q new ≡ cond (bytes_eq name q) o (at_name q old))
+    → (q : List ℕ) → settings_in (map as_base new) q ≡ cond (bytes_eq name q) (found_settings o) (settings_in (map as_base old) q)
+settings_renewed old new name o f q = settings_found new q ∙ ap found_settings (f q) ∙ go (bytes_eq name q)
   where
-    go : (b : Bool) → found_settings (cond b (Some t) (at_name q old)) ≡ cond b (Some (table_settings t)) (settings_in (map as_base old) q)
+    go : (b : Bool) → found_settings (cond b o (at_name q old)) ≡ cond b (found_settings o) (settings_in (map as_base old) q)
     go true = refl
     go false = sym (settings_found old q)
 
-pub records_put : (old new : List (List ℕ × Table)) (name : List ℕ) (t : Table) → ((q : List ℕ) → at_name q new ≡ cond (bytes_eq name q) (Some t) (at_name q old))
-    → (q : List ℕ) → records_in (map as_base new) q ≡ cond (bytes_eq name q) t.records (records_in (map as_base old) q)
-records_put old new name t f q = records_found new q ∙ ap found_records (f q) ∙ go (bytes_eq name q)
+pub records_renewed : (old new : List (List ℕ × Table)) (name : List ℕ) (o : Option Table) → ((q : List ℕ) → at_name q new ≡ cond (bytes_eq name q) o (at_name q old))
+    → (q : List ℕ) → records_in (map as_base new) q ≡ cond (bytes_eq name q) (found_records o) (records_in (map as_base old) q)
+records_renewed old new name o f q = records_found new q ∙ ap found_records (f q) ∙ go (bytes_eq name q)
   where
-    go : (b : Bool) → found_records (cond b (Some t) (at_name q old)) ≡ cond b t.records (records_in (map as_base old) q)
-    go true = refl
-    go false = sym (records_found old q)
-
-pub settings_taken : (old new : List (List ℕ × Table)) (name : List ℕ) → ((q : List ℕ) → at_name q new ≡ cond (bytes_eq name q) None (at_name q old))
-    → (q : List ℕ) → settings_in (map as_base new) q ≡ cond (bytes_eq name q) None (settings_in (map as_base old) q)
-settings_taken old new name f q = settings_found new q ∙ ap found_settings (f q) ∙ go (bytes_eq name q)
-  where
-    go : (b : Bool) → found_settings (cond b None (at_name q old)) ≡ cond b None (settings_in (map as_base old) q)
-    go true = refl
-    go false = sym (settings_found old q)
-
-pub records_taken : (old new : List (List ℕ × Table)) (name : List ℕ) → ((q : List ℕ) → at_name q new ≡ cond (bytes_eq name q) None (at_name q old))
-    → (q : List ℕ) → records_in (map as_base new) q ≡ cond (bytes_eq name q) [] (records_in (map as_base old) q)
-records_taken old new name f q = records_found new q ∙ ap found_records (f q) ∙ go (bytes_eq name q)
-  where
-    go : (b : Bool) → found_records (cond b None (at_name q old)) ≡ cond b [] (records_in (map as_base old) q)
+    go : (b : Bool) → found_records (cond b o (at_name q old)) ≡ cond b (found_records o) (records_in (map as_base old) q)
     go true = refl
     go false = sym (records_found old q)
 

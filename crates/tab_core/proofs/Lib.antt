@@ -1,13 +1,13 @@
 pub mod Acting
-pub mod Dropping
+pub mod Cores
 pub mod Found
 pub mod Limits
-pub mod Making
 pub mod Opening
 pub mod OwnerLemmas
-pub mod RightActs
+pub mod PolicyActs
 pub mod Runs
 pub mod SlotLemmas
 pub mod Steps
-pub mod UserActs
+pub mod TableActs
+pub mod Writing
 pub mod Picked

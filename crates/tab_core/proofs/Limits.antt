@@ -8,10 +8,10 @@ use Rattle.tab_label.specs.Machine.{State, start, step, ending}
 use Rattle.tab_label.specs.Reading.{ended, next, reads_on, label_of}
 use Rattle.tab_label.specs.Holding.{judged, read_judged}
 use Rattle.tab_mutation.specs.Mutations.{Update, Mutation}
-use Rattle.tab_mutation.specs.declared.misshape.Misshape.{Misshape}
+use Rattle.tab_mutation.specs.declared.shape_error.ShapeError.{ShapeError}
 use Rattle.tab_key.specs.declared.part.Part.TheVariants as part
-use Rattle.tab_mutation.specs.declared.misshape.Misshape.TheVariants.{TooLarge}
-use Rattle.tab_mutation.specs.Shape.{or_else, first_some, when, first_found, is_too_long, long_name, long_value, empty, oversize, misshape}
+use Rattle.tab_mutation.specs.declared.shape_error.ShapeError.TheVariants.{TooLarge}
+use Rattle.tab_mutation.specs.Shape.{or_else, first_some, when, first_found, is_too_long, long_name, long_value, empty, oversize, shape_error}
 
 -- ---- an offset lies within its text
 reads_within : (bytes : List ℕ) (i : ℕ) (s : State) (n : ℕ) → reads_on bytes i s ≡ Err n → n ≤ i + length bytes
@@ -53,9 +53,9 @@ short text e = grind (arith, nat_tests)
 
 label_short : (k : ℕ) (u : Update) → long_name k u ≡ None → length u.label ≤ 1048576
 label_short k u e =
-    let family : Option Misshape = when (is_too_long u.family) (TooLarge part.Family) in
-    let qualifier : Option Misshape = when (is_too_long u.qualifier) (TooLarge part.Qualifier) in
-    let label : Option Misshape = when (is_too_long u.label) (TooLarge part.Label) in
+    let family : Option ShapeError = when (is_too_long u.family) (TooLarge part.Family) in
+    let qualifier : Option ShapeError = when (is_too_long u.qualifier) (TooLarge part.Qualifier) in
+    let label : Option ShapeError = when (is_too_long u.label) (TooLarge part.Label) in
     let rest = none_right family (or_else qualifier (or_else label None)) e in
     let last = none_right qualifier (or_else label None) rest in
     short u.label (unmet (is_too_long u.label) (TooLarge part.Label) (none_left label None last))
@@ -65,8 +65,8 @@ names_short [] k i d e lt = absurd (omega (arith, lt))
 names_short (u ∷ us) k zero d e lt = label_short k u (none_left (long_name k u) (first_found long_name (k + 1) us) e)
 names_short (u ∷ us) k (suc i) d e lt = names_short us (k + 1) i d (none_right (long_name k u) (first_found long_name (k + 1) us) e) (omega (arith, lt))
 
-pub shaped_labels : (m : Mutation) (i : ℕ) (d : Update) → misshape m ≡ None → i < length m.updates → length (slice_index_or m.updates i d).label ≤ 1048576
-unfolding misshape
+pub shaped_labels : (m : Mutation) (i : ℕ) (d : Update) → shape_error m ≡ None → i < length m.updates → length (slice_index_or m.updates i d).label ≤ 1048576
+unfolding shape_error
 shaped_labels m i d e lt =
     let size = none_right (empty m.updates) (oversize m) e in
     let rows = none_right (when (nat_lt 1000 (length m.updates)) (TooLarge part.Updates)) (first_some (when (is_too_long m.row) (TooLarge part.Row) ∷ first_found long_name 0 m.updates ∷ first_found long_value 0 m.updates ∷ [])) size in

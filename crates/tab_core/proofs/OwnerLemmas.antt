@@ -6,89 +6,89 @@ use Rattle.std.proofs.lemmas.Slice.Eq.{bytes_eq-Decides}
 use Rattle.tab_key.specs.Records.{Cell}
 use Rattle.tab_history.specs.declared.reply.Refusal.TheVariants.{NoMemory, NoSession}
 use Rattle.tab_history.specs.declared.reply.Reply.TheVariants.{Done, Refused, Batch}
-use Rattle.tab_history.specs.Answers.{Told, next_answer, close_answer}
-use Rattle.tab_history.specs.Sessions.{Held, gave, batch}
+use Rattle.tab_history.specs.Answers.{next_answer, close_answer}
+use Rattle.tab_cells.specs.SessionState.{SessionState, gave, batch}
 use Rattle.tab_core.specs.Slots.{slot_at, changed_at, NextFrom, CloseFrom}
 use Rattle.tab_core.specs.Owners.{slots_of, owner_place, LeavesOthers}
 use Rattle.tab_core.specs.declared.running.Owner.{Owner}
 
 -- ---- slots
-slot_past : (ss : List (Option Held)) (at : ℕ) → length ss ≤ at → slot_at ss at ≡ None
+slot_past : (ss : List (Option SessionState)) (at : ℕ) → length ss ≤ at → slot_at ss at ≡ None
 slot_past [] at le = refl
 slot_past (s ∷ ss) zero le = absurd (omega arith)
 slot_past (s ∷ ss) (suc at) le = slot_past ss at (omega arith)
 
-slot_found : (ss : List (Option Held)) (at : ℕ) (s : Option Held) → at < length ss → s ≡ get_or ss at s → slot_at ss at ≡ s
+slot_found : (ss : List (Option SessionState)) (at : ℕ) (s : Option SessionState) → at < length ss → s ≡ get_or ss at s → slot_at ss at ≡ s
 slot_found [] at s lt is = absurd (omega arith)
 slot_found (x ∷ ss) zero s lt is = sym is
 slot_found (x ∷ ss) (suc at) s lt is = slot_found ss at s (omega arith) is
 
-set_same : (ss : List (Option Held)) (at : ℕ) → at < length ss → slice_set ss at (slot_at ss at) ≡ ss
+set_same : (ss : List (Option SessionState)) (at : ℕ) → at < length ss → slice_set ss at (slot_at ss at) ≡ ss
 set_same [] at lt = absurd (omega arith)
 set_same (x ∷ ss) zero lt = refl
 set_same (x ∷ ss) (suc at) lt = ap (λ l. x ∷ l) (set_same ss at (omega arith))
 
-set_changed : (ss : List (Option Held)) (at : ℕ) (f : Option Held → Option Held) → at < length ss → slice_set ss at (f (slot_at ss at)) ≡ changed_at ss at f
+set_changed : (ss : List (Option SessionState)) (at : ℕ) (f : Option SessionState → Option SessionState) → at < length ss → slice_set ss at (f (slot_at ss at)) ≡ changed_at ss at f
 set_changed [] at f lt = absurd (omega arith)
 set_changed (x ∷ ss) zero f lt = refl
 set_changed (x ∷ ss) (suc at) f lt = ap (λ l. x ∷ l) (set_changed ss at f (omega arith))
 
-set_twice : (ss : List (Option Held)) (at : ℕ) (a b : Option Held) → at < length ss → slice_set (slice_set ss at a) at b ≡ slice_set ss at b
+set_twice : (ss : List (Option SessionState)) (at : ℕ) (a b : Option SessionState) → at < length ss → slice_set (slice_set ss at a) at b ≡ slice_set ss at b
 set_twice [] at a b lt = absurd (omega arith)
 set_twice (x ∷ ss) zero a b lt = refl
 set_twice (x ∷ ss) (suc at) a b lt = ap (λ l. x ∷ l) (set_twice ss at a b (omega arith))
 
-set_last : (slots : List (Option Held)) (a b : Option Held) → slice_set (slots ++ a ∷ []) (length slots) b ≡ slots ++ b ∷ []
+set_last : (slots : List (Option SessionState)) (a b : Option SessionState) → slice_set (slots ++ a ∷ []) (length slots) b ≡ slots ++ b ∷ []
 set_last [] a b = refl
 set_last (x ∷ slots) a b = ap (λ l. x ∷ l) (set_last slots a b)
 
-length_more : (slots : List (Option Held)) (a : Option Held) → length (slots ++ a ∷ []) ≡ suc (length slots)
+length_more : (slots : List (Option SessionState)) (a : Option SessionState) → length (slots ++ a ∷ []) ≡ suc (length slots)
 length_more [] a = refl
 length_more (x ∷ slots) a = ap suc (length_more slots a)
 
-pub filled : (ss slots : List (Option Held)) (last : ℕ) (put : Option Held) (held : Held) → ss ≡ slots ++ None ∷ [] → last + 1 ≡ length ss → put ≡ Some held → slice_set ss last put ≡ slots ++ Some held ∷ []
+pub filled : (ss slots : List (Option SessionState)) (last : ℕ) (put : Option SessionState) (held : SessionState) → ss ≡ slots ++ None ∷ [] → last + 1 ≡ length ss → put ≡ Some held → slice_set ss last put ≡ slots ++ Some held ∷ []
 filled ss slots last put held is end put_is =
     let n : length ss ≡ suc (length slots) = ap length is ∙ length_more slots None in
     let at : last ≡ length slots = omega (arith, n, end) in
     (λ i. slice_set (is i) (at i) (put_is i)) ∙ set_last slots None (Some held)
 
-pub next_past : (ss : List (Option Held)) (at n : ℕ) → length ss ≤ at → NextFrom ss at n (Refused (NoSession at)) ss
-next_past ss at n le = record { answers = inl (ap (λ (s : Option Held). next_answer s at n) (sym (slot_past ss at le))); after = refl }
+pub next_past : (ss : List (Option SessionState)) (at n : ℕ) → length ss ≤ at → NextFrom ss at n (Refused (NoSession at)) ss
+next_past ss at n le = record { answers = inl (ap (λ (s : Option SessionState). next_answer s at n) (sym (slot_past ss at le))); after = refl }
 
-pub close_past : (ss : List (Option Held)) (at : ℕ) → length ss ≤ at → CloseFrom ss at (Refused (NoSession at)) ss
-close_past ss at le = record { answers = ap (λ (s : Option Held). close_answer s at) (sym (slot_past ss at le)); after = refl }
+pub close_past : (ss : List (Option SessionState)) (at : ℕ) → length ss ≤ at → CloseFrom ss at (Refused (NoSession at)) ss
+close_past ss at le = record { answers = ap (λ (s : Option SessionState). close_answer s at) (sym (slot_past ss at le)); after = refl }
 
 -- what was taken out is put back
-put_back : (ss : List (Option Held)) (at : ℕ) (s put : Option Held) → at < length ss → slot_at ss at ≡ s → put ≡ s → slice_set ss at put ≡ ss
+put_back : (ss : List (Option SessionState)) (at : ℕ) (s put : Option SessionState) → at < length ss → slot_at ss at ≡ s → put ≡ s → slice_set ss at put ≡ ss
 put_back ss at s put lt found is = ap (slice_set ss at) (is ∙ sym found) ∙ set_same ss at lt
 
-pub next_none : (ss : List (Option Held)) (at n : ℕ) (s put : Option Held) → at < length ss → s ≡ get_or ss at s → s ≡ None → put ≡ None → NextFrom ss at n (Refused (NoSession at)) (slice_set ss at put)
+pub next_none : (ss : List (Option SessionState)) (at n : ℕ) (s put : Option SessionState) → at < length ss → s ≡ get_or ss at s → s ≡ None → put ≡ None → NextFrom ss at n (Refused (NoSession at)) (slice_set ss at put)
 next_none ss at n s put lt is none put_is =
     let found : slot_at ss at ≡ None = slot_found ss at s lt is ∙ none in
-    record { answers = inl (ap (λ (x : Option Held). next_answer x at n) (sym found)); after = put_back ss at None put lt found put_is }
+    record { answers = inl (ap (λ (x : Option SessionState). next_answer x at n) (sym found)); after = put_back ss at None put lt found put_is }
 
-pub close_none : (ss : List (Option Held)) (at : ℕ) (s put : Option Held) → at < length ss → s ≡ get_or ss at s → s ≡ None → put ≡ None → CloseFrom ss at (Refused (NoSession at)) (slice_set ss at put)
+pub close_none : (ss : List (Option SessionState)) (at : ℕ) (s put : Option SessionState) → at < length ss → s ≡ get_or ss at s → s ≡ None → put ≡ None → CloseFrom ss at (Refused (NoSession at)) (slice_set ss at put)
 close_none ss at s put lt is none put_is =
     let found : slot_at ss at ≡ None = slot_found ss at s lt is ∙ none in
-    record { answers = ap (λ (x : Option Held). close_answer x at) (sym found); after = put_back ss at None put lt found put_is }
+    record { answers = ap (λ (x : Option SessionState). close_answer x at) (sym found); after = put_back ss at None put lt found put_is }
 
-pub close_done : (ss : List (Option Held)) (at : ℕ) (s put : Option Held) (held : Held) → at < length ss → s ≡ get_or ss at s → s ≡ Some held → put ≡ None → CloseFrom ss at Done (slice_set ss at put)
+pub close_done : (ss : List (Option SessionState)) (at : ℕ) (s put : Option SessionState) (held : SessionState) → at < length ss → s ≡ get_or ss at s → s ≡ Some held → put ≡ None → CloseFrom ss at Done (slice_set ss at put)
 close_done ss at s put held lt is some put_is =
     let found : slot_at ss at ≡ Some held = slot_found ss at s lt is ∙ some in
-    record { answers = ap (λ (x : Option Held). close_answer x at) (sym found); after = ap (slice_set ss at) put_is ∙ set_changed ss at (λ x. None) lt }
+    record { answers = ap (λ (x : Option SessionState). close_answer x at) (sym found); after = ap (slice_set ss at) put_is ∙ set_changed ss at (λ x. None) lt }
 
-pub next_batch : (ss : List (Option Held)) (at n : ℕ) (s put put' : Option Held) (held after : Held) (cells : List Cell) → at < length ss → s ≡ get_or ss at s → s ≡ Some held
+pub next_batch : (ss : List (Option SessionState)) (at n : ℕ) (s put put' : Option SessionState) (held after : SessionState) (cells : List Cell) → at < length ss → s ≡ get_or ss at s → s ≡ Some held
     → cells ≡ batch held n → after ≡ gave (length (batch held n)) held → put' ≡ Some after → NextFrom ss at n (Batch cells) (slice_set (slice_set ss at put) at put')
 next_batch ss at n s put put' held after cells lt is some batch_is gave_is put_is =
     let found : slot_at ss at ≡ Some held = slot_found ss at s lt is ∙ some in
     let size : length (batch held n) ≡ length cells = ap length (sym batch_is) in
     let set : put' ≡ option_map (gave (length cells)) (slot_at ss at) = put_is ∙ ap Some (gave_is ∙ ap (λ k. gave k held) size) ∙ ap (option_map (gave (length cells))) (sym found) in
     record {
-      answers = inl (ap Batch batch_is ∙ ap (λ (x : Option Held). next_answer x at n) (sym found));
+      answers = inl (ap Batch batch_is ∙ ap (λ (x : Option SessionState). next_answer x at n) (sym found));
       after = set_twice ss at put put' lt ∙ ap (slice_set ss at) set ∙ set_changed ss at (option_map (gave (length cells))) lt;
     }
 
-pub next_refused : (ss : List (Option Held)) (at n : ℕ) (s put put' : Option Held) (held after : Held) → at < length ss → s ≡ get_or ss at s → s ≡ Some held → after ≡ held → put' ≡ Some after
+pub next_refused : (ss : List (Option SessionState)) (at n : ℕ) (s put put' : Option SessionState) (held after : SessionState) → at < length ss → s ≡ get_or ss at s → s ≡ Some held → after ≡ held → put' ≡ Some after
     → NextFrom ss at n (Refused NoMemory) (slice_set (slice_set ss at put) at put')
 next_refused ss at n s put put' held after lt is some same put_is =
     let found : slot_at ss at ≡ Some held = slot_found ss at s lt is ∙ some in
@@ -185,7 +185,7 @@ added_slots os more o empty grown u = ap (λ l. slots_of l u) grown ∙ go os
 
 -- no session, where there is no owner
 pub next_nowhere : (os : List Owner) (user : List ℕ) (slot n : ℕ) → owner_place os user ≡ length os → NextFrom (slots_of os user) slot n (Refused (NoSession slot)) (slots_of os user)
-next_nowhere os user slot n is = subst (λ (ss : List (Option Held)). NextFrom ss slot n (Refused (NoSession slot)) ss) (sym (nowhere os user is)) (record { answers = inl refl; after = refl })
+next_nowhere os user slot n is = subst (λ (ss : List (Option SessionState)). NextFrom ss slot n (Refused (NoSession slot)) ss) (sym (nowhere os user is)) (record { answers = inl refl; after = refl })
 
 pub close_nowhere : (os : List Owner) (user : List ℕ) (slot : ℕ) → owner_place os user ≡ length os → CloseFrom (slots_of os user) slot (Refused (NoSession slot)) (slots_of os user)
-close_nowhere os user slot is = subst (λ (ss : List (Option Held)). CloseFrom ss slot (Refused (NoSession slot)) ss) (sym (nowhere os user is)) (record { answers = refl; after = refl })
+close_nowhere os user slot is = subst (λ (ss : List (Option SessionState)). CloseFrom ss slot (Refused (NoSession slot)) ss) (sym (nowhere os user is)) (record { answers = refl; after = refl })

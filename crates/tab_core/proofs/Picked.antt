@@ -9,8 +9,8 @@ use Rattle.tab_history.specs.Answers.{Told}
 use Rattle.tab_history.specs.Histories.{Entry, World, world_of, is_by, steps_of, journal}
 use Rattle.tab_history.specs.Legal.{Legal}
 use Rattle.tab_history.specs.declared.event.Step.{Step}
-use Rattle.tab_worlds.specs.Hearing.{Heard, is_covered, list_opened, heard}
-use Rattle.tab_worlds.proofs.TwoWorlds.{two_worlds}
+use Rattle.tab_noninterference.specs.Hearing.{Heard, is_covered, list_opened, heard}
+use Rattle.tab_noninterference.proofs.EqualViews.{two_worlds}
 use Rattle.tab_core.specs.Slots.{entries_of, history_of}
 use Rattle.tab_core.specs.Comparing.{those_of, replies_to, covered_replies, IsToldIn, IsTold, LookAlike, TellAlike, Compares}
 

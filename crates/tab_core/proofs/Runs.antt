@@ -14,106 +14,107 @@ use Rattle.tab_history.specs.declared.reply.Reply.{Reply}
 use Rattle.tab_history.specs.declared.reply.Reply.TheVariants.{Done, Refused, Opened, Batch, Rights}
 use Rattle.tab_history.specs.Bases.{Base}
 use Rattle.tab_history.specs.Answers.{Told, told_of, session_of, answer, event_answer, next_answer, close_answer, is_open, moves_by, session_list}
-use Rattle.tab_history.specs.Sessions.{Held, Move, Opening, Taking, Closing, is_full}
+use Rattle.tab_cells.specs.SessionState.{SessionState}
+use Rattle.tab_history.specs.Sessions.{Move, Opening, Taking, Closing, is_full}
 use Rattle.tab_history.specs.Histories.{Entry, World, world_of, world_after, clock_of, clock_at, journal, user_of, moves_of}
 use Rattle.tab_history.specs.Legal.{IsAnswer, IsExhausted}
-use Rattle.tab_history.specs.Standing.{StandsFor}
+use Rattle.tab_history.specs.Refinement.{Refines}
 use Rattle.tab_history.specs.Runs.{IsNoEvent}
 use Rattle.tab_history.proofs.Playing.{unmoved}
 use Rattle.tab_core.specs.Stepping.{Steps, HandsOut}
 use Rattle.tab_core.specs.Slots.{slot_at, are_full, NextFrom, CloseFrom, SlotsAre, entries_of, history_of}
-use Rattle.tab_core.specs.Owners.{slots_of, LeavesOthers, OwnersStand, RunsOn, kept_with, OpensIn}
+use Rattle.tab_core.specs.Owners.{slots_of, LeavesOthers, OwnersRefine, RunsOn, kept_with, OpensIn}
 use Rattle.tab_core.specs.declared.running.Owner.{Owner}
 use Rattle.tab_core.proofs.SlotLemmas.{slots_none, slots_opened, slots_taken, slots_closed, full_alike}
 
 -- ---- whose slots they are
-own_more : (w : World) (h : List Entry) (step : Step) (reply : Told) (os os' : List Owner) → SlotsAre (moves_by w.base (journal w h) step reply ++ moves_of w (user_of step) h) (slots_of os' (user_of step)) → LeavesOthers (user_of step) os os' → OwnersStand os w h
-    → OwnersStand os' w (record { step = step; reply = reply } ∷ h)
+own_more : (w : World) (h : List Entry) (step : Step) (reply : Told) (os os' : List Owner) → SlotsAre (moves_by w.base (journal w h) step reply ++ moves_of w (user_of step) h) (slots_of os' (user_of step)) → LeavesOthers (user_of step) os os' → OwnersRefine os w h
+    → OwnersRefine os' w (record { step = step; reply = reply } ∷ h)
 unfolding moves_of
 own_more w h step reply os os' own others stand u = go (bytes_eq (user_of step) u) refl
   where
     go : (b : Bool) → bytes_eq (user_of step) u ≡ b → SlotsAre (cond b (moves_by w.base (journal w h) step reply ++ moves_of w u h) (moves_of w u h)) (slots_of os' u)
     go true same = subst (λ (n : List ℕ). SlotsAre (moves_by w.base (journal w h) step reply ++ moves_of w n h) (slots_of os' n)) ((bytes_eq-Decides (user_of step) u).0 same) own
-    go false other = subst (λ (ss : List (Option Held)). SlotsAre (moves_of w u h) ss) (sym (others u other)) (stand u)
+    go false other = subst (λ (ss : List (Option SessionState)). SlotsAre (moves_of w u h) ss) (sym (others u other)) (stand u)
 
 -- all stays where there was no event
-still : (w : World) (h : List Entry) (core : Base) (step : Step) (reply : Told) → IsNoEvent step reply → StandsFor (world_of core) (world_after w h) → StandsFor (world_of core) (world_after w (record { step = step; reply = reply } ∷ h))
-still w h core step reply none_opens stands = subst (λ (v : World). StandsFor (world_of core) v) (sym (unmoved w h (record { step = step; reply = reply }) none_opens)) stands
+still : (w : World) (h : List Entry) (core : Base) (step : Step) (reply : Told) → IsNoEvent step reply → Refines (world_of core) (world_after w h) → Refines (world_of core) (world_after w (record { step = step; reply = reply } ∷ h))
+still w h core step reply none_opens refines = subst (λ (v : World). Refines (world_of core) v) (sym (unmoved w h (record { step = step; reply = reply }) none_opens)) refines
 
 -- ---- a Next
-next_slots : (w : World) (j : List Move) (b : Base) (h : List Entry) (user : List ℕ) (slot n : ℕ) (reply : Told) (ss ss' : List (Option Held)) → NextFrom ss slot n reply ss' → SlotsAre j ss → SlotsAre (moves_by b (journal w h) (Next user slot n) reply ++ j) ss'
-next_slots w j b h user slot n (Batch cells) ss ss' from are = subst (λ (l : List (Option Held)). SlotsAre (Taking slot (length cells) ∷ j) l) (sym from.after) (slots_taken j ss slot (length cells) are)
-next_slots w j b h user slot n Done ss ss' from are = subst (λ (l : List (Option Held)). SlotsAre j l) (sym from.after) are
-next_slots w j b h user slot n (Refused r) ss ss' from are = subst (λ (l : List (Option Held)). SlotsAre j l) (sym from.after) are
-next_slots w j b h user slot n (Rights r) ss ss' from are = subst (λ (l : List (Option Held)). SlotsAre j l) (sym from.after) are
-next_slots w j b h user slot n (Opened s) ss ss' from are = subst (λ (l : List (Option Held)). SlotsAre j l) (sym from.after) are
+next_slots : (w : World) (j : List Move) (b : Base) (h : List Entry) (user : List ℕ) (slot n : ℕ) (reply : Told) (ss ss' : List (Option SessionState)) → NextFrom ss slot n reply ss' → SlotsAre j ss → SlotsAre (moves_by b (journal w h) (Next user slot n) reply ++ j) ss'
+next_slots w j b h user slot n (Batch cells) ss ss' from are = subst (λ (l : List (Option SessionState)). SlotsAre (Taking slot (length cells) ∷ j) l) (sym from.after) (slots_taken j ss slot (length cells) are)
+next_slots w j b h user slot n Done ss ss' from are = subst (λ (l : List (Option SessionState)). SlotsAre j l) (sym from.after) are
+next_slots w j b h user slot n (Refused r) ss ss' from are = subst (λ (l : List (Option SessionState)). SlotsAre j l) (sym from.after) are
+next_slots w j b h user slot n (Rights r) ss ss' from are = subst (λ (l : List (Option SessionState)). SlotsAre j l) (sym from.after) are
+next_slots w j b h user slot n (Opened s) ss ss' from are = subst (λ (l : List (Option SessionState)). SlotsAre j l) (sym from.after) are
 
-next_answers : (w : World) (h : List Entry) (user : List ℕ) (slot n : ℕ) (reply : Told) (ss ss' : List (Option Held)) → NextFrom ss slot n reply ss' → SlotsAre (moves_of w user h) ss → IsAnswer w h h (Next user slot n) reply ⊎ IsExhausted reply
+next_answers : (w : World) (h : List Entry) (user : List ℕ) (slot n : ℕ) (reply : Told) (ss ss' : List (Option SessionState)) → NextFrom ss slot n reply ss' → SlotsAre (moves_of w user h) ss → IsAnswer w h h (Next user slot n) reply ⊎ IsExhausted reply
 unfolding answer
 next_answers w h user slot n reply ss ss' from are = go from.answers
   where
     go : (reply ≡ next_answer (slot_at ss slot) slot n) ⊎ (reply ≡ Refused NoMemory) → IsAnswer w h h (Next user slot n) reply ⊎ IsExhausted reply
-    go (inl is) = inl (is ∙ ap (λ (s : Option Held). next_answer s slot n) (sym (are.sessions slot)))
+    go (inl is) = inl (is ∙ ap (λ (s : Option SessionState). next_answer s slot n) (sym (are.sessions slot)))
     go (inr is) = inr (inl is)
 
 pub runs_next : (core : Base) (os os' : List Owner) (user : List ℕ) (slot n : ℕ) (reply : Told) → NextFrom (slots_of os user) slot n reply (slots_of os' user) → LeavesOthers user os os' → RunsOn core os (Next user slot n) reply core os'
-runs_next core os os' user slot n reply from others w h stands stand legal = (
-  still w h core (Next user slot n) reply tt stands,
+runs_next core os os' user slot n reply from others w h refines stand legal = (
+  still w h core (Next user slot n) reply tt refines,
   own_more w h (Next user slot n) reply os os' (next_slots w (moves_of w user h) w.base h user slot n reply (slots_of os user) (slots_of os' user) from (stand user)) others stand,
   (legal, next_answers w h user slot n reply (slots_of os user) (slots_of os' user) from (stand user)),
 )
 
 -- ---- a Close
-close_slots : (w : World) (j : List Move) (b : Base) (h : List Entry) (user : List ℕ) (slot : ℕ) (reply : Told) (ss ss' : List (Option Held)) → CloseFrom ss slot reply ss' → SlotsAre j ss → SlotsAre (moves_by b (journal w h) (Close user slot) reply ++ j) ss'
+close_slots : (w : World) (j : List Move) (b : Base) (h : List Entry) (user : List ℕ) (slot : ℕ) (reply : Told) (ss ss' : List (Option SessionState)) → CloseFrom ss slot reply ss' → SlotsAre j ss → SlotsAre (moves_by b (journal w h) (Close user slot) reply ++ j) ss'
 close_slots w j b h user slot Done ss ss' from are = go (slot_at ss slot) refl
   where
-    go : (s : Option Held) → slot_at ss slot ≡ s → SlotsAre (Closing slot ∷ j) ss'
-    go None none = let is : Done ≡ Refused (NoSession slot) = from.answers ∙ ap (λ (s : Option Held). close_answer s slot) none in absurd (cc is)
-    go (Some held) some = subst (λ (l : List (Option Held)). SlotsAre (Closing slot ∷ j) l) (sym from.after) (slots_closed j ss slot held some are)
-close_slots w j b h user slot (Batch cells) ss ss' from are = subst (λ (l : List (Option Held)). SlotsAre j l) (sym from.after) are
-close_slots w j b h user slot (Refused r) ss ss' from are = subst (λ (l : List (Option Held)). SlotsAre j l) (sym from.after) are
-close_slots w j b h user slot (Rights r) ss ss' from are = subst (λ (l : List (Option Held)). SlotsAre j l) (sym from.after) are
-close_slots w j b h user slot (Opened s) ss ss' from are = subst (λ (l : List (Option Held)). SlotsAre j l) (sym from.after) are
+    go : (s : Option SessionState) → slot_at ss slot ≡ s → SlotsAre (Closing slot ∷ j) ss'
+    go None none = let is : Done ≡ Refused (NoSession slot) = from.answers ∙ ap (λ (s : Option SessionState). close_answer s slot) none in absurd (cc is)
+    go (Some held) some = subst (λ (l : List (Option SessionState)). SlotsAre (Closing slot ∷ j) l) (sym from.after) (slots_closed j ss slot held some are)
+close_slots w j b h user slot (Batch cells) ss ss' from are = subst (λ (l : List (Option SessionState)). SlotsAre j l) (sym from.after) are
+close_slots w j b h user slot (Refused r) ss ss' from are = subst (λ (l : List (Option SessionState)). SlotsAre j l) (sym from.after) are
+close_slots w j b h user slot (Rights r) ss ss' from are = subst (λ (l : List (Option SessionState)). SlotsAre j l) (sym from.after) are
+close_slots w j b h user slot (Opened s) ss ss' from are = subst (λ (l : List (Option SessionState)). SlotsAre j l) (sym from.after) are
 
-close_answers : (w : World) (h : List Entry) (user : List ℕ) (slot : ℕ) (reply : Told) (ss ss' : List (Option Held)) → CloseFrom ss slot reply ss' → SlotsAre (moves_of w user h) ss → IsAnswer w h h (Close user slot) reply ⊎ IsExhausted reply
+close_answers : (w : World) (h : List Entry) (user : List ℕ) (slot : ℕ) (reply : Told) (ss ss' : List (Option SessionState)) → CloseFrom ss slot reply ss' → SlotsAre (moves_of w user h) ss → IsAnswer w h h (Close user slot) reply ⊎ IsExhausted reply
 unfolding answer
-close_answers w h user slot reply ss ss' from are = inl (from.answers ∙ ap (λ (s : Option Held). close_answer s slot) (sym (are.sessions slot)))
+close_answers w h user slot reply ss ss' from are = inl (from.answers ∙ ap (λ (s : Option SessionState). close_answer s slot) (sym (are.sessions slot)))
 
 pub runs_close : (core : Base) (os os' : List Owner) (user : List ℕ) (slot : ℕ) (reply : Told) → CloseFrom (slots_of os user) slot reply (slots_of os' user) → LeavesOthers user os os' → RunsOn core os (Close user slot) reply core os'
-runs_close core os os' user slot reply from others w h stands stand legal = (
-  still w h core (Close user slot) reply tt stands,
+runs_close core os os' user slot reply from others w h refines stand legal = (
+  still w h core (Close user slot) reply tt refines,
   own_more w h (Close user slot) reply os os' (close_slots w (moves_of w user h) w.base h user slot reply (slots_of os user) (slots_of os' user) from (stand user)) others stand,
   (legal, close_answers w h user slot reply (slots_of os user) (slots_of os' user) from (stand user)),
 )
 
 -- ---- an event
 pub runs_nowhere : (core : Base) (os os' : List Owner) (event : Event) → ((u : List ℕ) → slots_of os' u ≡ slots_of os u) → RunsOn core os (IsEvent event) (Refused NoMemory) core os'
-runs_nowhere core os os' event same w h stands stand legal = (
-  still w h core (IsEvent event) (Refused NoMemory) tt stands,
-  own_more w h (IsEvent event) (Refused NoMemory) os os' (subst (λ (l : List (Option Held)). SlotsAre (moves_of w event.user h) l) (sym (same event.user)) (stand event.user)) (λ u away. same u) stand,
+runs_nowhere core os os' event same w h refines stand legal = (
+  still w h core (IsEvent event) (Refused NoMemory) tt refines,
+  own_more w h (IsEvent event) (Refused NoMemory) os os' (subst (λ (l : List (Option SessionState)). SlotsAre (moves_of w event.user h) l) (sym (same event.user)) (stand event.user)) (λ u away. same u) stand,
   (legal, inr (inl refl)),
 )
 
 -- an event that opens no session
-other_slots : (w : World) (j : List Move) (h : List Entry) (event : Event) (reply : Told) (ss : List (Option Held)) → is_open event.act ≡ false → SlotsAre j ss → SlotsAre (moves_by w.base (journal w h) (IsEvent event) reply ++ j) ss
+other_slots : (w : World) (j : List Move) (h : List Entry) (event : Event) (reply : Told) (ss : List (Option SessionState)) → is_open event.act ≡ false → SlotsAre j ss → SlotsAre (moves_by w.base (journal w h) (IsEvent event) reply ++ j) ss
 other_slots w j h event (Batch cells) ss none_opens are = are
 other_slots w j h event Done ss none_opens are = are
 other_slots w j h event (Refused r) ss none_opens are = are
 other_slots w j h event (Rights r) ss none_opens are = are
 other_slots w j h event (Opened s) ss none_opens are = subst (λ (b : Bool). SlotsAre (cond b (Opening (session_list w.base (journal w h) event.act) ∷ []) [] ++ j) ss) (sym none_opens) are
 
-pub runs_other : (old new : Base) (os : List Owner) (event : Event) (r : Reply Held) (reply : Told) → is_open event.act ≡ false → Steps old event r new → reply ≡ told_of r → RunsOn old os (IsEvent event) reply new os
+pub runs_other : (old new : Base) (os : List Owner) (event : Event) (r : Reply SessionState) (reply : Told) → is_open event.act ≡ false → Steps old event r new → reply ≡ told_of r → RunsOn old os (IsEvent event) reply new os
 runs_other old new os event r reply none_opens steps is = subst (λ (x : Told). RunsOn old os (IsEvent event) x new os) (sym is) there
   where
     there : RunsOn old os (IsEvent event) (told_of r) new os
-    there w h stands stand legal = (
-      steps.stands w h stands,
+    there w h refines stand legal = (
+      steps.refines w h refines,
       own_more w h (IsEvent event) (told_of r) os os (other_slots w (moves_of w event.user h) h event (told_of r) (slots_of os event.user) none_opens (stand event.user)) (λ u away. refl) stand,
-      (legal, steps.answers w h stands h (λ opens. absurd (cc (sym none_opens ∙ opens)))),
+      (legal, steps.answers w h refines h (λ opens. absurd (cc (sym none_opens ∙ opens)))),
     )
 
 -- a session that is handed out is kept
-kept_slots : (w : World) (j : List Move) (h : List Entry) (event : Event) (r : Reply Held) (ss : List (Option Held)) → is_open event.act ≡ true → HandsOut r (session_list w.base (journal w h) event.act) → SlotsAre j ss
+kept_slots : (w : World) (j : List Move) (h : List Entry) (event : Event) (r : Reply SessionState) (ss : List (Option SessionState)) → is_open event.act ≡ true → HandsOut r (session_list w.base (journal w h) event.act) → SlotsAre j ss
     → SlotsAre (moves_by w.base (journal w h) (IsEvent event) (told_of r) ++ j) (kept_with ss (session_of r))
 kept_slots w j h event (Batch cells) ss opens hands are = are
 kept_slots w j h event Done ss opens hands are = are
@@ -121,7 +122,7 @@ kept_slots w j h event (Refused x) ss opens hands are = are
 kept_slots w j h event (Rights x) ss opens hands are = are
 kept_slots w j h event (Opened s) ss opens hands are =
     let list : List Cell = session_list w.base (journal w h) event.act in
-    let there : SlotsAre (Opening list ∷ j) (ss ++ Some s ∷ []) = subst (λ (x : Held). SlotsAre (Opening list ∷ j) (ss ++ Some x ∷ [])) (sym hands) (slots_opened j ss list are) in
+    let there : SlotsAre (Opening list ∷ j) (ss ++ Some s ∷ []) = subst (λ (x : SessionState). SlotsAre (Opening list ∷ j) (ss ++ Some x ∷ [])) (sym hands) (slots_opened j ss list are) in
     subst (λ (b : Bool). SlotsAre (cond b (Opening list ∷ []) [] ++ j) (ss ++ Some s ∷ [])) (sym opens) there
 
 full_answer : (w : World) (h : List Entry) (event : Event) → is_open event.act ≡ true → is_full (moves_of w event.user h) ≡ true → IsAnswer w h h (IsEvent event) (Refused (TooLarge Sessions))
@@ -130,35 +131,35 @@ full_answer w h event opens full = sym ((λ i. cond (opens i && full i) (Refused
 
 -- where the slots are full, where memory lacked, and where the core answered
 open_stays : (core : Base) (os os' : List Owner) (event : Event) (x : Refusal) → is_open event.act ≡ true → IsNoEvent (IsEvent event) (Refused x) → ((u : List ℕ) → slots_of os' u ≡ slots_of os u)
-    → ((w : World) (h : List Entry) → OwnersStand os w h → IsAnswer w h h (IsEvent event) (Refused x) ⊎ IsExhausted (Refused x)) → RunsOn core os (IsEvent event) (Refused x) core os'
-open_stays core os os' event x opens none_opens same answers w h stands stand legal = (
-  still w h core (IsEvent event) (Refused x) none_opens stands,
-  own_more w h (IsEvent event) (Refused x) os os' (subst (λ (l : List (Option Held)). SlotsAre (moves_of w event.user h) l) (sym (same event.user)) (stand event.user)) (λ u away. same u) stand,
+    → ((w : World) (h : List Entry) → OwnersRefine os w h → IsAnswer w h h (IsEvent event) (Refused x) ⊎ IsExhausted (Refused x)) → RunsOn core os (IsEvent event) (Refused x) core os'
+open_stays core os os' event x opens none_opens same answers w h refines stand legal = (
+  still w h core (IsEvent event) (Refused x) none_opens refines,
+  own_more w h (IsEvent event) (Refused x) os os' (subst (λ (l : List (Option SessionState)). SlotsAre (moves_of w event.user h) l) (sym (same event.user)) (stand event.user)) (λ u away. same u) stand,
   (legal, answers w h stand),
 )
 
-open_answered : (old new : Base) (os os' : List Owner) (event : Event) (r : Reply Held) → is_open event.act ≡ true → are_full (slots_of os event.user) ≡ false → Steps old event r new → slots_of os' event.user ≡ kept_with (slots_of os event.user) (session_of r)
+open_answered : (old new : Base) (os os' : List Owner) (event : Event) (r : Reply SessionState) → is_open event.act ≡ true → are_full (slots_of os event.user) ≡ false → Steps old event r new → slots_of os' event.user ≡ kept_with (slots_of os event.user) (session_of r)
     → LeavesOthers event.user os os' → RunsOn old os (IsEvent event) (told_of r) new os'
-open_answered old new os os' event r opens room steps slots others w h stands stand legal =
-    let ss : List (Option Held) = slots_of os event.user in
-    let own : SlotsAre (moves_by w.base (journal w h) (IsEvent event) (told_of r) ++ moves_of w event.user h) (kept_with ss (session_of r)) = kept_slots w (moves_of w event.user h) h event r ss opens (steps.hands w h stands) (stand event.user) in (
-      steps.stands w h stands,
-      own_more w h (IsEvent event) (told_of r) os os' (subst (λ (l : List (Option Held)). SlotsAre (moves_by w.base (journal w h) (IsEvent event) (told_of r) ++ moves_of w event.user h) l) (sym slots) own) others stand,
-      (legal, steps.answers w h stands h (λ opens. full_alike (moves_of w event.user h) ss (stand event.user) ∙ room)),
+open_answered old new os os' event r opens room steps slots others w h refines stand legal =
+    let ss : List (Option SessionState) = slots_of os event.user in
+    let own : SlotsAre (moves_by w.base (journal w h) (IsEvent event) (told_of r) ++ moves_of w event.user h) (kept_with ss (session_of r)) = kept_slots w (moves_of w event.user h) h event r ss opens (steps.hands w h refines) (stand event.user) in (
+      steps.refines w h refines,
+      own_more w h (IsEvent event) (told_of r) os os' (subst (λ (l : List (Option SessionState)). SlotsAre (moves_by w.base (journal w h) (IsEvent event) (told_of r) ++ moves_of w event.user h) l) (sym slots) own) others stand,
+      (legal, steps.answers w h refines h (λ opens. full_alike (moves_of w event.user h) ss (stand event.user) ∙ room)),
     )
 
 -- of the same slots for all, as of an owner who was added with none
 moved_on : (core new : Base) (os mid os' : List Owner) (step : Step) (reply : Told) → ((u : List ℕ) → slots_of mid u ≡ slots_of os u) → RunsOn core mid step reply new os' → RunsOn core os step reply new os'
-moved_on core new os mid os' step reply same runs w h stands stand legal = runs w h stands (λ u. subst (λ (l : List (Option Held)). SlotsAre (moves_of w u h) l) (sym (same u)) (stand u)) legal
+moved_on core new os mid os' step reply same runs w h refines stand legal = runs w h refines (λ u. subst (λ (l : List (Option SessionState)). SlotsAre (moves_of w u h) l) (sym (same u)) (stand u)) legal
 
-same_slots : (mid os' : List Owner) (user : List ℕ) (slots' : List (Option Held)) → slots_of os' user ≡ slots' → slots' ≡ slots_of mid user → LeavesOthers user mid os' → (u : List ℕ) → slots_of os' u ≡ slots_of mid u
+same_slots : (mid os' : List Owner) (user : List ℕ) (slots' : List (Option SessionState)) → slots_of os' user ≡ slots' → slots' ≡ slots_of mid user → LeavesOthers user mid os' → (u : List ℕ) → slots_of os' u ≡ slots_of mid u
 same_slots mid os' user slots' now same others u = go (bytes_eq user u) refl
   where
     go : (b : Bool) → bytes_eq user u ≡ b → slots_of os' u ≡ slots_of mid u
     go true is = subst (λ (n : List ℕ). slots_of os' n ≡ slots_of mid n) ((bytes_eq-Decides user u).0 is) (now ∙ same)
     go false away = others u away
 
-pub runs_open : (old new : Base) (os mid os' : List Owner) (event : Event) (reply : Told) (slots slots' : List (Option Held)) → is_open event.act ≡ true → ((u : List ℕ) → slots_of mid u ≡ slots_of os u)
+pub runs_open : (old new : Base) (os mid os' : List Owner) (event : Event) (reply : Told) (slots slots' : List (Option SessionState)) → is_open event.act ≡ true → ((u : List ℕ) → slots_of mid u ≡ slots_of os u)
     → slots_of mid event.user ≡ slots → slots_of os' event.user ≡ slots' → LeavesOthers event.user mid os' → OpensIn old slots event reply new slots' → RunsOn old os (IsEvent event) reply new os'
 runs_open old new os mid os' event reply slots slots' opens same was now others (inl full) =
     let all : (u : List ℕ) → slots_of os' u ≡ slots_of mid u = same_slots mid os' event.user slots' now (full.3 ∙ sym was) others in
@@ -193,7 +194,7 @@ history_more steps i step replies more reply lt is count grown =
     (λ j. history_of (taken j) (grown j)) ∙ history_push (take i steps) replies step reply (length-take-le i steps (omega arith) ∙ sym count)
 
 -- before the first step
-pub owners_none : (w : World) → OwnersStand [] w []
+pub owners_none : (w : World) → OwnersRefine [] w []
 unfolding moves_of
 owners_none w user = slots_none
 

@@ -1,20 +1,20 @@
 -- The slots of one user, step by step.
-use Rattle.std.proofs.Common.{ℕ, zero, suc, ◌≡◌, ◌+◌, ◌-◌, ◌<◌, ◌≤◌, ◌==◌, Bool, true, false, cond, ◌||◌, List, [], ◌∷◌, ◌++◌, length, refl, sym, ap, ◌∙◌, subst, arith, Option, Some, None, length-append}
-use Rattle.std.specs.Prelude.{count_by, is_some, option_map, nat_le, bytes_eq}
-use Rattle.std.specs.List.{sum_by}
+use Rattle.std.proofs.Common.{ℕ, zero, suc, ◌≡◌, ◌+◌, ◌-◌, ◌==◌, Bool, true, false, cond, ◌||◌, List, [], ◌∷◌, ◌++◌, length, refl, sym, ap, ◌∙◌, arith, Option, Some, None, length-append}
+use Rattle.std.specs.Prelude.{count_by, is_some, option_map, nat_le}
 use Rattle.std.proofs.Math.Dec.{eqb-zero-suc, eqb-suc-zero, eqb-suc-suc}
 use Rattle.std.proofs.lemmas.List.Sums.{sum_by-cons}
 use Rattle.tab_key.specs.Records.{Cell}
-use Rattle.tab_history.specs.Sessions.{Held, Move, Opening, Taking, Closing, gave, opened, closed, session_in, is_full}
+use Rattle.tab_cells.specs.SessionState.{SessionState, gave}
+use Rattle.tab_history.specs.Sessions.{Move, Opening, Taking, Closing, opened, closed, session_in, is_full}
 use Rattle.tab_core.specs.Slots.{slot_at, changed_at, are_full, SlotsAre}
 
-slot_appended : (ss : List (Option Held)) (s : Option Held) (k : ℕ) → slot_at (ss ++ s ∷ []) k ≡ cond (length ss == k) s (slot_at ss k)
+slot_appended : (ss : List (Option SessionState)) (s : Option SessionState) (k : ℕ) → slot_at (ss ++ s ∷ []) k ≡ cond (length ss == k) s (slot_at ss k)
 slot_appended [] s zero = refl
 slot_appended [] s (suc k) = ap (λ b. cond b s None) (sym (eqb-zero-suc k))
 slot_appended (x ∷ ss) s zero = ap (λ b. cond b s x) (sym (eqb-suc-zero (length ss)))
 slot_appended (x ∷ ss) s (suc k) = slot_appended ss s k ∙ ap (λ b. cond b s (slot_at ss k)) (sym (eqb-suc-suc (length ss) k))
 
-slot_changed : (ss : List (Option Held)) (k : ℕ) (f : Option Held → Option Held) → f None ≡ None → (j : ℕ) → slot_at (changed_at ss k f) j ≡ cond (k == j) (f (slot_at ss j)) (slot_at ss j)
+slot_changed : (ss : List (Option SessionState)) (k : ℕ) (f : Option SessionState → Option SessionState) → f None ≡ None → (j : ℕ) → slot_at (changed_at ss k f) j ≡ cond (k == j) (f (slot_at ss j)) (slot_at ss j)
 slot_changed [] k f none j = go (k == j)
   where
     go : (b : Bool) → None ≡ cond b (f None) None
@@ -25,27 +25,27 @@ slot_changed (x ∷ ss) zero f none (suc j) = ap (λ b. cond b (f (slot_at ss j)
 slot_changed (x ∷ ss) (suc k) f none zero = ap (λ b. cond b (f x) x) (sym (eqb-suc-zero k))
 slot_changed (x ∷ ss) (suc k) f none (suc j) = slot_changed ss k f none j ∙ ap (λ b. cond b (f (slot_at ss j)) (slot_at ss j)) (sym (eqb-suc-suc k j))
 
-length_changed : (ss : List (Option Held)) (k : ℕ) (f : Option Held → Option Held) → length (changed_at ss k f) ≡ length ss
+length_changed : (ss : List (Option SessionState)) (k : ℕ) (f : Option SessionState → Option SessionState) → length (changed_at ss k f) ≡ length ss
 length_changed [] k f = refl
 length_changed (x ∷ ss) zero f = refl
 length_changed (x ∷ ss) (suc k) f = ap suc (length_changed ss k f)
 
-abbrev one_if : Option Held → ℕ
+abbrev one_if : Option SessionState → ℕ
 one_if s = cond (is_some s) 1 0
 
-count_more : (x : Option Held) (ss : List (Option Held)) → count_by is_some (x ∷ ss) ≡ one_if x + count_by is_some ss
+count_more : (x : Option SessionState) (ss : List (Option SessionState)) → count_by is_some (x ∷ ss) ≡ one_if x + count_by is_some ss
 count_more x ss = sum_by-cons one_if x ss
 
-count_appended : (ss : List (Option Held)) (s : Option Held) → count_by is_some (ss ++ s ∷ []) ≡ count_by is_some ss + one_if s
+count_appended : (ss : List (Option SessionState)) (s : Option SessionState) → count_by is_some (ss ++ s ∷ []) ≡ count_by is_some ss + one_if s
 count_appended [] s = count_more s [] ∙ omega arith
 count_appended (x ∷ ss) s = let ih = count_appended ss s in let a = count_more x (ss ++ s ∷ []) in let b = count_more x ss in omega (arith, ih, a, b)
 
-count_same : (ss : List (Option Held)) (k : ℕ) (f : Option Held → Option Held) → ((s : Option Held) → is_some (f s) ≡ is_some s) → count_by is_some (changed_at ss k f) ≡ count_by is_some ss
+count_same : (ss : List (Option SessionState)) (k : ℕ) (f : Option SessionState → Option SessionState) → ((s : Option SessionState) → is_some (f s) ≡ is_some s) → count_by is_some (changed_at ss k f) ≡ count_by is_some ss
 count_same [] k f same = refl
 count_same (x ∷ ss) zero f same = count_more (f x) ss ∙ ap (λ b. cond b 1 0 + count_by is_some ss) (same x) ∙ sym (count_more x ss)
 count_same (x ∷ ss) (suc k) f same = count_more x (changed_at ss k f) ∙ ap (λ n. one_if x + n) (count_same ss k f same) ∙ sym (count_more x ss)
 
-count_closed : (ss : List (Option Held)) (k : ℕ) (held : Held) → slot_at ss k ≡ Some held → count_by is_some (changed_at ss k (λ s. None)) + 1 ≡ count_by is_some ss
+count_closed : (ss : List (Option SessionState)) (k : ℕ) (held : SessionState) → slot_at ss k ≡ Some held → count_by is_some (changed_at ss k (λ s. None)) + 1 ≡ count_by is_some ss
 count_closed [] k held is = absurd (cc)
 count_closed (x ∷ ss) zero held is = let a = count_more None ss in let b = count_more x ss in let c : one_if x ≡ 1 = ap one_if is in omega (arith, a, b, c)
 count_closed (x ∷ ss) (suc k) held is = let ih = count_closed ss k held is in let a = count_more x (changed_at ss k (λ s. None)) in let b = count_more x ss in omega (arith, ih, a, b)
@@ -55,10 +55,10 @@ pub slots_none : SlotsAre [] []
 unfolding opened closed session_in
 slots_none = record { count = refl; left = refl; sessions = λ k. refl }
 
-pub slots_opened : (moves : List Move) (ss : List (Option Held)) (all : List Cell) → SlotsAre moves ss → SlotsAre (Opening all ∷ moves) (ss ++ Some (record { all = all; given = 0 }) ∷ [])
+pub slots_opened : (moves : List Move) (ss : List (Option SessionState)) (all : List Cell) → SlotsAre moves ss → SlotsAre (Opening all ∷ moves) (ss ++ Some (record { all = all; given = 0 }) ∷ [])
 unfolding opened closed session_in
 slots_opened moves ss all h =
-    let held : Held = record { all = all; given = 0 } in
+    let held : SessionState = record { all = all; given = 0 } in
     let c = count_appended ss (Some held) in
     let d = h.count in
     let o = h.left in
@@ -68,7 +68,7 @@ slots_opened moves ss all h =
       sessions = λ k. ap (λ n. cond (n == k) (Some held) (session_in moves k)) d ∙ ap (λ s. cond (length ss == k) (Some held) s) (h.sessions k) ∙ sym (slot_appended ss (Some held) k);
     }
 
-pub slots_taken : (moves : List Move) (ss : List (Option Held)) (k n : ℕ) → SlotsAre moves ss → SlotsAre (Taking k n ∷ moves) (changed_at ss k (option_map (gave n)))
+pub slots_taken : (moves : List Move) (ss : List (Option SessionState)) (k n : ℕ) → SlotsAre moves ss → SlotsAre (Taking k n ∷ moves) (changed_at ss k (option_map (gave n)))
 unfolding opened closed session_in
 slots_taken moves ss k n h = record {
   count = h.count ∙ sym (length_changed ss k (option_map (gave n)));
@@ -76,11 +76,11 @@ slots_taken moves ss k n h = record {
   sessions = λ j. ap (λ s. cond (k == j) (option_map (gave n) s) s) (h.sessions j) ∙ sym (slot_changed ss k (option_map (gave n)) refl j);
 }
   where
-    same : (s : Option Held) → is_some (option_map (gave n) s) ≡ is_some s
+    same : (s : Option SessionState) → is_some (option_map (gave n) s) ≡ is_some s
     same None = refl
     same (Some s) = refl
 
-pub slots_closed : (moves : List Move) (ss : List (Option Held)) (k : ℕ) (held : Held) → slot_at ss k ≡ Some held → SlotsAre moves ss → SlotsAre (Closing k ∷ moves) (changed_at ss k (λ s. None))
+pub slots_closed : (moves : List Move) (ss : List (Option SessionState)) (k : ℕ) (held : SessionState) → slot_at ss k ≡ Some held → SlotsAre moves ss → SlotsAre (Closing k ∷ moves) (changed_at ss k (λ s. None))
 unfolding opened closed session_in
 slots_closed moves ss k held is h =
     let c = count_closed ss k held is in
@@ -91,7 +91,7 @@ slots_closed moves ss k held is h =
       sessions = λ j. ap (λ s. cond (k == j) None s) (h.sessions j) ∙ sym (slot_changed ss k (λ s. None) refl j);
     }
 
-pub full_alike : (moves : List Move) (ss : List (Option Held)) → SlotsAre moves ss → is_full moves ≡ are_full ss
+pub full_alike : (moves : List Move) (ss : List (Option SessionState)) → SlotsAre moves ss → is_full moves ≡ are_full ss
 full_alike moves ss h =
     let o = h.left in
     let rest : opened moves - closed moves ≡ count_by is_some ss = omega (arith, o) in

@@ -1,4 +1,4 @@
--- From what an act does to a core to what a step does to every history that the core stood for.
+-- From what an act does to a core to what a step does to every history that the core refined.
 use Rattle.std.proofs.Common.{◌≡◌, ◌⊎◌, inl, inr, List, [], ◌∷◌, ◌++◌, Bool, true, false, cond, ◌&&◌, ◌↔◌, refl, sym, ◌∙◌, ap, subst}
 use Rattle.std.specs.Prelude.{ℤ, Contains}
 use Rattle.std.specs.Int.{int_max}
@@ -15,17 +15,17 @@ use Rattle.tab_history.specs.declared.reply.Reply.TheVariants.{Done, Refused, Op
 use Rattle.tab_history.specs.Bases.{Base}
 use Rattle.tab_history.specs.Changes.{Change}
 use Rattle.tab_history.specs.Readings.{has_user, held_auths, has_system_right, has_table_right, settings_of, next_number, updates_of}
-use Rattle.tab_history.specs.Answers.{Told, answer, event_answer, is_open, changes_by}
-use Rattle.tab_history.specs.Sessions.{Held, opened, closed, is_full}
+use Rattle.tab_history.specs.Answers.{Told, answer, event_answer, is_open, changes_by, told_of}
+use Rattle.tab_cells.specs.SessionState.{SessionState}
+use Rattle.tab_history.specs.Sessions.{opened, closed, is_full}
 use Rattle.tab_history.specs.Histories.{Entry, World, world_of, world_after, clock_of, clock_after, journal, moves_of}
 use Rattle.tab_history.specs.Legal.{IsAnswer, LegalAlone, IsExhausted}
-use Rattle.tab_history.specs.Standing.{StandsFor, IsSound, IsAlike}
+use Rattle.tab_history.specs.Refinement.{Refines, IsSound, IsAlike}
 use Rattle.tab_history.specs.Chains.{GoesRight, HasRoom, GoesOnFrom}
 use Rattle.tab_history.proofs.Chains.{right_step}
 use Rattle.tab_history.proofs.GoesOnLemmas.{goes_on}
-use Rattle.tab_history.proofs.Held.{rising_distinct}
+use Rattle.tab_cells.proofs.Rising.{rising_distinct}
 use Rattle.tab_key.proofs.Rising.{in_from, in_to, in_sorted, sorted_in}
-use Rattle.tab_history.specs.Answers.{told_of}
 use Rattle.tab_core.specs.Stepping.{entry, HandsOut, Steps, changes_told, moves_clock, Acts, IsCore}
 
 -- ---- the clock
@@ -87,12 +87,12 @@ unfolding moves_of opened closed
 room_alone w e opens = refl
 
 -- want of memory leaves no trace
-no_trace : (v w : World) (h : List Entry) (e : Event) → StandsFor v (world_after w (entry e (Refused refusal.NoMemory) ∷ h)) → StandsFor v (world_after w h)
+no_trace : (v w : World) (h : List Entry) (e : Event) → Refines v (world_after w (entry e (Refused refusal.NoMemory) ∷ h)) → Refines v (world_after w h)
 unfolding journal clock_of
 no_trace v w h e s = s
 
-no_entry : (v w : World) (h : List Entry) (e : Event) (r : Told) → r ≡ Refused refusal.NoMemory → StandsFor v (world_after w (entry e r ∷ h)) → StandsFor v (world_after w h)
-no_entry v w h e r is s = no_trace v w h e (subst (λ x. StandsFor v (world_after w (entry e x ∷ h))) is s)
+no_entry : (v w : World) (h : List Entry) (e : Event) (r : Told) → r ≡ Refused refusal.NoMemory → Refines v (world_after w (entry e r ∷ h)) → Refines v (world_after w h)
+no_entry v w h e r is s = no_trace v w h e (subst (λ x. Refines v (world_after w (entry e x ∷ h))) is s)
 
 -- the core with its clock set
 abbrev set : Event → Told → Base → Base → Base
@@ -107,7 +107,7 @@ either_answer old e r (inl a) = inl (a ∙ go (is_open e.act))
     go true = refl
     go false = refl
 
-module _ (old new : Base) (e : Event) (reply : Reply Held) (core : IsCore old) (left : IsCore new)
+module _ (old new : Base) (e : Event) (reply : Reply SessionState) (core : IsCore old) (left : IsCore new)
     (acts : Acts (event_answer old [] (int_max old.clock e.moment) e.user e.act) old (int_max old.clock e.moment) e.user e.act reply new) where
   told : Told
   told = told_of reply
@@ -122,13 +122,15 @@ module _ (old new : Base) (e : Event) (reply : Reply Held) (core : IsCore old) (
       let same : changes_by (int_max old.clock e.moment) (IsEvent e) (told_of reply) ++ [] ≡ j = append-nil _ ∙ changes_alike (int_max old.clock e.moment) e (told_of reply) in
       let b = acts.becomes in
       record {
-        clock = sym (clock_moved e (told_of reply) old.clock);
-        next = b.next ∙ sym (ap (next_number old) same);
-        known = λ n. b.known n ∙ sym (ap (λ k. has_user old k n) same);
-        auths = λ n. b.auths n ∙ sym (ap (λ k. held_auths old k n) same);
-        system = λ n p. b.system n p ∙ sym (ap (λ k. has_system_right old k n p) same);
-        rights = λ n p t. b.rights n p t ∙ sym (ap (λ k. has_table_right old k n p t) same);
-        settings = λ t. b.settings t ∙ sym (ap (λ k. settings_of old k t) same);
+        reads = record {
+          clock = sym (clock_moved e (told_of reply) old.clock);
+          next = b.next ∙ sym (ap (next_number old) same);
+          known = λ n. b.known n ∙ sym (ap (λ k. has_user old k n) same);
+          auths = λ n. b.auths n ∙ sym (ap (λ k. held_auths old k n) same);
+          system = λ n p. b.system n p ∙ sym (ap (λ k. has_system_right old k n p) same);
+          rights = λ n p t. b.rights n p t ∙ sym (ap (λ k. has_table_right old k n p t) same);
+          settings = λ t. b.settings t ∙ sym (ap (λ k. settings_of old k t) same);
+        };
         members = λ t x h u. members_of (updates_of new [] t) (updates_of old (changes_by (int_max old.clock e.moment) (IsEvent e) (told_of reply) ++ []) t) (b.records t ∙ ap (λ k. sorted (updates_of old k t)) (sym same)) u;
         once = λ t x h. rising_distinct (updates_of new [] t) (left.rising t);
       }
@@ -136,7 +138,7 @@ module _ (old new : Base) (e : Event) (reply : Reply Held) (core : IsCore old) (
   right : GoesRight old (entry e (told_of reply)) (set e (told_of reply) old new)
   right = right_step old (entry e (told_of reply)) (set e (told_of reply) old new) (sound_core old core) legal_alone alike
 
-  from : (w : World) (h : List Entry) → StandsFor (world_of old) (world_after w h) → GoesOnFrom w h old (entry e (told_of reply)) (set e (told_of reply) old new)
+  from : (w : World) (h : List Entry) → Refines (world_of old) (world_after w h) → GoesOnFrom w h old (entry e (told_of reply)) (set e (told_of reply) old new)
   from w h s = goes_on w h old (entry e (told_of reply)) (set e (told_of reply) old new) s right
 
   pub steps : Steps old e reply (set e (told_of reply) old new)
@@ -144,7 +146,7 @@ module _ (old new : Base) (e : Event) (reply : Reply Held) (core : IsCore old) (
     right = right;
     legal = λ w h s l. (l, (from w h s).answers [] (room_alone w e));
     answers = λ w h s own room. (from w h s).answers own room;
-    stands = λ w h s. (from w h s).stands;
+    refines = λ w h s. (from w h s).refines;
     hands = λ w h s. subst (HandsOut reply) ((from w h s).list_before e.act) acts.hands;
-    unchanged = λ is w h s. no_entry (world_of (set e (told_of reply) old new)) w h e (told_of reply) is ((from w h s).stands);
+    unchanged = λ is w h s. no_entry (world_of (set e (told_of reply) old new)) w h e (told_of reply) is ((from w h s).refines);
   }

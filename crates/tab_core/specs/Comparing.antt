@@ -5,8 +5,8 @@ use Rattle.tab_history.specs.Answers.{Told}
 use Rattle.tab_history.specs.Histories.{Entry, world_of, is_by, steps_of}
 use Rattle.tab_history.specs.Legal.{Legal, IsAmple}
 use Rattle.tab_history.specs.declared.event.Step.{Step}
-use Rattle.tab_worlds.specs.Views.{view}
-use Rattle.tab_worlds.specs.Hearing.{is_covered, heard}
+use Rattle.tab_noninterference.specs.Views.{view}
+use Rattle.tab_noninterference.specs.Hearing.{is_covered, heard}
 
 -- ---- one run
 -- all replies to the user's steps in a history, the first one first

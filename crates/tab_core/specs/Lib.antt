@@ -3,4 +3,4 @@ pub mod Tables
 pub mod Slots
 pub mod Stepping
 pub mod Comparing
-pub mod ComparingRows
+pub mod ComparingExamples

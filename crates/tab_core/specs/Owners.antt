@@ -1,25 +1,24 @@
 -- The sessions that a run keeps for its users, and what each step does to them.
-use Rattle.std.specs.Prelude.{ℕ, ◌≡◌, ◌⊎◌, Bool, true, false, not, List, [], ◌∷◌, ◌++◌, Option, Some, None, bytes_eq, cond}
+use Rattle.std.specs.Prelude.{ℕ, ◌≡◌, ◌⊎◌, true, false, not, List, [], ◌∷◌, ◌++◌, Option, Some, None, bytes_eq, cond}
 use Rattle.std.specs.List.{prefix_len}
 use Rattle.tab_key.specs.declared.part.Part.TheVariants.{Sessions}
 use Rattle.tab_history.specs.declared.event.Event.{Event}
 use Rattle.tab_history.specs.declared.event.Step.{Step}
-use Rattle.tab_history.specs.declared.event.Step.TheVariants.{Event as IsEvent}
 use Rattle.tab_history.specs.declared.reply.Refusal.TheVariants.{NoMemory, TooLarge}
 use Rattle.tab_history.specs.declared.reply.Reply.{Reply}
 use Rattle.tab_history.specs.declared.reply.Reply.TheVariants.{Refused}
 use Rattle.tab_history.specs.Bases.{Base}
 use Rattle.tab_history.specs.Answers.{Told, told_of, session_of}
-use Rattle.tab_history.specs.Sessions.{Held}
+use Rattle.tab_cells.specs.SessionState.{SessionState}
 use Rattle.tab_history.specs.Histories.{Entry, World, world_of, world_after, moves_of}
 use Rattle.tab_history.specs.Legal.{Legal}
-use Rattle.tab_history.specs.Standing.{StandsFor}
+use Rattle.tab_history.specs.Refinement.{Refines}
 use Rattle.tab_core.specs.Slots.{SlotsAre, are_full}
 use Rattle.tab_core.specs.Stepping.{Steps}
 use Rattle.tab_core.specs.declared.running.Owner.{Owner}
 
 -- the slots of this user
-abbrev pub slots_of : List Owner → List ℕ → List (Option Held)
+abbrev pub slots_of : List Owner → List ℕ → List (Option SessionState)
 slots_of [] user = []
 slots_of (o ∷ os) user = cond (bytes_eq o.user user) o.sessions (slots_of os user)
 
@@ -32,25 +31,25 @@ abbrev pub LeavesOthers : List ℕ → List Owner → List Owner → Type 0
 LeavesOthers user old new = (other : List ℕ) → bytes_eq user other ≡ false → slots_of new other ≡ slots_of old other
 
 -- each user's slots are those of the history
-abbrev pub OwnersStand : List Owner → World → List Entry → Type 0
-OwnersStand os w h = (user : List ℕ) → SlotsAre (moves_of w user h) (slots_of os user)
+abbrev pub OwnersRefine : List Owner → World → List Entry → Type 0
+OwnersRefine os w h = (user : List ℕ) → SlotsAre (moves_of w user h) (slots_of os user)
 
--- Whatever legal history core and slots stood for, they stand for the one with this entry, which is legal.
+-- Whatever legal history core and slots refined, they refine the one with this entry, which is legal.
 abbrev pub RunsOn : Base → List Owner → Step → Told → Base → List Owner → Type 0
-RunsOn old os step reply new os' = (w : World) (h : List Entry) → StandsFor (world_of old) (world_after w h) → OwnersStand os w h → Legal w h
-    → let longer : List Entry = record { step = step; reply = reply } ∷ h in StandsFor (world_of new) (world_after w longer) × OwnersStand os' w longer × Legal w longer
+RunsOn old os step reply new os' = (w : World) (h : List Entry) → Refines (world_of old) (world_after w h) → OwnersRefine os w h → Legal w h
+    → let longer : List Entry = record { step = step; reply = reply } ∷ h in Refines (world_of new) (world_after w longer) × OwnersRefine os' w longer × Legal w longer
 
 -- the slots with the session that was handed out, if there is one
-abbrev pub kept_with : List (Option Held) → Option Held → List (Option Held)
+abbrev pub kept_with : List (Option SessionState) → Option SessionState → List (Option SessionState)
 kept_with slots None = slots
 kept_with slots (Some session) = slots ++ Some session ∷ []
 
 -- the core answered the event, and a session that it handed out is kept
-abbrev pub AnswersIn : Base → List (Option Held) → Event → Told → Base → List (Option Held) → Type 0
-AnswersIn old slots event reply new slots' = (r : Reply Held) × Steps old event r new × (reply ≡ told_of r) × (slots' ≡ kept_with slots (session_of r))
+abbrev pub AnswersIn : Base → List (Option SessionState) → Event → Told → Base → List (Option SessionState) → Type 0
+AnswersIn old slots event reply new slots' = (r : Reply SessionState) × Steps old event r new × (reply ≡ told_of r) × (slots' ≡ kept_with slots (session_of r))
 
 -- an Open of a user with these slots: all stays where they are full or memory lacks, and otherwise the core answers
-abbrev pub OpensIn : Base → List (Option Held) → Event → Told → Base → List (Option Held) → Type 0
+abbrev pub OpensIn : Base → List (Option SessionState) → Event → Told → Base → List (Option SessionState) → Type 0
 OpensIn old slots event reply new slots' =
     ((are_full slots ≡ true) × (reply ≡ Refused (TooLarge Sessions)) × (new ≡ old) × (slots' ≡ slots))
     ⊎ ((reply ≡ Refused NoMemory) × (new ≡ old) × (slots' ≡ slots))

@@ -1,53 +1,51 @@
 -- The sessions that a run keeps for its users.
-use Rattle.std.specs.Prelude.{ℕ, zero, suc, ◌≡◌, ◌+◌, Bool, List, [], ◌∷◌, Option, Some, None, option_map, ◌⊎◌, length, is_some, count_by, nat_le, ◌||◌, bytes_eq, cond, reverse}
+use Rattle.std.specs.Prelude.{ℕ, zero, suc, ◌≡◌, ◌+◌, Bool, List, [], ◌∷◌, Option, None, option_map, ◌⊎◌, length, is_some, count_by, nat_le, ◌||◌, reverse}
 use Rattle.tab_history.specs.declared.event.Step.{Step}
-use Rattle.tab_history.specs.Bases.{Base}
 use Rattle.tab_history.specs.declared.reply.Refusal.TheVariants.{NoMemory}
 use Rattle.tab_history.specs.declared.reply.Reply.TheVariants.{Done, Refused, Batch}
 use Rattle.tab_history.specs.Answers.{Told, next_answer, close_answer}
-use Rattle.tab_history.specs.Sessions.{Held, Move, gave, opened, closed, session_in}
-use Rattle.tab_history.specs.Histories.{Entry, World, world_of, world_after, moves_of}
-use Rattle.tab_history.specs.Legal.{Legal}
-use Rattle.tab_history.specs.Standing.{StandsFor}
+use Rattle.tab_cells.specs.SessionState.{SessionState, gave}
+use Rattle.tab_history.specs.Sessions.{Move, opened, closed, session_in}
+use Rattle.tab_history.specs.Histories.{Entry}
 
 -- the session in a slot, if it is there and open
-abbrev pub slot_at : List (Option Held) → ℕ → Option Held
+abbrev pub slot_at : List (Option SessionState) → ℕ → Option SessionState
 slot_at [] k = None
 slot_at (s ∷ ss) zero = s
 slot_at (s ∷ ss) (suc k) = slot_at ss k
 
 -- the slots with this one changed
-abbrev pub changed_at : List (Option Held) → ℕ → (Option Held → Option Held) → List (Option Held)
+abbrev pub changed_at : List (Option SessionState) → ℕ → (Option SessionState → Option SessionState) → List (Option SessionState)
 changed_at [] k f = []
 changed_at (s ∷ ss) zero f = f s ∷ ss
 changed_at (s ∷ ss) (suc k) f = s ∷ changed_at ss k f
 
 -- the slots after this reply to a Next
-abbrev pub after_next : List (Option Held) → ℕ → Told → List (Option Held)
+abbrev pub after_next : List (Option SessionState) → ℕ → Told → List (Option SessionState)
 after_next slots k (Batch cells) = changed_at slots k (option_map (gave (length cells)))
 after_next slots k _ = slots
 
 -- the slots after this reply to a Close
-abbrev pub after_close : List (Option Held) → ℕ → Told → List (Option Held)
+abbrev pub after_close : List (Option SessionState) → ℕ → Told → List (Option SessionState)
 after_close slots k Done = changed_at slots k (λ s. None)
 after_close slots k _ = slots
 
 -- a Next is answered from its slot, or memory lacked
-pub record NextFrom (old : List (Option Held)) (k count : ℕ) (reply : Told) (new : List (Option Held)) : Type 0 where
+pub record NextFrom (old : List (Option SessionState)) (k count : ℕ) (reply : Told) (new : List (Option SessionState)) : Type 0 where
   pub answers : (reply ≡ next_answer (slot_at old k) k count) ⊎ (reply ≡ Refused NoMemory)
   pub after : new ≡ after_next old k reply
 
 -- a Close is answered from its slot
-pub record CloseFrom (old : List (Option Held)) (k : ℕ) (reply : Told) (new : List (Option Held)) : Type 0 where
+pub record CloseFrom (old : List (Option SessionState)) (k : ℕ) (reply : Told) (new : List (Option SessionState)) : Type 0 where
   pub answers : reply ≡ close_answer (slot_at old k) k
   pub after : new ≡ after_close old k reply
 
 -- no session can be opened any more
-abbrev pub are_full : List (Option Held) → Bool
+abbrev pub are_full : List (Option SessionState) → Bool
 are_full slots = nat_le 65536 (count_by is_some slots) || nat_le 4294967295 (length slots)
 
 -- the slots of one user are what these moves made of them
-pub record SlotsAre (moves : List Move) (slots : List (Option Held)) : Type 0 where
+pub record SlotsAre (moves : List Move) (slots : List (Option SessionState)) : Type 0 where
   pub count : opened moves ≡ length slots
   pub left : closed moves + count_by is_some slots ≡ opened moves
   pub sessions : (k : ℕ) → session_in moves k ≡ slot_at slots k

@@ -1,5 +1,5 @@
 -- Tables by name.
-use Rattle.std.specs.Prelude.{ℕ, List, [], Option, Some, None, find, map, bytes_eq}
+use Rattle.std.specs.Prelude.{ℕ, List, [], Option, Some, None, find, bytes_eq}
 use Rattle.tab_key.specs.Records.{Record}
 use Rattle.tab_rules.specs.declared.constraint.Constraint.{Constraint}
 use Rattle.tab_history.specs.Settings.{Settings}

@@ -1,9 +1,12 @@
 //! What each event does; those on users and on permissions stand in `users` and `granting`.
-ghost use Rattle.std.specs.Prelude.{◌≡◌, true, IfOk, OnErr};
-ghost use Rattle.tab_core.specs.Stepping.{Acts, IsAdmitted, own_answer};
+ghost use Rattle.std.specs.Prelude.{◌≡◌, ◌<◌, ℕ, ℤ, true, is_some, Contains, IfOk, OnErr};
+ghost use Rattle.tab_key.specs.Records.{Record};
+ghost use Rattle.tab_core.specs.Tables.{settings_in, records_in};
+ghost use Rattle.tab_core.specs.Stepping.{Acts, ActsOnTables, own_answer};
 
-use crate::checking::{mutation_refusal, scan_refusal, too_many_auths};
+use crate::checking::{scan_refusal, too_many_auths};
 use crate::table::Table;
+use crate::tables::Tables;
 use crate::{Core, Session};
 use std::alloc::{AllocError, Global};
 use tab_history::{Act, Refusal, Reply, Scan, TimeMode};
@@ -31,11 +34,11 @@ impl Core {
         let made = Table::new(alloc, time, versions);
         match self.tables.insert(table, made) {
             Ok(()) => {}
-            Err(_) => return Reply::Refused(Refusal::NoMemory),
+            Err(AllocError) => return Reply::Refused(Refusal::NoMemory),
         }
         match self.policy.create_table(&user, &table) {
             Ok(()) => Reply::Done,
-            Err(_) => {
+            Err(AllocError) => {
                 self.tables.remove(&table);
                 Reply::Refused(Refusal::NoMemory)
             }
@@ -59,7 +62,6 @@ impl Core {
         table: Name,
         constraints: Items<Constraint>,
     ) -> Reply<Session>
-        requires { IsAdmitted self.old user (Act.SetConstraints table constraints) }
         ensures { Acts (own_answer self.old now user (Act.SetConstraints table constraints)) self.old now user (Act.SetConstraints table constraints) result self.new }
     {
         self.tables.set_constraints(&table, constraints);
@@ -86,53 +88,44 @@ impl Core {
         self.policy.set_auths(&name, auths);
         Reply::Done
     }
+}
 
-    // All updates of a mutation, or none.
-    pub(crate) fn write(
-        &mut self,
-        alloc: Global,
-        now: i64,
-        user: Name,
-        table: Name,
-        mutation: Mutation,
-    ) -> Reply<Session>
-        requires { IsAdmitted self.old user (Act.Write table mutation) }
-        ensures { Acts (own_answer self.old now user (Act.Write table mutation)) self.old now user (Act.Write table mutation) result self.new }
-    {
-        let Some(place) = self.tables.get(&table) else {
-            return Reply::Refused(Refusal::NoTable(table));
-        };
-        let Some(auths) = self.policy.auths_of(&user) else {
-            return Reply::Refused(Refusal::UnknownUser(user));
-        };
-        if let Some(refusal) = mutation_refusal(alloc, place, auths, now, &mutation) {
-            return Reply::Refused(refusal);
+/// All updates of a mutation, or none, by a caller with these authorizations. The number is the one that the write gets.
+pub fn write(
+    alloc: Global,
+    tables: &mut Tables,
+    next: &mut u64,
+    authorizations: &AuthSet,
+    now: i64,
+    table: Name,
+    mutation: Mutation,
+) -> Reply<Session>
+    requires unused { (u : Record) → Contains (records_in tables.old table) u → u.seq < next.old }
+    requires there { is_some (settings_in tables.old table) ≡ true }
+    ensures { ActsOnTables authorizations.now now (Act.Write table mutation) tables.old next.old result tables.new next.new }
+{
+    match tables.write(alloc, &table, &mutation, authorizations, *next, now) {
+        Ok(()) => {
+            *next += 1;
+            Reply::Done
         }
-        if self.next == u64::MAX {
-            return Reply::Refused(Refusal::TooLarge(Part::Numbers));
-        }
-        match self.tables.write(&table, &mutation, self.next, now) {
-            Ok(()) => {
-                self.next += 1;
-                Reply::Done
-            }
-            Err(AllocError) => Reply::Refused(Refusal::NoMemory),
-        }
+        Err(refusal) => Reply::Refused(refusal),
     }
+}
 
-    // A session on a scan's answer.
-    pub(crate) fn open(&mut self, alloc: Global, now: i64, user: Name, scan: Scan) -> Reply<Session>
-        requires { IsAdmitted self.old user (Act.Open scan) }
-        ensures { Acts (own_answer self.old now user (Act.Open scan)) self.old now user (Act.Open scan) result self.new }
-    {
-        let Some(auths) = self.policy.auths_of(&user) else {
-            return Reply::Refused(Refusal::UnknownUser(user));
-        };
-        if let Some(refusal) = scan_refusal(alloc, auths, &scan) {
-            return Reply::Refused(refusal);
-        }
-        handed(self.tables.scan(alloc, scan))
+/// A session on a scan's answer, for a caller with these authorizations.
+pub fn open(
+    alloc: Global,
+    tables: &mut Tables,
+    authorizations: &AuthSet,
+    scan: Scan,
+) -> Reply<Session>
+    ensures { (now : ℤ) (next : ℕ) → ActsOnTables authorizations.now now (Act.Open scan) tables.old next result tables.new next }
+{
+    if let Some(refusal) = scan_refusal(alloc, authorizations, &scan) {
+        return Reply::Refused(refusal);
     }
+    handed(tables.scan(alloc, scan))
 }
 
 // The session is handed out, if it could be made.

@@ -1,8 +1,7 @@
 //! The checks that are an event's own.
-ghost use Rattle.std.specs.Prelude.{◌≡◌, ◌<◌, ◌≤◌, ◌⊎◌, ◌^◌, ℕ, Some, None, true, false, length, IsSome, bytes_eq};
-ghost use Rattle.tab_mutation.specs.Shape.{first_some, misshape};
+ghost use Rattle.std.specs.Prelude.{◌≡◌, ◌<◌, ◌≤◌, ◌⊎◌, ◌^◌, ℕ, Some, None, true, false, length, IsSome};
+ghost use Rattle.tab_mutation.specs.Shape.{first_some, shape_error};
 ghost use Rattle.tab_label.specs.Reading.{label_of};
-ghost use Rattle.tab_policy.specs.Roots.{root};
 ghost use Rattle.tab_history.specs.Checks.{malformed_at, malformed, stamped, outdated, violated, mutation_checks, scan_checks, too_many_auths, shape_refusal, right_checks};
 ghost use Rattle.tab_core.specs.Tables.{table_settings};
 
@@ -14,16 +13,16 @@ use tab_key::{
     is_bad_range,
 };
 use tab_label::{AuthSet, judge};
-use tab_mutation::{Misshape, Mutation, UpdateRef};
-use tab_policy::{Permission, SystemPermission};
-use tab_rules::{Failing, check};
+use tab_mutation::{Mutation, ShapeError, UpdateRef};
+use tab_policy::{Permission, SystemPermission, is_root};
+use tab_rules::{Violation, check};
 
-fn shape_refusal(misshape: Misshape) -> Refusal
-    ensures { result ≡ shape_refusal misshape }
+fn shape_refusal(error: ShapeError) -> Refusal
+    ensures { result ≡ shape_refusal error }
 {
-    match misshape {
-        Misshape::Empty => Refusal::EmptyMutation,
-        Misshape::TooLarge(part) => Refusal::TooLarge(part),
+    match error {
+        ShapeError::Empty => Refusal::EmptyMutation,
+        ShapeError::TooLarge(part) => Refusal::TooLarge(part),
     }
 }
 
@@ -41,7 +40,7 @@ fn malformed_at(update: &UpdateRef<'_>, place: u32, auths: &AuthSet) -> Option<R
 // The first update whose label is malformed.
 #[tactic(auto, unfolding(tab_history::specs::Checks::malformed))]
 fn malformed(mutation: &Mutation, auths: &AuthSet) -> Option<Refusal>
-    requires { misshape mutation.now ≡ None }
+    requires { shape_error mutation.now ≡ None }
     ensures { result ≡ malformed mutation.now }
 {
     for index in 0..mutation.len() {
@@ -81,7 +80,7 @@ fn outdated(table: &Table, now: i64, mutation: &Mutation) -> Option<Refusal>
     None
 }
 
-fn violated(failing: Items<Failing>) -> Option<Refusal>
+fn violated(failing: Items<Violation>) -> Option<Refusal>
     ensures { result ≡ violated failing }
 {
     if failing.is_empty() {
@@ -100,10 +99,10 @@ pub fn mutation_refusal(
     mutation: &Mutation,
 ) -> Option<Refusal>
     ensures answers { (result ≡ first_some (mutation_checks (Some (table_settings table.now)) auths.now now mutation.now)) ⊎ (result ≡ Some Refusal.NoMemory) }
-    ensures shape { result ≡ None → misshape mutation.now ≡ None }
+    ensures shape { result ≡ None → shape_error mutation.now ≡ None }
 {
-    if let Some(misshape) = mutation.shape() {
-        return Some(shape_refusal(misshape));
+    if let Some(error) = mutation.shape() {
+        return Some(shape_refusal(error));
     }
     if let Some(refusal) = malformed(mutation, auths) {
         return Some(refusal);
@@ -147,13 +146,6 @@ pub fn scan_refusal(alloc: Global, held: &AuthSet, scan: &Scan) -> Option<Refusa
             Err(AllocError) => Some(Refusal::NoMemory),
         },
     }
-}
-
-/// Whether this is root.
-pub fn is_root(user: &Name) -> bool
-    ensures { result ≡ bytes_eq user.now root }
-{
-    user.as_bytes() == b"root".as_slice()
 }
 
 /// Why granting the permission to the user, or revoking it from him, is refused; `known` says whether he exists.

@@ -1,12 +1,12 @@
 //! Permissions granted and revoked, and what a user is told of his own.
-ghost use Rattle.tab_core.specs.Stepping.{Acts, IsAdmitted, own_answer};
+ghost use Rattle.tab_core.specs.Stepping.{Acts, IsAdmitted, Tells, own_answer};
 
 use crate::checking::right_refusal;
 use crate::{Core, Session};
 use std::alloc::AllocError;
 use tab_history::{Act, Refusal, Reply, Rights};
 use tab_key::Name;
-use tab_policy::Permission;
+use tab_policy::{Caller, Permission};
 
 impl Core {
     // A permission given to a user.
@@ -47,28 +47,18 @@ impl Core {
         self.policy.revoke(&name, &permission);
         Reply::Done
     }
+}
 
-    // What the caller may do, on this table too, and holds.
-    pub(crate) fn rights(&self, now: i64, user: Name, table: Name) -> Reply<Session>
-        requires { IsAdmitted self.now user (Act.Rights table) }
-        ensures { Acts (own_answer self.now now user (Act.Rights table)) self.now now user (Act.Rights table) result self.now }
-    {
-        let Some(system) = self.policy.system_of(&user) else {
-            return Reply::Refused(Refusal::UnknownUser(user));
-        };
-        let Some(on_table) = self.policy.rights_on(&table, &user) else {
-            return Reply::Refused(Refusal::NoTable(table));
-        };
-        let Some(auths) = self.policy.auths_of(&user) else {
-            return Reply::Refused(Refusal::UnknownUser(user));
-        };
-        match auths.clone() {
-            Ok(authorizations) => Reply::Rights(Rights {
-                system,
-                table: on_table,
-                authorizations,
-            }),
-            Err(AllocError) => Reply::Refused(Refusal::NoMemory),
-        }
+/// What the caller may do, on the table that was named too, and holds.
+pub fn rights(caller: Caller<'_>) -> Reply<Session>
+    ensures { Tells caller.entry result }
+{
+    match caller.authorizations.clone() {
+        Ok(authorizations) => Reply::Rights(Rights {
+            system: caller.system,
+            table: caller.on_table,
+            authorizations,
+        }),
+        Err(AllocError) => Reply::Refused(Refusal::NoMemory),
     }
 }

@@ -1,8 +1,22 @@
 //! The core: one event at a time is applied to users, rights and tables, and answered.
 //!
 //! What a right answer is, and what an event leaves behind, is defined in `tab_history`. The contract of
-//! [`Core::step`] says it of every history that the core stands for, and that of [`run`] of a whole list of steps.
-//! [`compare_runs`] carries the law of `tab_worlds`: what a user may not see doesn't change what he is told.
+//! [`Core::step`] says it of every history that the core refines, and that of [`run`] of a whole list of steps.
+//! [`compare_runs`] carries the law of `tab_noninterference`: what a user may not see doesn't change what he is told.
+//!
+//! | File | What |
+//! |---|---|
+//! | `state` | the core, and its step: the policy decides once, then the act is done |
+//! | `policing` | what the policy is asked, and the refusal of whom it doesn't admit |
+//! | `acts`, `users`, `granting` | what each act does |
+//! | `checking` | the checks that are an event's own |
+//! | `table`, `tables` | one table, and tables by name |
+//! | `reply` | replies without what they hand out |
+//! | `slots`, `running` | the sessions of one user in a run, and runs of steps |
+//! | `comparing` | two runs compared by what one user is told in them |
+//!
+//! Of the definitions in `specs`, `Stepping` says what a step does, `Slots` and `Owners` what a run keeps, `Tables` how tables are
+//! read, and `Comparing` what two runs tell; `ComparingExamples` computes it for a small history.
 #![tactic(auto)]
 
 mod acts;
@@ -16,8 +30,6 @@ mod slots;
 mod state;
 mod table;
 mod tables;
-#[cfg(test)]
-mod tests;
 mod users;
 
 pub use comparing::{Compared, compare_runs};

@@ -1,38 +1,38 @@
 //! What the policy is asked, and what its decision refuses.
-ghost use Rattle.std.specs.Prelude.{◌≡◌};
+ghost use Rattle.std.specs.Prelude.{◌≡◌, Some};
+ghost use Rattle.tab_policy.specs.Actions.{asked_for};
 ghost use Rattle.tab_history.specs.Checks.{action_of, denial};
 
 use tab_history::{Act, Refusal};
 use tab_key::Name;
-use tab_policy::{Action, Decision};
+use tab_policy::{Action, Denial, ServerAction, TableAction};
 
 /// What the policy is asked for an event.
-pub fn action_of(act: &Act) -> Action
-    ensures { result ≡ action_of act.now }
+pub fn action_of(act: &Act) -> Action<'_>
+    ensures { asked_for result ≡ action_of act.now }
 {
     match act {
-        Act::Open(scan) => Action::Open(scan.table),
-        Act::Write(table, _) => Action::Write(*table),
-        Act::CreateTable(_, _, _) => Action::CreateTable,
-        Act::DropTable(table) => Action::DropTable(*table),
-        Act::SetConstraints(table, _) => Action::SetConstraints(*table),
-        Act::CreateUser(_) => Action::CreateUser,
-        Act::DropUser(_) => Action::DropUser,
-        Act::SetAuths(_, _) => Action::SetAuths,
-        Act::Grant(_, permission) => Action::Grant(*permission),
-        Act::Revoke(_, permission) => Action::Revoke(*permission),
-        Act::Rights(table) => Action::Rights(*table),
+        Act::Open(scan) => Action::OnTable(TableAction::Open, &scan.table),
+        Act::Write(table, _) => Action::OnTable(TableAction::Write, table),
+        Act::CreateTable(_, _, _) => Action::OnServer(ServerAction::CreateTable),
+        Act::DropTable(table) => Action::OnTable(TableAction::DropTable, table),
+        Act::SetConstraints(table, _) => Action::OnTable(TableAction::SetConstraints, table),
+        Act::CreateUser(_) => Action::OnServer(ServerAction::CreateUser),
+        Act::DropUser(_) => Action::OnServer(ServerAction::DropUser),
+        Act::SetAuths(_, _) => Action::OnServer(ServerAction::SetAuths),
+        Act::Grant(_, permission) => Action::Grant(permission),
+        Act::Revoke(_, permission) => Action::Revoke(permission),
+        Act::Rights(table) => Action::OnTable(TableAction::Rights, table),
     }
 }
 
-/// Why the policy doesn't admit the user's event.
-pub fn denial(user: Name, decision: Decision) -> Option<Refusal>
-    ensures { result ≡ denial user decision }
+/// The refusal of the user's event that the policy doesn't admit.
+pub fn refusal_of(user: Name, denied: Denial) -> Refusal
+    ensures { Some result ≡ denial user (Some denied) }
 {
-    match decision {
-        Decision::Admitted => None,
-        Decision::UnknownUser => Some(Refusal::UnknownUser(user)),
-        Decision::NoTable(table) => Some(Refusal::NoTable(table)),
-        Decision::Denied(permission) => Some(Refusal::PermissionDenied(permission)),
+    match denied {
+        Denial::UnknownUser => Refusal::UnknownUser(user),
+        Denial::NoTable(table) => Refusal::NoTable(table),
+        Denial::PermissionDenied(permission) => Refusal::PermissionDenied(permission),
     }
 }

@@ -1,6 +1,6 @@
 //! The sessions of one user in a run, each in the slot that is its number.
 ghost use Rattle.std.specs.Prelude.{◌≡◌, ◌<◌, ◌++◌, ◌∷◌, ℕ, List, [], Option, Some, None, OnOk, OnErr, length, count_by, is_some};
-ghost use Rattle.tab_history.specs.Sessions.{Held};
+ghost use Rattle.tab_cells.specs.SessionState.{SessionState};
 ghost use Rattle.tab_core.specs.Slots.{slot_at, are_full, NextFrom, CloseFrom};
 ghost use Rattle.tab_core.specs.Owners.{kept_with};
 
@@ -19,9 +19,9 @@ pub struct Slots {
 
 impl Model for Slots {
     ghost use Rattle.std.specs.Prelude.{List, Option};
-    ghost use Rattle.tab_history.specs.Sessions.{Held};
+    ghost use Rattle.tab_cells.specs.SessionState.{SessionState};
 
-    ghost Value = { List (Option Held) };
+    ghost Value = { List (Option SessionState) };
 
     ghost view = { λ s. s.slots.items };
 }
@@ -61,7 +61,7 @@ impl Slots {
 
     /// Keeps the session in the slot added last, or takes that slot away where there is none.
     pub fn settle(&mut self, session: Option<Session>)
-        ensures { (slots : List (Option Held)) → self.old ≡ slots ++ None ∷ [] → self.new ≡ kept_with slots session }
+        ensures { (slots : List (Option SessionState)) → self.old ≡ slots ++ None ∷ [] → self.new ≡ kept_with slots session }
     {
         match session {
             Some(session) => self.fill(session),
@@ -71,7 +71,7 @@ impl Slots {
 
     // Puts the session into the slot added last.
     fn fill(&mut self, session: Session)
-        ensures { (slots : List (Option Held)) → self.old ≡ slots ++ None ∷ [] → self.new ≡ slots ++ Some session ∷ [] }
+        ensures { (slots : List (Option SessionState)) → self.old ≡ slots ++ None ∷ [] → self.new ≡ slots ++ Some session ∷ [] }
     {
         if let Some(last) = self.slots.len().checked_sub(1) {
             put(&mut self.slots[last], Some(session));
@@ -80,7 +80,7 @@ impl Slots {
 
     // Takes the slot away that was added last.
     fn shrink(&mut self)
-        ensures { (slots : List (Option Held)) → self.old ≡ slots ++ None ∷ [] → self.new ≡ slots }
+        ensures { (slots : List (Option SessionState)) → self.old ≡ slots ++ None ∷ [] → self.new ≡ slots }
     {
         let _ = self.slots.pop();
     }

@@ -4,16 +4,18 @@ ghost use Rattle.std.specs.Int.{int_max};
 ghost use Rattle.tab_history.specs.Bases.{new_core};
 ghost use Rattle.tab_history.specs.Answers.{event_answer};
 ghost use Rattle.tab_history.specs.Histories.{world_of};
-ghost use Rattle.tab_history.specs.Standing.{StandsFor};
-ghost use Rattle.tab_core.specs.Stepping.{Steps, Acts, IsAdmitted, own_answer};
+ghost use Rattle.tab_history.specs.Refinement.{Refines};
+ghost use Rattle.tab_core.specs.Stepping.{Steps, Acts};
 
 use crate::Session;
-use crate::policing::{action_of, denial};
+use crate::acts::{open, write};
+use crate::granting::rights;
+use crate::policing::{action_of, refusal_of};
 use crate::reply::moves_clock;
 use crate::tables::Tables;
 use std::alloc::{AllocError, Global};
 use std::marker::Model;
-use tab_history::{Act, Event, Reply};
+use tab_history::{Act, Event, Refusal, Reply};
 use tab_key::Name;
 use tab_policy::Policy;
 
@@ -39,9 +41,9 @@ impl Model for Core {
 }
 
 impl Core {
-    /// A core that stands for a new one: with the one user `root`, who has every system permission and no authorizations, and no table. The clock is 0.
+    /// A core that refines a new one: with the one user `root`, who has every system permission and no authorizations, and no table. The clock is 0.
     pub fn new(alloc: Global) -> Result<Core, AllocError>
-        ensures { IfOk result (λ core. StandsFor (world_of core) (world_of new_core)) }
+        ensures { IfOk result (λ core. Refines (world_of core) (world_of new_core)) }
     {
         Ok(Core {
             clock: 0,
@@ -73,21 +75,21 @@ impl Core {
     fn answer(&mut self, alloc: Global, now: i64, user: Name, act: Act) -> Reply<Session>
         ensures { Acts (event_answer self.old [] now user act) self.old now user act result self.new }
     {
-        let decision = self.policy.decide(&user, &action_of(&act));
-        if let Some(refusal) = denial(user, decision) {
-            return Reply::Refused(refusal);
-        }
-        self.act(alloc, now, user, act)
-    }
-
-    // The same of an admitted event.
-    fn act(&mut self, alloc: Global, now: i64, user: Name, act: Act) -> Reply<Session>
-        requires { IsAdmitted self.old user act }
-        ensures { Acts (own_answer self.old now user act) self.old now user act result self.new }
-    {
+        let caller = match self.policy.decide(&user, &action_of(&act)) {
+            Ok(caller) => caller,
+            Err(denial) => return refused(act, refusal_of(user, denial)),
+        };
         match act {
-            Act::Open(scan) => self.open(alloc, now, user, scan),
-            Act::Write(table, mutation) => self.write(alloc, now, user, table, mutation),
+            Act::Open(scan) => open(alloc, &mut self.tables, caller.authorizations, scan),
+            Act::Write(table, mutation) => write(
+                alloc,
+                &mut self.tables,
+                &mut self.next,
+                caller.authorizations,
+                now,
+                table,
+                mutation,
+            ),
             Act::CreateTable(table, time, versions) => self.create_table(
                 alloc, now, user, table, time, versions,
             ),
@@ -103,9 +105,16 @@ impl Core {
             Act::SetAuths(name, auths) => self.set_auths(now, user, name, auths),
             Act::Grant(name, permission) => self.grant(now, user, name, permission),
             Act::Revoke(name, permission) => self.revoke(now, user, name, permission),
-            Act::Rights(table) => self.rights(now, user, table),
+            Act::Rights(_) => rights(caller),
         }
     }
+}
+
+// The reply to an act that isn't done.
+fn refused(_act: Act, refusal: Refusal) -> Reply<Session>
+    ensures { result ≡ Reply.Refused refusal }
+{
+    Reply::Refused(refusal)
 }
 
 // The later of two moments.

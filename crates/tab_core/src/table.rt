@@ -1,13 +1,22 @@
 //! One table.
-ghost use Rattle.std.specs.Prelude.{◌≡◌, [], IfOk};
+ghost use Rattle.std.specs.Prelude.{◌≡◌, ◌<◌, ◌++◌, [], Some, map, reverse, Contains, IfOk, OnOk, OnErr};
+ghost use Rattle.tab_key.specs.Records.{Record as Fields};
+ghost use Rattle.tab_key.specs.Sorted.{sorted};
+ghost use Rattle.tab_cells.specs.Written.{timed, records_of};
+ghost use Rattle.tab_history.specs.Checks.{mutation_checks};
 ghost use Rattle.tab_history.specs.Answers.{query_of};
-ghost use Rattle.tab_history.specs.Cells.{cells};
+ghost use Rattle.tab_cells.specs.Cells.{cells};
 ghost use Rattle.tab_history.specs.Settings.{least};
+ghost use Rattle.tab_core.specs.Stepping.{IsChecked};
+ghost use Rattle.tab_core.specs.Tables.{table_settings, with_records};
 
 use crate::Session;
+use crate::checking::mutation_refusal;
 use std::alloc::{AllocError, Global};
-use tab_history::{Scan, TimeMode};
-use tab_key::Items;
+use tab_history::{Refusal, Scan, TimeMode};
+use tab_key::{Items, Part};
+use tab_label::AuthSet;
+use tab_mutation::Mutation;
 use tab_rules::Constraint;
 use tab_tablet::Tablet;
 
@@ -37,6 +46,37 @@ impl Table {
             constraints: Items::new(alloc),
             horizon: i64::MIN,
             records: Tablet::new(alloc),
+        }
+    }
+
+    /// Puts the updates of the mutation in, if it passes its checks. The number is the one that the write gets, above those of all records.
+    ///
+    /// # Errors
+    ///
+    /// The first failing check refuses it, or memory or numbers ran out. The table is then as it was.
+    pub fn write(
+        &mut self,
+        alloc: Global,
+        mutation: &Mutation,
+        authorizations: &AuthSet,
+        seq: u64,
+        now: i64,
+    ) -> Result<(), Refusal>
+        requires unused { (u : Fields) → Contains self.old.records u → u.seq < seq }
+        ensures checks { IsChecked (mutation_checks (Some (table_settings self.old)) authorizations.now now mutation.now) result }
+        ensures room { OnOk result (seq < 18446744073709551615) }
+        ensures ok { OnOk result (self.new ≡ with_records (sorted (records_of seq mutation.now.row (reverse (map (timed now) mutation.now.updates)) ++ self.old.records)) self.old) }
+        ensures err { OnErr result (self.new ≡ self.old) }
+    {
+        if let Some(refusal) = mutation_refusal(alloc, self, authorizations, now, mutation) {
+            return Err(refusal);
+        }
+        if seq == u64::MAX {
+            return Err(Refusal::TooLarge(Part::Numbers));
+        }
+        match self.records.write(mutation, seq, now) {
+            Ok(()) => Ok(()),
+            Err(AllocError) => Err(Refusal::NoMemory),
         }
     }
 

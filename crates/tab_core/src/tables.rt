@@ -1,11 +1,13 @@
 //! Tables by name.
-ghost use Rattle.std.specs.Prelude.{◌≡◌, ◌<◌, ◌++◌, ℕ, List, [], Option, Some, None, true, false, cond, reverse, map, Contains, is_some, bytes_eq, option_copied, IfOk, OnOk, OnErr};
+ghost use Rattle.std.specs.Prelude.{◌≡◌, ◌<◌, ◌++◌, ℕ, List, [], Option, Some, None, true, false, cond, reverse, map, Contains, is_some, bytes_eq, IfOk, OnOk, OnErr};
 ghost use Rattle.tab_key.specs.Records.{Record};
 ghost use Rattle.tab_key.specs.Sorted.{sorted};
 ghost use Rattle.tab_policy.specs.Entries.{at_name, changed_at};
-ghost use Rattle.tab_history.specs.Changes.{posted};
-ghost use Rattle.tab_history.specs.Readings.{numbered, constrained};
+ghost use Rattle.tab_cells.specs.Written.{timed, records_of};
+ghost use Rattle.tab_history.specs.Checks.{mutation_checks};
+ghost use Rattle.tab_history.specs.Readings.{constrained};
 ghost use Rattle.tab_history.specs.Answers.{listed, query_of};
+ghost use Rattle.tab_core.specs.Stepping.{IsChecked};
 ghost use Rattle.tab_core.specs.Tables.{settings_in, records_in, found_settings, found_records, table_settings, with_constraints, with_records};
 
 use crate::Session;
@@ -13,8 +15,9 @@ use crate::table::Table;
 use std::alloc::{AllocError, Global};
 use std::collections::BTreeMap;
 use std::marker::Model;
-use tab_history::Scan;
+use tab_history::{Refusal, Scan};
 use tab_key::{Items, Name};
+use tab_label::AuthSet;
 use tab_mutation::Mutation;
 use tab_rules::Constraint;
 use tab_version::Version;
@@ -44,15 +47,6 @@ impl Tables {
         Tables {
             by_name: BTreeMap::new(alloc),
         }
-    }
-
-    /// The table of this name.
-    #[tactic(auto, using(crate::proofs::Found::settings_found, crate::proofs::Found::records_found))]
-    pub fn get(&self, name: &Name) -> Option<&Table>
-        ensures settings { found_settings (option_copied result) ≡ settings_in self.now name.now }
-        ensures records { found_records (option_copied result) ≡ records_in self.now name.now }
-    {
-        self.by_name.get(name)
     }
 
     /// Whether there is a table of this name.
@@ -113,22 +107,38 @@ fn set_constraints(map: &mut BTreeMap<Name, Table>, name: &Name, constraints: It
 }
 
 impl Tables {
-    /// Puts the updates of an accepted mutation into the table, which must be there. An error leaves the tables as they were.
+    /// Puts the updates of the mutation into the table, which must be there, if it passes its checks.
+    ///
+    /// # Errors
+    ///
+    /// The first failing check refuses it, or memory or numbers ran out. The tables are then as they were.
     pub fn write(
         &mut self,
+        alloc: Global,
         name: &Name,
         mutation: &Mutation,
+        authorizations: &AuthSet,
         seq: u64,
-        clock: i64,
-    ) -> Result<(), AllocError>
+        now: i64,
+    ) -> Result<(), Refusal>
         requires there { is_some (settings_in self.old name.now) ≡ true }
         requires unused { (u : Record) → Contains (records_in self.old name.now) u → u.seq < seq }
+        ensures checks { IsChecked (mutation_checks (settings_in self.old name.now) authorizations.now now mutation.now) result }
+        ensures room { OnOk result (seq < 18446744073709551615) }
         ensures settings { (q : List ℕ) → settings_in self.new q ≡ settings_in self.old q }
         ensures records { OnOk result ((q : List ℕ) → records_in self.new q ≡ cond (bytes_eq name.now q)
-            (sorted (numbered seq mutation.now.row (reverse (map (posted clock) mutation.now.updates)) ++ records_in self.old name.now)) (records_in self.old q)) }
+            (sorted (records_of seq mutation.now.row (reverse (map (timed now) mutation.now.updates)) ++ records_in self.old name.now)) (records_in self.old q)) }
         ensures err { OnErr result ((q : List ℕ) → records_in self.new q ≡ records_in self.old q) }
     {
-        write(&mut self.by_name, name, mutation, seq, clock)
+        write(
+            &mut self.by_name,
+            alloc,
+            name,
+            mutation,
+            authorizations,
+            seq,
+            now,
+        )
     }
 
     /// A session on what a scan shows; on nothing, where there is no such table. An error leaves the tables as they were.
@@ -140,22 +150,27 @@ impl Tables {
     }
 }
 
+// Puts the updates of the mutation into the table under the name, which must be there, if it passes its checks.
 fn write(
     tables: &mut BTreeMap<Name, Table>,
+    alloc: Global,
     name: &Name,
     mutation: &Mutation,
+    authorizations: &AuthSet,
     seq: u64,
-    clock: i64,
-) -> Result<(), AllocError>
+    now: i64,
+) -> Result<(), Refusal>
     requires there { is_some (at_name name.now tables.old.entries) ≡ true }
     requires unused { (u : Record) → Contains (found_records (at_name name.now tables.old.entries)) u → u.seq < seq }
+    ensures checks { IsChecked (mutation_checks (found_settings (at_name name.now tables.old.entries)) authorizations.now now mutation.now) result }
+    ensures room { OnOk result (seq < 18446744073709551615) }
     ensures ok { OnOk result ((q : List ℕ) → at_name q tables.new.entries ≡ changed_at name.now
-        (with_records (sorted (numbered seq mutation.now.row (reverse (map (posted clock) mutation.now.updates)) ++ found_records (at_name name.now tables.old.entries)))) tables.old.entries q) }
+        (with_records (sorted (records_of seq mutation.now.row (reverse (map (timed now) mutation.now.updates)) ++ found_records (at_name name.now tables.old.entries)))) tables.old.entries q) }
     ensures err { OnErr result ((q : List ℕ) → at_name q tables.new.entries ≡ at_name q tables.old.entries) }
 {
     match tables.get_mut(name) {
-        Some(table) => table.records.write(mutation, seq, clock),
-        None => Ok(()),
+        Some(table) => table.write(alloc, mutation, authorizations, seq, now),
+        None => Err(Refusal::NoTable(*name)),
     }
 }
 

@@ -1,11 +1,11 @@
 //! Users made and dropped.
 ghost use Rattle.tab_core.specs.Stepping.{Acts, own_answer};
 
-use crate::checking::is_root;
 use crate::{Core, Session};
 use std::alloc::AllocError;
 use tab_history::{Act, Refusal, Reply};
 use tab_key::Name;
+use tab_policy::is_root;
 
 impl Core {
     // A new user, without rights and authorizations.

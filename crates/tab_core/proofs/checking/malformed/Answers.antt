@@ -1,4 +1,4 @@
-use Rattle.std.proofs.Common.{◌≡◌, ◌<◌, ◌≤◌, ℕ, List, length, arith, rules, ap, subst, sym}
+use Rattle.std.proofs.Common.{◌≡◌, ◌<◌, length, arith, ap}
 use Rattle.tab_mutation.specs.Mutations.{Update}
 use Rattle.std.specs.List.{slice_index_or}
 use Rattle.tab_core.proofs.Limits.{shaped_labels}

@@ -1,5 +1,4 @@
-use Rattle.std.proofs.Common.{◌≡◌, ◌<◌, ◌≤◌, ℕ, List, length, arith, rules, Err, subst, sym, ap, ◌∙◌}
-use Rattle.std.specs.Prelude.{Result, Bool}
+use Rattle.std.proofs.Common.{◌≡◌, ◌<◌, ◌≤◌, ℕ, List, length, arith, Err, subst, sym}
 use Rattle.tab_label.specs.Holding.{judged}
 use Rattle.tab_core.proofs.Limits.{judged_within}
 use Rattle.tab_core.proofs.checking.malformed_at.Goals as goal

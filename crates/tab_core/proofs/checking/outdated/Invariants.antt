@@ -1,8 +1,8 @@
 use Rattle.std.proofs.Common.{◌≡◌, drop}
 use Rattle.std.specs.Prelude.{unwrap_or, int_lt}
 use Rattle.tab_mutation.specs.Mutations.{Update}
-use Rattle.tab_mutation.specs.Shape.{first_place}
+use Rattle.tab_mutation.specs.Shape.{first_index}
 use Rattle.tab_core.proofs.checking.outdated.Given as goal
 
 abbrev pub invariant-loop-index : goal.invariant-loop-index
-invariant-loop-index l = first_place (λ (u : Update). int_lt (unwrap_or u.timestamp l.now) l.table.horizon) 0 l.mutation.updates ≡ first_place (λ (u : Update). int_lt (unwrap_or u.timestamp l.now) l.table.horizon) l.index (drop l.index l.mutation.updates)
+invariant-loop-index l = first_index (λ (u : Update). int_lt (unwrap_or u.timestamp l.now) l.table.horizon) 0 l.mutation.updates ≡ first_index (λ (u : Update). int_lt (unwrap_or u.timestamp l.now) l.table.horizon) l.index (drop l.index l.mutation.updates)

@@ -1,6 +1,6 @@
-use Rattle.std.proofs.Common.{◌≡◌, ◌<◌, true, List, length, Option, rules, arith, sym, ◌∙◌, ap, subst}
+use Rattle.std.proofs.Common.{◌≡◌, ◌<◌, true, List, length, Option, rules, sym, subst}
 use Rattle.std.specs.Prelude.{bytes_eq, slice_set}
-use Rattle.tab_history.specs.Sessions.{Held}
+use Rattle.tab_cells.specs.SessionState.{SessionState}
 use Rattle.tab_core.specs.Slots.{CloseFrom}
 use Rattle.tab_core.specs.Owners.{owner_place, slots_of}
 use Rattle.tab_core.specs.declared.running.Owner.{Owner}
@@ -24,7 +24,7 @@ returns-clause-own c =
     let here : bytes_eq c.index_mut.result.now.user c.args.user.now ≡ true = user_at os c.args.user.now c.place_of-at.result c.index_mut.result.now at lt c.index_mut.ensures.value in
     let was : slots_of os c.args.user.now ≡ c.index_mut.result.now.sessions = found_at os c.args.user.now c.place_of-at.result c.index_mut.result.now at lt c.index_mut.ensures.value in
     let now : slots_of (slice_set os c.place_of-at.result changed) c.args.user.now ≡ c.close.new.self = set_own os c.args.user.now c.place_of-at.result changed at lt here in
-    subst (λ (ss : List (Option Held)). CloseFrom ss c.args.slot c.close.result (slots_of (slice_set os c.place_of-at.result changed) c.args.user.now)) (sym was) (subst (λ (ss : List (Option Held)). CloseFrom c.index_mut.result.now.sessions c.args.slot c.close.result ss) (sym now) c.close.ensures)
+    subst (λ (ss : List (Option SessionState)). CloseFrom ss c.args.slot c.close.result (slots_of (slice_set os c.place_of-at.result changed) c.args.user.now)) (sym was) (subst (λ (ss : List (Option SessionState)). CloseFrom c.index_mut.result.now.sessions c.args.slot c.close.result ss) (sym now) c.close.ensures)
 
 pub returns-clause-others : goal.returns-clause-others
 returns-clause-others c =

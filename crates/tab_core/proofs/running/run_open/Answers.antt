@@ -1,6 +1,6 @@
-use Rattle.std.proofs.Common.{◌≡◌, ◌<◌, true, List, length, rules}
+use Rattle.std.proofs.Common.{◌≡◌, ◌<◌, true, List, length}
 use Rattle.std.specs.Prelude.{bytes_eq, slice_set}
-use Rattle.tab_core.specs.Owners.{owner_place, slots_of}
+use Rattle.tab_core.specs.Owners.{owner_place}
 use Rattle.tab_core.specs.declared.running.Owner.{Owner}
 use Rattle.tab_core.proofs.OwnerLemmas.{found_at, user_at, set_own, leaves_others}
 use Rattle.tab_core.proofs.Runs.{runs_nowhere, runs_open}

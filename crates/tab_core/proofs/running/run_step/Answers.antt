@@ -1,4 +1,4 @@
-use Rattle.std.proofs.Common.{List, subst, sym}
+use Rattle.std.proofs.Common.{subst, sym}
 use Rattle.tab_history.specs.declared.event.Step.{Step}
 use Rattle.tab_core.specs.Owners.{RunsOn}
 use Rattle.tab_core.proofs.Runs.{runs_next, runs_close}

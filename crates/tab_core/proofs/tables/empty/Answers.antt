@@ -1,5 +1,5 @@
 use Rattle.std.proofs.Common.{◌≡◌, [], ◌∙◌, ap}
-use Rattle.tab_history.specs.Cells.{cells}
+use Rattle.tab_cells.specs.Cells.{cells}
 use Rattle.tab_iter.specs.Bags.{flat}
 use Rattle.tab_iter.specs.Stack.{query_of}
 use Rattle.tab_core.proofs.Opening.{cells_of_none}

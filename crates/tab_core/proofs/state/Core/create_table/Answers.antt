@@ -1,7 +1,6 @@
-use Rattle.std.proofs.Common.{◌≡◌, [], true, false, cond, subst, sym, ap, ◌∙◌, rules, List, ℕ, Some, refl}
-use Rattle.std.specs.Prelude.{is_some, bytes_eq, Option}
-use Rattle.tab_key.specs.Records.{Record}
-use Rattle.tab_policy.specs.State.{State}
+use Rattle.std.proofs.Common.{◌≡◌, [], true, false, cond, subst, sym, ap, ◌∙◌, List, Some}
+use Rattle.std.specs.Prelude.{is_some, bytes_eq}
+use Rattle.tab_policy.specs.State.{State, Readings, readings}
 use Rattle.tab_history.specs.declared.event.Act.{Act}
 use Rattle.tab_history.specs.declared.event.Act.TheVariants as act
 use Rattle.tab_history.specs.declared.reply.Refusal.TheVariants.{TableExists, NoMemory}
@@ -11,7 +10,9 @@ use Rattle.tab_history.specs.Bases.{Base, BaseTable}
 use Rattle.tab_core.specs.declared.table.Table.{Table}
 use Rattle.tab_core.specs.Tables.{settings_in, records_in, table_settings}
 use Rattle.tab_core.specs.Stepping.{Acts, own_answer, IsCore}
-use Rattle.tab_core.proofs.Making.{lacked, table_exists_already, table_made, core_made, core_back, lacked_alike, settings_back, records_back}
+use Rattle.tab_core.proofs.Acting.{lacked, lacked_alike}
+use Rattle.tab_core.proofs.Cores.{core_renewed, core_alike}
+use Rattle.tab_core.proofs.TableActs.{table_exists_already, table_made, settings_back, records_back}
 use Rattle.tab_core.proofs.state.Core.create_table.Goals as goal
 
 pub returns-then-contains : goal.returns-then-contains
@@ -31,17 +32,18 @@ returns-in-Err c =
     c.self.view_is (lacked _ _ c.args.now c.args.user a c.self.invariant))
 
 pub invariant_of-self-in-Ok-create_table : goal.invariant_of-self-in-Ok-create_table
+unfolding readings
 invariant_of-self-in-Ok-create_table c =
     let none : c.new-made.result.records ≡ [] = ap (λ (t : Table). t.records) c.new-made.ensures in
-    core_made _ c.create_table.new.self c.insert.new.self c.args.table (table_settings c.new-made.result) c.self.invariant c.in-Ok.ensures.settings
-    (λ q. c.in-Ok.ensures.records q ∙ ap (λ us. cond (bytes_eq c.args.table q) us (records_in c.self.inside.tables q)) none) c.in-Ok-create_table.ensures.tables
+    core_renewed _ c.create_table.new.self c.insert.new.self c.args.table (Some (table_settings c.new-made.result)) c.self.invariant c.in-Ok.ensures.settings
+    (λ q. c.in-Ok.ensures.records q ∙ ap (λ us. cond (bytes_eq c.args.table q) us (records_in c.self.inside.tables q)) none) (λ q. ap (λ (r : Readings). r.tables q) c.in-Ok-create_table.ensures.ok)
 
 pub invariant_of-self-in-Err-create_table : goal.invariant_of-self-in-Err-create_table
 invariant_of-self-in-Err-create_table c =
     let none : c.new-made.result.records ≡ [] = ap (λ (t : Table). t.records) c.new-made.ensures in
     let absent : is_some (settings_in c.self.inside.tables c.args.table) ≡ false = sym c.contains.ensures ∙ c.if-contains.false in
     subst (λ (p : State). IsCore (record { clock = c.self.inside.clock; next = c.self.inside.next; policy = p; tables = c.remove.new.self })) (sym c.in-Err-create_table.ensures.err)
-    (core_back _ c.remove.new.self c.self.invariant
+    (core_alike _ c.remove.new.self c.self.invariant
     (settings_back c.self.inside.tables c.insert.new.self c.remove.new.self c.args.table (table_settings c.new-made.result) absent c.in-Ok.ensures.settings c.remove.ensures.settings)
     (records_back c.self.inside.tables c.insert.new.self c.remove.new.self c.args.table absent
     (λ q. c.in-Ok.ensures.records q ∙ ap (λ us. cond (bytes_eq c.args.table q) us (records_in c.self.inside.tables q)) none) c.remove.ensures.records))
@@ -56,8 +58,7 @@ returns-in-Ok-create_table c =
     subst (λ (b : Base). Acts (own_answer b c.args.now c.args.user a) b c.args.now c.args.user a Done new) c.self.view_is
     (table_made _ c.create_table.new.self c.insert.new.self c.args.now c.args.user c.args.table c.args.time c.args.versions c.self.invariant absent
     (λ q. c.in-Ok.ensures.settings q ∙ ap (λ (s : Settings). cond (bytes_eq c.args.table q) (Some s) (settings_in c.self.inside.tables q)) made)
-    (λ q. c.in-Ok.ensures.records q ∙ ap (λ us. cond (bytes_eq c.args.table q) us (records_in c.self.inside.tables q)) none)
-    c.in-Ok-create_table.ensures.users c.in-Ok-create_table.ensures.auths c.in-Ok-create_table.ensures.system c.in-Ok-create_table.ensures.rights)
+    (λ q. c.in-Ok.ensures.records q ∙ ap (λ us. cond (bytes_eq c.args.table q) us (records_in c.self.inside.tables q)) none) c.in-Ok-create_table.ensures.ok)
 
 pub returns-in-Err-create_table : goal.returns-in-Err-create_table
 returns-in-Err-create_table c =

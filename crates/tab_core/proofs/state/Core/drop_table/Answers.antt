@@ -1,17 +1,19 @@
-use Rattle.std.proofs.Common.{subst}
+use Rattle.std.proofs.Common.{None, ap, subst}
 use Rattle.tab_history.specs.declared.event.Act.TheVariants as act
 use Rattle.tab_history.specs.declared.reply.Reply.TheVariants.{Done}
 use Rattle.tab_history.specs.Bases.{Base}
 use Rattle.tab_core.specs.Stepping.{Acts, own_answer}
-use Rattle.tab_core.proofs.Dropping.{core_dropped, table_dropped}
+use Rattle.tab_policy.specs.State.{Readings, readings}
+use Rattle.tab_core.proofs.Cores.{core_renewed}
+use Rattle.tab_core.proofs.TableActs.{table_dropped}
 use Rattle.tab_core.proofs.state.Core.drop_table.Goals as goal
 
 pub invariant_of-self : goal.invariant_of-self
-invariant_of-self c = core_dropped _ c.drop_table.new.self c.remove.new.self c.args.table c.self.invariant c.remove.ensures.settings c.remove.ensures.records c.drop_table.ensures.tables
+unfolding readings
+invariant_of-self c = core_renewed _ c.drop_table.new.self c.remove.new.self c.args.table None c.self.invariant c.remove.ensures.settings c.remove.ensures.records (λ q. ap (λ (r : Readings). r.tables q) c.drop_table.ensures)
 
 pub returns : goal.returns
 returns c =
     let new : Base = record { clock = c.self.inside.clock; next = c.self.inside.next; policy = c.drop_table.new.self; tables = c.remove.new.self } in
     subst (λ (b : Base). Acts (own_answer b c.args.now c.args.user (act.DropTable c.args.table)) b c.args.now c.args.user (act.DropTable c.args.table) Done new) c.self.view_is
-    (table_dropped _ c.drop_table.new.self c.remove.new.self c.args.now c.args.user c.args.table c.self.invariant c.remove.ensures.settings c.remove.ensures.records
-    c.drop_table.ensures.users c.drop_table.ensures.auths c.drop_table.ensures.system c.drop_table.ensures.rights)
+    (table_dropped _ c.drop_table.new.self c.remove.new.self c.args.now c.args.user c.args.table c.self.invariant c.remove.ensures.settings c.remove.ensures.records c.drop_table.ensures)

@@ -1,8 +1,7 @@
-use Rattle.std.proofs.Common.{◌≡◌, [], List, ℕ, ℤ, Some, None, true, false, sym, ap, ◌∙◌, subst, rules, to_z, of_z, w64}
+use Rattle.std.proofs.Common.{◌≡◌, [], ℤ, true, false, sym, ◌∙◌, subst, rules, to_z, of_z, w64}
 use Rattle.std.specs.Int.{int_max}
 use Rattle.tab_history.specs.Bases.{Base}
-use Rattle.tab_history.specs.Answers.{event_answer}
-use Rattle.tab_history.specs.Answers.{told_of}
+use Rattle.tab_history.specs.Answers.{event_answer, told_of}
 use Rattle.tab_core.specs.Stepping.{IsCore, Acts, Steps, moves_clock}
 use Rattle.tab_core.proofs.Acting.{core_at, stepped, stayed}
 use Rattle.tab_core.proofs.state.Core.step.Goals as goal
