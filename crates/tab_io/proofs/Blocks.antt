@@ -1,11 +1,11 @@
 -- A block of bytes that is read from, or gathered for a write.
-use Rattle.std.proofs.Common.{◌≡◌, ℕ, ◌+◌, ◌-◌, ◌≤◌, List, [], ◌++◌, length, take, drop, slice_range, refl, sym, ap, ◌∙◌, subst, arith, append_assoc, append-nil, length-append, drop-drop, Option, Some, None, Result, Ok, Err, OnErr, take-append-drop}
+use Rattle.std.proofs.Common.{◌≡◌, ℕ, ◌+◌, ◌-◌, ◌≤◌, List, [], ◌++◌, length, take, drop, slice_range, refl, sym, ap, ◌∙◌, subst, arith, append_assoc, append-nil, length-append, drop-drop, Option, Some, None, Result, Ok, Err, take-append-drop}
 use Rattle.std.specs.Io.KnownBytes.{Appends, Consumes, Keeps, prepend_known}
 use Rattle.std.proofs.KnownBytes.{Appends-kept}
 use Rattle.std.proofs.Math.Seq.{drop-length}
 use Rattle.std.proofs.lemmas.List.{take_all, drop-take, take-append-le, drop-append-le}
-use Rattle.tab_io.specs.Streams.{HasPut, Puts, Flushes, KeepsPart}
-use Rattle.tab_io.proofs.Putting.{put_more, puts_more}
+use Rattle.tab_io.specs.Streams.{Gathers, GathersPart, Accepts, Drains}
+use Rattle.tab_io.proofs.Putting.{accepts_more}
 
 -- what is left of a part once its first bytes are taken
 pub range_later : (xs : List ℕ) (a e n : ℕ) → n ≤ e - a → slice_range xs (a + n) e ≡ drop n (slice_range xs a e)
@@ -20,7 +20,7 @@ front_taken (Some rest) front n = ap (λ bs. bs ++ rest) (sym (take-append-drop 
 
 -- a write stopped inside the block
 pub block_cut : (c c' : Option (List ℕ)) (items rest : List ℕ) (done n : ℕ) → rest ≡ drop done items → n ≤ length rest
-    → Appends c c' (take n rest) → HasPut c (drop done items) c' (drop (done + n) items) []
+    → Appends c c' (take n rest) → Gathers c (drop done items) c' (drop (done + n) items) []
 block_cut c c' items rest done n is fits grown =
     let held : List ℕ = drop done items in
     let P : List ℕ → Type 0 = λ x. Appends c c' (take n x) in
@@ -33,7 +33,7 @@ block_cut c c' items rest done n is fits grown =
     }
 
 -- all that was gathered is written, and these bytes are gathered
-pub gathered_anew : (c c1 : Option (List ℕ)) (h h2 bs : List ℕ) → Appends c c1 h → h2 ≡ bs → HasPut c h c1 h2 bs
+pub gathered_anew : (c c1 : Option (List ℕ)) (h h2 bs : List ℕ) → Appends c c1 h → h2 ≡ bs → Gathers c h c1 h2 bs
 gathered_anew c c1 h h2 bs grown is =
     let P : List ℕ → Type 0 = λ x. Appends c c1 x in record {
       count = length h;
@@ -43,7 +43,7 @@ gathered_anew c c1 h h2 bs grown is =
     }
 
 -- nothing was gathered, and these bytes are written
-pub written_straight : (c c' : Option (List ℕ)) (h' bs : List ℕ) → h' ≡ [] → Appends c c' bs → HasPut c [] c' h' bs
+pub written_straight : (c c' : Option (List ℕ)) (h' bs : List ℕ) → h' ≡ [] → Appends c c' bs → Gathers c [] c' h' bs
 written_straight c c' h' bs none grown =
     let P : List ℕ → Type 0 = λ x. Appends c c' x in record {
       count = length bs;
@@ -53,22 +53,23 @@ written_straight c c' h' bs none grown =
     }
 
 -- nothing was gathered, and a beginning of these bytes is written
-pub straight_part : (c c' : Option (List ℕ)) (h' bs : List ℕ) (n : ℕ) → h' ≡ [] → n ≤ length bs → Appends c c' (take n bs) → KeepsPart c [] c' h' bs
-straight_part c c' h' bs n none fits grown = (n, fits, written_straight c c' h' (take n bs) none grown)
+pub straight_part : (c c' : Option (List ℕ)) (h' bs : List ℕ) (n : ℕ) → h' ≡ [] → Appends c c' (take n bs) → GathersPart c [] c' h' bs
+straight_part c c' h' bs n none grown = record {
+  part = take n bs;
+  rest = drop n bs;
+  whole = sym (take-append-drop n bs);
+  put = written_straight c c' h' (take n bs) none grown;
+}
+
+-- nothing of the bytes was put
+pub none_put : (c c' : Option (List ℕ)) (h h' bs : List ℕ) → Gathers c h c' h' [] → GathersPart c h c' h' bs
+none_put c c' h h' bs kept = record { part = []; rest = bs; whole = refl; put = kept }
 
 -- bytes that are put behind a block that is written whole
-pub puts_after : {E : Type 0} (c c1 c2 : Option (List ℕ)) (h h2 bs : List ℕ) (r : Result (Unit {0}) E) → Appends c c1 h → Puts c1 [] c2 h2 bs r → Puts c h c2 h2 bs r
-puts_after c c1 c2 h h2 bs r grown put = puts_more c h c1 [] c2 h2 [] bs r (gathered_anew c c1 h [] [] grown refl) put
-
--- a beginning of bytes that are put behind a block that is written whole
-pub keeps_after : {E : Type 0} (c c1 c2 : Option (List ℕ)) (h h2 bs : List ℕ) (r : Result (Unit {0}) E) → Appends c c1 h → OnErr r (KeepsPart c1 [] c2 h2 bs) → OnErr r (KeepsPart c h c2 h2 bs)
-keeps_after c c1 c2 h h2 bs (Ok u) grown part = tt
-keeps_after c c1 c2 h h2 bs (Err e) grown part = (part.0, part.1, put_more c h c1 [] c2 h2 [] (take part.0 bs) (gathered_anew c c1 h [] [] grown refl) part.2)
+pub accepts_after : {E : Type 0} (c c1 c2 : Option (List ℕ)) (h h2 bs : List ℕ) (r : Result (Unit {0}) E) → Appends c c1 h → Accepts c1 [] c2 h2 bs r → Accepts c h c2 h2 bs r
+accepts_after c c1 c2 h h2 bs r grown put = accepts_more c h c1 [] c2 h2 [] bs r (gathered_anew c c1 h [] [] grown refl) put
 
 -- the writer passes on a block that is written whole
-pub passed_on : {E : Type 0} (c c1 c2 : Option (List ℕ)) (h h1 : List ℕ) (r : Result (Unit {0}) E) → Appends c c1 h → h1 ≡ [] → Keeps c1 c2 → Flushes c h c2 h1 r × OnErr r (HasPut c h c2 h1 [])
-passed_on c c1 c2 h h1 (Ok u) grown none same = ((Appends-kept c c1 c2 h grown same, none), tt)
-passed_on c c1 c2 h h1 (Err e) grown none same =
-    let all : Appends c c2 h = Appends-kept c c1 c2 h grown same in
-    let P : List ℕ → Type 0 = λ x. Appends c c2 x in
-    ((length h, omega arith, subst P (sym (take_all (length h) h (omega arith))) all), gathered_anew c c2 h h1 [] all none)
+pub passed_on : {E : Type 0} (c c1 c2 : Option (List ℕ)) (h h1 : List ℕ) (r : Result (Unit {0}) E) → Appends c c1 h → h1 ≡ [] → Keeps c1 c2 → Drains c h c2 h1 r
+passed_on c c1 c2 h h1 (Ok u) grown none same = (Appends-kept c c1 c2 h grown same, none)
+passed_on c c1 c2 h h1 (Err e) grown none same = gathered_anew c c2 h h1 [] (Appends-kept c c1 c2 h grown same) none

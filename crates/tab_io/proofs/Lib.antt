@@ -1,4 +1,5 @@
 pub mod Blocks
+pub mod Each
 pub mod Finding
 pub mod Known
 pub mod Putting

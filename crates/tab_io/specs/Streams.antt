@@ -18,30 +18,33 @@ Fills old new front (Ok true) = Keeps old new × (0 < length front)
 Fills old new front (Ok false) = IsEnd old new × (front ≡ [])
 Fills old new front (Err e) = Keeps old new
 
--- known bytes grow by a beginning of bs
-abbrev pub AppendsFront : Option (List ℕ) → Option (List ℕ) → List ℕ → Type 0
-AppendsFront old new bs = (n : ℕ) × (n ≤ length bs) × Appends old new (take n bs)
+-- known bytes grow by a beginning of these
+abbrev pub AppendsPart : Option (List ℕ) → Option (List ℕ) → List ℕ → Type 0
+AppendsPart old new bs = (n : ℕ) × (n ≤ length bs) × Appends old new (take n bs)
 
--- of what is gathered and these bytes, as many from the front as they were were written, and the rest is gathered
-pub record HasPut (c : Option (List ℕ)) (h : List ℕ) (c' : Option (List ℕ)) (h' : List ℕ) (bs : List ℕ) : Type 0 where
+-- the bytes join what is gathered; of all that, as many from the front as they were were written, and the rest is gathered
+pub record Gathers (c : Option (List ℕ)) (h : List ℕ) (c' : Option (List ℕ)) (h' : List ℕ) (bs : List ℕ) : Type 0 where
   pub count : ℕ
   pub fits : count ≤ length (h ++ bs)
   pub written : Appends c c' (take count (h ++ bs))
   pub left : h' ≡ drop count (h ++ bs)
 
--- the bytes are behind what was gathered, or a beginning of all was written
-abbrev pub Puts : {E : Type 0} → Option (List ℕ) → List ℕ → Option (List ℕ) → List ℕ → List ℕ → Result (Unit {0}) E → Type 0
-Puts c h c' h' bs (Ok u) = HasPut c h c' h' bs
-Puts c h c' h' bs (Err e) = AppendsFront c c' (h ++ bs)
+-- a beginning of the bytes joins what is gathered
+pub record GathersPart (c : Option (List ℕ)) (h : List ℕ) (c' : Option (List ℕ)) (h' : List ℕ) (bs : List ℕ) : Type 0 where
+  pub part : List ℕ
+  pub rest : List ℕ
+  pub whole : bs ≡ part ++ rest
+  pub put : Gathers c h c' h' part
 
--- all that is gathered is written, or a beginning of it
-abbrev pub Flushes : {E : Type 0} → Option (List ℕ) → List ℕ → Option (List ℕ) → List ℕ → Result (Unit {0}) E → Type 0
-Flushes c h c' h' (Ok u) = Appends c c' h × (h' ≡ [])
-Flushes c h c' h' (Err e) = AppendsFront c c' h
+-- the bytes join what is gathered, or a beginning of them does
+abbrev pub Accepts : {E : Type 0} → Option (List ℕ) → List ℕ → Option (List ℕ) → List ℕ → List ℕ → Result (Unit {0}) E → Type 0
+Accepts c h c' h' bs (Ok u) = Gathers c h c' h' bs
+Accepts c h c' h' bs (Err e) = GathersPart c h c' h' bs
 
--- what was gathered and a beginning of the bytes were put, in order and without a gap
-abbrev pub KeepsPart : Option (List ℕ) → List ℕ → Option (List ℕ) → List ℕ → List ℕ → Type 0
-KeepsPart c h c' h' bs = (n : ℕ) × (n ≤ length bs) × HasPut c h c' h' (take n bs)
+-- all that is gathered is written; or a beginning of it, and the rest is gathered still
+abbrev pub Drains : {E : Type 0} → Option (List ℕ) → List ℕ → Option (List ℕ) → List ℕ → Result (Unit {0}) E → Type 0
+Drains c h c' h' (Ok u) = Appends c c' h × (h' ≡ [])
+Drains c h c' h' (Err e) = Gathers c h c' h' []
 
 -- a call that goes well counts no fault; one that fails counts one, or the budget is spent
 abbrev pub FailsByFault : {T E : Type 0} → Result T E → ℕ → ℕ → ℕ → Type 0

@@ -1,6 +1,6 @@
 //! Any writer of std, written in blocks.
-ghost use Rattle.std.specs.Prelude.{◌≡◌, ◌+◌, ◌^◌, ◌<◌, ◌≤◌, [], ◌++◌, length, drop, IfOk, OnOk, OnErr, vec_len, vec_capacity};
-ghost use Rattle.tab_io.specs.Streams.{Puts, Flushes, HasPut, KeepsPart, FailsByFault};
+ghost use Rattle.std.specs.Prelude.{◌≡◌, ◌+◌, ◌^◌, ◌<◌, ◌≤◌, [], ◌++◌, length, drop, IfOk, OnOk, vec_len, vec_capacity};
+ghost use Rattle.tab_io.specs.Streams.{Accepts, Drains, FailsByFault};
 
 use crate::counted::Counted;
 use crate::{BLOCK_LENGTH, Output, WriteFault};
@@ -59,9 +59,8 @@ impl<W: Write> BlockWriter<W> {
 
     // What a write that stopped leaves unwritten stays in the block.
     fn write_block(&mut self) -> Result<(), WriteFault>
-        ensures bytes { Flushes (W.contents self.old.sink.inner) (drop self.old.written self.old.block.items) (W.contents self.new.sink.inner) (drop self.new.written self.new.block.items) result }
+        ensures bytes { Drains (W.contents self.old.sink.inner) (drop self.old.written self.old.block.items) (W.contents self.new.sink.inner) (drop self.new.written self.new.block.items) result }
         ensures faults { FailsByFault result self.old.sink.faults self.new.sink.faults self.new.sink.budget }
-        ensures kept { OnErr result (HasPut (W.contents self.old.sink.inner) (drop self.old.written self.old.block.items) (W.contents self.new.sink.inner) (drop self.new.written self.new.block.items) []) }
         ensures capacity { vec_capacity self.new.block ≡ vec_capacity self.old.block }
         ensures empty { OnOk result ((self.new.block.items ≡ []) × (vec_len self.new.block ≡ 0)) }
         ensures next { OnOk result (self.new.written ≡ 0) }
@@ -84,9 +83,8 @@ impl<W: Write> BlockWriter<W> {
     // Nothing is gathered, so these bytes are next.
     fn write_straight(&mut self, bytes: &[u8]) -> Result<(), WriteFault>
         requires { self.old.block.items ≡ [] }
-        ensures bytes { Puts (W.contents self.old.sink.inner) [] (W.contents self.new.sink.inner) (drop self.new.written self.new.block.items) bytes.now result }
+        ensures bytes { Accepts (W.contents self.old.sink.inner) [] (W.contents self.new.sink.inner) (drop self.new.written self.new.block.items) bytes.now result }
         ensures faults { FailsByFault result self.old.sink.faults self.new.sink.faults self.new.sink.budget }
-        ensures kept { OnErr result (KeepsPart (W.contents self.old.sink.inner) [] (W.contents self.new.sink.inner) (drop self.new.written self.new.block.items) bytes.now) }
     {
         match self.sink.write_all(bytes) {
             Ok(()) => Ok(()),
@@ -97,10 +95,10 @@ impl<W: Write> BlockWriter<W> {
     // The block has no room for these bytes.
     #[cold]
     #[inline(never)]
+    #[tactic(auto, using(crate::proofs::Blocks::none_put))]
     fn put_after_block(&mut self, bytes: &[u8]) -> Result<(), WriteFault>
-        ensures bytes { Puts (W.contents self.old.sink.inner) (drop self.old.written self.old.block.items) (W.contents self.new.sink.inner) (drop self.new.written self.new.block.items) bytes.now result }
+        ensures bytes { Accepts (W.contents self.old.sink.inner) (drop self.old.written self.old.block.items) (W.contents self.new.sink.inner) (drop self.new.written self.new.block.items) bytes.now result }
         ensures faults { FailsByFault result self.old.sink.faults self.new.sink.faults self.new.sink.budget }
-        ensures kept { OnErr result (KeepsPart (W.contents self.old.sink.inner) (drop self.old.written self.old.block.items) (W.contents self.new.sink.inner) (drop self.new.written self.new.block.items) bytes.now) }
     {
         self.write_block()?;
         if bytes.len() < self.block.capacity() {

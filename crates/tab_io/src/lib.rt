@@ -9,12 +9,12 @@
 //! | `reading`, `writing` | the two traits and their faults |
 //! | `block_reader`, `block_writer` | the traits over any reader and writer of std, a block at a time |
 //! | `counted` | the calls that a block makes, counted, and made again where they were interrupted |
-//! | `pieces` | texts put piece by piece, bytes and numbers |
-//! | `places` | the first place of a byte |
+//! | `pieces` | one byte or number, put |
+//! | `position` | where a byte stands first |
 //! | `memory` | readers and writers that fail in the middle of a stream, for tests |
 //!
-//! `specs/Streams` has the words of the contracts: `Fills` for a read, `Puts` and `Flushes` for what is written, over
-//! `HasPut`, which says how much of what is gathered and put has reached the writer. `proofs/Putting` composes them.
+//! `specs/Streams` says what one call of a trait does to known bytes; `specs/Writing` has the words for a function over
+//! an output: `HasPut`, `HasPutPart`, and `Puts` for both. `proofs/Putting` composes them, and `proofs/Each` for lists.
 #![tactic(auto)]
 
 mod reading;
@@ -35,10 +35,7 @@ pub const BLOCK_LENGTH: usize = 65_536;
 
 pub mod memory;
 mod pieces;
-mod places;
+mod position;
 
-pub use pieces::{put_byte, put_decimal, put_signed_decimal, put_two};
-pub use places::{length_before, position_of};
-
-#[cfg(test)]
-mod tests;
+pub use pieces::{put_byte, put_decimal, put_signed_decimal};
+pub use position::length_before;

@@ -1,6 +1,6 @@
 //! Where bytes go.
-ghost use Rattle.std.specs.Prelude.{◌≡◌, ℕ, List, [], Option, OnErr};
-ghost use Rattle.tab_io.specs.Streams.{Puts, Flushes, HasPut, KeepsPart, FailsByFault};
+ghost use Rattle.std.specs.Prelude.{ℕ, List, Option};
+ghost use Rattle.tab_io.specs.Streams.{Accepts, Drains, FailsByFault};
 
 use thiserror::Error;
 
@@ -31,16 +31,14 @@ pub trait Output {
     /// It fails only where a write failed, or once 2^64 - 1 writes were made. After an error nothing that was
     /// gathered is lost, and of `bytes` a beginning, which may be empty or all, is written or gathered.
     fn put(&mut self, bytes: &[u8]) -> Result<(), WriteFault>
-        ensures bytes { Puts (contents self.old) (held self.old) (contents self.new) (held self.new) bytes.now result }
-        ensures faults { FailsByFault result (faults self.old) (faults self.new) (budget self.new) }
-        ensures kept { OnErr result (KeepsPart (contents self.old) (held self.old) (contents self.new) (held self.new) bytes.now) };
+        ensures bytes { Accepts (contents self.old) (held self.old) (contents self.new) (held self.new) bytes.now result }
+        ensures faults { FailsByFault result (faults self.old) (faults self.new) (budget self.new) };
 
     /// Writes all that is gathered.
     ///
     /// It fails only where a write failed, or once 2^64 - 1 writes were made. After an error a beginning of what was
     /// gathered is written, and the rest is gathered still.
     fn flush(&mut self) -> Result<(), WriteFault>
-        ensures bytes { Flushes (contents self.old) (held self.old) (contents self.new) (held self.new) result }
-        ensures faults { FailsByFault result (faults self.old) (faults self.new) (budget self.new) }
-        ensures kept { OnErr result (HasPut (contents self.old) (held self.old) (contents self.new) (held self.new) []) };
+        ensures bytes { Drains (contents self.old) (held self.old) (contents self.new) (held self.new) result }
+        ensures faults { FailsByFault result (faults self.old) (faults self.new) (budget self.new) };
 }

@@ -8,6 +8,7 @@ pub mod Inverting
 pub mod WordLaw
 pub mod WordsLaw
 pub mod NumberLaw
+pub mod Listed
 pub mod ListLaw
 pub mod ColumnLaw
 pub mod UpdateLaw

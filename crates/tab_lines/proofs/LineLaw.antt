@@ -10,7 +10,7 @@ use Rattle.tab_key.specs.declared.range.Bound.TheVariants.{Unbounded}
 use Rattle.tab_key.specs.declared.range.Bounds.{Bounds}
 use Rattle.tab_key.specs.declared.column.Column.{Column}
 use Rattle.tab_label.specs.Sets.{set_of}
-use Rattle.tab_mutation.specs.Mutations.{Mutation, Update}
+use Rattle.tab_mutation.specs.Mutations.{Mutation, Update, with_update}
 use Rattle.tab_rules.specs.declared.constraint.Constraint.{Constraint}
 use Rattle.tab_policy.specs.declared.permission.Permission.{Permission}
 use Rattle.tab_history.specs.declared.event.TimeMode.{TimeMode}
@@ -20,13 +20,13 @@ use Rattle.tab_lines.specs.declared.line.Line.{Line}
 use Rattle.tab_lines.specs.declared.line.Line.TheVariants as says
 use Rattle.tab_lines.specs.declared.command.Command.{Command}
 use Rattle.tab_lines.specs.declared.command.Command.TheVariants as command
-use Rattle.tab_lines.specs.declared.updates.Stamp.TheVariants.{Optional}
+use Rattle.tab_lines.specs.declared.updates.TimestampForm.TheVariants.{Optional}
 use Rattle.tab_lines.specs.Gives.{field, ends, optional}
 use Rattle.tab_lines.specs.Words.{words_of}
 use Rattle.tab_text.specs.Words.{IsWord}
 use Rattle.tab_text.specs.Reading.{bytes_of}
 use Rattle.tab_lines.specs.Fields.{name_of, signed_of, time_word, versions_word, list_of, constraints_of, bound_of, columns_of}
-use Rattle.tab_lines.specs.Updates.{row_of, with_update, with_updates, put_of, delete_of, updates_of}
+use Rattle.tab_lines.specs.Updates.{row_of, with_updates, put_of, delete_of, updates_of}
 use Rattle.tab_lines.specs.Lines.{name_alone, grant_of, settings_at, settings, createtable_of, setauths_of, constraints_line_of, insert_of, delete_line_of, mutate_of, bounds_of, scan_of, at_of, command_of, commanded, said, is_comment, line_of}
 use Rattle.tab_lines.specs.Forms.{IsNameWord, IsNumber, IsList, IsConstraint, IsBound, IsVersions, time_name, AreSettings, IsPermission, IsLastTimestamp, AreUpdates, AreLimits, Form, IsLine, LinesAreForms}
 use Rattle.tab_lines.specs.Forms.AreSettings.{neither as set_neither, time as set_time, versions as set_versions, both as set_both}

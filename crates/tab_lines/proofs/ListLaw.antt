@@ -8,13 +8,14 @@ use Rattle.std.proofs.lemmas.Bool.Decides.{nat_tests}
 use Rattle.std.proofs.lemmas.Slice.Eq.{bytes_eq-Decides}
 use Rattle.tab_key.specs.declared.range.Bound.{Bound}
 use Rattle.tab_key.specs.declared.range.Bound.TheVariants.{Unbounded, Inclusive, Exclusive}
+use Rattle.tab_rules.specs.Constraints.{constraint_name, constraint_named}
 use Rattle.tab_rules.specs.declared.constraint.Constraint.{Constraint}
 use Rattle.tab_rules.specs.declared.constraint.Constraint.TheVariants.{KeySize, Alphanumeric, Numeric, Visibility}
 use Rattle.tab_lines.specs.Words.{parts_at}
 use Rattle.tab_text.specs.Words.{IsWord}
 use Rattle.tab_text.specs.Reading.{bytes_of}
-use Rattle.tab_lines.specs.Fields.{only_if, is_name, name_of, none_word, each_of, listed, list_of, constraint_named, constraint_of, constraints_of, bound_begun, bound_of}
-use Rattle.tab_lines.specs.Forms.{IsNameWord, IsList, IsConstraint, constraint_name, IsBound}
+use Rattle.tab_lines.specs.Fields.{only_if, is_name, name_of, none_word, each_of, listed, list_of, constraint_of, constraints_of, bound_begun, bound_of}
+use Rattle.tab_lines.specs.Forms.{IsNameWord, IsList, IsConstraint, IsBound}
 use Rattle.tab_lines.proofs.NameLemmas.{name_is, name_passes}
 use Rattle.tab_lines.proofs.WordLaw.{words_read}
 use Rattle.tab_lines.proofs.Inverting.{ReadsExactly, some_inj, on_map, on_then}

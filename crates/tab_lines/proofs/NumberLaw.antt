@@ -9,15 +9,17 @@ use Rattle.std.proofs.lemmas.Bool.{ltb-true, lt-ltb}
 use Rattle.std.proofs.lemmas.List.{take-append-drop}
 use Rattle.std.proofs.lemmas.Bool.Decides.{nat_tests}
 use Rattle.std.proofs.lemmas.Slice.Eq.{bytes_eq-Decides}
-use Rattle.tab_lines.specs.Fields.{is_digit, digits_on, magnitude_of, positive, negative, signed_of, stamp_of, stamp_or_dash, only_if, is_version_count, versions_word}
+use Rattle.std.specs.Char.{is_ascii_digit}
+use Rattle.tab_key.specs.declared.part.TheConstants.{MAX_VERSIONS}
+use Rattle.tab_lines.specs.Fields.{digits_on, magnitude_of, positive, negative, signed_of, given_timestamp, timestamp_or_dash, only_if, is_version_count, versions_word}
 use Rattle.tab_lines.specs.Forms.{AreDigits, IsNumber, IsTimestamp, IsVersions}
 use Rattle.tab_lines.proofs.Inverting.{ReadsExactly, some_inj, on_map, on_then}
 
 -- one more digit behind others
-digits_snoc : (m : ℕ) (ds : List ℕ) (k c : ℕ) → digits_on m ds ≡ Some k → is_digit c ≡ true → digits_on m (ds ++ c ∷ []) ≡ Some (10 * k + (c - 48))
+digits_snoc : (m : ℕ) (ds : List ℕ) (k c : ℕ) → digits_on m ds ≡ Some k → is_ascii_digit c ≡ true → digits_on m (ds ++ c ∷ []) ≡ Some (10 * k + (c - 48))
 digits_snoc m [] k c is digit = ap (λ b. cond b (Some (10 * m + (c - 48))) None) digit ∙ ap (λ (n : ℕ). Some (10 * n + (c - 48))) (some_inj m k is)
 digits_snoc m (d ∷ ds) k c is digit =
-    elim (is_digit d) as (λ b. cond b (digits_on (10 * m + (d - 48)) ds) None ≡ Some k → cond b (digits_on (10 * m + (d - 48)) (ds ++ c ∷ [])) None ≡ Some (10 * k + (c - 48))) [
+    elim (is_ascii_digit d) as (λ b. cond b (digits_on (10 * m + (d - 48)) ds) None ≡ Some k → cond b (digits_on (10 * m + (d - 48)) (ds ++ c ∷ [])) None ≡ Some (10 * k + (c - 48))) [
       | true ↦ λ e. digits_snoc (10 * m + (d - 48)) ds k c e digit
       | false ↦ λ e. absurd cc
     ] is
@@ -28,14 +30,14 @@ decimal_read n fits = decimal_by_steps (λ m ds. digits_on 0 ds ≡ Some m) one 
   where
     one : (m : ℕ) → m < 10 → digits_on 0 ((48 + m) ∷ []) ≡ Some m
     one m lt =
-        let digit : is_digit (48 + m) ≡ true = grind (arith, nat_tests) in
+        let digit : is_ascii_digit (48 + m) ≡ true = grind (arith, nat_tests) in
         let e : 10 * 0 + ((48 + m) - 48) ≡ m = omega arith in
         ap (λ b. cond b (Some (10 * 0 + ((48 + m) - 48))) None) digit ∙ ap (λ (k : ℕ). Some k) e
 
     more : (m : ℕ) (ds : List ℕ) → 10 ≤ m → digits_on 0 ds ≡ Some (m / 10) → digits_on 0 (ds ++ ((48 + m % 10) ∷ [])) ≡ Some m
     more m ds le read =
         let small : m % 10 < 10 = omega arith in
-        let digit : is_digit (48 + m % 10) ≡ true = grind (arith, nat_tests) in
+        let digit : is_ascii_digit (48 + m % 10) ≡ true = grind (arith, nat_tests) in
         let e : 10 * (m / 10) + ((48 + m % 10) - 48) ≡ m = omega arith in
         digits_snoc 0 ds (m / 10) (48 + m % 10) read digit ∙ ap (λ (k : ℕ). Some k) e
 
@@ -48,7 +50,7 @@ zeros_read (suc zeros) ds = zeros_read zeros ds
 digits_grow : (m n : ℕ) (cs : List ℕ) → digits_on m cs ≡ Some n → m ≤ n
 digits_grow m n [] is = let e : m ≡ n = some_inj m n is in omega arith
 digits_grow m n (c ∷ cs) is =
-    elim (is_digit c) as (λ b. cond b (digits_on (10 * m + (c - 48)) cs) None ≡ Some n → m ≤ n) [
+    elim (is_ascii_digit c) as (λ b. cond b (digits_on (10 * m + (c - 48)) cs) None ≡ Some n → m ≤ n) [
       | true ↦ λ e. let h = digits_grow (10 * m + (c - 48)) n cs e in omega arith
       | false ↦ λ e. absurd cc
     ] is
@@ -58,7 +60,7 @@ decimal_on : (m n : ℕ) (cs : List ℕ) → 0 < m → n < 2 ^ 64 → digits_on 
 decimal_on m n [] some fits is = ap decimal (sym (some_inj m n is)) ∙ sym (append-nil (decimal m))
 decimal_on m n (c ∷ cs) some fits is =
     let k : ℕ = 10 * m + (c - 48) in
-    elim (is_digit c) as (λ b. is_digit c ≡ b → cond b (digits_on k cs) None ≡ Some n → decimal n ≡ decimal m ++ (c ∷ cs)) [
+    elim (is_ascii_digit c) as (λ b. is_ascii_digit c ≡ b → cond b (digits_on k cs) None ≡ Some n → decimal n ≡ decimal m ++ (c ∷ cs)) [
       | true ↦ λ digit e.
           let low : 48 ≤ c = grind (arith, nat_tests) in
           let high : c ≤ 57 = grind (arith, nat_tests) in
@@ -74,7 +76,7 @@ decimal_on m n (c ∷ cs) some fits is =
 -- a first digit, and those behind it
 digit_sound : (c : ℕ) (cs : List ℕ) (n : ℕ) → n < 2 ^ 64 → (digits_on 0 cs ≡ Some n → AreDigits (48 ∷ cs) n) → digits_on 0 (c ∷ cs) ≡ Some n → AreDigits (c ∷ cs) n
 digit_sound c cs n fits leading is =
-    elim (is_digit c) as (λ b. is_digit c ≡ b → cond b (digits_on (10 * 0 + (c - 48)) cs) None ≡ Some n → AreDigits (c ∷ cs) n) [
+    elim (is_ascii_digit c) as (λ b. is_ascii_digit c ≡ b → cond b (digits_on (10 * 0 + (c - 48)) cs) None ≡ Some n → AreDigits (c ∷ cs) n) [
       | true ↦ λ digit e.
           elim (c == 48) as (λ z. (c == 48) ≡ z → AreDigits (c ∷ cs) n) [
             | true ↦ λ z. let zero : c ≡ 48 = grind (arith, nat_tests) in subst (λ (d : ℕ). AreDigits (d ∷ cs) n) (sym zero) (leading (subst (λ (d : ℕ). digits_on (10 * 0 + (d - 48)) cs ≡ Some n) zero e))
@@ -168,19 +170,19 @@ number_complete word (negsuc n) (digits, e, are, fits) =
 pub numbers_read : ReadsExactly signed_of IsNumber
 numbers_read = record { sound = number_sound; complete = number_complete }
 
-timestamp_sound : (word : List ℕ) (t : Option ℤ) → stamp_or_dash word ≡ Some t → IsTimestamp word t
+timestamp_sound : (word : List ℕ) (t : Option ℤ) → timestamp_or_dash word ≡ Some t → IsTimestamp word t
 timestamp_sound word t is =
-    elim (bytes_eq word (codes "-")) as (λ b. bytes_eq word (codes "-") ≡ b → cond b (Some None) (stamp_of word) ≡ Some t → IsTimestamp word t) [
+    elim (bytes_eq word (codes "-")) as (λ b. bytes_eq word (codes "-") ≡ b → cond b (Some None) (given_timestamp word) ≡ Some t → IsTimestamp word t) [
       | true ↦ λ yes e. subst (λ (o : Option ℤ). IsTimestamp word o) (some_inj None t e) ((bytes_eq-Decides word (codes "-")).0 yes)
       | false ↦ λ no e. on_map (λ z. Some z) (signed_of word) t (IsTimestamp word t) e (λ z read is'. subst (λ (o : Option ℤ). IsTimestamp word o) is' (number_sound word z read))
     ] refl is
 
-timestamp_complete : (word : List ℕ) (t : Option ℤ) → IsTimestamp word t → stamp_or_dash word ≡ Some t
+timestamp_complete : (word : List ℕ) (t : Option ℤ) → IsTimestamp word t → timestamp_or_dash word ≡ Some t
 unfolding magnitude_of
-timestamp_complete word None is = ap (λ (w : List ℕ). stamp_or_dash w) is
+timestamp_complete word None is = ap (λ (w : List ℕ). timestamp_or_dash w) is
 timestamp_complete word (Some z) is =
     let read : signed_of word ≡ Some z = number_complete word z is in
-    elim (bytes_eq word (codes "-")) as (λ b. bytes_eq word (codes "-") ≡ b → cond b (Some None) (stamp_of word) ≡ Some (Some z)) [
+    elim (bytes_eq word (codes "-")) as (λ b. bytes_eq word (codes "-") ≡ b → cond b (Some None) (given_timestamp word) ≡ Some (Some z)) [
       | true ↦ λ yes.
           let here : signed_of word ≡ None = ap (λ (w : List ℕ). signed_of w) ((bytes_eq-Decides word (codes "-")).0 yes) ∙ dash in
           let no : None ≡ Some z = sym here ∙ read in absurd cc
@@ -191,7 +193,7 @@ timestamp_complete word (Some z) is =
     dash = refl
 
 -- a timestamp of one update among several is exactly what is read of its word
-pub timestamps_read : ReadsExactly stamp_or_dash IsTimestamp
+pub timestamps_read : ReadsExactly timestamp_or_dash IsTimestamp
 timestamps_read = record { sound = timestamp_sound; complete = timestamp_complete }
 
 -- ---- versions
@@ -204,7 +206,7 @@ versions_sound word n is =
             | true ↦ λ fits e2.
                 let same : m ≡ n = some_inj m n e2 in
                 let low : 1 ≤ m = grind (arith, nat_tests) in
-                let high : m ≤ 1000 = grind (arith, nat_tests) in
+                let high : m ≤ MAX_VERSIONS = grind (arith, nat_tests) in
                 let whole : word ≡ codes "versions=" ++ drop 9 word = sym (take-append-drop 9 word) ∙ ap (λ (t : List ℕ). t ++ drop 9 word) ((bytes_eq-Decides (take 9 word) (codes "versions=")).0 yes) in
                 subst (λ (k : ℕ). IsVersions word k) same (drop 9 word, whole, magnitude_sound (drop 9 word) m (omega arith) read, low, high)
             | false ↦ λ fits e2. absurd cc

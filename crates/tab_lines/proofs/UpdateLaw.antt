@@ -6,12 +6,12 @@ use Rattle.std.specs.Str.{bytes_eq}
 use Rattle.std.proofs.lemmas.Slice.Eq.{bytes_eq-Decides}
 use Rattle.tab_key.specs.declared.key.Kind.TheVariants.{Delete, Put}
 use Rattle.tab_mutation.specs.Mutations.{Update}
-use Rattle.tab_lines.specs.declared.updates.Stamp.{Stamp}
-use Rattle.tab_lines.specs.declared.updates.Stamp.TheVariants.{Optional, Dashed}
+use Rattle.tab_lines.specs.declared.updates.TimestampForm.{TimestampForm}
+use Rattle.tab_lines.specs.declared.updates.TimestampForm.TheVariants.{Optional, Dashed}
 use Rattle.tab_lines.specs.Gives.{field}
 use Rattle.tab_text.specs.Words.{IsWord}
 use Rattle.tab_text.specs.Reading.{bytes_of}
-use Rattle.tab_lines.specs.Fields.{signed_of, stamp_of, stamp_or_dash}
+use Rattle.tab_lines.specs.Fields.{signed_of, given_timestamp, timestamp_or_dash}
 use Rattle.tab_lines.specs.Updates.{timestamp_of, put_of, delete_of, update_of, updates_behind, updates_from, updates_of}
 use Rattle.tab_lines.specs.Forms.{IsLastTimestamp, IsUpdate, AreUpdates}
 use Rattle.tab_lines.specs.Forms.IsUpdate.{put, del}
@@ -27,66 +27,66 @@ abbrev pub delete_with : List ℕ → List ℕ → List ℕ → Option ℤ → U
 delete_with family qualifier label t = record { kind = Delete; family = family; qualifier = qualifier; label = label; timestamp = t; value = [] }
 
 -- the words of a put
-pub on_put : (stamp : Stamp) (words : Words) (u : Update) (rest : Words) (P : Words → Update → Type 0) → put_of stamp words ≡ Some (u, rest)
+pub on_put : (form : TimestampForm) (words : Words) (u : Update) (rest : Words) (P : Words → Update → Type 0) → put_of form words ≡ Some (u, rest)
     → ((f q l v : List ℕ) (more : Words) (family qualifier label value : List ℕ) (t : Option ℤ) → IsWord f family → IsWord q qualifier → IsWord l label → IsWord v value
-    → timestamp_of stamp more ≡ Some (t, rest) → P (f ∷ q ∷ l ∷ v ∷ more) (put_with family qualifier label value t))
+    → timestamp_of form more ≡ Some (t, rest) → P (f ∷ q ∷ l ∷ v ∷ more) (put_with family qualifier label value t))
     → P words u
 unfolding put_of
-on_put stamp words u rest P is then =
+on_put form words u rest P is then =
     on_field bytes_of words _ (u, rest) (λ ws. P ws u) is (λ f ws1 family e1 is1.
     on_field bytes_of ws1 _ (u, rest) (λ ws. P (f ∷ ws) u) is1 (λ q ws2 qualifier e2 is2.
     on_field bytes_of ws2 _ (u, rest) (λ ws. P (f ∷ q ∷ ws) u) is2 (λ l ws3 label e3 is3.
     on_field bytes_of ws3 _ (u, rest) (λ ws. P (f ∷ q ∷ l ∷ ws) u) is3 (λ v ws4 value e4 is4.
-    on_bind (timestamp_of stamp ws4) _ (u, rest) (P (f ∷ q ∷ l ∷ v ∷ ws4) u) is4 (λ t e5 is5.
+    on_bind (timestamp_of form ws4) _ (u, rest) (P (f ∷ q ∷ l ∷ v ∷ ws4) u) is4 (λ t e5 is5.
     let e : ◌≡◌ {A = Update × Words} (put_with family qualifier label value t.0, t.1) (u, rest) = some_inj (put_with family qualifier label value t.0, t.1) (u, rest) is5 in
     let left : t.1 ≡ rest = ap (λ (p : Update × Words). p.1) e in
     subst (λ (y : Update). P (f ∷ q ∷ l ∷ v ∷ ws4) y) (ap (λ (p : Update × Words). p.0) e)
     (then f q l v ws4 family qualifier label value t.0 (words_read.sound f family e1) (words_read.sound q qualifier e2) (words_read.sound l label e3) (words_read.sound v value e4)
     (e5 ∙ ap (λ (r : Words). Some (t.0, r)) left)))))))
 
-pub put_complete : (stamp : Stamp) (f q l v : List ℕ) (more : Words) (family qualifier label value : List ℕ) (t : Option ℤ) (rest : Words)
-    → IsWord f family → IsWord q qualifier → IsWord l label → IsWord v value → timestamp_of stamp more ≡ Some (t, rest)
-    → put_of stamp (f ∷ q ∷ l ∷ v ∷ more) ≡ Some (put_with family qualifier label value t, rest)
+pub put_complete : (form : TimestampForm) (f q l v : List ℕ) (more : Words) (family qualifier label value : List ℕ) (t : Option ℤ) (rest : Words)
+    → IsWord f family → IsWord q qualifier → IsWord l label → IsWord v value → timestamp_of form more ≡ Some (t, rest)
+    → put_of form (f ∷ q ∷ l ∷ v ∷ more) ≡ Some (put_with family qualifier label value t, rest)
 unfolding put_of
-put_complete stamp f q l v more family qualifier label value t rest w1 w2 w3 w4 e5 =
+put_complete form f q l v more family qualifier label value t rest w1 w2 w3 w4 e5 =
     bind_some (field bytes_of (f ∷ q ∷ l ∷ v ∷ more)) (family, q ∷ l ∷ v ∷ more) _ _ (field_some bytes_of f (q ∷ l ∷ v ∷ more) family (words_read.complete f family w1))
     (bind_some (field bytes_of (q ∷ l ∷ v ∷ more)) (qualifier, l ∷ v ∷ more) _ _ (field_some bytes_of q (l ∷ v ∷ more) qualifier (words_read.complete q qualifier w2))
     (bind_some (field bytes_of (l ∷ v ∷ more)) (label, v ∷ more) _ _ (field_some bytes_of l (v ∷ more) label (words_read.complete l label w3))
     (bind_some (field bytes_of (v ∷ more)) (value, more) _ _ (field_some bytes_of v more value (words_read.complete v value w4))
-    (bind_some (timestamp_of stamp more) (t, rest) _ _ e5 refl))))
+    (bind_some (timestamp_of form more) (t, rest) _ _ e5 refl))))
 
 -- the words of a delete marker
-pub on_delete : (stamp : Stamp) (words : Words) (u : Update) (rest : Words) (P : Words → Update → Type 0) → delete_of stamp words ≡ Some (u, rest)
+pub on_delete : (form : TimestampForm) (words : Words) (u : Update) (rest : Words) (P : Words → Update → Type 0) → delete_of form words ≡ Some (u, rest)
     → ((f q l : List ℕ) (more : Words) (family qualifier label : List ℕ) (t : Option ℤ) → IsWord f family → IsWord q qualifier → IsWord l label
-    → timestamp_of stamp more ≡ Some (t, rest) → P (f ∷ q ∷ l ∷ more) (delete_with family qualifier label t))
+    → timestamp_of form more ≡ Some (t, rest) → P (f ∷ q ∷ l ∷ more) (delete_with family qualifier label t))
     → P words u
 unfolding delete_of
-on_delete stamp words u rest P is then =
+on_delete form words u rest P is then =
     on_field bytes_of words _ (u, rest) (λ ws. P ws u) is (λ f ws1 family e1 is1.
     on_field bytes_of ws1 _ (u, rest) (λ ws. P (f ∷ ws) u) is1 (λ q ws2 qualifier e2 is2.
     on_field bytes_of ws2 _ (u, rest) (λ ws. P (f ∷ q ∷ ws) u) is2 (λ l ws3 label e3 is3.
-    on_bind (timestamp_of stamp ws3) _ (u, rest) (P (f ∷ q ∷ l ∷ ws3) u) is3 (λ t e5 is5.
+    on_bind (timestamp_of form ws3) _ (u, rest) (P (f ∷ q ∷ l ∷ ws3) u) is3 (λ t e5 is5.
     let e : ◌≡◌ {A = Update × Words} (delete_with family qualifier label t.0, t.1) (u, rest) = some_inj (delete_with family qualifier label t.0, t.1) (u, rest) is5 in
     let left : t.1 ≡ rest = ap (λ (p : Update × Words). p.1) e in
     subst (λ (y : Update). P (f ∷ q ∷ l ∷ ws3) y) (ap (λ (p : Update × Words). p.0) e)
     (then f q l ws3 family qualifier label t.0 (words_read.sound f family e1) (words_read.sound q qualifier e2) (words_read.sound l label e3)
     (e5 ∙ ap (λ (r : Words). Some (t.0, r)) left))))))
 
-pub delete_complete : (stamp : Stamp) (f q l : List ℕ) (more : Words) (family qualifier label : List ℕ) (t : Option ℤ) (rest : Words)
-    → IsWord f family → IsWord q qualifier → IsWord l label → timestamp_of stamp more ≡ Some (t, rest)
-    → delete_of stamp (f ∷ q ∷ l ∷ more) ≡ Some (delete_with family qualifier label t, rest)
+pub delete_complete : (form : TimestampForm) (f q l : List ℕ) (more : Words) (family qualifier label : List ℕ) (t : Option ℤ) (rest : Words)
+    → IsWord f family → IsWord q qualifier → IsWord l label → timestamp_of form more ≡ Some (t, rest)
+    → delete_of form (f ∷ q ∷ l ∷ more) ≡ Some (delete_with family qualifier label t, rest)
 unfolding delete_of
-delete_complete stamp f q l more family qualifier label t rest w1 w2 w3 e5 =
+delete_complete form f q l more family qualifier label t rest w1 w2 w3 e5 =
     bind_some (field bytes_of (f ∷ q ∷ l ∷ more)) (family, q ∷ l ∷ more) _ _ (field_some bytes_of f (q ∷ l ∷ more) family (words_read.complete f family w1))
     (bind_some (field bytes_of (q ∷ l ∷ more)) (qualifier, l ∷ more) _ _ (field_some bytes_of q (l ∷ more) qualifier (words_read.complete q qualifier w2))
     (bind_some (field bytes_of (l ∷ more)) (label, more) _ _ (field_some bytes_of l more label (words_read.complete l label w3))
-    (bind_some (timestamp_of stamp more) (t, rest) _ _ e5 refl)))
+    (bind_some (timestamp_of form more) (t, rest) _ _ e5 refl)))
 
 -- ---- timestamps
 
 last_sound : (words : Words) (t : Option ℤ) → timestamp_of Optional words ≡ Some (t, []) → IsLastTimestamp words t
 last_sound [] t is = subst (λ (o : Option ℤ). IsLastTimestamp [] o) (ap (λ (p : Option ℤ × Words). p.0) (some_inj (None, []) (t, []) is)) refl
-last_sound (word ∷ words) t is = on_read stamp_of (word ∷ words) t [] (λ ws. IsLastTimestamp ws t) is (λ w read.
+last_sound (word ∷ words) t is = on_read given_timestamp (word ∷ words) t [] (λ ws. IsLastTimestamp ws t) is (λ w read.
     on_map (λ z. Some z) (signed_of w) t (IsLastTimestamp (w ∷ []) t) read (λ z number e. subst (λ (o : Option ℤ). IsLastTimestamp (w ∷ []) o) e (w, refl, numbers_read.sound w z number)))
 
 pub last_timestamp : (words rest : Words) (t : Option ℤ) → timestamp_of Optional words ≡ Some (t, rest) → rest ≡ [] → IsLastTimestamp words t
@@ -96,7 +96,7 @@ pub last_complete : (words : Words) (t : Option ℤ) → IsLastTimestamp words t
 last_complete words None is = ap (λ (ws : Words). timestamp_of Optional ws) is
 last_complete words (Some z) (word, e, is) =
     ap (λ (ws : Words). timestamp_of Optional ws) e
-    ∙ field_some stamp_of word [] (Some z) (ap (λ (o : Option ℤ). option_map (λ x. Some x) o) (numbers_read.complete word z is))
+    ∙ field_some given_timestamp word [] (Some z) (ap (λ (o : Option ℤ). option_map (λ x. Some x) o) (numbers_read.complete word z is))
 
 -- ---- one update
 
@@ -108,13 +108,13 @@ on_update (verb ∷ words) u rest P is then =
       | true ↦ λ yes e.
           subst (λ (w : List ℕ). P (w ∷ words)) (sym ((bytes_eq-Decides verb (codes "put")).0 yes))
           (on_put Dashed words u rest (λ ws u'. ((first : Words) → IsUpdate first u' → P (first ++ rest)) → P (codes "put" ∷ ws)) e (λ f q l v more family qualifier label value t w1 w2 w3 w4 e5.
-          on_read stamp_or_dash more t rest (λ ws. ((first : Words) → IsUpdate first (put_with family qualifier label value t) → P (first ++ rest)) → P (codes "put" ∷ f ∷ q ∷ l ∷ v ∷ ws)) e5 (λ w read then'.
+          on_read timestamp_or_dash more t rest (λ ws. ((first : Words) → IsUpdate first (put_with family qualifier label value t) → P (first ++ rest)) → P (codes "put" ∷ f ∷ q ∷ l ∷ v ∷ ws)) e5 (λ w read then'.
           then' (codes "put" ∷ f ∷ q ∷ l ∷ v ∷ w ∷ []) (put f q l v w family qualifier label value t w1 w2 w3 w4 (timestamps_read.sound w t read)))) then)
       | false ↦ λ no e. elim (bytes_eq verb (codes "del")) as (λ b. bytes_eq verb (codes "del") ≡ b → cond b (delete_of Dashed words) None ≡ Some (u, rest) → P (verb ∷ words)) [
         | true ↦ λ yes e2.
             subst (λ (w : List ℕ). P (w ∷ words)) (sym ((bytes_eq-Decides verb (codes "del")).0 yes))
             (on_delete Dashed words u rest (λ ws u'. ((first : Words) → IsUpdate first u' → P (first ++ rest)) → P (codes "del" ∷ ws)) e2 (λ f q l more family qualifier label t w1 w2 w3 e5.
-            on_read stamp_or_dash more t rest (λ ws. ((first : Words) → IsUpdate first (delete_with family qualifier label t) → P (first ++ rest)) → P (codes "del" ∷ f ∷ q ∷ l ∷ ws)) e5 (λ w read then'.
+            on_read timestamp_or_dash more t rest (λ ws. ((first : Words) → IsUpdate first (delete_with family qualifier label t) → P (first ++ rest)) → P (codes "del" ∷ f ∷ q ∷ l ∷ ws)) e5 (λ w read then'.
             then' (codes "del" ∷ f ∷ q ∷ l ∷ w ∷ []) (del f q l w family qualifier label t w1 w2 w3 (timestamps_read.sound w t read)))) then)
         | false ↦ λ no2 e2. absurd cc
       ] refl e
@@ -122,9 +122,9 @@ on_update (verb ∷ words) u rest P is then =
 
 update_complete : (first : Words) (u : Update) (rest : Words) → IsUpdate first u → update_of (first ++ rest) ≡ Some (u, rest)
 update_complete first u rest (put f q l v w family qualifier label value t w1 w2 w3 w4 time) =
-    put_complete Dashed f q l v (w ∷ rest) family qualifier label value t rest w1 w2 w3 w4 (field_some stamp_or_dash w rest t (timestamps_read.complete w t time))
+    put_complete Dashed f q l v (w ∷ rest) family qualifier label value t rest w1 w2 w3 w4 (field_some timestamp_or_dash w rest t (timestamps_read.complete w t time))
 update_complete first u rest (del f q l w family qualifier label t w1 w2 w3 time) =
-    delete_complete Dashed f q l (w ∷ rest) family qualifier label t rest w1 w2 w3 (field_some stamp_or_dash w rest t (timestamps_read.complete w t time))
+    delete_complete Dashed f q l (w ∷ rest) family qualifier label t rest w1 w2 w3 (field_some timestamp_or_dash w rest t (timestamps_read.complete w t time))
 
 -- ---- several
 

@@ -3,15 +3,15 @@ use Rattle.std.proofs.Common.{ℕ, zero, suc, ◌≡◌, ◌≤◌, ◌<◌, tru
 use Rattle.std.specs.Prelude.{codes}
 use Rattle.std.specs.Option.{option_map}
 use Rattle.std.specs.Str.{bytes_eq}
-use Rattle.tab_mutation.specs.Mutations.{Mutation, Update}
-use Rattle.tab_lines.specs.declared.updates.Stamp.{Stamp}
-use Rattle.tab_lines.specs.declared.updates.Stamp.TheVariants.{Optional, Dashed}
-use Rattle.tab_lines.specs.declared.stop.Stop.{Stop}
-use Rattle.tab_lines.specs.declared.stop.Stop.TheVariants.{Fault, NoMemory}
-use Rattle.tab_lines.specs.Gives.{◌>>=◌, Stops, field}
+use Rattle.tab_mutation.specs.Mutations.{Mutation, Update, with_update}
+use Rattle.tab_lines.specs.declared.updates.TimestampForm.{TimestampForm}
+use Rattle.tab_lines.specs.declared.updates.TimestampForm.TheVariants.{Optional, Dashed}
+use Rattle.tab_lines.specs.declared.line_error.LineError.{LineError}
+use Rattle.tab_lines.specs.declared.line_error.LineError.TheVariants.{Fault, NoMemory}
+use Rattle.tab_lines.specs.Gives.{◌>>=◌, SaysNone, field}
 use Rattle.tab_text.specs.Reading.{bytes_of}
-use Rattle.tab_lines.specs.Fields.{stamp_of, stamp_or_dash}
-use Rattle.tab_lines.specs.Updates.{with_update, with_updates, updated, timestamp_of, put_of, delete_of, update_of, updates_behind, updates_within, updates_from}
+use Rattle.tab_lines.specs.Fields.{given_timestamp, timestamp_or_dash}
+use Rattle.tab_lines.specs.Updates.{with_updates, updated, timestamp_of, put_of, delete_of, update_of, updates_behind, updates_within, updates_from}
 
 abbrev Line : Type 0
 Line = List (List ℕ)
@@ -33,27 +33,27 @@ bind_shortens : {A B : Type 0} (n : ℕ) (r : Option (A × Line)) (f : A × Line
 bind_shortens n None f h g = tt
 bind_shortens n (Some x) f h g = g x h
 
-timestamp_shortens : (stamp : Stamp) (n : ℕ) (words : Line) → length words ≤ n → Shortens n (timestamp_of stamp words)
+timestamp_shortens : (form : TimestampForm) (n : ℕ) (words : Line) → length words ≤ n → Shortens n (timestamp_of form words)
 timestamp_shortens Optional n [] le = omega arith
-timestamp_shortens Optional n (word ∷ words) le = field_shortens stamp_of n (word ∷ words) le
-timestamp_shortens Dashed n words le = field_shortens stamp_or_dash n words le
+timestamp_shortens Optional n (word ∷ words) le = field_shortens given_timestamp n (word ∷ words) le
+timestamp_shortens Dashed n words le = field_shortens timestamp_or_dash n words le
 
-put_shortens : (stamp : Stamp) (n : ℕ) (words : Line) → length words ≤ n → Shortens n (put_of stamp words)
+put_shortens : (form : TimestampForm) (n : ℕ) (words : Line) → length words ≤ n → Shortens n (put_of form words)
 unfolding put_of
-put_shortens stamp n words le =
+put_shortens form n words le =
     bind_shortens n (field bytes_of words) _ (field_shortens bytes_of n words le) (λ family le1.
     bind_shortens n (field bytes_of family.1) _ (field_shortens bytes_of n family.1 le1) (λ qualifier le2.
     bind_shortens n (field bytes_of qualifier.1) _ (field_shortens bytes_of n qualifier.1 le2) (λ label le3.
     bind_shortens n (field bytes_of label.1) _ (field_shortens bytes_of n label.1 le3) (λ value le4.
-    bind_shortens n (timestamp_of stamp value.1) _ (timestamp_shortens stamp n value.1 le4) (λ timestamp le5. le5)))))
+    bind_shortens n (timestamp_of form value.1) _ (timestamp_shortens form n value.1 le4) (λ timestamp le5. le5)))))
 
-delete_shortens : (stamp : Stamp) (n : ℕ) (words : Line) → length words ≤ n → Shortens n (delete_of stamp words)
+delete_shortens : (form : TimestampForm) (n : ℕ) (words : Line) → length words ≤ n → Shortens n (delete_of form words)
 unfolding delete_of
-delete_shortens stamp n words le =
+delete_shortens form n words le =
     bind_shortens n (field bytes_of words) _ (field_shortens bytes_of n words le) (λ family le1.
     bind_shortens n (field bytes_of family.1) _ (field_shortens bytes_of n family.1 le1) (λ qualifier le2.
     bind_shortens n (field bytes_of qualifier.1) _ (field_shortens bytes_of n qualifier.1 le2) (λ label le3.
-    bind_shortens n (timestamp_of stamp label.1) _ (timestamp_shortens stamp n label.1 le3) (λ timestamp le4. le4))))
+    bind_shortens n (timestamp_of form label.1) _ (timestamp_shortens form n label.1 le3) (λ timestamp le4. le4))))
 
 -- an update takes some words
 update_shortens : (n : ℕ) (words : Line) → length words ≤ n → Shortens n (update_of words)
@@ -186,6 +186,6 @@ step_none m words is =
     ] refl is
 
 -- the reading of an update stopped
-pub step_stops : (stop : Stop) (m : Mutation) (words : Line) → Stops stop (updated m (update_of words)) → Stops stop (all_updates m words)
-step_stops Fault m words is = step_none m words is
-step_stops NoMemory m words is = tt
+pub step_fails : (error : LineError) (m : Mutation) (words : Line) → SaysNone error (updated m (update_of words)) → SaysNone error (all_updates m words)
+step_fails Fault m words is = step_none m words is
+step_fails NoMemory m words is = tt

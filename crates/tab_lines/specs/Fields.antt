@@ -1,15 +1,18 @@
 -- What one word says: a name, a number, a list, a bound, columns.
 use Rattle.std.specs.Prelude.{ℕ, ℤ, pos, negsuc, ◌+◌, ◌-◌, ◌*◌, ◌^◌, ◌==◌, nat_le, nat_lt, Bool, ◌&&◌, List, [], ◌∷◌, length, take, drop, position, codes, Option, Some, None, if◌then◌else◌}
+use Rattle.std.specs.Char.{is_ascii_digit}
 use Rattle.std.specs.List.{list_all}
 use Rattle.std.specs.Option.{option_map, option_and_then}
 use Rattle.std.specs.Str.{bytes_eq}
 use Rattle.tab_key.specs.Names.{is_name_byte}
+use Rattle.tab_key.specs.declared.name.TheConstants.{MAX_NAME_LEN}
+use Rattle.tab_key.specs.declared.part.TheConstants.{MAX_VERSIONS}
 use Rattle.tab_key.specs.declared.range.Bound.{Bound}
 use Rattle.tab_key.specs.declared.range.Bound.TheVariants.{Unbounded, Inclusive, Exclusive}
 use Rattle.tab_key.specs.declared.column.Column.{Column}
 use Rattle.tab_key.specs.declared.column.Column.TheVariants.{Family, Qualified}
+use Rattle.tab_rules.specs.Constraints.{constraint_named}
 use Rattle.tab_rules.specs.declared.constraint.Constraint.{Constraint}
-use Rattle.tab_rules.specs.declared.constraint.Constraint.TheVariants.{KeySize, Alphanumeric, Numeric, Visibility}
 use Rattle.tab_policy.specs.Permissions.{system_by_name, table_by_name}
 use Rattle.tab_policy.specs.declared.permission.Permission.{Permission}
 use Rattle.tab_policy.specs.declared.permission.Permission.TheVariants.{OfSystem, OfTable}
@@ -26,7 +29,7 @@ only_if test x = if test x then Some x else None
 
 -- 1 to 128 bytes that a name may have
 abbrev pub is_name : List ℕ → Bool
-is_name bs = nat_lt 0 (length bs) && (nat_le (length bs) 128 && list_all is_name_byte bs)
+is_name bs = nat_lt 0 (length bs) && (nat_le (length bs) MAX_NAME_LEN && list_all is_name_byte bs)
 
 -- the name that a word spells
 abbrev pub name_of : List ℕ → Option (List ℕ)
@@ -34,18 +37,14 @@ name_of word = option_and_then (only_if is_name) (bytes_of word)
 
 -- ---- numbers
 
--- 0 to 9
-abbrev pub is_digit : ℕ → Bool
-is_digit c = nat_le 48 c && nat_le c 57
-
 -- the number that stands as n so far
 abbrev pub digits_on : ℕ → List ℕ → Option ℕ
 digits_on n [] = Some n
-digits_on n (c ∷ cs) = if is_digit c then digits_on (10 * n + (c - 48)) cs else None
+digits_on n (c ∷ cs) = if is_ascii_digit c then digits_on (10 * n + (c - 48)) cs else None
 
 -- the number with one more digit, where it is below 2^64
 abbrev pub with_digit : ℕ → ℕ → Option ℕ
-with_digit n c = if is_digit c then only_if (λ m. nat_lt m (2 ^ 64)) (10 * n + (c - 48)) else None
+with_digit n c = if is_ascii_digit c then only_if (λ m. nat_lt m (2 ^ 64)) (10 * n + (c - 48)) else None
 
 -- the number that the digits spell; there is at least one
 unfoldable pub magnitude_of : List ℕ → Option ℕ
@@ -65,12 +64,12 @@ signed_of [] = None
 signed_of (c ∷ cs) = if c == 45 then option_and_then negative (magnitude_of cs) else option_and_then positive (magnitude_of (c ∷ cs))
 
 -- a timestamp that is there
-abbrev pub stamp_of : List ℕ → Option (Option ℤ)
-stamp_of word = option_map (λ t. Some t) (signed_of word)
+abbrev pub given_timestamp : List ℕ → Option (Option ℤ)
+given_timestamp word = option_map (λ t. Some t) (signed_of word)
 
 -- a timestamp, or - for none
-abbrev pub stamp_or_dash : List ℕ → Option (Option ℤ)
-stamp_or_dash word = if bytes_eq word (codes "-") then Some None else stamp_of word
+abbrev pub timestamp_or_dash : List ℕ → Option (Option ℤ)
+timestamp_or_dash word = if bytes_eq word (codes "-") then Some None else given_timestamp word
 
 -- ---- words of a new table
 
@@ -80,7 +79,7 @@ time_word word = if bytes_eq word (codes "time=any") then Some Any else if bytes
 
 -- 1 to 1,000
 abbrev pub is_version_count : ℕ → Bool
-is_version_count n = nat_le 1 n && nat_le n 1000
+is_version_count n = nat_le 1 n && nat_le n MAX_VERSIONS
 
 -- how many versions, behind the nine bytes versions=
 abbrev pub versions_word : List ℕ → Option ℕ
@@ -114,15 +113,6 @@ listed reads word = if bytes_eq word none_word then Some [] else each_of reads (
 -- the byte strings that a word lists
 unfoldable pub list_of : List ℕ → Option (List (List ℕ))
 list_of word = listed bytes_of word
-
--- the constraint of this name
-abbrev pub constraint_named : List ℕ → Option Constraint
-constraint_named name =
-    if bytes_eq name (codes "keysize") then Some KeySize
-    else if bytes_eq name (codes "alphanum") then Some Alphanumeric
-    else if bytes_eq name (codes "numeric") then Some Numeric
-    else if bytes_eq name (codes "visibility") then Some Visibility
-    else None
 
 -- the constraint whose name a word spells
 abbrev pub constraint_of : List ℕ → Option Constraint

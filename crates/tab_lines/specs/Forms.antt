@@ -3,16 +3,16 @@ use Rattle.std.specs.Prelude.{ℕ, ℤ, pos, negsuc, ◌≡◌, ◌≢◌, ◌+�
 use Rattle.std.specs.List.{AllZip, list_all}
 use Rattle.std.specs.Fmt.{decimal}
 use Rattle.tab_key.specs.Names.{IsName}
-use Rattle.tab_key.specs.declared.key.Kind.TheVariants.{Delete, Put}
+use Rattle.tab_key.specs.declared.part.TheConstants.{MAX_VERSIONS}
 use Rattle.tab_key.specs.declared.range.Bound.{Bound}
 use Rattle.tab_key.specs.declared.range.Bound.TheVariants.{Unbounded, Inclusive, Exclusive}
 use Rattle.tab_key.specs.declared.range.Bounds.{Bounds}
 use Rattle.tab_key.specs.declared.column.Column.{Column}
 use Rattle.tab_key.specs.declared.column.Column.TheVariants.{Family, Qualified}
 use Rattle.tab_label.specs.Sets.{set_of}
-use Rattle.tab_mutation.specs.Mutations.{Update}
+use Rattle.tab_mutation.specs.Mutations.{Update, put_update, delete_update}
+use Rattle.tab_rules.specs.Constraints.{constraint_name}
 use Rattle.tab_rules.specs.declared.constraint.Constraint.{Constraint}
-use Rattle.tab_rules.specs.declared.constraint.Constraint.TheVariants.{KeySize, Alphanumeric, Numeric, Visibility}
 use Rattle.tab_policy.specs.Permissions.{system_name, table_name}
 use Rattle.tab_policy.specs.declared.permission.Permission.{Permission}
 use Rattle.tab_policy.specs.declared.permission.Permission.TheVariants.{OfSystem, OfTable}
@@ -49,13 +49,6 @@ IsTimestamp word (Some timestamp) = IsNumber word timestamp
 abbrev pub IsList : {A : Type 0} → (List ℕ → A → Type 0) → List ℕ → List A → Type 0
 IsList IsMember word members = ((word ≡ codes "\\0") × (members ≡ [])) ⊎ AllZip IsMember (parts_at 44 word) members
 
--- how a constraint is named
-abbrev pub constraint_name : Constraint → List ℕ
-constraint_name KeySize = codes "keysize"
-constraint_name Alphanumeric = codes "alphanum"
-constraint_name Numeric = codes "numeric"
-constraint_name Visibility = codes "visibility"
-
 -- the word spells the name of the constraint
 abbrev pub IsConstraint : List ℕ → Constraint → Type 0
 IsConstraint word constraint = IsWord word (constraint_name constraint)
@@ -83,7 +76,7 @@ time_name Server = codes "time=server"
 
 -- the word is versions= and a number from 1 to 1,000
 abbrev pub IsVersions : List ℕ → ℕ → Type 0
-IsVersions word n = (digits : List ℕ) × (word ≡ codes "versions=" ++ digits) × AreDigits digits n × (1 ≤ n) × (n ≤ 1000)
+IsVersions word n = (digits : List ℕ) × (word ≡ codes "versions=" ++ digits) × AreDigits digits n × (1 ≤ n) × (n ≤ MAX_VERSIONS)
 
 -- ---- several words
 
@@ -108,10 +101,10 @@ IsLastTimestamp words (Some timestamp) = (word : List ℕ) × (words ≡ word �
 pub data IsUpdate : List (List ℕ) → Update → Type 0 where
   put : (f q l v t family qualifier label value : List ℕ) (timestamp : Option ℤ)
       → IsWord f family → IsWord q qualifier → IsWord l label → IsWord v value → IsTimestamp t timestamp
-      → IsUpdate (codes "put" ∷ f ∷ q ∷ l ∷ v ∷ t ∷ []) (record { kind = Put; family = family; qualifier = qualifier; label = label; timestamp = timestamp; value = value })
+      → IsUpdate (codes "put" ∷ f ∷ q ∷ l ∷ v ∷ t ∷ []) (put_update family qualifier label timestamp value)
   del : (f q l t family qualifier label : List ℕ) (timestamp : Option ℤ)
       → IsWord f family → IsWord q qualifier → IsWord l label → IsTimestamp t timestamp
-      → IsUpdate (codes "del" ∷ f ∷ q ∷ l ∷ t ∷ []) (record { kind = Delete; family = family; qualifier = qualifier; label = label; timestamp = timestamp; value = [] })
+      → IsUpdate (codes "del" ∷ f ∷ q ∷ l ∷ t ∷ []) (delete_update family qualifier label timestamp)
 
 -- updates parted by the word ;
 abbrev pub AreUpdates : List (List ℕ) → List Update → Type 0
@@ -151,11 +144,11 @@ pub data Form : List (List ℕ) → Line → Type 0 where
   insert : (t r f q l v table row family qualifier label value : List ℕ) (words : List (List ℕ)) (timestamp : Option ℤ)
       → IsNameWord t table → IsWord r row → IsWord f family → IsWord q qualifier → IsWord l label → IsWord v value → IsLastTimestamp words timestamp
       → Form (codes "insert" ∷ t ∷ r ∷ f ∷ q ∷ l ∷ v ∷ words)
-      (line.Act (Write table (record { row = row; updates = record { kind = Put; family = family; qualifier = qualifier; label = label; timestamp = timestamp; value = value } ∷ [] })))
+      (line.Act (Write table (record { row = row; updates = put_update family qualifier label timestamp value ∷ [] })))
   delete : (t r f q l table row family qualifier label : List ℕ) (words : List (List ℕ)) (timestamp : Option ℤ)
       → IsNameWord t table → IsWord r row → IsWord f family → IsWord q qualifier → IsWord l label → IsLastTimestamp words timestamp
       → Form (codes "delete" ∷ t ∷ r ∷ f ∷ q ∷ l ∷ words)
-      (line.Act (Write table (record { row = row; updates = record { kind = Delete; family = family; qualifier = qualifier; label = label; timestamp = timestamp; value = [] } ∷ [] })))
+      (line.Act (Write table (record { row = row; updates = delete_update family qualifier label timestamp ∷ [] })))
   mutate : (t r table row : List ℕ) (words : List (List ℕ)) (updates : List Update) → IsNameWord t table → IsWord r row → AreUpdates words updates
       → Form (codes "mutate" ∷ t ∷ r ∷ words) (line.Act (Write table (record { row = row; updates = updates })))
   scan : (t a table : List ℕ) (members : List (List ℕ)) (words : List (List ℕ)) (bounds : Bounds) (columns : List Column)

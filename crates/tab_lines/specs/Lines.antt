@@ -13,11 +13,12 @@ use Rattle.tab_lines.specs.declared.line.Line.{Line}
 use Rattle.tab_lines.specs.declared.line.Line.TheVariants as line
 use Rattle.tab_lines.specs.declared.command.Command.{Command}
 use Rattle.tab_lines.specs.declared.command.Command.TheVariants as command
-use Rattle.tab_lines.specs.declared.updates.Stamp.TheVariants.{Optional}
+use Rattle.tab_lines.specs.declared.updates.TimestampForm.TheVariants.{Optional}
 use Rattle.tab_lines.specs.Gives.{◌>>=◌, field, ends, optional}
 use Rattle.tab_lines.specs.Words.{words_of}
 use Rattle.tab_lines.specs.Fields.{name_of, signed_of, time_word, versions_word, system_permission, table_permission, list_of, constraints_of, bound_of, columns_of}
-use Rattle.tab_lines.specs.Updates.{row_of, with_update, with_updates, put_of, delete_of, updates_of}
+use Rattle.tab_lines.specs.Updates.{row_of, with_updates, put_of, delete_of, updates_of}
+use Rattle.tab_mutation.specs.Mutations.{with_update}
 
 -- one word, which spells a name
 unfoldable pub name_alone : List (List ℕ) → Option (List ℕ)

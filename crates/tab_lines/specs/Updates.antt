@@ -2,21 +2,16 @@
 use Rattle.std.specs.Prelude.{ℕ, ℤ, List, [], ◌∷◌, ◌++◌, zero, suc, length, codes, Option, Some, None, if◌then◌else◌}
 use Rattle.std.specs.Option.{option_map}
 use Rattle.std.specs.Str.{bytes_eq}
-use Rattle.tab_key.specs.declared.key.Kind.TheVariants.{Delete, Put}
-use Rattle.tab_mutation.specs.Mutations.{Mutation, Update}
-use Rattle.tab_lines.specs.declared.updates.Stamp.{Stamp}
-use Rattle.tab_lines.specs.declared.updates.Stamp.TheVariants.{Optional, Dashed}
+use Rattle.tab_mutation.specs.Mutations.{Mutation, Update, with_update, put_update, delete_update}
+use Rattle.tab_lines.specs.declared.updates.TimestampForm.{TimestampForm}
+use Rattle.tab_lines.specs.declared.updates.TimestampForm.TheVariants.{Optional, Dashed}
 use Rattle.tab_lines.specs.Gives.{◌>>=◌, field, optional}
 use Rattle.tab_text.specs.Reading.{bytes_of}
-use Rattle.tab_lines.specs.Fields.{stamp_of, stamp_or_dash}
+use Rattle.tab_lines.specs.Fields.{given_timestamp, timestamp_or_dash}
 
 -- a mutation of the row that a word spells, without updates
 abbrev pub row_of : List ℕ → Option Mutation
 row_of word = option_map (λ row. record { row = row; updates = [] }) (bytes_of word)
-
--- the mutation with one more update
-abbrev pub with_update : Mutation → Update → Mutation
-with_update m u = record { row = m.row; updates = m.updates ++ u ∷ [] }
 
 -- the mutation with more updates
 abbrev pub with_updates : Mutation → List Update → Mutation
@@ -27,28 +22,28 @@ abbrev pub updated : Mutation → Option (Update × List (List ℕ)) → Option 
 updated m = option_map (λ u. (with_update m u.0, u.1))
 
 -- a timestamp that may be missing at the end of a line, or one that is always a word
-abbrev pub timestamp_of : Stamp → List (List ℕ) → Option (Option ℤ × List (List ℕ))
-timestamp_of Optional words = optional None stamp_of words
-timestamp_of Dashed words = field stamp_or_dash words
+abbrev pub timestamp_of : TimestampForm → List (List ℕ) → Option (Option ℤ × List (List ℕ))
+timestamp_of Optional words = optional None given_timestamp words
+timestamp_of Dashed words = field timestamp_or_dash words
 
 -- a put, and the words behind it
-unfoldable pub put_of : Stamp → List (List ℕ) → Option (Update × List (List ℕ))
-put_of stamp words = do
+unfoldable pub put_of : TimestampForm → List (List ℕ) → Option (Update × List (List ℕ))
+put_of form words = do
   family ← field bytes_of words
   qualifier ← field bytes_of family.1
   label ← field bytes_of qualifier.1
   value ← field bytes_of label.1
-  timestamp ← timestamp_of stamp value.1
-  Some (record { kind = Put; family = family.0; qualifier = qualifier.0; label = label.0; timestamp = timestamp.0; value = value.0 }, timestamp.1)
+  timestamp ← timestamp_of form value.1
+  Some (put_update family.0 qualifier.0 label.0 timestamp.0 value.0, timestamp.1)
 
 -- a delete marker, and the words behind it
-unfoldable pub delete_of : Stamp → List (List ℕ) → Option (Update × List (List ℕ))
-delete_of stamp words = do
+unfoldable pub delete_of : TimestampForm → List (List ℕ) → Option (Update × List (List ℕ))
+delete_of form words = do
   family ← field bytes_of words
   qualifier ← field bytes_of family.1
   label ← field bytes_of qualifier.1
-  timestamp ← timestamp_of stamp label.1
-  Some (record { kind = Delete; family = family.0; qualifier = qualifier.0; label = label.0; timestamp = timestamp.0; value = [] }, timestamp.1)
+  timestamp ← timestamp_of form label.1
+  Some (delete_update family.0 qualifier.0 label.0 timestamp.0, timestamp.1)
 
 -- one update of several, and the words behind it
 abbrev pub update_of : List (List ℕ) → Option (Update × List (List ℕ))

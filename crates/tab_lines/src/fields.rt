@@ -8,7 +8,7 @@ ghost use Rattle.tab_lines.specs.Spelling.{bytes_spelled};
 ghost use Rattle.tab_lines.specs.Fields.{name_of, signed_of, list_of, bound_of};
 ghost use Rattle.tab_lines.specs.Lines.{name_alone};
 
-use crate::Stop;
+use crate::LineError;
 use crate::bounds::bound_of;
 use crate::lists::list_of;
 use crate::names::name_of;
@@ -19,58 +19,58 @@ use std::alloc::Global;
 use tab_key::{Bound, Name};
 
 /// Takes a word that spells a name.
-pub fn a_name(alloc: Global, words: &mut Words) -> Result<Name, Stop>
+pub fn a_name(alloc: Global, words: &mut Words) -> Result<Name, LineError>
     ensures { Gives (λ x. (x, words_left words.new)) result (field name_of (words_left words.old)) }
 {
     let Some(word) = words.next() else {
-        return Err(Stop::Fault);
+        return Err(LineError::Fault);
     };
     name_of(alloc, word)
 }
 
 /// Takes a byte word.
-pub fn a_word<'a>(alloc: Global, words: &mut Words<'a>) -> Result<Spelled<'a>, Stop>
+pub fn a_word<'a>(alloc: Global, words: &mut Words<'a>) -> Result<Spelled<'a>, LineError>
     ensures { Gives (λ x. (bytes_spelled x, words_left words.new)) result (field bytes_of (words_left words.old)) }
 {
     let Some(word) = words.next() else {
-        return Err(Stop::Fault);
+        return Err(LineError::Fault);
     };
     spelling_of(alloc, word)
 }
 
 /// Takes a word that lists byte strings.
-pub fn a_list(alloc: Global, words: &mut Words) -> Result<Vec<Vec<u8>>, Stop>
+pub fn a_list(alloc: Global, words: &mut Words) -> Result<Vec<Vec<u8>>, LineError>
     ensures { Gives (λ x. (byte_lists x.items, words_left words.new)) result (field list_of (words_left words.old)) }
 {
     let Some(word) = words.next() else {
-        return Err(Stop::Fault);
+        return Err(LineError::Fault);
     };
     list_of(alloc, word)
 }
 
 /// Takes a word that spells a signed number.
-pub fn a_number(words: &mut Words) -> Result<i64, Stop>
+pub fn a_number(words: &mut Words) -> Result<i64, LineError>
     ensures { Gives (λ x. (x, words_left words.new)) result (field signed_of (words_left words.old)) }
 {
     let Some(word) = words.next() else {
-        return Err(Stop::Fault);
+        return Err(LineError::Fault);
     };
     signed_of(word)
 }
 
 /// Takes a word that spells an end of a range.
-pub fn a_bound(alloc: Global, words: &mut Words) -> Result<Bound, Stop>
+pub fn a_bound(alloc: Global, words: &mut Words) -> Result<Bound, LineError>
     ensures { Gives (λ x. (x, words_left words.new)) result (field bound_of (words_left words.old)) }
 {
     let Some(word) = words.next() else {
-        return Err(Stop::Fault);
+        return Err(LineError::Fault);
     };
     bound_of(alloc, word)
 }
 
 /// Takes the last word, which spells a name.
 #[tactic(auto, unfolding(crate::specs::Lines::name_alone))]
-pub fn name_alone(alloc: Global, words: &mut Words) -> Result<Name, Stop>
+pub fn name_alone(alloc: Global, words: &mut Words) -> Result<Name, LineError>
     ensures { Gives (λ x. x) result (name_alone (words_left words.old)) }
 {
     let name = a_name(alloc, words)?;
@@ -79,11 +79,11 @@ pub fn name_alone(alloc: Global, words: &mut Words) -> Result<Name, Stop>
 }
 
 /// No word may be left.
-pub fn ends(words: &mut Words) -> Result<(), Stop>
+pub fn ends(words: &mut Words) -> Result<(), LineError>
     ensures { Gives (λ x. []) result (ends (words_left words.old)) }
 {
     match words.next() {
         None => Ok(()),
-        Some(_) => Err(Stop::Fault),
+        Some(_) => Err(LineError::Fault),
     }
 }

@@ -33,37 +33,39 @@
 //! | File | What |
 //! |---|---|
 //! | `words` | the words of a line that are left |
-//! | `spelling`, `names`, `numbers`, `bounds`, `lists` | what one word says |
+//! | `spelling`, `names`, `numbers`, `bounds`, `columns` | what one word says |
+//! | `lists` | what the parts of a word between commas say |
 //! | `fields`, `updates`, `permissions` | one word after another, the updates of a mutation, and what is granted to whom |
 //! | `command`, `line` | the first word, and the lines |
+//! | `line_error` | why a line wasn't read |
 //! | `laws` | reading is exactly the forms of lines |
 //!
 //! `specs/Forms` says what the lines are, with one form for each row of the table above, and nothing of how they are
 //! read; `specs/Lines` reads them. A word without escapes is copied once, into what it becomes part of; names, numbers
-//! and the words of commands take no memory.
+//! and the words of commands take no memory. In `specs`, `Words`, `Fields` and `Updates` are what `Lines` is made of, `Gives` and
+//! `Spelling` say what the code's results stand for. In `proofs`, the files named for a law show that reading one kind of word is
+//! exactly its form, `LineLaw` puts them together, and the others have lemmas for the code.
 #![tactic(auto)]
 
 mod bounds;
+mod columns;
 mod command;
 mod fields;
 mod laws;
 mod line;
+mod line_error;
 mod lists;
 mod names;
 mod numbers;
 mod permissions;
 mod spelling;
-mod stop;
 mod updates;
 mod words;
 
 pub use command::Command;
 pub use laws::lines_are_forms;
 pub use line::{Line, read_line};
+pub use line_error::LineError;
 pub use spelling::Spelled;
-pub use stop::Stop;
-pub use updates::Stamp;
+pub use updates::TimestampForm;
 pub use words::Words;
-
-#[cfg(test)]
-mod tests;

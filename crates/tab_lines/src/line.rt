@@ -5,7 +5,7 @@ ghost use Rattle.tab_lines.specs.Words.{words_left};
 ghost use Rattle.tab_lines.specs.Fields.{constraints_of, columns_of, versions_word};
 ghost use Rattle.tab_lines.specs.Lines.{settings, createtable_of, setauths_of, constraints_line_of, insert_of, delete_line_of, mutate_of, bounds_of, scan_of, at_of, commanded, said, line_of};
 
-use crate::Stop;
+use crate::LineError;
 use crate::bounds::bound_of;
 use crate::command::{Command, command_of};
 use crate::fields::{a_bound, a_list, a_name, a_number, ends, name_alone};
@@ -13,7 +13,7 @@ use crate::lists::{columns_of, constraints_of};
 use crate::names::time_word;
 use crate::numbers::versions_word;
 use crate::permissions::a_grant;
-use crate::updates::{Stamp, a_row, add_delete, add_put, add_updates};
+use crate::updates::{TimestampForm, a_row, add_delete, add_put, add_updates};
 use crate::words::Words;
 use std::alloc::Global;
 use tab_history::{Act, Scan, TimeMode};
@@ -35,7 +35,8 @@ pub enum Line {
     Scan(Scan),
 }
 
-fn any_versions(words: &mut Words) -> Result<u32, Stop>
+// Takes the number of versions, 1 where no word is left.
+fn any_versions(words: &mut Words) -> Result<u32, LineError>
     ensures { Gives (λ x. (x, words_left words.new)) result (optional 1 versions_word (words_left words.old)) }
 {
     let Some(word) = words.next() else {
@@ -44,7 +45,8 @@ fn any_versions(words: &mut Words) -> Result<u32, Stop>
     versions_word(word)
 }
 
-fn settings(words: &mut Words) -> Result<(TimeMode, u32), Stop>
+// Takes the settings of a new table.
+fn settings(words: &mut Words) -> Result<(TimeMode, u32), LineError>
     ensures { Gives (λ x. x) result (settings (words_left words.old)) }
 {
     let Some(word) = words.next() else {
@@ -64,8 +66,9 @@ fn settings(words: &mut Words) -> Result<(TimeMode, u32), Stop>
     }
 }
 
+// Each of these takes the words behind its command.
 #[tactic(auto, unfolding(crate::specs::Lines::createtable_of))]
-fn createtable(alloc: Global, words: &mut Words) -> Result<Line, Stop>
+fn createtable(alloc: Global, words: &mut Words) -> Result<Line, LineError>
     ensures { Gives (λ x. x) result (createtable_of (words_left words.old)) }
 {
     let table = a_name(alloc, words)?;
@@ -74,7 +77,7 @@ fn createtable(alloc: Global, words: &mut Words) -> Result<Line, Stop>
 }
 
 #[tactic(auto, unfolding(crate::specs::Lines::setauths_of))]
-fn setauths(alloc: Global, words: &mut Words) -> Result<Line, Stop>
+fn setauths(alloc: Global, words: &mut Words) -> Result<Line, LineError>
     ensures { Gives (λ x. x) result (setauths_of (words_left words.old)) }
 {
     let user = a_name(alloc, words)?;
@@ -85,12 +88,12 @@ fn setauths(alloc: Global, words: &mut Words) -> Result<Line, Stop>
 }
 
 #[tactic(auto, unfolding(crate::specs::Lines::constraints_line_of))]
-fn constraints(alloc: Global, words: &mut Words) -> Result<Line, Stop>
+fn constraints(alloc: Global, words: &mut Words) -> Result<Line, LineError>
     ensures { Gives (λ x. x) result (constraints_line_of (words_left words.old)) }
 {
     let table = a_name(alloc, words)?;
     let Some(word) = words.next() else {
-        return Err(Stop::Fault);
+        return Err(LineError::Fault);
     };
     let constraints = constraints_of(alloc, word)?;
     ends(words)?;
@@ -98,29 +101,29 @@ fn constraints(alloc: Global, words: &mut Words) -> Result<Line, Stop>
 }
 
 #[tactic(auto, unfolding(crate::specs::Lines::insert_of))]
-fn insert(alloc: Global, words: &mut Words) -> Result<Line, Stop>
+fn insert(alloc: Global, words: &mut Words) -> Result<Line, LineError>
     ensures { Gives (λ x. x) result (insert_of (words_left words.old)) }
 {
     let table = a_name(alloc, words)?;
     let mut mutation = a_row(alloc, words)?;
-    add_put(alloc, Stamp::Optional, words, &mut mutation)?;
+    add_put(alloc, TimestampForm::Optional, words, &mut mutation)?;
     ends(words)?;
     Ok(Line::Act(Act::Write(table, mutation)))
 }
 
 #[tactic(auto, unfolding(crate::specs::Lines::delete_line_of))]
-fn delete(alloc: Global, words: &mut Words) -> Result<Line, Stop>
+fn delete(alloc: Global, words: &mut Words) -> Result<Line, LineError>
     ensures { Gives (λ x. x) result (delete_line_of (words_left words.old)) }
 {
     let table = a_name(alloc, words)?;
     let mut mutation = a_row(alloc, words)?;
-    add_delete(alloc, Stamp::Optional, words, &mut mutation)?;
+    add_delete(alloc, TimestampForm::Optional, words, &mut mutation)?;
     ends(words)?;
     Ok(Line::Act(Act::Write(table, mutation)))
 }
 
 #[tactic(auto, unfolding(crate::specs::Lines::mutate_of))]
-fn mutate(alloc: Global, words: &mut Words) -> Result<Line, Stop>
+fn mutate(alloc: Global, words: &mut Words) -> Result<Line, LineError>
     ensures { Gives (λ x. x) result (mutate_of (words_left words.old)) }
 {
     let table = a_name(alloc, words)?;
@@ -129,7 +132,8 @@ fn mutate(alloc: Global, words: &mut Words) -> Result<Line, Stop>
     Ok(Line::Act(Act::Write(table, mutation)))
 }
 
-fn bounds(alloc: Global, words: &mut Words) -> Result<Bounds, Stop>
+// Takes both bounds, or none where no word is left.
+fn bounds(alloc: Global, words: &mut Words) -> Result<Bounds, LineError>
     ensures { Gives (λ x. (x, words_left words.new)) result (bounds_of (words_left words.old)) }
 {
     let Some(word) = words.next() else {
@@ -143,7 +147,8 @@ fn bounds(alloc: Global, words: &mut Words) -> Result<Bounds, Stop>
     Ok(Bounds { low, high })
 }
 
-fn any_columns(alloc: Global, words: &mut Words) -> Result<Items<Column>, Stop>
+// Takes the columns, all where no word is left.
+fn any_columns(alloc: Global, words: &mut Words) -> Result<Items<Column>, LineError>
     ensures { Gives (λ x. (x, words_left words.new)) result (optional [] columns_of (words_left words.old)) }
 {
     let Some(word) = words.next() else {
@@ -153,7 +158,7 @@ fn any_columns(alloc: Global, words: &mut Words) -> Result<Items<Column>, Stop>
 }
 
 #[tactic(auto, unfolding(crate::specs::Lines::scan_of))]
-fn scan(alloc: Global, words: &mut Words) -> Result<Line, Stop>
+fn scan(alloc: Global, words: &mut Words) -> Result<Line, LineError>
     ensures { Gives (λ x. x) result (scan_of (words_left words.old)) }
 {
     let table = a_name(alloc, words)?;
@@ -171,7 +176,7 @@ fn scan(alloc: Global, words: &mut Words) -> Result<Line, Stop>
 }
 
 #[tactic(auto, unfolding(crate::specs::Lines::at_of))]
-fn at(words: &mut Words) -> Result<Line, Stop>
+fn at(words: &mut Words) -> Result<Line, LineError>
     ensures { Gives (λ x. x) result (at_of (words_left words.old)) }
 {
     let moment = a_number(words)?;
@@ -179,7 +184,8 @@ fn at(words: &mut Words) -> Result<Line, Stop>
     Ok(Line::At(moment))
 }
 
-fn commanded(alloc: Global, command: Command, words: &mut Words) -> Result<Line, Stop>
+// What the words behind a command say.
+fn commanded(alloc: Global, command: Command, words: &mut Words) -> Result<Line, LineError>
     ensures { Gives (λ x. x) result (commanded command (words_left words.old)) }
 {
     match command {
@@ -207,14 +213,15 @@ fn commanded(alloc: Global, command: Command, words: &mut Words) -> Result<Line,
     }
 }
 
-fn said(alloc: Global, words: &mut Words) -> Result<Line, Stop>
+// What the words of a line say.
+fn said(alloc: Global, words: &mut Words) -> Result<Line, LineError>
     ensures { Gives (λ x. x) result (said (words_left words.old)) }
 {
     let Some(word) = words.next() else {
         return Ok(Line::Blank);
     };
     let Some(command) = command_of(word) else {
-        return Err(Stop::Fault);
+        return Err(LineError::Fault);
     };
     commanded(alloc, command, words)
 }
@@ -223,7 +230,7 @@ fn said(alloc: Global, words: &mut Words) -> Result<Line, Stop>
 ///
 /// `Err(Fault)` exactly where the text is none of the lines of this crate. `Err(NoMemory)` where an allocation failed:
 /// then nothing is said of the text, and reading it again may succeed. Nothing is kept after an error.
-pub fn read_line(alloc: Global, text: &[u8]) -> Result<Line, Stop>
+pub fn read_line(alloc: Global, text: &[u8]) -> Result<Line, LineError>
     ensures { Gives (λ x. x) result (line_of text.now) }
 {
     match text {

@@ -1,9 +1,9 @@
 //! The names that words spell.
 ghost use Rattle.std.specs.Prelude.{◌≡◌};
 ghost use Rattle.tab_lines.specs.Gives.{Gives};
-ghost use Rattle.tab_lines.specs.Fields.{name_of, is_name, only_if, time_word, constraint_named, constraint_of};
+ghost use Rattle.tab_lines.specs.Fields.{name_of, is_name, only_if, time_word, constraint_of};
 
-use crate::Stop;
+use crate::LineError;
 use crate::spelling::spelling_of;
 use std::alloc::Global;
 use tab_history::TimeMode;
@@ -11,16 +11,17 @@ use tab_key::Name;
 use tab_rules::Constraint;
 
 /// The name of a user or a table that a word spells.
-pub fn name_of(alloc: Global, word: &[u8]) -> Result<Name, Stop>
+pub fn name_of(alloc: Global, word: &[u8]) -> Result<Name, LineError>
     ensures { Gives (λ x. x) result (name_of word.now) }
 {
     let bytes = spelling_of(alloc, word)?;
     let Some(name) = checked_name(bytes.as_bytes()) else {
-        return Err(Stop::Fault);
+        return Err(LineError::Fault);
     };
     Ok(name)
 }
 
+// The bytes as a name, if they are one.
 #[tactic(auto, using(crate::proofs::NameLemmas::named))]
 fn checked_name(bytes: &[u8]) -> Option<Name>
     ensures { result ≡ only_if is_name bytes.now }
@@ -40,24 +41,12 @@ pub fn time_word(word: &[u8]) -> Option<TimeMode>
 }
 
 /// The constraint whose name a word spells.
-pub fn constraint_of(alloc: Global, word: &[u8]) -> Result<Constraint, Stop>
+pub fn constraint_of(alloc: Global, word: &[u8]) -> Result<Constraint, LineError>
     ensures { Gives (λ x. x) result (constraint_of word.now) }
 {
     let name = spelling_of(alloc, word)?;
-    let Some(constraint) = constraint_named(name.as_bytes()) else {
-        return Err(Stop::Fault);
+    let Some(constraint) = Constraint::from_name(name.as_bytes()) else {
+        return Err(LineError::Fault);
     };
     Ok(constraint)
-}
-
-fn constraint_named(name: &[u8]) -> Option<Constraint>
-    ensures { result ≡ constraint_named name.now }
-{
-    match name {
-        b"keysize" => Some(Constraint::KeySize),
-        b"alphanum" => Some(Constraint::Alphanumeric),
-        b"numeric" => Some(Constraint::Numeric),
-        b"visibility" => Some(Constraint::Visibility),
-        _ => None,
-    }
 }

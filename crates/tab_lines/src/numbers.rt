@@ -2,101 +2,106 @@
 ghost use Rattle.std.specs.Prelude.{◌≡◌, ◌<◌, ◌^◌, nat_lt};
 ghost use Rattle.std.specs.Option.{option_and_then};
 ghost use Rattle.tab_lines.specs.Gives.{Gives};
-ghost use Rattle.tab_lines.specs.Fields.{only_if, with_digit, digits_on, signed_of, stamp_of, stamp_or_dash, magnitude_of, positive, negative, is_version_count, versions_word};
+ghost use Rattle.tab_lines.specs.Fields.{only_if, with_digit, digits_on, signed_of, given_timestamp, timestamp_or_dash, magnitude_of, positive, negative, is_version_count, versions_word};
 
-use crate::Stop;
+use crate::LineError;
+use tab_key::MAX_VERSIONS;
 
 /// The signed number that a word spells: decimal digits, with a minus before them for a negative one.
 /// Leading zeros are accepted; `-0` is a fault, and so is a number outside an i64.
-pub fn signed_of(word: &[u8]) -> Result<i64, Stop>
+pub fn signed_of(word: &[u8]) -> Result<i64, LineError>
     ensures { Gives (λ x. x) result (signed_of word.now) }
 {
     match word {
-        [] => Err(Stop::Fault),
+        [] => Err(LineError::Fault),
         [b'-', digits @ ..] => negative(magnitude_of(digits)?),
         _ => positive(magnitude_of(word)?),
     }
 }
 
 /// The timestamp that a word spells.
-pub fn stamp_of(word: &[u8]) -> Result<Option<i64>, Stop>
-    ensures { Gives (λ x. x) result (stamp_of word.now) }
+pub fn given_timestamp(word: &[u8]) -> Result<Option<i64>, LineError>
+    ensures { Gives (λ x. x) result (given_timestamp word.now) }
 {
     Ok(Some(signed_of(word)?))
 }
 
 /// The timestamp that a word spells, or none for `-`.
-pub fn stamp_or_dash(word: &[u8]) -> Result<Option<i64>, Stop>
-    ensures { Gives (λ x. x) result (stamp_or_dash word.now) }
+pub fn timestamp_or_dash(word: &[u8]) -> Result<Option<i64>, LineError>
+    ensures { Gives (λ x. x) result (timestamp_or_dash word.now) }
 {
     if word == b"-".as_slice() {
         return Ok(None);
     }
-    stamp_of(word)
+    given_timestamp(word)
 }
 
 /// The number of versions that a word `versions=N` gives, 1 to 1,000.
-pub fn versions_word(word: &[u8]) -> Result<u32, Stop>
+pub fn versions_word(word: &[u8]) -> Result<u32, LineError>
     ensures { Gives (λ x. x) result (versions_word word.now) }
 {
     if word.len() < 9 {
-        return Err(Stop::Fault);
+        return Err(LineError::Fault);
     }
     let (front, digits) = word.split_at(9);
     if front != b"versions=".as_slice() {
-        return Err(Stop::Fault);
+        return Err(LineError::Fault);
     }
     version_count(magnitude_of(digits)?)
 }
 
-fn version_count(n: u64) -> Result<u32, Stop>
+// The number, if a table can show so many versions.
+fn version_count(n: u64) -> Result<u32, LineError>
     ensures { Gives (λ x. x) result (only_if is_version_count n) }
 {
-    if 1 <= n && n <= 1000 {
+    if 1 <= n && n <= MAX_VERSIONS as u64 {
         Ok(n as u32)
     } else {
-        Err(Stop::Fault)
+        Err(LineError::Fault)
     }
 }
 
-fn positive(n: u64) -> Result<i64, Stop>
+// The number, if it fits without a minus.
+fn positive(n: u64) -> Result<i64, LineError>
     ensures { Gives (λ x. x) result (positive n) }
 {
     if n < 1 << 63 {
         Ok(n as i64)
     } else {
-        Err(Stop::Fault)
+        Err(LineError::Fault)
     }
 }
 
-fn negative(n: u64) -> Result<i64, Stop>
+// The number behind a minus, if it fits and is not 0.
+fn negative(n: u64) -> Result<i64, LineError>
     ensures { Gives (λ x. x) result (negative n) }
 {
     if 0 < n && n <= 1 << 63 {
         Ok(-1 - ((n - 1) as i64))
     } else {
-        Err(Stop::Fault)
+        Err(LineError::Fault)
     }
 }
 
 // The number, if it is below 2^64.
 #[tactic(auto, unfolding(crate::specs::Fields::magnitude_of))]
-fn magnitude_of(digits: &[u8]) -> Result<u64, Stop>
+fn magnitude_of(digits: &[u8]) -> Result<u64, LineError>
     ensures { Gives (λ x. x) result (option_and_then (only_if (λ n. nat_lt n (2 ^ 64))) (magnitude_of digits.now)) }
 {
     if digits.is_empty() {
-        return Err(Stop::Fault);
+        return Err(LineError::Fault);
     }
     digits_on(digits)
 }
 
-fn digits_on(digits: &[u8]) -> Result<u64, Stop>
+// The number that decimal digits spell, if it is below 2^64.
+fn digits_on(digits: &[u8]) -> Result<u64, LineError>
     ensures { Gives (λ x. x) result (option_and_then (only_if (λ n. nat_lt n (2 ^ 64))) (digits_on 0 digits.now)) }
 {
     let mut n = 0u64;
     for digit in digits {
         let Some(next) = with_digit(n, *digit) else {
-            return Err(Stop::Fault);
+            return Err(LineError::Fault);
         };
         n = next;
     }

@@ -6,7 +6,7 @@ ghost use Rattle.tab_text.specs.Words.{is_plain};
 ghost use Rattle.tab_text.specs.Reading.{bytes_of, unescaped};
 ghost use Rattle.tab_lines.specs.Spelling.{bytes_spelled};
 
-use crate::Stop;
+use crate::LineError;
 use std::alloc::Global;
 use tab_text::{Escape, is_plain, step};
 
@@ -33,11 +33,11 @@ impl Spelled<'_> {
 
 /// The bytes that a word spells. A word without escapes takes no memory.
 #[tactic(auto, unfolding(tab_text::specs::Reading::bytes_of), using(crate::proofs::SpellingLemmas::plain_spells))]
-pub fn spelling_of<'a>(alloc: Global, text: &'a [u8]) -> Result<Spelled<'a>, Stop>
+pub fn spelling_of<'a>(alloc: Global, text: &'a [u8]) -> Result<Spelled<'a>, LineError>
     ensures { Gives bytes_spelled result (bytes_of text.now) }
 {
     if text.is_empty() {
-        return Err(Stop::Fault);
+        return Err(LineError::Fault);
     }
     if text == b"\\e".as_slice() {
         return Ok(Spelled::Decoded(Vec::new(alloc)));
@@ -49,7 +49,7 @@ pub fn spelling_of<'a>(alloc: Global, text: &'a [u8]) -> Result<Spelled<'a>, Sto
 }
 
 /// The bytes that a word spells, in a string of their own.
-pub fn bytes_of(alloc: Global, text: &[u8]) -> Result<Vec<u8>, Stop>
+pub fn bytes_of(alloc: Global, text: &[u8]) -> Result<Vec<u8>, LineError>
     ensures { Gives (λ x. x.items) result (bytes_of text.now) }
 {
     match spelling_of(alloc, text)? {
@@ -59,14 +59,14 @@ pub fn bytes_of(alloc: Global, text: &[u8]) -> Result<Vec<u8>, Stop>
 }
 
 // The bytes of a word that may have escapes.
-fn unescaped(alloc: Global, text: &[u8]) -> Result<Vec<u8>, Stop>
+fn unescaped(alloc: Global, text: &[u8]) -> Result<Vec<u8>, LineError>
     ensures { Gives (λ x. x.items) result (unescaped Escape.Outside text.now) }
 {
     let mut bytes = Vec::new(alloc);
     let mut state = Escape::Outside;
     for byte in text {
         let Some((whole, next)) = step(state, *byte) else {
-            return Err(Stop::Fault);
+            return Err(LineError::Fault);
         };
         if let Some(whole) = whole {
             bytes.push(whole)?;
@@ -75,10 +75,11 @@ fn unescaped(alloc: Global, text: &[u8]) -> Result<Vec<u8>, Stop>
     }
     match state {
         Escape::Outside => Ok(bytes),
-        _ => Err(Stop::Fault),
+        _ => Err(LineError::Fault),
     }
 }
 
+// Whether no byte of the text is escaped.
 fn are_plain(text: &[u8]) -> bool
     ensures { result ≡ list_all is_plain text.now }
 {

@@ -6,16 +6,16 @@ ghost use Rattle.tab_lines.specs.Gives.{Gives, field};
 ghost use Rattle.tab_lines.specs.Words.{words_left};
 ghost use Rattle.tab_lines.specs.Updates.{row_of, updated, with_updates, timestamp_of, put_of, delete_of, update_of, updates_from, updates_of};
 
-use crate::Stop;
+use crate::LineError;
 use crate::fields::a_word;
-use crate::numbers::{stamp_of, stamp_or_dash};
+use crate::numbers::{given_timestamp, timestamp_or_dash};
 use crate::words::Words;
 use std::alloc::Global;
 use tab_mutation::Mutation;
 
 /// How an update says its timestamp.
 #[derive(Clone, Copy)]
-pub enum Stamp {
+pub enum TimestampForm {
     /// A number, or no word at all at the end of the line.
     Optional,
     /// A number, or the word `-` for none.
@@ -23,21 +23,22 @@ pub enum Stamp {
 }
 
 /// Takes the word of a row, for a mutation without updates.
-pub fn a_row(alloc: Global, words: &mut Words) -> Result<Mutation, Stop>
+pub fn a_row(alloc: Global, words: &mut Words) -> Result<Mutation, LineError>
     ensures { Gives (λ x. (x, words_left words.new)) result (field row_of (words_left words.old)) }
 {
     let row = a_word(alloc, words)?;
     Ok(Mutation::new(alloc, row.as_bytes())?)
 }
 
-fn a_timestamp(stamp: Stamp, words: &mut Words) -> Result<Option<i64>, Stop>
-    ensures { Gives (λ x. (x, words_left words.new)) result (timestamp_of stamp (words_left words.old)) }
+// Takes the timestamp, in the form in which it is said here.
+fn a_timestamp(form: TimestampForm, words: &mut Words) -> Result<Option<i64>, LineError>
+    ensures { Gives (λ x. (x, words_left words.new)) result (timestamp_of form (words_left words.old)) }
 {
-    match (stamp, words.next()) {
-        (Stamp::Optional, None) => Ok(None),
-        (Stamp::Optional, Some(word)) => stamp_of(word),
-        (Stamp::Dashed, None) => Err(Stop::Fault),
-        (Stamp::Dashed, Some(word)) => stamp_or_dash(word),
+    match (form, words.next()) {
+        (TimestampForm::Optional, None) => Ok(None),
+        (TimestampForm::Optional, Some(word)) => given_timestamp(word),
+        (TimestampForm::Dashed, None) => Err(LineError::Fault),
+        (TimestampForm::Dashed, Some(word)) => timestamp_or_dash(word),
     }
 }
 
@@ -45,17 +46,17 @@ fn a_timestamp(stamp: Stamp, words: &mut Words) -> Result<Option<i64>, Stop>
 #[tactic(auto, unfolding(crate::specs::Updates::put_of))]
 pub fn add_put(
     alloc: Global,
-    stamp: Stamp,
+    form: TimestampForm,
     words: &mut Words,
     mutation: &mut Mutation,
-) -> Result<(), Stop>
-    ensures { Gives (λ x. (mutation.new, words_left words.new)) result (updated mutation.old (put_of stamp (words_left words.old))) }
+) -> Result<(), LineError>
+    ensures { Gives (λ x. (mutation.new, words_left words.new)) result (updated mutation.old (put_of form (words_left words.old))) }
 {
     let family = a_word(alloc, words)?;
     let qualifier = a_word(alloc, words)?;
     let label = a_word(alloc, words)?;
     let value = a_word(alloc, words)?;
-    let timestamp = a_timestamp(stamp, words)?;
+    let timestamp = a_timestamp(form, words)?;
     mutation.put(
         family.as_bytes(),
         qualifier.as_bytes(),
@@ -70,16 +71,16 @@ pub fn add_put(
 #[tactic(auto, unfolding(crate::specs::Updates::delete_of))]
 pub fn add_delete(
     alloc: Global,
-    stamp: Stamp,
+    form: TimestampForm,
     words: &mut Words,
     mutation: &mut Mutation,
-) -> Result<(), Stop>
-    ensures { Gives (λ x. (mutation.new, words_left words.new)) result (updated mutation.old (delete_of stamp (words_left words.old))) }
+) -> Result<(), LineError>
+    ensures { Gives (λ x. (mutation.new, words_left words.new)) result (updated mutation.old (delete_of form (words_left words.old))) }
 {
     let family = a_word(alloc, words)?;
     let qualifier = a_word(alloc, words)?;
     let label = a_word(alloc, words)?;
-    let timestamp = a_timestamp(stamp, words)?;
+    let timestamp = a_timestamp(form, words)?;
     mutation.delete(
         family.as_bytes(),
         qualifier.as_bytes(),
@@ -89,18 +90,19 @@ pub fn add_delete(
     Ok(())
 }
 
-fn add_update(alloc: Global, words: &mut Words, mutation: &mut Mutation) -> Result<(), Stop>
+// Adds the update whose words come next.
+fn add_update(alloc: Global, words: &mut Words, mutation: &mut Mutation) -> Result<(), LineError>
     ensures { Gives (λ x. (mutation.new, words_left words.new)) result (updated mutation.old (update_of (words_left words.old))) }
 {
     let Some(verb) = words.next() else {
-        return Err(Stop::Fault);
+        return Err(LineError::Fault);
     };
     if verb == b"put".as_slice() {
-        add_put(alloc, Stamp::Dashed, words, mutation)
+        add_put(alloc, TimestampForm::Dashed, words, mutation)
     } else if verb == b"del".as_slice() {
-        add_delete(alloc, Stamp::Dashed, words, mutation)
+        add_delete(alloc, TimestampForm::Dashed, words, mutation)
     } else {
-        Err(Stop::Fault)
+        Err(LineError::Fault)
     }
 }
 
@@ -112,25 +114,29 @@ fn parts(word: &[u8]) -> bool
 }
 
 // Adds at least one update.
-fn add_some(alloc: Global, words: &mut Words, mutation: &mut Mutation) -> Result<(), Stop>
+fn add_some(alloc: Global, words: &mut Words, mutation: &mut Mutation) -> Result<(), LineError>
     ensures { Gives (λ x. mutation.new) result (option_map (with_updates mutation.old) (updates_from (words_left words.old))) }
 {
     'updates: loop {
         match add_update(alloc, words, mutation) {
             Ok(()) => {}
-            Err(stop) => return Err(stop),
+            Err(error) => return Err(error),
         }
         let Some(word) = words.next() else {
             return Ok(());
         };
         if !parts(word) {
-            return Err(Stop::Fault);
+            return Err(LineError::Fault);
         }
     }
 }
 
 /// Adds all updates of the line: none, or several parted by the word `;`.
-pub fn add_updates(alloc: Global, words: &mut Words, mutation: &mut Mutation) -> Result<(), Stop>
+pub fn add_updates(
+    alloc: Global,
+    words: &mut Words,
+    mutation: &mut Mutation,
+) -> Result<(), LineError>
     ensures { Gives (λ x. mutation.new) result (option_map (with_updates mutation.old) (updates_of (words_left words.old))) }
 {
     let mut ahead = *words;

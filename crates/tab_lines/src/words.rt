@@ -36,6 +36,7 @@ impl<'a> Words<'a> {
     }
 }
 
+// The text behind the spaces in front.
 #[tactic(auto, using(crate::proofs::Cutting::words_skip, crate::proofs::Cutting::skipped))]
 fn skip_spaces(text: &[u8]) -> &[u8]
     ensures words { words_of result.now ≡ words_of text.now }
@@ -45,6 +46,7 @@ fn skip_spaces(text: &[u8]) -> &[u8]
     text.split_at(count).1
 }
 
+// How many spaces stand in front.
 #[tactic(auto, using(crate::proofs::Cutting::prefix_fits))]
 fn spaces(text: &[u8]) -> usize
     ensures value { result ≡ prefix_len (λ b. b == 32) text.now }

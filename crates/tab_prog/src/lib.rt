@@ -1,9 +1,12 @@
-//! What the subcommands of the program do, over any reader and writer. `specs/Programs` says it, for the bytes of the
-//! input and the bytes of the output.
+//! What the subcommands of the program do, over any reader and writer.
+//!
+//! | File | What |
+//! |---|---|
+//! | `scripting` | `tabd script` |
+//!
+//! `specs/Programs` says it, for the bytes of the input and the bytes of the output.
 #![tactic(auto)]
 
 mod scripting;
-#[cfg(test)]
-mod tests;
 
 pub use scripting::{ProgramFault, script};

@@ -1,7 +1,6 @@
 //! `tabd script`.
-ghost use Rattle.std.specs.Prelude.{◌≡◌, Err, IfErr, IfOk, IfSome, OnOk};
-ghost use Rattle.tab_shell.specs.Going;
-ghost use Rattle.tab_prog.specs.Programs.{IsFresh, Finishes, Halts, AnswersAll, AnswersFirst, FailedSide};
+ghost use Rattle.std.specs.Prelude.{IfOk};
+ghost use Rattle.tab_prog.specs.Programs.{IsFresh, Runs, RunsProgram};
 
 use std::alloc::{AllocError, Global};
 use tab_core::Core;
@@ -25,16 +24,12 @@ pub enum ProgramFault {
 /// Answers the lines of the input on the output, beginning with a new core, until the input ends.
 ///
 /// An error says which side failed in the call, or that there was no memory for a core.
-#[tactic(auto, using(crate::proofs::Answering::answers_all))]
 pub fn script<R: Input, W: Output>(
     alloc: Global,
     input: &mut R,
     output: &mut W,
 ) -> Result<(), ProgramFault>
-    ensures all { OnOk result (IfSome (R.remaining input.old) (λ bytes. AnswersAll bytes (W.contents output.old) (W.held output.old) (W.contents output.new))) }
-    ensures first { IfErr result (λ fault. AnswersFirst fault (R.remaining input.old) (W.contents output.old) (W.held output.old) (W.contents output.new)) }
-    ensures sides { IfErr result (λ fault. FailedSide fault (R.faults input.old) (R.faults input.new) (R.budget input.new) (W.faults output.old) (W.faults output.new) (W.budget output.new)) }
-    ensures nothing { result ≡ Err ProgramFault.NoMemory → (input.new ≡ input.old) × (output.new ≡ output.old) }
+    ensures { RunsProgram R.Input W.Output input.old output.old input.new output.new result }
 {
     match begun(alloc) {
         Ok(script) => match answered(script, input, output) {
@@ -60,9 +55,7 @@ fn answered<R: Input, W: Output>(
     input: &mut R,
     output: &mut W,
 ) -> Result<Ended, ScriptFault>
-    ensures ok { OnOk result (IfSome (R.remaining input.old) (λ bytes. Finishes script bytes (W.contents output.old) (W.held output.old) (W.contents output.new))) }
-    ensures err { IfErr result (λ fault. IfSome (R.remaining input.old) (λ bytes. Halts fault script bytes (W.contents output.old) (W.held output.old) (W.contents output.new))) }
-    ensures sides { IfErr result (λ fault. Going.FailedSide fault (R.faults input.old) (R.faults input.new) (R.budget input.new) (W.faults output.old) (W.faults output.new) (W.budget output.new)) }
+    ensures { Runs R.Input W.Output script input.old output.old input.new output.new result }
 {
     script.run(input, output)
 }

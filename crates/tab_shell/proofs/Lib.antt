@@ -1,6 +1,6 @@
 pub mod PendingLemmas
 pub mod Taking
-pub mod GoingLemmas
+pub mod ProgressLemmas
 pub mod Reading
 pub mod Saying
 pub mod Batching

@@ -3,7 +3,7 @@ use Rattle.std.proofs.Common.{ℕ, suc, ◌≡◌, ◌+◌, ◌<◌, Bool, true,
 use Rattle.std.specs.List.{prefix_len}
 use Rattle.std.proofs.lemmas.List.{append-nil}
 use Rattle.tab_shell.specs.declared.pending.Pending.{Pending}
-use Rattle.tab_shell.specs.Runs.{is_inside, IsInside}
+use Rattle.tab_shell.specs.Scripts.{is_inside, IsInside}
 use Rattle.tab_shell.specs.Ahead.{Pends, KeptOrLost}
 
 pub inside_more : (gone part : List ℕ) → IsInside gone → IsInside part → IsInside (gone ++ part)

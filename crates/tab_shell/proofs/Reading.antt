@@ -3,27 +3,27 @@ use Rattle.std.proofs.Common.{ℕ, true, false, cond, List, [], ◌∷◌, refl,
 use Rattle.std.specs.Prelude.{Result, option_map}
 use Rattle.tab_lines.specs.declared.line.Line.{Line}
 use Rattle.tab_lines.specs.declared.line.Line.TheVariants as line
-use Rattle.tab_lines.specs.declared.stop.Stop.{Stop}
+use Rattle.tab_lines.specs.declared.line_error.LineError.{LineError}
 use Rattle.tab_lines.specs.declared.command.Command.{Command}
 use Rattle.tab_lines.specs.declared.command.Command.TheVariants as command
-use Rattle.tab_lines.specs.declared.updates.Stamp.TheVariants.{Optional}
+use Rattle.tab_lines.specs.declared.updates.TimestampForm.TheVariants.{Optional}
 use Rattle.tab_lines.specs.Gives.{◌>>=◌, Gives, field, ends, optional}
 use Rattle.tab_lines.specs.Words.{words_of}
 use Rattle.tab_lines.specs.Fields.{name_of, signed_of, list_of, constraints_of, columns_of}
 use Rattle.tab_lines.specs.Updates.{row_of, put_of, delete_of, updates_of}
 use Rattle.tab_lines.specs.Lines.{settings, createtable_of, setauths_of, constraints_line_of, insert_of, delete_line_of, mutate_of, bounds_of, scan_of, at_of, name_alone, grant_of, command_of, commanded, said, is_comment, line_of}
-use Rattle.tab_shell.specs.Ahead.{OpensNone}
+use Rattle.tab_shell.specs.Ahead.{OpensNoSession}
 
 -- nothing is read, or what is read opens no session that stays
 abbrev IsShut : Option Line → Type 0
 IsShut None = Unit {0}
-IsShut (Some l) = OpensNone (Ok l)
+IsShut (Some l) = OpensNoSession (Ok l)
 
 after : {A : Type 0} (o : Option A) (f : A → Option Line) → ((a : A) → IsShut (f a)) → IsShut (o >>= f)
 after None f h = tt
 after (Some a) f h = h a
 
-mapped : {A : Type 0} (o : Option A) (f : A → Line) → ((a : A) → OpensNone (Ok (f a))) → IsShut (option_map f o)
+mapped : {A : Type 0} (o : Option A) (f : A → Line) → ((a : A) → OpensNoSession (Ok (f a))) → IsShut (option_map f o)
 mapped None f h = tt
 mapped (Some a) f h = h a
 
@@ -83,10 +83,10 @@ said_shut (word ∷ words) = after (command_of word) (λ c. commanded c words) (
 line_shut : (text : List ℕ) → IsShut (line_of text)
 line_shut text = elim (is_comment text) as (λ b. IsShut (cond b (Some line.Blank) (said (words_of text)))) [ true ↦ tt | false ↦ said_shut (words_of text) ]
 
-shut : (said : Result Line Stop) (o : Option Line) → IsShut o → Gives (λ x. x) said o → OpensNone said
+shut : (said : Result Line LineError) (o : Option Line) → IsShut o → Gives (λ x. x) said o → OpensNoSession said
 shut (Ok l) o h is = subst IsShut is h
 shut (Err e) o h is = tt
 
 -- what a line says opens no session that stays
-pub line_opens_none : (said : Result Line Stop) (text : List ℕ) → Gives (λ x. x) said (line_of text) → OpensNone said
+pub line_opens_none : (said : Result Line LineError) (text : List ℕ) → Gives (λ x. x) said (line_of text) → OpensNoSession said
 line_opens_none said text is = shut said (line_of text) (line_shut text) is

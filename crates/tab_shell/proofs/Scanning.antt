@@ -15,22 +15,23 @@ use Rattle.tab_history.specs.declared.reply.Reply.{Reply}
 use Rattle.tab_history.specs.declared.reply.Reply.TheVariants.{Done, Refused, Opened, Batch, Rights as OwnRights}
 use Rattle.tab_history.specs.Bases.{Base}
 use Rattle.tab_history.specs.Checks.{standing, refusal_of, exists_in, user_named}
-use Rattle.tab_history.specs.Answers.{Told, told, answer, event_answer, moves_by, session_list, next_answer, close_answer}
-use Rattle.tab_history.specs.Sessions.{Held, Move, Opening, Taking, Closing, gave, opened, closed, is_full, session_in}
+use Rattle.tab_history.specs.Answers.{Told, told, answer, event_answer, moves_by, session_list, next_answer, close_answer, told_of}
+use Rattle.tab_cells.specs.SessionState.{SessionState, gave}
+use Rattle.tab_history.specs.Sessions.{Move, Opening, Taking, Closing, opened, closed, is_full, session_in}
 use Rattle.tab_history.specs.Histories.{Entry, World, world_of, world_after, clock_of, clock_at, journal, is_by, moves_of}
 use Rattle.tab_history.specs.Legal.{Legal, IsAnswer, IsExhausted}
-use Rattle.tab_history.specs.Standing.{StandsFor}
+use Rattle.tab_history.specs.Refinement.{Refines}
 use Rattle.tab_history.proofs.Playing.{unmoved}
 use Rattle.tab_core.specs.Stepping.{Steps}
-use Rattle.tab_history.specs.Answers.{told_of}
 use Rattle.tab_lines.specs.declared.line.Line.TheVariants as line
 use Rattle.tab_shell.specs.Texts.{reply_text, refusal_text}
-use Rattle.tab_shell.specs.Batches.{IsRestText, left_of}
+use Rattle.tab_shell.specs.Batches.{left_of}
+use Rattle.tab_shell.specs.Readings.{ReadingEnd, AllRead, Lacking, CanEnd, IsReadingText, reading_text, reading_steps, batch_at, batches}
 use Rattle.tab_shell.specs.Counts.{count_of}
 use Rattle.tab_shell.proofs.Saying.{same_cond}
 use Rattle.tab_lines.specs.declared.line.Line.{Line}
-use Rattle.tab_lines.specs.declared.stop.Stop.{Stop}
-use Rattle.tab_shell.specs.Runs.{Asker, ScriptState, ScriptStands, Scans, Answered, event_by, entry, batch_at, batches, read_out, read_part, ReadsOut}
+use Rattle.tab_lines.specs.declared.line_error.LineError.{LineError}
+use Rattle.tab_shell.specs.Scripts.{Asker, ScriptState, ScriptRefines, ScanSteps, ScriptAnswersLine, event_by, entry}
 
 bytes_self : (x : List ℕ) → bytes_eq x x ≡ true
 bytes_self x = (bytes_eq-Decides x x).1 refl
@@ -151,7 +152,7 @@ module _ (w : World) (user : List ℕ) (slot : ℕ) (all : List Cell) where
   batches_others other (suc k) es not = other_moves w other (taken k) (batches user slot all k ++ es) not ∙ batches_others other k es not
 
   -- the whole session, and its close
-  read_legal : (es : List Entry) → Legal w es → Gave es 0 → Legal w (read_out user slot all ++ es)
+  read_legal : (es : List Entry) → Legal w es → Gave es 0 → Legal w (reading_steps user slot all AllRead ++ es)
   read_legal es legal g =
       let q : ℕ = length all / 1000 in
       let b = batches_legal q es (omega arith) legal g in
@@ -159,21 +160,21 @@ module _ (w : World) (user : List ℕ) (slot : ℕ) (all : List Cell) where
       let last : Legal w (taken q ∷ before) = (b.0, inl (next_right q before b.1)) in
       (last, inl (close_right (1000 * q + length (batch_at all q)) (taken q ∷ before) (gave_more q (1000 * q) before b.1)))
 
-  read_opened : (es : List Entry) → opened (moves_of w user (read_out user slot all ++ es)) ≡ opened (moves_of w user es)
+  read_opened : (es : List Entry) → opened (moves_of w user (reading_steps user slot all AllRead ++ es)) ≡ opened (moves_of w user es)
   read_opened es =
       let before : List Entry = batches user slot all (suc (length all / 1000)) ++ es in
       ap opened (close_moves w user before slot) ∙ closing_opened (moves_of w user before) slot ∙ batches_opened (suc (length all / 1000)) es
 
-  read_closed : (es : List Entry) → closed (moves_of w user (read_out user slot all ++ es)) ≡ closed (moves_of w user es) + 1
+  read_closed : (es : List Entry) → closed (moves_of w user (reading_steps user slot all AllRead ++ es)) ≡ closed (moves_of w user es) + 1
   read_closed es =
       let before : List Entry = batches user slot all (suc (length all / 1000)) ++ es in
       ap closed (close_moves w user before slot) ∙ closing_closed (moves_of w user before) slot ∙ ap (λ n. n + 1) (batches_closed (suc (length all / 1000)) es)
 
-  read_others : (other : List ℕ) (es : List Entry) → bytes_eq user other ≡ false → moves_of w other (read_out user slot all ++ es) ≡ moves_of w other es
+  read_others : (other : List ℕ) (es : List Entry) → bytes_eq user other ≡ false → moves_of w other (reading_steps user slot all AllRead ++ es) ≡ moves_of w other es
   read_others other es not =
       other_moves w other (record { step = Close user slot; reply = Done }) (batches user slot all (suc (length all / 1000)) ++ es) not ∙ batches_others other (suc (length all / 1000)) es not
 
-  read_unmoved : (es : List Entry) → world_after w (read_out user slot all ++ es) ≡ world_after w es
+  read_unmoved : (es : List Entry) → world_after w (reading_steps user slot all AllRead ++ es) ≡ world_after w es
   read_unmoved es = unmoved w (batches user slot all (suc (length all / 1000)) ++ es) (record { step = Close user slot; reply = Done }) tt ∙ batches_unmoved (suc (length all / 1000)) es
 
   -- the batch for which memory lacked
@@ -188,28 +189,28 @@ module _ (w : World) (user : List ℕ) (slot : ℕ) (all : List Cell) where
   lacked_gave n es g = ap (λ ms. session_in ms slot) (lacked_moves user es) ∙ g
 
   -- full batches, one that lacked, and a close
-  part_legal : (k : ℕ) (es : List Entry) → 1000 * k ≤ length all → Legal w es → Gave es 0 → Legal w (read_part user slot all k ++ es)
+  part_legal : (k : ℕ) (es : List Entry) → 1000 * k ≤ length all → Legal w es → Gave es 0 → Legal w (reading_steps user slot all (Lacking k) ++ es)
   part_legal k es fits legal g =
       let b = batches_legal k es fits legal g in
       let before : List Entry = batches user slot all k ++ es in
       ((b.0, inr (inl refl)), inl (close_right (1000 * k) (lacked ∷ before) (lacked_gave (1000 * k) before b.1)))
 
-  part_opened : (k : ℕ) (es : List Entry) → opened (moves_of w user (read_part user slot all k ++ es)) ≡ opened (moves_of w user es)
+  part_opened : (k : ℕ) (es : List Entry) → opened (moves_of w user (reading_steps user slot all (Lacking k) ++ es)) ≡ opened (moves_of w user es)
   part_opened k es =
       let before : List Entry = batches user slot all k ++ es in
       ap opened (close_moves w user (lacked ∷ before) slot) ∙ closing_opened (moves_of w user (lacked ∷ before)) slot ∙ ap opened (lacked_moves user before) ∙ batches_opened k es
 
-  part_closed : (k : ℕ) (es : List Entry) → closed (moves_of w user (read_part user slot all k ++ es)) ≡ closed (moves_of w user es) + 1
+  part_closed : (k : ℕ) (es : List Entry) → closed (moves_of w user (reading_steps user slot all (Lacking k) ++ es)) ≡ closed (moves_of w user es) + 1
   part_closed k es =
       let before : List Entry = batches user slot all k ++ es in
       ap closed (close_moves w user (lacked ∷ before) slot) ∙ closing_closed (moves_of w user (lacked ∷ before)) slot ∙ ap (λ ms. closed ms + 1) (lacked_moves user before) ∙ ap (λ n. n + 1) (batches_closed k es)
 
-  part_others : (other : List ℕ) (k : ℕ) (es : List Entry) → bytes_eq user other ≡ false → moves_of w other (read_part user slot all k ++ es) ≡ moves_of w other es
+  part_others : (other : List ℕ) (k : ℕ) (es : List Entry) → bytes_eq user other ≡ false → moves_of w other (reading_steps user slot all (Lacking k) ++ es) ≡ moves_of w other es
   part_others other k es not =
       let before : List Entry = batches user slot all k ++ es in
       other_moves w other (record { step = Close user slot; reply = Done }) (lacked ∷ before) not ∙ lacked_moves other before ∙ batches_others other k es not
 
-  part_unmoved : (k : ℕ) (es : List Entry) → world_after w (read_part user slot all k ++ es) ≡ world_after w es
+  part_unmoved : (k : ℕ) (es : List Entry) → world_after w (reading_steps user slot all (Lacking k) ++ es) ≡ world_after w es
   part_unmoved k es =
       let before : List Entry = batches user slot all k ++ es in
       unmoved w (lacked ∷ before) (record { step = Close user slot; reply = Done }) tt ∙ unmoved w before lacked tt ∙ batches_unmoved k es
@@ -222,20 +223,15 @@ module _ (w : World) (user : List ℕ) (slot : ℕ) (all : List Cell) where
     others : (other : List ℕ) (es : List Entry) → bytes_eq user other ≡ false → moves_of w other (out ++ es) ≡ moves_of w other es
     unmoved : (es : List Entry) → world_after w (out ++ es) ≡ world_after w es
 
-  reads_whole : Reads (read_out user slot all)
+  reads_whole : Reads (reading_steps user slot all AllRead)
   reads_whole = record { legal = read_legal; opened = read_opened; closed = read_closed; others = read_others; unmoved = read_unmoved }
 
-  reads_part : (k : ℕ) → 1000 * k ≤ length all → Reads (read_part user slot all k)
+  reads_part : (k : ℕ) → 1000 * k ≤ length all → Reads (reading_steps user slot all (Lacking k))
   reads_part k fits = record { legal = λ es. part_legal k es fits; opened = part_opened k; closed = part_closed k; others = λ other. part_others other k; unmoved = part_unmoved k }
 
-  reads_out : (out : List Entry) (text : List ℕ) → ReadsOut user slot all out text → Reads out
-  reads_out out text (inl (is, t)) = subst Reads (sym is) reads_whole
-  reads_out out text (inr (k, fits, is, t)) = subst Reads (sym is) (reads_part k fits)
-
-  -- for each text that reading may print there are such entries
-  out_of : (text : List ℕ) → IsRestText all text → (out : List Entry) × ReadsOut user slot all out text
-  out_of text (inl t) = (read_out user slot all, inl (refl, t))
-  out_of text (inr (k, fits, t)) = (read_part user slot all k, inr (k, fits, refl, t))
+  reads_to : (end : ReadingEnd) → CanEnd all end → Reads (reading_steps user slot all end)
+  reads_to AllRead fits = reads_whole
+  reads_to (Lacking k) fits = reads_part k fits
 
 -- ---- the Open
 -- where fewer were opened than may be, and as many closed, there is room
@@ -260,19 +256,23 @@ with_sessions s core counts = record { core = core; asker = s.asker; opened = co
 abbrev pub asked : ScriptState → ℕ
 asked s = count_of s.opened s.asker.user
 
-legal_open : (s : ScriptState) (core : Base) (scan : Scan) (reply : Reply Held) (w : World) (h : List Entry) → asked s < 4294967295 → Steps s.core (event_by s.asker (Open scan)) reply core → ScriptStands s w h
+legal_open : (s : ScriptState) (core : Base) (scan : Scan) (reply : Reply SessionState) (w : World) (h : List Entry) → asked s < 4294967295 → Steps s.core (event_by s.asker (Open scan)) reply core → ScriptRefines s w h
     → IsAnswer w h h (IsEvent (event_by s.asker (Open scan))) (told_of reply) ⊎ IsExhausted (told_of reply)
-legal_open s core scan reply w h lt steps stands = steps.answers w h stands.core h (λ yes. has_room (moves_of w s.asker.user h) (asked s) (stands.opened s.asker.user) (stands.closed s.asker.user) lt)
+legal_open s core scan reply w h lt steps refines = steps.answers w h refines.core h (λ yes. has_room (moves_of w s.asker.user h) (asked s) (refines.opened s.asker.user) (refines.closed s.asker.user) lt)
 
 -- the session's cells are those that are defined
-scanned_text : (session : Held) (all : List Cell) (text : List ℕ) → session ≡ record { all = all; given = 0 } → IsRestText (left_of session) text → IsRestText all text
-scanned_text session all text is rest = subst (λ (s : Held). IsRestText (left_of s) text) is rest
+scanned_text : (session : SessionState) (all : List Cell) (text : List ℕ) → session ≡ record { all = all; given = 0 } → IsReadingText (left_of session) text → IsReadingText all text
+scanned_text session all text is rest = subst (λ (s : SessionState). IsReadingText (left_of s) text) is rest
 
-opened_scans : (who : Asker) (w : World) (h : List Entry) (scan : Scan) (all : List Cell) (out : List Entry) (text : List ℕ) → all ≡ session_list w.base (journal w h) (Open scan) → ReadsOut who.user (opened (moves_of w who.user h)) all out text
-    → Scans who w h (event_by who (Open scan)) (Opened tt) (out ++ entry (event_by who (Open scan)) (Opened tt) ∷ []) text
+opened_scans : (who : Asker) (w : World) (h : List Entry) (scan : Scan) (all : List Cell) (end : ReadingEnd) (text : List ℕ) → all ≡ session_list w.base (journal w h) (Open scan) → CanEnd all end → text ≡ reading_text all end
+    → ScanSteps who w h (event_by who (Open scan)) (Opened tt) (reading_steps who.user (opened (moves_of w who.user h)) all end ++ entry (event_by who (Open scan)) (Opened tt) ∷ []) text
 unfolding journal
-opened_scans who w h scan all out text is reads =
-    (out, subst (λ (xs : List Cell). ReadsOut who.user (opened (moves_of w who.user h)) xs out text) is reads, refl)
+opened_scans who w h scan all end text is fits t = (
+  end,
+  subst (λ (xs : List Cell). CanEnd xs end) is fits,
+  t ∙ ap (λ (xs : List Cell). reading_text xs end) is,
+  ap (λ (xs : List Cell). reading_steps who.user (opened (moves_of w who.user h)) xs end ++ entry (event_by who (Open scan)) (Opened tt) ∷ []) is,
+)
 
 -- ---- one more session is counted
 -- a number that rises by one for the user alone
@@ -316,35 +316,35 @@ module _ (w : World) (who : Asker) (h : List Entry) (scan : Scan) (out : List En
       (reads.closed begins ∙ ap (λ n. n + 1) (ap closed (open_moves w who h scan tt) ∙ opening_closed (moves_of w who.user h) all_cells))
       (λ other not. ap closed (others_unmoved reads other not))
 
-pub scan_answered : (s : ScriptState) (core : Base) (counts : List (List ℕ × ℕ)) (scan : Scan) (session : Held) (text : List ℕ) → asked s < 4294967295 → Steps s.core (event_by s.asker (Open scan)) (Opened session) core
+pub scan_answered : (s : ScriptState) (core : Base) (counts : List (List ℕ × ℕ)) (scan : Scan) (session : SessionState) (text : List ℕ) → asked s < 4294967295 → Steps s.core (event_by s.asker (Open scan)) (Opened session) core
     → ((n : List ℕ) → count_of counts n ≡ cond (bytes_eq s.asker.user n) (count_of s.opened n + 1) (count_of s.opened n))
-    → IsRestText (left_of session) text → Answered s (Ok (line.Scan scan)) text (with_sessions s core counts)
+    → IsReadingText (left_of session) text → ScriptAnswersLine s (Ok (line.Scan scan)) text (with_sessions s core counts)
 scan_answered s core counts scan session text lt steps raised rest = record {
   asker = refl;
-  goes = λ w h stands legal.
+  extends = λ w h refines legal.
       let user : List ℕ = s.asker.user in
       let e : Entry = entry (event_by s.asker (Open scan)) (Opened tt) in
       let all : List Cell = session_list w.base (journal w h) (Open scan) in
       let slot : ℕ = opened (moves_of w user h) in
       let first : List Entry = e ∷ h in
-      let read = out_of w user slot all text (scanned_text session all text (steps.hands w h stands.core) rest) in
-      let out : List Entry = read.0 in
-      let reads : Reads w user slot all out = reads_out w user slot all out text read.1 in
+      let read = scanned_text session all text (steps.hands w h refines.core) rest in
+      let out : List Entry = reading_steps user slot all read.0 in
+      let reads : Reads w user slot all out = reads_to w user slot all read.0 read.1 in
       let moved : moves_of w user first ≡ Opening all ∷ moves_of w user h = open_moves w s.asker h scan tt in
-      let begun : Legal w first = (legal, legal_open s core scan (Opened session) w h lt steps stands) in
+      let begun : Legal w first = (legal, legal_open s core scan (Opened session) w h lt steps refines) in
       let held : session_in (moves_of w user first) slot ≡ Some (record { all = all; given = 0 }) = ap (λ ms. session_in ms slot) moved ∙ session_opened (moves_of w user h) all in
       let whole : (out ++ e ∷ []) ++ h ≡ out ++ first = append_assoc out (e ∷ []) h in
-      let after : StandsFor (world_of core) (world_after w (out ++ first)) = subst (λ (v : World). StandsFor (world_of core) v) (sym (reads.unmoved first)) (steps.stands w h stands.core) in
+      let after : Refines (world_of core) (world_after w (out ++ first)) = subst (λ (v : World). Refines (world_of core) v) (sym (reads.unmoved first)) (steps.refines w h refines.core) in
       let new : ScriptState = with_sessions s core counts in
-      let stood : ScriptStands new w (out ++ first) = record {
+      let stood : ScriptRefines new w (out ++ first) = record {
         core = after;
-        opened = counts_rise user (λ n. opened (moves_of w n (out ++ first))) (λ n. opened (moves_of w n h)) s.opened counts (scan_opened w s.asker h scan out reads) stands.opened raised;
-        closed = counts_rise user (λ n. closed (moves_of w n (out ++ first))) (λ n. closed (moves_of w n h)) s.opened counts (scan_closed w s.asker h scan out reads) stands.closed raised;
+        opened = counts_rise user (λ n. opened (moves_of w n (out ++ first))) (λ n. opened (moves_of w n h)) s.opened counts (scan_opened w s.asker h scan out reads) refines.opened raised;
+        closed = counts_rise user (λ n. closed (moves_of w n (out ++ first))) (λ n. closed (moves_of w n h)) s.opened counts (scan_closed w s.asker h scan out reads) refines.closed raised;
       } in (
         out ++ e ∷ [],
-        (Opened tt, opened_scans s.asker w h scan all out text refl read.1),
+        (Opened tt, opened_scans s.asker w h scan all read.0 text refl read.1 read.2),
         subst (λ (es : List Entry). Legal w es) (sym whole) (reads.legal first begun held),
-        subst (λ (es : List Entry). ScriptStands new w es) (sym whole) stood,
+        subst (λ (es : List Entry). ScriptRefines new w es) (sym whole) stood,
       );
 }
 
@@ -371,21 +371,21 @@ not_done w h who scan reply (inl is) =
 abbrev with_new_core : ScriptState → Base → ScriptState
 with_new_core s core = record s { core = core }
 
-refused_stands : (s : ScriptState) (core : Base) (scan : Scan) (r : Refusal) (w : World) (h : List Entry) → StandsFor (world_of core) (world_after w (entry (event_by s.asker (Open scan)) (Refused r) ∷ h)) → ScriptStands s w h
-    → ScriptStands (with_new_core s core) w (entry (event_by s.asker (Open scan)) (Refused r) ∷ h)
-refused_stands s core scan r w h after stands =
+refused_stands : (s : ScriptState) (core : Base) (scan : Scan) (r : Refusal) (w : World) (h : List Entry) → Refines (world_of core) (world_after w (entry (event_by s.asker (Open scan)) (Refused r) ∷ h)) → ScriptRefines s w h
+    → ScriptRefines (with_new_core s core) w (entry (event_by s.asker (Open scan)) (Refused r) ∷ h)
+refused_stands s core scan r w h after refines =
     let moves = λ (n : List ℕ). refused_moves w n s.asker h scan r in
-    record { core = after; opened = λ n. ap opened (moves n) ∙ stands.opened n; closed = λ n. ap closed (moves n) ∙ stands.closed n }
+    record { core = after; opened = λ n. ap opened (moves n) ∙ refines.opened n; closed = λ n. ap closed (moves n) ∙ refines.closed n }
 
 refused_answered : (s : ScriptState) (core : Base) (scan : Scan) (r : Refusal) → asked s < 4294967295 → Steps s.core (event_by s.asker (Open scan)) (Refused r) core
-    → Answered s (Ok (line.Scan scan)) (refusal_text r) (with_new_core s core)
+    → ScriptAnswersLine s (Ok (line.Scan scan)) (refusal_text r) (with_new_core s core)
 refused_answered s core scan r lt steps = record {
   asker = refl;
-  goes = λ w h stands legal. (
+  extends = λ w h refines legal. (
     entry (event_by s.asker (Open scan)) (Refused r) ∷ [],
     (Refused r, (refl, refl)),
-    (legal, legal_open s core scan (Refused r) w h lt steps stands),
-    refused_stands s core scan r w h (steps.stands w h stands.core) stands,
+    (legal, legal_open s core scan (Refused r) w h lt steps refines),
+    refused_stands s core scan r w h (steps.refines w h refines.core) refines,
   );
 }
 
@@ -401,18 +401,18 @@ opens : (reply : Told) → (reply ≡ Opened tt) ⊎ ((r : Refusal) × (reply �
 opens reply (inl e) = subst Opens (sym e) tt
 opens reply (inr e) = subst Opens (sym e.1) tt
 
--- what stands for no history answers each line
-never : (s : ScriptState) (core : Base) (scan : Scan) (text : List ℕ) → ((w : World) (h : List Entry) → ScriptStands s w h → ⊥) → Answered s (Ok (line.Scan scan)) text (with_new_core s core)
-never s core scan text nowhere = record { asker = refl; goes = λ w h stands legal. absurd (nowhere w h stands) }
+-- what refines no history answers each line
+never : (s : ScriptState) (core : Base) (scan : Scan) (text : List ℕ) → ((w : World) (h : List Entry) → ScriptRefines s w h → ⊥) → ScriptAnswersLine s (Ok (line.Scan scan)) text (with_new_core s core)
+never s core scan text nowhere = record { asker = refl; extends = λ w h refines legal. absurd (nowhere w h refines) }
 
 -- each reply but an opened session
-pub kept_answered : (s : ScriptState) (core : Base) (scan : Scan) (reply : Reply Held) → asked s < 4294967295 → Steps s.core (event_by s.asker (Open scan)) reply core → ((session : Held) → reply ≡ Opened session → ⊥)
-    → Answered s (Ok (line.Scan scan)) (reply_text (told_of reply)) (with_new_core s core)
+pub kept_answered : (s : ScriptState) (core : Base) (scan : Scan) (reply : Reply SessionState) → asked s < 4294967295 → Steps s.core (event_by s.asker (Open scan)) reply core → ((session : SessionState) → reply ≡ Opened session → ⊥)
+    → ScriptAnswersLine s (Ok (line.Scan scan)) (reply_text (told_of reply)) (with_new_core s core)
 kept_answered s core scan (Refused r) lt steps other = refused_answered s core scan r lt steps
 kept_answered s core scan (Opened session) lt steps other = absurd (other session refl)
-kept_answered s core scan Done lt steps other = never s core scan (reply_text Done) (λ w h stands. opens Done (not_done w h s.asker scan Done (legal_open s core scan Done w h lt steps stands)))
-kept_answered s core scan (Batch cells) lt steps other = never s core scan (reply_text (Batch cells)) (λ w h stands. opens (Batch cells) (not_done w h s.asker scan (Batch cells) (legal_open s core scan (Batch cells) w h lt steps stands)))
-kept_answered s core scan (OwnRights rights) lt steps other = never s core scan (reply_text (OwnRights rights)) (λ w h stands. opens (OwnRights rights) (not_done w h s.asker scan (OwnRights rights) (legal_open s core scan (OwnRights rights) w h lt steps stands)))
+kept_answered s core scan Done lt steps other = never s core scan (reply_text Done) (λ w h refines. opens Done (not_done w h s.asker scan Done (legal_open s core scan Done w h lt steps refines)))
+kept_answered s core scan (Batch cells) lt steps other = never s core scan (reply_text (Batch cells)) (λ w h refines. opens (Batch cells) (not_done w h s.asker scan (Batch cells) (legal_open s core scan (Batch cells) w h lt steps refines)))
+kept_answered s core scan (OwnRights rights) lt steps other = never s core scan (reply_text (OwnRights rights)) (λ w h refines. opens (OwnRights rights) (not_done w h s.asker scan (OwnRights rights) (legal_open s core scan (OwnRights rights) w h lt steps refines)))
 
 -- ---- a full list of sessions
 spent_right : (w : World) (h : List Entry) (who : Asker) (scan : Scan) → is_full (moves_of w who.user h) ≡ true → IsAnswer w h h (IsEvent (event_by who (Open scan))) (Refused (TooLarge Sessions))
@@ -421,30 +421,30 @@ spent_right w h who scan full =
     let event : Event = event_by who (Open scan) in
     sym (ap (λ (b : Bool). cond (true && b) (Refused (TooLarge Sessions)) (event_answer w.base (journal w h) (clock_at (clock_of w h) (IsEvent event)) who.user (Open scan))) full)
 
-pub spent_answered : (s : ScriptState) (scan : Scan) → asked s ≡ 4294967295 → Answered s (Ok (line.Scan scan)) (refusal_text (TooLarge Sessions)) s
+pub spent_answered : (s : ScriptState) (scan : Scan) → asked s ≡ 4294967295 → ScriptAnswersLine s (Ok (line.Scan scan)) (refusal_text (TooLarge Sessions)) s
 spent_answered s scan spent = record {
   asker = refl;
-  goes = λ w h stands legal.
+  extends = λ w h refines legal.
       let e : Entry = entry (event_by s.asker (Open scan)) (Refused (TooLarge Sessions)) in
-      let after : StandsFor (world_of s.core) (world_after w (e ∷ h)) = subst (λ (v : World). StandsFor (world_of s.core) v) (sym (unmoved w h e tt)) stands.core in (
+      let after : Refines (world_of s.core) (world_after w (e ∷ h)) = subst (λ (v : World). Refines (world_of s.core) v) (sym (unmoved w h e tt)) refines.core in (
         e ∷ [],
         (Refused (TooLarge Sessions), (refl, refl)),
-        (legal, inl (spent_right w h s.asker scan (is_spent (moves_of w s.asker.user h) (stands.opened s.asker.user ∙ spent)))),
-        refused_stands s s.core scan (TooLarge Sessions) w h after stands,
+        (legal, inl (spent_right w h s.asker scan (is_spent (moves_of w s.asker.user h) (refines.opened s.asker.user ∙ spent)))),
+        refused_stands s s.core scan (TooLarge Sessions) w h after refines,
       );
 }
 
 -- ---- no memory to count a session
-pub starved_answered : (s : ScriptState) (scan : Scan) → Answered s (Ok (line.Scan scan)) (refusal_text NoMemory) s
+pub starved_answered : (s : ScriptState) (scan : Scan) → ScriptAnswersLine s (Ok (line.Scan scan)) (refusal_text NoMemory) s
 starved_answered s scan = record {
   asker = refl;
-  goes = λ w h stands legal.
+  extends = λ w h refines legal.
       let e : Entry = entry (event_by s.asker (Open scan)) (Refused NoMemory) in
-      let after : StandsFor (world_of s.core) (world_after w (e ∷ h)) = subst (λ (v : World). StandsFor (world_of s.core) v) (sym (unmoved w h e tt)) stands.core in (
+      let after : Refines (world_of s.core) (world_after w (e ∷ h)) = subst (λ (v : World). Refines (world_of s.core) v) (sym (unmoved w h e tt)) refines.core in (
         e ∷ [],
         (Refused NoMemory, (refl, refl)),
         (legal, inr (inl refl)),
-        refused_stands s s.core scan NoMemory w h after stands,
+        refused_stands s s.core scan NoMemory w h after refines,
       );
 }
 
@@ -453,18 +453,18 @@ starved_answered s scan = record {
 abbrev pub with_counts : ScriptState → List (List ℕ × ℕ) → ScriptState
 with_counts s counts = record s { opened = counts }
 
-pub recounted : (s : ScriptState) (counts : List (List ℕ × ℕ)) (said : Result Line Stop) (text : List ℕ) (new : ScriptState) → ((n : List ℕ) → count_of counts n ≡ count_of s.opened n)
-    → Answered (with_counts s counts) said text new → Answered s said text new
+pub recounted : (s : ScriptState) (counts : List (List ℕ × ℕ)) (said : Result Line LineError) (text : List ℕ) (new : ScriptState) → ((n : List ℕ) → count_of counts n ≡ count_of s.opened n)
+    → ScriptAnswersLine (with_counts s counts) said text new → ScriptAnswersLine s said text new
 recounted s counts said text new same answered = record {
   asker = answered.asker;
-  goes = λ w h stands legal. answered.goes w h (record { core = stands.core; opened = λ n. stands.opened n ∙ sym (same n); closed = λ n. stands.closed n ∙ sym (same n) }) legal;
+  extends = λ w h refines legal. answered.extends w h (record { core = refines.core; opened = λ n. refines.opened n ∙ sym (same n); closed = λ n. refines.closed n ∙ sym (same n) }) legal;
 }
 
-pub kept_counts : (s : ScriptState) (counts : List (List ℕ × ℕ)) (said : Result Line Stop) (text : List ℕ) → ((n : List ℕ) → count_of counts n ≡ count_of s.opened n)
-    → Answered s said text s → Answered s said text (with_counts s counts)
+pub kept_counts : (s : ScriptState) (counts : List (List ℕ × ℕ)) (said : Result Line LineError) (text : List ℕ) → ((n : List ℕ) → count_of counts n ≡ count_of s.opened n)
+    → ScriptAnswersLine s said text s → ScriptAnswersLine s said text (with_counts s counts)
 kept_counts s counts said text same answered = record {
   asker = answered.asker;
-  goes = λ w h stands legal.
-      let x = answered.goes w h stands legal in
+  extends = λ w h refines legal.
+      let x = answered.extends w h refines legal in
       (x.0, x.1, x.2, record { core = x.3.core; opened = λ n. x.3.opened n ∙ sym (same n); closed = λ n. x.3.closed n ∙ sym (same n) });
 }

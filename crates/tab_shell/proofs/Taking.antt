@@ -1,18 +1,17 @@
 -- How lines are taken from what is read.
 use Rattle.std.proofs.Common.{ℕ, suc, ◌≡◌, ◌+◌, ◌<◌, ◌≤◌, ◌==◌, true, false, cond, not, List, [], ◌∷◌, ◌++◌, length, take, refl, sym, ap, ◌∙◌, subst, arith, append_assoc, Option, Some, None}
-use Rattle.std.specs.List.{prefix_len}
+use Rattle.std.specs.List.{prefix_len, onto_first}
 use Rattle.tab_lines.proofs.Cutting as cutting
-use Rattle.std.specs.List.{onto_first}
 use Rattle.std.specs.Prelude.{Result}
 use Rattle.std.specs.Io.KnownBytes.{Consumes}
 use Rattle.std.proofs.lemmas.Bool.{eqb-true}
 use Rattle.tab_lines.specs.declared.line.Line.{Line}
-use Rattle.tab_lines.specs.declared.stop.Stop.{Stop}
+use Rattle.tab_lines.specs.declared.line_error.LineError.{LineError}
 use Rattle.tab_lines.specs.Words.{parts_at}
 use Rattle.tab_shell.specs.declared.pending.Pending.{Pending}
 use Rattle.tab_shell.specs.Texts.{lines_of, without_last_empty}
-use Rattle.tab_shell.specs.Runs.{is_inside, IsInside}
-use Rattle.tab_shell.specs.Ahead.{Pends, Ahead, SaysLine, TakesLine}
+use Rattle.tab_shell.specs.Scripts.{is_inside, IsInside}
+use Rattle.tab_shell.specs.Ahead.{Pends, Ahead, ReadsLine, TakesLine}
 use Rattle.tab_shell.proofs.PendingLemmas.{inside_more}
 
 pub prefix_fits : (xs : List ℕ) → prefix_len is_inside xs ≤ length xs
@@ -71,9 +70,9 @@ front_line (x ∷ xs) lt =
           rw one (inside, ap (λ (ys : List ℕ). x ∷ ys) h.1)
     ] refl lt
 
-pub takes_line : (r r' : Option (List ℕ)) (p p' : Pending) (said : Result Line Stop) (front : List ℕ) (at : ℕ) → at ≡ prefix_len is_inside front → at < length front → Consumes r r' (take (at + 1) front)
-    → ((gone : List ℕ) → Pends p gone → SaysLine said (gone ++ take at front)) → Pends p' [] → TakesLine r p said r' p'
-takes_line None r' p p' said front at is lt eats says none = tt
+pub takes_line : (r r' : Option (List ℕ)) (p p' : Pending) (said : Result Line LineError) (front : List ℕ) (at : ℕ) → at ≡ prefix_len is_inside front → at < length front → Consumes r r' (take (at + 1) front)
+    → ((gone : List ℕ) → Pends p gone → ReadsLine said (gone ++ take at front)) → Pends p' [] → TakesLine r p said r' p'
+takes_line None r' p p' said front at is lt eats says none = λ (todo : List ℕ) (ahead : Ahead None p todo). absurd ahead
 takes_line (Some rest) None p p' said front at is lt eats says none = absurd eats
 takes_line (Some rest) (Some after) p p' said front at is lt eats says none = λ (todo : List ℕ) (ahead : Ahead (Some rest) p todo).
     let gone : List ℕ = ahead.0 in

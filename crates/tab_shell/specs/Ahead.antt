@@ -1,14 +1,14 @@
 -- What is ahead of a reader, with the line that has begun.
-use Rattle.std.specs.Prelude.{ℕ, ◌≡◌, ◌<◌, Bool, true, false, List, ◌∷◌, ◌++◌, length, Result, Ok, Err, Option, Some, None, ⊤}
+use Rattle.std.specs.Prelude.{ℕ, ◌≡◌, ◌<◌, Bool, true, false, List, ◌∷◌, ◌++◌, length, Result, Ok, Err, Option, Some, None}
 use Rattle.tab_history.specs.Answers.{is_open}
 use Rattle.tab_lines.specs.declared.line.Line.{Line}
 use Rattle.tab_lines.specs.declared.line.Line.TheVariants as line
-use Rattle.tab_lines.specs.declared.stop.Stop.{Stop}
+use Rattle.tab_lines.specs.declared.line_error.LineError.{LineError}
 use Rattle.tab_lines.specs.Gives.{Gives}
 use Rattle.tab_lines.specs.Lines.{line_of}
 use Rattle.tab_shell.specs.declared.pending.Pending.{Pending}
 use Rattle.tab_shell.specs.Texts.{lines_of}
-use Rattle.tab_shell.specs.Runs.{IsInside}
+use Rattle.tab_shell.specs.Scripts.{IsInside}
 
 -- the bytes are kept, or lost, and then there are some
 abbrev pub KeptOrLost : Bool → List ℕ → List ℕ → Type 0
@@ -25,8 +25,8 @@ abbrev pub AddsOn : Pending → Pending → List ℕ → Type 0
 AddsOn old new part = (gone : List ℕ) → Pends old gone → Pends new (gone ++ part)
 
 -- what the line says, or memory lacked
-abbrev pub SaysLine : Result Line Stop → List ℕ → Type 0
-SaysLine said line = Gives (λ x. x) said (line_of line)
+abbrev pub ReadsLine : Result Line LineError → List ℕ → Type 0
+ReadsLine said line = Gives (λ x. x) said (line_of line)
 
 -- todo is what has gone by of a line, and what is to come
 abbrev pub Ahead : Option (List ℕ) → Pending → List ℕ → Type 0
@@ -34,20 +34,19 @@ Ahead None p todo = ⊥
 Ahead (Some rest) p todo = (gone : List ℕ) × Pends p gone × (todo ≡ gone ++ rest)
 
 -- a line was taken
-abbrev pub TakesLine : Option (List ℕ) → Pending → Result Line Stop → Option (List ℕ) → Pending → Type 0
-TakesLine None p said r' p' = ⊤
-TakesLine (Some rest) p said r' p' = (todo : List ℕ) → Ahead (Some rest) p todo
-    → (line : List ℕ) × (after : List ℕ) × SaysLine said line × (lines_of todo ≡ line ∷ lines_of after) × Ahead r' p' after
+abbrev pub TakesLine : Option (List ℕ) → Pending → Result Line LineError → Option (List ℕ) → Pending → Type 0
+TakesLine r p said r' p' = (todo : List ℕ) → Ahead r p todo
+    → (line : List ℕ) × (after : List ℕ) × ReadsLine said line × (lines_of todo ≡ line ∷ lines_of after) × Ahead r' p' after
 
 -- no line ends in what was there
 abbrev pub TakesOn : Option (List ℕ) → Pending → Option (List ℕ) → Pending → Type 0
 TakesOn r p r' p' = (todo : List ℕ) → Ahead r p todo → Ahead r' p' todo
 
 -- what was read isn't an act that opens a session and keeps it
-abbrev pub OpensNone : Result Line Stop → Type 0
-OpensNone (Ok line.Blank) = Unit {0}
-OpensNone (Ok (line.As user)) = Unit {0}
-OpensNone (Ok (line.At moment)) = Unit {0}
-OpensNone (Ok (line.Act act)) = is_open act ≡ false
-OpensNone (Ok (line.Scan scan)) = Unit {0}
-OpensNone (Err stop) = Unit {0}
+abbrev pub OpensNoSession : Result Line LineError → Type 0
+OpensNoSession (Ok line.Blank) = Unit {0}
+OpensNoSession (Ok (line.As user)) = Unit {0}
+OpensNoSession (Ok (line.At moment)) = Unit {0}
+OpensNoSession (Ok (line.Act act)) = is_open act ≡ false
+OpensNoSession (Ok (line.Scan scan)) = Unit {0}
+OpensNoSession (Err stop) = Unit {0}

@@ -1,32 +1,36 @@
--- What reading an open session prints.
-use Rattle.std.specs.Prelude.{ℕ, ◌≡◌, ◌≢◌, ◌≤◌, ◌⊎◌, ◌*◌, Bool, true, false, List, ◌++◌, length, take, drop, Result, Ok, Err, Option}
+-- What reading an open session puts, a batch at a time.
+use Rattle.std.specs.Prelude.{ℕ, ◌≡◌, ◌≢◌, ◌⊎◌, Bool, true, false, List, length, drop, Result, Ok, Err}
 use Rattle.std.specs.List.{flat_map}
 use Rattle.tab_key.specs.Records.{Cell}
-use Rattle.tab_history.specs.Sessions.{Held, batch, gave}
-use Rattle.tab_io.specs.Streams.{HasPut, Puts, AppendsFront}
+use Rattle.tab_cells.specs.SessionState.{SessionState, batch, gave}
+use Rattle.tab_io.specs.Writing.{HasPut, HasPutPart, Puts}
+use Rattle.tab_io.specs.declared.writing.Output.{Ghosts}
 use Rattle.tab_text.specs.Lines.{cell_text}
-use Rattle.tab_shell.specs.Texts.{scan_text, lacking_text}
+use Rattle.tab_shell.specs.Texts.{scan_text}
+use Rattle.tab_shell.specs.Readings.{batch_length, IsReadingText}
 
--- all cells that are left, and an end; or those of some full batches, and that memory lacked
-abbrev pub IsRestText : List Cell → List ℕ → Type 0
-IsRestText left text = (text ≡ scan_text left) ⊎ ((k : ℕ) × (1000 * k ≤ length left) × (text ≡ lacking_text (take (1000 * k) left)))
-
--- such a text was put, or a beginning of it
-abbrev pub PutsRest : {E : Type 0} → List Cell → Option (List ℕ) → List ℕ → Option (List ℕ) → List ℕ → Result (Unit {0}) E → Type 0
-PutsRest left c h c' h' r = (text : List ℕ) × IsRestText left text × Puts c h c' h' text r
+-- the text of a reading of these cells was put, or a beginning of it
+abbrev pub PutsReading : {W E : Type 0} → Ghosts W → W → W → List Cell → Result (Unit {0}) E → Type 0
+PutsReading g o o' all r = (text : List ℕ) × IsReadingText all text × Puts g o o' text r
 
 -- the cells that are left of a session
-abbrev pub left_of : Held → List Cell
+abbrev pub left_of : SessionState → List Cell
 left_of held = drop held.given held.all
 
 -- a full batch was put; or what is left, to its end or until memory lacked
-abbrev pub PutsBatch : {E : Type 0} → Held → Held → Option (List ℕ) → List ℕ → Option (List ℕ) → List ℕ → Result Bool E → Type 0
-PutsBatch old new c h c' h' (Ok true) = (new ≡ gave 1000 old) × (length (batch old 1000) ≡ 1000) × HasPut c h c' h' (flat_map cell_text (batch old 1000))
-PutsBatch old new c h c' h' (Ok false) = (text : List ℕ) × IsRestText (left_of old) text × HasPut c h c' h' text
-PutsBatch old new c h c' h' (Err e) = (text : List ℕ) × IsRestText (left_of old) text × AppendsFront c c' (h ++ text)
+abbrev pub PutsBatch : {W E : Type 0} → Ghosts W → W → W → SessionState → SessionState → Result Bool E → Type 0
+PutsBatch g o o' old new (Ok true) = (new ≡ gave batch_length old) × (length (batch old batch_length) ≡ batch_length) × HasPut g o o' (flat_map cell_text (batch old batch_length))
+PutsBatch g o o' old new (Ok false) = (text : List ℕ) × IsReadingText (left_of old) text × HasPut g o o' text
+PutsBatch g o o' old new (Err e) = (text : List ℕ) × IsReadingText (left_of old) text × HasPutPart g o o' text
+
+-- the last text of a reading was put, or a beginning of it
+abbrev pub PutsEnd : {W E : Type 0} → Ghosts W → W → W → List ℕ → Result Bool E → Type 0
+PutsEnd g o o' text (Ok true) = ⊥
+PutsEnd g o o' text (Ok false) = HasPut g o o' text
+PutsEnd g o o' text (Err e) = HasPutPart g o o' text
 
 -- the cells of a full batch were put, or those of the last one with an end
-abbrev pub PutsTaken : {E : Type 0} → List Cell → Option (List ℕ) → List ℕ → Option (List ℕ) → List ℕ → Result Bool E → Type 0
-PutsTaken cells c h c' h' (Ok true) = (length cells ≡ 1000) × HasPut c h c' h' (flat_map cell_text cells)
-PutsTaken cells c h c' h' (Ok false) = (length cells ≢ 1000) × HasPut c h c' h' (scan_text cells)
-PutsTaken cells c h c' h' (Err e) = AppendsFront c c' (h ++ flat_map cell_text cells) ⊎ ((length cells ≢ 1000) × AppendsFront c c' (h ++ scan_text cells))
+abbrev pub PutsTaken : {W E : Type 0} → Ghosts W → W → W → List Cell → Result Bool E → Type 0
+PutsTaken g o o' cells (Ok true) = (length cells ≡ batch_length) × HasPut g o o' (flat_map cell_text cells)
+PutsTaken g o o' cells (Ok false) = (length cells ≢ batch_length) × HasPut g o o' (scan_text cells)
+PutsTaken g o o' cells (Err e) = HasPutPart g o o' (flat_map cell_text cells) ⊎ ((length cells ≢ batch_length) × HasPutPart g o o' (scan_text cells))

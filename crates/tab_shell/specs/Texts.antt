@@ -12,17 +12,15 @@ use Rattle.tab_history.specs.declared.rights.Rights.{Rights}
 use Rattle.tab_history.specs.Answers.{Told}
 use Rattle.tab_lines.specs.Words.{parts_at, is_filled}
 use Rattle.tab_text.specs.Words.{word}
-use Rattle.tab_text.specs.Lines.{spaced, after_spaces, cell_text}
+use Rattle.tab_text.specs.Lines.{line_text, after_spaces, cell_text}
 use Rattle.tab_policy.specs.declared.sets.SystemPermissions.{SystemPermissions}
 use Rattle.tab_policy.specs.declared.sets.TablePermissions.{TablePermissions}
 use Rattle.tab_policy.specs.Sets.{system_members, table_members}
 use Rattle.tab_policy.specs.Permissions.{system_name, table_name}
-use Rattle.tab_rules.specs.declared.failing.Failing.{Failing}
+use Rattle.tab_rules.specs.declared.violation.Violation.{Violation}
 use Rattle.tab_rules.specs.Constraints.{constraint_number}
 use Rattle.tab_policy.specs.declared.permission.SystemPermission.{SystemPermission}
-use Rattle.tab_policy.specs.declared.permission.SystemPermission.TheVariants as system
 use Rattle.tab_policy.specs.declared.permission.TablePermission.{TablePermission}
-use Rattle.tab_policy.specs.declared.permission.TablePermission.TheVariants as table
 use Rattle.tab_policy.specs.declared.permission.Permission.{Permission}
 use Rattle.tab_policy.specs.declared.permission.Permission.TheVariants.{OfSystem, OfTable}
 
@@ -54,29 +52,18 @@ part_name part.Numbers = codes "numbers"
 
 -- a permission, by its kind and name
 abbrev pub system_word : SystemPermission → List ℕ
-system_word system.Grant = codes "System.GRANT"
-system_word system.CreateTable = codes "System.CREATE_TABLE"
-system_word system.DropTable = codes "System.DROP_TABLE"
-system_word system.AlterTable = codes "System.ALTER_TABLE"
-system_word system.CreateUser = codes "System.CREATE_USER"
-system_word system.DropUser = codes "System.DROP_USER"
-system_word system.AlterUser = codes "System.ALTER_USER"
-system_word system.System = codes "System.SYSTEM"
+system_word p = codes "System" ++ (46 ∷ system_name p)
 
 abbrev pub table_word : TablePermission → List ℕ
-table_word table.Read = codes "Table.READ"
-table_word table.Write = codes "Table.WRITE"
-table_word table.AlterTable = codes "Table.ALTER_TABLE"
-table_word table.Grant = codes "Table.GRANT"
-table_word table.DropTable = codes "Table.DROP_TABLE"
+table_word p = codes "Table" ++ (46 ∷ table_name p)
 
 abbrev pub permission_words : Permission → List (List ℕ)
 permission_words (OfSystem p) = system_word p ∷ []
 permission_words (OfTable p t) = table_word p ∷ word t ∷ []
 
 -- constraint:code:update
-abbrev pub failing_word : Failing → List ℕ
-failing_word f = decimal (constraint_number f.constraint) ++ (58 ∷ (decimal f.code ++ (58 ∷ decimal f.update)))
+abbrev pub violation_word : Violation → List ℕ
+violation_word f = decimal (constraint_number f.constraint) ++ (58 ∷ (decimal f.code ++ (58 ∷ decimal f.update)))
 
 -- the number, the name and the words of a refusal
 abbrev pub refusal_words : Refusal → List (List ℕ)
@@ -85,7 +72,7 @@ refusal_words (refusal.NoTable t) = codes "2" ∷ codes "NoTable" ∷ word t ∷
 refusal_words (refusal.PermissionDenied p) = codes "3" ∷ codes "PermissionDenied" ∷ permission_words p
 refusal_words (refusal.BadAuthorizations term) = codes "4" ∷ codes "BadAuthorizations" ∷ word term ∷ []
 refusal_words (refusal.MalformedVisibility update offset) = codes "5" ∷ codes "MalformedVisibility" ∷ decimal update ∷ decimal offset ∷ []
-refusal_words (refusal.ConstraintViolation failing) = codes "6" ∷ codes "ConstraintViolation" ∷ map failing_word failing
+refusal_words (refusal.ConstraintViolation violations) = codes "6" ∷ codes "ConstraintViolation" ∷ map violation_word violations
 refusal_words (refusal.TimestampNotAllowed update) = codes "7" ∷ codes "TimestampNotAllowed" ∷ decimal update ∷ []
 refusal_words refusal.EmptyMutation = codes "8" ∷ codes "EmptyMutation" ∷ []
 refusal_words (refusal.TooLarge p) = codes "9" ∷ codes "TooLarge" ∷ part_name p ∷ []
@@ -100,7 +87,7 @@ refusal_words refusal.GrantInvalid = codes "19" ∷ codes "GrantInvalid" ∷ []
 refusal_words (refusal.BelowHorizon update) = codes "22" ∷ codes "BelowHorizon" ∷ decimal update ∷ []
 
 abbrev pub refusal_text : Refusal → List ℕ
-refusal_text r = spaced (codes "refused" ∷ refusal_words r)
+refusal_text r = line_text (codes "refused" ∷ refusal_words r)
 
 -- the permissions of a set, in their order
 unfoldable pub system_text : SystemPermissions → List ℕ
@@ -115,7 +102,7 @@ held_word held w = cond held (32 ∷ w) []
 
 -- an authorization
 abbrev pub auth_text : List ℕ → List ℕ
-auth_text term = spaced (codes "auth" ∷ word term ∷ [])
+auth_text term = line_text (codes "auth" ∷ word term ∷ [])
 
 -- a user's own rights: his system permissions, those on the table, his authorizations, and an end
 abbrev pub rights_text : Rights → List ℕ

@@ -1,7 +1,6 @@
 //! A scan's cells, batch by batch.
-ghost use Rattle.std.specs.Prelude.{◌≡◌};
-ghost use Rattle.tab_io.specs.Streams.{FailsByFault};
-ghost use Rattle.tab_shell.specs.Batches.{PutsRest, PutsBatch, PutsTaken, left_of};
+ghost use Rattle.tab_shell.specs.Batches.{PutsReading, PutsBatch, PutsEnd, PutsTaken, left_of};
+ghost use Rattle.tab_shell.specs.Texts.{refusal_text};
 
 use crate::refusal::put_refusal;
 use crate::reply::put_cells;
@@ -11,8 +10,8 @@ use tab_history::Refusal;
 use tab_io::{Output, WriteFault};
 use tab_key::{Cell, Items};
 
-/// How many cells a batch takes.
-const BATCH: u32 = 1000;
+/// How many cells a full batch has.
+const BATCH_LENGTH: u32 = 1000;
 
 /// Writes all cells of a session in batches of 1,000, and an end, and drops it. Where memory lacks for a batch, the refusal
 /// that says so stands in place of the cells that are left and the end.
@@ -21,20 +20,19 @@ pub fn put_session<W: Output>(
     mut session: Session,
     output: &mut W,
 ) -> Result<(), WriteFault>
-    ensures bytes { PutsRest (left_of session) (W.contents output.old) (W.held output.old) (W.contents output.new) (W.held output.new) result }
-    ensures faults { FailsByFault result (W.faults output.old) (W.faults output.new) (W.budget output.new) }
+    ensures { PutsReading W.Output output.old output.new (left_of session) result }
 {
     put_rest(alloc, &mut session, output)
 }
 
 // The same with what is left of a session.
+#[tactic(auto, using(crate::proofs::Batching::read_none))]
 fn put_rest<W: Output>(
     alloc: Global,
     session: &mut Session,
     output: &mut W,
 ) -> Result<(), WriteFault>
-    ensures bytes { PutsRest (left_of session.old) (W.contents output.old) (W.held output.old) (W.contents output.new) (W.held output.new) result }
-    ensures faults { FailsByFault result (W.faults output.old) (W.faults output.new) (W.budget output.new) }
+    ensures { PutsReading W.Output output.old output.new (left_of session.old) result }
 {
     loop {
         match put_batch(alloc, session, output) {
@@ -51,28 +49,31 @@ fn put_batch<W: Output>(
     session: &mut Session,
     output: &mut W,
 ) -> Result<bool, WriteFault>
-    ensures bytes { PutsBatch session.old session.new (W.contents output.old) (W.held output.old) (W.contents output.new) (W.held output.new) result }
-    ensures faults { FailsByFault result (W.faults output.old) (W.faults output.new) (W.budget output.new) }
+    ensures { PutsBatch W.Output output.old output.new session.old session.new result }
 {
-    match session.next_batch(alloc, BATCH) {
+    match session.next_batch(alloc, BATCH_LENGTH) {
         Ok(cells) => put_taken(cells, output),
-        Err(AllocError) => {
-            put_refusal(output, &Refusal::NoMemory)?;
-            Ok(false)
-        }
+        Err(AllocError) => put_lack(output),
     }
+}
+
+// Writes that memory lacks, behind which nothing more comes.
+fn put_lack<W: Output>(output: &mut W) -> Result<bool, WriteFault>
+    ensures { PutsEnd W.Output output.old output.new (refusal_text Refusal.NoMemory) result }
+{
+    put_refusal(output, &Refusal::NoMemory)?;
+    Ok(false)
 }
 
 // Writes the cells of a batch, and an end behind one that isn't full. Whether it was full.
 fn put_taken<W: Output>(cells: Items<Cell>, output: &mut W) -> Result<bool, WriteFault>
-    ensures bytes { PutsTaken cells (W.contents output.old) (W.held output.old) (W.contents output.new) (W.held output.new) result }
-    ensures faults { FailsByFault result (W.faults output.old) (W.faults output.new) (W.budget output.new) }
+    ensures { PutsTaken W.Output output.old output.new cells result }
 {
     match put_cells(output, cells.as_slice()) {
         Ok(()) => {}
         Err(fault) => return Err(fault),
     }
-    if cells.len() == BATCH as usize {
+    if cells.len() == BATCH_LENGTH as usize {
         return Ok(true);
     }
     match output.put(b"end\n") {

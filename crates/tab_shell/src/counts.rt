@@ -49,7 +49,7 @@ impl Counts {
     /// One more was opened for the user. It takes no memory.
     pub fn raise(&mut self, user: &Name)
         requires there { is_some (at_name user.now self.old) ≡ true }
-        requires few { count_of self.old user.now < 4294967295 }
+        requires few { count_of self.old user.now < u32.MAX }
         ensures { (n : List ℕ) → count_of self.new n ≡ cond (bytes_eq user.now n) (count_of self.old n + 1) (count_of self.old n) }
     {
         raise(&mut self.by_user, user);
@@ -75,7 +75,7 @@ fn put(counts: &mut BTreeMap<Name, u32>, user: Name, count: u32) -> Result<(), A
 // One more.
 fn raise(counts: &mut BTreeMap<Name, u32>, user: &Name)
     requires there { is_some (at_name user.now counts.old.entries) ≡ true }
-    requires few { count_of counts.old.entries user.now < 4294967295 }
+    requires few { count_of counts.old.entries user.now < u32.MAX }
     ensures { (n : List ℕ) → at_name n counts.new.entries ≡ changed_at user.now (λ count. count + 1) counts.old.entries n }
 {
     if let Some(count) = counts.get_mut(user) {

@@ -12,9 +12,10 @@
 //! | `reply` | the texts of replies |
 //! | `refusal` | the texts of refusals |
 //!
-//! `specs/Texts` has the lines of a text and the texts of replies, `specs/Counts` counts by user, `specs/Runs` what a line
-//! does and prints, for every history that the core stands for, `specs/Batches` what reading a session prints, `specs/Ahead` what is to come where a line has begun,
-//! `specs/Going` how far a run has come, also where the reader or the writer failed.
+//! `specs/Texts` has the lines of a text and the texts of replies, `specs/Counts` counts by user, `specs/Readings` how a
+//! scan reads its session, `specs/Scripts` what a line adds to every history that the script refines, and prints,
+//! `specs/Batches` what reading a session puts, `specs/Ahead` what is to come where a line has begun, and
+//! `specs/Progress` how far a run has come, also where the reader or the writer failed.
 #![tactic(auto)]
 
 mod batches;
@@ -27,7 +28,4 @@ mod script;
 
 pub use reply::write_reply;
 pub use script::{Ended, Script, ScriptFault};
-pub use tab_lines::{Line, Stop, read_line};
-
-#[cfg(test)]
-mod tests;
+pub use tab_lines::{Line, LineError, read_line};

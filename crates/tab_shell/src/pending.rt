@@ -1,11 +1,11 @@
 //! The line that has begun, and how the next one is taken.
 ghost use Rattle.std.specs.Prelude.{◌≡◌, ◌<◌, ◌++◌, ℕ, List, [], length, IfSome, MatchBool, MatchOption};
-ghost use Rattle.tab_shell.specs.Runs.{IsInside};
-ghost use Rattle.tab_shell.specs.Ahead.{Pends, AddsOn, SaysLine, TakesLine, TakesOn, OpensNone};
+ghost use Rattle.tab_shell.specs.Scripts.{IsInside};
+ghost use Rattle.tab_shell.specs.Ahead.{Pends, AddsOn, ReadsLine, TakesLine, TakesOn, OpensNoSession};
 
 use std::alloc::Global;
 use tab_io::{Input, length_before};
-use tab_lines::{Line, Stop, read_line};
+use tab_lines::{Line, LineError, read_line};
 
 /// The bytes of a line that has begun. Where memory for them lacked, only that there are some.
 #[derive(Drop)]
@@ -58,18 +58,18 @@ impl Pending {
     }
 
     /// What the line says, which ends in this part.
-    pub fn said(&mut self, alloc: Global, part: &[u8]) -> Result<Line, Stop>
-        ensures line { (gone : List ℕ) → Pends self.old gone → SaysLine result (gone ++ part.now) }
-        ensures none { OpensNone result }
+    pub fn said(&mut self, alloc: Global, part: &[u8]) -> Result<Line, LineError>
+        ensures line { (gone : List ℕ) → Pends self.old gone → ReadsLine result (gone ++ part.now) }
+        ensures none { OpensNoSession result }
     {
         if self.lost {
-            return Err(Stop::NoMemory);
+            return Err(LineError::NoMemory);
         }
         if self.bytes.is_empty() {
             return read_line(alloc, part);
         }
         if self.bytes.extend_from_slice(part).is_err() {
-            return Err(Stop::NoMemory);
+            return Err(LineError::NoMemory);
         }
         read_line(alloc, &self.bytes)
     }
@@ -80,11 +80,11 @@ pub fn take_line<R: Input>(
     alloc: Global,
     input: &mut R,
     pending: &mut Pending,
-) -> Option<Result<Line, Stop>>
+) -> Option<Result<Line, LineError>>
     ensures taken { MatchOption result
         ((R.front input.new ≡ []) × TakesOn (R.remaining input.old) pending.old (R.remaining input.new) pending.new)
         (λ said. (length (R.front input.new) < length (R.front input.old)) × TakesLine (R.remaining input.old) pending.old said (R.remaining input.new) pending.new) }
-    ensures none { IfSome result (λ said. OpensNone said) }
+    ensures none { IfSome result (λ said. OpensNoSession said) }
     ensures calls { (R.faults input.new ≡ R.faults input.old) × (R.budget input.new ≡ R.budget input.old) }
 {
     let front = input.front();

@@ -1,22 +1,22 @@
 //! The texts of refusals.
+#![tactic(auto, using(tab_io::proofs::Putting::putting))]
+
 ghost use Rattle.std.specs.Prelude.{◌≡◌, ◌++◌, [], ◌∷◌, map, codes, decimal};
-ghost use Rattle.tab_io.specs.Streams.{Puts, FailsByFault};
+ghost use Rattle.tab_io.specs.Writing.{Puts};
 ghost use Rattle.tab_text.specs.Words.{word};
-ghost use Rattle.tab_text.specs.Lines.{spaced, after_spaces, word_text};
-ghost use Rattle.tab_rules.specs.Constraints.{constraint_number};
-ghost use Rattle.tab_shell.specs.Texts.{part_name, system_word, table_word, permission_words, failing_word, refusal_text};
+ghost use Rattle.tab_text.specs.Lines.{line_text, after_spaces, word_text};
+ghost use Rattle.tab_shell.specs.Texts.{part_name, permission_words, violation_word, refusal_text};
 
 use tab_history::Refusal;
 use tab_io::{Output, WriteFault, put_byte, put_decimal};
 use tab_key::{Name, Part};
-use tab_policy::{Permission, SystemPermission, TablePermission};
-use tab_rules::Failing;
-use tab_text::{Word, put_spaced};
+use tab_policy::Permission;
+use tab_rules::Violation;
+use tab_text::{PutItem, Word, put_each, put_line};
 
 /// Writes the number, the name and the words of a refusal. It takes no memory.
 pub fn put_refusal<W: Output>(output: &mut W, refusal: &Refusal) -> Result<(), WriteFault>
-    ensures bytes { Puts (W.contents output.old) (W.held output.old) (W.contents output.new) (W.held output.new) (refusal_text refusal.now) result }
-    ensures faults { FailsByFault result (W.faults output.old) (W.faults output.new) (W.budget output.new) }
+    ensures { Puts W.Output output.old output.new (refusal_text refusal.now) result }
 {
     match refusal {
         Refusal::UnknownUser(user) => put_name(output, b"1", b"UnknownUser", user),
@@ -29,7 +29,7 @@ pub fn put_refusal<W: Output>(output: &mut W, refusal: &Refusal) -> Result<(), W
             Word::Bytes(term.as_bytes()),
         ),
         Refusal::MalformedVisibility(update, offset) => put_malformed(output, *update, *offset),
-        Refusal::ConstraintViolation(failing) => put_violation(output, failing.as_slice()),
+        Refusal::ConstraintViolation(violations) => put_violation(output, violations.as_slice()),
         Refusal::TimestampNotAllowed(update) => {
             put_number(output, b"7", b"TimestampNotAllowed", *update)
         }
@@ -59,8 +59,7 @@ fn put_name<'a, W: Output>(
     name: &'a [u8],
     named: &'a Name,
 ) -> Result<(), WriteFault>
-    ensures bytes { Puts (W.contents output.old) (W.held output.old) (W.contents output.new) (W.held output.new) (spaced (codes "refused" ∷ number.now ∷ name.now ∷ word named.now ∷ [])) result }
-    ensures faults { FailsByFault result (W.faults output.old) (W.faults output.new) (W.budget output.new) }
+    ensures { Puts W.Output output.old output.new (line_text (codes "refused" ∷ number.now ∷ name.now ∷ word named.now ∷ [])) result }
 {
     put_named(output, number, name, Word::Bytes(named.as_bytes()))
 }
@@ -72,8 +71,7 @@ fn put_number<'a, W: Output>(
     name: &'a [u8],
     told: u32,
 ) -> Result<(), WriteFault>
-    ensures bytes { Puts (W.contents output.old) (W.held output.old) (W.contents output.new) (W.held output.new) (spaced (codes "refused" ∷ number.now ∷ name.now ∷ decimal told ∷ [])) result }
-    ensures faults { FailsByFault result (W.faults output.old) (W.faults output.new) (W.budget output.new) }
+    ensures { Puts W.Output output.old output.new (line_text (codes "refused" ∷ number.now ∷ name.now ∷ decimal told ∷ [])) result }
 {
     put_named(output, number, name, Word::Number(told as u64))
 }
@@ -84,10 +82,9 @@ fn put_bare<'a, W: Output>(
     number: &'a [u8],
     name: &'a [u8],
 ) -> Result<(), WriteFault>
-    ensures bytes { Puts (W.contents output.old) (W.held output.old) (W.contents output.new) (W.held output.new) (spaced (codes "refused" ∷ number.now ∷ name.now ∷ [])) result }
-    ensures faults { FailsByFault result (W.faults output.old) (W.faults output.new) (W.budget output.new) }
+    ensures { Puts W.Output output.old output.new (line_text (codes "refused" ∷ number.now ∷ name.now ∷ [])) result }
 {
-    put_spaced(
+    put_line(
         output,
         &[Word::Text(b"refused"), Word::Text(number), Word::Text(name)],
     )
@@ -100,10 +97,9 @@ fn put_named<'a, W: Output>(
     name: &'a [u8],
     word: Word<'a>,
 ) -> Result<(), WriteFault>
-    ensures bytes { Puts (W.contents output.old) (W.held output.old) (W.contents output.new) (W.held output.new) (spaced (codes "refused" ∷ number.now ∷ name.now ∷ word_text word.entry ∷ [])) result }
-    ensures faults { FailsByFault result (W.faults output.old) (W.faults output.new) (W.budget output.new) }
+    ensures { Puts W.Output output.old output.new (line_text (codes "refused" ∷ number.now ∷ name.now ∷ word_text word.entry ∷ [])) result }
 {
-    put_spaced(
+    put_line(
         output,
         &[
             Word::Text(b"refused"),
@@ -115,10 +111,9 @@ fn put_named<'a, W: Output>(
 }
 
 fn put_malformed<W: Output>(output: &mut W, update: u32, offset: u32) -> Result<(), WriteFault>
-    ensures bytes { Puts (W.contents output.old) (W.held output.old) (W.contents output.new) (W.held output.new) (spaced (codes "refused" ∷ codes "5" ∷ codes "MalformedVisibility" ∷ decimal update ∷ decimal offset ∷ [])) result }
-    ensures faults { FailsByFault result (W.faults output.old) (W.faults output.new) (W.budget output.new) }
+    ensures { Puts W.Output output.old output.new (line_text (codes "refused" ∷ codes "5" ∷ codes "MalformedVisibility" ∷ decimal update ∷ decimal offset ∷ [])) result }
 {
-    put_spaced(
+    put_line(
         output,
         &[
             Word::Text(b"refused"),
@@ -131,23 +126,22 @@ fn put_malformed<W: Output>(output: &mut W, update: u32, offset: u32) -> Result<
 }
 
 fn put_denied<W: Output>(output: &mut W, permission: &Permission) -> Result<(), WriteFault>
-    ensures bytes { Puts (W.contents output.old) (W.held output.old) (W.contents output.new) (W.held output.new) (spaced (codes "refused" ∷ codes "3" ∷ codes "PermissionDenied" ∷ permission_words permission.now)) result }
-    ensures faults { FailsByFault result (W.faults output.old) (W.faults output.new) (W.budget output.new) }
+    ensures { Puts W.Output output.old output.new (line_text (codes "refused" ∷ codes "3" ∷ codes "PermissionDenied" ∷ permission_words permission.now)) result }
 {
     match permission {
         Permission::OfSystem(permission) => put_named(
             output,
             b"3",
             b"PermissionDenied",
-            Word::Text(system_word(*permission)),
+            Word::Qualified(b"System", permission.name()),
         ),
-        Permission::OfTable(permission, table) => put_spaced(
+        Permission::OfTable(permission, table) => put_line(
             output,
             &[
                 Word::Text(b"refused"),
                 Word::Text(b"3"),
                 Word::Text(b"PermissionDenied"),
-                Word::Text(table_word(*permission)),
+                Word::Qualified(b"Table", permission.name()),
                 Word::Bytes(table.as_bytes()),
             ],
         ),
@@ -155,76 +149,70 @@ fn put_denied<W: Output>(output: &mut W, permission: &Permission) -> Result<(), 
 }
 
 // As many words as constraints fail.
-fn put_violation<W: Output>(output: &mut W, failing: &[Failing]) -> Result<(), WriteFault>
-    ensures bytes { Puts (W.contents output.old) (W.held output.old) (W.contents output.new) (W.held output.new) (codes "refused 6 ConstraintViolation" ++ (after_spaces (map failing_word failing.now) ++ 10 ∷ [])) result }
-    ensures faults { FailsByFault result (W.faults output.old) (W.faults output.new) (W.budget output.new) }
+fn put_violation<W: Output>(output: &mut W, violations: &[Violation]) -> Result<(), WriteFault>
+    ensures { Puts W.Output output.old output.new (codes "refused 6 ConstraintViolation" ++ (after_spaces (map violation_word violations.now) ++ 10 ∷ [])) result }
 {
     match output.put(b"refused 6 ConstraintViolation") {
-        Ok(()) => put_failing_line(output, failing),
+        Ok(()) => put_violation_line(output, violations),
         Err(fault) => Err(fault),
     }
 }
 
-#[tactic(auto, using(tab_io::proofs::Putting::puts_more, tab_io::proofs::Putting::front_longer))]
-fn put_failing_line<W: Output>(output: &mut W, failing: &[Failing]) -> Result<(), WriteFault>
-    ensures bytes { Puts (W.contents output.old) (W.held output.old) (W.contents output.new) (W.held output.new) (after_spaces (map failing_word failing.now) ++ 10 ∷ []) result }
-    ensures faults { FailsByFault result (W.faults output.old) (W.faults output.new) (W.budget output.new) }
+fn put_violation_line<W: Output>(output: &mut W, violations: &[Violation]) -> Result<(), WriteFault>
+    ensures { Puts W.Output output.old output.new (after_spaces (map violation_word violations.now) ++ 10 ∷ []) result }
 {
-    put_each_failing(output, failing)?;
+    put_violation_words(output, violations)?;
     put_byte(output, b'\n')
 }
 
-fn put_each_failing<W: Output>(output: &mut W, failing: &[Failing]) -> Result<(), WriteFault>
-    ensures bytes { Puts (W.contents output.old) (W.held output.old) (W.contents output.new) (W.held output.new) (after_spaces (map failing_word failing.now)) result }
-    ensures faults { FailsByFault result (W.faults output.old) (W.faults output.new) (W.budget output.new) }
+fn put_violation_words<W: Output>(
+    output: &mut W,
+    violations: &[Violation],
+) -> Result<(), WriteFault>
+    ensures { Puts W.Output output.old output.new (after_spaces (map violation_word violations.now)) result }
 {
-    for one in failing {
-        match put_after_space(output, one) {
-            Ok(()) => {}
-            Err(fault) => return Err(fault),
-        }
-    }
-    Ok(())
+    put_each(output, violations, &ViolationWord)
 }
 
-fn put_after_space<W: Output>(output: &mut W, failing: &Failing) -> Result<(), WriteFault>
-    ensures bytes { Puts (W.contents output.old) (W.held output.old) (W.contents output.new) (W.held output.new) (32 ∷ failing_word failing.now) result }
-    ensures faults { FailsByFault result (W.faults output.old) (W.faults output.new) (W.budget output.new) }
-{
-    match put_byte(output, b' ') {
-        Ok(()) => put_failing(output, failing),
-        Err(fault) => Err(fault),
+// What fails, behind a space.
+struct ViolationWord;
+
+impl PutItem<Violation> for ViolationWord {
+    ghost use Rattle.std.specs.Prelude.{◌∷◌};
+    ghost use Rattle.tab_shell.specs.Texts.{violation_word};
+
+    ghost text = { λ _ violation. 32 ∷ violation_word violation };
+
+    fn put_item<W: Output>(&self, output: &mut W, violation: &Violation) -> Result<(), WriteFault> {
+        match put_byte(output, b' ') {
+            Ok(()) => put_one_violation(output, violation),
+            Err(fault) => Err(fault),
+        }
     }
 }
 
 // The constraint's number, the code and the update, parted by colons.
-#[tactic(auto, using(tab_io::proofs::Putting::puts_more, tab_io::proofs::Putting::front_longer))]
-fn put_failing<W: Output>(output: &mut W, failing: &Failing) -> Result<(), WriteFault>
-    ensures bytes { Puts (W.contents output.old) (W.held output.old) (W.contents output.new) (W.held output.new) (failing_word failing.now) result }
-    ensures faults { FailsByFault result (W.faults output.old) (W.faults output.new) (W.budget output.new) }
+fn put_one_violation<W: Output>(output: &mut W, violation: &Violation) -> Result<(), WriteFault>
+    ensures { Puts W.Output output.old output.new (violation_word violation.now) result }
 {
-    put_decimal(output, failing.constraint.number() as u64)?;
-    put_two_numbers(output, failing.code as u64, failing.update as u64)
+    put_decimal(output, violation.constraint.number() as u64)?;
+    put_code_and_update(output, violation.code as u64, violation.update as u64)
 }
 
-fn put_two_numbers<W: Output>(output: &mut W, first: u64, second: u64) -> Result<(), WriteFault>
-    ensures bytes { Puts (W.contents output.old) (W.held output.old) (W.contents output.new) (W.held output.new) ((58 ∷ decimal first) ++ (58 ∷ decimal second)) result }
-    ensures faults { FailsByFault result (W.faults output.old) (W.faults output.new) (W.budget output.new) }
+fn put_code_and_update<W: Output>(output: &mut W, code: u64, update: u64) -> Result<(), WriteFault>
+    ensures { Puts W.Output output.old output.new ((58 ∷ decimal code) ++ (58 ∷ decimal update)) result }
 {
-    match put_after_colon(output, first) {
-        Ok(()) => put_after_colon(output, second),
+    match put_after_colon(output, code) {
+        Ok(()) => put_after_colon(output, update),
         Err(fault) => Err(fault),
     }
 }
 
 fn put_after_colon<W: Output>(output: &mut W, number: u64) -> Result<(), WriteFault>
-    ensures bytes { Puts (W.contents output.old) (W.held output.old) (W.contents output.new) (W.held output.new) (58 ∷ decimal number) result }
-    ensures faults { FailsByFault result (W.faults output.old) (W.faults output.new) (W.budget output.new) }
+    ensures { Puts W.Output output.old output.new (58 ∷ decimal number) result }
 {
-    match put_byte(output, b':') {
-        Ok(()) => put_decimal(output, number),
-        Err(fault) => Err(fault),
-    }
+    put_byte(output, b':')?;
+    put_decimal(output, number)
 }
 
 fn part_name(part: Part) -> &'static [u8]
@@ -242,32 +230,5 @@ fn part_name(part: Part) -> &'static [u8]
         Part::Ranges => b"ranges",
         Part::Sessions => b"sessions",
         Part::Numbers => b"numbers",
-    }
-}
-
-fn system_word(permission: SystemPermission) -> &'static [u8]
-    ensures { result.now ≡ system_word permission }
-{
-    match permission {
-        SystemPermission::Grant => b"System.GRANT",
-        SystemPermission::CreateTable => b"System.CREATE_TABLE",
-        SystemPermission::DropTable => b"System.DROP_TABLE",
-        SystemPermission::AlterTable => b"System.ALTER_TABLE",
-        SystemPermission::CreateUser => b"System.CREATE_USER",
-        SystemPermission::DropUser => b"System.DROP_USER",
-        SystemPermission::AlterUser => b"System.ALTER_USER",
-        SystemPermission::System => b"System.SYSTEM",
-    }
-}
-
-fn table_word(permission: TablePermission) -> &'static [u8]
-    ensures { result.now ≡ table_word permission }
-{
-    match permission {
-        TablePermission::Read => b"Table.READ",
-        TablePermission::Write => b"Table.WRITE",
-        TablePermission::AlterTable => b"Table.ALTER_TABLE",
-        TablePermission::Grant => b"Table.GRANT",
-        TablePermission::DropTable => b"Table.DROP_TABLE",
     }
 }

@@ -1,7 +1,9 @@
 //! The texts of replies.
+#![tactic(auto, using(tab_io::proofs::Putting::putting))]
+
 ghost use Rattle.std.specs.Prelude.{◌≡◌};
 ghost use Rattle.std.specs.List.{flat_map};
-ghost use Rattle.tab_io.specs.Streams.{Puts, FailsByFault};
+ghost use Rattle.tab_io.specs.Writing.{Puts};
 ghost use Rattle.tab_text.specs.Lines.{cell_text};
 ghost use Rattle.tab_shell.specs.Texts.{reply_text};
 
@@ -10,7 +12,7 @@ use crate::rights::put_rights;
 use tab_history::Reply;
 use tab_io::{Output, WriteFault};
 use tab_key::Cell;
-use tab_text::put_cell;
+use tab_text::{PutItem, put_cell, put_each};
 
 /// Writes the text of the reply. It takes no memory.
 ///
@@ -19,8 +21,7 @@ use tab_text::put_cell;
 /// opened session has no text of its own: the line that opened it prints its cells. After an error a beginning of the
 /// text may have been written.
 pub fn write_reply<W: Output>(output: &mut W, reply: &Reply) -> Result<(), WriteFault>
-    ensures bytes { Puts (W.contents output.old) (W.held output.old) (W.contents output.new) (W.held output.new) (reply_text reply.now) result }
-    ensures faults { FailsByFault result (W.faults output.old) (W.faults output.new) (W.budget output.new) }
+    ensures { Puts W.Output output.old output.new (reply_text reply.now) result }
 {
     match reply {
         Reply::Done => output.put(b"ok\n"),
@@ -33,14 +34,19 @@ pub fn write_reply<W: Output>(output: &mut W, reply: &Reply) -> Result<(), Write
 
 /// Each cell on a line of its own.
 pub(crate) fn put_cells<W: Output>(output: &mut W, cells: &[Cell]) -> Result<(), WriteFault>
-    ensures bytes { Puts (W.contents output.old) (W.held output.old) (W.contents output.new) (W.held output.new) (flat_map cell_text cells.now) result }
-    ensures faults { FailsByFault result (W.faults output.old) (W.faults output.new) (W.budget output.new) }
+    ensures { Puts W.Output output.old output.new (flat_map cell_text cells.now) result }
 {
-    for cell in cells {
-        match put_cell(output, cell) {
-            Ok(()) => {}
-            Err(fault) => return Err(fault),
-        }
+    put_each(output, cells, &CellLine)
+}
+
+struct CellLine;
+
+impl PutItem<Cell> for CellLine {
+    ghost use Rattle.tab_text.specs.Lines.{cell_text};
+
+    ghost text = { λ _ cell. cell_text cell };
+
+    fn put_item<W: Output>(&self, output: &mut W, cell: &Cell) -> Result<(), WriteFault> {
+        put_cell(output, cell)
     }
-    Ok(())
 }

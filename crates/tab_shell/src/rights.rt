@@ -1,42 +1,34 @@
 //! The text of one's own rights.
-ghost use Rattle.std.specs.Prelude.{◌++◌, [], ◌∷◌, map, filter, codes};
+#![tactic(auto, using(tab_io::proofs::Putting::putting))]
+
+ghost use Rattle.std.specs.Prelude.{◌++◌, [], ◌∷◌, codes};
 ghost use Rattle.std.specs.List.{flat_map};
-ghost use Rattle.tab_io.specs.Streams.{Puts, FailsByFault};
-ghost use Rattle.tab_label.specs.Sets.{byte_lists};
-ghost use Rattle.tab_policy.specs.Sets.{system_contains, table_contains};
-ghost use Rattle.tab_policy.specs.Permissions.{system_name, table_name};
-ghost use Rattle.tab_text.specs.Lines.{after_spaces};
+ghost use Rattle.tab_io.specs.Writing.{Puts};
 ghost use Rattle.tab_shell.specs.Texts.{auth_text, held_word, system_text, table_text, rights_text};
 
 use tab_history::Rights;
 use tab_io::{Output, WriteFault, put_byte};
 use tab_label::AuthSet;
 use tab_policy::{SystemPermission, SystemPermissions, TablePermission, TablePermissions};
-use tab_text::{Word, put_spaced};
+use tab_text::{PutItem, Word, put_each, put_line};
 
-// What a user may do and holds: his system permissions, those on the table, his authorizations, and an end.
-#[tactic(auto, using(tab_io::proofs::Putting::puts_more, tab_io::proofs::Putting::front_longer))]
+/// What a user may do and holds: his system permissions, those on the table, his authorizations, and an end.
 pub fn put_rights<W: Output>(output: &mut W, rights: &Rights) -> Result<(), WriteFault>
-    ensures bytes { Puts (W.contents output.old) (W.held output.old) (W.contents output.new) (W.held output.new) (rights_text rights.now) result }
-    ensures faults { FailsByFault result (W.faults output.old) (W.faults output.new) (W.budget output.new) }
+    ensures { Puts W.Output output.old output.new (rights_text rights.now) result }
 {
     put_system(output, rights.system)?;
     put_behind_system(output, rights)
 }
 
-#[tactic(auto, using(tab_io::proofs::Putting::puts_more, tab_io::proofs::Putting::front_longer))]
 fn put_behind_system<W: Output>(output: &mut W, rights: &Rights) -> Result<(), WriteFault>
-    ensures bytes { Puts (W.contents output.old) (W.held output.old) (W.contents output.new) (W.held output.new) (table_text rights.now.table ++ (flat_map auth_text rights.now.authorizations ++ codes "end\n")) result }
-    ensures faults { FailsByFault result (W.faults output.old) (W.faults output.new) (W.budget output.new) }
+    ensures { Puts W.Output output.old output.new (table_text rights.now.table ++ (flat_map auth_text rights.now.authorizations ++ codes "end\n")) result }
 {
     put_table(output, rights.table)?;
     put_behind_table(output, &rights.authorizations)
 }
 
-#[tactic(auto, using(tab_io::proofs::Putting::puts_more, tab_io::proofs::Putting::front_longer))]
 fn put_behind_table<W: Output>(output: &mut W, auths: &AuthSet) -> Result<(), WriteFault>
-    ensures bytes { Puts (W.contents output.old) (W.held output.old) (W.contents output.new) (W.held output.new) (flat_map auth_text auths.now ++ codes "end\n") result }
-    ensures faults { FailsByFault result (W.faults output.old) (W.faults output.new) (W.budget output.new) }
+    ensures { Puts W.Output output.old output.new (flat_map auth_text auths.now ++ codes "end\n") result }
 {
     put_auths(output, auths)?;
     output.put(b"end\n")
@@ -44,154 +36,121 @@ fn put_behind_table<W: Output>(output: &mut W, auths: &AuthSet) -> Result<(), Wr
 
 // `system` and the permissions of the set in their order.
 fn put_system<W: Output>(output: &mut W, held: SystemPermissions) -> Result<(), WriteFault>
-    ensures bytes { Puts (W.contents output.old) (W.held output.old) (W.contents output.new) (W.held output.new) (system_text held) result }
-    ensures faults { FailsByFault result (W.faults output.old) (W.faults output.new) (W.budget output.new) }
+    ensures { Puts W.Output output.old output.new (system_text held) result }
 {
-    match output.put(b"system") {
-        Ok(()) => put_end_of_system(output, held, &SystemPermission::ALL),
-        Err(fault) => Err(fault),
-    }
-}
-
-#[tactic(auto, using(tab_io::proofs::Putting::puts_more, tab_io::proofs::Putting::front_longer))]
-fn put_end_of_system<W: Output>(
-    output: &mut W,
-    held: SystemPermissions,
-    all: &[SystemPermission],
-) -> Result<(), WriteFault>
-    ensures bytes { Puts (W.contents output.old) (W.held output.old) (W.contents output.new) (W.held output.new) (after_spaces (map system_name (filter (system_contains held) all.now)) ++ 10 ∷ []) result }
-    ensures faults { FailsByFault result (W.faults output.old) (W.faults output.new) (W.budget output.new) }
-{
-    put_each_system(output, held, all)?;
-    put_byte(output, b'\n')
-}
-
-fn put_each_system<W: Output>(
-    output: &mut W,
-    held: SystemPermissions,
-    all: &[SystemPermission],
-) -> Result<(), WriteFault>
-    ensures bytes { Puts (W.contents output.old) (W.held output.old) (W.contents output.new) (W.held output.new) (after_spaces (map system_name (filter (system_contains held) all.now))) result }
-    ensures faults { FailsByFault result (W.faults output.old) (W.faults output.new) (W.budget output.new) }
-{
-    for permission in all {
-        match put_held_system(output, held, *permission) {
-            Ok(()) => {}
-            Err(fault) => return Err(fault),
-        }
-    }
-    Ok(())
-}
-
-fn put_held_system<W: Output>(
-    output: &mut W,
-    held: SystemPermissions,
-    permission: SystemPermission,
-) -> Result<(), WriteFault>
-    ensures bytes { Puts (W.contents output.old) (W.held output.old) (W.contents output.new) (W.held output.new) (held_word (system_contains held permission) (system_name permission)) result }
-    ensures faults { FailsByFault result (W.faults output.old) (W.faults output.new) (W.budget output.new) }
-{
-    put_if(output, held.contains(permission), permission.name())
+    put_held(output, b"system", &SystemPermission::ALL, &HeldSystem(held))
 }
 
 // `table` and the permissions of the set in their order.
 fn put_table<W: Output>(output: &mut W, held: TablePermissions) -> Result<(), WriteFault>
-    ensures bytes { Puts (W.contents output.old) (W.held output.old) (W.contents output.new) (W.held output.new) (table_text held) result }
-    ensures faults { FailsByFault result (W.faults output.old) (W.faults output.new) (W.budget output.new) }
+    ensures { Puts W.Output output.old output.new (table_text held) result }
 {
-    match output.put(b"table") {
-        Ok(()) => put_end_of_table(output, held, &TablePermission::ALL),
-        Err(fault) => Err(fault),
-    }
+    put_held(output, b"table", &TablePermission::ALL, &HeldTable(held))
 }
 
-#[tactic(auto, using(tab_io::proofs::Putting::puts_more, tab_io::proofs::Putting::front_longer))]
-fn put_end_of_table<W: Output>(
+// A line of its kind and of what is held among all.
+fn put_held<T, P: PutItem<T>, W: Output>(
     output: &mut W,
-    held: TablePermissions,
-    all: &[TablePermission],
+    kind: &[u8],
+    all: &[T],
+    held: &P,
 ) -> Result<(), WriteFault>
-    ensures bytes { Puts (W.contents output.old) (W.held output.old) (W.contents output.new) (W.held output.new) (after_spaces (map table_name (filter (table_contains held) all.now)) ++ 10 ∷ []) result }
-    ensures faults { FailsByFault result (W.faults output.old) (W.faults output.new) (W.budget output.new) }
+    ensures { Puts W.Output output.old output.new (kind.now ++ (flat_map (P.text held.now) all.now ++ 10 ∷ [])) result }
 {
-    put_each_table(output, held, all)?;
+    output.put(kind)?;
+    put_end_of_held(output, all, held)
+}
+
+fn put_end_of_held<T, P: PutItem<T>, W: Output>(
+    output: &mut W,
+    all: &[T],
+    held: &P,
+) -> Result<(), WriteFault>
+    ensures { Puts W.Output output.old output.new (flat_map (P.text held.now) all.now ++ 10 ∷ []) result }
+{
+    put_each(output, all, held)?;
     put_byte(output, b'\n')
 }
 
-fn put_each_table<W: Output>(
-    output: &mut W,
-    held: TablePermissions,
-    all: &[TablePermission],
-) -> Result<(), WriteFault>
-    ensures bytes { Puts (W.contents output.old) (W.held output.old) (W.contents output.new) (W.held output.new) (after_spaces (map table_name (filter (table_contains held) all.now))) result }
-    ensures faults { FailsByFault result (W.faults output.old) (W.faults output.new) (W.budget output.new) }
-{
-    for permission in all {
-        match put_held_table(output, held, *permission) {
-            Ok(()) => {}
-            Err(fault) => return Err(fault),
-        }
+// A system permission's name behind a space, where it is a member.
+#[derive(Clone, Copy)]
+struct HeldSystem(SystemPermissions);
+
+impl PutItem<SystemPermission> for HeldSystem {
+    ghost use Rattle.tab_policy.specs.Sets.{system_contains};
+    ghost use Rattle.tab_policy.specs.Permissions.{system_name};
+    ghost use Rattle.tab_shell.specs.Texts.{held_word};
+
+    ghost text = { λ held permission. held_word (system_contains held.0 permission) (system_name permission) };
+
+    fn put_item<W: Output>(
+        &self,
+        output: &mut W,
+        permission: &SystemPermission,
+    ) -> Result<(), WriteFault> {
+        put_if(output, self.0.contains(*permission), permission.name())
     }
-    Ok(())
 }
 
-fn put_held_table<W: Output>(
-    output: &mut W,
-    held: TablePermissions,
-    permission: TablePermission,
-) -> Result<(), WriteFault>
-    ensures bytes { Puts (W.contents output.old) (W.held output.old) (W.contents output.new) (W.held output.new) (held_word (table_contains held permission) (table_name permission)) result }
-    ensures faults { FailsByFault result (W.faults output.old) (W.faults output.new) (W.budget output.new) }
-{
-    put_if(output, held.contains(permission), permission.name())
+// A table permission's name behind a space, where it is a member.
+#[derive(Clone, Copy)]
+struct HeldTable(TablePermissions);
+
+impl PutItem<TablePermission> for HeldTable {
+    ghost use Rattle.tab_policy.specs.Sets.{table_contains};
+    ghost use Rattle.tab_policy.specs.Permissions.{table_name};
+    ghost use Rattle.tab_shell.specs.Texts.{held_word};
+
+    ghost text = { λ held permission. held_word (table_contains held.0 permission) (table_name permission) };
+
+    fn put_item<W: Output>(
+        &self,
+        output: &mut W,
+        permission: &TablePermission,
+    ) -> Result<(), WriteFault> {
+        put_if(output, self.0.contains(*permission), permission.name())
+    }
 }
 
 // The name behind a space, where the permission is held.
 fn put_if<W: Output>(output: &mut W, held: bool, name: &[u8]) -> Result<(), WriteFault>
-    ensures bytes { Puts (W.contents output.old) (W.held output.old) (W.contents output.new) (W.held output.new) (held_word held name.now) result }
-    ensures faults { FailsByFault result (W.faults output.old) (W.faults output.new) (W.budget output.new) }
+    ensures { Puts W.Output output.old output.new (held_word held name.now) result }
 {
     if held {
-        put_named(output, name)
+        put_after_space(output, name)
     } else {
         output.put(b"")
     }
 }
 
-fn put_named<W: Output>(output: &mut W, name: &[u8]) -> Result<(), WriteFault>
-    ensures bytes { Puts (W.contents output.old) (W.held output.old) (W.contents output.new) (W.held output.new) (32 ∷ name.now) result }
-    ensures faults { FailsByFault result (W.faults output.old) (W.faults output.new) (W.budget output.new) }
+fn put_after_space<W: Output>(output: &mut W, name: &[u8]) -> Result<(), WriteFault>
+    ensures { Puts W.Output output.old output.new (32 ∷ name.now) result }
 {
-    match put_byte(output, b' ') {
-        Ok(()) => output.put(name),
-        Err(fault) => Err(fault),
-    }
+    put_byte(output, b' ')?;
+    output.put(name)
 }
 
 // The authorizations, each on a line.
 fn put_auths<W: Output>(output: &mut W, auths: &AuthSet) -> Result<(), WriteFault>
-    ensures bytes { Puts (W.contents output.old) (W.held output.old) (W.contents output.new) (W.held output.new) (flat_map auth_text auths.now) result }
-    ensures faults { FailsByFault result (W.faults output.old) (W.faults output.new) (W.budget output.new) }
+    ensures { Puts W.Output output.old output.new (flat_map auth_text auths.now) result }
 {
-    put_terms(output, auths.terms())
+    put_each(output, auths.terms(), &AuthLine)
 }
 
-fn put_terms<W: Output>(output: &mut W, terms: &[Vec<u8>]) -> Result<(), WriteFault>
-    ensures bytes { Puts (W.contents output.old) (W.held output.old) (W.contents output.new) (W.held output.new) (flat_map auth_text (byte_lists terms.now)) result }
-    ensures faults { FailsByFault result (W.faults output.old) (W.faults output.new) (W.budget output.new) }
-{
-    for term in terms {
-        match put_auth(output, term.as_slice()) {
-            Ok(()) => {}
-            Err(fault) => return Err(fault),
-        }
+struct AuthLine;
+
+impl PutItem<Vec<u8>> for AuthLine {
+    ghost use Rattle.tab_shell.specs.Texts.{auth_text};
+
+    ghost text = { λ _ term. auth_text term.items };
+
+    fn put_item<W: Output>(&self, output: &mut W, term: &Vec<u8>) -> Result<(), WriteFault> {
+        put_auth(output, term.as_slice())
     }
-    Ok(())
 }
 
 fn put_auth<W: Output>(output: &mut W, term: &[u8]) -> Result<(), WriteFault>
-    ensures bytes { Puts (W.contents output.old) (W.held output.old) (W.contents output.new) (W.held output.new) (auth_text term.now) result }
-    ensures faults { FailsByFault result (W.faults output.old) (W.faults output.new) (W.budget output.new) }
+    ensures { Puts W.Output output.old output.new (auth_text term.now) result }
 {
-    put_spaced(output, &[Word::Text(b"auth"), Word::Bytes(term)])
+    put_line(output, &[Word::Text(b"auth"), Word::Bytes(term)])
 }

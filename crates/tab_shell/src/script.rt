@@ -1,15 +1,15 @@
 //! Scripts: a core that answers lines.
-ghost use Rattle.std.specs.Prelude.{◌≡◌, ◌<◌, [], Some, true, false, is_some, IfErr, IfSome, OnOk, OnErr};
-ghost use Rattle.tab_history.specs.Answers.{told_of};
-ghost use Rattle.tab_io.specs.Streams.{Puts, FailsByFault};
+ghost use Rattle.std.specs.Prelude.{◌≡◌, ◌<◌, [], Some, true, false, is_some, IfErr, OnOk};
+ghost use Rattle.tab_history.specs.Answers.{told_of, is_open};
+ghost use Rattle.tab_io.specs.Streams.{FailsByFault};
+ghost use Rattle.tab_io.specs.Writing.{Puts};
 ghost use Rattle.tab_shell.specs.Texts.{reply_text};
 ghost use Rattle.tab_policy.specs.Roots.{root};
-ghost use Rattle.tab_history.specs.Answers.{is_open};
 ghost use Rattle.tab_policy.specs.Entries.{at_name};
 ghost use Rattle.tab_shell.specs.Counts.{count_of};
-ghost use Rattle.tab_shell.specs.Runs.{event_by, new_script};
-ghost use Rattle.tab_shell.specs.Ahead.{OpensNone};
-ghost use Rattle.tab_shell.specs.Going.{Prints, PrintsFront, Goes, Fails, Stopped, Ends, StopsAfter, FailedSide};
+ghost use Rattle.tab_shell.specs.Scripts.{event_by, new_script};
+ghost use Rattle.tab_shell.specs.Ahead.{OpensNoSession};
+ghost use Rattle.tab_shell.specs.Progress.{PrintsAnswer, AnswersFront, HasAnswered, StopsAhead, FailedSide, RunsScript};
 
 use crate::batches::put_session;
 use crate::counts::Counts;
@@ -21,7 +21,7 @@ use tab_core::{Core, Session, told};
 use tab_history::{Act, Event, Refusal, Reply, Scan};
 use tab_io::{Input, Output, WriteFault};
 use tab_key::{Name, Part};
-use tab_lines::{Line, Stop};
+use tab_lines::{Line, LineError};
 
 /// How a run of a script ended.
 #[derive(Clone, Copy, Debug, PartialEq, Eq)]
@@ -55,7 +55,7 @@ pub struct Script {
 }
 
 impl Model for Script {
-    ghost use Rattle.tab_shell.specs.Runs.{ScriptState};
+    ghost use Rattle.tab_shell.specs.Scripts.{ScriptState};
 
     ghost Value = { ScriptState };
 
@@ -71,8 +71,7 @@ fn root_name() -> Name
 
 // Writes what is told of the reply.
 fn write_told<W: Output>(output: &mut W, reply: Reply<Session>) -> Result<(), WriteFault>
-    ensures bytes { Puts (W.contents output.old) (W.held output.old) (W.contents output.new) (W.held output.new) (reply_text (told_of reply)) result }
-    ensures faults { FailsByFault result (W.faults output.old) (W.faults output.new) (W.budget output.new) }
+    ensures { Puts W.Output output.old output.new (reply_text (told_of reply)) result }
 {
     let reply = told(reply);
     write_reply(output, &reply)
@@ -102,27 +101,23 @@ impl Script {
     // Does what the line says, and prints the replies.
     fn answer<W: Output>(
         &mut self,
-        said: Result<Line, Stop>,
+        said: Result<Line, LineError>,
         output: &mut W,
     ) -> Result<(), WriteFault>
-        requires { OpensNone said }
-        ensures ok { OnOk result (Prints self.old said self.new (W.contents output.old) (W.held output.old) (W.contents output.new) (W.held output.new)) }
-        ensures err { OnErr result (PrintsFront self.old said self.new (W.contents output.old) (W.held output.old) (W.contents output.new)) }
-        ensures faults { FailsByFault result (W.faults output.old) (W.faults output.new) (W.budget output.new) }
+        requires { OpensNoSession said }
+        ensures { PrintsAnswer W.Output self.old said self.new output.old output.new result }
     {
         match said {
             Ok(line) => self.does(line, output),
-            Err(Stop::Fault) => self.faults(output),
-            Err(Stop::NoMemory) => self.lacks_memory(output),
+            Err(LineError::Fault) => self.faults(output),
+            Err(LineError::NoMemory) => self.lacks_memory(output),
         }
     }
 
     // Does what a line of the grammar says.
     fn does<W: Output>(&mut self, line: Line, output: &mut W) -> Result<(), WriteFault>
-        requires { OpensNone (Ok line) }
-        ensures ok { OnOk result (Prints self.old (Ok line) self.new (W.contents output.old) (W.held output.old) (W.contents output.new) (W.held output.new)) }
-        ensures err { OnErr result (PrintsFront self.old (Ok line) self.new (W.contents output.old) (W.held output.old) (W.contents output.new)) }
-        ensures faults { FailsByFault result (W.faults output.old) (W.faults output.new) (W.budget output.new) }
+        requires { OpensNoSession (Ok line) }
+        ensures { PrintsAnswer W.Output self.old (Ok line) self.new output.old output.new result }
     {
         match line {
             Line::Blank => self.says_nothing(output),
@@ -135,17 +130,13 @@ impl Script {
 
     #[tactic(auto, using(crate::proofs::Saying::blank_prints))]
     fn says_nothing<W: Output>(&mut self, output: &mut W) -> Result<(), WriteFault>
-        ensures ok { OnOk result (Prints self.old (Ok Line.Blank) self.new (W.contents output.old) (W.held output.old) (W.contents output.new) (W.held output.new)) }
-        ensures err { OnErr result (PrintsFront self.old (Ok Line.Blank) self.new (W.contents output.old) (W.held output.old) (W.contents output.new)) }
-        ensures faults { FailsByFault result (W.faults output.old) (W.faults output.new) (W.budget output.new) }
+        ensures { PrintsAnswer W.Output self.old (Ok Line.Blank) self.new output.old output.new result }
     {
         Ok(())
     }
 
     fn sets_user<W: Output>(&mut self, user: Name, output: &mut W) -> Result<(), WriteFault>
-        ensures ok { OnOk result (Prints self.old (Ok (Line.As user)) self.new (W.contents output.old) (W.held output.old) (W.contents output.new) (W.held output.new)) }
-        ensures err { OnErr result (PrintsFront self.old (Ok (Line.As user)) self.new (W.contents output.old) (W.held output.old) (W.contents output.new)) }
-        ensures faults { FailsByFault result (W.faults output.old) (W.faults output.new) (W.budget output.new) }
+        ensures { PrintsAnswer W.Output self.old (Ok (Line.As user)) self.new output.old output.new result }
     {
         self.user = user;
         Ok(())
@@ -153,37 +144,29 @@ impl Script {
 
     #[tactic(auto, using(crate::proofs::Saying::moment_prints))]
     fn sets_moment<W: Output>(&mut self, moment: i64, output: &mut W) -> Result<(), WriteFault>
-        ensures ok { OnOk result (Prints self.old (Ok (Line.At moment)) self.new (W.contents output.old) (W.held output.old) (W.contents output.new) (W.held output.new)) }
-        ensures err { OnErr result (PrintsFront self.old (Ok (Line.At moment)) self.new (W.contents output.old) (W.held output.old) (W.contents output.new)) }
-        ensures faults { FailsByFault result (W.faults output.old) (W.faults output.new) (W.budget output.new) }
+        ensures { PrintsAnswer W.Output self.old (Ok (Line.At moment)) self.new output.old output.new result }
     {
         self.moment = moment;
         Ok(())
     }
 
-    #[tactic(auto, using(crate::proofs::Saying::fault_prints, crate::proofs::Saying::fault_fails))]
+    #[tactic(auto, using(tab_io::proofs::Putting::puts, crate::proofs::Saying::fault_prints))]
     fn faults<W: Output>(&mut self, output: &mut W) -> Result<(), WriteFault>
-        ensures ok { OnOk result (Prints self.old (Err Stop.Fault) self.new (W.contents output.old) (W.held output.old) (W.contents output.new) (W.held output.new)) }
-        ensures err { OnErr result (PrintsFront self.old (Err Stop.Fault) self.new (W.contents output.old) (W.held output.old) (W.contents output.new)) }
-        ensures faults { FailsByFault result (W.faults output.old) (W.faults output.new) (W.budget output.new) }
+        ensures { PrintsAnswer W.Output self.old (Err LineError.Fault) self.new output.old output.new result }
     {
         output.put(b"line fault\n")
     }
 
-    #[tactic(auto, using(crate::proofs::Saying::memory_prints, crate::proofs::Saying::memory_fails))]
+    #[tactic(auto, using(tab_io::proofs::Putting::puts, crate::proofs::Saying::memory_prints))]
     fn lacks_memory<W: Output>(&mut self, output: &mut W) -> Result<(), WriteFault>
-        ensures ok { OnOk result (Prints self.old (Err Stop.NoMemory) self.new (W.contents output.old) (W.held output.old) (W.contents output.new) (W.held output.new)) }
-        ensures err { OnErr result (PrintsFront self.old (Err Stop.NoMemory) self.new (W.contents output.old) (W.held output.old) (W.contents output.new)) }
-        ensures faults { FailsByFault result (W.faults output.old) (W.faults output.new) (W.budget output.new) }
+        ensures { PrintsAnswer W.Output self.old (Err LineError.NoMemory) self.new output.old output.new result }
     {
         output.put(b"refused 17 NoMemory\n")
     }
 
     fn act<W: Output>(&mut self, act: Act, output: &mut W) -> Result<(), WriteFault>
         requires { is_open act ≡ false }
-        ensures ok { OnOk result (Prints self.old (Ok (Line.Act act)) self.new (W.contents output.old) (W.held output.old) (W.contents output.new) (W.held output.new)) }
-        ensures err { OnErr result (PrintsFront self.old (Ok (Line.Act act)) self.new (W.contents output.old) (W.held output.old) (W.contents output.new)) }
-        ensures faults { FailsByFault result (W.faults output.old) (W.faults output.new) (W.budget output.new) }
+        ensures { PrintsAnswer W.Output self.old (Ok (Line.Act act)) self.new output.old output.new result }
     {
         let event = self.event(act);
         let reply = told(self.core.step(self.alloc, event));
@@ -203,9 +186,7 @@ impl Script {
 
     // One line and several steps: an Open, batches until one isn't full, and a Close.
     fn scan<W: Output>(&mut self, scan: Scan, output: &mut W) -> Result<(), WriteFault>
-        ensures ok { OnOk result (Prints self.old (Ok (Line.Scan scan)) self.new (W.contents output.old) (W.held output.old) (W.contents output.new) (W.held output.new)) }
-        ensures err { OnErr result (PrintsFront self.old (Ok (Line.Scan scan)) self.new (W.contents output.old) (W.held output.old) (W.contents output.new)) }
-        ensures faults { FailsByFault result (W.faults output.old) (W.faults output.new) (W.budget output.new) }
+        ensures { PrintsAnswer W.Output self.old (Ok (Line.Scan scan)) self.new output.old output.new result }
     {
         match self.opened.ready(self.user) {
             Ok(u32::MAX) => write_reply(output, &Reply::Refused(Refusal::TooLarge(Part::Sessions))),
@@ -217,10 +198,8 @@ impl Script {
     // The same where one more session can be counted. Its session is read to the end, or until memory lacks, and dropped.
     fn open<W: Output>(&mut self, scan: Scan, output: &mut W) -> Result<(), WriteFault>
         requires there { is_some (at_name self.old.asker.user self.old.opened) ≡ true }
-        requires few { count_of self.old.opened self.old.asker.user < 4294967295 }
-        ensures ok { OnOk result (Prints self.old (Ok (Line.Scan scan)) self.new (W.contents output.old) (W.held output.old) (W.contents output.new) (W.held output.new)) }
-        ensures err { OnErr result (PrintsFront self.old (Ok (Line.Scan scan)) self.new (W.contents output.old) (W.held output.old) (W.contents output.new)) }
-        ensures faults { FailsByFault result (W.faults output.old) (W.faults output.new) (W.budget output.new) }
+        requires few { count_of self.old.opened self.old.asker.user < u32.MAX }
+        ensures { PrintsAnswer W.Output self.old (Ok (Line.Scan scan)) self.new output.old output.new result }
     {
         let event = self.event(Act::Open(scan));
         match self.core.step(self.alloc, event) {
@@ -233,7 +212,7 @@ impl Script {
     }
 
     // Answers the lines that the front has.
-    #[tactic(auto, using(crate::proofs::GoingLemmas::goes_none, crate::proofs::GoingLemmas::goes_on))]
+    #[tactic(auto, using(crate::proofs::ProgressLemmas::goes_none, crate::proofs::ProgressLemmas::goes_on))]
     fn answer_front<R: Input, W: Output>(
         &mut self,
         pending: &mut Pending,
@@ -241,9 +220,7 @@ impl Script {
         output: &mut W,
     ) -> Result<(), WriteFault>
         ensures front { OnOk result (R.front input.new ≡ []) }
-        ensures ok { OnOk result (Goes self.old (R.remaining input.old) pending.old (W.contents output.old) (W.held output.old)
-            self.new (R.remaining input.new) pending.new (W.contents output.new) (W.held output.new)) }
-        ensures err { OnErr result (Fails self.old (R.remaining input.old) pending.old (W.contents output.old) (W.held output.old) self.new (W.contents output.new)) }
+        ensures lines { AnswersFront W.Output self.old (R.remaining input.old) pending.old output.old self.new (R.remaining input.new) pending.new output.new result }
         ensures reads { (R.faults input.new ≡ R.faults input.old) × (R.budget input.new ≡ R.budget input.old) }
         ensures writes { FailsByFault result (W.faults output.old) (W.faults output.new) (W.budget output.new) }
     {
@@ -256,8 +233,8 @@ impl Script {
         Ok(())
     }
 
-    #[tactic(auto, using(crate::proofs::GoingLemmas::goes_none))]
     // Answers all lines that end, and ends with no byte in the front and none gathered.
+    #[tactic(auto, using(crate::proofs::ProgressLemmas::goes_none))]
     fn answer_all<R: Input, W: Output>(
         &mut self,
         pending: &mut Pending,
@@ -265,10 +242,9 @@ impl Script {
         output: &mut W,
     ) -> Result<(), ScriptFault>
         ensures flushed { OnOk result (W.held output.new ≡ []) }
-        ensures ok { OnOk result (Goes self.old (R.remaining input.old) pending.old (W.contents output.old) (W.held output.old)
-            self.new (Some []) pending.new (W.contents output.new) (W.held output.new)) }
-        ensures err { IfErr result (λ e. Stopped e self.old (R.remaining input.old) pending.old (W.contents output.old) (W.held output.old) self.new (W.contents output.new)) }
-        ensures faults { IfErr result (λ e. FailedSide e (R.faults input.old) (R.faults input.new) (R.budget input.new) (W.faults output.old) (W.faults output.new) (W.budget output.new)) }
+        ensures ok { OnOk result (HasAnswered W.Output self.old (R.remaining input.old) pending.old output.old self.new (Some []) pending.new output.new) }
+        ensures err { IfErr result (λ e. StopsAhead W.Output e self.old (R.remaining input.old) pending.old output.old self.new output.new) }
+        ensures faults { IfErr result (λ e. FailedSide R.Input W.Output e input.old input.new output.old output.new) }
         ensures writes { OnOk result (W.faults output.new ≡ W.faults output.old) }
     {
         loop {
@@ -293,15 +269,12 @@ impl Script {
     /// Replies are flushed whenever no more input is here, before the reader is asked for more. A line for which memory
     /// lacks is read to its end and answered by its refusal. A fault of the reader or the writer ends the run; the
     /// lines answered before it have taken effect, and the script can be run again, from the beginning of a line.
-    #[tactic(auto, using(crate::proofs::Ending::stops_after))]
     pub fn run<R: Input, W: Output>(
         &mut self,
         input: &mut R,
         output: &mut W,
     ) -> Result<Ended, ScriptFault>
-        ensures ok { OnOk result (IfSome (R.remaining input.old) (λ bytes. Ends self.old bytes (W.contents output.old) (W.held output.old) self.new (W.contents output.new))) }
-        ensures err { IfErr result (λ e. IfSome (R.remaining input.old) (λ bytes. StopsAfter e self.old bytes (W.contents output.old) (W.held output.old) self.new (W.contents output.new))) }
-        ensures faults { IfErr result (λ e. FailedSide e (R.faults input.old) (R.faults input.new) (R.budget input.new) (W.faults output.old) (W.faults output.new) (W.budget output.new)) }
+        ensures { RunsScript R.Input W.Output self.old input.old output.old self.new input.new output.new result }
     {
         let mut pending = Pending::new(self.alloc);
         match self.answer_all(&mut pending, input, output) {

@@ -1,5 +1,4 @@
-pub mod Errors
 pub mod Exactness
-pub mod Spacing
+pub mod LineLemmas
 pub mod Spelling
 pub mod Writing

@@ -4,10 +4,10 @@ use Rattle.std.specs.Option.{option_map, option_and_then}
 use Rattle.std.specs.Str.{bytes_eq}
 use Rattle.std.proofs.lemmas.Bool.Decides.{nat_tests}
 use Rattle.std.proofs.lemmas.Slice.Eq.{bytes_eq-Decides}
-use Rattle.tab_text.specs.Words.{is_plain, hex_digit, hex_form, glyph, glyphs, word, empty_word, IsGlyph, AreGlyphs, IsWord}
+use Rattle.tab_text.specs.Words.{is_plain, hex_digit, hex_form, escaped_byte, escaped, word, empty_word, IsEscapedByte, IsEscaped, IsWord}
 use Rattle.tab_text.specs.Reading.{hex_value, put_before, unescaped, bytes_of}
 use Rattle.tab_text.specs.declared.escape.Escape.{Escape}
-use Rattle.tab_text.specs.declared.escape.Escape.TheVariants.{Outside, Slash, High}
+use Rattle.tab_text.specs.declared.escape.Escape.TheVariants.{Outside, Backslash, High}
 
 -- texts that test equal are equal
 pub bytes_same : (a b : List ℕ) → bytes_eq a b ≡ true → a ≡ b
@@ -33,7 +33,7 @@ map_none None = refl
 map_none (Some bs) = refl
 
 pub read_plain : (b : ℕ) (rest : List ℕ) → is_plain b ≡ true → unescaped Outside (b ∷ rest) ≡ reads_on b rest
-read_plain b rest is = ap (λ t. option_and_then (λ (next : Option ℕ × Escape). option_map (put_before next.0) (unescaped next.1 rest)) (cond t (Some (Some b, Outside)) (cond (b == 92) (Some (None, Slash)) None))) is
+read_plain b rest is = ap (λ t. option_and_then (λ (next : Option ℕ × Escape). option_map (put_before next.0) (unescaped next.1 rest)) (cond t (Some (Some b, Outside)) (cond (b == 92) (Some (None, Backslash)) None))) is
 
 pub read_slash : (rest : List ℕ) → unescaped Outside (92 ∷ 92 ∷ rest) ≡ reads_on 92 rest
 read_slash rest = map_none (reads_on 92 rest)
@@ -51,8 +51,8 @@ read_hex b rest lt =
     ∙ map_none (last (hex_value (hex_digit (b % 16)))) ∙ ap last low ∙ ap (λ n. reads_on n rest) whole
 
 -- a byte and how it is written
-read_glyph : (b : ℕ) (rest : List ℕ) → b < 256 → unescaped Outside (glyph b ++ rest) ≡ reads_on b rest
-read_glyph b rest lt =
+read_escaped : (b : ℕ) (rest : List ℕ) → b < 256 → unescaped Outside (escaped_byte b ++ rest) ≡ reads_on b rest
+read_escaped b rest lt =
     elim (is_plain b) as (λ t. is_plain b ≡ t → unescaped Outside (cond t (b ∷ []) (cond (b == 92) (92 ∷ 92 ∷ []) (hex_form b)) ++ rest) ≡ reads_on b rest) [
       | true ↦ λ is. read_plain b rest is
       | false ↦ λ is. elim (b == 92) as (λ t. (b == 92) ≡ t → unescaped Outside (cond t (92 ∷ 92 ∷ []) (hex_form b) ++ rest) ≡ reads_on b rest) [
@@ -62,28 +62,28 @@ read_glyph b rest lt =
     ] refl
 
 -- what is written reads back
-pub unescaped-glyphs : (bs : List ℕ) → AreBytes bs → unescaped Outside (glyphs bs) ≡ Some bs
-unescaped-glyphs [] all = refl
-unescaped-glyphs (b ∷ bs) all = read_glyph b (glyphs bs) all.0 ∙ ap (option_map (λ xs. b ∷ xs)) (unescaped-glyphs bs all.1)
+pub unescaped-escaped : (bs : List ℕ) → AreBytes bs → unescaped Outside (escaped bs) ≡ Some bs
+unescaped-escaped [] all = refl
+unescaped-escaped (b ∷ bs) all = read_escaped b (escaped bs) all.0 ∙ ap (option_map (λ xs. b ∷ xs)) (unescaped-escaped bs all.1)
 
 -- the form that is written is one that may be
-glyph_is : (b : ℕ) → b < 256 → IsGlyph (glyph b) b
-glyph_is b lt =
-    elim (is_plain b) as (λ t. is_plain b ≡ t → IsGlyph (cond t (b ∷ []) (cond (b == 92) (92 ∷ 92 ∷ []) (hex_form b))) b) [
+escaped_byte_is : (b : ℕ) → b < 256 → IsEscapedByte (escaped_byte b) b
+escaped_byte_is b lt =
+    elim (is_plain b) as (λ t. is_plain b ≡ t → IsEscapedByte (cond t (b ∷ []) (cond (b == 92) (92 ∷ 92 ∷ []) (hex_form b))) b) [
       | true ↦ λ is. inl (is, refl)
-      | false ↦ λ is. elim (b == 92) as (λ t. (b == 92) ≡ t → IsGlyph (cond t (92 ∷ 92 ∷ []) (hex_form b)) b) [
+      | false ↦ λ is. elim (b == 92) as (λ t. (b == 92) ≡ t → IsEscapedByte (cond t (92 ∷ 92 ∷ []) (hex_form b)) b) [
         | true ↦ λ slash. inr (inl (grind (arith, nat_tests), refl))
         | false ↦ λ other. inr (inr (lt, refl))
       ] refl
     ] refl
 
-glyphs_are : (bs : List ℕ) → AreBytes bs → AreGlyphs (glyphs bs) bs
-glyphs_are [] all = refl
-glyphs_are (b ∷ bs) all = (glyph b, glyphs bs, glyph_is b all.0, glyphs_are bs all.1, refl)
+escaped_is : (bs : List ℕ) → AreBytes bs → IsEscaped (escaped bs) bs
+escaped_is [] all = refl
+escaped_is (b ∷ bs) all = (escaped_byte b, escaped bs, escaped_byte_is b all.0, escaped_is bs all.1, refl)
 
 pub word_is : (bs : List ℕ) → AreBytes bs → IsWord (word bs) bs
 word_is [] all = inl (refl, refl)
-word_is (b ∷ bs) all = inr (λ same. absurd cc, glyphs_are (b ∷ bs) all)
+word_is (b ∷ bs) all = inr (λ same. absurd cc, escaped_is (b ∷ bs) all)
 
 -- the bytes of a list that lies in memory
 pub bytes_fit : (bs : List ℕ) → ((i : ℕ) → Fits w8 (get_or bs i 0)) → AreBytes bs
@@ -110,4 +110,4 @@ read_some text b bs read =
 pub bytes_of-word : (bs : List ℕ) → AreBytes bs → bytes_of (word bs) ≡ Some bs
 unfolding bytes_of
 bytes_of-word [] all = refl
-bytes_of-word (b ∷ bs) all = read_some (glyphs (b ∷ bs)) b bs (unescaped-glyphs (b ∷ bs) all)
+bytes_of-word (b ∷ bs) all = read_some (escaped (b ∷ bs)) b bs (unescaped-escaped (b ∷ bs) all)

@@ -4,7 +4,7 @@ use Rattle.std.specs.Option.{option_map, option_and_then}
 use Rattle.std.specs.Str.{bytes_eq}
 use Rattle.tab_text.specs.Words.{is_plain, empty_word}
 use Rattle.tab_text.specs.declared.escape.Escape.{Escape}
-use Rattle.tab_text.specs.declared.escape.Escape.TheVariants.{Outside, Slash, Hex, High}
+use Rattle.tab_text.specs.declared.escape.Escape.TheVariants.{Outside, Backslash, Hex, High}
 
 -- the value of a hexadecimal digit in lower case
 abbrev pub hex_value : ℕ → Option ℕ
@@ -12,8 +12,8 @@ hex_value d = if nat_le 48 d && nat_le d 57 then Some (d - 48) else if nat_le 97
 
 -- after one more byte: the byte that is whole with it, if one is, and how much of an escape has been read
 abbrev pub step : Escape → ℕ → Option (Option ℕ × Escape)
-step Outside b = if is_plain b then Some (Some b, Outside) else if b == 92 then Some (None, Slash) else None
-step Slash b = if b == 92 then Some (Some 92, Outside) else if b == 120 then Some (None, Hex) else None
+step Outside b = if is_plain b then Some (Some b, Outside) else if b == 92 then Some (None, Backslash) else None
+step Backslash b = if b == 92 then Some (Some 92, Outside) else if b == 120 then Some (None, Hex) else None
 step Hex b = option_map (λ high. (None, High high)) (hex_value b)
 step (High high) b = option_map (λ low. (Some (16 * high + low), Outside)) (hex_value b)
 
@@ -25,7 +25,7 @@ put_before (Some b) bs = b ∷ bs
 -- what is read at the end: a word doesn't end inside an escape
 abbrev pub at_end : Escape → Option (List ℕ)
 at_end Outside = Some []
-at_end Slash = None
+at_end Backslash = None
 at_end Hex = None
 at_end (High high) = None
 
@@ -39,8 +39,8 @@ unfoldable pub bytes_of : List ℕ → Option (List ℕ)
 bytes_of text = if bytes_eq text empty_word then Some [] else if length text == 0 then None else unescaped Outside text
 
 -- half of an escape is the value of a digit
-abbrev pub half_fits : Escape → Bool
-half_fits Outside = true
-half_fits Slash = true
-half_fits Hex = true
-half_fits (High high) = nat_lt high 16
+abbrev pub digit_fits : Escape → Bool
+digit_fits Outside = true
+digit_fits Backslash = true
+digit_fits Hex = true
+digit_fits (High high) = nat_lt high 16

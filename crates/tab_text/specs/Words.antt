@@ -14,13 +14,13 @@ abbrev pub hex_form : ℕ → List ℕ
 hex_form b = 92 ∷ 120 ∷ hex_digit (b / 16) ∷ hex_digit (b % 16) ∷ []
 
 -- how one byte may be written
-abbrev pub IsGlyph : List ℕ → ℕ → Type 0
-IsGlyph text b = ((is_plain b ≡ true) × (text ≡ b ∷ [])) ⊎ (((b ≡ 92) × (text ≡ 92 ∷ 92 ∷ [])) ⊎ ((b < 256) × (text ≡ hex_form b)))
+abbrev pub IsEscapedByte : List ℕ → ℕ → Type 0
+IsEscapedByte text b = ((is_plain b ≡ true) × (text ≡ b ∷ [])) ⊎ (((b ≡ 92) × (text ≡ 92 ∷ 92 ∷ [])) ⊎ ((b < 256) × (text ≡ hex_form b)))
 
--- the text writes the bytes, one after another
-abbrev pub AreGlyphs : List ℕ → List ℕ → Type 0
-AreGlyphs text [] = text ≡ []
-AreGlyphs text (b ∷ bs) = (glyph : List ℕ) × (rest : List ℕ) × IsGlyph glyph b × AreGlyphs rest bs × (text ≡ glyph ++ rest)
+-- the text writes the bytes, escaped, one after another
+abbrev pub IsEscaped : List ℕ → List ℕ → Type 0
+IsEscaped text [] = text ≡ []
+IsEscaped text (b ∷ bs) = (first : List ℕ) × (rest : List ℕ) × IsEscapedByte first b × IsEscaped rest bs × (text ≡ first ++ rest)
 
 -- \e
 abbrev pub empty_word : List ℕ
@@ -28,18 +28,18 @@ empty_word = 92 ∷ 101 ∷ []
 
 -- a word and the bytes that it spells
 abbrev pub IsWord : List ℕ → List ℕ → Type 0
-IsWord text bytes = ((text ≡ empty_word) × (bytes ≡ [])) ⊎ ((bytes ≢ []) × AreGlyphs text bytes)
+IsWord text bytes = ((text ≡ empty_word) × (bytes ≡ [])) ⊎ ((bytes ≢ []) × IsEscaped text bytes)
 
 -- the one form in which a byte is written
-abbrev pub glyph : ℕ → List ℕ
-glyph b = if is_plain b then b ∷ [] else if b == 92 then 92 ∷ 92 ∷ [] else hex_form b
+abbrev pub escaped_byte : ℕ → List ℕ
+escaped_byte b = if is_plain b then b ∷ [] else if b == 92 then 92 ∷ 92 ∷ [] else hex_form b
 
--- the forms of the bytes, one after another
-abbrev pub glyphs : List ℕ → List ℕ
-glyphs [] = []
-glyphs (b ∷ bs) = glyph b ++ glyphs bs
+-- the bytes, escaped, one after another
+abbrev pub escaped : List ℕ → List ℕ
+escaped [] = []
+escaped (b ∷ bs) = escaped_byte b ++ escaped bs
 
 -- the one word that is written for these bytes
 abbrev pub word : List ℕ → List ℕ
 word [] = empty_word
-word (b ∷ bs) = glyphs (b ∷ bs)
+word (b ∷ bs) = escaped (b ∷ bs)

@@ -1,18 +1,17 @@
 //! The line of a cell.
-ghost use Rattle.tab_io.specs.Streams.{Puts, FailsByFault};
+ghost use Rattle.tab_io.specs.Writing.{Puts};
 ghost use Rattle.tab_text.specs.Lines.{cell_text};
 
-use crate::{Word, put_spaced};
+use crate::{Word, put_line};
 use tab_io::{Output, WriteFault};
 use tab_key::Cell;
 
 /// Puts the line `ROW FAM QUAL LABEL TS VALUE` of a cell.
 #[tactic(auto, unfolding(crate::specs::Lines::cell_text))]
 pub fn put_cell<W: Output>(output: &mut W, cell: &Cell) -> Result<(), WriteFault>
-    ensures bytes { Puts (W.contents output.old) (W.held output.old) (W.contents output.new) (W.held output.new) (cell_text cell.now) result }
-    ensures faults { FailsByFault result (W.faults output.old) (W.faults output.new) (W.budget output.new) }
+    ensures { Puts W.Output output.old output.new (cell_text cell.now) result }
 {
-    put_spaced(
+    put_line(
         output,
         &[
             Word::Bytes(cell.row()),

@@ -1,6 +1,6 @@
 //! The steps by which a word is read, byte by byte.
 ghost use Rattle.std.specs.Prelude.{◌≡◌, ◌<◌, true, IfSome};
-ghost use Rattle.tab_text.specs.Reading.{hex_value, step, half_fits};
+ghost use Rattle.tab_text.specs.Reading.{hex_value, step, digit_fits};
 
 use crate::is_plain;
 
@@ -10,7 +10,7 @@ pub enum Escape {
     /// Nothing: the next byte stands for itself or begins an escape.
     Outside,
     /// The backslash.
-    Slash,
+    Backslash,
     /// The backslash and the `x`.
     Hex,
     /// All but the last digit; the first one has this value, below 16.
@@ -32,17 +32,17 @@ pub fn hex_value(digit: u8) -> Option<u8>
 /// Reads one more byte of a word: the byte of the string that is whole with it, if one is, and how much of an escape
 /// has been read then. `None`: no word goes on so.
 pub fn step(state: Escape, byte: u8) -> Option<(Option<u8>, Escape)>
-    requires { half_fits state ≡ true }
+    requires { digit_fits state ≡ true }
     ensures value { result ≡ step state byte }
-    ensures fits { IfSome result (λ next. half_fits next.1 ≡ true) }
+    ensures fits { IfSome result (λ next. digit_fits next.1 ≡ true) }
 {
     match state {
         Escape::Outside if is_plain(byte) => Some((Some(byte), Escape::Outside)),
-        Escape::Outside if byte == b'\\' => Some((None, Escape::Slash)),
+        Escape::Outside if byte == b'\\' => Some((None, Escape::Backslash)),
         Escape::Outside => None,
-        Escape::Slash if byte == b'\\' => Some((Some(byte), Escape::Outside)),
-        Escape::Slash if byte == b'x' => Some((None, Escape::Hex)),
-        Escape::Slash => None,
+        Escape::Backslash if byte == b'\\' => Some((Some(byte), Escape::Outside)),
+        Escape::Backslash if byte == b'x' => Some((None, Escape::Hex)),
+        Escape::Backslash => None,
         Escape::Hex => {
             let high = hex_value(byte)?;
             Some((None, Escape::High(high)))

@@ -1,6 +1,6 @@
 //! What holds of words: laws, each proved as what a function with an empty body ensures.
 ghost use Rattle.std.specs.Prelude.{◌≡◌, ◌↔◌, Some};
-ghost use Rattle.tab_text.specs.Words.{word, glyphs, IsWord};
+ghost use Rattle.tab_text.specs.Words.{word, escaped, IsWord};
 ghost use Rattle.tab_text.specs.Reading.{bytes_of, unescaped};
 ghost use Rattle.tab_text.specs.declared.escape.Escape.TheVariants.{Outside};
 
@@ -9,7 +9,7 @@ ghost use Rattle.tab_text.specs.declared.escape.Escape.TheVariants.{Outside};
 pub fn written_word(bytes: &[u8])
     ensures spells { IsWord (word bytes.now) bytes.now }
     ensures reads { bytes_of (word bytes.now) ≡ Some bytes.now }
-    ensures escapes { unescaped Outside (glyphs bytes.now) ≡ Some bytes.now }
+    ensures escapes { unescaped Outside (escaped bytes.now) ≡ Some bytes.now }
 {}
 
 /// Reading is exactly the spelling: a text reads as some bytes where it is a word that spells them, and only there.

@@ -7,25 +7,25 @@
 //! | File | What |
 //! |---|---|
 //! | `word` | one byte word |
-//! | `spaced` | words parted by one space, and a line feed |
+//! | `line` | words parted by one space, and a line feed |
+//! | `items` | many items, one after another |
 //! | `cell` | the line of a cell |
 //! | `escape` | what is read of an escape so far: the steps by which a word is read |
 //! | `laws` | what is written reads back, and reading is exactly the spelling |
 //!
 //! `specs/Words` says what a word is and which one is written, `specs/Reading` what a word says, `specs/Lines` the texts
-//! of lines.
+//! of lines, `specs/Parts` what one step of writing a word puts.
 #![tactic(auto)]
 
 mod cell;
 mod escape;
+mod items;
 pub mod laws;
-mod spaced;
+mod line;
 mod word;
 
 pub use cell::put_cell;
 pub use escape::{Escape, hex_value, step};
-pub use spaced::{Word, put_spaced};
+pub use items::{PutItem, put_each};
+pub use line::{Word, put_line};
 pub use word::{is_plain, put_word};
-
-#[cfg(test)]
-mod tests;

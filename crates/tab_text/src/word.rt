@@ -1,8 +1,9 @@
 //! One byte word.
-ghost use Rattle.std.specs.Prelude.{◌≡◌, ◌<◌, ◌≤◌, ◌++◌, false, length, take, IfOk, OnErr};
+ghost use Rattle.std.specs.Prelude.{◌≡◌, ◌<◌, ◌≤◌, false, length};
 ghost use Rattle.std.specs.List.{prefix_len};
-ghost use Rattle.tab_io.specs.Streams.{Puts, HasPut, AppendsFront, FailsByFault};
-ghost use Rattle.tab_text.specs.Words.{is_plain, hex_digit, glyph, glyphs, word};
+ghost use Rattle.tab_io.specs.Writing.{Puts};
+ghost use Rattle.tab_text.specs.Words.{is_plain, hex_digit, escaped_byte, escaped, word};
+ghost use Rattle.tab_text.specs.Parts.{PutsSome};
 
 use tab_io::{Output, WriteFault};
 
@@ -14,20 +15,18 @@ pub fn is_plain(byte: u8) -> bool
 }
 
 /// Puts the one word that is written for these bytes.
-#[tactic(auto, using(crate::proofs::Writing::word_some, crate::proofs::Writing::word_none))]
+#[tactic(auto, using(tab_io::proofs::Putting::putting, crate::proofs::Writing::word_some, crate::proofs::Writing::word_none))]
 pub fn put_word<W: Output>(output: &mut W, bytes: &[u8]) -> Result<(), WriteFault>
-    ensures bytes { Puts (W.contents output.old) (W.held output.old) (W.contents output.new) (W.held output.new) (word bytes.now) result }
-    ensures faults { FailsByFault result (W.faults output.old) (W.faults output.new) (W.budget output.new) }
+    ensures { Puts W.Output output.old output.new (word bytes.now) result }
 {
     if bytes.is_empty() {
         return output.put(b"\\e");
     }
-    put_glyphs(output, bytes)
+    put_escaped_bytes(output, bytes)
 }
 
-fn put_glyphs<W: Output>(output: &mut W, bytes: &[u8]) -> Result<(), WriteFault>
-    ensures bytes { Puts (W.contents output.old) (W.held output.old) (W.contents output.new) (W.held output.new) (glyphs bytes.now) result }
-    ensures faults { FailsByFault result (W.faults output.old) (W.faults output.new) (W.budget output.new) }
+fn put_escaped_bytes<W: Output>(output: &mut W, bytes: &[u8]) -> Result<(), WriteFault>
+    ensures { Puts W.Output output.old output.new (escaped bytes.now) result }
 {
     let mut done = 0;
     while done < bytes.len() {
@@ -40,13 +39,10 @@ fn put_glyphs<W: Output>(output: &mut W, bytes: &[u8]) -> Result<(), WriteFault>
 }
 
 // Puts the first bytes of these, of which there are some, and tells how many: a run of plain ones, or one other.
-#[tactic(auto, using(crate::proofs::Writing::plain_run, crate::proofs::Writing::plain_some, crate::proofs::Writing::one_glyph))]
+#[tactic(auto, using(crate::proofs::Writing::plain_put, crate::proofs::Writing::plain_part, crate::proofs::Writing::first_put, crate::proofs::Writing::first_part, crate::proofs::Writing::plain_some))]
 fn put_some<W: Output>(output: &mut W, bytes: &[u8]) -> Result<usize, WriteFault>
     requires { 0 < length bytes.now }
-    ensures count { IfOk result (λ n. (0 < n) × (n ≤ length bytes.now)) }
-    ensures ok { IfOk result (λ n. HasPut (W.contents output.old) (W.held output.old) (W.contents output.new) (W.held output.new) (glyphs (take n bytes.now))) }
-    ensures err { OnErr result (AppendsFront (W.contents output.old) (W.contents output.new) (W.held output.old ++ glyphs bytes.now)) }
-    ensures faults { FailsByFault result (W.faults output.old) (W.faults output.new) (W.budget output.new) }
+    ensures { PutsSome W.Output output.old output.new bytes.now result }
 {
     let first = bytes[0];
     if !is_plain(first) {
@@ -65,10 +61,10 @@ fn plain_len(bytes: &[u8]) -> usize
     bytes.iter().take_while(|byte| is_plain(**byte)).count()
 }
 
+#[tactic(auto, using(tab_io::proofs::Putting::putting))]
 fn put_escaped<W: Output>(output: &mut W, byte: u8) -> Result<(), WriteFault>
     requires { is_plain byte ≡ false }
-    ensures bytes { Puts (W.contents output.old) (W.held output.old) (W.contents output.new) (W.held output.new) (glyph byte) result }
-    ensures faults { FailsByFault result (W.faults output.old) (W.faults output.new) (W.budget output.new) }
+    ensures { Puts W.Output output.old output.new (escaped_byte byte) result }
 {
     if byte == b'\\' {
         return output.put(b"\\\\");

@@ -1,18 +1,18 @@
 use Rattle.std.proofs.Common.{rules, ◌≡◌, ◌∷◌, [], sym, subst, ◌∙◌, Some, true, false}
 use Rattle.std.specs.Prelude.{codes}
 use Rattle.std.specs.Str.{bytes_eq}
-use Rattle.tab_lines.specs.Gives.{Stops}
+use Rattle.tab_lines.specs.Gives.{SaysNone}
 use Rattle.tab_lines.specs.Words.{words_left}
 use Rattle.tab_lines.specs.Updates.{updated, update_of}
-use Rattle.tab_lines.proofs.UpdateLemmas.{step_last, step_more, step_other, step_len, step_stops}
+use Rattle.tab_lines.proofs.UpdateLemmas.{step_last, step_more, step_other, step_len, step_fails}
 use Rattle.tab_lines.proofs.updates.add_some.Goals as goal
 
 pub returns-in-Err : goal.returns-in-Err
 returns-in-Err c =
     let m = c.updates.mutation in
     let ws = words_left c.updates.words in
-    let stops : Stops c.in-Err.stop (updated m (update_of ws)) = search rules in
-    subst (Stops c.in-Err.stop) c.updates.invariant (step_stops c.in-Err.stop m ws stops)
+    let fails : SaysNone c.in-Err.error (updated m (update_of ws)) = search rules in
+    subst (SaysNone c.in-Err.error) c.updates.invariant (step_fails c.in-Err.error m ws fails)
 
 pub returns-in_default : goal.returns-in_default
 returns-in_default c =

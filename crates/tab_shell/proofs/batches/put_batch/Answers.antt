@@ -1,15 +1,13 @@
-use Rattle.std.proofs.Common.{ℕ, List, Option, rules, subst}
+use Rattle.std.proofs.Common.{List, subst}
 use Rattle.tab_key.specs.Records.{Cell}
-use Rattle.tab_history.specs.Sessions.{Held, batch}
 use Rattle.tab_shell.specs.Batches.{PutsTaken}
-use Rattle.tab_shell.proofs.Batching.{puts_batch}
+use Rattle.tab_shell.proofs.Batching.{puts_batch, puts_lack}
 use Rattle.tab_shell.proofs.batches.put_batch.Goals as goal
 
-pub returns-in-Ok-clause-bytes : goal.returns-in-Ok-clause-bytes
-returns-in-Ok-clause-bytes g c =
-    let o : Option (List ℕ) = g.W.Output.contents c.args.output.now in
-    let h : List ℕ = g.W.Output.held c.args.output.now in
-    let o1 : Option (List ℕ) = g.W.Output.contents c.put_taken.new.output in
-    let h1 : List ℕ = g.W.Output.held c.put_taken.new.output in
-    puts_batch c.args.session.now c.next_batch.new.self o o1 h h1 c.put_taken.result c.in-Ok.ensures.after
-    (subst (λ (cells : List Cell). PutsTaken cells o h o1 h1 c.put_taken.result) c.in-Ok.ensures.ok c.put_taken.ensures.bytes)
+pub returns-in-Ok : goal.returns-in-Ok
+returns-in-Ok g c =
+    puts_batch g.W.Output c.args.session.now c.next_batch.new.self c.args.output.now c.put_taken.new.output c.put_taken.result c.in-Ok.ensures.after
+    (subst (λ (cells : List Cell). PutsTaken g.W.Output c.args.output.now c.put_taken.new.output cells c.put_taken.result) c.in-Ok.ensures.ok c.put_taken.ensures)
+
+pub returns-in-Err : goal.returns-in-Err
+returns-in-Err g c = puts_lack g.W.Output c.args.session.now c.next_batch.new.self c.args.output.now c.put_lack.new.output c.put_lack.result c.put_lack.ensures

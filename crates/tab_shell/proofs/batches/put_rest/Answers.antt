@@ -1,39 +1,16 @@
-use Rattle.std.proofs.Common.{ℕ, List, Option, rules}
-use Rattle.tab_key.specs.Records.{Cell}
-use Rattle.tab_history.specs.Sessions.{Held}
+use Rattle.std.proofs.Common.{rules}
 use Rattle.tab_shell.specs.Batches.{left_of}
-use Rattle.tab_shell.proofs.Batching.{came_on, came_last, came_front, fewer}
+use Rattle.tab_shell.proofs.Batching.{read_on, read_last, read_part}
 use Rattle.tab_shell.proofs.batches.put_rest.Goals as goal
 
 pub loop-fault-preserved : goal.loop-fault-preserved
 loop-fault-preserved g c =
-    let o : Option (List ℕ) = g.W.Output.contents c.args.output.now in
-    let h : List ℕ = g.W.Output.held c.args.output.now in
-    let o1 : Option (List ℕ) = g.W.Output.contents c.loop-fault.output in
-    let h1 : List ℕ = g.W.Output.held c.loop-fault.output in
-    let o2 : Option (List ℕ) = g.W.Output.contents c.put_batch.new.output in
-    let h2 : List ℕ = g.W.Output.held c.put_batch.new.output in
-    record {
-      came = came_on (left_of c.args.session.now) c.loop-fault.session c.put_batch.new.session o o1 o2 h h1 h2 c.put_batch.result (search rules) c.loop-fault.invariant.came c.put_batch.ensures.bytes;
-      faults = search rules;
-    }
+    read_on g.W.Output (left_of c.args.session.now) c.loop-fault.session c.put_batch.new.session c.args.output.now c.loop-fault.output c.put_batch.new.output c.put_batch.result (search rules) c.loop-fault.invariant c.put_batch.ensures
 
-pub returns-in-Ok-false-clause-bytes : goal.returns-in-Ok-false-clause-bytes
-returns-in-Ok-false-clause-bytes g c =
-    let o : Option (List ℕ) = g.W.Output.contents c.args.output.now in
-    let h : List ℕ = g.W.Output.held c.args.output.now in
-    let o1 : Option (List ℕ) = g.W.Output.contents c.loop-fault.output in
-    let h1 : List ℕ = g.W.Output.held c.loop-fault.output in
-    let o2 : Option (List ℕ) = g.W.Output.contents c.put_batch.new.output in
-    let h2 : List ℕ = g.W.Output.held c.put_batch.new.output in
-    came_last (left_of c.args.session.now) c.loop-fault.session c.put_batch.new.session o o1 o2 h h1 h2 c.put_batch.result (search rules) c.loop-fault.invariant.came c.put_batch.ensures.bytes
+pub returns-in-Ok-false : goal.returns-in-Ok-false
+returns-in-Ok-false g c =
+    read_last g.W.Output (left_of c.args.session.now) c.loop-fault.session c.put_batch.new.session c.args.output.now c.loop-fault.output c.put_batch.new.output c.put_batch.result (search rules) c.loop-fault.invariant c.put_batch.ensures
 
-pub returns-in-Err-clause-bytes : goal.returns-in-Err-clause-bytes
-returns-in-Err-clause-bytes g c =
-    let o : Option (List ℕ) = g.W.Output.contents c.args.output.now in
-    let h : List ℕ = g.W.Output.held c.args.output.now in
-    let o1 : Option (List ℕ) = g.W.Output.contents c.loop-fault.output in
-    let h1 : List ℕ = g.W.Output.held c.loop-fault.output in
-    let o2 : Option (List ℕ) = g.W.Output.contents c.put_batch.new.output in
-    let e = c.in-Err.ensures.bytes in
-    came_front (left_of c.args.session.now) (left_of c.loop-fault.session) o o1 o2 h h1 e.0 c.loop-fault.invariant.came e.1 e.2
+pub returns-in-Err : goal.returns-in-Err
+returns-in-Err g c =
+    read_part g.W.Output (left_of c.args.session.now) (left_of c.loop-fault.session) c.args.output.now c.loop-fault.output c.put_batch.new.output c.in-Err.ensures.0 c.loop-fault.invariant c.in-Err.ensures.1 c.in-Err.ensures.2

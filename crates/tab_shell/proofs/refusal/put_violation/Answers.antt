@@ -1,14 +1,15 @@
 use Rattle.std.proofs.Common.{[], ◌∷◌, ◌++◌}
 use Rattle.std.specs.Prelude.{map, codes}
-use Rattle.tab_io.proofs.Putting.{puts_more, front_longer}
+use Rattle.tab_io.proofs.Putting.{puts_more, part_longer}
 use Rattle.tab_text.specs.Lines.{after_spaces}
-use Rattle.tab_shell.specs.Texts.{failing_word}
+use Rattle.tab_shell.specs.Texts.{violation_word}
 use Rattle.tab_shell.proofs.refusal.put_violation.Goals as goal
 
-pub returns-in-Ok-clause-bytes : goal.returns-in-Ok-clause-bytes
-returns-in-Ok-clause-bytes g c =
-    puts_more (g.W.Output.contents c.args.output.now) (g.W.Output.held c.args.output.now) (g.W.Output.contents c.put.new.self) (g.W.Output.held c.put.new.self) (g.W.Output.contents c.put_failing_line.new.output) (g.W.Output.held c.put_failing_line.new.output) (codes "refused 6 ConstraintViolation") (after_spaces (map failing_word c.args.failing.now) ++ 10 ∷ []) c.put_failing_line.result c.in-Ok.ensures.bytes c.put_failing_line.ensures.bytes
+pub returns-in-Ok : goal.returns-in-Ok
+returns-in-Ok g c =
+    puts_more g.W.Output c.args.output.now c.put.new.self c.put_violation_line.new.output (codes "refused 6 ConstraintViolation") (after_spaces (map violation_word c.args.violations.now) ++ 10 ∷ []) c.put_violation_line.result
+    (record { bytes = c.in-Ok.ensures.bytes; faults = c.in-Ok.ensures.faults }) c.put_violation_line.ensures
 
-pub returns-in-Err-clause-bytes : goal.returns-in-Err-clause-bytes
-returns-in-Err-clause-bytes g c =
-    front_longer (g.W.Output.contents c.args.output.now) (g.W.Output.contents c.put.new.self) (g.W.Output.held c.args.output.now) (codes "refused 6 ConstraintViolation") (after_spaces (map failing_word c.args.failing.now) ++ 10 ∷ []) c.in-Err.ensures.bytes
+pub returns-in-Err : goal.returns-in-Err
+returns-in-Err g c =
+    part_longer {t = codes "refused 6 ConstraintViolation"} (after_spaces (map violation_word c.args.violations.now) ++ 10 ∷ []) (record { bytes = c.in-Err.ensures.bytes; failed = c.in-Err.ensures.faults })

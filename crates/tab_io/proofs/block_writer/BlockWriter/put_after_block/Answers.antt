@@ -1,6 +1,6 @@
 use Rattle.std.proofs.Common.{◌≡◌, ◌++◌, drop, List, ℕ, Option, sym, ap, ◌∙◌, subst}
 use Rattle.std.specs.Io.KnownBytes.{Appends}
-use Rattle.tab_io.proofs.Blocks.{gathered_anew, puts_after, keeps_after}
+use Rattle.tab_io.proofs.Blocks.{gathered_anew, accepts_after}
 use Rattle.tab_io.proofs.block_writer.BlockWriter.put_after_block.Goals as goal
 
 pub returns-then-bytes-capacity-clause-bytes : goal.returns-then-bytes-capacity-clause-bytes
@@ -17,10 +17,4 @@ pub returns-clause-bytes : goal.returns-clause-bytes
 returns-clause-bytes g c =
     let w = c.args.self.now in
     let v = c.write_straight.new.self in
-    puts_after (g.W.Write.contents w.sink.inner) (g.W.Write.contents c.write_block.new.self.sink.inner) (g.W.Write.contents v.sink.inner) (drop w.written w.block.items) (drop v.written v.block.items) c.args.bytes.now c.write_straight.result (c.in_ok-write_block.ensures.bytes.0) c.write_straight.ensures.bytes
-
-pub returns-clause-kept : goal.returns-clause-kept
-returns-clause-kept g c =
-    let w = c.args.self.now in
-    let v = c.write_straight.new.self in
-    keeps_after (g.W.Write.contents w.sink.inner) (g.W.Write.contents c.write_block.new.self.sink.inner) (g.W.Write.contents v.sink.inner) (drop w.written w.block.items) (drop v.written v.block.items) c.args.bytes.now c.write_straight.result (c.in_ok-write_block.ensures.bytes.0) c.write_straight.ensures.kept
+    accepts_after (g.W.Write.contents w.sink.inner) (g.W.Write.contents c.write_block.new.self.sink.inner) (g.W.Write.contents v.sink.inner) (drop w.written w.block.items) (drop v.written v.block.items) c.args.bytes.now c.write_straight.result (c.in_ok-write_block.ensures.bytes.0) c.write_straight.ensures.bytes

@@ -3,8 +3,8 @@ use Rattle.std.proofs.lemmas.List.{take_all}
 use Rattle.tab_io.proofs.Blocks.{block_cut}
 use Rattle.tab_io.proofs.block_writer.BlockWriter.write_block.Goals as goal
 
-pub returns-in-Err-clause-kept : goal.returns-in-Err-clause-kept
-returns-in-Err-clause-kept g c =
+pub returns-in-Err-clause-bytes : goal.returns-in-Err-clause-bytes
+returns-in-Err-clause-bytes g c =
     let w = c.args.self.now in
     let all : List ℕ = c.as_slice-block.result.now in
     let rest : List ℕ = take (length all - w.written) (drop w.written all) in

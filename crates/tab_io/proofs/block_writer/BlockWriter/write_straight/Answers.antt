@@ -9,8 +9,8 @@ returns-in-Ok-clause-bytes g c =
     let none : drop w.written w.block.items ≡ [] = ap (drop w.written) c.requires ∙ drop-nil w.written in
     written_straight _ _ _ c.args.bytes.now none c.in-Ok.ensures.bytes
 
-pub returns-in-Err-clause-kept : goal.returns-in-Err-clause-kept
-returns-in-Err-clause-kept g c =
+pub returns-in-Err-clause-bytes : goal.returns-in-Err-clause-bytes
+returns-in-Err-clause-bytes g c =
     let w = c.args.self.now in
     let none : drop w.written w.block.items ≡ [] = ap (drop w.written) c.requires ∙ drop-nil w.written in
-    straight_part _ _ _ c.args.bytes.now c.in-Err.field-0.written none c.in-Err.ensures.bytes.0 c.in-Err.ensures.bytes.1
+    straight_part _ _ _ c.args.bytes.now c.in-Err.field-0.written none c.in-Err.ensures.bytes.1

@@ -6,10 +6,4 @@ pub returns-clause-bytes : goal.returns-clause-bytes
 returns-clause-bytes g c =
     let w = c.args.self.now in
     let v = c.write_block.new.self in
-    (passed_on (g.W.Write.contents w.sink.inner) (g.W.Write.contents v.sink.inner) (g.W.Write.contents c.flush.new.self.inner) (drop w.written w.block.items) (drop v.written v.block.items) c.flush.result (c.in_ok-write_block.ensures.bytes.0) (c.in_ok-write_block.ensures.bytes.1) c.flush.ensures.bytes).0
-
-pub returns-clause-kept : goal.returns-clause-kept
-returns-clause-kept g c =
-    let w = c.args.self.now in
-    let v = c.write_block.new.self in
-    (passed_on (g.W.Write.contents w.sink.inner) (g.W.Write.contents v.sink.inner) (g.W.Write.contents c.flush.new.self.inner) (drop w.written w.block.items) (drop v.written v.block.items) c.flush.result (c.in_ok-write_block.ensures.bytes.0) (c.in_ok-write_block.ensures.bytes.1) c.flush.ensures.bytes).1
+    passed_on (g.W.Write.contents w.sink.inner) (g.W.Write.contents v.sink.inner) (g.W.Write.contents c.flush.new.self.inner) (drop w.written w.block.items) (drop v.written v.block.items) c.flush.result (c.in_ok-write_block.ensures.bytes.0) (c.in_ok-write_block.ensures.bytes.1) c.flush.ensures.bytes

@@ -1,8 +1,9 @@
 use Rattle.std.proofs.Common.{List, ℕ, Option, rules}
+use Rattle.tab_io.proofs.Putting.{flush_put, flush_part}
 use Rattle.tab_shell.specs.declared.pending.Pending.{Pending}
-use Rattle.tab_shell.specs.Runs.{ScriptState}
-use Rattle.tab_shell.specs.Going.{Goes}
-use Rattle.tab_shell.proofs.GoingLemmas.{goes_both, fails_both, goes_flush, fails_flush, goes_fill, goes_halts, goes_end, fills_keeps, fills_end}
+use Rattle.tab_shell.specs.Scripts.{ScriptState}
+use Rattle.tab_shell.specs.Progress.{HasAnswered}
+use Rattle.tab_shell.proofs.ProgressLemmas.{goes_both, part_both, goes_flush, part_flush, goes_fill, goes_end, stops_read, stops_write, fills_keeps, fills_end}
 use Rattle.tab_shell.proofs.script.Script.answer_all.Goals as goal
 
 pub returns-in-Err-clause-err : goal.returns-in-Err-clause-err
@@ -16,13 +17,9 @@ returns-in-Err-clause-err g c =
     let p : Pending = c.args.pending.now in
     let pb : Pending = c.loop-output.pending in
     let p1 : Pending = c.answer_front.new.pending in
-    let c0 : Option (List ℕ) = g.W.Output.contents c.args.output.now in
-    let cb : Option (List ℕ) = g.W.Output.contents c.loop-output.output in
-    let c1 : Option (List ℕ) = g.W.Output.contents c.answer_front.new.output in
-    let h0 : List ℕ = g.W.Output.held c.args.output.now in
-    let hb : List ℕ = g.W.Output.held c.loop-output.output in
-    let h1 : List ℕ = g.W.Output.held c.answer_front.new.output in
-    fails_both a b d r rb p pb c0 cb c1 h0 hb c.loop-output.invariant.goes c.in-Err.ensures.err
+    let o = c.args.output.now in
+    let o1 = c.answer_front.new.output in
+    stops_write g.W.Output a d r p o o1 (part_both g.W.Output a b d r rb p pb o c.loop-output.output o1 c.loop-output.invariant.goes c.in-Err.ensures.lines)
 
 pub returns-in-Err-flush-clause-err : goal.returns-in-Err-flush-clause-err
 returns-in-Err-flush-clause-err g c =
@@ -35,15 +32,11 @@ returns-in-Err-flush-clause-err g c =
     let p : Pending = c.args.pending.now in
     let pb : Pending = c.loop-output.pending in
     let p1 : Pending = c.answer_front.new.pending in
-    let c0 : Option (List ℕ) = g.W.Output.contents c.args.output.now in
-    let cb : Option (List ℕ) = g.W.Output.contents c.loop-output.output in
-    let c1 : Option (List ℕ) = g.W.Output.contents c.answer_front.new.output in
-    let h0 : List ℕ = g.W.Output.held c.args.output.now in
-    let hb : List ℕ = g.W.Output.held c.loop-output.output in
-    let h1 : List ℕ = g.W.Output.held c.answer_front.new.output in
-    let c2 : Option (List ℕ) = g.W.Output.contents c.flush.new.self in
-    let went : Goes a r p c0 h0 d r1 p1 c1 h1 = goes_both a b d r rb r1 p pb p1 c0 cb c1 h0 hb h1 c.loop-output.invariant.goes c.in-Ok.ensures.ok in
-    fails_flush a d r r1 p p1 c0 c1 c2 h0 h1 went c.in-Err-flush.ensures.bytes
+    let o = c.args.output.now in
+    let o1 = c.answer_front.new.output in
+    let o2 = c.flush.new.self in
+    let went : HasAnswered g.W.Output a r p o d r1 p1 o1 = goes_both g.W.Output a b d r rb r1 p pb p1 o c.loop-output.output o1 c.loop-output.invariant.goes c.in-Ok.ensures.lines in
+    stops_write g.W.Output a d r p o o2 (part_flush g.W.Output a d r r1 p p1 o o1 o2 went (flush_part g.W.Output o1 o2 c.in-Err-flush.ensures.bytes c.in-Err-flush.ensures.faults))
 
 pub loop-output-preserved : goal.loop-output-preserved
 loop-output-preserved g c =
@@ -56,19 +49,14 @@ loop-output-preserved g c =
     let p : Pending = c.args.pending.now in
     let pb : Pending = c.loop-output.pending in
     let p1 : Pending = c.answer_front.new.pending in
-    let c0 : Option (List ℕ) = g.W.Output.contents c.args.output.now in
-    let cb : Option (List ℕ) = g.W.Output.contents c.loop-output.output in
-    let c1 : Option (List ℕ) = g.W.Output.contents c.answer_front.new.output in
-    let h0 : List ℕ = g.W.Output.held c.args.output.now in
-    let hb : List ℕ = g.W.Output.held c.loop-output.output in
-    let h1 : List ℕ = g.W.Output.held c.answer_front.new.output in
-    let c2 : Option (List ℕ) = g.W.Output.contents c.flush.new.self in
-    let h2 : List ℕ = g.W.Output.held c.flush.new.self in
-    let went : Goes a r p c0 h0 d r1 p1 c1 h1 = goes_both a b d r rb r1 p pb p1 c0 cb c1 h0 hb h1 c.loop-output.invariant.goes c.in-Ok.ensures.ok in
-    let clean : Goes a r p c0 h0 d r1 p1 c2 h2 = goes_flush a d r r1 p p1 c0 c1 c2 h0 h1 h2 went c.in-Ok-flush.ensures.bytes in
+    let o = c.args.output.now in
+    let o1 = c.answer_front.new.output in
+    let o2 = c.flush.new.self in
+    let went : HasAnswered g.W.Output a r p o d r1 p1 o1 = goes_both g.W.Output a b d r rb r1 p pb p1 o c.loop-output.output o1 c.loop-output.invariant.goes c.in-Ok.ensures.lines in
+    let clean : HasAnswered g.W.Output a r p o d r1 p1 o2 = goes_flush g.W.Output a d r r1 p p1 o o1 o2 went (flush_put g.W.Output o1 o2 c.in-Ok-flush.ensures.bytes c.in-Ok-flush.ensures.faults) in
     let r2 : Option (List ℕ) = g.R.Input.remaining c.fill.new.self in
     record {
-      goes = goes_fill a d r r1 r2 p p1 c0 c2 h0 h2 clean (fills_keeps r1 r2 (g.R.Input.front c.fill.new.self) c.in-Ok-true.field-0 c.fill.result c.in-Ok-true.is c.fill.ensures.bytes);
+      goes = goes_fill g.W.Output a d r r1 r2 p p1 o o2 clean (fills_keeps r1 r2 (g.R.Input.front c.fill.new.self) c.in-Ok-true.field-0 c.fill.result c.in-Ok-true.is c.fill.ensures.bytes);
       reads = search rules;
       writes = search rules;
     }
@@ -84,18 +72,13 @@ returns-in-Ok-false-clause-ok g c =
     let p : Pending = c.args.pending.now in
     let pb : Pending = c.loop-output.pending in
     let p1 : Pending = c.answer_front.new.pending in
-    let c0 : Option (List ℕ) = g.W.Output.contents c.args.output.now in
-    let cb : Option (List ℕ) = g.W.Output.contents c.loop-output.output in
-    let c1 : Option (List ℕ) = g.W.Output.contents c.answer_front.new.output in
-    let h0 : List ℕ = g.W.Output.held c.args.output.now in
-    let hb : List ℕ = g.W.Output.held c.loop-output.output in
-    let h1 : List ℕ = g.W.Output.held c.answer_front.new.output in
-    let c2 : Option (List ℕ) = g.W.Output.contents c.flush.new.self in
-    let h2 : List ℕ = g.W.Output.held c.flush.new.self in
-    let went : Goes a r p c0 h0 d r1 p1 c1 h1 = goes_both a b d r rb r1 p pb p1 c0 cb c1 h0 hb h1 c.loop-output.invariant.goes c.in-Ok.ensures.ok in
-    let clean : Goes a r p c0 h0 d r1 p1 c2 h2 = goes_flush a d r r1 p p1 c0 c1 c2 h0 h1 h2 went c.in-Ok-flush.ensures.bytes in
+    let o = c.args.output.now in
+    let o1 = c.answer_front.new.output in
+    let o2 = c.flush.new.self in
+    let went : HasAnswered g.W.Output a r p o d r1 p1 o1 = goes_both g.W.Output a b d r rb r1 p pb p1 o c.loop-output.output o1 c.loop-output.invariant.goes c.in-Ok.ensures.lines in
+    let clean : HasAnswered g.W.Output a r p o d r1 p1 o2 = goes_flush g.W.Output a d r r1 p p1 o o1 o2 went (flush_put g.W.Output o1 o2 c.in-Ok-flush.ensures.bytes c.in-Ok-flush.ensures.faults) in
     let r2 : Option (List ℕ) = g.R.Input.remaining c.fill.new.self in
-    goes_end a d r r1 r2 p p1 c0 c2 h0 h2 clean (fills_end r1 r2 (g.R.Input.front c.fill.new.self) c.fill.result (search rules) c.fill.ensures.bytes)
+    goes_end g.W.Output a d r r1 r2 p p1 o o2 clean (fills_end r1 r2 (g.R.Input.front c.fill.new.self) c.fill.result (search rules) c.fill.ensures.bytes)
 
 pub returns-in-Err-fill-clause-err : goal.returns-in-Err-fill-clause-err
 returns-in-Err-fill-clause-err g c =
@@ -108,14 +91,9 @@ returns-in-Err-fill-clause-err g c =
     let p : Pending = c.args.pending.now in
     let pb : Pending = c.loop-output.pending in
     let p1 : Pending = c.answer_front.new.pending in
-    let c0 : Option (List ℕ) = g.W.Output.contents c.args.output.now in
-    let cb : Option (List ℕ) = g.W.Output.contents c.loop-output.output in
-    let c1 : Option (List ℕ) = g.W.Output.contents c.answer_front.new.output in
-    let h0 : List ℕ = g.W.Output.held c.args.output.now in
-    let hb : List ℕ = g.W.Output.held c.loop-output.output in
-    let h1 : List ℕ = g.W.Output.held c.answer_front.new.output in
-    let c2 : Option (List ℕ) = g.W.Output.contents c.flush.new.self in
-    let h2 : List ℕ = g.W.Output.held c.flush.new.self in
-    let went : Goes a r p c0 h0 d r1 p1 c1 h1 = goes_both a b d r rb r1 p pb p1 c0 cb c1 h0 hb h1 c.loop-output.invariant.goes c.in-Ok.ensures.ok in
-    let clean : Goes a r p c0 h0 d r1 p1 c2 h2 = goes_flush a d r r1 p p1 c0 c1 c2 h0 h1 h2 went c.in-Ok-flush.ensures.bytes in
-    goes_halts a d r r1 p p1 c0 c2 h0 h2 c.in-Ok-flush.ensures.bytes.1 clean
+    let o = c.args.output.now in
+    let o1 = c.answer_front.new.output in
+    let o2 = c.flush.new.self in
+    let went : HasAnswered g.W.Output a r p o d r1 p1 o1 = goes_both g.W.Output a b d r rb r1 p pb p1 o c.loop-output.output o1 c.loop-output.invariant.goes c.in-Ok.ensures.lines in
+    let clean : HasAnswered g.W.Output a r p o d r1 p1 o2 = goes_flush g.W.Output a d r r1 p p1 o o1 o2 went (flush_put g.W.Output o1 o2 c.in-Ok-flush.ensures.bytes c.in-Ok-flush.ensures.faults) in
+    stops_read g.W.Output a d r r1 p p1 o o2 c.in-Ok-flush.ensures.bytes.1 clean

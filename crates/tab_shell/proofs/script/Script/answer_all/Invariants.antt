@@ -1,11 +1,10 @@
 use Rattle.std.proofs.Common.{◌≡◌}
-use Rattle.tab_shell.specs.Going.{Goes}
+use Rattle.tab_shell.specs.Progress.{HasAnswered}
 use Rattle.tab_shell.proofs.script.Script.answer_all.Given as goal
 
 abbrev pub invariant-loop-output : goal.invariant-loop-output
 invariant-loop-output g l = record {
-  goes : Goes l.fn.self (g.R.Input.remaining l.fn.input) l.fn.pending (g.W.Output.contents l.fn.output) (g.W.Output.held l.fn.output)
-      l.self (g.R.Input.remaining l.input) l.pending (g.W.Output.contents l.output) (g.W.Output.held l.output);
+  goes : HasAnswered g.W.Output l.fn.self (g.R.Input.remaining l.fn.input) l.fn.pending l.fn.output l.self (g.R.Input.remaining l.input) l.pending l.output;
   reads : g.R.Input.faults l.input ≡ g.R.Input.faults l.fn.input;
   writes : g.W.Output.faults l.output ≡ g.W.Output.faults l.fn.output;
 }

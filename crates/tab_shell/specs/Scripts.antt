@@ -1,0 +1,118 @@
+-- Which histories a script refines, and what answering its lines adds to them and prints.
+use Rattle.std.specs.Prelude.{ℕ, ℤ, pos, ◌≡◌, ◌==◌, Bool, not, List, [], ◌∷◌, ◌++◌, length, Result, Ok, Err}
+use Rattle.std.specs.List.{prefix_len}
+use Rattle.tab_key.specs.Records.{Cell}
+use Rattle.tab_policy.specs.Roots.{root}
+use Rattle.tab_history.specs.declared.event.Act.{Act}
+use Rattle.tab_history.specs.declared.event.Act.TheVariants.{Open}
+use Rattle.tab_history.specs.declared.event.Event.{Event}
+use Rattle.tab_history.specs.declared.event.Step.TheVariants.{Event as IsEvent}
+use Rattle.tab_history.specs.declared.reply.Refusal.TheVariants as refusal
+use Rattle.tab_history.specs.declared.reply.Reply.TheVariants.{Done, Refused, Opened, Batch, Rights as OwnRights}
+use Rattle.tab_history.specs.Bases.{Base}
+use Rattle.tab_history.specs.Answers.{Told, session_list}
+use Rattle.tab_history.specs.Sessions.{opened, closed}
+use Rattle.tab_history.specs.Histories.{Entry, World, world_of, world_after, journal, moves_of}
+use Rattle.tab_history.specs.Legal.{Legal}
+use Rattle.tab_history.specs.Refinement.{Refines}
+use Rattle.tab_lines.specs.declared.line.Line.{Line}
+use Rattle.tab_lines.specs.declared.line.Line.TheVariants as line
+use Rattle.tab_lines.specs.declared.line_error.LineError.{LineError}
+use Rattle.tab_lines.specs.declared.line_error.LineError.TheVariants as line_error
+use Rattle.tab_lines.specs.Gives.{Gives}
+use Rattle.tab_lines.specs.Lines.{line_of}
+use Rattle.tab_shell.specs.Counts.{count_of}
+use Rattle.tab_shell.specs.Texts.{reply_text, refusal_text, fault_text}
+use Rattle.tab_shell.specs.Readings.{ReadingEnd, CanEnd, reading_text, reading_steps}
+
+-- ---- what a script holds between lines
+-- who asks, and when
+pub record Asker : Type 0 where
+  pub user : List ℕ
+  pub moment : ℤ
+
+-- the core, who asks, and how many sessions its lines opened for each user, and closed
+pub record ScriptState : Type 0 where
+  pub core : Base
+  pub asker : Asker
+  pub opened : List (List ℕ × ℕ)
+
+-- a script over this core: root asks at moment 0, and no session was opened
+abbrev pub new_script : Base → ScriptState
+new_script core = record { core = core; asker = record { user = root; moment = pos 0 }; opened = [] }
+
+-- The script refines the history h of w: its core does, and h opened and closed as many sessions of each user as the script did.
+pub record ScriptRefines (s : ScriptState) (w : World) (h : List Entry) : Type 0 where
+  pub core : Refines (world_of s.core) (world_after w h)
+  pub opened : (user : List ℕ) → opened (moves_of w user h) ≡ count_of s.opened user
+  pub closed : (user : List ℕ) → closed (moves_of w user h) ≡ count_of s.opened user
+
+-- ---- the steps of one line
+-- what he asks
+abbrev pub event_by : Asker → Act → Event
+event_by who act = record { user = who.user; moment = who.moment; act = act }
+
+-- an event and what was answered
+abbrev pub entry : Event → Told → Entry
+entry event reply = record { step = IsEvent event; reply = reply }
+
+-- a scan's steps and its text: a refusal; or those that read the session that the Open gave
+abbrev pub ScanSteps : Asker → World → List Entry → Event → Told → List Entry → List ℕ → Type 0
+ScanSteps who w h event (Refused r) es text = (es ≡ entry event (Refused r) ∷ []) × (text ≡ refusal_text r)
+ScanSteps who w h event (Opened session) es text =
+    let all : List Cell = session_list w.base (journal w (entry event (Opened session) ∷ h)) event.act in
+    (end : ReadingEnd) × CanEnd all end × (text ≡ reading_text all end)
+    × (es ≡ reading_steps who.user (opened (moves_of w who.user h)) all end ++ entry event (Opened session) ∷ [])
+ScanSteps who w h event Done es text = ⊥
+ScanSteps who w h event (Batch cells) es text = ⊥
+ScanSteps who w h event (OwnRights rights) es text = ⊥
+
+-- after the history h of w the line makes these entries, the last one first, and prints this text
+abbrev pub LineSteps : Asker → World → List Entry → Line → List Entry → List ℕ → Type 0
+LineSteps who w h line.Blank es text = (es ≡ []) × (text ≡ [])
+LineSteps who w h (line.As user) es text = (es ≡ []) × (text ≡ [])
+LineSteps who w h (line.At moment) es text = (es ≡ []) × (text ≡ [])
+LineSteps who w h (line.Act act) es text = (reply : Told) × (es ≡ entry (event_by who act) reply ∷ []) × (text ≡ reply_text reply)
+LineSteps who w h (line.Scan scan) es text = (reply : Told) × ScanSteps who w h (event_by who (Open scan)) reply es text
+
+-- the same for what was read of a line: a fault is no step, nor is a line for which memory lacked
+abbrev pub LineAnswered : Asker → World → List Entry → Result Line LineError → List Entry → List ℕ → Type 0
+LineAnswered who w h (Ok line) es text = LineSteps who w h line es text
+LineAnswered who w h (Err line_error.Fault) es text = (es ≡ []) × (text ≡ fault_text)
+LineAnswered who w h (Err line_error.NoMemory) es text = (es ≡ []) × (text ≡ refusal_text refusal.NoMemory)
+
+-- who asks after the line
+abbrev pub asker_after : Asker → Result Line LineError → Asker
+asker_after who (Ok (line.As user)) = record who { user = user }
+asker_after who (Ok (line.At moment)) = record who { moment = moment }
+asker_after who (Ok line.Blank) = who
+asker_after who (Ok (line.Act act)) = who
+asker_after who (Ok (line.Scan scan)) = who
+asker_after who (Err error) = who
+
+-- for each legal history that the script refined there are entries that make it longer by this line, and the script refines that
+pub record ScriptAnswersLine (old : ScriptState) (said : Result Line LineError) (text : List ℕ) (new : ScriptState) : Type 0 where
+  pub asker : new.asker ≡ asker_after old.asker said
+  pub extends : (w : World) (h : List Entry) → ScriptRefines old w h → Legal w h → (es : List Entry) × LineAnswered old.asker w h said es text × Legal w (es ++ h) × ScriptRefines new w (es ++ h)
+
+-- ---- many lines
+-- the entries of lines, the last one first, their texts in order, and who asks afterwards
+abbrev pub LinesAnswered : Asker → World → List Entry → List (List ℕ) → List Entry → List ℕ → Asker → Type 0
+LinesAnswered who w h [] es text last = (es ≡ []) × (text ≡ []) × (last ≡ who)
+LinesAnswered who w h (line ∷ lines) es text last =
+    (said : Result Line LineError) × (first : List Entry) × (more : List Entry) × (t : List ℕ) × (u : List ℕ)
+    × Gives (λ x. x) said (line_of line) × LineAnswered who w h said first t × LinesAnswered (asker_after who said) w (first ++ h) lines more u last × (es ≡ more ++ first) × (text ≡ t ++ u)
+
+-- for each legal history that the script refined there are entries that make it longer by these lines, and the script refines that
+abbrev pub ScriptAnswersLines : ScriptState → List (List ℕ) → List ℕ → ScriptState → Type 0
+ScriptAnswersLines old lines text new = (w : World) (h : List Entry) → ScriptRefines old w h → Legal w h
+    → (es : List Entry) × LinesAnswered old.asker w h lines es text new.asker × Legal w (es ++ h) × ScriptRefines new w (es ++ h)
+
+-- ---- what is read
+-- no line feed
+abbrev pub is_inside : ℕ → Bool
+is_inside b = not (b == 10)
+
+-- no line ends in it
+abbrev pub IsInside : List ℕ → Type 0
+IsInside part = prefix_len is_inside part ≡ length part
