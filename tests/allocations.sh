@@ -2,7 +2,7 @@
 # Lets each request for memory of a script fail in turn, and compares what is printed.
 # Where one fails, the program prints what it always prints, or one line is refused for memory and all others are answered
 # as if that line were not there (a long scan stands up to the batch that is refused), or it ends with status 1 before the
-# first line. Of a script with a long scan each seventh request fails, to save time.
+# first line.
 # Usage: tests/allocations.sh   (from anywhere; wants a C compiler; builds the program if it isn't built)
 set -eu
 top=$(cd "$(dirname -- "${BASH_SOURCE[0]}")/.." && pwd)
@@ -92,61 +92,81 @@ S
     echo 'scan t \0'
 } >"$work/long"
 
-# What a script may print: what it always prints, and for each line what it prints where that line is refused for memory.
+# What a script may print, by checksum: what it always prints, and for each line what it prints where that line is refused
+# for memory.
+declare -A expected
 expect() { # SCRIPT
-    local line
-    mkdir "$work/$1.expected"
-    "$program" script <"$work/$1" >"$work/$1.expected/always"
+    local line before
+    "$program" script <"$work/$1" >"$work/always"
+    expected[$1.$(cksum <"$work/always")]=always
     for line in $(seq "$(wc -l <"$work/$1")"); do
         head -n $((line - 1)) "$work/$1" | "$program" script >"$work/before"
-        sed "${line}d" "$work/$1" | "$program" script >"$work/gone"
-        cat "$work/before" - <(tail -c +$(($(wc -c <"$work/before") + 1)) "$work/gone") \
-            <<<'refused 17 NoMemory' >"$work/$1.expected/without.$line"
+        before=$(wc -c <"$work/before")
+        sum=$({
+            cat "$work/before"
+            echo 'refused 17 NoMemory'
+            sed "${line}d" "$work/$1" | "$program" script | tail -c +$((before + 1))
+        } | cksum)
+        expected[$1.$sum]=${expected[$1.$sum]:-refused}
     done
 }
 
-# Whether the run that ended with this status is as it may be.
-is_expected() { # SCRIPT STATUS
-    local printed
-    if [ "$2" -ne 0 ]; then
-        [ ! -s "$work/out" ] && [ -s "$work/err" ]
-        return
+# Lets one request fail, and says `passed`, `refused` (it passed, and a line was refused for memory) or why it failed; nothing
+# where the script makes fewer requests.
+try_one() { # SCRIPT NUMBER FOLDER
+    local status=0 found
+    rm -f "$3/failed"
+    LD_PRELOAD=$work/failing.so FAIL_AT=$2 FAIL_LOG=$3/failed "$program" script <"$work/$1" >"$3/out" 2>"$3/err" || status=$?
+    [ -e "$3/failed" ] || return 0
+    found=${expected[$1.$(cksum <"$3/out")]:-}
+    if [ "$status" -ne 0 ] && [ ! -s "$3/out" ] && [ -s "$3/err" ]; then
+        echo passed
+    elif [ "$status" -eq 0 ] && [ -n "$found" ]; then
+        echo "${found/always/passed}"
+    else
+        echo "failed: $1, request $2: status $status, $(head -c 200 "$3/out" "$3/err" | tr '\n' ' ')"
     fi
-    for printed in "$work/$1.expected"/*; do
-        if cmp -s "$work/out" "$printed"; then
-            case $printed in */always) ;; *) refused=$((refused + 1)) ;; esac
-            return 0
-        fi
-    done
-    return 1
 }
 
-# Lets each STEPth request fail, until there are no more.
-try_all() { # SCRIPT STEP
-    local at=1 status
-    while :; do
-        rm -f "$work/failed"
-        status=0
-        LD_PRELOAD=$work/failing.so FAIL_AT=$at FAIL_LOG=$work/failed "$program" script <"$work/$1" >"$work/out" 2>"$work/err" || status=$?
-        [ -e "$work/failed" ] || break
-        if is_expected "$1" "$status"; then passed=$((passed + 1)); else
-            failed=$((failed + 1))
-            echo "$1, allocation $at: status $status"
-            head -n 5 "$work/out" "$work/err"
-        fi
-        at=$((at + $2))
+# Lets the FIRSTth request fail, and each that comes STEP behind, until there are no more.
+try_from() { # SCRIPT FIRST STEP
+    local at=$2 said folder
+    folder=$(mktemp -d "$work/try.XXXXXX")
+    while said=$(try_one "$1" "$at" "$folder") && [ -n "$said" ]; do
+        echo "$said"
+        at=$((at + $3))
     done
 }
 
-passed=0 failed=0 refused=0
+# The same on all processors, each with a share of the requests.
+workers=$(nproc)
+try_all() { # SCRIPT
+    local worker
+    for worker in $(seq "$workers"); do
+        try_from "$1" "$worker" "$workers" >"$work/said.$1.$worker" &
+    done
+    wait
+}
+
 expect script
 expect long
 # memory may lack for the second batch: then the first one stands
-{
-    head -n 1003 "$work/long.expected/always"
+sum=$({
+    head -n 1003 "$work/always"
     echo 'refused 17 NoMemory'
-} >"$work/long.expected/one_batch"
-try_all script 1
-try_all long 7
-echo "$passed passed, $failed failed; in $refused of them a line refused for memory"
-[ "$failed" -eq 0 ] && [ "$refused" -gt 0 ]
+} | cksum)
+expected[long.$sum]=refused
+try_all script
+try_all long
+cat "$work"/said.* >"$work/said"
+grep '^failed' "$work/said" | head -n 20 || true
+failed=$(grep -c '^failed' "$work/said" || true)
+refused=$(grep -c '^refused' "$work/said" || true)
+passed=$(($(wc -l <"$work/said") - failed))
+if [ "$refused" -eq 0 ]; then
+    echo 'no line was refused for memory'
+    failed=$((failed + 1))
+fi
+echo "in $refused runs a line was refused for memory"
+echo "$passed passed, $failed failed"
+[ "$failed" -eq 0 ]

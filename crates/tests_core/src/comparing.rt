@@ -1,0 +1,304 @@
+//! Pairs of runs that look alike to bob, who holds A and never B, and what he is told in them.
+
+use std::alloc::{AllocError, Global};
+use std::process::Abort;
+use std::test::Fail;
+use tab_core::compare_runs;
+use tab_history::{Act, Event, Refusal, Reply, Scan, Step, TimeMode};
+use tab_key::{Bound, Bounds, Cell, Items};
+use tab_label::AuthSet;
+use tab_mutation::Mutation;
+use tab_policy::{Permission, TablePermission};
+use tab_testing::{Random, name};
+
+fn event(user: &[u8], moment: i64, act: Act) -> Result<Step, Fail> {
+    let user = name(user)?;
+    Ok(Step::Event(Event { user, moment, act }))
+}
+
+fn next(user: &[u8], slot: u32, count: u32) -> Result<Step, Fail> {
+    let user = name(user)?;
+    Ok(Step::Next { user, slot, count })
+}
+
+// Authorizations of one byte each.
+fn auths(alloc: Global, letters: &[u8]) -> Result<AuthSet, AllocError> {
+    let mut terms = Vec::new(alloc);
+    for letter in letters {
+        terms.push(Vec::from_slice(alloc, &[*letter])?)?;
+    }
+    Ok(AuthSet::new(terms))
+}
+
+// A scan of all of t.
+fn opens(alloc: Global, user: &[u8], moment: i64, letters: &[u8]) -> Result<Step, Fail> {
+    let scan = Scan {
+        table: name(b"t")?,
+        bounds: Bounds {
+            low: Bound::Unbounded,
+            high: Bound::Unbounded,
+        },
+        columns: Items::new(alloc),
+        authorizations: auths(alloc, letters)?,
+    };
+    event(user, moment, Act::Open(scan))
+}
+
+// A put of a value to the one column of t.
+fn puts(
+    alloc: Global,
+    user: &[u8],
+    moment: i64,
+    label: &[u8],
+    timestamp: Option<i64>,
+    value: u8,
+) -> Result<Step, Fail> {
+    let mut mutation = Mutation::new(alloc, b"r")?;
+    mutation.put(b"f", b"q", label, timestamp, &[value])?;
+    event(user, moment, Act::Write(name(b"t")?, mutation))
+}
+
+fn deletes(
+    alloc: Global,
+    user: &[u8],
+    moment: i64,
+    label: &[u8],
+    timestamp: Option<i64>,
+) -> Result<Step, Fail> {
+    let mut mutation = Mutation::new(alloc, b"r")?;
+    mutation.delete(b"f", b"q", label, timestamp)?;
+    event(user, moment, Act::Write(name(b"t")?, mutation))
+}
+
+// A user with permission to read t and to write to it.
+fn make_user(
+    alloc: Global,
+    steps: &mut Vec<Step>,
+    user: &[u8],
+    letters: &[u8],
+) -> Result<(), Fail> {
+    let user = name(user)?;
+    let read = Permission::OfTable(TablePermission::Read, name(b"t")?);
+    let write = Permission::OfTable(TablePermission::Write, name(b"t")?);
+    let held = auths(alloc, letters)?;
+    steps.push(event(b"root", 0, Act::CreateUser(user))?)?;
+    steps.push(event(b"root", 0, Act::SetAuths(user, held))?)?;
+    steps.push(event(b"root", 0, Act::Grant(user, read))?)?;
+    steps.push(event(b"root", 0, Act::Grant(user, write))?)?;
+    Ok(())
+}
+
+// The table t of two versions; bob with A, eve and root with A and B.
+fn make_all(alloc: Global, steps: &mut Vec<Step>) -> Result<(), Fail> {
+    let table = Act::CreateTable(name(b"t")?, TimeMode::Any, 2);
+    steps.push(event(b"root", 0, table)?)?;
+    let held = auths(alloc, b"AB")?;
+    steps.push(event(b"root", 0, Act::SetAuths(name(b"root")?, held))?)?;
+    make_user(alloc, steps, b"bob", b"A")?;
+    make_user(alloc, steps, b"eve", b"AB")
+}
+
+fn add_copies(steps: &mut Vec<Step>, more: &[Step]) -> Result<(), AllocError> {
+    for step in more {
+        steps.push(step.clone()?)?;
+    }
+    Ok(())
+}
+
+// The cells, as `label@timestamp=value` with a comma after each.
+fn add_cells(alloc: Global, text: &mut Vec<u8>, cells: &[Cell]) -> Result<(), AllocError> {
+    for cell in cells {
+        text.extend_from_slice(cell.label())?;
+        text.push(b'@')?;
+        let timestamp = format!(in alloc; "{}", cell.timestamp())?;
+        text.extend_from_slice(timestamp.as_bytes())?;
+        text.push(b'=')?;
+        text.extend_from_slice(cell.value())?;
+        text.push(b',')?;
+    }
+    Ok(())
+}
+
+fn word_of(refusal: &Refusal) -> &'static [u8] {
+    match refusal {
+        Refusal::BadAuthorizations(_) => b"unheld",
+        Refusal::NoSession(_) => b"unopened",
+        Refusal::PermissionDenied(_) => b"denied",
+        _ => b"refused",
+    }
+}
+
+// The replies, with a blank after each.
+fn text_of(alloc: Global, replies: &[Reply]) -> Result<Vec<u8>, AllocError> {
+    let mut text = Vec::new(alloc);
+    for reply in replies {
+        match reply {
+            Reply::Done => text.extend_from_slice(b"ok")?,
+            Reply::Refused(refusal) => text.extend_from_slice(word_of(refusal))?,
+            Reply::Opened(_) => text.extend_from_slice(b"opened")?,
+            Reply::Batch(cells) => add_cells(alloc, &mut text, cells.as_slice())?,
+            Reply::Rights(rights) => {
+                for term in rights.authorizations.terms() {
+                    text.extend_from_slice(term)?;
+                }
+            }
+        }
+        text.push(b' ')?;
+    }
+    Ok(text)
+}
+
+// What others write under B, before bob's first scan.
+fn add_unseen(alloc: Global, steps: &mut Vec<Step>) -> Result<(), Fail> {
+    steps.push(puts(alloc, b"root", 0, b"B", Some(6), b'y')?)?;
+    steps.push(puts(alloc, b"eve", 0, b"B", Some(7), b'z')?)?;
+    steps.push(puts(alloc, b"eve", 0, b"A&B", None, b'w')?)?;
+    Ok(())
+}
+
+// Two batches of one of bob's scans, and one of another, with something unseen beside them or not.
+fn scanned(alloc: Global, has_more: bool) -> Result<Vec<Step>, Fail> {
+    let mut steps = Vec::new(alloc);
+    make_all(alloc, &mut steps)?;
+    steps.push(puts(alloc, b"root", 0, b"A", Some(5), b'x')?)?;
+    steps.push(puts(alloc, b"eve", 0, b"", None, b'v')?)?;
+    if has_more {
+        add_unseen(alloc, &mut steps)?;
+    }
+    steps.push(opens(alloc, b"bob", 1, b"A")?)?;
+    steps.push(next(b"bob", 0, 1)?)?;
+    if has_more {
+        steps.push(deletes(alloc, b"eve", 0, b"B", Some(7))?)?;
+    }
+    steps.push(next(b"bob", 0, 9)?)?;
+    steps.push(opens(alloc, b"bob", 1, b"AB")?)?;
+    steps.push(opens(alloc, b"bob", 1, b"A")?)?;
+    steps.push(next(b"bob", 1, 9)?)?;
+    steps.push(next(b"bob", 2, 9)?)?;
+    Ok(steps)
+}
+
+#[test]
+fn tells_bob_the_same(rt: HostRuntime) -> Result<(), Fail> {
+    let alloc = rt.alloc();
+    let first = scanned(alloc, false)?;
+    let second = scanned(alloc, true)?;
+    let bob = compare_runs(alloc, &first, &second, &name(b"bob")?)?;
+    let told = b"opened @0=v, A@5=x, unheld opened @0=v,A@5=x, unopened ".as_slice();
+    assert_eq!(rt; text_of(alloc, &bob.first)?.as_slice(), told);
+    assert_eq!(rt; text_of(alloc, &bob.second)?.as_slice(), told);
+    let eve = compare_runs(alloc, &first, &second, &name(b"eve")?)?;
+    assert_eq!(rt; text_of(alloc, &eve.first)?.as_slice(), b"ok ".as_slice());
+    assert_eq!(rt;
+        text_of(alloc, &eve.second)?.as_slice(),
+        b"ok ok ok ok ".as_slice()
+    );
+    let dan = compare_runs(alloc, &first, &second, &name(b"dan")?)?;
+    assert!(rt; dan.first.is_empty());
+    assert!(rt; dan.second.is_empty());
+    Ok(())
+}
+
+// One that is given, or none.
+fn random_timestamp(random: &mut Random) -> Option<i64> {
+    match random.below(5) {
+        0 => None,
+        given => Some(given as i64),
+    }
+}
+
+// A step of bob, or one of root that writes what he sees.
+fn random_step(alloc: Global, random: &mut Random, moment: i64) -> Result<Step, Fail> {
+    let value = b'a' + random.below(20) as u8;
+    let timestamp = random_timestamp(random);
+    let slot = random.below(4) as u32;
+    let count = 1 + random.below(3) as u32;
+    let label: &[u8] = if random.below(2) == 0 { b"" } else { b"A" };
+    match random.below(12) {
+        0..=1 => opens(alloc, b"bob", moment, label),
+        2 => opens(alloc, b"bob", moment, b"AB"),
+        3..=5 => next(b"bob", slot, count),
+        6 => Ok(Step::Close {
+            user: name(b"bob")?,
+            slot,
+        }),
+        7 => event(b"bob", moment, Act::Rights(name(b"t")?)),
+        8 => puts(alloc, b"bob", moment, label, timestamp, value),
+        9 => deletes(alloc, b"root", moment, label, timestamp),
+        _ => puts(alloc, b"root", moment, label, timestamp, value),
+    }
+}
+
+// A step of eve of which bob sees nothing.
+fn random_unseen(alloc: Global, random: &mut Random) -> Result<Step, Fail> {
+    let value = b'A' + random.below(20) as u8;
+    let timestamp = random_timestamp(random);
+    let label: &[u8] = if random.below(2) == 0 { b"B" } else { b"A&B" };
+    match random.below(8) {
+        0 => opens(alloc, b"eve", 0, b"AB"),
+        1 => next(b"eve", random.below(4) as u32, 5),
+        2 => event(b"eve", 0, Act::CreateUser(name(b"dan")?)),
+        3 => deletes(alloc, b"eve", 0, label, timestamp),
+        _ => puts(alloc, b"eve", 0, label, timestamp, value),
+    }
+}
+
+// Root scans all.
+fn add_last_scan(alloc: Global, steps: &mut Vec<Step>) -> Result<(), Fail> {
+    steps.push(opens(alloc, b"root", 30, b"AB")?)?;
+    steps.push(next(b"root", 0, 100)?)?;
+    Ok(())
+}
+
+// Some steps, and the same with steps of eve among them. At the end root scans all.
+fn random_pair(alloc: Global, random: &mut Random) -> Result<(Vec<Step>, Vec<Step>), Fail> {
+    let mut first = Vec::new(alloc);
+    make_all(alloc, &mut first)?;
+    let mut second = Vec::new(alloc);
+    add_copies(&mut second, &first)?;
+    for moment in 1..30i64 {
+        let step = random_step(alloc, random, moment)?;
+        second.push(step.clone()?)?;
+        first.push(step)?;
+        if random.below(2) == 0 {
+            second.push(random_unseen(alloc, random)?)?;
+        }
+    }
+    add_last_scan(alloc, &mut first)?;
+    add_last_scan(alloc, &mut second)?;
+    Ok((first, second))
+}
+
+// Whether the user is told the same in both runs, and how much text that is in the first.
+fn is_alike(
+    alloc: Global,
+    first: &[Step],
+    second: &[Step],
+    user: &[u8],
+) -> Result<(bool, usize), Fail> {
+    let told = compare_runs(alloc, first, second, &name(user)?)?;
+    let text = text_of(alloc, &told.first)?;
+    let is_same = text == text_of(alloc, &told.second)?;
+    Ok((is_same, text.len()))
+}
+
+#[test]
+fn tells_bob_the_same_in_random_pairs(rt: HostRuntime) -> Result<(), Fail> {
+    let alloc = rt.alloc();
+    let mut random = Random::new(11);
+    let mut len = 0usize;
+    let mut differing = 0u32;
+    for _ in 0..300 {
+        let (first, second) = random_pair(alloc, &mut random)?;
+        let (is_same, told) = is_alike(alloc, &first, &second, b"bob")?;
+        assert!(rt; is_same);
+        len = len.saturating_add(told);
+        let (is_same, _) = is_alike(alloc, &first, &second, b"root")?;
+        if !is_same {
+            differing = differing.saturating_add(1);
+        }
+    }
+    assert!(rt; len > 30_000, "{len} bytes were told");
+    assert!(rt; differing > 200, "{differing} pairs differ for root");
+    Ok(())
+}

@@ -1,0 +1,165 @@
+//! Random writes and scans through a core, beside the model of the updates that it accepted.
+
+use std::alloc::Global;
+use std::process::Abort;
+use std::test::Fail;
+use tab_core::{Core, Session};
+use tab_history::{Act, Event, Reply, Scan, TimeMode};
+use tab_key::{Cell, Items};
+use tab_testing::{Query, Random, Update, auths_of, mutation_of, name, scanned};
+
+const ROWS: [&[u8]; 3] = [b"k", b"l", b"m"];
+
+// What root is answered.
+fn asked(core: &mut Core, alloc: Global, moment: u8, act: Act) -> Result<Reply<Session>, Fail> {
+    let user = name(b"root")?;
+    let moment = i64::from(moment);
+    Ok(core.step(alloc, Event { user, moment, act }))
+}
+
+// A core with the table `t`, which shows so many versions, and with root's authorizations A and B.
+fn prepared(alloc: Global, versions: u32) -> Result<Core, Fail> {
+    let mut core = Core::new(alloc)?;
+    let made = Act::CreateTable(name(b"t")?, TimeMode::Any, versions);
+    let _ = asked(&mut core, alloc, 0, made)?;
+    let held = Act::SetAuths(name(b"root")?, auths_of(alloc, &[b"A", b"B"])?);
+    let _ = asked(&mut core, alloc, 0, held)?;
+    Ok(core)
+}
+
+// Up to four updates of a row, one in forty under a malformed label.
+fn random_updates(alloc: Global, random: &mut Random, moment: u8) -> Result<Vec<Update>, Fail> {
+    let row = random.one_of(&ROWS);
+    let mut updates = random.updates(alloc, row, moment, i64::from(moment))?;
+    for update in updates.iter_mut() {
+        if random.below(40) == 0 {
+            update.label = b"(";
+        }
+    }
+    Ok(updates)
+}
+
+// A core accepts a mutation of well-formed labels, unless it is empty.
+fn is_acceptable(updates: &[Update]) -> bool {
+    !updates.is_empty() && updates.iter().all(|update| update.label != b"(".as_slice())
+}
+
+// Asks the core to write the mutation, and adds it to the table if the core is to accept it.
+fn write(
+    rt: &impl Abort,
+    alloc: Global,
+    core: &mut Core,
+    table: &mut Vec<Update>,
+    moment: u8,
+    updates: &[Update],
+) -> Result<(), Fail> {
+    let row = updates.first().map_or(b"k".as_slice(), |update| update.row);
+    let act = Act::Write(name(b"t")?, mutation_of(alloc, row, updates)?);
+    let is_done = matches!(asked(core, alloc, moment, act)?, Reply::Done);
+    assert_eq!(rt; is_done, is_acceptable(updates));
+    if is_done {
+        for update in updates {
+            table.push(*update)?;
+        }
+    }
+    Ok(())
+}
+
+// The batch is as long as was asked, or as the rest of the updates, and begins that rest; what is left then.
+fn expect_batch<'a>(
+    rt: &impl Abort,
+    batch: &[Cell],
+    count: u32,
+    rest: &'a [Update],
+) -> &'a [Update] {
+    assert_eq!(rt; batch.len(), rest.len().min(count as usize));
+    for (cell, update) in batch.iter().zip(rest) {
+        assert!(rt; update.is_cell(cell));
+    }
+    rest.get(batch.len()..).unwrap_or(&[])
+}
+
+// The session shows these updates, in batches of 1, 2 and 1,000 in turn, beginning with any of the three.
+fn expect_cells(
+    rt: &impl Abort,
+    alloc: Global,
+    mut session: Session,
+    first: u64,
+    want: &[Update],
+) -> Result<(), Fail> {
+    let mut rest = want;
+    for turn in 0..4u64 {
+        let count = [1, 2, 1000][(first % 3 + turn) as usize % 3];
+        let batch = session.next_batch(alloc, count)?;
+        rest = expect_batch(rt, batch.as_slice(), count, rest);
+    }
+    assert!(rt; rest.is_empty());
+    Ok(())
+}
+
+fn scan_of(alloc: Global, query: &Query) -> Result<Scan, Fail> {
+    Ok(Scan {
+        table: name(b"t")?,
+        bounds: query.bounds(alloc)?,
+        columns: Items::from_vec(query.columns(alloc)?),
+        authorizations: query.auths(alloc)?,
+    })
+}
+
+// A session of the core gives what the model shows; how many cells. A range that is backwards is refused.
+fn expect_scan(
+    rt: &impl Abort,
+    alloc: Global,
+    core: &mut Core,
+    table: &[Update],
+    moment: u8,
+    query: &Query,
+) -> Result<usize, Fail> {
+    let scan = scan_of(alloc, query)?;
+    let is_bad = scan.bounds.is_bad();
+    match asked(core, alloc, moment, Act::Open(scan))? {
+        Reply::Opened(session) => {
+            let want = scanned(alloc, table, query)?;
+            expect_cells(rt, alloc, session, u64::from(moment), &want)?;
+            Ok(want.len())
+        }
+        _ => {
+            assert!(rt; is_bad, "a scan was refused");
+            Ok(0)
+        }
+    }
+}
+
+// Sixteen writes and scans of a new table; how many cells they showed.
+fn play(rt: &impl Abort, alloc: Global, random: &mut Random) -> Result<usize, Fail> {
+    let versions = 1 + random.below(3) as u32;
+    let mut core = prepared(alloc, versions)?;
+    let mut table = Vec::new(alloc);
+    let mut shown = 0usize;
+    for moment in 0..16u8 {
+        if random.below(3) == 0 {
+            let query = Query {
+                versions,
+                ..random.query(&ROWS)
+            };
+            let count = expect_scan(rt, alloc, &mut core, &table, moment, &query)?;
+            shown = shown.saturating_add(count);
+        } else {
+            let updates = random_updates(alloc, random, moment)?;
+            write(rt, alloc, &mut core, &mut table, moment, &updates)?;
+        }
+    }
+    Ok(shown)
+}
+
+#[test]
+fn a_core_shows_what_the_model_shows(rt: HostRuntime) -> Result<(), Fail> {
+    let mut random = Random::new(11);
+    let mut shown = 0usize;
+    for _ in 0..3000 {
+        let count = play(&rt, rt.alloc(), &mut random)?;
+        shown = shown.saturating_add(count);
+    }
+    assert!(rt; shown > 20_000, "{shown} cells were shown");
+    Ok(())
+}

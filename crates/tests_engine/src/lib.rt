@@ -1,0 +1,28 @@
+//! Tests of the engine by its public calls: layers over sources, the memory part of a table, versions, sessions and tablets.
+//!
+//! A crate of its own, since tests inside a crate have it proved twice.
+//!
+//! | File | What is tested |
+//! |---|---|
+//! | `layers` | each layer and the stack of them, over a small table; `failing`: over a source that fails once; `many`: many sources merged |
+//! | `runs` | writing, freezing, and cursors over parts of a run |
+//! | `versions` | clips of runs, and the stack over several |
+//! | `sessions` | batches of every size |
+//! | `tablets` | scans of what was written, beside the model |
+//! | `writing`, `reading` | helpers: runs and versions of what is written, and what a source has left |
+#![tactic(auto)]
+
+#[cfg(test)]
+mod layers;
+#[cfg(test)]
+mod reading;
+#[cfg(test)]
+mod runs;
+#[cfg(test)]
+mod sessions;
+#[cfg(test)]
+mod tablets;
+#[cfg(test)]
+mod versions;
+#[cfg(test)]
+mod writing;

@@ -1,0 +1,107 @@
+//! Random mutations, written and frozen, beside the order of updates.
+
+use crate::reading::expect_rest;
+use crate::writing::{CLOCK, fill};
+use std::alloc::{AllocError, Global};
+use std::process::Abort;
+use std::test::Fail;
+use tab_iter::Source;
+use tab_mem::{Active, Run, RunCursor};
+use tab_testing::{Random, Update, from_key, in_rows, sort};
+
+// Rows in the order of their bytes, some alike in their first 16.
+const ROWS: [&[u8]; 8] = [
+    b"",
+    b"\0",
+    b"k",
+    b"k\0",
+    b"kkkkkkkkkkkkkkkk",
+    b"kkkkkkkkkkkkkkkk\0",
+    b"kkkkkkkkkkkkkkkkl",
+    b"\xff",
+];
+
+fn random_update(random: &mut Random) -> Update {
+    let row = random.one_of(&ROWS);
+    random.update(row, 0, 0, CLOCK)
+}
+
+// The cursor has these records left, and behind each seek, from wherever it stands, those from the key on.
+fn expect_seeks(
+    rt: &impl Abort,
+    alloc: Global,
+    mut cursor: RunCursor<'_>,
+    updates: &[Update],
+    random: &mut Random,
+) -> Result<(), AllocError> {
+    expect_rest(rt, alloc, &mut cursor, updates)?;
+    for _ in 0..10 {
+        let sought = random_update(random);
+        Source::seek(&mut cursor, sought.key()).or(Err(AllocError))?;
+        expect_rest(rt, alloc, &mut cursor, &from_key(alloc, updates, &sought)?)?;
+    }
+    Ok(())
+}
+
+// A part of the run, and of this some rows.
+fn expect_part(
+    rt: &impl Abort,
+    alloc: Global,
+    run: &Run,
+    updates: &[Update],
+    random: &mut Random,
+) -> Result<(), AllocError> {
+    let end = (random.below(30) as usize).min(run.len());
+    let from = (random.below(30) as usize).min(end);
+    let part = updates.get(from..end).unwrap_or(&[]);
+    expect_seeks(rt, alloc, RunCursor::over(run, from, end), part, random)?;
+    let low = random.end(&ROWS);
+    let high = random.end(&ROWS);
+    let rows = run.rows_in(from, end, &low.to(alloc, high)?);
+    let want = in_rows(alloc, part, low, high)?;
+    expect_rest(
+        rt,
+        alloc,
+        &mut RunCursor::over(run, rows.start, rows.end),
+        &want,
+    )
+}
+
+#[test]
+fn freezes_in_order(rt: HostRuntime) -> Result<(), Fail> {
+    let alloc = rt.alloc();
+    let mut random = Random::new(7);
+    let mut active = Active::new(alloc);
+    for _ in 0..50 {
+        assert!(rt; active.is_empty());
+        let mut table = Vec::new(alloc);
+        fill(
+            &rt,
+            alloc,
+            &mut random,
+            &mut active,
+            &ROWS,
+            0,
+            8,
+            &mut table,
+        )?;
+        assert_eq!(rt; active.len(), table.len());
+        let frozen = match active.freeze(alloc) {
+            Ok(run) => run,
+            Err(_) => {
+                assert_eq!(rt; active.len(), table.len());
+                active.freeze(alloc)?
+            }
+        };
+        sort(&mut table);
+        assert_eq!(rt;
+            (frozen.len(), frozen.is_empty()),
+            (table.len(), table.is_empty())
+        );
+        expect_seeks(&rt, alloc, RunCursor::new(&frozen), &table, &mut random)?;
+        for _ in 0..10 {
+            expect_part(&rt, alloc, &frozen, &table, &mut random)?;
+        }
+    }
+    Ok(())
+}

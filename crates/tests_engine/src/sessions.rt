@@ -1,0 +1,240 @@
+//! A small table in three runs, read in batches of every size.
+
+use crate::writing::{self, add};
+use std::alloc::{AllocError, Global};
+use std::process::Abort;
+use std::test::Fail;
+use tab_key::{Cell, Items};
+use tab_label::AuthSet;
+use tab_mem::Active;
+use tab_mutation::Mutation;
+use tab_session::Session;
+use tab_testing::{auths_of, family};
+use tab_version::{Clip, Version};
+
+// A put or a delete marker. Its name is its value and the number of its mutation.
+#[derive(Clone, Copy)]
+struct Line {
+    row: &'static [u8],
+    family: &'static [u8],
+    label: &'static [u8],
+    timestamp: i64,
+    is_put: bool,
+    name: u8,
+}
+
+fn put(
+    row: &'static [u8],
+    family: &'static [u8],
+    label: &'static [u8],
+    timestamp: i64,
+    name: u8,
+) -> Line {
+    Line {
+        row,
+        family,
+        label,
+        timestamp,
+        is_put: true,
+        name,
+    }
+}
+
+fn delete(row: &'static [u8], family: &'static [u8], timestamp: i64, name: u8) -> Line {
+    Line {
+        row,
+        family,
+        label: b"",
+        timestamp,
+        is_put: false,
+        name,
+    }
+}
+
+// The oldest run: of row a there are two puts of one key.
+fn old_lines() -> [Line; 6] {
+    [
+        put(b"a", b"f", b"", 5, b'0'),
+        put(b"a", b"f", b"", 5, b'1'),
+        put(b"a", b"f", b"", 3, b'2'),
+        put(b"b", b"f", b"", 9, b'3'),
+        put(b"b", b"g", b"x", 1, b'4'),
+        put(b"d", b"f", b"", 1, b'5'),
+    ]
+}
+
+// The next run: one more put of that key, and a marker.
+fn later_lines() -> [Line; 5] {
+    [
+        put(b"a", b"f", b"", 5, b'A'),
+        delete(b"b", b"f", 9, b'B'),
+        put(b"b", b"f", b"", 10, b'C'),
+        put(b"c", b"g", b"", 2, b'D'),
+        put(b"a", b"f", b"", 9, b'E'),
+    ]
+}
+
+// The newest run: three puts of one key.
+fn new_lines() -> [Line; 4] {
+    [
+        put(b"c", b"f", b"", 2, b'a'),
+        put(b"c", b"f", b"", 2, b'b'),
+        put(b"c", b"f", b"", 2, b'c'),
+        put(b"d", b"f", b"", 2, b'd'),
+    ]
+}
+
+fn write(
+    rt: &impl Abort,
+    alloc: Global,
+    active: &mut Active,
+    line: &Line,
+) -> Result<(), AllocError> {
+    let mut mutation = Mutation::new(alloc, line.row)?;
+    if line.is_put {
+        mutation.put(
+            line.family,
+            b"q",
+            line.label,
+            Some(line.timestamp),
+            &[line.name],
+        )?;
+    } else {
+        mutation.delete(line.family, b"q", line.label, Some(line.timestamp))?;
+    }
+    writing::write(rt, active, &mutation, u64::from(line.name))
+}
+
+fn clip_of(rt: &impl Abort, alloc: Global, lines: &[Line]) -> Result<Clip, AllocError> {
+    let mut active = Active::new(alloc);
+    for line in lines {
+        write(rt, alloc, &mut active, line)?;
+    }
+    Ok(Clip::whole(active.freeze(alloc)?))
+}
+
+fn table(rt: &impl Abort, alloc: Global) -> Result<Version, AllocError> {
+    let mut clips = Vec::new(alloc);
+    let clip = clip_of(rt, alloc, &old_lines())?;
+    add(rt, alloc, &mut clips, clip, 0, 64)?;
+    let clip = clip_of(rt, alloc, &later_lines())?;
+    add(rt, alloc, &mut clips, clip, 64, 96)?;
+    let clip = clip_of(rt, alloc, &new_lines())?;
+    add(rt, alloc, &mut clips, clip, 96, 128)?;
+    Ok(Version::new(clips))
+}
+
+fn whole_table(rt: &impl Abort, alloc: Global, versions: u32) -> Result<Session, AllocError> {
+    let version = table(rt, alloc)?;
+    let columns = Items::new(alloc);
+    let auths = AuthSet::empty(alloc);
+    Ok(Session::new(version, columns, auths, versions))
+}
+
+// The next cells. Where memory is refused, the session is asked once more, and finds all as it was.
+fn batch(alloc: Global, session: &mut Session, count: u32) -> Result<Items<Cell>, AllocError> {
+    match session.next_batch(alloc, count) {
+        Ok(cells) => Ok(cells),
+        Err(_) => session.next_batch(alloc, count),
+    }
+}
+
+// The names of the cells.
+fn names(alloc: Global, cells: &Items<Cell>) -> Result<Vec<u8>, AllocError> {
+    let mut names = Vec::new(alloc);
+    for cell in cells.as_slice() {
+        names.extend_from_slice(cell.value())?;
+    }
+    Ok(names)
+}
+
+fn expect(
+    rt: &impl Abort,
+    alloc: Global,
+    session: &mut Session,
+    count: u32,
+    want: &[u8],
+) -> Result<(), AllocError> {
+    let cells = batch(alloc, session, count)?;
+    assert_eq!(rt; names(alloc, &cells)?.as_slice(), want);
+    Ok(())
+}
+
+// The table with this many versions of a column.
+const SHOWN: [(u32, &[u8]); 4] = [
+    (0, b""),
+    (1, b"ECcDd"),
+    (3, b"EA1CcbaDd5"),
+    (9, b"EA102CcbaDd5"),
+];
+
+#[test]
+fn gives_all_at_once(rt: HostRuntime) -> Result<(), Fail> {
+    let alloc = rt.alloc();
+    for (versions, want) in SHOWN {
+        let mut session = whole_table(&rt, alloc, versions)?;
+        expect(&rt, alloc, &mut session, u32::MAX, want)?;
+        expect(&rt, alloc, &mut session, u32::MAX, b"")?;
+    }
+    Ok(())
+}
+
+#[test]
+fn gives_batches_of_each_size(rt: HostRuntime) -> Result<(), Fail> {
+    let alloc = rt.alloc();
+    for (versions, want) in SHOWN {
+        for size in 1..8 {
+            let mut session = whole_table(&rt, alloc, versions)?;
+            for part in want.chunks(size) {
+                expect(&rt, alloc, &mut session, size as u32, part)?;
+            }
+            expect(&rt, alloc, &mut session, size as u32, b"")?;
+        }
+    }
+    Ok(())
+}
+
+#[test]
+fn gives_none_when_none_are_asked(rt: HostRuntime) -> Result<(), Fail> {
+    let alloc = rt.alloc();
+    let mut session = whole_table(&rt, alloc, 9)?;
+    for want in [b"E", b"A", b"1", b"0", b"2", b"C"] {
+        expect(&rt, alloc, &mut session, 0, b"")?;
+        expect(&rt, alloc, &mut session, 1, want)?;
+    }
+    Ok(())
+}
+
+#[test]
+fn asks_for_columns_and_labels(rt: HostRuntime) -> Result<(), Fail> {
+    let alloc = rt.alloc();
+    let version = table(&rt, alloc)?;
+    let mut columns = Vec::new(alloc);
+    columns.push(family(alloc, b"g")?)?;
+    let auths = auths_of(alloc, &[b"x"])?;
+    let mut session = Session::new(version, Items::from_vec(columns), auths, 1);
+    expect(&rt, alloc, &mut session, 1, b"4")?;
+    expect(&rt, alloc, &mut session, 2, b"D")?;
+    Ok(())
+}
+
+#[test]
+fn shows_nothing_of_later_writes(rt: HostRuntime) -> Result<(), Fail> {
+    let alloc = rt.alloc();
+    let mut active = Active::new(alloc);
+    write(&rt, alloc, &mut active, &put(b"a", b"f", b"", 1, b'0'))?;
+    write(&rt, alloc, &mut active, &put(b"c", b"f", b"", 1, b'1'))?;
+    let mut clips = Vec::new(alloc);
+    let clip = Clip::whole(active.freeze(alloc)?);
+    add(&rt, alloc, &mut clips, clip, 0, 64)?;
+    let version = Version::new(clips);
+    let (columns, auths) = (Items::new(alloc), AuthSet::empty(alloc));
+    let mut session = Session::new(version, columns, auths, 1);
+    expect(&rt, alloc, &mut session, 1, b"0")?;
+    write(&rt, alloc, &mut active, &put(b"b", b"f", b"", 1, b'2'))?;
+    write(&rt, alloc, &mut active, &delete(b"c", b"f", 9, b'3'))?;
+    let later = active.freeze(alloc)?;
+    assert_eq!(rt; later.len(), 2);
+    expect(&rt, alloc, &mut session, 9, b"1")?;
+    Ok(())
+}

@@ -1,0 +1,60 @@
+//! Scans of a tablet, beside the model. Tablets of many writes are tested through the core that writes them.
+
+use crate::reading::expect_scan;
+use std::alloc::{AllocError, Global};
+use std::process::Abort;
+use std::test::Fail;
+use tab_mutation::Mutation;
+use tab_tablet::Tablet;
+use tab_testing::{Random, Update, mutation_of, scanned};
+
+const ROWS: [&[u8]; 2] = [b"k", b"l"];
+
+// The moment of all writes.
+const CLOCK: i64 = 1;
+
+fn random_update(random: &mut Random) -> Update {
+    let row = random.one_of(&ROWS);
+    random.update(row, 0, 0, CLOCK)
+}
+
+// A tablet of one mutation.
+#[tactic(auto, using(crate::proofs::Later::nothing_older))]
+fn written(alloc: Global, mutation: &Mutation) -> Result<Tablet, AllocError> {
+    let mut tablet = Tablet::new(alloc);
+    tablet.write(mutation, 0, CLOCK)?;
+    Ok(tablet)
+}
+
+// A random scan of the tablet shows what one of the table shows; how many records.
+fn compare(
+    rt: &impl Abort,
+    alloc: Global,
+    random: &mut Random,
+    tablet: &mut Tablet,
+    table: &[Update],
+) -> Result<usize, AllocError> {
+    let query = random.query(&ROWS);
+    let version = tablet.open(alloc, &query.bounds(alloc)?)?;
+    let want = scanned(alloc, table, &query)?;
+    expect_scan(rt, alloc, &version, &query, &want, &random_update(random))?;
+    Ok(want.len())
+}
+
+#[test]
+fn a_tablet_shows_what_the_model_shows(rt: HostRuntime) -> Result<(), Fail> {
+    let alloc = rt.alloc();
+    let mut random = Random::new(5);
+    let mut shown = 0usize;
+    for _ in 0..400 {
+        let row = random.one_of(&ROWS);
+        let table = random.updates(alloc, row, 0, CLOCK)?;
+        let mut tablet = written(alloc, &mutation_of(alloc, row, &table)?)?;
+        for _ in 0..3 {
+            let count = compare(&rt, alloc, &mut random, &mut tablet, &table)?;
+            shown = shown.saturating_add(count);
+        }
+    }
+    assert!(rt; shown > 100, "{shown} records were shown");
+    Ok(())
+}

@@ -1,0 +1,163 @@
+//! Random runs, clipped and read through a stack, beside the model.
+
+use crate::reading::{expect_rest, expect_scan};
+use crate::writing::{CLOCK, add, fill};
+use std::alloc::{AllocError, Global};
+use std::process::Abort;
+use std::sync::Arc;
+use std::test::Fail;
+use tab_iter::Source;
+use tab_mem::{Active, Run};
+use tab_testing::{End, Query, Random, Update, from_key, in_rows, scanned, sort};
+use tab_version::{Clip, Version};
+
+const ROWS: [&[u8]; 4] = [b"", b"a", b"b\0", b"c"];
+
+// The rows, and byte strings between them, in the order of their bytes.
+const EDGES: [&[u8]; 9] = [b"", b"\0", b"a", b"b", b"b\0", b"bb", b"c", b"d", b"\xff"];
+
+fn random_update(random: &mut Random) -> Update {
+    let row = random.one_of(&ROWS);
+    random.update(row, 0, 0, CLOCK)
+}
+
+// A run of four mutations, numbered from here on, which are added to the table.
+fn random_run(
+    rt: &impl Abort,
+    alloc: Global,
+    random: &mut Random,
+    first: u8,
+    table: &mut Vec<Update>,
+) -> Result<Arc<Run>, AllocError> {
+    let mut active = Active::new(alloc);
+    fill(rt, alloc, random, &mut active, &ROWS, first, 4, table)?;
+    active.freeze(alloc)
+}
+
+// The clip has these records, and no others, also from a key on.
+fn expect_clip(
+    rt: &impl Abort,
+    alloc: Global,
+    clip: &Clip,
+    want: &[Update],
+    sought: &Update,
+) -> Result<(), AllocError> {
+    assert_eq!(rt;
+        (clip.len(), clip.is_empty()),
+        (want.len(), want.is_empty())
+    );
+    let mut cursor = clip.cursor();
+    expect_rest(rt, alloc, &mut cursor, want)?;
+    Source::seek(&mut cursor, sought.key()).or(Err(AllocError))?;
+    expect_rest(rt, alloc, &mut cursor, &from_key(alloc, want, sought)?)
+}
+
+// The clip has the rows between the ends, and no others; it is handed on with them.
+fn clipped(
+    rt: &impl Abort,
+    alloc: Global,
+    clip: &Clip,
+    updates: &[Update],
+    low: End,
+    random: &mut Random,
+) -> Result<(Clip, Vec<Update>), AllocError> {
+    let high = random.end(&EDGES);
+    let within = clip.in_rows(&low.to(alloc, high)?)?;
+    let want = in_rows(alloc, updates, low, high)?;
+    expect_clip(rt, alloc, &within, &want, &random_update(random))?;
+    Ok((within, want))
+}
+
+// The clip of the clip from each edge on.
+fn expect_clips(
+    rt: &impl Abort,
+    alloc: Global,
+    clip: &Clip,
+    updates: &[Update],
+    random: &mut Random,
+) -> Result<(), AllocError> {
+    let _ = clipped(rt, alloc, clip, updates, End::Open, random)?;
+    for edge in EDGES {
+        let _ = clipped(rt, alloc, clip, updates, End::In(edge), random)?;
+        let _ = clipped(rt, alloc, clip, updates, End::Out(edge), random)?;
+    }
+    Ok(())
+}
+
+#[test]
+fn clips_rows(rt: HostRuntime) -> Result<(), Fail> {
+    let alloc = rt.alloc();
+    let mut random = Random::new(3);
+    for _ in 0..20 {
+        let mut table = Vec::new(alloc);
+        let run = random_run(&rt, alloc, &mut random, 0, &mut table)?;
+        sort(&mut table);
+        let whole = Clip::whole(run);
+        expect_clip(&rt, alloc, &whole, &table, &random_update(&mut random))?;
+        for _ in 0..20 {
+            let low = random.end(&EDGES);
+            let (clip, within) = clipped(&rt, alloc, &whole, &table, low, &mut random)?;
+            expect_clips(&rt, alloc, &clip, &within, &mut random)?;
+        }
+    }
+    Ok(())
+}
+
+// A clip of a new run in any range; the records in it are added to the table.
+fn random_clip(
+    rt: &impl Abort,
+    alloc: Global,
+    random: &mut Random,
+    first: u8,
+    table: &mut Vec<Update>,
+) -> Result<Clip, AllocError> {
+    let mut written = Vec::new(alloc);
+    let whole = Clip::whole(random_run(rt, alloc, random, first, &mut written)?);
+    let low = random.end(&EDGES);
+    let high = random.end(&EDGES);
+    for update in &in_rows(alloc, &written, low, high)? {
+        table.push(*update)?;
+    }
+    whole.in_rows(&low.to(alloc, high)?)
+}
+
+// Three clips of runs of their own, and what stands in them.
+fn random_version(
+    rt: &impl Abort,
+    alloc: Global,
+    random: &mut Random,
+    table: &mut Vec<Update>,
+) -> Result<Version, AllocError> {
+    let mut clips = Vec::new(alloc);
+    let first = random_clip(rt, alloc, random, 0, table)?;
+    add(rt, alloc, &mut clips, first, 0, 4)?;
+    let second = random_clip(rt, alloc, random, 4, table)?;
+    add(rt, alloc, &mut clips, second, 4, 8)?;
+    let third = random_clip(rt, alloc, random, 8, table)?;
+    add(rt, alloc, &mut clips, third, 8, 12)?;
+    Ok(Version::new(clips))
+}
+
+#[test]
+fn stacks_clips(rt: HostRuntime) -> Result<(), Fail> {
+    let alloc = rt.alloc();
+    let mut random = Random::new(5);
+    let mut shown = 0usize;
+    for _ in 0..300 {
+        let mut table = Vec::new(alloc);
+        let version = random_version(&rt, alloc, &mut random, &mut table)?;
+        for _ in 0..4 {
+            let query = Query {
+                low: End::Open,
+                high: End::Open,
+                ..random.query(&ROWS)
+            };
+            let sought = random_update(&mut random);
+            let want = scanned(alloc, &table, &query)?;
+            expect_scan(&rt, alloc, &version, &query, &want, &sought)?;
+            shown = shown.saturating_add(want.len());
+        }
+    }
+    assert!(rt; shown > 2000, "{shown} records were shown");
+    Ok(())
+}

@@ -1,0 +1,135 @@
+//! Runs and versions of what is written.
+ghost use Rattle.std.specs.Prelude.{◌≡◌, ◌≤◌, ◌<◌, All, IfOk, OnOk, IsTrue};
+ghost use Rattle.tab_key.specs.Sorted.{IsDistinct};
+ghost use Rattle.tab_iter.specs.Bags.{flat};
+ghost use Rattle.tab_iter.specs.Lists.{IsRising};
+
+use std::alloc::{AllocError, Global};
+use std::process::Abort;
+use tab_iter::Source;
+use tab_key::RecordRef;
+use tab_mem::Active;
+use tab_mutation::Mutation;
+use tab_testing::{Random, Update, mutation_of};
+use tab_version::Clip;
+
+/// The moment of all writes.
+pub const CLOCK: i64 = 2;
+
+// Whether no record has this number or a later one.
+fn is_new(active: &Active, seq: u64) -> bool
+    ensures { IsTrue result → All (λ u. u.seq < seq) active.now }
+{
+    for index in 0..active.len() {
+        if active.get(index).seq() >= seq {
+            return false;
+        }
+    }
+    true
+}
+
+/// Writes the mutation, and once more where memory is refused: then it finds all as it was.
+pub fn write(
+    rt: &impl Abort,
+    active: &mut Active,
+    mutation: &Mutation,
+    seq: u64,
+) -> Result<(), AllocError> {
+    assert!(rt; is_new(active, seq));
+    let before = active.len();
+    if active.write(mutation, seq, CLOCK).is_ok() {
+        return Ok(());
+    }
+    assert_eq!(rt; active.len(), before);
+    active.write(mutation, seq, CLOCK)
+}
+
+/// Writes as many random mutations of the rows, numbered from here on, and adds them to the table.
+pub fn fill(
+    rt: &impl Abort,
+    alloc: Global,
+    random: &mut Random,
+    active: &mut Active,
+    rows: &[&'static [u8]],
+    first: u8,
+    count: u8,
+    table: &mut Vec<Update>,
+) -> Result<(), AllocError> {
+    for number in 0..count {
+        let seq = first.saturating_add(number);
+        let row = random.one_of(rows);
+        let updates = random.updates(alloc, row, seq, CLOCK)?;
+        let mutation = mutation_of(alloc, row, &updates)?;
+        write(rt, active, &mutation, u64::from(seq))?;
+        for update in &updates {
+            table.push(*update)?;
+        }
+    }
+    Ok(())
+}
+
+// The records of the clip.
+fn records_of<'a>(alloc: Global, clip: &'a Clip) -> Result<Vec<RecordRef<'a>>, AllocError>
+    ensures { IfOk result (λ v. v.items ≡ clip.now) }
+{
+    let mut records = Vec::new(alloc);
+    let mut cursor = clip.cursor();
+    for _ in 0..clip.len() {
+        if let Some(record) = cursor.top() {
+            records.push(record)?;
+        }
+        cursor.advance()?;
+    }
+    Ok(records)
+}
+
+// Whether each record has a number from one up to another, that one excluded.
+fn are_between(records: &[RecordRef<'_>], from: u64, to: u64) -> bool
+    ensures { IsTrue result → All (λ u. (from ≤ u.seq) × (u.seq < to)) records.now }
+{
+    for record in records {
+        let seq = record.seq();
+        if seq < from || seq >= to {
+            return false;
+        }
+    }
+    true
+}
+
+// Sees that each record of the clip has a number from one up to another, that one excluded.
+fn check_between(
+    rt: &impl Abort,
+    alloc: Global,
+    clip: &Clip,
+    from: u64,
+    to: u64,
+) -> Result<(), AllocError>
+    ensures rising { OnOk result (IsRising clip.now) }
+    ensures order { OnOk result (from ≤ to) }
+    ensures between { OnOk result (All (λ u. (from ≤ u.seq) × (u.seq < to)) clip.now) }
+{
+    let _count = clip.len();
+    let records = records_of(alloc, clip)?;
+    assert!(rt; from <= to);
+    assert!(rt; are_between(&records, from, to));
+    Ok(())
+}
+
+/// Adds a clip, whose records have later numbers than those before it.
+pub fn add(
+    rt: &impl Abort,
+    alloc: Global,
+    clips: &mut Vec<Clip>,
+    clip: Clip,
+    from: u64,
+    to: u64,
+) -> Result<(), AllocError>
+    requires distinct { IsDistinct (flat clips.old.items) }
+    requires older { All (λ u. u.seq < from) (flat clips.old.items) }
+    ensures distinct { OnOk result (IsDistinct (flat clips.new.items)) }
+    ensures older { OnOk result (All (λ u. u.seq < to) (flat clips.new.items)) }
+{
+    check_between(rt, alloc, &clip, from, to)?;
+    clips.push(clip)?;
+    Ok(())
+}

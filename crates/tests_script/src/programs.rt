@@ -1,0 +1,38 @@
+//! A subcommand from its input to its output.
+use std::io::ErrorKind;
+use std::test::Fail;
+use tab_io::memory::{Fault, PieceReader, PieceWriter};
+use tab_io::{BlockReader, BlockWriter};
+use tab_prog::{ProgramFault, script};
+
+const LINES: &[u8] = b"createtable t\ninsert t r f q \\e v 5\nscan t \\0\n";
+
+#[test]
+fn answers_all_lines(rt: HostRuntime) -> Result<(), Fail> {
+    let alloc = rt.alloc();
+    let mut input = BlockReader::new(alloc, PieceReader::new(LINES, 10))?;
+    let mut output = BlockWriter::new(alloc, PieceWriter::new(alloc, 10))?;
+    assert!(rt; script(alloc, &mut input, &mut output) == Ok(()));
+    assert_eq!(rt;
+        output.get_ref().bytes(),
+        b"ok\nok\nr f q \\e 5 v\nend\n".as_slice()
+    );
+    Ok(())
+}
+
+#[test]
+fn tells_which_side_failed(rt: HostRuntime) -> Result<(), Fail> {
+    let alloc = rt.alloc();
+    let kind = ErrorKind::Other;
+    let reader = PieceReader::new(LINES, 14).failing(Fault { after: 1, kind });
+    let mut input = BlockReader::new(alloc, reader)?;
+    let mut output = BlockWriter::new(alloc, PieceWriter::new(alloc, 10))?;
+    assert!(rt; script(alloc, &mut input, &mut output) == Err(ProgramFault::Read));
+    assert_eq!(rt; output.get_ref().bytes(), b"ok\n".as_slice());
+
+    let mut input = BlockReader::new(alloc, PieceReader::new(LINES, 14))?;
+    let writer = PieceWriter::new(alloc, 2).failing(Fault { after: 1, kind });
+    let mut output = BlockWriter::new(alloc, writer)?;
+    assert!(rt; script(alloc, &mut input, &mut output) == Err(ProgramFault::Write));
+    Ok(())
+}

@@ -1,0 +1,121 @@
+//! Whole scripts, as the format shows them, and what a fault in the middle of a stream leaves.
+mod rows;
+
+use self::rows::ROWS;
+use std::alloc::Global;
+use std::io::ErrorKind;
+use std::test::Fail;
+use tab_core::Core;
+use tab_history::{Refusal, Reply};
+use tab_io::memory::{Fault, PieceReader, PieceWriter};
+use tab_io::{BlockReader, BlockWriter, Output};
+use tab_key::Part;
+use tab_shell::{Ended, Script, ScriptFault, write_reply};
+
+// What a new script prints for these lines, read in pieces of this length.
+fn printed(alloc: Global, lines: &[u8], piece: usize) -> Result<Vec<u8>, Fail> {
+    let mut script = Script::new(alloc, Core::new(alloc)?);
+    let mut input = BlockReader::new(alloc, PieceReader::new(lines, piece))?;
+    let mut output = BlockWriter::new(alloc, PieceWriter::new(alloc, 1000))?;
+    script.run(&mut input, &mut output)?;
+    let _core = script.core();
+    Ok(Vec::from_slice(alloc, output.get_ref().bytes())?)
+}
+
+#[test]
+fn answers_lines(rt: HostRuntime) -> Result<(), Fail> {
+    for (lines, want) in ROWS {
+        for piece in [1, 7, 1000] {
+            let text = printed(rt.alloc(), lines, piece)?;
+            assert_eq!(rt; text.as_slice(), want, "{lines:?} in pieces of {piece}");
+        }
+    }
+    Ok(())
+}
+
+// Adds a line that writes one cell in this row of table t.
+fn push_insert(lines: &mut Vec<u8>, row: usize) -> Result<(), Fail> {
+    lines.extend_from_slice(b"insert t ")?;
+    for unit in [1000, 100, 10, 1] {
+        lines.push(b'0' + (row / unit % 10) as u8)?;
+    }
+    lines.extend_from_slice(b" f q \\e v 1\n")?;
+    Ok(())
+}
+
+// So many cells are one line each behind the replies to their writes, and an end, whatever batches they come in.
+#[test]
+fn prints_scans_of_several_batches(rt: HostRuntime) -> Result<(), Fail> {
+    for cells in [999, 1000, 1001, 2000] {
+        let mut lines = Vec::from_slice(rt.alloc(), b"createtable t\n")?;
+        for row in 0..cells {
+            push_insert(&mut lines, row)?;
+        }
+        lines.extend_from_slice(b"scan t \\0\n")?;
+        let text = printed(rt.alloc(), lines.as_slice(), 1000)?;
+        let ends = text.iter().filter(|byte| **byte == b'\n').count();
+        assert_eq!(rt; ends, 2 + 2 * cells);
+        assert!(rt; text.as_slice().ends_with(b" f q \\e 1 v\nend\n"));
+    }
+    Ok(())
+}
+
+#[test]
+fn writes_replies(rt: HostRuntime) -> Result<(), Fail> {
+    for (reply, want) in [
+        (Reply::Done, b"ok\n".as_slice()),
+        (Reply::Opened(()), b"".as_slice()),
+        (
+            Reply::Refused(Refusal::MalformedVisibility(3, 14)),
+            b"refused 5 MalformedVisibility 3 14\n".as_slice(),
+        ),
+        (
+            Reply::Refused(Refusal::TooLarge(Part::Sessions)),
+            b"refused 9 TooLarge sessions\n".as_slice(),
+        ),
+        (
+            Reply::Refused(Refusal::RootFixed),
+            b"refused 18 RootFixed\n".as_slice(),
+        ),
+        (
+            Reply::Refused(Refusal::GrantInvalid),
+            b"refused 19 GrantInvalid\n".as_slice(),
+        ),
+        (
+            Reply::Refused(Refusal::NoSession(4_294_967_295)),
+            b"refused 15 NoSession 4294967295\n".as_slice(),
+        ),
+    ] {
+        let mut output = BlockWriter::new(rt.alloc(), PieceWriter::new(rt.alloc(), 1000))?;
+        write_reply(&mut output, &reply)?;
+        output.flush()?;
+        assert_eq!(rt; output.get_ref().bytes(), want);
+    }
+    Ok(())
+}
+
+#[test]
+fn stops_at_a_fault(rt: HostRuntime) -> Result<(), Fail> {
+    let alloc = rt.alloc();
+    let kind = ErrorKind::Other;
+    let lines = b"createtable t\nscan t \\0  \nscan nope \\0\n".as_slice();
+    let mut script = Script::new(alloc, Core::new(alloc)?);
+    let reader = PieceReader::new(lines, 14).failing(Fault { after: 1, kind });
+    let mut input = BlockReader::new(alloc, reader)?;
+    let mut output = BlockWriter::new(alloc, PieceWriter::new(alloc, 1000))?;
+    assert!(rt; script.run(&mut input, &mut output) == Err(ScriptFault::Read));
+    assert_eq!(rt; output.get_ref().bytes(), b"ok\n".as_slice());
+    assert!(rt; script.run(&mut input, &mut output) == Ok(Ended::Input));
+    assert_eq!(rt;
+        output.get_ref().bytes(),
+        b"ok\nend\nrefused 2 NoTable nope\n".as_slice()
+    );
+
+    let mut script = Script::new(alloc, Core::new(alloc)?);
+    let mut input = BlockReader::new(alloc, PieceReader::new(lines, 14))?;
+    let writer = PieceWriter::new(alloc, 2).failing(Fault { after: 2, kind });
+    let mut output = BlockWriter::new(alloc, writer)?;
+    assert!(rt; script.run(&mut input, &mut output) == Err(ScriptFault::Write));
+    assert_eq!(rt; output.get_ref().bytes(), b"ok".as_slice());
+    Ok(())
+}

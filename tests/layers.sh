@@ -1,0 +1,46 @@
+#!/usr/bin/env bash
+# Sees that crates.txt lists for each crate what its files name, and nothing else; that each file says in its first line
+# what it is; and that the table of files in each crate's root names each of its modules.
+# Usage: tests/layers.sh   (from anywhere; builds nothing)
+set -u
+top=$(cd "$(dirname -- "${BASH_SOURCE[0]}")/.." && pwd)
+cd "$top" || exit 1
+passed=0 failed=0
+
+fail() { # TEXT
+    echo "$1"
+    failed=$((failed + 1))
+}
+
+# The files of a crate that a check reads.
+files_of() { # CRATE
+    find "crates/$1/src" "crates/$1/specs" "crates/$1/proofs" \( -name '*.rt' -o -name '*.antt' \) 2>/dev/null
+}
+
+# The libraries that a crate's files name: by a path, by an import, or by a derive.
+named_by() { # CRATE
+    files_of "$1" | xargs cat | sed -E 's@(^|[[:space:]])(//|--).*@@' |
+        grep -oE '\b(Rattle\.)?[a-z][a-z0-9_]*(::|\.(specs|proofs)\.)' |
+        sed -E 's/^Rattle\.//; s/(::|\.(specs|proofs)\.)$//' | sort -u
+}
+
+while IFS=: read -r crate listed; do
+    [ -n "$crate" ] || continue
+    known=$(cut -d: -f1 crates.txt; cut -d: -f2 crates.txt | tr ' ' '\n')
+    named=$(named_by "$crate" | grep -Fx -f <(printf '%s\n' "$known" | grep . | sort -u) | grep -vx "$crate")
+    asked=$(printf '%s\n' $listed | sort -u)
+    if [ "$named" = "$asked" ]; then passed=$((passed + 1)); else
+        fail "crates.txt, $crate: listed and named differ: $(diff <(echo "$asked") <(echo "$named") | grep '^[<>]' | tr '\n' ' ')"
+    fi
+    while read -r file; do
+        case $file in */proofs/*/*) continue ;; esac
+        head -n 1 "$file" | grep -qE '^(//!|--) ' || [ "${file##*/}" = Lib.antt ] || fail "$file: its first line doesn't say what it is"
+    done < <(files_of "$crate")
+    root=$(ls "crates/$crate/src/lib.rt" "crates/$crate/src/main.rt" 2>/dev/null)
+    for module in $(grep -oE '^(pub )?mod [a-z_]+' "$root" | sed 's/.* //' | grep -vx tests); do
+        grep -qE "^//!.*\`$module\`" "$root" || fail "$root: its table of files lacks $module"
+    done
+done <crates.txt
+
+echo "$((passed)) passed, $failed failed"
+[ "$failed" -eq 0 ]
