@@ -8,12 +8,8 @@ use tab_policy::{
     TablePermission,
 };
 
-// An action, and the permissions of which any admits it: those for the whole server, then those for the table.
-type Row<'a> = (
-    Action<'a>,
-    &'static [SystemPermission],
-    &'static [TablePermission],
-);
+// The permissions of which any admits an action: those for the whole server, then those for the table.
+type Needed = (&'static [SystemPermission], &'static [TablePermission]);
 
 fn name(bytes: &[u8]) -> Result<Name, Fail> {
     Ok(Name::new(bytes).ok_or("a name")?)
@@ -31,91 +27,78 @@ const COMPACT_IT: &[TablePermission] = &[TablePermission::AlterTable, TablePermi
 
 const GRANT_IT: &[TablePermission] = &[TablePermission::Grant];
 
-// What is done to the table.
-fn rows_on_table(t: &Name) -> [Row<'_>; 15] {
-    [
-        (
-            Action::OnTable(TableAction::Open, t),
-            &[],
-            &[TablePermission::Read],
-        ),
-        (
-            Action::OnTable(TableAction::Write, t),
-            &[],
-            &[TablePermission::Write],
-        ),
-        (
-            Action::OnTable(TableAction::DropTable, t),
+const ON_TABLES: &[TableAction] = &[
+    TableAction::Open,
+    TableAction::Write,
+    TableAction::DropTable,
+    TableAction::AddSplit,
+    TableAction::SplitBySize,
+    TableAction::Splits,
+    TableAction::Status,
+    TableAction::SetConstraints,
+    TableAction::SetVersions,
+    TableAction::SetHorizon,
+    TableAction::Flush,
+    TableAction::Compact,
+    TableAction::Begin,
+    TableAction::Install,
+    TableAction::Rights,
+];
+
+const ON_SERVER: &[ServerAction] = &[
+    ServerAction::CreateTable,
+    ServerAction::CreateUser,
+    ServerAction::DropUser,
+    ServerAction::SetAuths,
+    ServerAction::Save,
+    ServerAction::Load,
+    ServerAction::Rotate,
+];
+
+// What admits an action on a table.
+fn needed_on(action: TableAction) -> Needed {
+    match action {
+        TableAction::Open => (&[], &[TablePermission::Read]),
+        TableAction::Write => (&[], &[TablePermission::Write]),
+        TableAction::DropTable => (
             &[SystemPermission::DropTable],
             &[TablePermission::DropTable],
         ),
-        (Action::OnTable(TableAction::AddSplit, t), ALTER, ALTER_IT),
-        (
-            Action::OnTable(TableAction::SplitBySize, t),
-            ALTER,
-            ALTER_IT,
-        ),
-        (Action::OnTable(TableAction::Splits, t), ALTER, ALTER_IT),
-        (Action::OnTable(TableAction::Status, t), ALTER, ALTER_IT),
-        (
-            Action::OnTable(TableAction::SetConstraints, t),
-            ALTER,
-            ALTER_IT,
-        ),
-        (
-            Action::OnTable(TableAction::SetVersions, t),
-            ALTER,
-            ALTER_IT,
-        ),
-        (Action::OnTable(TableAction::SetHorizon, t), ALTER, ALTER_IT),
-        (Action::OnTable(TableAction::Flush, t), ALTER, COMPACT_IT),
-        (Action::OnTable(TableAction::Compact, t), ALTER, COMPACT_IT),
-        (Action::OnTable(TableAction::Begin, t), ALTER, COMPACT_IT),
-        (Action::OnTable(TableAction::Install, t), ALTER, COMPACT_IT),
-        (Action::OnTable(TableAction::Rights, t), &[], &[]),
-    ]
+        TableAction::AddSplit => (ALTER, ALTER_IT),
+        TableAction::SplitBySize => (ALTER, ALTER_IT),
+        TableAction::Splits => (ALTER, ALTER_IT),
+        TableAction::Status => (ALTER, ALTER_IT),
+        TableAction::SetConstraints => (ALTER, ALTER_IT),
+        TableAction::SetVersions => (ALTER, ALTER_IT),
+        TableAction::SetHorizon => (ALTER, ALTER_IT),
+        TableAction::Flush => (ALTER, COMPACT_IT),
+        TableAction::Compact => (ALTER, COMPACT_IT),
+        TableAction::Begin => (ALTER, COMPACT_IT),
+        TableAction::Install => (ALTER, COMPACT_IT),
+        TableAction::Rights => (&[], &[]),
+    }
 }
 
-// What is done to users and to the server, with these permissions granted and revoked.
-fn rows_elsewhere<'a>(on_table: &'a Permission, of_system: &'a Permission) -> [Row<'a>; 11] {
-    [
-        (
-            Action::OnServer(ServerAction::CreateTable),
-            &[SystemPermission::CreateTable],
-            &[],
-        ),
-        (
-            Action::OnServer(ServerAction::CreateUser),
-            &[SystemPermission::CreateUser],
-            &[],
-        ),
-        (
-            Action::OnServer(ServerAction::DropUser),
-            &[SystemPermission::DropUser],
-            &[],
-        ),
-        (
-            Action::OnServer(ServerAction::SetAuths),
-            &[SystemPermission::AlterUser],
-            &[],
-        ),
-        (Action::Grant(on_table), ALTER, GRANT_IT),
-        (Action::Revoke(on_table), ALTER, GRANT_IT),
-        (Action::Grant(of_system), GRANT, &[]),
-        (Action::Revoke(of_system), GRANT, &[]),
-        (Action::OnServer(ServerAction::Save), SYSTEM, &[]),
-        (Action::OnServer(ServerAction::Load), SYSTEM, &[]),
-        (Action::OnServer(ServerAction::Rotate), SYSTEM, &[]),
-    ]
+// What admits an action on users, new tables and the server.
+fn needed_for(action: ServerAction) -> Needed {
+    match action {
+        ServerAction::CreateTable => (&[SystemPermission::CreateTable], &[]),
+        ServerAction::CreateUser => (&[SystemPermission::CreateUser], &[]),
+        ServerAction::DropUser => (&[SystemPermission::DropUser], &[]),
+        ServerAction::SetAuths => (&[SystemPermission::AlterUser], &[]),
+        ServerAction::Save => (SYSTEM, &[]),
+        ServerAction::Load => (SYSTEM, &[]),
+        ServerAction::Rotate => (SYSTEM, &[]),
+    }
 }
 
-// The permissions that the row lists, in their order.
-fn listed(alloc: Global, row: &Row<'_>, table: Name) -> Result<Vec<Permission>, Fail> {
+// The permissions needed, in their order.
+fn listed(alloc: Global, needed: Needed, table: Name) -> Result<Vec<Permission>, Fail> {
     let mut all = Vec::new(alloc);
-    for permission in row.1 {
+    for permission in needed.0 {
         all.push(Permission::OfSystem(*permission))?;
     }
-    for permission in row.2 {
+    for permission in needed.1 {
         all.push(Permission::OfTable(*permission, table))?;
     }
     Ok(all)
@@ -153,130 +136,135 @@ fn with_bob(alloc: Global) -> Result<Policy, Fail> {
     Ok(policy)
 }
 
-// Whether each row is decided as its list says for the user who has this permission alone, if he has one.
-fn decides_as_listed(
+// Whether the action is decided as these permissions say for the user who has this one alone, if he has one.
+fn is_decided(
     alloc: Global,
     policy: &Policy,
     user: &Name,
-    rows: &[Row<'_>],
+    action: Action<'_>,
+    needed: Needed,
     held: &Option<Permission>,
 ) -> Result<bool, Fail> {
-    let table = name(b"t")?;
-    for row in rows {
-        let listed = listed(alloc, row, table)?;
-        if policy.decide(user, &row.0).err() != expected(&listed, held) {
+    let listed = listed(alloc, needed, name(b"t")?)?;
+    Ok(policy.decide(user, &action).err() == expected(&listed, held))
+}
+
+// Whether each action on the table is decided so.
+fn decides_on_tables(
+    alloc: Global,
+    policy: &Policy,
+    user: &Name,
+    table: &Name,
+    held: &Option<Permission>,
+) -> Result<bool, Fail> {
+    for kind in ON_TABLES {
+        let action = Action::OnTable(*kind, table);
+        if !is_decided(alloc, policy, user, action, needed_on(*kind), held)? {
             return Ok(false);
         }
     }
     Ok(true)
 }
 
+// Whether each action on users, new tables and the server is decided so.
+fn decides_on_server(
+    alloc: Global,
+    policy: &Policy,
+    user: &Name,
+    held: &Option<Permission>,
+) -> Result<bool, Fail> {
+    for kind in ON_SERVER {
+        let action = Action::OnServer(*kind);
+        if !is_decided(alloc, policy, user, action, needed_for(*kind), held)? {
+            return Ok(false);
+        }
+    }
+    Ok(true)
+}
+
+// Whether to grant and to revoke the permission is decided so.
+fn decides_on_granting(
+    alloc: Global,
+    policy: &Policy,
+    user: &Name,
+    permission: &Permission,
+    needed: Needed,
+    held: &Option<Permission>,
+) -> Result<bool, Fail> {
+    let grant = is_decided(alloc, policy, user, Action::Grant(permission), needed, held)?;
+    let revoke = is_decided(
+        alloc,
+        policy,
+        user,
+        Action::Revoke(permission),
+        needed,
+        held,
+    )?;
+    Ok(grant && revoke)
+}
+
+// Whether all actions are decided so.
+fn decides_all(
+    alloc: Global,
+    policy: &Policy,
+    user: &Name,
+    table: &Name,
+    held: &Option<Permission>,
+) -> Result<bool, Fail> {
+    let on_table = Permission::OfTable(TablePermission::Read, *table);
+    let of_system = Permission::OfSystem(SystemPermission::CreateUser);
+    Ok(
+        decides_on_tables(alloc, policy, user, table, held)?
+            && decides_on_server(alloc, policy, user, held)?
+            && decides_on_granting(alloc, policy, user, &on_table, (ALTER, GRANT_IT), held)?
+            && decides_on_granting(alloc, policy, user, &of_system, (GRANT, &[]), held)?,
+    )
+}
+
 #[test]
 fn each_permission_admits_its_actions_and_no_other(rt: HostRuntime) -> Result<(), Fail> {
     let alloc = rt.alloc();
-    let bob = name(b"bob")?;
-    let table = name(b"t")?;
-    let on_table = Permission::OfTable(TablePermission::Read, table);
-    let of_system = Permission::OfSystem(SystemPermission::CreateUser);
-    let (here, elsewhere) = (rows_on_table(&table), rows_elsewhere(&on_table, &of_system));
+    let (bob, table) = (name(b"bob")?, name(b"t")?);
     let mut policy = with_bob(alloc)?;
-    assert!(rt; decides_as_listed(alloc, &policy, &bob, &here, &None)?);
-    assert!(rt; decides_as_listed(alloc, &policy, &bob, &elsewhere, &None)?);
+    assert!(rt; decides_all(alloc, &policy, &bob, &table, &None)?);
     for permission in single(alloc, table)? {
         policy.grant(&bob, &permission)?;
-        let held = Some(permission);
-        assert!(rt; decides_as_listed(alloc, &policy, &bob, &here, &held)?);
-        assert!(rt; decides_as_listed(alloc, &policy, &bob, &elsewhere, &held)?);
+        assert!(rt; decides_all(alloc, &policy, &bob, &table, &Some(permission))?);
         policy.revoke(&bob, &permission);
     }
     Ok(())
 }
 
-// Users, tables, and one that isn't there.
-#[derive(Drop)]
-struct Asked {
-    root: Name,
-    bob: Name,
-    table: Name,
-    other: Name,
-    missing: Name,
-}
-
-// Who asks for what, and why it isn't admitted: the caller comes first, then the table, then the permission.
-fn rows_in_order<'a>(asked: &'a Asked) -> [(Name, Action<'a>, Option<Denial>); 8] {
-    let no_read = Permission::OfTable(TablePermission::Read, asked.other);
-    let no_system = Permission::OfSystem(SystemPermission::System);
-    [
-        (
-            asked.missing,
-            Action::OnTable(TableAction::Open, &asked.missing),
-            Some(Denial::UnknownUser),
-        ),
-        (
-            asked.bob,
-            Action::OnTable(TableAction::Open, &asked.missing),
-            Some(Denial::NoTable(asked.missing)),
-        ),
-        (
-            asked.bob,
-            Action::OnTable(TableAction::Rights, &asked.missing),
-            Some(Denial::NoTable(asked.missing)),
-        ),
-        (
-            asked.bob,
-            Action::OnTable(TableAction::Open, &asked.table),
-            None,
-        ),
-        (
-            asked.bob,
-            Action::OnTable(TableAction::Open, &asked.other),
-            Some(Denial::PermissionDenied(no_read)),
-        ),
-        (
-            asked.bob,
-            Action::OnServer(ServerAction::Save),
-            Some(Denial::PermissionDenied(no_system)),
-        ),
-        (asked.root, Action::OnServer(ServerAction::Save), None),
-        (
-            asked.root,
-            Action::OnTable(TableAction::Open, &asked.table),
-            None,
-        ),
-    ]
+// Why the user may not do this, if he may not.
+fn denied(policy: &Policy, user: &Name, action: Action<'_>) -> Option<Denial> {
+    policy.decide(user, &action).err()
 }
 
 #[test]
-fn checks_the_caller_then_the_table_then_the_permission(rt: HostRuntime) -> Result<(), Fail> {
-    let alloc = rt.alloc();
-    let (root, bob, table, other) = (name(b"root")?, name(b"bob")?, name(b"t")?, name(b"u")?);
-    let mut policy = with_bob(alloc)?;
-    let missing = name(b"missing")?;
-    let read = Permission::OfTable(TablePermission::Read, table);
-    policy.grant(&bob, &read)?;
+fn a_missing_caller_comes_before_a_missing_table(rt: HostRuntime) -> Result<(), Fail> {
+    let (bob, missing) = (name(b"bob")?, name(b"missing")?);
+    let policy = with_bob(rt.alloc())?;
     let gone = Permission::OfTable(TablePermission::Read, missing);
-    let asked = Asked {
-        root,
-        bob,
-        table,
-        other,
-        missing,
-    };
-    for (user, action, denial) in rows_in_order(&asked) {
-        assert!(rt; policy.decide(&user, &action).err() == denial);
-    }
-    assert!(rt; policy.decide(&bob, &Action::Grant(&gone)).err() == Some(Denial::NoTable(missing)));
+    let scan = Action::OnTable(TableAction::Open, &missing);
+    assert!(rt; denied(&policy, &missing, scan) == Some(Denial::UnknownUser));
+    assert!(rt; denied(&policy, &bob, scan) == Some(Denial::NoTable(missing)));
+    let rights = Action::OnTable(TableAction::Rights, &missing);
+    assert!(rt; denied(&policy, &bob, rights) == Some(Denial::NoTable(missing)));
+    assert!(rt; denied(&policy, &bob, Action::Grant(&gone)) == Some(Denial::NoTable(missing)));
+    Ok(())
+}
+
+#[test]
+fn root_keeps_system_permissions_and_loses_those_on_tables(rt: HostRuntime) -> Result<(), Fail> {
+    let (root, table) = (name(b"root")?, name(b"t")?);
+    let mut policy = with_bob(rt.alloc())?;
+    let read = Permission::OfTable(TablePermission::Read, table);
+    assert!(rt; denied(&policy, &root, Action::OnTable(TableAction::Open, &table)).is_none());
     policy.revoke(&root, &Permission::OfSystem(SystemPermission::System));
+    assert!(rt; denied(&policy, &root, Action::OnServer(ServerAction::Save)).is_none());
+    policy.revoke(&root, &read);
     assert!(rt;
-        policy
-            .decide(&root, &Action::OnServer(ServerAction::Save))
-            .is_ok()
-    );
-    policy.revoke(&root, &Permission::OfTable(TablePermission::Read, table));
-    assert!(rt;
-        policy
-            .decide(&root, &Action::OnTable(TableAction::Open, &table))
-            .err()
+        denied(&policy, &root, Action::OnTable(TableAction::Open, &table))
             == Some(Denial::PermissionDenied(read))
     );
     Ok(())
