@@ -235,36 +235,6 @@ fn each_permission_admits_its_actions_and_no_other(rt: HostRuntime) -> Result<()
     Ok(())
 }
 
-#[test]
-fn a_missing_caller_comes_before_a_missing_table(rt: HostRuntime) -> Result<(), Fail> {
-    let (bob, missing) = (name(b"bob")?, name(b"missing")?);
-    let policy = with_bob(rt.alloc())?;
-    let gone = Permission::OfTable(TablePermission::Read, missing);
-    let scan = Action::OnTable(TableAction::Open, &missing);
-    assert!(rt; policy.decide(&missing, &scan).err() == Some(Denial::UnknownUser));
-    assert!(rt; policy.decide(&bob, &scan).err() == Some(Denial::NoTable(missing)));
-    let grant = Action::Grant(&gone);
-    assert!(rt; policy.decide(&bob, &grant).err() == Some(Denial::NoTable(missing)));
-    Ok(())
-}
-
-#[test]
-fn root_keeps_system_permissions_and_loses_those_on_tables(rt: HostRuntime) -> Result<(), Fail> {
-    let (root, table) = (name(b"root")?, name(b"t")?);
-    let mut policy = with_bob(rt.alloc())?;
-    let read = Permission::OfTable(TablePermission::Read, table);
-    policy.revoke(&root, &Permission::OfSystem(SystemPermission::System));
-    assert!(rt;
-        policy
-            .decide(&root, &Action::OnServer(ServerAction::Save))
-            .is_ok()
-    );
-    policy.revoke(&root, &read);
-    let scan = Action::OnTable(TableAction::Open, &table);
-    assert!(rt; policy.decide(&root, &scan).err() == Some(Denial::PermissionDenied(read)));
-    Ok(())
-}
-
 // How many authorizations, system permissions and permissions for the table the user has, as far as he and it exist.
 fn counts(
     alloc: Global,
