@@ -160,6 +160,6 @@ fn a_core_shows_what_the_model_shows(rt: HostRuntime) -> Result<(), Fail> {
         let count = play(&rt, rt.alloc(), &mut random)?;
         shown = shown.saturating_add(count);
     }
-    assert!(rt; shown > 20_000, "{shown} cells were shown");
+    assert!(rt; shown > 10_000, "{shown} cells were shown");
     Ok(())
 }
