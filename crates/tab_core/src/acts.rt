@@ -9,11 +9,11 @@ use crate::table::Table;
 use crate::tables::Tables;
 use crate::{Core, Session};
 use std::alloc::{AllocError, Global};
-use tab_history::{Act, Refusal, Reply, Scan, TimeMode};
-use tab_key::{Items, Name, Part};
+use tab_history::{Act, Refusal, Reply, Scan, TimeMode, Versions};
+use tab_key::{Name, Part};
 use tab_label::AuthSet;
 use tab_mutation::Mutation;
-use tab_rules::Constraint;
+use tab_rules::ConstraintSet;
 
 impl Core {
     // A new table, with its creator's five rights.
@@ -24,7 +24,7 @@ impl Core {
         user: Name,
         table: Name,
         time: TimeMode,
-        versions: u32,
+        versions: Versions,
     ) -> Reply<Session>
         ensures { Acts (own_answer self.old now user (Act.CreateTable table time versions)) self.old now user (Act.CreateTable table time versions) result self.new }
     {
@@ -60,7 +60,7 @@ impl Core {
         now: i64,
         user: Name,
         table: Name,
-        constraints: Items<Constraint>,
+        constraints: ConstraintSet,
     ) -> Reply<Session>
         ensures { Acts (own_answer self.old now user (Act.SetConstraints table constraints)) self.old now user (Act.SetConstraints table constraints) result self.new }
     {

@@ -13,11 +13,11 @@ ghost use Rattle.tab_core.specs.Tables.{table_settings, with_records};
 use crate::Session;
 use crate::checking::mutation_refusal;
 use std::alloc::{AllocError, Global};
-use tab_history::{Refusal, Scan, TimeMode};
-use tab_key::{Items, Part};
+use tab_history::{Refusal, Scan, TimeMode, Versions};
+use tab_key::Part;
 use tab_label::AuthSet;
 use tab_mutation::Mutation;
-use tab_rules::Constraint;
+use tab_rules::ConstraintSet;
 use tab_tablet::Tablet;
 
 /// What a table is set to, and its records.
@@ -26,9 +26,9 @@ pub struct Table {
     /// Whether it takes timestamps or gives them.
     pub time: TimeMode,
     /// How many versions of a column it shows.
-    pub versions: u32,
+    pub versions: Versions,
     /// Its constraints.
-    pub constraints: Items<Constraint>,
+    pub constraints: ConstraintSet,
     /// The time below which it takes no update.
     pub horizon: i64,
     /// All records that it was given.
@@ -37,13 +37,13 @@ pub struct Table {
 
 impl Table {
     /// A table without records, constraints and horizon.
-    pub fn new(alloc: Global, time: TimeMode, versions: u32) -> Table
+    pub fn new(alloc: Global, time: TimeMode, versions: Versions) -> Table
         ensures { result ≡ record { time = time; versions = versions; constraints = []; horizon = least; records = [] } }
     {
         Table {
             time,
             versions,
-            constraints: Items::new(alloc),
+            constraints: ConstraintSet::none(),
             horizon: i64::MIN,
             records: Tablet::new(alloc),
         }
@@ -86,6 +86,6 @@ impl Table {
         ensures opened { IfOk result (λ s. s ≡ record { all = cells self.old.records self.old.versions (query_of scan); given = 0 }) }
     {
         let version = self.records.open(alloc, &scan.bounds)?;
-        Ok(Session::new(version, scan.columns, scan.authorizations, self.versions))
+        Ok(Session::new(version, scan.columns, scan.authorizations, self.versions.get()))
     }
 }

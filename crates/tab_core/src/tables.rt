@@ -16,10 +16,10 @@ use std::alloc::{AllocError, Global};
 use std::collections::BTreeMap;
 use std::marker::Model;
 use tab_history::{Refusal, Scan};
-use tab_key::{Items, Name};
+use tab_key::Name;
 use tab_label::AuthSet;
 use tab_mutation::Mutation;
-use tab_rules::Constraint;
+use tab_rules::ConstraintSet;
 use tab_version::Version;
 
 /// The tables that there are.
@@ -74,7 +74,7 @@ impl Tables {
     }
 
     /// Sets the table's constraints, if there is such a table.
-    pub fn set_constraints(&mut self, name: &Name, constraints: Items<Constraint>)
+    pub fn set_constraints(&mut self, name: &Name, constraints: ConstraintSet)
         ensures settings { (q : List ℕ) → settings_in self.new q ≡ cond (bytes_eq name.now q) (constrained constraints (settings_in self.old q)) (settings_in self.old q) }
         ensures records { (q : List ℕ) → records_in self.new q ≡ records_in self.old q }
     {
@@ -98,7 +98,7 @@ fn take_away(map: &mut BTreeMap<Name, Table>, name: &Name)
     let _ = map.remove(name);
 }
 
-fn set_constraints(map: &mut BTreeMap<Name, Table>, name: &Name, constraints: Items<Constraint>)
+fn set_constraints(map: &mut BTreeMap<Name, Table>, name: &Name, constraints: ConstraintSet)
     ensures { (q : List ℕ) → at_name q map.new.entries ≡ changed_at name.now (with_constraints constraints) map.old.entries q }
 {
     if let Some(table) = map.get_mut(name) {

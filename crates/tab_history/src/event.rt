@@ -1,12 +1,13 @@
 //! What is asked: events, and the steps of a run.
 ghost use Rattle.std.specs.Prelude.{◌≡◌, IfOk};
 
+use crate::versions::Versions;
 use std::alloc::AllocError;
 use tab_key::{Bounds, Column, Items, Name};
 use tab_label::AuthSet;
 use tab_mutation::Mutation;
 use tab_policy::Permission;
-use tab_rules::Constraint;
+use tab_rules::ConstraintSet;
 
 /// Whether a table takes timestamps from its writers, or gives them itself. A timestamp and the clock count in a unit of the callers' own.
 #[derive(Clone, Copy, Debug, PartialEq, Eq)]
@@ -39,14 +40,14 @@ pub enum Act {
     /// Apply the mutation to the table, all its updates together or none. Refused for the mutation's shape, a malformed label, a
     /// timestamp where the table gives them or below its horizon, and for what the table's constraints say.
     Write(Name, Mutation),
-    /// Make a table with this time mode and number of versions, 1 to 1,000. The caller gets its five permissions. Refused where there is
+    /// Make a table with this time mode and number of versions. The caller gets its five permissions. Refused where there is
     /// a table of the name.
-    CreateTable(Name, TimeMode, u32),
+    CreateTable(Name, TimeMode, Versions),
     /// Take the table away with its cells and all rights on it. A table made under its name later begins with none of them. Sessions
     /// that were opened on it go on.
     DropTable(Name),
     /// Set which constraints the table has, in place of those that it had. (Accumulo user manual: constraints)
-    SetConstraints(Name, Items<Constraint>),
+    SetConstraints(Name, ConstraintSet),
     /// Make a user without rights and authorizations, whatever a dropped user of the name had. Refused where there is a user of the name.
     CreateUser(Name),
     /// Take the user away with his rights and authorizations; his sessions go on. Refused where there is no such user, and for root.

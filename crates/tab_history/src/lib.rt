@@ -4,6 +4,7 @@
 //! |---|---|
 //! | `event` | events, and the steps of a run |
 //! | `reply` | replies and refusals |
+//! | `versions` | how many versions of a column a table shows |
 //! | `rights` | what a user is told of his own rights |
 //! | `laws` | the laws of the definitions, each the contract of a function that does nothing |
 //!
@@ -18,6 +19,7 @@ mod event;
 mod laws;
 mod reply;
 mod rights;
+mod versions;
 
 pub use event::{Act, Event, Scan, Step, TimeMode, copied};
 pub use laws::{
@@ -28,3 +30,4 @@ pub use laws::{
 };
 pub use reply::{Refusal, Reply};
 pub use rights::Rights;
+pub use versions::Versions;

@@ -11,6 +11,7 @@ use Rattle.tab_key.specs.declared.range.Bounds.{Bounds}
 use Rattle.tab_key.specs.declared.column.Column.{Column}
 use Rattle.tab_label.specs.Sets.{set_of}
 use Rattle.tab_mutation.specs.Mutations.{Mutation, Update, with_update}
+use Rattle.tab_rules.specs.Constraints.{constraint_set_of}
 use Rattle.tab_rules.specs.declared.constraint.Constraint.{Constraint}
 use Rattle.tab_policy.specs.declared.permission.Permission.{Permission}
 use Rattle.tab_history.specs.declared.event.TimeMode.{TimeMode}
@@ -180,7 +181,7 @@ constraints_sound words line is =
     on_field name_of words _ line (λ ws. Form (codes "constraints" ∷ ws) line) is (λ t ws1 table e1 f1.
     on_field constraints_of ws1 _ line (λ ws. Form (codes "constraints" ∷ t ∷ ws) line) f1 (λ l ws2 members e2 f2.
     on_ends ws2 _ line (λ ws. Form (codes "constraints" ∷ t ∷ l ∷ ws) line) f2 (λ f3.
-    subst (λ (y : Line). Form (codes "constraints" ∷ t ∷ l ∷ []) y) (some_inj (says.Act (SetConstraints table members)) line f3)
+    subst (λ (y : Line). Form (codes "constraints" ∷ t ∷ l ∷ []) y) (some_inj (says.Act (SetConstraints table (constraint_set_of members))) line f3)
     (form_constraints t l table members (names_read.sound t table e1) (constraints_read.sound l members e2)))))
 
 insert_sound : (words : Words) (line : Line) → insert_of words ≡ Some line → Form (codes "insert" ∷ words) line
@@ -258,7 +259,7 @@ setauths_complete u l user members name list =
     bind_some (field name_of (u ∷ l ∷ [])) (user, l ∷ []) _ _ (field_some name_of u (l ∷ []) user (names_read.complete u user name))
     (bind_some (field list_of (l ∷ [])) (members, []) _ _ (field_some list_of l [] members (lists_read.complete l members list)) refl)
 
-constraints_complete : (t l table : List ℕ) (members : List Constraint) → IsNameWord t table → IsList IsConstraint l members → constraints_line_of (t ∷ l ∷ []) ≡ Some (says.Act (SetConstraints table members))
+constraints_complete : (t l table : List ℕ) (members : List Constraint) → IsNameWord t table → IsList IsConstraint l members → constraints_line_of (t ∷ l ∷ []) ≡ Some (says.Act (SetConstraints table (constraint_set_of members)))
 unfolding constraints_line_of
 constraints_complete t l table members name list =
     bind_some (field name_of (t ∷ l ∷ [])) (table, l ∷ []) _ _ (field_some name_of t (l ∷ []) table (names_read.complete t table name))

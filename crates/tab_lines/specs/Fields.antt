@@ -6,7 +6,7 @@ use Rattle.std.specs.Option.{option_map, option_and_then}
 use Rattle.std.specs.Str.{bytes_eq}
 use Rattle.tab_key.specs.Names.{is_name_byte}
 use Rattle.tab_key.specs.declared.name.TheConstants.{MAX_NAME_LEN}
-use Rattle.tab_key.specs.declared.part.TheConstants.{MAX_VERSIONS}
+use Rattle.tab_history.specs.Settings.{is_version_count}
 use Rattle.tab_key.specs.declared.range.Bound.{Bound}
 use Rattle.tab_key.specs.declared.range.Bound.TheVariants.{Unbounded, Inclusive, Exclusive}
 use Rattle.tab_key.specs.declared.column.Column.{Column}
@@ -76,10 +76,6 @@ timestamp_or_dash word = if bytes_eq word (codes "-") then Some None else given_
 -- who gives the timestamps
 abbrev pub time_word : List ℕ → Option TimeMode
 time_word word = if bytes_eq word (codes "time=any") then Some Any else if bytes_eq word (codes "time=server") then Some Server else None
-
--- 1 to 1,000
-abbrev pub is_version_count : ℕ → Bool
-is_version_count n = nat_le 1 n && nat_le n MAX_VERSIONS
 
 -- how many versions, behind the nine bytes versions=
 abbrev pub versions_word : List ℕ → Option ℕ

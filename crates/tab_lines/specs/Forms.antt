@@ -11,7 +11,7 @@ use Rattle.tab_key.specs.declared.column.Column.{Column}
 use Rattle.tab_key.specs.declared.column.Column.TheVariants.{Family, Qualified}
 use Rattle.tab_label.specs.Sets.{set_of}
 use Rattle.tab_mutation.specs.Mutations.{Update, put_update, delete_update}
-use Rattle.tab_rules.specs.Constraints.{constraint_name}
+use Rattle.tab_rules.specs.Constraints.{constraint_name, constraint_set_of}
 use Rattle.tab_rules.specs.declared.constraint.Constraint.{Constraint}
 use Rattle.tab_policy.specs.Permissions.{system_name, table_name}
 use Rattle.tab_policy.specs.declared.permission.Permission.{Permission}
@@ -140,7 +140,7 @@ pub data Form : List (List ℕ) → Line → Type 0 where
       → Form (codes "revoke" ∷ u ∷ words) (line.Act (Revoke user permission))
   rights : (t table : List ℕ) → IsNameWord t table → Form (codes "rights" ∷ t ∷ []) (line.Act (Rights table))
   constraints : (t l table : List ℕ) (members : List Constraint) → IsNameWord t table → IsList IsConstraint l members
-      → Form (codes "constraints" ∷ t ∷ l ∷ []) (line.Act (SetConstraints table members))
+      → Form (codes "constraints" ∷ t ∷ l ∷ []) (line.Act (SetConstraints table (constraint_set_of members)))
   insert : (t r f q l v table row family qualifier label value : List ℕ) (words : List (List ℕ)) (timestamp : Option ℤ)
       → IsNameWord t table → IsWord r row → IsWord f family → IsWord q qualifier → IsWord l label → IsWord v value → IsLastTimestamp words timestamp
       → Form (codes "insert" ∷ t ∷ r ∷ f ∷ q ∷ l ∷ v ∷ words)

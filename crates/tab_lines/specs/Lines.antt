@@ -8,6 +8,7 @@ use Rattle.tab_label.specs.Sets.{set_of}
 use Rattle.tab_policy.specs.declared.permission.Permission.{Permission}
 use Rattle.tab_history.specs.declared.event.TimeMode.{TimeMode}
 use Rattle.tab_history.specs.declared.event.TimeMode.TheVariants.{Any}
+use Rattle.tab_rules.specs.Constraints.{constraint_set_of}
 use Rattle.tab_history.specs.declared.event.Act.TheVariants.{CreateTable, DropTable, CreateUser, DropUser, SetAuths, Grant, Revoke, SetConstraints, Write, Rights}
 use Rattle.tab_lines.specs.declared.line.Line.{Line}
 use Rattle.tab_lines.specs.declared.line.Line.TheVariants as line
@@ -78,7 +79,7 @@ constraints_line_of words = do
   table ← field name_of words
   constraints ← field constraints_of table.1
   end ← ends constraints.1
-  Some (line.Act (SetConstraints table.0 constraints.0))
+  Some (line.Act (SetConstraints table.0 (constraint_set_of constraints.0)))
 
 -- the words behind the command of a line insert T ROW FAM QUAL LABEL VALUE [TS]
 unfoldable pub insert_of : List (List ℕ) → Option Line

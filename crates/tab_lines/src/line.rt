@@ -16,9 +16,10 @@ use crate::permissions::a_grant;
 use crate::updates::{TimestampForm, a_row, add_delete, add_put, add_updates};
 use crate::words::Words;
 use std::alloc::Global;
-use tab_history::{Act, Scan, TimeMode};
+use tab_history::{Act, Scan, TimeMode, Versions};
 use tab_key::{Bound, Bounds, Column, Items, Name};
 use tab_label::AuthSet;
+use tab_rules::ConstraintSet;
 
 /// What a line of a script says.
 #[derive(Drop)]
@@ -36,21 +37,21 @@ pub enum Line {
 }
 
 // Takes the number of versions, 1 where no word is left.
-fn any_versions(words: &mut Words) -> Result<u32, LineError>
+fn any_versions(words: &mut Words) -> Result<Versions, LineError>
     ensures { Gives (λ x. (x, words_left words.new)) result (optional 1 versions_word (words_left words.old)) }
 {
     let Some(word) = words.next() else {
-        return Ok(1);
+        return Ok(Versions::one());
     };
     versions_word(word)
 }
 
 // Takes the settings of a new table.
-fn settings(words: &mut Words) -> Result<(TimeMode, u32), LineError>
+fn settings(words: &mut Words) -> Result<(TimeMode, Versions), LineError>
     ensures { Gives (λ x. x) result (settings (words_left words.old)) }
 {
     let Some(word) = words.next() else {
-        return Ok((TimeMode::Any, 1));
+        return Ok((TimeMode::Any, Versions::one()));
     };
     match time_word(word) {
         Some(time) => {
@@ -95,9 +96,10 @@ fn constraints(alloc: Global, words: &mut Words) -> Result<Line, LineError>
     let Some(word) = words.next() else {
         return Err(LineError::Fault);
     };
-    let constraints = constraints_of(alloc, word)?;
+    let named = constraints_of(alloc, word)?;
     ends(words)?;
-    Ok(Line::Act(Act::SetConstraints(table, Items::from_vec(constraints))))
+    let constraints = ConstraintSet::of(&named);
+    Ok(Line::Act(Act::SetConstraints(table, constraints)))
 }
 
 #[tactic(auto, unfolding(crate::specs::Lines::insert_of))]

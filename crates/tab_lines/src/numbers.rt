@@ -2,10 +2,10 @@
 ghost use Rattle.std.specs.Prelude.{◌≡◌, ◌<◌, ◌^◌, nat_lt};
 ghost use Rattle.std.specs.Option.{option_and_then};
 ghost use Rattle.tab_lines.specs.Gives.{Gives};
-ghost use Rattle.tab_lines.specs.Fields.{only_if, with_digit, digits_on, signed_of, given_timestamp, timestamp_or_dash, magnitude_of, positive, negative, is_version_count, versions_word};
+ghost use Rattle.tab_lines.specs.Fields.{only_if, with_digit, digits_on, signed_of, given_timestamp, timestamp_or_dash, magnitude_of, positive, negative, versions_word};
 
 use crate::LineError;
-use tab_key::MAX_VERSIONS;
+use tab_history::Versions;
 
 /// The signed number that a word spells: decimal digits, with a minus before them for a negative one.
 /// Leading zeros are accepted; `-0` is a fault, and so is a number outside an i64.
@@ -37,7 +37,7 @@ pub fn timestamp_or_dash(word: &[u8]) -> Result<Option<i64>, LineError>
 }
 
 /// The number of versions that a word `versions=N` gives, 1 to 1,000.
-pub fn versions_word(word: &[u8]) -> Result<u32, LineError>
+pub fn versions_word(word: &[u8]) -> Result<Versions, LineError>
     ensures { Gives (λ x. x) result (versions_word word.now) }
 {
     if word.len() < 9 {
@@ -47,17 +47,9 @@ pub fn versions_word(word: &[u8]) -> Result<u32, LineError>
     if front != b"versions=".as_slice() {
         return Err(LineError::Fault);
     }
-    version_count(magnitude_of(digits)?)
-}
-
-// The number, if a table can show so many versions.
-fn version_count(n: u64) -> Result<u32, LineError>
-    ensures { Gives (λ x. x) result (only_if is_version_count n) }
-{
-    if 1 <= n && n <= MAX_VERSIONS as u64 {
-        Ok(n as u32)
-    } else {
-        Err(LineError::Fault)
+    match Versions::new(magnitude_of(digits)?) {
+        Some(versions) => Ok(versions),
+        None => Err(LineError::Fault),
     }
 }
 

@@ -1,5 +1,6 @@
 -- The constraints that a table can have: their numbers, names and texts. (Accumulo user manual: constraints)
-use Rattle.std.specs.Prelude.{ℕ, List, [], ◌&&◌, ◌==◌, cond, Option, Some, None, bytes_eq, codes}
+use Rattle.std.specs.Prelude.{ℕ, ◌≡◌, refl, List, [], ◌∷◌, Bool, ◌&&◌, ◌==◌, cond, Option, Some, None, bytes_eq, codes, filter}
+use Rattle.std.specs.List.{list_any}
 use Rattle.tab_rules.specs.declared.constraint.Constraint.{Constraint}
 use Rattle.tab_rules.specs.declared.constraint.Constraint.TheVariants.{KeySize, Alphanumeric, Numeric, Visibility}
 
@@ -33,3 +34,20 @@ name_or_nothing (Some c) = constraint_name c
 -- the text of a violation's number and code: the name, but for the one pair that has a sentence
 abbrev pub text_of : ℕ → ℕ → List ℕ
 text_of number code = cond (number == 4 && code == 2) (codes "User does not have authorization on column visibility") (name_or_nothing (constraint_numbered number))
+
+-- ---- sets
+-- all constraints, rising by their numbers
+abbrev pub all_constraints : List Constraint
+all_constraints = KeySize ∷ Alphanumeric ∷ Numeric ∷ Visibility ∷ []
+
+-- whether the constraint is one of these
+abbrev pub is_set : List Constraint → Constraint → Bool
+is_set set c = list_any (λ d. constraint_number c == constraint_number d) set
+
+-- these constraints, rising and each once: the one form of their set
+abbrev pub constraint_set_of : List Constraint → List Constraint
+constraint_set_of cs = filter (is_set cs) all_constraints
+
+-- each order of the same constraints is one set
+one_form : constraint_set_of (Visibility ∷ KeySize ∷ Visibility ∷ []) ≡ constraint_set_of (KeySize ∷ Visibility ∷ [])
+one_form = refl

@@ -1,13 +1,13 @@
 -- What a mutation fails of a table's constraints. (Accumulo user manual: constraints)
 use Rattle.std.specs.Prelude.{ℕ, List, [], ◌∷◌, ◌+◌, Bool, false, not, ◌&&◌, ◌==◌, nat_lt, cond, Option, Some, None, length}
 use Rattle.std.specs.Char.{is_ascii_digit, is_ascii_alphanumeric}
-use Rattle.std.specs.List.{list_any, list_all, filter_map}
+use Rattle.std.specs.List.{list_all, filter_map}
 use Rattle.tab_key.specs.Kept.{is_put}
 use Rattle.tab_key.specs.declared.part.TheConstants.{MAX_PART_LEN}
 use Rattle.tab_label.specs.Holding.{label_holds}
 use Rattle.tab_mutation.specs.Mutations.{Update, Mutation}
 use Rattle.tab_mutation.specs.Shape.{first_index}
-use Rattle.tab_rules.specs.Constraints.{constraint_number}
+use Rattle.tab_rules.specs.Constraints.{is_set}
 use Rattle.tab_rules.specs.declared.constraint.Constraint.{Constraint}
 use Rattle.tab_rules.specs.declared.constraint.Constraint.TheVariants.{KeySize, Alphanumeric, Numeric, Visibility}
 use Rattle.tab_rules.specs.declared.violation.Violation.{Violation}
@@ -33,10 +33,6 @@ fails auths row Visibility code u = not (label_holds u.label auths)
 -- all tests: the pairs of constraint and code, rising
 abbrev pub tests : List Test
 tests = record { constraint = KeySize; code = 1 } ∷ record { constraint = Alphanumeric; code = 1 } ∷ record { constraint = Alphanumeric; code = 2 } ∷ record { constraint = Alphanumeric; code = 3 } ∷ record { constraint = Numeric; code = 1 } ∷ record { constraint = Visibility; code = 2 } ∷ []
-
--- whether the table has the constraint
-abbrev pub is_set : List Constraint → Constraint → Bool
-is_set set c = list_any (λ d. constraint_number c == constraint_number d) set
 
 -- the violation of a test that fails first at this update
 abbrev pub violation_at : Test → Option ℕ → Option Violation

@@ -6,21 +6,24 @@
 //! | File | What |
 //! |---|---|
 //! | `constraint` | the four constraints, their numbers, names and texts |
+//! | `constraint_set` | the constraints of one table, as one value |
 //! | `violation` | what a check answers, and the tests that it makes |
 //! | `syntax` | what letters and digits, and numerals, are |
 //! | `fails` | whether one update fails one test |
 //! | `verdict` | the list of all that a mutation violates |
 //!
-//! `specs/Verdict` defines that list, `specs/Constraints` numbers, names and texts. In `proofs`, `Digits` is on numerals and
+//! `specs/Verdict` defines that list, `specs/Constraints` numbers, names, texts and sets. In `proofs`, `Digits` is on numerals and
 //! `FirstIndex` on the first update that fails.
 #![tactic(auto)]
 
 mod constraint;
+mod constraint_set;
 mod fails;
 mod syntax;
 mod verdict;
 mod violation;
 
 pub use constraint::{Constraint, text};
+pub use constraint_set::ConstraintSet;
 pub use verdict::check;
 pub use violation::{Verdict, Violation};

@@ -3,12 +3,12 @@ ghost use Rattle.std.specs.Prelude.{◌≡◌, IfOk, not};
 ghost use Rattle.std.specs.Char.{is_ascii_alphanumeric};
 ghost use Rattle.std.specs.List.{filter_map, list_all};
 ghost use Rattle.tab_mutation.specs.Shape.{first_index};
-ghost use Rattle.tab_rules.specs.Verdict.{fails, is_set, violation, violations};
+ghost use Rattle.tab_rules.specs.Verdict.{fails, violation, violations};
 
 use crate::fails::fails;
 use crate::syntax::is_all_alphanumeric;
 use crate::violation::Test;
-use crate::{Constraint, Verdict, Violation};
+use crate::{Constraint, ConstraintSet, Verdict, Violation};
 use std::alloc::{AllocError, Global};
 use tab_key::Items;
 use tab_label::AuthSet;
@@ -42,17 +42,8 @@ const TESTS: [Test; 6] = [
     },
 ];
 
-// Whether the constraint is one of the table's.
-fn is_set(constraints: &[Constraint], constraint: Constraint) -> bool
-    ensures { result ≡ is_set constraints.now constraint }
-{
-    constraints
-        .iter()
-        .any(|set| constraint.number() == set.number())
-}
-
 // The first update, where there is one and the row isn't all letters and digits.
-fn first_by_row(mutation: &Mutation) -> Option<u32>
+fn first_by_row(mutation: &Mutation) -> Option<usize>
     ensures { result ≡ first_index (λ u. not (list_all is_ascii_alphanumeric mutation.now.row)) 0
         mutation.now.updates }
 {
@@ -67,13 +58,13 @@ fn first_by_row(mutation: &Mutation) -> Option<u32>
 }
 
 // The first update that fails the test.
-fn first_failing(mutation: &Mutation, auths: &AuthSet, test: Test) -> Option<u32>
+fn first_failing(mutation: &Mutation, auths: &AuthSet, test: Test) -> Option<usize>
     ensures { result ≡ first_index (fails auths.now mutation.now.row test.constraint test.code) 0
         mutation.now.updates }
 {
     for index in 0..mutation.len() {
         if fails(auths, mutation.row(), test, &mutation.update(index)) {
-            return Some(index as u32);
+            return Some(index);
         }
     }
     None
@@ -82,14 +73,14 @@ fn first_failing(mutation: &Mutation, auths: &AuthSet, test: Test) -> Option<u32
 // The violation of the test, where its constraint is set and an update fails it. The row is looked at
 // once, however many updates there are.
 fn violation(
-    constraints: &[Constraint],
+    constraints: &ConstraintSet,
     auths: &AuthSet,
     mutation: &Mutation,
     test: Test,
 ) -> Option<Violation>
     ensures { result ≡ violation constraints.now auths.now mutation.now test }
 {
-    if !is_set(constraints, test.constraint) {
+    if !constraints.contains(test.constraint) {
         return None;
     }
     let first = match (test.constraint, test.code) {
@@ -110,7 +101,7 @@ fn violation(
 fn violations_among(
     alloc: Global,
     tests: &[Test],
-    constraints: &[Constraint],
+    constraints: &ConstraintSet,
     auths: &AuthSet,
     mutation: &Mutation,
 ) -> Result<Vec<Violation>, AllocError>
@@ -126,12 +117,11 @@ fn violations_among(
 /// What the mutation fails of a table's constraints, for a writer who holds these authorizations.
 ///
 /// Every violation is listed, rising by constraint and code, each with the first update that fails
-/// so, counted from 0. The list is empty where nothing fails. Constraints may stand in any
-/// order, and more than once.
+/// so, counted from 0. The list is empty where nothing fails.
 #[tactic(auto, unfolding(crate::specs::Verdict::violations))]
 pub fn check(
     alloc: Global,
-    constraints: &[Constraint],
+    constraints: &ConstraintSet,
     mutation: &Mutation,
     auths: &AuthSet,
 ) -> Result<Verdict, AllocError>

@@ -3,7 +3,7 @@ use std::alloc::AllocError;
 use std::test::Fail;
 use tab_label::AuthSet;
 use tab_mutation::Mutation;
-use tab_rules::{Constraint, Verdict, Violation, check, text};
+use tab_rules::{Constraint, ConstraintSet, Verdict, Violation, check, text};
 
 const ALL: [Constraint; 4] = [
     Constraint::Visibility,
@@ -13,7 +13,7 @@ const ALL: [Constraint; 4] = [
 ];
 
 // The numbers of the failing constraints, with their codes and updates.
-fn listed(rt: &HostRuntime, verdict: &Verdict) -> Result<Vec<(u8, u8, u32)>, AllocError> {
+fn listed(rt: &HostRuntime, verdict: &Verdict) -> Result<Vec<(u8, u8, usize)>, AllocError> {
     let mut list = Vec::new(rt.alloc());
     for failing in verdict.as_slice() {
         list.push((failing.constraint.number(), failing.code, failing.update))?;
@@ -35,11 +35,11 @@ fn lists_every_failing_pair(rt: HostRuntime) -> Result<(), Fail> {
     mutation.put(b"f!", b"q", b"", Some(7), b"2")?;
     mutation.delete(b"f", b"q?", b"", None)?;
     let auths = AuthSet::empty(rt.alloc());
-    let set = [
+    let set = ConstraintSet::of(&[
         Constraint::Numeric,
         Constraint::Alphanumeric,
         Constraint::Numeric,
-    ];
+    ]);
     let verdict = check(rt.alloc(), &set, &mutation, &auths)?;
     let list = listed(&rt, &verdict)?;
     assert_eq!(rt;
@@ -52,7 +52,7 @@ fn lists_every_failing_pair(rt: HostRuntime) -> Result<(), Fail> {
         update: 0,
     };
     assert_eq!(rt; verdict.as_slice().first().copied(), Some(first));
-    assert!(rt; check(rt.alloc(), &[], &mutation, &auths)?.is_empty());
+    assert!(rt; check(rt.alloc(), &ConstraintSet::none(), &mutation, &auths)?.is_empty());
     Ok(())
 }
 
@@ -63,7 +63,7 @@ fn judges_labels_by_all_authorizations(rt: HostRuntime) -> Result<(), Fail> {
     mutation.put(b"f", b"q", b"A", Some(1), b"x")?;
     mutation.put(b"f", b"q", b"A&B", Some(1), b"y")?;
     mutation.delete(b"f", b"q", b"B", Some(1))?;
-    let set = [Constraint::Visibility];
+    let set = ConstraintSet::of(&[Constraint::Visibility]);
     let verdict = check(rt.alloc(), &set, &mutation, &holding(&rt, b"A")?)?;
     assert_eq!(rt; listed(&rt, &verdict)?.as_slice(), [(4, 2, 2)].as_slice());
     let verdict = check(rt.alloc(), &set, &mutation, &AuthSet::empty(rt.alloc()))?;
@@ -74,6 +74,7 @@ fn judges_labels_by_all_authorizations(rt: HostRuntime) -> Result<(), Fail> {
 #[test]
 fn tells_numerals(rt: HostRuntime) -> Result<(), Fail> {
     let auths = AuthSet::empty(rt.alloc());
+    let set = ConstraintSet::of(&[Constraint::Numeric]);
     for (value, passes) in [
         (b"0".as_slice(), true),
         (b"0123456789", true),
@@ -89,7 +90,7 @@ fn tells_numerals(rt: HostRuntime) -> Result<(), Fail> {
     ] {
         let mut mutation = Mutation::new(rt.alloc(), b"r")?;
         mutation.put(b"f", b"q", b"", None, value)?;
-        let verdict = check(rt.alloc(), &[Constraint::Numeric], &mutation, &auths)?;
+        let verdict = check(rt.alloc(), &set, &mutation, &auths)?;
         assert_eq!(rt; verdict.is_empty(), passes, "{value:?}");
     }
     Ok(())
@@ -98,6 +99,7 @@ fn tells_numerals(rt: HostRuntime) -> Result<(), Fail> {
 #[test]
 fn tells_letters_and_digits(rt: HostRuntime) -> Result<(), Fail> {
     let auths = AuthSet::empty(rt.alloc());
+    let set = ConstraintSet::of(&[Constraint::Alphanumeric]);
     for (family, passes) in [
         (b"".as_slice(), true),
         (b"azAZ09", true),
@@ -111,7 +113,7 @@ fn tells_letters_and_digits(rt: HostRuntime) -> Result<(), Fail> {
     ] {
         let mut mutation = Mutation::new(rt.alloc(), b"")?;
         mutation.put(family, b"", b"", None, b"")?;
-        let verdict = check(rt.alloc(), &[Constraint::Alphanumeric], &mutation, &auths)?;
+        let verdict = check(rt.alloc(), &set, &mutation, &auths)?;
         assert_eq!(rt; verdict.is_empty(), passes, "{family:?}");
     }
     Ok(())
@@ -127,12 +129,12 @@ fn limits_the_key(rt: HostRuntime) -> Result<(), Fail> {
     );
     let mut mutation = Mutation::new(rt.alloc(), quarter)?;
     mutation.put(quarter, quarter, quarter, None, b"1")?;
-    let set = [Constraint::KeySize];
+    let set = ConstraintSet::of(&[Constraint::KeySize]);
     assert!(rt; check(rt.alloc(), &set, &mutation, &auths)?.is_empty());
     mutation.delete(quarter, whole, quarter, None)?;
     let verdict = check(rt.alloc(), &set, &mutation, &auths)?;
     assert_eq!(rt; listed(&rt, &verdict)?.as_slice(), [(1, 1, 1)].as_slice());
-    let verdict = check(rt.alloc(), &ALL, &mutation, &auths)?;
+    let verdict = check(rt.alloc(), &ConstraintSet::of(&ALL), &mutation, &auths)?;
     assert_eq!(rt;
         listed(&rt, &verdict)?.as_slice(),
         [(1, 1, 1), (4, 2, 0)].as_slice()
