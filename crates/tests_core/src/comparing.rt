@@ -1,74 +1,13 @@
 //! Pairs of runs that look alike to bob, who holds A and never B, and what he is told in them.
 
+use crate::steps::{auths, close, deletes, event, makes_table, next, opens, puts, text_of};
 use std::alloc::{AllocError, Global};
 use std::process::Abort;
 use std::test::Fail;
 use tab_core::compare_runs;
-use tab_history::{Act, Event, Refusal, Reply, Scan, Step, TimeMode};
-use tab_key::{Bound, Bounds, Cell, Items};
-use tab_label::AuthSet;
-use tab_mutation::Mutation;
+use tab_history::{Act, Step};
 use tab_policy::{Permission, TablePermission};
 use tab_testing::{Random, name};
-
-fn event(user: &[u8], moment: i64, act: Act) -> Result<Step, Fail> {
-    let user = name(user)?;
-    Ok(Step::Event(Event { user, moment, act }))
-}
-
-fn next(user: &[u8], slot: u32, count: u32) -> Result<Step, Fail> {
-    let user = name(user)?;
-    Ok(Step::Next { user, slot, count })
-}
-
-// Authorizations of one byte each.
-fn auths(alloc: Global, letters: &[u8]) -> Result<AuthSet, AllocError> {
-    let mut terms = Vec::new(alloc);
-    for letter in letters {
-        terms.push(Vec::from_slice(alloc, &[*letter])?)?;
-    }
-    Ok(AuthSet::new(terms))
-}
-
-// A scan of all of t.
-fn opens(alloc: Global, user: &[u8], moment: i64, letters: &[u8]) -> Result<Step, Fail> {
-    let scan = Scan {
-        table: name(b"t")?,
-        bounds: Bounds {
-            low: Bound::Unbounded,
-            high: Bound::Unbounded,
-        },
-        columns: Items::new(alloc),
-        authorizations: auths(alloc, letters)?,
-    };
-    event(user, moment, Act::Open(scan))
-}
-
-// A put of a value to the one column of t.
-fn puts(
-    alloc: Global,
-    user: &[u8],
-    moment: i64,
-    label: &[u8],
-    timestamp: Option<i64>,
-    value: u8,
-) -> Result<Step, Fail> {
-    let mut mutation = Mutation::new(alloc, b"r")?;
-    mutation.put(b"f", b"q", label, timestamp, &[value])?;
-    event(user, moment, Act::Write(name(b"t")?, mutation))
-}
-
-fn deletes(
-    alloc: Global,
-    user: &[u8],
-    moment: i64,
-    label: &[u8],
-    timestamp: Option<i64>,
-) -> Result<Step, Fail> {
-    let mut mutation = Mutation::new(alloc, b"r")?;
-    mutation.delete(b"f", b"q", label, timestamp)?;
-    event(user, moment, Act::Write(name(b"t")?, mutation))
-}
 
 // A user with permission to read t and to write to it.
 fn make_user(
@@ -90,8 +29,7 @@ fn make_user(
 
 // The table t of two versions; bob with A, eve and root with A and B.
 fn make_all(alloc: Global, steps: &mut Vec<Step>) -> Result<(), Fail> {
-    let table = Act::CreateTable(name(b"t")?, TimeMode::Any, 2);
-    steps.push(event(b"root", 0, table)?)?;
+    steps.push(makes_table(2)?)?;
     let held = auths(alloc, b"AB")?;
     steps.push(event(b"root", 0, Act::SetAuths(name(b"root")?, held))?)?;
     make_user(alloc, steps, b"bob", b"A")?;
@@ -103,49 +41,6 @@ fn add_copies(steps: &mut Vec<Step>, more: &[Step]) -> Result<(), AllocError> {
         steps.push(step.clone()?)?;
     }
     Ok(())
-}
-
-// The cells, as `label@timestamp=value` with a comma after each.
-fn add_cells(alloc: Global, text: &mut Vec<u8>, cells: &[Cell]) -> Result<(), AllocError> {
-    for cell in cells {
-        text.extend_from_slice(cell.label())?;
-        text.push(b'@')?;
-        let timestamp = format!(in alloc; "{}", cell.timestamp())?;
-        text.extend_from_slice(timestamp.as_bytes())?;
-        text.push(b'=')?;
-        text.extend_from_slice(cell.value())?;
-        text.push(b',')?;
-    }
-    Ok(())
-}
-
-fn word_of(refusal: &Refusal) -> &'static [u8] {
-    match refusal {
-        Refusal::BadAuthorizations(_) => b"unheld",
-        Refusal::NoSession(_) => b"unopened",
-        Refusal::PermissionDenied(_) => b"denied",
-        _ => b"refused",
-    }
-}
-
-// The replies, with a blank after each.
-fn text_of(alloc: Global, replies: &[Reply]) -> Result<Vec<u8>, AllocError> {
-    let mut text = Vec::new(alloc);
-    for reply in replies {
-        match reply {
-            Reply::Done => text.extend_from_slice(b"ok")?,
-            Reply::Refused(refusal) => text.extend_from_slice(word_of(refusal))?,
-            Reply::Opened(_) => text.extend_from_slice(b"opened")?,
-            Reply::Batch(cells) => add_cells(alloc, &mut text, cells.as_slice())?,
-            Reply::Rights(rights) => {
-                for term in rights.authorizations.terms() {
-                    text.extend_from_slice(term)?;
-                }
-            }
-        }
-        text.push(b' ')?;
-    }
-    Ok(text)
 }
 
 // What others write under B, before bob's first scan.
@@ -218,10 +113,7 @@ fn random_step(alloc: Global, random: &mut Random, moment: i64) -> Result<Step, 
         0..=1 => opens(alloc, b"bob", moment, label),
         2 => opens(alloc, b"bob", moment, b"AB"),
         3..=5 => next(b"bob", slot, count),
-        6 => Ok(Step::Close {
-            user: name(b"bob")?,
-            slot,
-        }),
+        6 => close(b"bob", slot),
         7 => event(b"bob", moment, Act::Rights(name(b"t")?)),
         8 => puts(alloc, b"bob", moment, label, timestamp, value),
         9 => deletes(alloc, b"root", moment, label, timestamp),

@@ -4,7 +4,7 @@ use std::alloc::Global;
 use std::process::Abort;
 use std::test::Fail;
 use tab_core::{Core, Session};
-use tab_history::{Act, Event, Reply, Scan, TimeMode};
+use tab_history::{Act, Event, Reply, Scan, TimeMode, Versions};
 use tab_key::{Cell, Items};
 use tab_testing::{Query, Random, Update, auths_of, mutation_of, name, scanned};
 
@@ -20,6 +20,7 @@ fn asked(core: &mut Core, alloc: Global, moment: u8, act: Act) -> Result<Reply<S
 // A core with the table `t`, which shows so many versions, and with root's authorizations A and B.
 fn prepared(alloc: Global, versions: u32) -> Result<Core, Fail> {
     let mut core = Core::new(alloc)?;
+    let versions = Versions::new(u64::from(versions)).ok_or("1 to 1,000")?;
     let made = Act::CreateTable(name(b"t")?, TimeMode::Any, versions);
     let _ = asked(&mut core, alloc, 0, made)?;
     let held = Act::SetAuths(name(b"root")?, auths_of(alloc, &[b"A", b"B"])?);

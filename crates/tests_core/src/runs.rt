@@ -1,118 +1,82 @@
-//! Runs of steps.
+//! Runs of steps, and the sessions that they keep.
 
-use crate::asking::{Ask, act_of};
-use crate::texts::reply_text;
+use crate::steps::{close, makes_table, next, opens, puts, text_of};
 use std::alloc::Global;
-use std::process::Abort;
 use std::test::Fail;
 use tab_core::run;
-use tab_history::{Event, Step, TimeMode};
-use tab_testing::name;
+use tab_history::Step;
 
-// A step of a user, in short.
-#[derive(Clone, Copy)]
-enum Move {
-    Asks(Ask),
-    Next(u32, u32),
-    Closes(u32),
-}
-
-// A user, his step, and the text of the reply.
-type Line = (&'static [u8], Move, &'static [u8]);
-
-fn step_of(alloc: Global, user: &[u8], step: Move) -> Result<Step, Fail> {
-    let user = name(user)?;
-    match step {
-        Move::Next(slot, count) => Ok(Step::Next { user, slot, count }),
-        Move::Closes(slot) => Ok(Step::Close { user, slot }),
-        Move::Asks(ask) => {
-            let act = act_of(alloc, ask)?;
-            Ok(Step::Event(Event {
-                user,
-                moment: 0,
-                act,
-            }))
-        }
-    }
-}
-
-fn steps_of(alloc: Global, lines: &[Line]) -> Result<Vec<Step>, Fail> {
+// The table with three puts, and a session of root's behind each of the last two.
+fn begun(alloc: Global) -> Result<Vec<Step>, Fail> {
     let mut steps = Vec::new(alloc);
-    for (user, step, _) in lines {
-        steps.push(step_of(alloc, user, *step)?)?;
+    steps.push(makes_table(3)?)?;
+    for value in 1..4u8 {
+        let timestamp = Some(i64::from(value));
+        steps.push(puts(alloc, b"root", 0, b"", timestamp, b'0' + value)?)?;
+        if value > 1 {
+            steps.push(opens(alloc, b"root", 0, b"")?)?;
+        }
     }
     Ok(steps)
 }
 
-// Runs the steps, and compares the replies.
-fn replay(rt: &impl Abort, alloc: Global, lines: &[Line]) -> Result<(), Fail> {
-    let steps = steps_of(alloc, lines)?;
-    let replies = run(alloc, &steps)?;
-    assert_eq!(rt; replies.len(), lines.len());
-    for (reply, (_, _, want)) in replies.iter().zip(lines) {
-        let text = reply_text(alloc, reply)?;
-        assert_eq!(rt; text.as_slice(), *want);
+#[test]
+fn a_run_keeps_sessions_by_their_numbers(rt: HostRuntime) -> Result<(), Fail> {
+    let alloc = rt.alloc();
+    let mut steps = begun(alloc)?;
+    for (slot, count) in [(0, 1), (1, 1), (2, 1), (0, 0), (0, 5), (0, 5), (1, 5)] {
+        steps.push(next(b"root", slot, count)?)?;
     }
+    let replies = run(alloc, &steps)?;
+    assert_eq!(rt;
+        text_of(alloc, &replies)?.as_slice(),
+        b"ok ok ok opened ok opened @2=2, @3=3, unopened  @1=1,  @2=2,@1=1, ".as_slice()
+    );
     Ok(())
 }
 
 #[test]
-fn a_run_keeps_sessions_by_their_numbers(rt: HostRuntime) -> Result<(), Fail> {
-    let lines = [
-        (
-            b"root".as_slice(),
-            Move::Asks(Ask::Create(TimeMode::Any, 3)),
-            b"ok".as_slice(),
-        ),
-        (b"root", Move::Asks(Ask::Put(b"", Some(2), b"two")), b"ok"),
-        (b"root", Move::Asks(Ask::Put(b"", Some(1), b"one")), b"ok"),
-        (b"root", Move::Asks(Ask::Scan(b"")), b"opened"),
-        (b"root", Move::Asks(Ask::Scan(b"a")), b"BadAuthorizations a"),
-        (b"root", Move::Asks(Ask::Put(b"", Some(3), b"three")), b"ok"),
-        (b"root", Move::Asks(Ask::Scan(b"")), b"opened"),
-        (b"root", Move::Next(0, 1), b"two@2 "),
-        (b"root", Move::Next(1, 1), b"three@3 "),
-        (b"root", Move::Next(2, 1), b"NoSession 2"),
-        (b"root", Move::Next(0, 5), b"one@1 "),
-        (b"root", Move::Next(0, 5), b""),
-        (b"root", Move::Next(1, 5), b"two@2 one@1 "),
-    ];
-    replay(&rt, rt.alloc(), &lines)
-}
-
-#[test]
 fn a_closed_session_is_gone_for_good(rt: HostRuntime) -> Result<(), Fail> {
-    let lines = [
-        (
-            b"root".as_slice(),
-            Move::Asks(Ask::Create(TimeMode::Any, 1)),
-            b"ok".as_slice(),
-        ),
-        (b"root", Move::Asks(Ask::Put(b"", Some(1), b"one")), b"ok"),
-        (b"root", Move::Asks(Ask::Scan(b"")), b"opened"),
-        (b"root", Move::Closes(0), b"ok"),
-        (b"root", Move::Next(0, 1), b"NoSession 0"),
-        (b"root", Move::Closes(0), b"NoSession 0"),
-        (b"root", Move::Asks(Ask::Scan(b"")), b"opened"),
-        (b"root", Move::Next(0, 1), b"NoSession 0"),
-        (b"root", Move::Next(1, 9), b"one@1 "),
-    ];
-    replay(&rt, rt.alloc(), &lines)
+    let alloc = rt.alloc();
+    let mut steps = begun(alloc)?;
+    steps.push(close(b"root", 0)?)?;
+    steps.push(next(b"root", 0, 1)?)?;
+    steps.push(close(b"root", 0)?)?;
+    steps.push(opens(alloc, b"root", 0, b"A")?)?;
+    steps.push(opens(alloc, b"root", 0, b"")?)?;
+    steps.push(opens(alloc, b"eve", 0, b"")?)?;
+    for (user, slot) in [(b"root".as_slice(), 0), (b"root", 2), (b"eve", 2)] {
+        steps.push(next(user, slot, 1)?)?;
+    }
+    steps.push(close(b"eve", 0)?)?;
+    let replies = run(alloc, &steps)?;
+    assert_eq!(rt;
+        text_of(alloc, &replies)?.as_slice(),
+        b"ok ok ok opened ok opened ok unopened unopened unheld opened unknown unopened @3=3, unopened unopened "
+            .as_slice()
+    );
+    Ok(())
 }
 
+// So many sessions, each behind one more put of the same column, and all read at the end.
 #[test]
-fn sessions_are_their_own_users(rt: HostRuntime) -> Result<(), Fail> {
-    let lines = [
-        (
-            b"root".as_slice(),
-            Move::Asks(Ask::Create(TimeMode::Any, 1)),
-            b"ok".as_slice(),
-        ),
-        (b"root", Move::Asks(Ask::Scan(b"")), b"opened"),
-        (b"eve", Move::Asks(Ask::Scan(b"")), b"UnknownUser eve"),
-        (b"eve", Move::Next(0, 1), b"NoSession 0"),
-        (b"eve", Move::Closes(0), b"NoSession 0"),
-        (b"root", Move::Next(0, 1), b""),
-    ];
-    replay(&rt, rt.alloc(), &lines)
+fn a_run_keeps_many_sessions(rt: HostRuntime) -> Result<(), Fail> {
+    let alloc = rt.alloc();
+    let mut steps = Vec::new(alloc);
+    steps.push(makes_table(1)?)?;
+    for value in 0..150u8 {
+        let timestamp = Some(i64::from(value));
+        steps.push(puts(alloc, b"root", 0, b"", timestamp, value)?)?;
+        steps.push(opens(alloc, b"root", 0, b"")?)?;
+    }
+    for slot in 0..150u32 {
+        steps.push(next(b"root", slot, 2)?)?;
+    }
+    let replies = run(alloc, &steps)?;
+    for (at, reply) in replies.iter().skip(301).enumerate() {
+        let want = format!(in alloc; "@{at}=")?;
+        let text = text_of(alloc, std::slice::from_ref(reply))?;
+        assert!(rt; text.as_slice().starts_with(want.as_bytes()), "session {at}");
+    }
+    Ok(())
 }

@@ -1,18 +1,16 @@
-//! Tests of streams, texts, lines and whole scripts, by public calls.
+//! Tests of streams, texts, scripts and subcommands, by public calls.
 //!
-//! A crate of its own, since tests inside a crate have it proved twice.
+//! A crate of its own, since tests inside a crate have it proved twice. What lines say and what they are answered is tested by the
+//! scripts in tests/cases, with the built program.
 //!
 //! | File | What is tested |
 //! |---|---|
 //! | `streams` | `tab_io`: blocks, faults in the middle of a stream, numbers |
 //! | `texts` | `tab_text`: words and their escapes |
-//! | `lines` | `tab_lines`: tables of lines with what they say; `showing`: what a line says as text; `users`: lines on users and rights |
-//! | `scripts` | `tab_shell`: scripts with what they print, in `rows`, and what a fault leaves |
+//! | `scripts` | `tab_shell`: scripts cut anywhere, and what a fault leaves; `tab_lines`: its law |
 //! | `programs` | `tab_prog`: a subcommand from its input to its output |
 #![tactic(auto)]
 
-#[cfg(test)]
-mod lines;
 #[cfg(test)]
 mod programs;
 #[cfg(test)]

@@ -1,7 +1,4 @@
-//! Whole scripts, as the format shows them, and what a fault in the middle of a stream leaves.
-mod rows;
-
-use self::rows::ROWS;
+//! Scripts cut anywhere, and what a fault in the middle of a stream leaves.
 use std::alloc::Global;
 use std::io::ErrorKind;
 use std::test::Fail;
@@ -10,6 +7,7 @@ use tab_history::{Refusal, Reply};
 use tab_io::memory::{Fault, PieceReader, PieceWriter};
 use tab_io::{BlockReader, BlockWriter, Output};
 use tab_key::Part;
+use tab_lines::lines_are_forms;
 use tab_shell::{Ended, Script, ScriptFault, write_reply};
 
 // What a new script prints for these lines, read in pieces of this length.
@@ -22,40 +20,14 @@ fn printed(alloc: Global, lines: &[u8], piece: usize) -> Result<Vec<u8>, Fail> {
     Ok(Vec::from_slice(alloc, output.get_ref().bytes())?)
 }
 
-#[test]
-fn answers_lines(rt: HostRuntime) -> Result<(), Fail> {
-    for (lines, want) in ROWS {
-        for piece in [1, 7, 1000] {
-            let text = printed(rt.alloc(), lines, piece)?;
-            assert_eq!(rt; text.as_slice(), want, "{lines:?} in pieces of {piece}");
-        }
-    }
-    Ok(())
-}
+const LINES: &[u8] = b"createtable t\ninsert t r f q \\e v 5\nbogus\nscan t \\0";
 
-// Adds a line that writes one cell in this row of table t.
-fn push_insert(lines: &mut Vec<u8>, row: usize) -> Result<(), Fail> {
-    lines.extend_from_slice(b"insert t ")?;
-    for unit in [1000, 100, 10, 1] {
-        lines.push(b'0' + (row / unit % 10) as u8)?;
-    }
-    lines.extend_from_slice(b" f q \\e v 1\n")?;
-    Ok(())
-}
-
-// So many cells are one line each behind the replies to their writes, and an end, whatever batches they come in.
 #[test]
-fn prints_scans_of_several_batches(rt: HostRuntime) -> Result<(), Fail> {
-    for cells in [999, 1000, 1001, 2000] {
-        let mut lines = Vec::from_slice(rt.alloc(), b"createtable t\n")?;
-        for row in 0..cells {
-            push_insert(&mut lines, row)?;
-        }
-        lines.extend_from_slice(b"scan t \\0\n")?;
-        let text = printed(rt.alloc(), lines.as_slice(), 1000)?;
-        let ends = text.iter().filter(|byte| **byte == b'\n').count();
-        assert_eq!(rt; ends, 2 + 2 * cells);
-        assert!(rt; text.as_slice().ends_with(b" f q \\e 1 v\nend\n"));
+fn answers_lines_wherever_they_are_cut(rt: HostRuntime) -> Result<(), Fail> {
+    lines_are_forms();
+    for piece in [1, 7, 1000] {
+        let text = printed(rt.alloc(), LINES, piece)?;
+        assert_eq!(rt; text.as_slice(), b"ok\nok\nline fault\nr f q \\e 5 v\nend\n".as_slice());
     }
     Ok(())
 }

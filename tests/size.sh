@@ -1,0 +1,132 @@
+#!/usr/bin/env bash
+# Scripts at sizes past the program's blocks and at its limits: long lines, labels, values, mutations, and many rounds and users.
+# Usage: tests/size.sh   (from anywhere; builds the program if it isn't built)
+set -u
+top=$(cd "$(dirname -- "${BASH_SOURCE[0]}")/.." && pwd)
+work=$(mktemp -d) || exit 1
+trap 'rm -rf "$work"' EXIT
+"$top/tabd" --version >/dev/null || exit 1
+program=$top/crates/tabd/out/tabd
+cd "$work" || exit 1
+passed=0 failed=0
+
+# Runs the lines of the file `lines`, and compares what is printed with the file `wanted`.
+prints() { # NAME
+    if "$program" script <lines >printed 2>err && [ ! -s err ] && cmp -s printed wanted; then
+        passed=$((passed + 1))
+    else
+        failed=$((failed + 1))
+        echo "FAILED: $1"
+        cmp printed wanted
+        cut -c 1-200 err
+    fi
+}
+
+# So many times the byte.
+bytes() { # COUNT BYTE
+    head -c "$1" /dev/zero | tr '\0' "$2"
+}
+
+long=$(bytes 100000 v)
+printf '%s\n' 'createtable t' "insert t r f q \\e $long 5" 'insert t s f q \e short 5' 'scan t \0' >lines
+printf '%s\n' ok ok ok "r f q \\e 5 $long" 's f q \e 5 short' end >wanted
+prints 'a line of more than a block'
+
+# A label of 1 MiB less one byte is a thousand times a thousand terms; one byte over 1 MiB is too long.
+terms=$(bytes 1048574 x | sed 's/xx/|b/g')
+for ended in '\n' ''; do
+    printf '%s\n' 'createtable t' 'setauths root b' "insert t r f q a$terms v 5" "insert t s f q b${terms}bb v 5" 'scan t b' >lines
+    printf '%s\n' 'scan t \0' >>lines
+    printf "insert t r f q a${terms}& v 5$ended" >>lines
+    printf '%s\n' ok ok ok 'refused 9 TooLarge label' "r f q a$terms 5 v" end end 'refused 5 MalformedVisibility 0 1048575' >wanted
+    prints "a label of 1 MiB, read and judged; the last line ends in '$ended'"
+done
+
+value=$(bytes 1048576 v) row=$(bytes 1048576 r)
+printf '%s\n' 'createtable t' "insert t $row f q \\e $value 5" "insert t r f q \\e v$value 5" "insert t r$row f q \\e v 5" 'scan t \0' >lines
+printf '%s\n' ok ok 'refused 9 TooLarge value' 'refused 9 TooLarge row' "$row f q \\e 5 $value" end >wanted
+prints 'a put of over 2 MiB, with the longest row and value'
+
+# A mutation of 1,000 updates under all constraints, one with a violation in its last update, and one update too many.
+updates() { # COUNT LAST
+    awk -v count="$1" -v last="$2" 'BEGIN {
+        for (i = 1; i < count; i++) printf " put f %04d a %d - ;", i, i
+        printf " put f %04d a %s -\n", count, last
+    }'
+}
+{
+    printf '%s\n' 'createtable t' 'setauths root a' 'constraints t keysize,alphanum,numeric,visibility'
+    for it in '1000 1000' '1000 x' '1001 1001'; do
+        # shellcheck disable=SC2086
+        echo "mutate t r$(updates $it)"
+    done
+    echo 'scan t a'
+} >lines
+{
+    printf '%s\n' ok ok ok ok 'refused 6 ConstraintViolation 3:1:999' 'refused 9 TooLarge updates'
+    awk 'BEGIN { for (i = 1; i <= 1000; i++) printf "r f %04d a 0 %d\n", i, i; print "end" }'
+} >wanted
+prints 'a constrained mutation of 1,000 updates'
+
+# 20,000 cells, over 2 MiB, in an order of their own, before the first scan; then the same again, half of it newer.
+awk -v value="$(bytes 100 v)" 'BEGIN {
+    print "createtable t"
+    for (i = 0; i < 20000; i++) printf "insert t %05d f q \\e %s%d 5\n", i * 7919 % 20000, value, i
+    print "scan t \\0"
+    for (i = 0; i < 10000; i++) printf "insert t %05d f q \\e newer 6\n", i * 7919 % 20000
+    print "scan t \\0"
+}' >lines
+awk -v value="$(bytes 100 v)" 'BEGIN {
+    for (i = 0; i <= 20000; i++) print "ok"
+    for (i = 0; i < 20000; i++) at[i * 7919 % 20000] = i
+    for (i = 0; i < 20000; i++) printf "%05d f q \\e 5 %s%d\n", i, value, at[i]
+    print "end"
+    for (i = 0; i < 10000; i++) print "ok"
+    for (i = 0; i < 20000; i++) if (at[i] < 10000) printf "%05d f q \\e 6 newer\n", i; else printf "%05d f q \\e 5 %s%d\n", i, value, at[i]
+    print "end"
+}' >wanted
+prints 'over 2 MiB written before a scan'
+
+# Scans that end at, before and behind the end of a batch of 1,000.
+for cells in 999 1000 1001 2000; do
+    awk -v cells="$cells" 'BEGIN {
+        print "createtable t"
+        for (i = 0; i < cells; i++) printf "insert t %04d f q \\e v 1\n", i
+        print "scan t \\0"
+    }' >lines
+    awk -v cells="$cells" 'BEGIN {
+        for (i = 0; i <= cells; i++) print "ok"
+        for (i = 0; i < cells; i++) printf "%04d f q \\e 1 v\n", i
+        print "end"
+    }' >wanted
+    prints "a scan of $cells cells"
+done
+
+awk 'BEGIN {
+    print "createtable t versions=3"
+    for (i = 1; i <= 300; i++) printf "insert t r%d f q \\e v%d %d\nscan t \\0 [r%d [r%d\n", i % 7, i, i, i % 7, i % 7
+}' >lines
+awk 'BEGIN {
+    print "ok"
+    for (i = 1; i <= 300; i++) {
+        print "ok"
+        for (k = i; k > 0 && k > i - 21; k -= 7) printf "r%d f q \\e %d v%d\n", i % 7, k, k
+        print "end"
+    }
+}' >wanted
+prints '300 rounds of write and scan'
+
+# Each of 150 users sees what all see and what is his.
+awk 'BEGIN {
+    print "createtable t\ninsert t all f q \\e v 5"
+    for (i = 100; i < 250; i++) printf "createuser u%d\nsetauths u%d a%d\ngrant u%d READ t\ninsert t his f q%d a%d v%d 5\n", i, i, i, i, i, i, i
+    for (i = 100; i < 250; i++) printf "as u%d\nscan t a%d\nscan t a%d\n", i, i, i + 1
+}' >lines
+awk 'BEGIN {
+    for (i = 0; i < 602; i++) print "ok"
+    for (i = 100; i < 250; i++) printf "all f q \\e 5 v\nhis f q%d a%d 5 v%d\nend\nrefused 4 BadAuthorizations a%d\n", i, i, i, i + 1
+}' >wanted
+prints '150 users who scan'
+
+echo "$passed passed, $failed failed"
+[ "$failed" -eq 0 ]
