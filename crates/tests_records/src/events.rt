@@ -1,13 +1,8 @@
-//! Copies of events and replies.
+//! Copies of events, parts of replies, and numbers of versions.
 use std::test::Fail;
-use tab_history::{Act, Event, Refusal, Reply, Rights, Scan, Step, TimeMode, copied};
-use tab_key::{Bound, Bounds, ByteString, Column, Items, Name, Part};
-use tab_label::AuthSet;
+use tab_history::{Act, Event, Refusal, Reply, Versions, copied};
+use tab_key::{Items, Name, Part};
 use tab_mutation::Mutation;
-use tab_policy::{
-    Permission, SystemPermission, SystemPermissions, TablePermission, TablePermissions,
-};
-use tab_rules::Constraint;
 
 fn name(bytes: &[u8]) -> Result<Name, Fail> {
     Ok(Name::new(bytes).ok_or("a name")?)
@@ -41,84 +36,11 @@ fn copies_a_write(rt: HostRuntime) -> Result<(), Fail> {
 }
 
 #[test]
-fn copies_an_open(rt: HostRuntime) -> Result<(), Fail> {
-    let alloc = rt.alloc();
-    let mut columns = Vec::new(alloc);
-    columns.push(Column::Family(ByteString::from_slice(alloc, b"f")?))?;
-    let scan = Scan {
-        table: name(b"t")?,
-        bounds: Bounds {
-            low: Bound::Inclusive(ByteString::from_slice(alloc, b"a")?),
-            high: Bound::Unbounded,
-        },
-        columns: Items::from_vec(columns),
-        authorizations: AuthSet::empty(alloc),
-    };
-    let opened = event(Act::Open(scan))?;
-    let copy = copied(&opened)?;
-    let Act::Open(scan) = copy.act else {
-        return Err("an open".into());
-    };
-    assert_eq!(rt; scan.columns.len(), 1);
-    assert!(rt; matches!(scan.bounds.low, Bound::Inclusive(_)));
-    Ok(())
-}
-
-#[test]
-fn copies_constraints(rt: HostRuntime) -> Result<(), Fail> {
-    let mut constraints = Vec::new(rt.alloc());
-    constraints.push(Constraint::Numeric)?;
-    let set = event(Act::SetConstraints(name(b"t")?, Items::from_vec(constraints)))?;
-    let copy = copied(&set)?;
-    match &copy.act {
-        Act::SetConstraints(_, constraints) => assert_eq!(rt; constraints.len(), 1),
-        _ => return Err("constraints".into()),
+fn counts_versions_from_1_to_1000(rt: HostRuntime) -> Result<(), Fail> {
+    assert_eq!(rt; Versions::one().get(), 1);
+    for (count, is_counted) in [(0u64, false), (1, true), (1000, true), (1001, false), (u64::MAX, false)] {
+        assert_eq!(rt; Versions::new(count).is_some(), is_counted, "{count}");
     }
-    Ok(())
-}
-
-#[test]
-fn copies_a_grant(rt: HostRuntime) -> Result<(), Fail> {
-    let read = Permission::OfTable(TablePermission::Read, name(b"t")?);
-    let grant = event(Act::Grant(name(b"bob")?, read))?;
-    let copy = copied(&grant)?;
-    match &copy.act {
-        Act::Grant(user, permission) => {
-            assert_eq!(rt; user.as_bytes(), b"bob".as_slice());
-            assert!(rt; *permission == read);
-        }
-        _ => return Err("a grant".into()),
-    }
-    let create = Permission::OfSystem(SystemPermission::CreateTable);
-    let revoke = event(Act::Revoke(name(b"bob")?, create))?;
-    let copy = copied(&revoke)?;
-    match &copy.act {
-        Act::Revoke(_, permission) => assert!(rt; *permission == create),
-        _ => return Err("a revocation".into()),
-    }
-    Ok(())
-}
-
-#[test]
-fn copies_users_and_tables(rt: HostRuntime) -> Result<(), Fail> {
-    let made = copied(&event(Act::CreateUser(name(b"bob")?))?)?;
-    assert!(rt; matches!(made.act, Act::CreateUser(_)));
-    let dropped = copied(&event(Act::DropUser(name(b"bob")?))?)?;
-    assert!(rt; matches!(dropped.act, Act::DropUser(_)));
-    let dropped = copied(&event(Act::DropTable(name(b"t")?))?)?;
-    assert!(rt; matches!(dropped.act, Act::DropTable(_)));
-    let asked = copied(&event(Act::Rights(name(b"t")?))?)?;
-    assert!(rt; matches!(asked.act, Act::Rights(_)));
-    Ok(())
-}
-
-#[test]
-fn copies_a_step(rt: HostRuntime) -> Result<(), Fail> {
-    let made = event(Act::CreateTable(name(b"t")?, TimeMode::Server, 3))?;
-    let copy = copied(&made)?;
-    assert!(rt; matches!(copy.act, Act::CreateTable(_, TimeMode::Server, 3)));
-    let step = Step::Event(copy);
-    assert!(rt; matches!(step.clone()?, Step::Event(_)));
     Ok(())
 }
 
@@ -137,29 +59,5 @@ fn parts_a_reply_and_its_session(rt: HostRuntime) -> Result<(), Fail> {
     let (told, session) = Reply::<u8>::Done.into_parts();
     assert!(rt; matches!(told, Reply::Done));
     assert_eq!(rt; session, None);
-    Ok(())
-}
-
-#[test]
-fn parts_rights_that_are_told(rt: HostRuntime) -> Result<(), Fail> {
-    let alloc = rt.alloc();
-    let mut terms = Vec::new(alloc);
-    terms.push(Vec::from_slice(alloc, b"A")?)?;
-    let rights = Rights {
-        system: SystemPermissions::all(),
-        table: TablePermissions::none().with(TablePermission::Write),
-        authorizations: AuthSet::new(terms),
-    };
-    let (told, session) = Reply::<u8>::Rights(rights.clone()?).into_parts();
-    assert_eq!(rt; session, None);
-    match &told {
-        Reply::Rights(told) => {
-            assert!(rt; told.system.contains(SystemPermission::DropUser));
-            assert!(rt; told.table.contains(TablePermission::Write));
-            assert!(rt; !told.table.contains(TablePermission::Read));
-            assert_eq!(rt; told.authorizations.terms().len(), 1);
-        }
-        _ => return Err("rights".into()),
-    }
     Ok(())
 }

@@ -8,8 +8,8 @@
 //! | `labels` | `tab_label`: tables of labels; `brute`: every short text, beside the grammar written as a search |
 //! | `mutations` | `tab_mutation`: what is kept, and shapes |
 //! | `rules` | `tab_rules`: constraints |
-//! | `policies` | `tab_policy`: the table of permissions, and lives of users and tables |
-//! | `events` | `tab_history`: copies of events and replies |
+//! | `policies` | `tab_policy`: names of permissions, and lives of users and tables |
+//! | `events` | `tab_history`: copies of events, parts of replies, numbers of versions |
 #![tactic(auto)]
 
 #[cfg(test)]

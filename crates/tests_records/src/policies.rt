@@ -1,107 +1,12 @@
-//! The table of permissions as data, and what a life of a user or a table leaves behind.
+//! What a life of a user or a table leaves behind. Who may do what is tested by tests/permissions.sh, with the built program.
 use std::alloc::Global;
 use std::test::Fail;
 use tab_key::Name;
 use tab_label::AuthSet;
-use tab_policy::{
-    Action, Denial, Permission, Policy, ServerAction, SystemPermission, TableAction,
-    TablePermission,
-};
-
-// The permissions of which any admits an action: those for the whole server, then those for the table.
-type Needed = (&'static [SystemPermission], &'static [TablePermission]);
+use tab_policy::{Permission, Policy, SystemPermission, TablePermission};
 
 fn name(bytes: &[u8]) -> Result<Name, Fail> {
     Ok(Name::new(bytes).ok_or("a name")?)
-}
-
-const ALTER: &[SystemPermission] = &[SystemPermission::AlterTable];
-
-const GRANT: &[SystemPermission] = &[SystemPermission::Grant];
-
-const SYSTEM: &[SystemPermission] = &[SystemPermission::System];
-
-const ALTER_IT: &[TablePermission] = &[TablePermission::AlterTable];
-
-const COMPACT_IT: &[TablePermission] = &[TablePermission::AlterTable, TablePermission::Write];
-
-const GRANT_IT: &[TablePermission] = &[TablePermission::Grant];
-
-const ON_TABLES: &[TableAction] = &[
-    TableAction::Open,
-    TableAction::Write,
-    TableAction::DropTable,
-    TableAction::AddSplit,
-    TableAction::SplitBySize,
-    TableAction::Splits,
-    TableAction::Status,
-    TableAction::SetConstraints,
-    TableAction::SetVersions,
-    TableAction::SetHorizon,
-    TableAction::Flush,
-    TableAction::Compact,
-    TableAction::Begin,
-    TableAction::Install,
-    TableAction::Rights,
-];
-
-const ON_SERVER: &[ServerAction] = &[
-    ServerAction::CreateTable,
-    ServerAction::CreateUser,
-    ServerAction::DropUser,
-    ServerAction::SetAuths,
-    ServerAction::Save,
-    ServerAction::Load,
-    ServerAction::Rotate,
-];
-
-// What admits an action on a table.
-fn needed_on(action: TableAction) -> Needed {
-    match action {
-        TableAction::Open => (&[], &[TablePermission::Read]),
-        TableAction::Write => (&[], &[TablePermission::Write]),
-        TableAction::DropTable => (
-            &[SystemPermission::DropTable],
-            &[TablePermission::DropTable],
-        ),
-        TableAction::AddSplit => (ALTER, ALTER_IT),
-        TableAction::SplitBySize => (ALTER, ALTER_IT),
-        TableAction::Splits => (ALTER, ALTER_IT),
-        TableAction::Status => (ALTER, ALTER_IT),
-        TableAction::SetConstraints => (ALTER, ALTER_IT),
-        TableAction::SetVersions => (ALTER, ALTER_IT),
-        TableAction::SetHorizon => (ALTER, ALTER_IT),
-        TableAction::Flush => (ALTER, COMPACT_IT),
-        TableAction::Compact => (ALTER, COMPACT_IT),
-        TableAction::Begin => (ALTER, COMPACT_IT),
-        TableAction::Install => (ALTER, COMPACT_IT),
-        TableAction::Rights => (&[], &[]),
-    }
-}
-
-// What admits an action on users, new tables and the server.
-fn needed_for(action: ServerAction) -> Needed {
-    match action {
-        ServerAction::CreateTable => (&[SystemPermission::CreateTable], &[]),
-        ServerAction::CreateUser => (&[SystemPermission::CreateUser], &[]),
-        ServerAction::DropUser => (&[SystemPermission::DropUser], &[]),
-        ServerAction::SetAuths => (&[SystemPermission::AlterUser], &[]),
-        ServerAction::Save => (SYSTEM, &[]),
-        ServerAction::Load => (SYSTEM, &[]),
-        ServerAction::Rotate => (SYSTEM, &[]),
-    }
-}
-
-// The permissions needed, in their order.
-fn listed(alloc: Global, needed: Needed, table: Name) -> Result<Vec<Permission>, Fail> {
-    let mut all = Vec::new(alloc);
-    for permission in needed.0 {
-        all.push(Permission::OfSystem(*permission))?;
-    }
-    for permission in needed.1 {
-        all.push(Permission::OfTable(*permission, table))?;
-    }
-    Ok(all)
 }
 
 // Each permission alone, for the whole server and for the table.
@@ -116,17 +21,6 @@ fn single(alloc: Global, table: Name) -> Result<Vec<Permission>, Fail> {
     Ok(all)
 }
 
-// What is said to a user who has the permission alone, if he has one, by the row's list.
-fn expected(listed: &[Permission], held: &Option<Permission>) -> Option<Denial> {
-    match listed.first() {
-        None => None,
-        Some(first) => match held {
-            Some(permission) if listed.contains(permission) => None,
-            _ => Some(Denial::PermissionDenied(*first)),
-        },
-    }
-}
-
 // A policy with the user bob and the tables t and u, on which he has no rights.
 fn with_bob(alloc: Global) -> Result<Policy, Fail> {
     let mut policy = Policy::new(alloc)?;
@@ -134,105 +28,6 @@ fn with_bob(alloc: Global) -> Result<Policy, Fail> {
     policy.create_table(&name(b"root")?, &name(b"t")?)?;
     policy.create_table(&name(b"root")?, &name(b"u")?)?;
     Ok(policy)
-}
-
-// Whether the action is decided as these permissions say for the user who has this one alone, if he has one.
-fn is_decided(
-    alloc: Global,
-    policy: &Policy,
-    user: &Name,
-    action: Action<'_>,
-    needed: Needed,
-    held: &Option<Permission>,
-) -> Result<bool, Fail> {
-    let listed = listed(alloc, needed, name(b"t")?)?;
-    Ok(policy.decide(user, &action).err() == expected(&listed, held))
-}
-
-// Whether each action on the table is decided so.
-fn decides_on_tables(
-    alloc: Global,
-    policy: &Policy,
-    user: &Name,
-    table: &Name,
-    held: &Option<Permission>,
-) -> Result<bool, Fail> {
-    for kind in ON_TABLES {
-        let action = Action::OnTable(*kind, table);
-        if !is_decided(alloc, policy, user, action, needed_on(*kind), held)? {
-            return Ok(false);
-        }
-    }
-    Ok(true)
-}
-
-// Whether each action on users, new tables and the server is decided so.
-fn decides_on_server(
-    alloc: Global,
-    policy: &Policy,
-    user: &Name,
-    held: &Option<Permission>,
-) -> Result<bool, Fail> {
-    for kind in ON_SERVER {
-        let action = Action::OnServer(*kind);
-        if !is_decided(alloc, policy, user, action, needed_for(*kind), held)? {
-            return Ok(false);
-        }
-    }
-    Ok(true)
-}
-
-// Whether to grant and to revoke the permission is decided so.
-fn decides_on_granting(
-    alloc: Global,
-    policy: &Policy,
-    user: &Name,
-    permission: &Permission,
-    needed: Needed,
-    held: &Option<Permission>,
-) -> Result<bool, Fail> {
-    let grant = is_decided(alloc, policy, user, Action::Grant(permission), needed, held)?;
-    let revoke = is_decided(
-        alloc,
-        policy,
-        user,
-        Action::Revoke(permission),
-        needed,
-        held,
-    )?;
-    Ok(grant && revoke)
-}
-
-// Whether all actions are decided so.
-fn decides_all(
-    alloc: Global,
-    policy: &Policy,
-    user: &Name,
-    table: &Name,
-    held: &Option<Permission>,
-) -> Result<bool, Fail> {
-    let on_table = Permission::OfTable(TablePermission::Read, *table);
-    let of_system = Permission::OfSystem(SystemPermission::CreateUser);
-    Ok(
-        decides_on_tables(alloc, policy, user, table, held)?
-            && decides_on_server(alloc, policy, user, held)?
-            && decides_on_granting(alloc, policy, user, &on_table, (ALTER, GRANT_IT), held)?
-            && decides_on_granting(alloc, policy, user, &of_system, (GRANT, &[]), held)?,
-    )
-}
-
-#[test]
-fn each_permission_admits_its_actions_and_no_other(rt: HostRuntime) -> Result<(), Fail> {
-    let alloc = rt.alloc();
-    let (bob, table) = (name(b"bob")?, name(b"t")?);
-    let mut policy = with_bob(alloc)?;
-    assert!(rt; decides_all(alloc, &policy, &bob, &table, &None)?);
-    for permission in single(alloc, table)? {
-        policy.grant(&bob, &permission)?;
-        assert!(rt; decides_all(alloc, &policy, &bob, &table, &Some(permission))?);
-        policy.revoke(&bob, &permission);
-    }
-    Ok(())
 }
 
 // How many authorizations, system permissions and permissions for the table the user has, as far as he and it exist.
