@@ -10,8 +10,9 @@ use Rattle.std.proofs.lemmas.List.{take-append-drop}
 use Rattle.std.proofs.lemmas.Bool.Decides.{nat_tests}
 use Rattle.std.proofs.lemmas.Slice.Eq.{bytes_eq-Decides}
 use Rattle.std.specs.Char.{is_ascii_digit}
+use Rattle.tab_history.specs.Settings.{is_version_count}
 use Rattle.tab_key.specs.declared.part.TheConstants.{MAX_VERSIONS}
-use Rattle.tab_lines.specs.Fields.{digits_on, magnitude_of, positive, negative, signed_of, given_timestamp, timestamp_or_dash, only_if, is_version_count, versions_word}
+use Rattle.tab_lines.specs.Fields.{digits_on, magnitude_of, positive, negative, signed_of, given_timestamp, timestamp_or_dash, only_if, versions_word}
 use Rattle.tab_lines.specs.Forms.{AreDigits, IsNumber, IsTimestamp, IsVersions}
 use Rattle.tab_lines.proofs.Inverting.{ReadsExactly, some_inj, on_map, on_then}
 
