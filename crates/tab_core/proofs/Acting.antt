@@ -35,12 +35,12 @@ use Rattle.tab_core.specs.Stepping.{Steps, moves_clock, Becomes, Acts, own_answe
 use Rattle.tab_core.proofs.Steps.{steps}
 
 -- ---- what an act makes of a core
--- what is read of users and rights after changes, beside these tables
-abbrev pub read_after : Base → List Change → (List ℕ → Bool) → Readings
-read_after b j tables = record { users = has_user b j; auths = held_auths b j; system = has_system_right b j; rights = has_table_right b j; tables = tables }
+-- what is read of users and rights after changes, beside these tables and so many users
+abbrev pub read_after : Base → List Change → (List ℕ → Bool) → ℕ → Readings
+read_after b j tables count = record { users = has_user b j; count = count; auths = held_auths b j; system = has_system_right b j; rights = has_table_right b j; tables = tables }
 
 -- a core of which all is read as the changes say
-pub becomes : (b : Base) (next : ℕ) (p : State) (ts : List BaseTable) (j : List Change) (tables : List ℕ → Bool) → next ≡ next_number b j → readings p ≡ read_after b j tables
+pub becomes : (b : Base) (next : ℕ) (p : State) (ts : List BaseTable) (j : List Change) (tables : List ℕ → Bool) {count : ℕ} → next ≡ next_number b j → readings p ≡ read_after b j tables count
     → ((t : List ℕ) → settings_in ts t ≡ settings_of b j t) → ((t : List ℕ) → records_in ts t ≡ sorted (updates_of b j t))
     → Becomes b j (record b { next = next; policy = p; tables = ts })
 unfolding readings next_number has_user held_auths has_system_right has_table_right settings_of updates_of

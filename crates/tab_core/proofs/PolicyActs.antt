@@ -8,7 +8,7 @@ use Rattle.tab_policy.specs.declared.permission.Permission.{Permission}
 use Rattle.tab_policy.specs.declared.permission.Permission.TheVariants.{OfSystem, OfTable}
 use Rattle.tab_policy.specs.Granting.{can_hold, is_system_right, is_table_right}
 use Rattle.tab_policy.specs.Roots.{root}
-use Rattle.tab_policy.specs.State.{State, readings, user_exists, auths_of, system_granted, table_granted, table_exists}
+use Rattle.tab_policy.specs.State.{State, readings, user_exists, user_count, auths_of, system_granted, table_granted, table_exists}
 use Rattle.tab_history.specs.declared.event.Act.{Act}
 use Rattle.tab_history.specs.declared.event.Act.TheVariants as act
 use Rattle.tab_history.specs.declared.reply.Refusal.{Refusal}
@@ -32,7 +32,7 @@ record IsRuling (b : Base) (j : List Change) : Type 0 where
   updates : (t : List ℕ) → updates_of b j t ≡ records_in b.tables t
 
 -- an act that passes its checks and leaves a policy which reads as the act's changes say
-ruled : (b : Base) (p : State) (now : ℤ) (user : List ℕ) (a : Act) → IsCore b → own_answer b now user a ≡ Done → readings p ≡ read_after b (changes_of now user a) (table_exists b.policy)
+ruled : (b : Base) (p : State) (now : ℤ) (user : List ℕ) (a : Act) {count : ℕ} → IsCore b → own_answer b now user a ≡ Done → readings p ≡ read_after b (changes_of now user a) (table_exists b.policy) count
     → IsRuling b (changes_of now user a) → Acts (own_answer b now user a) b now user a Done (record b { policy = p })
 ruled b p now user a core passes read ruling = record {
   answers = inl (sym passes);
@@ -67,9 +67,10 @@ pub user_there : (b : Base) (now : ℤ) (user n : List ℕ) → IsCore b → use
 unfolding has_user
 user_there b now user n core there = own_refused b now user (act.CreateUser n) (UserExists n) core (ap (λ v. first_some (when v (UserExists n) ∷ [])) there)
 
-pub user_made : (b : Base) (p : State) (now : ℤ) (user n : List ℕ) → IsCore b → user_exists b.policy n ≡ false
+pub user_made : (b : Base) (p : State) (now : ℤ) (user n : List ℕ) {k : ℕ} → IsCore b → user_exists b.policy n ≡ false
     → readings p ≡ record (readings b.policy) {
       users = λ q. cond (bytes_eq n q) true (user_exists b.policy q);
+      count = k;
       auths = λ q. cond (bytes_eq n q) [] (auths_of b.policy q);
       system = λ q x. cond (bytes_eq n q) false (system_granted b.policy q x);
       rights = λ q x t. cond (bytes_eq n q) false (table_granted b.policy q x t);
@@ -88,9 +89,10 @@ pub root_stays_user : (b : Base) (now : ℤ) (user n : List ℕ) → IsCore b �
 unfolding has_user
 root_stays_user b now user n core there is = own_refused b now user (act.DropUser n) RootFixed core (λ i. first_some (when (not (there i)) (NoUser n) ∷ when (is i) RootFixed ∷ []))
 
-pub user_dropped : (b : Base) (p : State) (now : ℤ) (user n : List ℕ) → IsCore b → user_exists b.policy n ≡ true → bytes_eq n root ≡ false
+pub user_dropped : (b : Base) (p : State) (now : ℤ) (user n : List ℕ) {k : ℕ} → IsCore b → user_exists b.policy n ≡ true → bytes_eq n root ≡ false
     → readings p ≡ record (readings b.policy) {
       users = λ q. cond (bytes_eq n q) false (user_exists b.policy q);
+      count = k;
       auths = λ q. cond (bytes_eq n q) [] (auths_of b.policy q);
       system = λ q x. cond (bytes_eq n q) false (system_granted b.policy q x);
       rights = λ q x t. cond (bytes_eq n q) false (table_granted b.policy q x t);
@@ -129,7 +131,7 @@ can_be_held b user n (OfTable s t) core admitted e =
 given_reads : (b : Base) (n : List ℕ) (x : Permission) → record (readings b.policy) {
   system = λ q y. cond (is_system_right n x q y) true (system_granted b.policy q y);
   rights = λ q y t. cond (is_table_right n x q y t) true (table_granted b.policy q y t);
-} ≡ read_after b (given n x ∷ []) (table_exists b.policy)
+} ≡ read_after b (given n x ∷ []) (table_exists b.policy) (user_count b.policy)
 unfolding readings has_user held_auths has_system_right has_table_right
 given_reads b n (OfSystem s) = refl
 given_reads b n (OfTable s t) = refl
@@ -137,7 +139,7 @@ given_reads b n (OfTable s t) = refl
 taken_reads : (b : Base) (n : List ℕ) (x : Permission) → record (readings b.policy) {
   system = λ q y. cond (is_system_right n x q y) false (system_granted b.policy q y);
   rights = λ q y t. cond (is_table_right n x q y t) false (table_granted b.policy q y t);
-} ≡ read_after b (taken n x ∷ []) (table_exists b.policy)
+} ≡ read_after b (taken n x ∷ []) (table_exists b.policy) (user_count b.policy)
 unfolding readings has_user held_auths has_system_right has_table_right
 taken_reads b n (OfSystem s) = refl
 taken_reads b n (OfTable s t) = refl

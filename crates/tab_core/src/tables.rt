@@ -19,13 +19,15 @@ use tab_history::{Refusal, Scan};
 use tab_key::Name;
 use tab_label::AuthSet;
 use tab_mutation::Mutation;
+use tab_policy::NameKey;
 use tab_rules::ConstraintSet;
 use tab_version::Version;
 
 /// The tables that there are.
 #[derive(Drop)]
 pub struct Tables {
-    by_name: BTreeMap<Name, Table>,
+    alloc: Global,
+    by_name: BTreeMap<NameKey, Table>,
 }
 
 impl Model for Tables {
@@ -45,6 +47,7 @@ impl Tables {
         ensures { result ≡ [] }
     {
         Tables {
+            alloc,
             by_name: BTreeMap::new(alloc),
         }
     }
@@ -62,7 +65,7 @@ impl Tables {
         ensures records { OnOk result ((q : List ℕ) → records_in self.new q ≡ cond (bytes_eq name q) table.records (records_in self.old q)) }
         ensures err { OnErr result (self.new ≡ self.old) }
     {
-        put(&mut self.by_name, name, table)
+        put(&mut self.by_name, self.alloc, name, table)
     }
 
     /// Takes a table away.
@@ -83,22 +86,28 @@ impl Tables {
 }
 
 // Puts the table under the name. An error leaves the map as it was.
-fn put(map: &mut BTreeMap<Name, Table>, name: Name, table: Table) -> Result<(), AllocError>
+fn put(
+    map: &mut BTreeMap<NameKey, Table>,
+    alloc: Global,
+    name: Name,
+    table: Table,
+) -> Result<(), AllocError>
     ensures ok { OnOk result ((q : List ℕ) → at_name q map.new.entries ≡ cond (bytes_eq name q) (Some table) (at_name q map.old.entries)) }
     ensures err { OnErr result (map.new.entries ≡ map.old.entries) }
 {
-    map.insert(name, table)?;
+    let key = NameKey::new(alloc, &name)?;
+    map.insert(key, table)?;
     Ok(())
 }
 
 // Takes away what stands under the name.
-fn take_away(map: &mut BTreeMap<Name, Table>, name: &Name)
+fn take_away(map: &mut BTreeMap<NameKey, Table>, name: &Name)
     ensures { (q : List ℕ) → at_name q map.new.entries ≡ cond (bytes_eq name.now q) None (at_name q map.old.entries) }
 {
     let _ = map.remove(name);
 }
 
-fn set_constraints(map: &mut BTreeMap<Name, Table>, name: &Name, constraints: ConstraintSet)
+fn set_constraints(map: &mut BTreeMap<NameKey, Table>, name: &Name, constraints: ConstraintSet)
     ensures { (q : List ℕ) → at_name q map.new.entries ≡ changed_at name.now (with_constraints constraints) map.old.entries q }
 {
     if let Some(table) = map.get_mut(name) {
@@ -152,7 +161,7 @@ impl Tables {
 
 // Puts the updates of the mutation into the table under the name, which must be there, if it passes its checks.
 fn write(
-    tables: &mut BTreeMap<Name, Table>,
+    tables: &mut BTreeMap<NameKey, Table>,
     alloc: Global,
     name: &Name,
     mutation: &Mutation,
@@ -176,7 +185,7 @@ fn write(
 
 // A session on what the scan shows of its table, or on nothing.
 fn scan_in(
-    tables: &mut BTreeMap<Name, Table>,
+    tables: &mut BTreeMap<NameKey, Table>,
     alloc: Global,
     scan: Scan,
 ) -> Result<Session, AllocError>

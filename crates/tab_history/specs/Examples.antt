@@ -388,11 +388,11 @@ unfolding everything
 reads_no_other = refl
 
 -- ---- bases
--- a core whose table t has one record and a horizon at 10, and where root may read and write it
+-- a core whose table t has one record and a horizon at 10, and where root, whose life is 0, may read and write it
 abbrev with_table : Base
 with_table = record new_core {
   next = 1;
-  policy = record new_policy { tables = (t, (root, record (all_of_table false) { read = true; write = true }) ∷ []) ∷ [] };
+  policy = record new_policy { tables = (t, (0, record (all_of_table false) { read = true; write = true }) ∷ []) ∷ [] };
   tables = record { name = t; settings = record (made_with Any 2) { horizon = pos 10 }; records = record { key = record { row = r; family = f; qualifier = q; label = []; timestamp = pos 3 }; kind = Put; value = codes "old"; seq = 0; idx = 0 } ∷ [] } ∷ [];
 }
 

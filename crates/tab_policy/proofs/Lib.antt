@@ -4,3 +4,4 @@ pub mod EntryLemmas
 pub mod Readings
 pub mod Changes
 pub mod RightsLemmas
+pub mod LivesLemmas

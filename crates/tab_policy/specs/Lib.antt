@@ -8,3 +8,4 @@ pub mod State
 pub mod Granting
 pub mod Roots
 pub mod Accounts
+pub mod Lives

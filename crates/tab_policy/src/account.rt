@@ -1,32 +1,37 @@
 //! What is kept of a user.
-ghost use Rattle.std.specs.Prelude.{◌≡◌, ◌||◌, ℕ, List, [], false, bytes_eq};
+ghost use Rattle.std.specs.Prelude.{◌≡◌, ◌||◌, ◌+◌, ◌-◌, ℕ, List, [], Some, None, OnOk, OnErr, IfOk, false, is_some, length, bytes_eq, if◌then◌else◌};
 ghost use Rattle.tab_policy.specs.Roots.{root};
 ghost use Rattle.tab_policy.specs.Sets.{system_contains};
 ghost use Rattle.tab_policy.specs.Accounts.{with_auths, with_system};
 ghost use Rattle.tab_policy.specs.Entries.{at_name, changed_at};
+ghost use Rattle.tab_policy.specs.State.{account_life};
 
 use crate::decision::Caller;
+use crate::name_key::NameKey;
 use crate::permission::SystemPermission;
 use crate::sets::{SystemPermissions, TablePermissions};
-use std::alloc::Global;
+use std::alloc::{AllocError, Global};
 use std::collections::BTreeMap;
 use tab_key::Name;
 use tab_label::AuthSet;
 
-// The system permissions that were granted to a user, and his authorizations.
+// The life that a user is in, the system permissions that were granted to him, and his authorizations.
 #[derive(Drop)]
 pub struct Account {
+    pub life: u64,
     pub system: SystemPermissions,
     pub auths: AuthSet,
 }
 
 impl Account {
     // The account of a user at the beginning of his life.
-    pub fn new(alloc: Global) -> Account
+    pub fn new(alloc: Global, life: u64) -> Account
+        ensures life { result.life ≡ life }
         ensures system { (p : _) → system_contains result.system p ≡ false }
         ensures auths { result.auths ≡ [] }
     {
         Account {
+            life,
             system: SystemPermissions::none(),
             auths: AuthSet::empty(alloc),
         }
@@ -71,9 +76,44 @@ pub fn is_root(user: &Name) -> bool
     user.as_bytes() == b"root".as_slice()
 }
 
+// Puts the account under the name, and answers the life of the account that stood there. An error leaves the accounts as they were.
+pub fn put_account(
+    users: &mut BTreeMap<NameKey, Account>,
+    name: NameKey,
+    account: Account,
+) -> Result<Option<u64>, AllocError>
+    ensures names { OnOk result ((q : List ℕ) → at_name q users.new.entries ≡ (if bytes_eq name q then Some account else at_name q users.old.entries)) }
+    ensures count { OnOk result (length users.new.entries ≡ (if is_some (at_name name users.old.entries) then length users.old.entries else length users.old.entries + 1)) }
+    ensures before { IfOk result (λ life. life ≡ account_life (at_name name users.old.entries)) }
+    ensures err { OnErr result (users.new.entries ≡ users.old.entries) }
+{
+    let before = users.insert(name, account)?;
+    Ok(life_of(before))
+}
+
+// Takes the account of this name away, and answers its life.
+pub fn take_account(users: &mut BTreeMap<NameKey, Account>, name: &Name) -> Option<u64>
+    ensures names { (q : List ℕ) → at_name q users.new.entries ≡ (if bytes_eq name.now q then None else at_name q users.old.entries) }
+    ensures count { length users.new.entries ≡ (if is_some (at_name name.now users.old.entries) then length users.old.entries - 1 else length users.old.entries) }
+    ensures before { result ≡ account_life (at_name name.now users.old.entries) }
+{
+    life_of(users.remove(name))
+}
+
+// The life of the account, if there is one.
+fn life_of(account: Option<Account>) -> Option<u64>
+    ensures { result ≡ account_life account }
+{
+    match account {
+        Some(account) => Some(account.life),
+        None => None,
+    }
+}
+
 // Gives the user these authorizations, if there is such a user.
-pub fn set_auths(users: &mut BTreeMap<Name, Account>, user: &Name, auths: AuthSet)
-    ensures { (q : List ℕ) → at_name q users.new.entries ≡ changed_at user.now (with_auths auths) users.old.entries q }
+pub fn set_auths(users: &mut BTreeMap<NameKey, Account>, user: &Name, auths: AuthSet)
+    ensures names { (q : List ℕ) → at_name q users.new.entries ≡ changed_at user.now (with_auths auths) users.old.entries q }
+    ensures count { length users.new.entries ≡ length users.old.entries }
 {
     if let Some(account) = users.get_mut(user) {
         account.auths = auths;
@@ -82,12 +122,13 @@ pub fn set_auths(users: &mut BTreeMap<Name, Account>, user: &Name, auths: AuthSe
 
 // Gives the user the system permission or takes it from him, if there is such a user.
 pub fn set_system(
-    users: &mut BTreeMap<Name, Account>,
+    users: &mut BTreeMap<NameKey, Account>,
     user: &Name,
     permission: SystemPermission,
     held: bool,
 )
-    ensures { (q : List ℕ) → at_name q users.new.entries ≡ changed_at user.now (with_system permission held) users.old.entries q }
+    ensures names { (q : List ℕ) → at_name q users.new.entries ≡ changed_at user.now (with_system permission held) users.old.entries q }
+    ensures count { length users.new.entries ≡ length users.old.entries }
 {
     if let Some(account) = users.get_mut(user) {
         account.system = account.system.set_to(permission, held);

@@ -11,7 +11,9 @@
 //! | `decision` | what a decision says, and what it found |
 //! | `needs` | which permissions admit which action |
 //! | `account`, `rights` | what is kept of a user, and of a table |
-//! | `entries` | maps by name |
+//! | `lives` | the lives of users |
+//! | `name_key` | names as the keys of maps |
+//! | `entries` | maps by name, and by life |
 //! | `policy` | the users and tables, and what may be done |
 //!
 //! Every definition that the contracts cite stands in `specs`: `Actions` is the table of permissions, `Decisions` the order of the
@@ -22,6 +24,8 @@ mod account;
 mod action;
 mod decision;
 mod entries;
+mod lives;
+mod name_key;
 mod needs;
 mod permission;
 mod policy;
@@ -31,6 +35,7 @@ mod sets;
 pub use account::is_root;
 pub use action::{Action, ServerAction, TableAction};
 pub use decision::{Caller, Decision, Denial};
+pub use name_key::NameKey;
 pub use permission::{Permission, SystemPermission, TablePermission};
 pub use policy::Policy;
 pub use sets::{SystemPermissions, TablePermissions};

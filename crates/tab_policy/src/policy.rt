@@ -1,16 +1,18 @@
 //! The users and tables, and what may be done.
-ghost use Rattle.std.specs.Prelude.{◌≡◌, [], ℕ, List, IfOk, OnOk, OnErr, IfSome, true, false, bytes_eq, is_some, ◌&&◌, if◌then◌else◌};
+ghost use Rattle.std.specs.Prelude.{◌≡◌, ◌+◌, ◌-◌, [], ℕ, List, IfOk, OnOk, OnErr, IfSome, true, false, bytes_eq, is_some, ◌&&◌, if◌then◌else◌};
 ghost use Rattle.std.specs.Result.{result_err};
 ghost use Rattle.tab_policy.specs.Roots.{root};
 ghost use Rattle.tab_policy.specs.Sets.{system_contains, table_contains};
 
-use crate::account::{Account, root_name, set_auths, set_system};
+use crate::account::{Account, put_account, root_name, set_auths, set_system, take_account};
 use crate::action::Action;
 use crate::decision::{Decision, Denial};
 use crate::entries::{put, take_away};
+use crate::lives::Lives;
+use crate::name_key::NameKey;
 use crate::needs::Needs;
 use crate::permission::Permission;
-use crate::rights::{TableRights, forget, give, take};
+use crate::rights::{TableRights, give, take};
 use crate::sets::{SystemPermissions, TablePermissions};
 use std::alloc::{AllocError, Global};
 use std::collections::BTreeMap;
@@ -19,11 +21,15 @@ use tab_key::Name;
 use tab_label::AuthSet;
 
 /// The users with what they hold, and the tables with the rights on them. A contract reads it by the definitions of `State`.
+///
+/// Each user is in a life of his own, and rights on a table are those of a life. A user who is dropped takes his life with him,
+/// so no call looks at other users or tables than those that it names.
 #[derive(Drop)]
 pub struct Policy {
     alloc: Global,
-    users: BTreeMap<Name, Account>,
-    tables: BTreeMap<Name, TableRights>,
+    users: BTreeMap<NameKey, Account>,
+    tables: BTreeMap<NameKey, TableRights>,
+    lives: Lives,
 }
 
 impl Model for Policy {
@@ -32,6 +38,10 @@ impl Model for Policy {
     ghost Value = { State };
 
     ghost view = { λ p. record { users = p.users.entries; tables = p.tables.entries } };
+
+    ghost use Rattle.tab_policy.specs.Lives.{AreLived, life_among, is_among, gives_among};
+
+    ghost invariant = { λ p. AreLived (life_among p.users.entries) (is_among p.lives.living.entries) (gives_among p.tables.entries) p.lives.next };
 }
 
 impl Policy {
@@ -53,16 +63,16 @@ impl Policy {
         match self.tables.get(table) {
             None => Err(Denial::NoTable(*table)),
             Some(rights) => Needs::of(action).decide(
-                account.caller(user, rights.of(user)),
+                account.caller(user, rights.of(account.life)),
                 Some(table),
             ),
         }
     }
 }
 
-#[tactic(auto, unfolding(crate::specs::State::user_exists, crate::specs::State::auths_of, crate::specs::State::system_granted, crate::specs::State::table_granted, crate::specs::State::table_exists))]
+#[tactic(auto, unfolding(crate::specs::State::user_exists, crate::specs::State::user_count, crate::specs::State::auths_of, crate::specs::State::system_granted, crate::specs::State::table_granted, crate::specs::State::table_exists))]
 impl Policy {
-    ghost use Rattle.tab_policy.specs.State.{readings, user_exists, auths_of, system_granted, has_system, table_granted, table_exists};
+    ghost use Rattle.tab_policy.specs.State.{readings, user_exists, user_count, auths_of, system_granted, has_system, table_granted, table_exists};
     ghost use Rattle.tab_policy.specs.Granting.{can_hold, is_system_right, is_table_right};
 
     /// A policy with the one user `root`, who has all system permissions and no authorizations, and with no table.
@@ -72,19 +82,23 @@ impl Policy {
     /// There was no memory for the user.
     pub fn new(alloc: Global) -> Result<Policy, AllocError>
         ensures users { IfOk result (λ s. (n : List ℕ) → user_exists s n ≡ bytes_eq root n) }
+        ensures count { IfOk result (λ s. user_count s ≡ 1) }
         ensures auths { IfOk result (λ s. (n : List ℕ) → auths_of s n ≡ []) }
         ensures system { IfOk result (λ s. (n : List ℕ) (p : _) → system_granted s n p ≡ bytes_eq root n) }
         ensures rights { IfOk result (λ s. (n : List ℕ) (p : _) (t : List ℕ) → table_granted s n p t ≡ false) }
         ensures tables { IfOk result (λ s. (t : List ℕ) → table_exists s t ≡ false) }
     {
-        let mut users = BTreeMap::new(alloc);
-        let mut account = Account::new(alloc);
+        let mut lives = Lives::new(alloc);
+        let key = NameKey::new(alloc, &root_name())?;
+        let mut account = Account::new(alloc, lives.begin()?);
         account.system = SystemPermissions::all();
-        put(&mut users, root_name(), account)?;
+        let mut users = BTreeMap::new(alloc);
+        put_account(&mut users, key, account)?;
         Ok(Policy {
             alloc,
             users,
             tables: BTreeMap::new(alloc),
+            lives,
         })
     }
 
@@ -93,6 +107,13 @@ impl Policy {
         ensures { result ≡ user_exists self.now user.now }
     {
         self.users.get(user).is_some()
+    }
+
+    /// How many users there are.
+    pub fn user_count(&self) -> usize
+        ensures { result ≡ user_count self.now }
+    {
+        self.users.len()
     }
 
     /// Whether there is a table of this name.
@@ -128,7 +149,10 @@ impl Policy {
         ensures rights { IfSome result (λ set. (p : _) → table_contains set p ≡ table_granted self.now user.now p table.now) }
     {
         let rights = self.tables.get(table)?;
-        Some(rights.of(user))
+        match self.users.get(user) {
+            Some(account) => Some(rights.of(account.life)),
+            None => Some(TablePermissions::none()),
+        }
     }
 
     /// Sets the authorizations of the user, in place of those that he held. It takes no memory.
@@ -145,7 +169,7 @@ impl Policy {
     ///
     /// # Errors
     ///
-    /// There was no memory for the table. The policy is then as it was.
+    /// There was no memory for the table, or there is no user of the creator's name. The policy is then as it was.
     pub fn create_table(&mut self, creator: &Name, table: &Name) -> Result<(), AllocError>
         ensures ok { OnOk result (readings self.new ≡ record (readings self.old) {
           rights = λ n p t. if bytes_eq table.now t then bytes_eq creator.now n else table_granted self.old n p t;
@@ -153,8 +177,12 @@ impl Policy {
         }) }
         ensures err { OnErr result (self.new ≡ self.old) }
     {
-        let rights = TableRights::new(self.alloc, creator)?;
-        put(&mut self.tables, *table, rights)
+        let Some(account) = self.users.get(creator) else {
+            return Err(AllocError);
+        };
+        let rights = TableRights::new(self.alloc, account.life);
+        let key = NameKey::new(self.alloc, table)?;
+        put(&mut self.tables, key, rights)
     }
 
     /// Takes the table away, with all rights on it. It takes no memory.
@@ -171,32 +199,43 @@ impl Policy {
     ///
     /// # Errors
     ///
-    /// There was no memory for the user. The policy is then as it was.
+    /// There was no memory for the user, or 2^64 - 1 users were made before him. The policy is then as it was.
     pub fn create_user(&mut self, user: &Name) -> Result<(), AllocError>
         ensures ok { OnOk result (readings self.new ≡ record (readings self.old) {
           users = λ n. if bytes_eq user.now n then true else user_exists self.old n;
+          count = if user_exists self.old user.now then user_count self.old else user_count self.old + 1;
           auths = λ n. if bytes_eq user.now n then [] else auths_of self.old n;
           system = λ n p. if bytes_eq user.now n then false else system_granted self.old n p;
           rights = λ n p t. if bytes_eq user.now n then false else table_granted self.old n p t;
         }) }
         ensures err { OnErr result (self.new ≡ self.old) }
     {
-        put(&mut self.users, *user, Account::new(self.alloc))?;
-        forget(&mut self.tables, user);
-        Ok(())
+        let key = NameKey::new(self.alloc, user)?;
+        let life = self.lives.begin()?;
+        match put_account(&mut self.users, key, Account::new(self.alloc, life)) {
+            Ok(before) => {
+                self.lives.end(before);
+                Ok(())
+            }
+            Err(AllocError) => {
+                self.lives.end(Some(life));
+                Err(AllocError)
+            }
+        }
     }
 
     /// Takes the user away, with his rights and authorizations. It takes no memory.
     pub fn drop_user(&mut self, user: &Name)
         ensures { readings self.new ≡ record (readings self.old) {
           users = λ n. if bytes_eq user.now n then false else user_exists self.old n;
+          count = if user_exists self.old user.now then user_count self.old - 1 else user_count self.old;
           auths = λ n. if bytes_eq user.now n then [] else auths_of self.old n;
           system = λ n p. if bytes_eq user.now n then false else system_granted self.old n p;
           rights = λ n p t. if bytes_eq user.now n then false else table_granted self.old n p t;
         } }
     {
-        take_away(&mut self.users, user);
-        forget(&mut self.tables, user);
+        let life = take_account(&mut self.users, user);
+        self.lives.end(life);
     }
 
     /// Grants the permission to the user. Where he or the permission's table doesn't exist, or he has it already, nothing changes.
@@ -217,10 +256,10 @@ impl Policy {
                 Ok(())
             }
             Permission::OfTable(granted, table) => {
-                if !self.users.contains_key(user) {
+                let Some(account) = self.users.get(user) else {
                     return Ok(());
-                }
-                give(&mut self.tables, table, user, *granted)
+                };
+                give(&mut self.tables, table, account.life, *granted, &self.lives)
             }
         }
     }
@@ -234,7 +273,11 @@ impl Policy {
     {
         match permission {
             Permission::OfSystem(taken) => set_system(&mut self.users, user, *taken, false),
-            Permission::OfTable(taken, table) => take(&mut self.tables, table, user, *taken),
+            Permission::OfTable(taken, table) => {
+                if let Some(account) = self.users.get(user) {
+                    take(&mut self.tables, table, account.life, *taken);
+                }
+            }
         }
     }
 }

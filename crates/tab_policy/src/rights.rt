@@ -1,11 +1,14 @@
 //! What is kept of a table.
-ghost use Rattle.std.specs.Prelude.{◌≡◌, ℕ, List, IfOk, OnOk, OnErr, None, is_some, true, false, bytes_eq, ◌&&◌, if◌then◌else◌};
-ghost use Rattle.tab_policy.specs.Entries.{at_name};
+ghost use Rattle.std.specs.Prelude.{◌≡◌, ℕ, List, IfOk, OnOk, OnErr, None, Some, is_some, true, false, bytes_eq, ◌&&◌, if◌then◌else◌};
+ghost use Rattle.tab_policy.specs.Entries.{at_name, at_life, same_life};
 ghost use Rattle.tab_policy.specs.Sets.{table_contains};
 ghost use Rattle.tab_policy.specs.Permissions.{same_table};
 ghost use Rattle.tab_policy.specs.State.{some_contains, table_gives};
+ghost use Rattle.tab_policy.specs.Lives.{is_among, Weeds};
 
-use crate::entries::{put, replace, take_away};
+use crate::entries::{put_at, replace_at, take_away_at};
+use crate::lives::Lives;
+use crate::name_key::NameKey;
 use crate::permission::TablePermission;
 use crate::sets::TablePermissions;
 use std::alloc::{AllocError, Global};
@@ -13,109 +16,139 @@ use std::collections::BTreeMap;
 use std::marker::Model;
 use tab_key::Name;
 
-// The rights that users have on one table.
+// How many rights of others a table keeps at the least before it looks for those of ended lives.
+const FEW: usize = 15;
+
+// The rights on one table, by the lives of those who have them. Rights of lives that ended may be among them: nobody reads them.
 #[derive(Drop)]
 pub struct TableRights {
-    users: BTreeMap<Name, TablePermissions>,
+    // The life of the table's creator, and his rights.
+    maker: u64,
+    own: TablePermissions,
+    others: BTreeMap<u64, TablePermissions>,
+    // With more rights of others than this, those of ended lives are taken away.
+    room: usize,
 }
 
 impl Model for TableRights {
-    ghost use Rattle.std.specs.Prelude.{ℕ, List};
+    ghost use Rattle.std.specs.Prelude.{ℕ, List, ◌∷◌};
     ghost use Rattle.tab_policy.specs.declared.sets.TablePermissions.{TablePermissions};
 
-    ghost Value = { List (List ℕ × TablePermissions) };
+    ghost Value = { List (ℕ × TablePermissions) };
 
-    ghost view = { λ r. r.users.entries };
+    ghost view = { λ r. (r.maker, r.own) ∷ r.others.entries };
 }
 
 impl TableRights {
-    // All rights for the creator, and none for others.
-    pub fn new(alloc: Global, creator: &Name) -> Result<TableRights, AllocError>
-        ensures { IfOk result (λ rights. (n : List ℕ) (p : _) → some_contains (at_name n rights) p ≡ bytes_eq creator.now n) }
+    // All rights for the creator, and none for others. It takes no memory.
+    pub fn new(alloc: Global, creator: u64) -> TableRights
+        ensures { (l : ℕ) (p : _) → some_contains (at_life l result) p ≡ same_life l creator }
     {
-        let mut users = BTreeMap::new(alloc);
-        put(&mut users, *creator, TablePermissions::all())?;
-        Ok(TableRights { users })
+        TableRights {
+            maker: creator,
+            own: TablePermissions::all(),
+            others: BTreeMap::new(alloc),
+            room: FEW,
+        }
     }
 
-    // The rights of the user.
-    pub fn of(&self, user: &Name) -> TablePermissions
-        ensures { (p : _) → table_contains result p ≡ some_contains (at_name user.now self.now) p }
+    // The rights of whoever is in the life.
+    pub fn of(&self, life: u64) -> TablePermissions
+        ensures { (p : _) → table_contains result p ≡ some_contains (at_life life self.now) p }
     {
-        match self.users.get(user) {
+        if life == self.maker {
+            return self.own;
+        }
+        match self.others.get(&life) {
             Some(rights) => *rights,
             None => TablePermissions::none(),
         }
     }
 
-    // Gives the user the permission. An error leaves the rights as they were.
-    pub fn give(&mut self, user: &Name, permission: TablePermission) -> Result<(), AllocError>
-        ensures ok { OnOk result ((n : List ℕ) (p : _) → some_contains (at_name n self.new) p ≡ (if bytes_eq user.now n && same_table permission p then true else some_contains (at_name n self.old) p)) }
+    // Gives the permission to whoever is in the life. Rights of ended lives may go. An error leaves the rights as they were.
+    pub fn give(
+        &mut self,
+        life: u64,
+        permission: TablePermission,
+        lives: &Lives,
+    ) -> Result<(), AllocError>
+        ensures living { OnOk result ((l : ℕ) (p : _) → is_among lives.now.living.entries l ≡ true → some_contains (at_life l self.new) p ≡ (if same_life life l && same_table permission p then true else some_contains (at_life l self.old) p)) }
+        ensures bare { (l : ℕ) (p : _) → same_life life l ≡ false → some_contains (at_life l self.old) p ≡ false → some_contains (at_life l self.new) p ≡ false }
         ensures err { OnErr result (self.new ≡ self.old) }
     {
-        let given = self.of(user).with(permission);
-        put(&mut self.users, *user, given)
+        let given = self.of(life).with(permission);
+        if life == self.maker {
+            self.own = given;
+            return Ok(());
+        }
+        put_at(&mut self.others, life, given)?;
+        self.weed(lives);
+        Ok(())
     }
 
-    // Takes the permission from the user.
-    pub fn take(&mut self, user: &Name, permission: TablePermission)
-        ensures { (n : List ℕ) (p : _) → some_contains (at_name n self.new) p ≡ (if bytes_eq user.now n && same_table permission p then false else some_contains (at_name n self.old) p) }
+    // Takes the permission from whoever is in the life.
+    pub fn take(&mut self, life: u64, permission: TablePermission)
+        ensures { (l : ℕ) (p : _) → some_contains (at_life l self.new) p ≡ (if same_life life l && same_table permission p then false else some_contains (at_life l self.old) p) }
     {
-        let left = self.of(user).without(permission);
-        if left.is_empty() {
-            take_away(&mut self.users, user);
+        let left = self.of(life).without(permission);
+        if life == self.maker {
+            self.own = left;
+        } else if left.is_empty() {
+            take_away_at(&mut self.others, life);
         } else {
-            replace(&mut self.users, user, left);
+            replace_at(&mut self.others, life, left);
         }
     }
 
-    // Takes all permissions from the user.
-    pub fn forget(&mut self, user: &Name)
-        ensures { (n : List ℕ) → at_name n self.new ≡ (if bytes_eq user.now n then None else at_name n self.old) }
+    // Takes the rights of ended lives away, if there are many rights. Between two times as many come as were left, or more.
+    fn weed(&mut self, lives: &Lives)
+        ensures { Weeds (is_among lives.now.living.entries) self.old self.new }
     {
-        take_away(&mut self.users, user);
+        if self.others.len() > self.room {
+            weed(&mut self.others, lives);
+            self.room = self.others.len().saturating_mul(2).saturating_add(FEW);
+        }
     }
 }
 
-// Gives the user the permission on the table, if there is such a table. An error leaves everything as it was.
+// Takes the rights of ended lives away.
+fn weed(others: &mut BTreeMap<u64, TablePermissions>, lives: &Lives)
+    ensures { Weeds (is_among lives.now.living.entries) others.old.entries others.new.entries }
+{
+    others.retain(|life, _| lives.is_living(*life));
+}
+
+// Gives the permission on the table to whoever is in the life, if there is such a table. An error leaves everything as it was.
 pub fn give(
-    tables: &mut BTreeMap<Name, TableRights>,
+    tables: &mut BTreeMap<NameKey, TableRights>,
     table: &Name,
-    user: &Name,
+    life: u64,
     permission: TablePermission,
+    lives: &Lives,
 ) -> Result<(), AllocError>
     ensures tables { (t : List ℕ) → is_some (at_name t tables.new.entries) ≡ is_some (at_name t tables.old.entries) }
-    ensures ok { OnOk result ((t : List ℕ) (n : List ℕ) (p : _) → table_gives (at_name t tables.new.entries) n p ≡ (if is_some (at_name table.now tables.old.entries) && (bytes_eq user.now n && (same_table permission p && bytes_eq table.now t)) then true else table_gives (at_name t tables.old.entries) n p)) }
+    ensures living { OnOk result ((t : List ℕ) (l : ℕ) (p : _) → is_among lives.now.living.entries l ≡ true → table_gives (at_name t tables.new.entries) (Some l) p
+        ≡ (if is_some (at_name table.now tables.old.entries) && (same_life life l && (same_table permission p && bytes_eq table.now t)) then true else table_gives (at_name t tables.old.entries) (Some l) p)) }
+    ensures bare { (t : List ℕ) (l : ℕ) (p : _) → same_life life l ≡ false → table_gives (at_name t tables.old.entries) (Some l) p ≡ false → table_gives (at_name t tables.new.entries) (Some l) p ≡ false }
     ensures err { OnErr result (tables.new.entries ≡ tables.old.entries) }
 {
     match tables.get_mut(table) {
-        Some(rights) => rights.give(user, permission),
+        Some(rights) => rights.give(life, permission, lives),
         None => Ok(()),
     }
 }
 
-// Takes the permission on the table from the user.
+// Takes the permission on the table from whoever is in the life.
 pub fn take(
-    tables: &mut BTreeMap<Name, TableRights>,
+    tables: &mut BTreeMap<NameKey, TableRights>,
     table: &Name,
-    user: &Name,
+    life: u64,
     permission: TablePermission,
 )
     ensures tables { (t : List ℕ) → is_some (at_name t tables.new.entries) ≡ is_some (at_name t tables.old.entries) }
-    ensures rights { (t : List ℕ) (n : List ℕ) (p : _) → table_gives (at_name t tables.new.entries) n p ≡ (if bytes_eq user.now n && (same_table permission p && bytes_eq table.now t) then false else table_gives (at_name t tables.old.entries) n p) }
+    ensures rights { (t : List ℕ) (l : ℕ) (p : _) → table_gives (at_name t tables.new.entries) (Some l) p ≡ (if same_life life l && (same_table permission p && bytes_eq table.now t) then false else table_gives (at_name t tables.old.entries) (Some l) p) }
 {
     if let Some(rights) = tables.get_mut(table) {
-        rights.take(user, permission);
+        rights.take(life, permission);
     }
-}
-
-// Takes all permissions on all tables from the user.
-pub fn forget(tables: &mut BTreeMap<Name, TableRights>, user: &Name)
-    ensures tables { (t : List ℕ) → is_some (at_name t tables.new.entries) ≡ is_some (at_name t tables.old.entries) }
-    ensures rights { (t : List ℕ) (n : List ℕ) (p : _) → table_gives (at_name t tables.new.entries) n p ≡ (if bytes_eq user.now n then false else table_gives (at_name t tables.old.entries) n p) }
-{
-    tables.retain(|_, rights| {
-        rights.forget(user);
-        true
-    });
 }

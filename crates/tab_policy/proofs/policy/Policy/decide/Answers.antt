@@ -5,7 +5,7 @@ use Rattle.tab_policy.specs.Roots.{root}
 use Rattle.tab_policy.specs.Sets.{table_contains}
 use Rattle.tab_policy.specs.Entries.{at_name}
 use Rattle.tab_policy.specs.Actions.{asked_for, table_named}
-use Rattle.tab_policy.specs.State.{user_exists, auths_of, system_granted, table_granted, table_exists, account_auths, account_system, table_gives}
+use Rattle.tab_policy.specs.State.{user_exists, auths_of, system_granted, table_granted, table_exists, account_auths, account_system, account_life, table_gives}
 use Rattle.tab_policy.proofs.Decided.{decided_unknown, decided_on_none, decided_on_server, decided_on_table, found}
 use Rattle.tab_policy.proofs.policy.Policy.decide.Goals as goal
 
@@ -51,8 +51,8 @@ returns-in-Some-get-clause-decided c =
     let there : at_name c.args.user.now c.self.inside.users.entries ≡ Some c.in-Some.account.now = search rules in
     let has : at_name c.in-Some-table.table.now c.self.inside.tables.entries ≡ Some c.in-Some-get.rights.now = search rules in
     let named : table_named (asked_for c.args.action.now) ≡ Some c.in-Some-table.table.now = search rules in
-    let of : (p : TablePermission) → table_contains c.caller-in-Some-get.result.on_table p ≡ table_gives (at_name c.in-Some-table.table.now c.self.inside.tables.entries) c.args.user.now p =
-    λ p. ap (λ s. table_contains s p) c.caller-in-Some-get.ensures.on_table ∙ c.of-in-Some-get-2.ensures p ∙ sym (ap (λ o. table_gives o c.args.user.now p) has) in
+    let of : (p : TablePermission) → table_contains c.caller-in-Some-get.result.on_table p ≡ table_gives (at_name c.in-Some-table.table.now c.self.inside.tables.entries) (account_life (at_name c.args.user.now c.self.inside.users.entries)) p =
+    λ p. ap (λ s. table_contains s p) c.caller-in-Some-get.ensures.on_table ∙ c.of-in-Some-get-2.ensures p ∙ sym (λ i. table_gives (has i) (account_life (there i)) p) in
     rw (← c.self.view_is)
     (c.decide-in-Some-get.ensures.decided
     ∙ decided_on_table _ c.args.user.now (asked_for c.args.action.now) c.caller-in-Some-get.result.system c.caller-in-Some-get.result.on_table c.in-Some-table.table.now
@@ -65,8 +65,8 @@ returns-in-Some-get-clause-caller c =
     let there : at_name c.args.user.now c.self.inside.users.entries ≡ Some c.in-Some.account.now = search rules in
     let has : at_name c.in-Some-table.table.now c.self.inside.tables.entries ≡ Some c.in-Some-get.rights.now = search rules in
     let named : table_named (asked_for c.args.action.now) ≡ Some c.in-Some-table.table.now = search rules in
-    let of : (p : TablePermission) → table_contains c.caller-in-Some-get.result.on_table p ≡ table_gives (at_name c.in-Some-table.table.now c.self.inside.tables.entries) c.args.user.now p =
-    λ p. ap (λ s. table_contains s p) c.caller-in-Some-get.ensures.on_table ∙ c.of-in-Some-get-2.ensures p ∙ sym (ap (λ o. table_gives o c.args.user.now p) has) in
+    let of : (p : TablePermission) → table_contains c.caller-in-Some-get.result.on_table p ≡ table_gives (at_name c.in-Some-table.table.now c.self.inside.tables.entries) (account_life (at_name c.args.user.now c.self.inside.users.entries)) p =
+    λ p. ap (λ s. table_contains s p) c.caller-in-Some-get.ensures.on_table ∙ c.of-in-Some-get-2.ensures p ∙ sym (λ i. table_gives (has i) (account_life (there i)) p) in
     rw (← c.self.view_is)
     (found c.decide-in-Some-get.result c.caller-in-Some-get.result _ c.args.user.now _ c.decide-in-Some-get.ensures.caller (record {
       authorizations = c.caller-in-Some-get.ensures.authorizations ∙ sym (ap account_auths there);
