@@ -252,14 +252,14 @@ starts_count n left w rs b = record {
 below_from : (n a l : ℕ) → n - a ≡ l - 0 → nat_lt 0 l ≡ nat_lt a n
 below_from n a l e = grind (arith, nat_tests)
 
-pub put_among : (n left : ℕ) (column : Option Record) (w : List Record) (r : Record) (rs : List Record) → IsRising w → IsEnd (r ∷ rs) w → is_put r.kind ≡ true → KnowsCount n column left w (r ∷ rs) → nat_lt 0 (left_of n column left r.key) ≡ is_among n w r
+pub put_among : (keeps : Bool) (n left : ℕ) (column : Option Record) (w : List Record) (r : Record) (rs : List Record) → IsRising w → IsEnd (r ∷ rs) w → is_put r.kind ≡ true → KnowsCount n column left w (r ∷ rs) → nat_lt 0 (left_of n column left r.key) ≡ is_among keeps n w r
 unfolding is_among
-put_among n left column w r rs up end p t =
+put_among keeps n left column w r rs up end p t =
     rw p (below_from n (length (filter (is_newer r) w)) (left_of n column left r.key) (t.counted r (inl refl) ∙ ap (λ l. left_of n column left r.key - length l) (none_newer r rs (rising_end (r ∷ rs) w end up))))
 
-pub marker_among : (n : ℕ) (w : List Record) (r : Record) → is_put r.kind ≡ false → true ≡ is_among n w r
+pub marker_among : (keeps : Bool) (n : ℕ) (w : List Record) (r : Record) → is_put r.kind ≡ false → keeps ≡ is_among keeps n w r
 unfolding is_among
-marker_among n w r p = rw p refl
+marker_among keeps n w r p = rw p refl
 
 pub counts_marker : (n left : ℕ) (column : Option Record) (w : List Record) (r : Record) (rs : List Record) → IsRising w → IsEnd (r ∷ rs) w → is_put r.kind ≡ false → KnowsCount n column left w (r ∷ rs) → KnowsCount n column left w rs
 counts_marker n left column w r rs up end p t = record {

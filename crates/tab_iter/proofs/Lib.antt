@@ -2,6 +2,11 @@
 pub mod ListLaws
 pub mod ListSourceLaws
 pub mod ColumnLaws
+pub mod NextColumns
+pub mod LastColumn
+pub mod Skips
+pub mod Idle
+pub mod NamedColumns
 pub mod BagLaws
 pub mod MergingLaws
 pub mod StackLaws

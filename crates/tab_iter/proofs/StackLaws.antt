@@ -64,28 +64,28 @@ newer_outranks w chosen seen cc1 cc2 u v p q = by_bool (same_column v.key u.key)
         go true false e = refl
         go false d e = refl
 
-shown_stacked : (w : List Record) (n : ℕ) (chosen seen : Key → Bool) → IsOfColumns chosen → IsOfColumns seen → (u : Record) → (lower w chosen seen u && is_among n (filter (lower w chosen seen) w) u) ≡ passes w n (λ k. chosen k && seen k) u
+shown_stacked : (w : List Record) (n : ℕ) (chosen seen : Key → Bool) → IsOfColumns chosen → IsOfColumns seen → (u : Record) → (lower w chosen seen u && is_among false n (filter (lower w chosen seen) w) u) ≡ passes w n (λ k. chosen k && seen k) u
 unfolding lower is_left is_among is_kept passes
 shown_stacked w n chosen seen cs ss u = by_bool (chosen u.key) (λ p. by_bool (seen u.key) (both p) (unseen p)) unchosen
   where
-    unchosen : chosen u.key ≡ false → (lower w chosen seen u && is_among n (filter (lower w chosen seen) w) u) ≡ passes w n (λ k. chosen k && seen k) u
-    unchosen p = rw p (go (cond (is_put u.kind) (not (is_deleted w u)) false) (seen u.key) (is_among n (filter (lower w chosen seen) w) u) (is_kept w n u))
+    unchosen : chosen u.key ≡ false → (lower w chosen seen u && is_among false n (filter (lower w chosen seen) w) u) ≡ passes w n (λ k. chosen k && seen k) u
+    unchosen p = rw p (go (cond (is_put u.kind) (not (is_deleted w u)) false) (seen u.key) (is_among false n (filter (lower w chosen seen) w) u) (is_kept w n u))
       where
         go : (a b c d : Bool) → (((a && false) && b) && c) ≡ ((false && b) && d)
         go true b c d = refl
         go false b c d = refl
 
-    unseen : chosen u.key ≡ true → seen u.key ≡ false → (lower w chosen seen u && is_among n (filter (lower w chosen seen) w) u) ≡ passes w n (λ k. chosen k && seen k) u
-    unseen p q = rw (p, q) (go (cond (is_put u.kind) (not (is_deleted w u)) false) (is_among n (filter (lower w chosen seen) w) u) (is_kept w n u))
+    unseen : chosen u.key ≡ true → seen u.key ≡ false → (lower w chosen seen u && is_among false n (filter (lower w chosen seen) w) u) ≡ passes w n (λ k. chosen k && seen k) u
+    unseen p q = rw (p, q) (go (cond (is_put u.kind) (not (is_deleted w u)) false) (is_among false n (filter (lower w chosen seen) w) u) (is_kept w n u))
       where
         go : (a c d : Bool) → (((a && true) && false) && c) ≡ ((true && false) && d)
         go true c d = refl
         go false c d = refl
 
-    both : chosen u.key ≡ true → seen u.key ≡ true → (lower w chosen seen u && is_among n (filter (lower w chosen seen) w) u) ≡ passes w n (λ k. chosen k && seen k) u
+    both : chosen u.key ≡ true → seen u.key ≡ true → (lower w chosen seen u && is_among false n (filter (lower w chosen seen) w) u) ≡ passes w n (λ k. chosen k && seen k) u
     both p q = rw (p, q, filter_twice (is_newer u) (lower w chosen seen) w ∙ filter_equal _ _ w (λ v. newer_outranks w chosen seen cs ss u v p q)) (go (is_put u.kind) (not (is_deleted w u)) (nat_lt (length (filter (outranks w u) w)) n))
       where
-        go : (k d l : Bool) → (((cond k d false && true) && true) && cond k l true) ≡ ((true && true) && ((k && d) && l))
+        go : (k d l : Bool) → (((cond k d false && true) && true) && cond k l false) ≡ ((true && true) && ((k && d) && l))
         go true true l = refl
         go true false l = refl
         go false d l = refl
@@ -93,8 +93,8 @@ shown_stacked w n chosen seen cs ss u = by_bool (chosen u.key) (λ p. by_bool (s
 stack_shows : (w : List Record) (n : ℕ) (chosen seen : Key → Bool) → IsOfColumns chosen → IsOfColumns seen → stacked w n chosen seen ≡ filter (passes w n (λ k. chosen k && seen k)) w
 unfolding lower
 stack_shows w n chosen seen cs ss =
-    ap (λ l. filter (is_among n l) l) below
-    ∙ filter_twice (is_among n (filter (lower w chosen seen) w)) (lower w chosen seen) w
+    ap (λ l. filter (is_among false n l) l) below
+    ∙ filter_twice (is_among false n (filter (lower w chosen seen) w)) (lower w chosen seen) w
     ∙ filter_equal _ _ w (shown_stacked w n chosen seen cs ss)
   where
     below : filter (λ u. seen u.key) (filter (λ u. chosen u.key) (filter (is_left false w) w)) ≡ filter (lower w chosen seen) w
@@ -182,12 +182,12 @@ stack_answers us n columns auths d =
     ∙ sym (sorted_filter (is_shown us n (query_of columns auths)) us d)
 
 -- the layers one by one
-pub stack_chain : (us : List Record) (n m : ℕ) (keeps : Bool) (columns named : List Column) (auths given : List (List ℕ)) (w0 w1 w2 w3 w4 : List Record) → w0 ≡ sorted us → keeps ≡ false → w1 ≡ filter (is_left keeps w0) w0 → named ≡ columns → w2 ≡ filter (λ u. is_selected named u.key) w1 → given ≡ auths → w3 ≡ filter (λ u. label_holds u.key.label given) w2 → m ≡ n → w4 ≡ filter (is_among m w3) w3 → IsDistinct us → w4 ≡ sorted (filter (is_shown us n (query_of columns auths)) us)
-stack_chain us n m keeps columns named auths given w0 w1 w2 w3 w4 e0 k e1 cs e2 gs e3 mn e4 d =
+pub stack_chain : (us : List Record) (n m : ℕ) (keeps counted : Bool) (columns named : List Column) (auths given : List (List ℕ)) (w0 w1 w2 w3 w4 : List Record) → w0 ≡ sorted us → keeps ≡ false → w1 ≡ filter (is_left keeps w0) w0 → named ≡ columns → w2 ≡ filter (λ u. is_selected named u.key) w1 → given ≡ auths → w3 ≡ filter (λ u. label_holds u.key.label given) w2 → m ≡ n → counted ≡ false → w4 ≡ filter (is_among counted m w3) w3 → IsDistinct us → w4 ≡ sorted (filter (is_shown us n (query_of columns auths)) us)
+stack_chain us n m keeps counted columns named auths given w0 w1 w2 w3 w4 e0 k e1 cs e2 gs e3 mn kc e4 d =
     let f1 : w1 ≡ filter (is_left false (sorted us)) (sorted us) = e1 ∙ (λ i. filter (is_left (k i) (e0 i)) (e0 i)) in
     let f2 : w2 ≡ filter (λ u. is_selected columns u.key) (filter (is_left false (sorted us)) (sorted us)) = e2 ∙ (λ i. filter (λ u. is_selected (cs i) u.key) (f1 i)) in
     let f3 : w3 ≡ filter (λ u. label_holds u.key.label auths) (filter (λ u. is_selected columns u.key) (filter (is_left false (sorted us)) (sorted us))) = e3 ∙ (λ i. filter (λ u. label_holds u.key.label (gs i)) (f2 i)) in
-    e4 ∙ (λ i. filter (is_among (mn i) (f3 i)) (f3 i)) ∙ stack_answers us n columns auths d
+    e4 ∙ (λ i. filter (is_among (kc i) (mn i) (f3 i)) (f3 i)) ∙ stack_answers us n columns auths d
 
 pub stack_cells : (us w : List Record) (n : ℕ) (q : Query) → w ≡ sorted (filter (is_shown us n q) us) → map cell_of w ≡ cells us n q
 unfolding cells

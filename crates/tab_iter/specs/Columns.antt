@@ -1,11 +1,25 @@
 -- What a rule remembers of the records passed: one column.
-use Rattle.std.specs.Prelude.{◌≡◌, ℕ, ◌-◌, Option, Some, None, List, Bool, false, cond, ◌||◌, filter, length}
+use Rattle.std.specs.Prelude.{◌≡◌, ℕ, ◌-◌, Option, Some, None, List, [], ◌∷◌, ◌++◌, Bool, false, cond, ◌||◌, filter, length}
 use Rattle.std.specs.Ordering.{is_gt}
 use Rattle.tab_key.specs.Order.{column_cmp}
 use Rattle.tab_key.specs.Records.{Key, Record}
 use Rattle.tab_key.specs.Kept.{same_column, is_deleted}
 use Rattle.tab_key.specs.Sorted.{IsIn}
 use Rattle.tab_iter.specs.Layers.{is_newer}
+use Rattle.tab_iter.specs.Lists.{latest}
+
+-- the column that comes next, whatever columns there are: the label goes on with a zero byte
+abbrev pub next_column : Key → Key
+next_column k = record { row = k.row; family = k.family; qualifier = k.qualifier; label = k.label ++ 0 ∷ []; timestamp = latest }
+
+-- a target without meaning
+abbrev pub nowhere : Key
+nowhere = record { row = []; family = []; qualifier = []; label = []; timestamp = latest }
+
+-- the column next after that of the record
+abbrev pub next_of : Option Record → Key
+next_of None = nowhere
+next_of (Some c) = next_column c.key
 
 -- the key is of the column of the record
 abbrev pub is_of : Option Record → Key → Bool

@@ -9,3 +9,4 @@ pub mod Bags
 pub mod Stack
 pub mod SourceLaws
 pub mod Propositions
+pub mod NamedColumns

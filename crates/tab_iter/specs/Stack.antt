@@ -26,4 +26,4 @@ stacked w n chosen seen =
     let undeleted = filter (is_left false w) w in
     let fetched = filter (λ u. chosen u.key) undeleted in
     let visible = filter (λ u. seen u.key) fetched in
-    filter (is_among n visible) visible
+    filter (is_among false n visible) visible

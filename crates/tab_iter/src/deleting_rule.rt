@@ -4,7 +4,7 @@ ghost use Rattle.std.specs.Prelude.{◌≡◌, Bool};
 use crate::last_column::LastColumn;
 use crate::{NoMemory, Rule};
 use std::alloc::Global;
-use tab_key::{Kind, RecordRef};
+use tab_key::{Key, Kind, RecordRef};
 
 /// Holds back the puts that a marker of their column hides, and the markers unless they are kept.
 #[derive(Drop)]
@@ -28,11 +28,13 @@ impl DeletingRule {
 
 impl Rule for DeletingRule {
     ghost use Rattle.tab_iter.specs.Layers.{is_left};
-    ghost use Rattle.tab_iter.specs.Columns.{KnowsDeleted};
+    ghost use Rattle.tab_iter.specs.Columns.{KnowsDeleted, next_of};
 
     ghost admits = { λ d. is_left d.keeps };
 
     ghost HasObserved = { λ d. KnowsDeleted d.column };
+
+    ghost aims_at = { λ d. next_of d.column };
 
     fn reset(&mut self) {
         self.column.forget();
@@ -46,5 +48,17 @@ impl Rule for DeletingRule {
                 Ok(self.keeps)
             }
         }
+    }
+
+    // Behind a marker nothing of its column passes.
+    fn aim(&mut self, held: &RecordRef<'_>) -> Result<bool, NoMemory> {
+        if self.keeps {
+            return Ok(false);
+        }
+        Ok(self.column.is_of(held))
+    }
+
+    fn target(&self) -> Key<'_> {
+        self.column.next()
     }
 }

@@ -1,5 +1,5 @@
 //! A source without the records that a rule holds back.
-ghost use Rattle.std.specs.Prelude.{◌≡◌, List, [], Bool, true, false, cond, filter, IfOk, OnOk};
+ghost use Rattle.std.specs.Prelude.{◌≡◌, ◌<◌, List, [], Bool, true, false, cond, filter, length, IfOk, OnOk};
 ghost use Rattle.tab_key.specs.Records.{Record};
 ghost use Rattle.tab_key.specs.KeyOf.{key_of};
 ghost use Rattle.tab_iter.specs.Lists.{tail, is_settled, from_key};
@@ -105,6 +105,9 @@ impl<S: Source, R: Rule> Source for Filtered<S, R> {
     }
 }
 
+// So many records held back in a row are passed one by one before a seek.
+const FEW: u32 = 8;
+
 // Passes the records that the rule holds back, up to one that it doesn't.
 fn settle<S: Source, R: Rule>(source: &mut S, rule: &mut R) -> Result<(), NoMemory>
     requires { ∥ R.HasObserved rule.old (S.whole source.old) (S.rest source.old) ∥₁ }
@@ -114,12 +117,44 @@ fn settle<S: Source, R: Rule>(source: &mut S, rule: &mut R) -> Result<(), NoMemo
     ensures settled { OnOk result (is_settled (R.admits rule.old (S.whole source.old)) (S.rest source.new) ≡ true) }
     ensures observed { OnOk result (∥ R.HasObserved rule.new (S.whole source.old) (tail (S.rest source.new)) ∥₁) }
 {
+    let mut passed = 0;
     while let Some(record) = source.top() {
         if rule.observe(&record)? {
             return Ok(());
         }
-        source.advance()?;
+        if passed < FEW {
+            passed += 1;
+            source.advance()?;
+        } else {
+            passed = 0;
+            leap(source, rule)?;
+        }
     }
+    Ok(())
+}
+
+// Goes past the record on top, which was just observed and held back, and past all behind it that the rule knows not to pass.
+fn leap<S: Source, R: Rule>(source: &mut S, rule: &mut R) -> Result<(), NoMemory>
+    requires observed { ∥ R.HasObserved rule.old (S.whole source.old) (tail (S.rest source.old)) ∥₁ }
+    requires held { is_settled (R.admits rule.old (S.whole source.old)) (S.rest source.old) ≡ false }
+    ensures whole { S.whole source.new ≡ S.whole source.old }
+    ensures same { R.admits rule.new ≡ R.admits rule.old }
+    ensures rest { OnOk result (filter (R.admits rule.old (S.whole source.old)) (S.rest source.new) ≡ filter (R.admits rule.old (S.whole source.old)) (S.rest source.old)) }
+    ensures shorter { OnOk result (length (S.rest source.new) < length (S.rest source.old)) }
+    ensures observed { OnOk result (∥ R.HasObserved rule.new (S.whole source.old) (S.rest source.new) ∥₁) }
+{
+    let Some(record) = source.top() else {
+        return Ok(());
+    };
+    if !rule.aim(&record)? {
+        source.advance()?;
+        return Ok(());
+    }
+    source.seek(Key {
+        timestamp: i64::MAX,
+        ..rule.target()
+    })?;
+    rule.reset();
     Ok(())
 }
 

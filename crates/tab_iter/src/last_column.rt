@@ -1,15 +1,20 @@
 //! One remembered column.
-ghost use Rattle.std.specs.Prelude.{◌≡◌, None, IfOk, OnOk};
-ghost use Rattle.tab_iter.specs.Columns.{is_of, IsColumnOf};
+ghost use Rattle.std.specs.Prelude.{◌≡◌, None, Some, IfOk, OnOk};
+ghost use Rattle.tab_key.specs.KeyOf.{key_of};
+ghost use Rattle.tab_key.specs.RecordSpans.{record_in};
+ghost use Rattle.tab_iter.specs.Columns.{is_of, next_column, next_of, IsColumnOf};
+ghost use Rattle.tab_iter.specs.LastColumn.{IsPlaced};
 
 use crate::NoMemory;
+use crate::rule::nowhere;
 use std::alloc::Global;
 use std::marker::Model;
-use tab_key::{RecordRef, RecordSpan, append};
+use tab_key::{Key, RecordRef, RecordSpan, append};
 
 /// A column, or none. The columns remembered one after another take the same memory.
 #[derive(Drop)]
 pub struct LastColumn {
+    // the column's parts, and a zero byte behind its label: with that it is the next column
     body: Vec<u8>,
     place: Option<RecordSpan>,
 }
@@ -48,6 +53,16 @@ impl LastColumn {
         }
     }
 
+    /// A key of the column that comes next after this one, whatever columns there are. Where none is remembered it has no meaning.
+    pub fn next(&self) -> Key<'_>
+        ensures { key_of result ≡ next_of self.now }
+    {
+        match &self.place {
+            None => nowhere(),
+            Some(place) => next_at(self.body.as_slice(), place),
+        }
+    }
+
     /// Remembers no column.
     pub fn forget(&mut self)
         ensures { self.new ≡ None }
@@ -65,8 +80,20 @@ impl LastColumn {
         }
         self.place = None;
         self.body.clear();
-        let place = append(&mut self.body, next.key(), next.kind(), b"", 0, 0)?;
+        let place = append(&mut self.body, next.key(), next.kind(), b"\0", 0, 0)?;
         self.place = Some(place);
         Ok(false)
+    }
+}
+
+// The column after that of the record that lies there, whose value is the zero byte.
+fn next_at<'a>(body: &'a [u8], place: &'a RecordSpan) -> Key<'a>
+    requires { IsPlaced body.now (Some place.now) }
+    ensures { key_of result ≡ next_column (record_in body.now place.now).key }
+{
+    Key {
+        label: &body[place.qualifier_end..place.end],
+        timestamp: i64::MAX,
+        ..RecordRef::at(body, place).key()
     }
 }

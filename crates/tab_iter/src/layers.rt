@@ -24,7 +24,7 @@ pub type Fetching<'a, S> = Filtered<S, FetchingRule<'a>>;
 /// The records of the source whose label holds.
 pub type Visible<'a, S> = Filtered<S, VisibleRule<'a>>;
 
-/// Of each column of the source the newest puts, and any markers.
+/// Of each column of the source the newest puts, and the markers if they are kept.
 pub type Versioning<S> = Filtered<S, VersioningRule>;
 
 /// What a scan reads: versions of what is visible of what is fetched of what isn't deleted of all sources.
@@ -48,9 +48,9 @@ pub fn stack_of<'a, S: Source + Drop>(
 {
     let merged = Merging::new(sources)?;
     let undeleted = Filtered::new(merged, DeletingRule::new(alloc, false))?;
-    let fetched = Filtered::new(undeleted, FetchingRule::new(columns))?;
+    let fetched = Filtered::new(undeleted, FetchingRule::new(alloc, columns))?;
     let visible = Filtered::new(fetched, VisibleRule::new(alloc, auths))?;
-    let shown = Filtered::new(visible, VersioningRule::new(alloc, versions))?;
+    let shown = Filtered::new(visible, VersioningRule::new(alloc, versions, false))?;
     Ok(shown)
 }
 
@@ -73,9 +73,9 @@ pub fn stack_from<'a, S: Source + Drop>(
 {
     let merged = Merging::unpositioned(sources)?;
     let undeleted = Filtered::unpositioned(merged, DeletingRule::new(alloc, false));
-    let fetched = Filtered::unpositioned(undeleted, FetchingRule::new(columns));
+    let fetched = Filtered::unpositioned(undeleted, FetchingRule::new(alloc, columns));
     let visible = Filtered::unpositioned(fetched, VisibleRule::new(alloc, auths));
-    let mut shown = Filtered::unpositioned(visible, VersioningRule::new(alloc, versions));
+    let mut shown = Filtered::unpositioned(visible, VersioningRule::new(alloc, versions, false));
     shown.seek(key)?;
     Ok(shown)
 }

@@ -7,9 +7,10 @@
 //! | `merging` | the one rising list of several sources |
 //! | `source_order` | the order of several sources by their first records |
 //! | `filtered` | a source without the records that a rule holds back |
-//! | `rule` | what a rule observes, and what it tells |
+//! | `rule` | what a rule observes, what it tells, and where it aims |
 //! | `deleting_rule`, `fetching_rule`, `visible_rule`, `versioning_rule` | the four rules: markers, columns, labels, versions |
-//! | `last_column` | the column of the last record that a rule observed |
+//! | `last_column` | the column of the last record that a rule observed, and the one next after it |
+//! | `named_column` | where the columns that a scan names begin in a row |
 //! | `verdict` | verdicts on labels, kept and found again |
 //! | `layers` | the layers by their names, and the stack of them that a scan reads |
 //!
@@ -24,6 +25,7 @@ mod last_column;
 mod layers;
 mod list_source;
 mod merging;
+mod named_column;
 mod rule;
 mod source;
 mod source_order;

@@ -4,10 +4,11 @@ ghost use Rattle.tab_label.specs.Holding.{label_holds};
 ghost use Rattle.tab_iter.specs.Verdicts.{AreSound};
 ghost use Rattle.tab_iter.specs.Propositions.{AreSound-prop};
 
+use crate::rule::nowhere;
 use crate::verdict::{Verdict, find, keep};
 use crate::{NoMemory, Rule};
 use std::alloc::Global;
-use tab_key::RecordRef;
+use tab_key::{Key, RecordRef};
 use tab_label::{AuthSet, is_visible};
 
 /// Lets the records through whose label holds under a set of authorizations.
@@ -72,11 +73,14 @@ impl<'a> VisibleRule<'a> {
 }
 
 impl<'a> Rule for VisibleRule<'a> {
+    ghost use Rattle.tab_iter.specs.Columns.{nowhere};
     ghost use Rattle.tab_label.specs.Holding.{label_holds};
 
     ghost admits = { λ s w u. label_holds u.key.label s.auths.now };
 
     ghost HasObserved = { λ s w rs. ⊤ };
+
+    ghost aims_at = { λ s. nowhere };
 
     fn reset(&mut self) {}
 
@@ -92,5 +96,14 @@ impl<'a> Rule for VisibleRule<'a> {
         self.last_holds = holds;
         self.has_last = true;
         Ok(holds)
+    }
+
+    // A label says nothing of those that follow.
+    fn aim(&mut self, _held: &RecordRef<'_>) -> Result<bool, NoMemory> {
+        Ok(false)
+    }
+
+    fn target(&self) -> Key<'_> {
+        nowhere()
     }
 }

@@ -21,6 +21,7 @@ pub struct RunCursor<'a> {
     at: usize,
     end: usize,
     ghost ordered: { from ≤ at },
+    ghost upto: { at ≤ end },
     ghost starts: { from ≤ end },
     ghost inside: { end ≤ length records.now },
     ghost run_rises: { IsRising records.now } by { IsStrictlySortedBy-prop record_cmp records.now },

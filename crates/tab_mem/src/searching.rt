@@ -63,6 +63,37 @@ impl Packed {
         self.count_between(from, end, start)
     }
 
+    // The same, found from a place between the two: by steps from there on that double, or by halves before it.
+    fn count_near(&self, low: usize, at: usize, high: usize, start: Start<'_>) -> usize
+        requires rising { IsRising self.now }
+        requires before { low ≤ at }
+        requires behind { at ≤ high }
+        requires inside { high ≤ length self.now }
+        ensures { result ≡ max low (min (prefix_len (is_before start.entry) self.now) high) }
+    {
+        if at == low {
+            return self.count_from(low, high, start);
+        }
+        if !start.is_after(&self.get(at - 1)) {
+            return self.count_between(low, at - 1, start);
+        }
+        self.count_from(at, high, start)
+    }
+
+    /// The same index as `first_at` finds, from a place in the part: it takes time logarithmic in how far the index lies behind that
+    /// place, or in how much of the part lies before it.
+    pub(crate) fn first_near(&self, from: usize, at: usize, end: usize, start: Start<'_>) -> usize
+        requires rising { IsRising self.now }
+        requires before { from ≤ at }
+        requires behind { at ≤ end }
+        requires inside { end ≤ length self.now }
+        ensures low { from ≤ result }
+        ensures high { result ≤ end }
+        ensures found { part result end self.now ≡ from_start start.entry (part from end self.now) }
+    {
+        self.count_near(from, at, end, start)
+    }
+
     // The index behind those first records of a part whose rows aren't above the high end.
     fn past_rows(&self, from: usize, end: usize, high: &Bound) -> usize
         requires rising { IsRising self.now }

@@ -25,10 +25,10 @@ cells_sorted us n columns auths d =
     let left : List Record = filter (is_left false (sorted us)) (sorted us) in
     let fetched : List Record = filter (λ u. is_selected columns u.key) left in
     let visible : List Record = filter (λ u. label_holds u.key.label auths) fetched in
-    let shown : List Record = filter (is_among n visible) visible in
+    let shown : List Record = filter (is_among false n visible) visible in
     let once : sorted (sorted us) ≡ sorted us = sorted_rising (sorted us) (rising_sorted us d) in
-    sym (stack_cells us shown n (query_of columns auths) (stack_chain us n n false columns columns auths auths (sorted us) left fetched visible shown refl refl refl refl refl refl refl refl refl d))
-    ∙ stack_cells (sorted us) shown n (query_of columns auths) (stack_chain (sorted us) n n false columns columns auths auths (sorted us) left fetched visible shown (sym once) refl refl refl refl refl refl refl refl (rising_distinct (sorted us) (rising_sorted us d)))
+    sym (stack_cells us shown n (query_of columns auths) (stack_chain us n n false false columns columns auths auths (sorted us) left fetched visible shown refl refl refl refl refl refl refl refl refl refl d))
+    ∙ stack_cells (sorted us) shown n (query_of columns auths) (stack_chain (sorted us) n n false false columns columns auths auths (sorted us) left fetched visible shown (sym once) refl refl refl refl refl refl refl refl refl (rising_distinct (sorted us) (rising_sorted us d)))
 
 -- all rows of what is in range show what the range shows of all
 module _ (us : List Record) (n : ℕ) (bounds : Bounds) (columns : List Column) (auths : List (List ℕ)) where

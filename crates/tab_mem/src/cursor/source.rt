@@ -8,7 +8,7 @@ use crate::start::Start;
 use tab_iter::{NoMemory, Source};
 use tab_key::{Key, RecordRef};
 
-/// No call takes memory. A seek takes time logarithmic in the part.
+/// No call takes memory. A seek takes time logarithmic in how far it goes on, or in the part where it goes back.
 impl<'a> Source for RunCursor<'a> {
     ghost whole = { λ c. whole c };
 
@@ -37,9 +37,8 @@ impl<'a> Source for RunCursor<'a> {
 
     #[tactic(auto, unfolding(crate::specs::Starts::from_start))]
     fn seek(&mut self, key: Key<'_>) -> Result<(), NoMemory> {
-        self.at = self
-            .records
-            .first_at(self.from, self.end, Start::AtKey(key));
+        let start = Start::AtKey(key);
+        self.at = self.records.first_near(self.from, self.at, self.end, start);
         Ok(())
     }
 }

@@ -9,7 +9,7 @@ use Rattle.tab_iter.proofs.versioning_rule.VersioningRuleRule.observe.Goals as g
 use Rattle.tab_iter.proofs.versioning_rule.VersioningRuleRule.observe.Goals.{then-branch, else-branch}
 
 pub returns-in-Delete-clause-judged : goal.returns-in-Delete-clause-judged
-returns-in-Delete-clause-judged c = λ w rs up end t. marker_among c.args.self.now.most w c.args.next.now (ap is_put (sym c.kind.ensures ∙ c.in-Delete.is))
+returns-in-Delete-clause-judged c = λ w rs up end t. marker_among c.args.self.now.keeps c.args.self.now.most w c.args.next.now (ap is_put (sym c.kind.ensures ∙ c.in-Delete.is))
 
 pub returns-in-Delete-clause-observed : goal.returns-in-Delete-clause-observed
 returns-in-Delete-clause-observed c = λ w rs up end t. ∥∥₁_map t (counts_marker c.args.self.now.most c.args.self.now.left c.args.self.now.column w c.args.next.now rs up end (ap is_put (sym c.kind.ensures ∙ c.in-Delete.is)))
@@ -26,7 +26,7 @@ returns-after-branch-clause-judged c =
       | then-branch w ↦ w.left-is ∙ same_left c.args.self.now.most c.args.self.now.left (sym c.in_ok-remember-in-Put.ensures.same ∙ w.if-branch.true)
       | else-branch w ↦ w.left-is ∙ other_left c.args.self.now.most c.args.self.now.left (sym c.in_ok-remember-in-Put.ensures.same ∙ w.if-branch.false)
     ] in
-    λ w rs up end t. ∥∥₁_elim t (Coded-set coded_bool _ _) (λ t. ap (nat_lt 0) left ∙ put_among c.args.self.now.most c.args.self.now.left c.args.self.now.column w c.args.next.now rs up end (ap is_put (sym c.kind.ensures ∙ c.in-Put.is)) t)
+    λ w rs up end t. ∥∥₁_elim t (Coded-set coded_bool _ _) (λ t. ap (nat_lt 0) left ∙ put_among c.args.self.now.keeps c.args.self.now.most c.args.self.now.left c.args.self.now.column w c.args.next.now rs up end (ap is_put (sym c.kind.ensures ∙ c.in-Put.is)) t)
 
 pub returns-after-branch-clause-observed : goal.returns-after-branch-clause-observed
 returns-after-branch-clause-observed c =

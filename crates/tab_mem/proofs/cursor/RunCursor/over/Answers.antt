@@ -6,6 +6,7 @@ use Rattle.tab_mem.proofs.cursor.RunCursor.over.Goals as goal
 pub invariant_of-result : goal.invariant_of-result
 invariant_of-result c = record {
   ordered = omega arith;
+  upto = c.requires.ends;
   starts = c.requires.ends;
   inside = subst (λ rs. c.args.end ≤ length rs) (sym c.run.view_is) c.requires.inside;
   run_rises = c.run.invariant.rising;
