@@ -1,7 +1,7 @@
 #!/usr/bin/env bash
-# What the program's `main` adds to the script: its command line, its exit statuses, the lines on standard error, and that each
-# reply comes before more input is awaited.
-# Usage: tests/program.sh   (from anywhere; builds the program if it isn't built)
+# What the program's `main` adds to the script: its command line, help and version, its exit statuses, the lines on standard
+# error, why a line is a fault, and that each reply comes before more input is awaited, piped and typed.
+# Usage: tests/program.sh   (from anywhere; wants a C compiler and python3; builds the program if it isn't built)
 set -u
 top=$(cd "$(dirname -- "${BASH_SOURCE[0]}")/.." && pwd)
 work=$(mktemp -d) || exit 1
@@ -19,72 +19,216 @@ count() { # NAME, with the status of the test that went before
     fi
 }
 
-# Whether a run ended well, printed a line like this, and nothing on standard error.
-prints() { # NAME STATUS LINE
-    [ "$2" -eq 0 ] && grep -qE -- "$3" out && [ ! -s err ]
-    count "$1" $?
-}
-
 run() { # WORD ..
     "$program" "$@" >out 2>err </dev/null
 }
 
-# The command line.
+# ---- The command line.
 run --version
-prints 'version' $? '^tabd [0-9]'
-run --help
-prints 'help' $? 'script +Answers the lines'
-for words in '' 'nonsense' 'script extra' '--nonsense'; do
+[ "$?,$(cat out err)" = "0,tabd 0.1.0" ]
+count 'the version is its name and number' $?
+for words in --help -h help 'script --help' 'help script'; do
     # shellcheck disable=SC2086
     run $words
-    status=$?
-    [ "$status" -eq 2 ] && [ ! -s out ] && [ -s err ]
+    [ $? -eq 0 ] && [ ! -s err ] && grep -qF 'docs/SCRIPT.md' out &&
+        grep -qxF '  scan T AUTHS [LOW HIGH [COLS]]' out && grep -qF -- '--explain' <("$program" script --help)
+    count "$words shows the forms of lines" $?
+done
+# The table of help has the lines and updates that docs/SCRIPT.md lists, and no other.
+run --help
+diff <(sed -n '/^The lines of a script/,/^The words/p' out | awk '/^  / {print $1}' | sort -u) \
+    <(sed -n '/^| Line | Does |/,/^$/p' "$top/docs/SCRIPT.md" | grep -oE '`[a-z]+ [A-Z]' | tr -d '`' | awk '{print $1}' | sort -u) >/dev/null
+count 'help and docs/SCRIPT.md list the same commands' $?
+for words in '' nonsense 'script extra' --nonsense 'script --nonsense' $'\xff' $'script \xff'; do
+    # shellcheck disable=SC2086
+    run $words
+    [ $? -eq 2 ] && [ ! -s out ] && [ -s err ]
     count "refused command line '$words'" $?
+    # shellcheck disable=SC2086
+    "$program" $words >out 2>&- </dev/null
+    [ $? -eq 2 ] && [ ! -s out ]
+    count "refused command line '$words', closed standard error" $?
+    # shellcheck disable=SC2086
+    "$program" $words >out 2>/dev/full </dev/null
+    [ $? -eq 2 ] && [ ! -s out ]
+    count "refused command line '$words', full standard error" $?
 done
 
-# The ends of the input.
-run script
-status=$?
-[ "$status" -eq 0 ] && [ ! -s out ] && [ ! -s err ]
-count 'empty input' $?
-printf 'createtable t\nscan t \\0' | "$program" script >out 2>err
-status=$?
-[ "$status" -eq 0 ] && [ "$(cat out)" = $'ok\nend' ] && [ ! -s err ]
-count 'a last line without a line feed' $?
-printf 'bogus\n' | "$program" script >out 2>err
-status=$?
-[ "$status" -eq 0 ] && [ "$(cat out)" = 'line fault' ] && [ ! -s err ]
-count 'a line fault is a reply' $?
+# ---- The ends of the input: status 0, these replies, and nothing on standard error.
+answers() { # NAME INPUT REPLIES
+    printf "$2" | "$program" script >out 2>err
+    [ "${PIPESTATUS[1]},$(cat out err)" = "0,$(printf "$3")" ]
+    count "$1" $?
+}
+answers 'empty input' '' ''
+answers 'a last line without a line feed' 'createtable t\nscan t \\0' 'ok\nend\n'
+answers 'a line fault is a reply' 'bogus\n' 'line fault\n'
 
-# Faults of the streams: status 1 and one line.
+# ---- Streams that fail: status 1, and one line with the system's reason.
 fails() { # NAME STATUS TEXT
     [ "$2" -eq 1 ] && [ "$(cat err)" = "fault: $3" ]
     count "$1" $?
 }
+full="the output can't be written: No space left on device (os error 28)"
+bad="Bad file descriptor (os error 9)"
 "$program" script <"$work" >out 2>err
-fails 'a directory for the input' $? "the input can't be read"
+fails 'a directory for the input' $? "the input can't be read: Is a directory (os error 21)"
 "$program" script <&- >out 2>err
-fails 'a closed input' $? "the input can't be read"
+fails 'a closed input' $? "the input can't be read: $bad"
 printf 'bogus\n' | "$program" script 2>err >&-
-fails 'a closed output' $? "the output can't be written"
-if [ -w /dev/full ]; then
-    printf 'bogus\n' | "$program" script 2>err >/dev/full
-    fails 'a full output' $? "the output can't be written"
+fails 'a closed output' $? "the output can't be written: $bad"
+printf 'bogus\n' | "$program" script 2>err >/dev/full
+fails 'a full output' $? "$full"
+printf 'bogus\n' | "$program" script 2>/dev/full >/dev/full
+[ $? -eq 1 ]
+count 'a full output, full standard error' $?
+for words in --help --version 'script --help'; do
+    # shellcheck disable=SC2086
+    "$program" $words 2>err >/dev/full
+    fails "$words to a full device" $? "$full"
+    # shellcheck disable=SC2086
+    "$program" $words 2>err >&-
+    fails "$words to a closed output" $? "the output can't be written: $bad"
+done
+{ yes | head -n 100000; } 2>/dev/null | "$program" script 2>err | head -n 1 >/dev/null
+[ "${PIPESTATUS[1]}" -eq 1 ] && [ "$(cat err)" = "fault: the output can't be written: Broken pipe (os error 32)" ]
+count 'an output that nobody reads' $?
+
+# ---- Want of memory before the first line: status 1, and one line.
+cat >failing.c <<'C'
+#define _GNU_SOURCE
+#include <dlfcn.h>
+#include <stdlib.h>
+/* The request with the number FAIL_AT gets no memory, and none behind it does. */
+static long made;
+static int fails(void) {
+    const char *at = getenv("FAIL_AT");
+    return at && ++made >= atol(at);
+}
+#define REAL(name) ((__typeof__(name) *)dlsym(RTLD_NEXT, #name))
+void *malloc(size_t size) { return fails() ? NULL : REAL(malloc)(size); }
+void *realloc(void *old, size_t size) { return fails() ? NULL : REAL(realloc)(old, size); }
+C
+if ${CC:-cc} -shared -fPIC -O1 -o failing.so failing.c -ldl 2>err; then
+    lacks() { # STATUS-WITH-MEMORY WORD ..
+        local at told=0 wanted=$1
+        shift
+        for at in $(seq 1 400); do
+            LD_PRELOAD=$work/failing.so FAIL_AT=$at "$program" "$@" >out 2>err </dev/null
+            case $?,$(cat err) in
+            "1,fault: there is no memory") [ ! -s out ] && told=$((told + 1)) ;;
+            "$wanted,"*) break ;;
+            *) break ;;
+            esac
+        done
+        [ "$told" -eq $((at - 1)) ] && [ "$told" -gt 0 ]
+        count "want of memory at the start of tabd $*" $?
+    }
+    lacks 0 script
+    lacks 0 script --explain
+    lacks 0 --version
+    lacks 2 nonsense
+else
+    count 'the library that lets requests for memory fail' 1
 fi
 
-# Each reply comes before more input is awaited.
-coproc TABD { exec "$program" script 2>/dev/null; }
+# ---- Why a line is a fault: a line of a script, and behind the tab what is said of it.
+name="name: 1 to 128 of a-z A-Z 0-9 _ - ."
+byte_word='a byte word: ! to ~ as they are but \\ for \, \xHH (H of 0-9 a-f) for any byte, \e for none'
+number='a whole number of 64 bits with its sign, as 7 or -7'
+versions='VERSIONS (versions=N with N from 1 to 1000)'
+commands='a command, one of as at createtable droptable createuser dropuser setauths grant revoke rights constraints insert delete mutate scan'
+system='SYSTEM_PERMISSION (GRANT, CREATE_TABLE, DROP_TABLE, ALTER_TABLE, CREATE_USER, DROP_USER, ALTER_USER or SYSTEM)'
+bound='[ and a byte word (from this row on), ( and a byte word (behind it), or \0 for no bound'
+sixty=$(printf 'x%.0s' $(seq 60))
+cat >table <<E
+# a comment, and an empty line
+	
+bogus	word 1, "bogus": expected $commands
+ # spaces before it	word 1, "#": expected $commands
+As u	word 1, "As": expected $commands
+${sixty}yz	word 1, "$sixty..": expected $commands
+as	word 2 is missing: expected U (a user's $name)
+as u v	word 3, "v": expected the end of the line
+as  u!  	word 2, "u!": expected U (a user's $name)
+at +7	word 2, "+7": expected MOMENT ($number)
+createtable t x	word 3, "x": expected TIME (time=any or time=server) or $versions or the end of the line
+createtable t time=any x	word 4, "x": expected $versions or the end of the line
+createtable t versions=1 x	word 4, "x": expected the end of the line
+droptable	word 2 is missing: expected T (a table's $name)
+setauths u a,,b	word 3, "a,,b": expected AUTHS (byte words with commas between them, or \\0 for none)
+grant u READ	word 4 is missing: expected T (a table's $name)
+grant u FOO	word 3, "FOO": expected $system or TABLE_PERMISSION (READ, WRITE, ALTER_TABLE, GRANT or DROP_TABLE)
+revoke u SYSTEM t	word 4, "t": expected the end of the line
+rights t	
+constraints t foo	word 3, "foo": expected RULES (keysize, alphanum, numeric, visibility: some with commas between them, or \\0 for none)
+insert t r f q secret	word 7 is missing: expected VALUE ($byte_word)
+insert t r f q \\e v x	word 8, "x": expected TS (a timestamp: $number) or the end of the line
+insert t é f q \\e v	word 3, "\\xc3\\xa9": expected ROW ($byte_word)
+delete t r f q	word 6 is missing: expected LABEL ($byte_word)
+mutate t r add	word 4, "add": expected UPDATE (put or del, and the words behind it)
+mutate t r put f q \\e v - del	word 10, "del": expected ; (between two updates) or the end of the line
+mutate t r put f q \\e ; 1 ; del f q x	word 15 is missing: expected STAMP (a timestamp, or - for none)
+scan t \\0 r	word 4, "r": expected LOW ($bound) or the end of the line
+scan t \\0 \\0 \\0 f:	word 6, "f:": expected COLS (FAM or FAM:QUAL, with commas between them, or \\0 for all) or the end of the line
+E
+cut -f1 table >script
+grep -n '	.' table | sed -E 's/^([0-9]+):[^	]*	/line \1: /' >wanted
+"$program" script --explain <script >out 2>err
+[ $? -eq 0 ] && diff wanted err
+count 'each line fault is explained, and nothing else' $?
+"$program" script <script >plain 2>err
+[ $? -eq 0 ] && [ ! -s err ] && cmp plain out
+count 'the replies are the same without explanations' $?
+"$program" script --explain <script 2>/dev/full | cmp plain
+count 'the replies are the same where explanations can not be written' $?
+printf '\xef\xbb\xbfas u\nas u\r\n\r\n#\r\nas \\' | "$program" script --explain >out 2>err
+printf '%s\n' 'line 1: word 1, "\xef\xbb\xbfas": expected no byte order mark (\xef\xbb\xbf) at the beginning' \
+    'line 2: word 2, "u\x0d": expected no carriage return (\x0d) at the end of the line' \
+    'line 3: word 1, "\x0d": expected no carriage return (\x0d) at the end of the line' \
+    "line 5: word 2, \"\\\": expected U (a user's $name)" | diff - err
+count 'a byte order mark, carriage returns, and a last line without a line feed' $?
+{ head -c 200000 /dev/zero | tr '\0' x && printf '\nas\n'; } | "$program" script --explain >out 2>err
+printf '%s\n' "line 1: word 1, \"$sixty..\": expected $commands" "line 2: word 2 is missing: expected U (a user's $name)" | diff - err
+count 'a line of several blocks is explained once' $?
+
+# ---- Each reply comes before more input is awaited, and an explanation with it.
+pairs=('createtable t=ok' 'insert t r f q \e v 5=ok' 'bogus=line fault' 'scan u \0=refused 2 NoTable u' 'scan t \0=r f q \e 5 v')
+coproc TABD { exec "$program" script --explain 2>err; }
 told=0
-for pair in 'createtable t=ok' 'insert t r f q \e v 5=ok' 'bogus=line fault' 'scan u \0=refused 2 NoTable u' 'scan t \0=r f q \e 5 v'; do
+for pair in "${pairs[@]}"; do
     printf '%s\n' "${pair%=*}" >&"${TABD[1]}"
     read -r -t 10 reply <&"${TABD[0]}" && [ "$reply" = "${pair##*=}" ] && told=$((told + 1))
+    [ "$reply" != 'line fault' ] || grep -q '^line 3: word 1, "bogus"' err || told=0
 done
-[ "$told" -eq 5 ]
-count 'replies come before more input' $?
+[ "$told" -eq "${#pairs[@]}" ]
+count 'piped replies come before more input' $?
 id=$TABD_PID
 eval "exec ${TABD[1]}>&-"
 wait "$id"
 count 'the end of the input ends it' $?
+timeout 60 python3 - "$program" "${pairs[@]}" <<'P'
+import os, pty, select, sys
+child, terminal = pty.fork()
+if child == 0:
+    os.execv(sys.argv[1], ["tabd", "script"])
+seen = b""
+def waits_for(text):
+    global seen
+    while text not in seen:
+        if not select.select([terminal], [], [], 10)[0]:
+            sys.exit(f"nothing came behind {seen!r}")
+        seen += os.read(terminal, 4096)
+    seen = seen.split(text, 1)[1]
+for pair in sys.argv[2:]:
+    line, reply = pair.rsplit("=", 1)
+    os.write(terminal, line.encode() + b"\n")
+    waits_for(line.encode() + b"\r\n")
+    waits_for(reply.encode() + b"\r\n")
+os.write(terminal, b"\x04")
+sys.exit(os.waitstatus_to_exitcode(os.waitpid(child, 0)[1]))
+P
+count 'typed replies come before more input, and the end of typing ends it' $?
 
 echo "$passed passed, $failed failed"
 [ "$failed" -eq 0 ]

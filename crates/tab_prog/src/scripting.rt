@@ -13,10 +13,10 @@ pub enum ProgramFault {
     /// There was no memory to begin with. Nothing was read or written.
     #[error("there is no memory")]
     NoMemory,
-    /// The input can't be read. Everything that was answered has been written.
+    /// The input can't be read. Every line that ended before has been answered, and the answers are written.
     #[error("the input can't be read")]
     Read,
-    /// The output can't be written. A beginning of what was answered has been written.
+    /// The output can't be written. The lines that were taken have been answered, and a beginning of the answers is written.
     #[error("the output can't be written")]
     Write,
 }

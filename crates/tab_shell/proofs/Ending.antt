@@ -1,21 +1,24 @@
--- How a run ends.
-use Rattle.std.proofs.Common.{ℕ, Bool, true, false, ◌≡◌, ◌<◌, List, [], ◌∷◌, ◌++◌, length, refl, sym, ap, ◌∙◌, subst, Option, Some, None, Result}
+-- How a run ends, and two runs that are one.
+use Rattle.std.proofs.Common.{ℕ, Bool, true, false, ◌≡◌, ◌<◌, ◌⊎◌, inl, inr, List, [], ◌∷◌, ◌++◌, length, refl, sym, ap, ◌∙◌, subst, append_assoc, Option, Some, None, Result, Err}
 use Rattle.std.specs.Prelude.{Result, IfSome, MatchBool}
+use Rattle.std.specs.Io.KnownBytes.{Appends}
+use Rattle.std.proofs.KnownBytes.{Appends-trans}
 use Rattle.std.proofs.lemmas.List.{append-nil}
 use Rattle.tab_io.specs.Writing.{HasPut, HasPutPart}
+use Rattle.tab_io.specs.declared.reading.Input.{Ghosts as InputGhosts}
 use Rattle.tab_io.specs.declared.writing.Output.{Ghosts}
 use Rattle.tab_io.proofs.Putting.{put_more, put_part_more, all_written, part_written}
 use Rattle.tab_lines.specs.declared.line.Line.{Line}
 use Rattle.tab_lines.specs.declared.line_error.LineError.{LineError}
 use Rattle.tab_shell.specs.declared.pending.Pending.{Pending}
 use Rattle.tab_shell.specs.declared.script.ScriptFault.{ScriptFault}
-use Rattle.tab_shell.specs.declared.script.ScriptFault.TheVariants.{Write}
+use Rattle.tab_shell.specs.declared.script.ScriptFault.TheVariants.{Read, Write}
 use Rattle.tab_shell.specs.Texts.{lines_of}
 use Rattle.tab_shell.specs.Scripts.{ScriptState, ScriptAnswersLine, ScriptAnswersLines}
-use Rattle.tab_shell.specs.Ahead.{Pends, ReadsLine}
-use Rattle.tab_shell.specs.Progress.{AnswersFirst, HasAnswered, AnswersInput, Leaves, StopsAhead}
-use Rattle.tab_shell.proofs.ProgressLemmas.{ran_both, ran_line}
-use Rattle.tab_shell.proofs.Taking.{lines_last, lines_none}
+use Rattle.tab_shell.specs.Ahead.{Pends, ReadsLine, Ahead}
+use Rattle.tab_shell.specs.Progress.{AnswersWhole, AnswersAll, HasEnded, StopsAhead, IsWritten, IsWrittenPart, IsLeft, FailedSide, RunsScript, RunsAreOne}
+use Rattle.tab_shell.proofs.ProgressLemmas.{ran_both, ran_line, whole_as}
+use Rattle.tab_shell.proofs.Taking.{lines_last, lines_join}
 
 pub when_true : (b : Bool) (X Y : Type 0) → b ≡ true → MatchBool b X Y → X
 when_true true X Y is m = m
@@ -25,56 +28,93 @@ pub when_false : (b : Bool) (X Y : Type 0) → b ≡ false → MatchBool b X Y �
 when_false false X Y is m = m
 when_false true X Y is m = absurd cc
 
-module _ {W : Type 0} (g : Ghosts W) where
-  -- a fault while lines end
-  pub stops_after : (fault : ScriptFault) (a d : ScriptState) (r : Option (List ℕ)) (p : Pending) (o o1 : W) → Pends p [] → StopsAhead g fault a r p o d o1 → IfSome r (λ bytes. AnswersFirst a (lines_of bytes) d (Leaves g fault o o1))
-  stops_after fault a d None p o o1 fresh f = tt
-  stops_after fault a d (Some bytes) p o o1 fresh f = f bytes ([], fresh, refl)
+-- from the beginning of a line
+pub from_start : (r : Option (List ℕ)) (p : Pending) (X : List ℕ → Type 0) → Pends p [] → ((todo : List ℕ) → Ahead r p todo → X todo) → IfSome r X
+from_start None p X fresh f = tt
+from_start (Some bytes) p X fresh f = f bytes ([], fresh, refl)
 
+-- what is ahead is a part of a line, and what is left to read
+left_behind : (r : Option (List ℕ)) (p : Pending) (after : List ℕ) → Ahead r p after → IsLeft r after
+left_behind None p after ahead = absurd ahead
+left_behind (Some rest) p after ahead = (ahead.0, rest, ahead.2, ahead.1.inside, refl)
+
+-- a fault while lines end
+pub stops_after : {R W : Type 0} (i : InputGhosts R) (g : Ghosts W) (fault : ScriptFault) (a d : ScriptState) (input input' : R) (p p1 : Pending) (o o1 : W)
+    → Pends p [] → StopsAhead g fault a (i.remaining input) p o d (i.remaining input') p1 o1 → FailedSide i g fault input input' o o1 → RunsScript i g a input o d input' o1 (Err fault)
+stops_after i g Read a d input input' p p1 o o1 fresh f failed =
+    let r : Option (List ℕ) = i.remaining input in
+    let r1 : Option (List ℕ) = i.remaining input' in
+    let ends = λ (todo : List ℕ) (ahead : Ahead r p todo). whole_as a d todo (Ahead r1 p1) (IsLeft r1) (HasPut g o o1) (IsWritten g o o1) (f.0 todo ahead) (left_behind r1 p1) (λ t h. all_written t h f.1) in
+    (from_start r p (λ bytes. AnswersWhole a bytes d (IsLeft r1) (IsWritten g o o1)) fresh ends, f.1, failed)
+stops_after i g Write a d input input' p p1 o o1 fresh f failed =
+    let r : Option (List ℕ) = i.remaining input in
+    let r1 : Option (List ℕ) = i.remaining input' in
+    let Ends : List ℕ → Type 0 = λ bytes. AnswersWhole a bytes d (IsLeft r1) (IsWrittenPart g o o1) ⊎ AnswersAll a bytes d r1 (IsWrittenPart g o o1) in
+    let ends : (todo : List ℕ) → Ahead r p todo → Ends todo = λ todo ahead. inl (whole_as a d todo (Ahead r1 p1) (IsLeft r1) (HasPutPart g o o1) (IsWrittenPart g o o1) (f todo ahead) (left_behind r1 p1) (λ t h. part_written t h)) in
+    (from_start r p Ends fresh ends, failed)
+
+module _ {W : Type 0} (g : Ghosts W) where
   -- no line has begun at the end
-  pub ends_clean : (a d : ScriptState) (r : Option (List ℕ)) (p p1 : Pending) (o o1 : W)
-      → Pends p [] → HasAnswered g a r p o d (Some []) p1 o1 → g.held o1 ≡ [] → ((gone : List ℕ) → Pends p1 gone → gone ≡ []) → IfSome r (λ bytes. AnswersInput g a bytes o d o1)
-  ends_clean a d None p p1 o o1 fresh f none over = tt
-  ends_clean a d (Some bytes) p p1 o o1 fresh f none over =
-      let x = f bytes ([], fresh, refl) in
-      let left : x.2 ≡ [] = x.4.2 ∙ append-nil x.4.0 ∙ over x.4.0 x.4.1 in
-      let all : lines_of bytes ≡ x.0 = x.3 ∙ ap (λ (t : List ℕ). x.0 ++ lines_of t) left ∙ ap (λ (ls : List (List ℕ)). x.0 ++ ls) lines_none ∙ append-nil x.0 in
-      (x.1, subst (λ (ls : List (List ℕ)). ScriptAnswersLines a ls x.1 d) (sym all) x.5, all_written x.1 x.6 none)
+  pub ends_clean : (a d : ScriptState) (r r1 : Option (List ℕ)) (p p1 : Pending) (o o1 : W)
+      → Pends p [] → HasEnded g a r p o d r1 p1 o1 → g.held o1 ≡ [] → ((gone : List ℕ) → Pends p1 gone → gone ≡ []) → IfSome r (λ bytes. AnswersAll a bytes d r1 (IsWritten g o o1))
+  ends_clean a d r r1 p p1 o o1 fresh f none over = from_start r p (λ bytes. AnswersAll a bytes d r1 (IsWritten g o o1)) fresh ends
+    where
+      ends : (todo : List ℕ) → Ahead r p todo → AnswersAll a todo d r1 (IsWritten g o o1)
+      ends todo ahead =
+          let x = f todo ahead in
+          let all : todo ≡ x.0 = x.3 ∙ ap (λ (t : List ℕ). x.0 ++ t) (over x.1 x.5.1) ∙ append-nil x.0 in
+          (x.2, subst (λ (t : List ℕ). ScriptAnswersLines a (lines_of t) x.2 d) (sym all) x.6, x.5.0, all_written x.2 x.7 none)
 
   -- the last line lacks its line feed: all lines were answered with it
-  pub last_line : (a b d : ScriptState) (said : Result Line LineError) (bytes text : List ℕ) (p p1 : Pending) (o o1 : W) → Pends p [] → HasAnswered g a (Some bytes) p o b (Some []) p1 o1 → ((gone : List ℕ) → Pends p1 gone → 0 < length gone)
-      → ((gone : List ℕ) → Pends p1 gone → ReadsLine said (gone ++ [])) → ScriptAnswersLine b said text d → (before : List ℕ) × ScriptAnswersLines a (lines_of bytes) (before ++ text) d × HasPut g o o1 before
-  last_line a b d said bytes text p p1 o o1 fresh f some says answered =
-      let x = f bytes ([], fresh, refl) in
-      let gone : List ℕ = x.4.0 in
-      let pends : Pends p1 gone = x.4.1 in
-      let left : x.2 ≡ gone = x.4.2 ∙ append-nil gone in
+  last_line : (a b d : ScriptState) (said : Result Line LineError) (r r1 : Option (List ℕ)) (p p1 : Pending) (o o1 : W) (H K : List ℕ → Type 0) → HasEnded g a r p o b r1 p1 o1 → ((gone : List ℕ) → Pends p1 gone → 0 < length gone)
+      → ((gone : List ℕ) → Pends p1 gone → ReadsLine said (gone ++ [])) → (text : List ℕ) × ScriptAnswersLine b said text d × H text → ((t u : List ℕ) → HasPut g o o1 t → H u → K (t ++ u)) → (todo : List ℕ) → Ahead r p todo → AnswersAll a todo d r1 K
+  last_line a b d said r r1 p p1 o o1 H K f some says prints join todo ahead =
+      let x = f todo ahead in
+      let gone : List ℕ = x.1 in
+      let pends : Pends p1 gone = x.5.1 in
       let spelled : ReadsLine said gone = subst (λ (l : List ℕ). ReadsLine said l) (append-nil gone) (says gone pends) in
-      let all : lines_of bytes ≡ x.0 ++ gone ∷ [] = x.3 ∙ ap (λ (t : List ℕ). x.0 ++ lines_of t) left ∙ ap (λ (ls : List (List ℕ)). x.0 ++ ls) (lines_last gone pends.inside (some gone pends)) in
-      (x.1, subst (λ (ls : List (List ℕ)). ScriptAnswersLines a ls (x.1 ++ text) d) (sym all) (ran_both a b d x.0 (gone ∷ []) x.1 text x.5 (ran_line b d said gone text spelled answered)), x.6)
+      let all : lines_of todo ≡ lines_of x.0 ++ gone ∷ [] = ap lines_of x.3 ∙ lines_join x.0 gone x.4 ∙ ap (λ (ls : List (List ℕ)). lines_of x.0 ++ ls) (lines_last gone pends.inside (some gone pends)) in (
+        x.2 ++ prints.0,
+        subst (λ (ls : List (List ℕ)). ScriptAnswersLines a ls (x.2 ++ prints.0) d) (sym all) (ran_both a b d (lines_of x.0) (gone ∷ []) x.2 prints.0 x.6 (ran_line b d said gone prints.0 spelled prints.1)),
+        x.5.0,
+        join x.2 prints.0 x.7 prints.2,
+      )
 
-  -- it is answered, and a flush leaves nothing gathered
-  pub ends_open : (a b d : ScriptState) (said : Result Line LineError) (r : Option (List ℕ)) (p p1 : Pending) (o o1 o2 o3 : W)
-      → Pends p [] → HasAnswered g a r p o b (Some []) p1 o1 → ((gone : List ℕ) → Pends p1 gone → 0 < length gone) → ((gone : List ℕ) → Pends p1 gone → ReadsLine said (gone ++ []))
-      → (text : List ℕ) × ScriptAnswersLine b said text d × HasPut g o1 o2 text → HasPut g o2 o3 [] → g.held o3 ≡ [] → IfSome r (λ bytes. AnswersInput g a bytes o d o3)
-  ends_open a b d said None p p1 o o1 o2 o3 fresh f some says prints flush none = tt
-  ends_open a b d said (Some bytes) p p1 o o1 o2 o3 fresh f some says prints flush none =
-      let x = last_line a b d said bytes prints.0 p p1 o o1 fresh f some says prints.1 in
-      let text : List ℕ = x.0 ++ prints.0 in
-      let put : HasPut g o o3 text = subst (λ (t : List ℕ). HasPut g o o3 t) (append-nil text) (put_more (put_more x.2 prints.2) flush) in
-      (text, x.1, all_written text put none)
+  -- it is answered, and a flush leaves nothing held
+  pub ends_open : (a b d : ScriptState) (said : Result Line LineError) (r r1 : Option (List ℕ)) (p p1 : Pending) (o o1 o2 o3 : W)
+      → Pends p [] → HasEnded g a r p o b r1 p1 o1 → ((gone : List ℕ) → Pends p1 gone → 0 < length gone) → ((gone : List ℕ) → Pends p1 gone → ReadsLine said (gone ++ []))
+      → (text : List ℕ) × ScriptAnswersLine b said text d × HasPut g o1 o2 text → HasPut g o2 o3 [] → g.held o3 ≡ [] → IfSome r (λ bytes. AnswersAll a bytes d r1 (IsWritten g o o3))
+  ends_open a b d said r r1 p p1 o o1 o2 o3 fresh f some says prints flush none =
+      let joined : (t u : List ℕ) → HasPut g o o1 t → HasPut g o1 o2 u → IsWritten g o o3 (t ++ u) =
+      λ t u h k. all_written (t ++ u) (subst (λ (x : List ℕ). HasPut g o o3 x) (append-nil (t ++ u)) (put_more (put_more h k) flush)) none in
+      from_start r p (λ bytes. AnswersAll a bytes d r1 (IsWritten g o o3)) fresh (last_line a b d said r r1 p p1 o o1 (HasPut g o1 o2) (IsWritten g o o3) f some says prints joined)
 
   -- it fails, or the flush after it
-  pub stops_open : (a b d : ScriptState) (said : Result Line LineError) (r : Option (List ℕ)) (p p1 : Pending) (o o1 o2 : W)
-      → Pends p [] → HasAnswered g a r p o b (Some []) p1 o1 → ((gone : List ℕ) → Pends p1 gone → 0 < length gone) → ((gone : List ℕ) → Pends p1 gone → ReadsLine said (gone ++ []))
-      → (text : List ℕ) × ScriptAnswersLine b said text d × HasPutPart g o1 o2 text → IfSome r (λ bytes. AnswersFirst a (lines_of bytes) d (Leaves g Write o o2))
-  stops_open a b d said None p p1 o o1 o2 fresh f some says prints = tt
-  stops_open a b d said (Some bytes) p p1 o o1 o2 fresh f some says prints =
-      let x = last_line a b d said bytes prints.0 p p1 o o1 fresh f some says prints.1 in
-      let text : List ℕ = x.0 ++ prints.0 in
-      (lines_of bytes, text, [], sym (append-nil (lines_of bytes)), x.1, part_written text (put_part_more x.2 prints.2))
+  pub stops_open : (a b d : ScriptState) (said : Result Line LineError) (r r1 : Option (List ℕ)) (p p1 : Pending) (o o1 o2 : W)
+      → Pends p [] → HasEnded g a r p o b r1 p1 o1 → ((gone : List ℕ) → Pends p1 gone → 0 < length gone) → ((gone : List ℕ) → Pends p1 gone → ReadsLine said (gone ++ []))
+      → (text : List ℕ) × ScriptAnswersLine b said text d × HasPutPart g o1 o2 text → IfSome r (λ bytes. AnswersWhole a bytes d (IsLeft r1) (IsWrittenPart g o o2) ⊎ AnswersAll a bytes d r1 (IsWrittenPart g o o2))
+  stops_open a b d said r r1 p p1 o o1 o2 fresh f some says prints =
+      let Ends : List ℕ → Type 0 = λ bytes. AnswersWhole a bytes d (IsLeft r1) (IsWrittenPart g o o2) ⊎ AnswersAll a bytes d r1 (IsWrittenPart g o o2) in
+      let all = last_line a b d said r r1 p p1 o o1 (HasPutPart g o1 o2) (IsWrittenPart g o o2) f some says prints (λ t u h k. part_written (t ++ u) (put_part_more h k)) in
+      from_start r p Ends fresh (λ todo ahead. inr (all todo ahead))
 
   -- a flush that fails behind a text
   pub flush_behind : (b d : ScriptState) (said : Result Line LineError) (o o1 o2 : W) → (text : List ℕ) × ScriptAnswersLine b said text d × HasPut g o o1 text → HasPutPart g o1 o2 [] → (text : List ℕ) × ScriptAnswersLine b said text d × HasPutPart g o o2 text
   flush_behind b d said o o1 o2 prints flush =
       (prints.0, prints.1, subst (λ (t : List ℕ). HasPutPart g o o2 t) (append-nil prints.0) (put_part_more prints.2 flush))
+
+-- ---- two runs
+written_both : {W : Type 0} (g : Ghosts W) (o o1 o2 : W) (t u : List ℕ) → g.held o1 ≡ [] → IsWritten g o o1 t → IsWritten g o1 o2 u → IsWritten g o o2 (t ++ u)
+written_both g o o1 o2 t u none x y =
+    let h : List ℕ = g.held o in
+    let second : Appends (g.contents o1) (g.contents o2) u = subst (λ (held : List ℕ). Appends (g.contents o1) (g.contents o2) (held ++ u)) none y in
+    subst (λ (bs : List ℕ). Appends (g.contents o) (g.contents o2) bs) (append_assoc h t u) (Appends-trans (g.contents o) (g.contents o1) (g.contents o2) (h ++ t) u x second)
+
+pub runs_are_one : {R W : Type 0} (i : InputGhosts R) (g : Ghosts W) → RunsAreOne i g
+runs_are_one i g a b old mid new first first' second second' both both' o o1 o2 ra whole rb rab none x y =
+    let p : AnswersAll old a mid (i.remaining first') (IsWritten g o o1) = subst (λ r. IfSome r (λ bytes. AnswersAll old bytes mid (i.remaining first') (IsWritten g o o1))) ra x.0 in
+    let q : AnswersAll mid b new (i.remaining second') (IsWritten g o1 o2) = subst (λ r. IfSome r (λ bytes. AnswersAll mid bytes new (i.remaining second') (IsWritten g o1 o2))) rb y.0 in
+    let answered : ScriptAnswersLines old (lines_of (a ++ b)) (p.0 ++ q.0) new =
+    subst (λ (ls : List (List ℕ)). ScriptAnswersLines old ls (p.0 ++ q.0) new) (sym (lines_join a b whole)) (ran_both old mid new (lines_of a) (lines_of b) p.0 q.0 p.1 q.1) in
+    let all : AnswersAll old (a ++ b) new (i.remaining both') (IsWritten g o o2) = (p.0 ++ q.0, answered, none, written_both g o o1 o2 p.0 q.0 x.1 p.3 q.3) in
+    (subst (λ r. IfSome r (λ bytes. AnswersAll old bytes new (i.remaining both') (IsWritten g o o2))) (sym rab) all, y.1)

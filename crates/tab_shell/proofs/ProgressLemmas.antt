@@ -8,15 +8,15 @@ use Rattle.tab_history.specs.Legal.{Legal}
 use Rattle.tab_io.specs.Streams.{IsEnd, Fills}
 use Rattle.tab_io.specs.Writing.{HasPut, HasPutPart, WriteFailed}
 use Rattle.tab_io.specs.declared.writing.Output.{Ghosts}
-use Rattle.tab_io.proofs.Putting.{put_none, put_more, put_part_more, all_written, part_written}
+use Rattle.tab_io.proofs.Putting.{put_none, put_more, put_part_more}
 use Rattle.tab_lines.specs.declared.line.Line.{Line}
 use Rattle.tab_lines.specs.declared.line_error.LineError.{LineError}
 use Rattle.tab_shell.specs.declared.pending.Pending.{Pending}
-use Rattle.tab_shell.specs.declared.script.ScriptFault.TheVariants.{Read, Write}
 use Rattle.tab_shell.specs.Texts.{lines_of}
-use Rattle.tab_shell.specs.Scripts.{Asker, ScriptState, ScriptRefines, asker_after, ScriptAnswersLine, LinesAnswered, ScriptAnswersLines}
-use Rattle.tab_shell.specs.Ahead.{ReadsLine, TakesLine, TakesOn}
-use Rattle.tab_shell.specs.Progress.{HasAnswered, HasAnsweredPart, StopsAhead}
+use Rattle.tab_shell.specs.Scripts.{Asker, ScriptState, ScriptRefines, asker_after, ScriptAnswersLine, LinesAnswered, ScriptAnswersLines, IsInside}
+use Rattle.tab_shell.specs.Ahead.{Pends, ReadsLine, Ahead, AtEnd, TakesLine, TakesOn}
+use Rattle.tab_shell.specs.Progress.{AnswersWhole, HasAnswered, HasAnsweredPart, HasEnded}
+use Rattle.tab_shell.proofs.Taking.{lines_cut, lines_none, lines_join, ends_both}
 
 -- lines, and then more lines
 lines_both : (who mid last : Asker) (w : World) (h : List Entry) (ls ms : List (List ℕ)) (es fs : List Entry) (t u : List ℕ) → LinesAnswered who w h ls es t mid → LinesAnswered mid w (es ++ h) ms fs u last → LinesAnswered who w h (ls ++ ms) (fs ++ es) (t ++ u) last
@@ -63,71 +63,84 @@ ran_line a b said line text says answered w h refines legal =
     let x = answered.extends w h refines legal in
     (x.0, (said, x.0, [], text, [], says, x.1, (refl, refl, answered.asker), refl, sym (append-nil text)), x.2, x.3)
 
+-- ---- of some bytes
+-- no line yet
+whole_none : (s : ScriptState) (todo : List ℕ) (B H : List ℕ → Type 0) → B todo → H [] → AnswersWhole s todo s B H
+whole_none s todo B H behind holds = ([], todo, [], refl, inl refl, behind, subst (λ (ls : List (List ℕ)). ScriptAnswersLines s ls [] s) (sym lines_none) (ran_none s), holds)
+
+-- one line with its line feed
+whole_line : (a b : ScriptState) (said : Result Line LineError) (line after todo text : List ℕ) (B H : List ℕ → Type 0)
+    → ReadsLine said line → IsInside line → todo ≡ line ++ 10 ∷ after → B after → ScriptAnswersLine a said text b → H text → AnswersWhole a todo b B H
+whole_line a b said line after todo text B H says inside is behind answered holds =
+    let one : lines_of (line ++ 10 ∷ []) ≡ line ∷ [] = lines_cut line [] inside ∙ ap (λ (ls : List (List ℕ)). line ∷ ls) lines_none in (
+      line ++ 10 ∷ [],
+      after,
+      text,
+      is ∙ sym (append_assoc line (10 ∷ []) after),
+      inr (line, refl),
+      behind,
+      subst (λ (ls : List (List ℕ)). ScriptAnswersLines a ls text b) (sym one) (ran_line a b said line text says answered),
+      holds,
+    )
+
+-- more of what stood behind
+whole_both : (a b d : ScriptState) (todo : List ℕ) (B C H K M : List ℕ → Type 0) → AnswersWhole a todo b B H → ((after : List ℕ) → B after → AnswersWhole b after d C K) → ((t u : List ℕ) → H t → K u → M (t ++ u)) → AnswersWhole a todo d C M
+whole_both a b d todo B C H K M x more join =
+    let y = more x.1 x.5 in (
+      x.0 ++ y.0,
+      y.1,
+      x.2 ++ y.2,
+      x.3 ∙ ap (λ (t : List ℕ). x.0 ++ t) y.3 ∙ sym (append_assoc x.0 y.0 y.1),
+      ends_both x.0 y.0 x.4 y.4,
+      y.5,
+      subst (λ (ls : List (List ℕ)). ScriptAnswersLines a ls (x.2 ++ y.2) d) (sym (lines_join x.0 y.0 x.4)) (ran_both a b d (lines_of x.0) (lines_of y.0) x.2 y.2 x.6 y.6),
+      join x.2 y.2 x.7 y.7,
+    )
+
+-- the same lines, with what follows from the facts
+pub whole_as : (a b : ScriptState) (todo : List ℕ) (B C H K : List ℕ → Type 0) → AnswersWhole a todo b B H → ((after : List ℕ) → B after → C after) → ((t : List ℕ) → H t → K t) → AnswersWhole a todo b C K
+whole_as a b todo B C H K x behind holds = (x.0, x.1, x.2, x.3, x.4, behind x.1 x.5, x.6, holds x.2 x.7)
+
 -- ---- over an output
 pub goes_none : {W : Type 0} (g : Ghosts W) (s : ScriptState) (r : Option (List ℕ)) (p : Pending) (o : W) → HasAnswered g s r p o s r p o
-goes_none g s r p o todo ahead = ([], [], todo, refl, ahead, ran_none s, put_none g o)
+goes_none g s r p o todo ahead = whole_none s todo (Ahead r p) (HasPut g o o) ahead (put_none g o)
 
 module _ {W : Type 0} (g : Ghosts W) where
   pub goes_both : (a b d : ScriptState) (r r1 r2 : Option (List ℕ)) (p p1 p2 : Pending) (o o1 o2 : W) → HasAnswered g a r p o b r1 p1 o1 → HasAnswered g b r1 p1 o1 d r2 p2 o2 → HasAnswered g a r p o d r2 p2 o2
   goes_both a b d r r1 r2 p p1 p2 o o1 o2 f more todo ahead =
-      let x = f todo ahead in
-      let y = more x.2 x.4 in (
-        x.0 ++ y.0,
-        x.1 ++ y.1,
-        y.2,
-        x.3 ∙ ap (λ (ls : List (List ℕ)). x.0 ++ ls) y.3 ∙ sym (append_assoc x.0 y.0 (lines_of y.2)),
-        y.4,
-        ran_both a b d x.0 y.0 x.1 y.1 x.5 y.5,
-        put_more x.6 y.6,
-      )
+      whole_both a b d todo (Ahead r1 p1) (Ahead r2 p2) (HasPut g o o1) (HasPut g o1 o2) (HasPut g o o2) (f todo ahead) more (λ t u h k. put_more h k)
 
-  pub part_both : (a b d : ScriptState) (r r1 : Option (List ℕ)) (p p1 : Pending) (o o1 o2 : W) → HasAnswered g a r p o b r1 p1 o1 → HasAnsweredPart g b r1 p1 o1 d o2 → HasAnsweredPart g a r p o d o2
-  part_both a b d r r1 p p1 o o1 o2 f more todo ahead =
-      let x = f todo ahead in
-      let y = more x.2 x.4 in (
-        x.0 ++ y.0,
-        x.1 ++ y.1,
-        y.2,
-        x.3 ∙ ap (λ (ls : List (List ℕ)). x.0 ++ ls) y.3 ∙ sym (append_assoc x.0 y.0 y.2),
-        ran_both a b d x.0 y.0 x.1 y.1 x.5 y.4,
-        put_part_more x.6 y.5,
-      )
+  pub part_both : (a b d : ScriptState) (r r1 r2 : Option (List ℕ)) (p p1 p2 : Pending) (o o1 o2 : W) → HasAnswered g a r p o b r1 p1 o1 → HasAnsweredPart g b r1 p1 o1 d r2 p2 o2 → HasAnsweredPart g a r p o d r2 p2 o2
+  part_both a b d r r1 r2 p p1 p2 o o1 o2 f more todo ahead =
+      whole_both a b d todo (Ahead r1 p1) (Ahead r2 p2) (HasPut g o o1) (HasPutPart g o1 o2) (HasPutPart g o o2) (f todo ahead) more (λ t u h k. put_part_more h k)
 
   -- one line is taken and answered
-  line_goes : (a b : ScriptState) (said : Result Line LineError) (r r1 : Option (List ℕ)) (p p1 : Pending) (o o1 : W) → TakesLine r p said r1 p1 → (text : List ℕ) × ScriptAnswersLine a said text b × HasPut g o o1 text → HasAnswered g a r p o b r1 p1 o1
-  line_goes a b said r r1 p p1 o o1 takes prints todo ahead =
+  line_goes : (a b : ScriptState) (said : Result Line LineError) (r r1 : Option (List ℕ)) (p p1 : Pending) (H : List ℕ → Type 0)
+      → TakesLine r p said r1 p1 → (text : List ℕ) × ScriptAnswersLine a said text b × H text → (todo : List ℕ) → Ahead r p todo → AnswersWhole a todo b (Ahead r1 p1) H
+  line_goes a b said r r1 p p1 H takes prints todo ahead =
       let x = takes todo ahead in
-      (x.0 ∷ [], prints.0, x.1, x.3, x.4, ran_line a b said x.0 prints.0 x.2 prints.1, prints.2)
-
-  line_part : (a b : ScriptState) (said : Result Line LineError) (r r1 : Option (List ℕ)) (p p1 : Pending) (o o1 : W) → TakesLine r p said r1 p1 → (text : List ℕ) × ScriptAnswersLine a said text b × HasPutPart g o o1 text → HasAnsweredPart g a r p o b o1
-  line_part a b said r r1 p p1 o o1 takes prints todo ahead =
-      let x = takes todo ahead in
-      (x.0 ∷ [], prints.0, lines_of x.1, x.3, ran_line a b said x.0 prints.0 x.2 prints.1, prints.2)
+      whole_line a b said x.0 x.1 todo prints.0 (Ahead r1 p1) H x.2 x.3 x.4 x.5 prints.1 prints.2
 
   pub goes_line : (a b d : ScriptState) (said : Result Line LineError) (r r1 r2 : Option (List ℕ)) (p p1 p2 : Pending) (o o1 o2 : W)
       → HasAnswered g a r p o b r1 p1 o1 → TakesLine r1 p1 said r2 p2 → (text : List ℕ) × ScriptAnswersLine b said text d × HasPut g o1 o2 text → HasAnswered g a r p o d r2 p2 o2
-  goes_line a b d said r r1 r2 p p1 p2 o o1 o2 f takes prints = goes_both a b d r r1 r2 p p1 p2 o o1 o2 f (line_goes b d said r1 r2 p1 p2 o1 o2 takes prints)
+  goes_line a b d said r r1 r2 p p1 p2 o o1 o2 f takes prints = goes_both a b d r r1 r2 p p1 p2 o o1 o2 f (line_goes b d said r1 r2 p1 p2 (HasPut g o1 o2) takes prints)
 
   pub part_line : (a b d : ScriptState) (said : Result Line LineError) (r r1 r2 : Option (List ℕ)) (p p1 p2 : Pending) (o o1 o2 : W)
-      → HasAnswered g a r p o b r1 p1 o1 → TakesLine r1 p1 said r2 p2 → (text : List ℕ) × ScriptAnswersLine b said text d × HasPutPart g o1 o2 text → HasAnsweredPart g a r p o d o2
-  part_line a b d said r r1 r2 p p1 p2 o o1 o2 f takes prints = part_both a b d r r1 p p1 o o1 o2 f (line_part b d said r1 r2 p1 p2 o1 o2 takes prints)
+      → HasAnswered g a r p o b r1 p1 o1 → TakesLine r1 p1 said r2 p2 → (text : List ℕ) × ScriptAnswersLine b said text d × HasPutPart g o1 o2 text → HasAnsweredPart g a r p o d r2 p2 o2
+  part_line a b d said r r1 r2 p p1 p2 o o1 o2 f takes prints = part_both a b d r r1 r2 p p1 p2 o o1 o2 f (line_goes b d said r1 r2 p1 p2 (HasPutPart g o1 o2) takes prints)
 
   -- no line ended, and what was there is kept
   pub goes_on : (a b : ScriptState) (r r1 r2 : Option (List ℕ)) (p p1 p2 : Pending) (o o1 : W) → HasAnswered g a r p o b r1 p1 o1 → TakesOn r1 p1 r2 p2 → HasAnswered g a r p o b r2 p2 o1
-  goes_on a b r r1 r2 p p1 p2 o o1 f takes todo ahead =
-      let x = f todo ahead in
-      (x.0, x.1, x.2, x.3, takes x.2 x.4, x.5, x.6)
+  goes_on a b r r1 r2 p p1 p2 o o1 f takes todo ahead = whole_as a b todo (Ahead r1 p1) (Ahead r2 p2) (HasPut g o o1) (HasPut g o o1) (f todo ahead) takes (λ t h. h)
 
   -- a flush puts nothing more
   pub goes_flush : (a b : ScriptState) (r r1 : Option (List ℕ)) (p p1 : Pending) (o o1 o2 : W) → HasAnswered g a r p o b r1 p1 o1 → HasPut g o1 o2 [] → HasAnswered g a r p o b r1 p1 o2
   goes_flush a b r r1 p p1 o o1 o2 f flush todo ahead =
-      let x = f todo ahead in
-      (x.0, x.1, x.2, x.3, x.4, x.5, subst (λ (t : List ℕ). HasPut g o o2 t) (append-nil x.1) (put_more x.6 flush))
+      whole_as a b todo (Ahead r1 p1) (Ahead r1 p1) (HasPut g o o1) (HasPut g o o2) (f todo ahead) (λ after h. h) (λ t h. subst (λ (u : List ℕ). HasPut g o o2 u) (append-nil t) (put_more h flush))
 
-  pub part_flush : (a b : ScriptState) (r r1 : Option (List ℕ)) (p p1 : Pending) (o o1 o2 : W) → HasAnswered g a r p o b r1 p1 o1 → HasPutPart g o1 o2 [] → HasAnsweredPart g a r p o b o2
+  pub part_flush : (a b : ScriptState) (r r1 : Option (List ℕ)) (p p1 : Pending) (o o1 o2 : W) → HasAnswered g a r p o b r1 p1 o1 → HasPutPart g o1 o2 [] → HasAnsweredPart g a r p o b r1 p1 o2
   part_flush a b r r1 p p1 o o1 o2 f flush todo ahead =
-      let x = f todo ahead in
-      (x.0, x.1, lines_of x.2, x.3, x.5, subst (λ (t : List ℕ). HasPutPart g o o2 t) (append-nil x.1) (put_part_more x.6 flush))
+      whole_as a b todo (Ahead r1 p1) (Ahead r1 p1) (HasPut g o o1) (HasPutPart g o o2) (f todo ahead) (λ after h. h) (λ t h. subst (λ (u : List ℕ). HasPutPart g o o2 u) (append-nil t) (put_part_more h flush))
 
   -- a fill keeps what is ahead
   keeps_ahead : (r r1 : Option (List ℕ)) (p : Pending) → Keeps r r1 → TakesOn r p r1 p
@@ -135,26 +148,18 @@ module _ {W : Type 0} (g : Ghosts W) where
   keeps_ahead (Some rest) None p keeps todo ahead = absurd keeps
   keeps_ahead (Some rest) (Some rest1) p keeps todo ahead = (ahead.0, ahead.1, ahead.2 ∙ ap (λ (x : List ℕ). ahead.0 ++ x) (sym keeps))
 
-  end_ahead : (r r1 : Option (List ℕ)) (p : Pending) → IsEnd r r1 → TakesOn r p (Some []) p
-  end_ahead None r1 p end todo ahead = absurd ahead
-  end_ahead (Some rest) r1 p end todo ahead = (ahead.0, ahead.1, ahead.2 ∙ ap (λ (x : List ℕ). ahead.0 ++ x) end.0)
-
   pub goes_fill : (a b : ScriptState) (r r1 r2 : Option (List ℕ)) (p p1 : Pending) (o o1 : W) → HasAnswered g a r p o b r1 p1 o1 → Keeps r1 r2 → HasAnswered g a r p o b r2 p1 o1
   goes_fill a b r r1 r2 p p1 o o1 f keeps = goes_on a b r r1 r2 p p1 p1 o o1 f (keeps_ahead r1 r2 p1 keeps)
 
-  pub goes_end : (a b : ScriptState) (r r1 r2 : Option (List ℕ)) (p p1 : Pending) (o o1 : W) → HasAnswered g a r p o b r1 p1 o1 → IsEnd r1 r2 → HasAnswered g a r p o b (Some []) p1 o1
-  goes_end a b r r1 r2 p p1 o o1 f end = let none : Option (List ℕ) = Some [] in goes_on a b r r1 none p p1 p1 o o1 f (end_ahead r1 r2 p1 end)
+  -- at the end only what has gone by is left
+  end_left : (r r1 : Option (List ℕ)) (p : Pending) → IsEnd r r1 → (todo : List ℕ) → Ahead r p todo → AtEnd r1 p todo
+  end_left None r1 p end todo ahead = absurd ahead
+  end_left (Some rest) r1 p end todo ahead =
+      let gone : todo ≡ ahead.0 = ahead.2 ∙ ap (λ (x : List ℕ). ahead.0 ++ x) end.0 ∙ append-nil ahead.0 in
+      (end.1, subst (λ (x : List ℕ). Pends p x) (sym gone) ahead.1)
 
-  -- with nothing gathered all texts are written
-  pub stops_read : (a b : ScriptState) (r r1 : Option (List ℕ)) (p p1 : Pending) (o o1 : W) → g.held o1 ≡ [] → HasAnswered g a r p o b r1 p1 o1 → StopsAhead g Read a r p o b o1
-  stops_read a b r r1 p p1 o o1 none f todo ahead =
-      let x = f todo ahead in
-      (x.0, x.1, lines_of x.2, x.3, x.5, all_written x.1 x.6 none)
-
-  pub stops_write : (a b : ScriptState) (r : Option (List ℕ)) (p : Pending) (o o1 : W) → HasAnsweredPart g a r p o b o1 → StopsAhead g Write a r p o b o1
-  stops_write a b r p o o1 f todo ahead =
-      let x = f todo ahead in
-      (x.0, x.1, x.2, x.3, x.4, part_written x.1 x.5)
+  pub goes_end : (a b : ScriptState) (r r1 r2 : Option (List ℕ)) (p p1 : Pending) (o o1 : W) → HasAnswered g a r p o b r1 p1 o1 → IsEnd r1 r2 → HasEnded g a r p o b r2 p1 o1
+  goes_end a b r r1 r2 p p1 o o1 f end todo ahead = whole_as a b todo (Ahead r1 p1) (AtEnd r2 p1) (HasPut g o o1) (HasPut g o o1) (f todo ahead) (end_left r1 r2 p1 end) (λ t h. h)
 
 -- a write that failed, after writes that didn't
 pub later_fault : {W : Type 0} (g : Ghosts W) (a b c : W) → g.faults b ≡ g.faults a → WriteFailed g b c → WriteFailed g a c

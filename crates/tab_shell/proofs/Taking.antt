@@ -1,15 +1,16 @@
 -- How lines are taken from what is read.
-use Rattle.std.proofs.Common.{ℕ, suc, ◌≡◌, ◌+◌, ◌<◌, ◌≤◌, ◌==◌, true, false, cond, not, List, [], ◌∷◌, ◌++◌, length, take, refl, sym, ap, ◌∙◌, subst, arith, append_assoc, Option, Some, None}
+use Rattle.std.proofs.Common.{ℕ, suc, ◌≡◌, ◌+◌, ◌<◌, ◌≤◌, ◌==◌, true, false, cond, not, List, [], ◌∷◌, ◌++◌, length, take, refl, sym, ap, ◌∙◌, subst, arith, append_assoc, Option, Some, None, inl, inr}
 use Rattle.std.specs.List.{prefix_len, onto_first}
 use Rattle.tab_lines.proofs.Cutting as cutting
 use Rattle.std.specs.Prelude.{Result}
 use Rattle.std.specs.Io.KnownBytes.{Consumes}
 use Rattle.std.proofs.lemmas.Bool.{eqb-true}
+use Rattle.std.proofs.lemmas.List.{append-nil}
 use Rattle.tab_lines.specs.declared.line.Line.{Line}
 use Rattle.tab_lines.specs.declared.line_error.LineError.{LineError}
 use Rattle.tab_lines.specs.Words.{parts_at}
 use Rattle.tab_shell.specs.declared.pending.Pending.{Pending}
-use Rattle.tab_shell.specs.Texts.{lines_of, without_last_empty}
+use Rattle.tab_shell.specs.Texts.{lines_of, without_last_empty, EndsLine}
 use Rattle.tab_shell.specs.Scripts.{is_inside, IsInside}
 use Rattle.tab_shell.specs.Ahead.{Pends, Ahead, ReadsLine, TakesLine}
 use Rattle.tab_shell.proofs.PendingLemmas.{inside_more}
@@ -54,6 +55,42 @@ pub lines_none : lines_of [] ≡ []
 unfolding lines_of
 lines_none = refl
 
+-- ---- whole lines, and what stands behind them
+parts_behind : (front after : List ℕ) → parts_at 10 (front ++ 10 ∷ after) ≡ parts_at 10 front ++ parts_at 10 after
+parts_behind [] after = refl
+parts_behind (x ∷ xs) after =
+    let s = some_parts xs in
+    let h : parts_at 10 (xs ++ 10 ∷ after) ≡ parts_at 10 xs ++ parts_at 10 after = parts_behind xs after in
+    elim (x == 10) as
+    (λ t. cond t ([] ∷ parts_at 10 (xs ++ 10 ∷ after)) (onto_first x (parts_at 10 (xs ++ 10 ∷ after))) ≡ cond t ([] ∷ parts_at 10 xs) (onto_first x (parts_at 10 xs)) ++ parts_at 10 after) [
+      | true ↦ ap (λ (ps : List (List ℕ)). [] ∷ ps) h
+      | false ↦ ap (onto_first x) (h ∙ ap (λ (ps : List (List ℕ)). ps ++ parts_at 10 after) s.2) ∙ ap (λ (ps : List (List ℕ)). onto_first x ps ++ parts_at 10 after) (sym s.2)
+    ]
+
+last_empty : (ps : List (List ℕ)) (q : List ℕ) (qs : List (List ℕ)) → without_last_empty (ps ++ q ∷ qs) ≡ ps ++ without_last_empty (q ∷ qs)
+last_empty [] q qs = refl
+last_empty (p ∷ []) q qs = refl
+last_empty (p ∷ p2 ∷ ps) q qs = ap (λ (ls : List (List ℕ)). p ∷ ls) (last_empty (p2 ∷ ps) q qs)
+
+lines_behind : (front after : List ℕ) → lines_of (front ++ 10 ∷ after) ≡ parts_at 10 front ++ lines_of after
+unfolding lines_of
+lines_behind front after =
+    let s = some_parts after in
+    ap without_last_empty (parts_behind front after ∙ ap (λ (ps : List (List ℕ)). parts_at 10 front ++ ps) s.2)
+    ∙ last_empty (parts_at 10 front) s.0 s.1 ∙ ap (λ (ps : List (List ℕ)). parts_at 10 front ++ without_last_empty ps) (sym s.2)
+
+pub lines_join : (whole after : List ℕ) → EndsLine whole → lines_of (whole ++ after) ≡ lines_of whole ++ lines_of after
+lines_join whole after (inl none) =
+    ap (λ (t : List ℕ). lines_of (t ++ after)) none ∙ ap (λ (ls : List (List ℕ)). ls ++ lines_of after) (sym lines_none) ∙ ap (λ (t : List ℕ). lines_of t ++ lines_of after) (sym none)
+lines_join whole after (inr ends) =
+    let front : List ℕ = ends.0 in
+    let one : lines_of whole ≡ parts_at 10 front = ap lines_of ends.1 ∙ lines_behind front [] ∙ ap (λ (ls : List (List ℕ)). parts_at 10 front ++ ls) lines_none ∙ append-nil (parts_at 10 front) in
+    ap (λ (t : List ℕ). lines_of (t ++ after)) ends.1 ∙ ap lines_of (append_assoc front (10 ∷ []) after) ∙ lines_behind front after ∙ ap (λ (ls : List (List ℕ)). ls ++ lines_of after) (sym one)
+
+pub ends_both : (a b : List ℕ) → EndsLine a → EndsLine b → EndsLine (a ++ b)
+ends_both a b ends (inl none) = subst EndsLine (sym (ap (λ (t : List ℕ). a ++ t) none ∙ append-nil a)) ends
+ends_both a b ends (inr more) = inr (a ++ more.0, ap (λ (t : List ℕ). a ++ t) more.1 ∙ sym (append_assoc a more.0 (10 ∷ [])))
+
 -- up to the first line feed
 front_line : (front : List ℕ) → prefix_len is_inside front < length front → let n = prefix_len is_inside front in IsInside (take n front) × (take (suc n) front ≡ take n front ++ 10 ∷ [])
 front_line [] lt = absurd (omega arith)
@@ -86,6 +123,7 @@ takes_line (Some rest) (Some after) p p' said front at is lt eats says none = λ
       line,
       after,
       says gone ahead.1,
-      ap lines_of whole ∙ lines_cut line after (inside_more gone (take at front) ahead.1.inside h.0),
+      inside_more gone (take at front) ahead.1.inside h.0,
+      whole,
       ([], none, refl),
     )

@@ -1,5 +1,5 @@
 -- What is ahead of a reader, with the line that has begun.
-use Rattle.std.specs.Prelude.{ℕ, ◌≡◌, ◌<◌, Bool, true, false, List, ◌∷◌, ◌++◌, length, Result, Ok, Err, Option, Some, None}
+use Rattle.std.specs.Prelude.{ℕ, ◌≡◌, ◌<◌, Bool, true, false, List, [], ◌∷◌, ◌++◌, length, Result, Ok, Err, Option, Some, None}
 use Rattle.tab_history.specs.Answers.{is_open}
 use Rattle.tab_lines.specs.declared.line.Line.{Line}
 use Rattle.tab_lines.specs.declared.line.Line.TheVariants as line
@@ -7,7 +7,6 @@ use Rattle.tab_lines.specs.declared.line_error.LineError.{LineError}
 use Rattle.tab_lines.specs.Gives.{Gives}
 use Rattle.tab_lines.specs.Lines.{line_of}
 use Rattle.tab_shell.specs.declared.pending.Pending.{Pending}
-use Rattle.tab_shell.specs.Texts.{lines_of}
 use Rattle.tab_shell.specs.Scripts.{IsInside}
 
 -- the bytes are kept, or lost, and then there are some
@@ -33,10 +32,14 @@ abbrev pub Ahead : Option (List ℕ) → Pending → List ℕ → Type 0
 Ahead None p todo = ⊥
 Ahead (Some rest) p todo = (gone : List ℕ) × Pends p gone × (todo ≡ gone ++ rest)
 
--- a line was taken
+-- the input has ended in a line of which so much has gone by
+abbrev pub AtEnd : Option (List ℕ) → Pending → List ℕ → Type 0
+AtEnd r p gone = (r ≡ Some []) × Pends p gone
+
+-- a line was taken, with its line feed
 abbrev pub TakesLine : Option (List ℕ) → Pending → Result Line LineError → Option (List ℕ) → Pending → Type 0
 TakesLine r p said r' p' = (todo : List ℕ) → Ahead r p todo
-    → (line : List ℕ) × (after : List ℕ) × ReadsLine said line × (lines_of todo ≡ line ∷ lines_of after) × Ahead r' p' after
+    → (line : List ℕ) × (after : List ℕ) × ReadsLine said line × IsInside line × (todo ≡ line ++ 10 ∷ after) × Ahead r' p' after
 
 -- no line ends in what was there
 abbrev pub TakesOn : Option (List ℕ) → Pending → Option (List ℕ) → Pending → Type 0

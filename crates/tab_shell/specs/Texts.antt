@@ -1,5 +1,5 @@
 -- The lines of a text, and the texts of replies.
-use Rattle.std.specs.Prelude.{ℕ, Bool, cond, List, [], ◌∷◌, ◌++◌, map, codes, if◌then◌else◌}
+use Rattle.std.specs.Prelude.{ℕ, ◌≡◌, ◌⊎◌, Bool, cond, List, [], ◌∷◌, ◌++◌, map, codes, if◌then◌else◌}
 use Rattle.std.specs.List.{flat_map}
 use Rattle.std.specs.Fmt.{decimal}
 use Rattle.tab_key.specs.Records.{Cell}
@@ -34,6 +34,10 @@ without_last_empty (p ∷ q ∷ ps) = p ∷ without_last_empty (q ∷ ps)
 -- the lines are what stands between line feeds; the last one may lack its line feed
 unfoldable pub lines_of : List ℕ → List (List ℕ)
 lines_of text = without_last_empty (parts_at 10 text)
+
+-- whole lines: nothing, or a text that ends in a line feed
+abbrev pub EndsLine : List ℕ → Type 0
+EndsLine text = (text ≡ []) ⊎ ((front : List ℕ) × (text ≡ front ++ 10 ∷ []))
 
 -- ---- replies
 -- what is too large

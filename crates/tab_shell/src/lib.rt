@@ -11,6 +11,7 @@
 //! | `pending` | the line that has begun, and how the next one is taken |
 //! | `reply` | the texts of replies |
 //! | `refusal` | the texts of refusals |
+//! | `laws` | two runs of a script are one |
 //!
 //! `specs/Texts` has the lines of a text and the texts of replies, `specs/Counts` counts by user, `specs/Readings` how a
 //! scan reads its session, `specs/Scripts` what a line adds to every history that the script refines, and prints,
@@ -20,12 +21,14 @@
 
 mod batches;
 mod counts;
+mod laws;
 mod pending;
 mod refusal;
 mod reply;
 mod rights;
 mod script;
 
+pub use laws::runs_are_one;
 pub use reply::write_reply;
 pub use script::{Ended, Script, ScriptFault};
 pub use tab_lines::{Line, LineError, read_line};

@@ -1,5 +1,5 @@
 //! Scripts: a core that answers lines.
-ghost use Rattle.std.specs.Prelude.{◌≡◌, ◌<◌, [], Some, true, false, is_some, IfErr, OnOk};
+ghost use Rattle.std.specs.Prelude.{◌≡◌, ◌<◌, [], true, false, is_some, IfErr, OnOk};
 ghost use Rattle.tab_history.specs.Answers.{told_of, is_open};
 ghost use Rattle.tab_io.specs.Streams.{FailsByFault};
 ghost use Rattle.tab_io.specs.Writing.{Puts};
@@ -9,7 +9,7 @@ ghost use Rattle.tab_policy.specs.Entries.{at_name};
 ghost use Rattle.tab_shell.specs.Counts.{count_of};
 ghost use Rattle.tab_shell.specs.Scripts.{event_by, new_script};
 ghost use Rattle.tab_shell.specs.Ahead.{OpensNoSession};
-ghost use Rattle.tab_shell.specs.Progress.{PrintsAnswer, AnswersFront, HasAnswered, StopsAhead, FailedSide, RunsScript};
+ghost use Rattle.tab_shell.specs.Progress.{PrintsAnswer, AnswersFront, HasEnded, StopsAhead, FailedSide, RunsScript};
 
 use crate::batches::put_session;
 use crate::counts::Counts;
@@ -26,17 +26,18 @@ use tab_lines::{Line, LineError};
 /// How a run of a script ended.
 #[derive(Clone, Copy, Debug, PartialEq, Eq)]
 pub enum Ended {
-    /// The input ended, and every line of it was answered.
+    /// The input ended, and every line of it was answered. Nothing is left to read, and nothing is held unwritten.
     Input,
 }
 
 /// What stopped a script. The lines answered before it have taken effect.
 #[derive(Clone, Copy, Debug, PartialEq, Eq, thiserror::Error)]
 pub enum ScriptFault {
-    /// The reader failed. Everything that was answered has been written; a line that had begun is dropped, without effect.
+    /// The reader failed. Every line that ended before has been answered, and the answers are written; a line that had begun is
+    /// dropped, without effect.
     #[error("the input can't be read")]
     Read,
-    /// The writer failed. A beginning of what was answered has been written.
+    /// The writer failed. The lines that were taken have been answered, and a beginning of the answers is written.
     #[error("the output can't be written")]
     Write,
 }
@@ -242,8 +243,8 @@ impl Script {
         output: &mut W,
     ) -> Result<(), ScriptFault>
         ensures flushed { OnOk result (W.held output.new ≡ []) }
-        ensures ok { OnOk result (HasAnswered W.Output self.old (R.remaining input.old) pending.old output.old self.new (Some []) pending.new output.new) }
-        ensures err { IfErr result (λ e. StopsAhead W.Output e self.old (R.remaining input.old) pending.old output.old self.new output.new) }
+        ensures ok { OnOk result (HasEnded W.Output self.old (R.remaining input.old) pending.old output.old self.new (R.remaining input.new) pending.new output.new) }
+        ensures err { IfErr result (λ e. StopsAhead W.Output e self.old (R.remaining input.old) pending.old output.old self.new (R.remaining input.new) pending.new output.new) }
         ensures faults { IfErr result (λ e. FailedSide R.Input W.Output e input.old input.new output.old output.new) }
         ensures writes { OnOk result (W.faults output.new ≡ W.faults output.old) }
     {
@@ -279,7 +280,7 @@ impl Script {
         let mut pending = Pending::new(self.alloc);
         match self.answer_all(&mut pending, input, output) {
             Ok(()) => {}
-            Err(fault) => return Err(fault),
+            Err(stopped) => return Err(stopped),
         }
         if !pending.has_begun() {
             return Ok(Ended::Input);

@@ -1,0 +1,66 @@
+//! The forms of a script's lines, and the kinds of their words: the table that `--help` prints, and that explanations cite.
+
+/// The lines, a form in each row: the command and the kinds of the words behind it. What stands in brackets may be missing.
+pub const LINES: &str = "  as U
+  at MOMENT
+  createtable T [TIME [VERSIONS]]
+  createtable T VERSIONS
+  droptable T
+  createuser U
+  dropuser U
+  setauths U AUTHS
+  grant U SYSTEM_PERMISSION
+  grant U TABLE_PERMISSION T
+  revoke U SYSTEM_PERMISSION
+  revoke U TABLE_PERMISSION T
+  rights T
+  constraints T RULES
+  insert T ROW FAM QUAL LABEL VALUE [TS]
+  delete T ROW FAM QUAL LABEL [TS]
+  mutate T ROW [UPDATE [; UPDATE]..]
+  scan T AUTHS [LOW HIGH [COLS]]";
+
+/// The updates of a `mutate`, as the lines.
+pub const UPDATES: &str = "  put FAM QUAL LABEL VALUE STAMP
+  del FAM QUAL LABEL STAMP";
+
+/// The kinds of words, and what each is.
+pub const KINDS: &str = "  U                  a user's name: 1 to 128 of a-z A-Z 0-9 _ - .
+  T                  a table's name: 1 to 128 of a-z A-Z 0-9 _ - .
+  MOMENT             a whole number of 64 bits with its sign, as 7 or -7
+  TS                 a timestamp: a whole number of 64 bits with its sign, as 7 or -7
+  STAMP              a timestamp, or - for none
+  TIME               time=any or time=server
+  VERSIONS           versions=N with N from 1 to 1000
+  AUTHS              byte words with commas between them, or \\0 for none
+  RULES              keysize, alphanum, numeric, visibility: some with commas between them, or \\0 for none
+  SYSTEM_PERMISSION  GRANT, CREATE_TABLE, DROP_TABLE, ALTER_TABLE, CREATE_USER, DROP_USER, ALTER_USER or SYSTEM
+  TABLE_PERMISSION   READ, WRITE, ALTER_TABLE, GRANT or DROP_TABLE
+  ROW                a byte word: ! to ~ as they are but \\\\ for \\, \\xHH (H of 0-9 a-f) for any byte, \\e for none
+  FAM                a byte word: ! to ~ as they are but \\\\ for \\, \\xHH (H of 0-9 a-f) for any byte, \\e for none
+  QUAL               a byte word: ! to ~ as they are but \\\\ for \\, \\xHH (H of 0-9 a-f) for any byte, \\e for none
+  LABEL              a byte word: ! to ~ as they are but \\\\ for \\, \\xHH (H of 0-9 a-f) for any byte, \\e for none
+  VALUE              a byte word: ! to ~ as they are but \\\\ for \\, \\xHH (H of 0-9 a-f) for any byte, \\e for none
+  LOW                [ and a byte word (from this row on), ( and a byte word (behind it), or \\0 for no bound
+  HIGH               [ and a byte word (up to this row), ( and a byte word (before it), or \\0 for no bound
+  COLS               FAM or FAM:QUAL, with commas between them, or \\0 for all
+  UPDATE             put or del, and the words behind it
+  ;                  between two updates";
+
+/// What stands behind the word in the row, if the row begins with it.
+pub(crate) fn behind<'a>(row: &'a str, word: &[u8]) -> Option<&'a str> {
+    match row.trim_start().split_once(' ') {
+        Some((first, rest)) if first.as_bytes() == word => Some(rest),
+        _ => None,
+    }
+}
+
+/// What a word of this kind is.
+pub(crate) fn meaning(kind: &str) -> &'static str {
+    for row in KINDS.lines() {
+        if let Some(rest) = behind(row, kind.as_bytes()) {
+            return rest.trim_start();
+        }
+    }
+    ""
+}

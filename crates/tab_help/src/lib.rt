@@ -1,0 +1,27 @@
+//! What the lines of a script look like, and why one is a line fault.
+//!
+//! The forms of lines stand in one table of text, with a row for each form: a command and the kinds of the words behind it. It
+//! is what `tabd --help` prints. An explanation names the first word of a faulty line that fits none of the forms of its
+//! command, and the kinds that fit there. Whether a line is a fault, and whether a word is of a kind, `read_line` of crate
+//! `tab_lines` says: the table decides nothing about what is accepted.
+//!
+//! | File | What |
+//! |---|---|
+//! | `forms` | the table: the forms of lines and of updates, and the kinds of words |
+//! | `kinds` | whether a word is of a kind |
+//! | `fitting` | the word at which a line stops to fit a form |
+//! | `reason` | why a line is a fault |
+//! | `wording` | the text of a reason |
+//! | `explaining` | a reader that passes bytes along, and explains each line fault on the way |
+//!
+//! `specs/Explaining` says when a line is explained.
+#![tactic(auto)]
+
+mod explaining;
+mod fitting;
+pub mod forms;
+mod kinds;
+mod reason;
+mod wording;
+
+pub use explaining::{Explaining, Told, explain};
