@@ -65,15 +65,6 @@ names_short [] k i d e lt = absurd (omega (arith, lt))
 names_short (u ∷ us) k zero d e lt = label_short k u (none_left (long_name k u) (first_found long_name (k + 1) us) e)
 names_short (u ∷ us) k (suc i) d e lt = names_short us (k + 1) i d (none_right (long_name k u) (first_found long_name (k + 1) us) e) (omega (arith, lt))
 
--- a mutation of good shape has few updates
-pub shaped_count : (m : Mutation) → shape_error m ≡ None → length m.updates ≤ 1000
-unfolding shape_error
-shaped_count m e =
-    let size = none_right (empty m.updates) (oversize m) e in
-    let few = unmet (nat_lt 1000 (length m.updates)) (TooLarge part.Updates)
-      (none_left (when (nat_lt 1000 (length m.updates)) (TooLarge part.Updates)) (first_some (when (is_too_long m.row) (TooLarge part.Row) ∷ first_found long_name 0 m.updates ∷ first_found long_value 0 m.updates ∷ [])) size) in
-    grind (arith, nat_tests)
-
 pub shaped_labels : (m : Mutation) (i : ℕ) (d : Update) → shape_error m ≡ None → i < length m.updates → length (slice_index_or m.updates i d).label ≤ 1048576
 unfolding shape_error
 shaped_labels m i d e lt =

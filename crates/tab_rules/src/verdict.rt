@@ -43,7 +43,7 @@ const TESTS: [Test; 6] = [
 ];
 
 // The first update, where there is one and the row isn't all letters and digits.
-fn first_by_row(mutation: &Mutation) -> Option<usize>
+fn first_by_row(mutation: &Mutation) -> Option<u32>
     ensures { result ≡ first_index (λ u. not (list_all is_ascii_alphanumeric mutation.now.row)) 0
         mutation.now.updates }
 {
@@ -58,13 +58,13 @@ fn first_by_row(mutation: &Mutation) -> Option<usize>
 }
 
 // The first update that fails the test.
-fn first_failing(mutation: &Mutation, auths: &AuthSet, test: Test) -> Option<usize>
+fn first_failing(mutation: &Mutation, auths: &AuthSet, test: Test) -> Option<u32>
     ensures { result ≡ first_index (fails auths.now mutation.now.row test.constraint test.code) 0
         mutation.now.updates }
 {
     for index in 0..mutation.len() {
         if fails(auths, mutation.row(), test, &mutation.update(index)) {
-            return Some(index);
+            return Some(index as u32);
         }
     }
     None

@@ -11,7 +11,7 @@ pub struct Violation {
     /// In what way: see [`Constraint`].
     pub code: u8,
     /// The first update that fails so, counted from 0.
-    pub update: usize,
+    pub update: u32,
 }
 
 /// Every violation, rising by constraint and code; empty where nothing fails.

@@ -13,7 +13,7 @@ const ALL: [Constraint; 4] = [
 ];
 
 // The numbers of the failing constraints, with their codes and updates.
-fn listed(rt: &HostRuntime, verdict: &Verdict) -> Result<Vec<(u8, u8, usize)>, AllocError> {
+fn listed(rt: &HostRuntime, verdict: &Verdict) -> Result<Vec<(u8, u8, u32)>, AllocError> {
     let mut list = Vec::new(rt.alloc());
     for failing in verdict.as_slice() {
         list.push((failing.constraint.number(), failing.code, failing.update))?;

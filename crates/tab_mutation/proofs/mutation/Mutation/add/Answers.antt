@@ -1,4 +1,4 @@
-use Rattle.std.proofs.Common.{◌≡◌, ◌∙◌, ap, ◌++◌, ◌∷◌, [], arith}
+use Rattle.std.proofs.Common.{◌≡◌, ◌∙◌, ap, ◌++◌, ◌∷◌, [], length, length-append, arith}
 use Rattle.std.specs.Prelude.{map}
 use Rattle.tab_mutation.specs.Mutations.{Update}
 use Rattle.tab_mutation.specs.UpdateSpans.{update_in}
@@ -19,6 +19,7 @@ invariant_of-self-2 c =
     record {
       row = omega (arith, no_shorter _ _ c.append.ensures.front, c.self.invariant.row);
       updates = pushed_within _ _ _ _ c.in_ok-span.span spans c.append.ensures.front c.self.invariant.updates c.in_ok-span.ensures.within;
+      count = omega (arith, ap length spans, length-append c.self.inside.spans.items (c.in_ok-span.span ∷ []), c.len.ensures);
     }
 
 pub returns-clause-ok : goal.returns-clause-ok
