@@ -1,13 +1,13 @@
 //! A reader that passes bytes along, and explains each line fault on the way.
-ghost use Rattle.std.specs.Prelude.{◌≡◌};
+ghost use Rattle.std.specs.Prelude.{◌≡◌, ◌++◌, decimal};
+ghost use Rattle.tab_io.specs.Writing.{Puts};
 ghost use Rattle.tab_help.specs.Explaining.{Explains};
 
 use crate::reason::fault;
-use crate::wording::put_reason;
 use std::alloc::{AllocError, Global};
 use std::io;
 use std::io::Read;
-use tab_io::{Output, WriteFault, length_before};
+use tab_io::{Output, WriteFault, length_before, put_decimal};
 
 /// What was said of a line.
 #[derive(Clone, Copy, Debug, PartialEq, Eq)]
@@ -27,16 +27,44 @@ pub fn explain<W: Output>(
     line: &[u8],
     output: &mut W,
 ) -> Result<Told, WriteFault>
-    ensures { Explains output.old output.new line.now result }
+    ensures { Explains W.Output output.old output.new number line.now result }
 {
     match fault(alloc, line, number == 1) {
-        Ok(Some(reason)) => {
-            put_reason(output, number, &reason)?;
-            Ok(Told::Reason)
-        }
+        Ok(Some(reason)) => match format!(in alloc; ": {reason}\n") {
+            Ok(text) => {
+                match put_numbered(output, b"line ", number, text.as_bytes()) {
+                    Ok(()) => Ok(Told::Reason),
+                    Err(fault) => Err(fault),
+                }
+            }
+            Err(_) => Ok(Told::NoMemory),
+        },
         Ok(None) => Ok(Told::Nothing),
         Err(AllocError) => Ok(Told::NoMemory),
     }
+}
+
+// Puts the text with the number before it, and this in front.
+#[tactic(auto, using(tab_io::proofs::Putting::putting))]
+fn put_numbered<W: Output>(
+    output: &mut W,
+    front: &[u8],
+    number: u64,
+    text: &[u8],
+) -> Result<(), WriteFault>
+    ensures { Puts W.Output output.old output.new (front.now ++ (decimal number ++ text.now)) result }
+{
+    output.put(front)?;
+    put_number(output, number, text)
+}
+
+// Puts the number, and the text.
+#[tactic(auto, using(tab_io::proofs::Putting::putting))]
+fn put_number<W: Output>(output: &mut W, number: u64, text: &[u8]) -> Result<(), WriteFault>
+    ensures { Puts W.Output output.old output.new (decimal number ++ text.now) result }
+{
+    put_decimal(output, number)?;
+    output.put(text)
 }
 
 // The line that was kept; or else the part, which is a whole line.

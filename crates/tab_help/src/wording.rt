@@ -2,121 +2,97 @@
 use crate::fitting::Misfit;
 use crate::forms::{LINES, meaning};
 use crate::reason::Reason;
-use tab_io::{Output, WriteFault, put_byte, put_decimal};
+use std::fmt;
+use std::fmt::{Display, Formatter};
 
 /// How many bytes of a word are shown.
 const SHOWN: usize = 60;
 
-// A byte as it stands, or as `\x` and two digits.
-fn put_shown<W: Output>(output: &mut W, byte: u8) -> Result<(), WriteFault> {
-    if b' ' < byte && byte <= b'~' {
-        return put_byte(output, byte);
-    }
-    let digits = b"0123456789abcdef";
-    output.put(&[
-        b'\\',
-        b'x',
-        digits[(byte / 16) as usize],
-        digits[(byte % 16) as usize],
-    ])
-}
+// A word's first bytes, each as it stands or as `\x` and two digits.
+#[derive(Clone, Copy)]
+struct Shown<'a>(&'a [u8]);
 
-// The place of a word, and its first bytes.
-fn put_word<W: Output>(output: &mut W, place: u64, word: &[u8]) -> Result<(), WriteFault> {
-    output.put(b"word ")?;
-    put_decimal(output, place)?;
-    output.put(b", \"")?;
-    for byte in word.iter().take(SHOWN) {
-        put_shown(output, *byte)?;
-    }
-    output.put(if word.len() > SHOWN {
-        b"..\": expected "
-    } else {
-        b"\": expected "
-    })
-}
-
-// A kind, and what it is.
-fn put_kind<W: Output>(output: &mut W, kind: &str) -> Result<(), WriteFault> {
-    output.put(kind.as_bytes())?;
-    output.put(b" (")?;
-    output.put(meaning(kind).as_bytes())?;
-    output.put(b")")
-}
-
-// What fits in place of a word.
-fn put_expected<W: Output>(output: &mut W, misfit: &Misfit<'_>) -> Result<(), WriteFault> {
-    if let Some(kind) = misfit.kind {
-        put_kind(output, kind)?;
-    }
-    if let Some(other) = misfit.other {
-        output.put(b" or ")?;
-        put_kind(output, other)?;
-    }
-    if !misfit.end {
-        return Ok(());
-    }
-    output.put(if misfit.kind.is_some() {
-        b" or the end of the line"
-    } else {
-        b"the end of the line"
-    })
-}
-
-// A word that doesn't fit, or is missing.
-fn put_misfit<W: Output>(output: &mut W, misfit: &Misfit<'_>) -> Result<(), WriteFault> {
-    match misfit.word {
-        Some(word) => put_word(output, misfit.place, word)?,
-        None => {
-            output.put(b"word ")?;
-            put_decimal(output, misfit.place)?;
-            output.put(b" is missing: expected ")?;
+impl Display for Shown<'_> {
+    fn fmt<W: fmt::Write>(&self, f: &mut Formatter<W>) -> fmt::Result {
+        for byte in self.0.iter().take(SHOWN) {
+            if b' ' < *byte && *byte <= b'~' {
+                f.write_char(*byte as char)?;
+            } else {
+                write!(f, "\\x{byte:02x}")?;
+            }
         }
+        f.write_str(if self.0.len() > SHOWN { ".." } else { "" })
     }
-    put_expected(output, misfit)
 }
 
 // The commands, each once.
-fn put_commands<W: Output>(output: &mut W) -> Result<(), WriteFault> {
-    output.put(b"a command, one of")?;
-    let mut last = b"".as_slice();
-    for row in LINES.lines() {
-        if let Some((command, _)) = row.trim_start().split_once(' ') {
-            let command = command.as_bytes();
-            if command != last {
-                output.put(b" ")?;
-                output.put(command)?;
+#[derive(Clone, Copy)]
+struct Commands;
+
+impl Display for Commands {
+    fn fmt<W: fmt::Write>(&self, f: &mut Formatter<W>) -> fmt::Result {
+        let mut last = b"".as_slice();
+        for row in LINES.lines() {
+            if let Some((command, _)) = row.trim_start().split_once(' ') {
+                if command.as_bytes() != last {
+                    write!(f, " {command}")?;
+                }
+                last = command.as_bytes();
             }
-            last = command;
         }
+        Ok(())
     }
-    Ok(())
 }
 
-/// Puts one line that says why the line with this number is a fault.
-pub fn put_reason<W: Output>(
-    output: &mut W,
-    number: u64,
-    reason: &Reason<'_>,
-) -> Result<(), WriteFault> {
-    output.put(b"line ")?;
-    put_decimal(output, number)?;
-    output.put(b": ")?;
-    match reason {
-        Reason::Mark(word) => {
-            put_word(output, 1, word)?;
-            output.put(b"no byte order mark (\\xef\\xbb\\xbf) at the beginning")?;
+impl Misfit<'_> {
+    // What fits in place of the word: kinds with what they are, and the end.
+    fn expected<W: fmt::Write>(&self, f: &mut Formatter<W>) -> fmt::Result {
+        if let Some(kind) = self.kind {
+            write!(f, "{kind} ({})", meaning(kind))?;
         }
-        Reason::Return(place, word) => {
-            put_word(output, *place, word)?;
-            output.put(b"no carriage return (\\x0d) at the end of the line")?;
+        if let Some(other) = self.other {
+            write!(f, " or {other} ({})", meaning(other))?;
         }
-        Reason::Command(word) => {
-            put_word(output, 1, word)?;
-            put_commands(output)?;
+        match (self.end, self.kind) {
+            (false, _) => Ok(()),
+            (true, None) => f.write_str("the end of the line"),
+            (true, Some(_)) => f.write_str(" or the end of the line"),
         }
-        Reason::Word(misfit) => put_misfit(output, misfit)?,
-        Reason::Form => output.put(b"expected a line of another form")?,
     }
-    put_byte(output, b'\n')
+}
+
+impl Display for Misfit<'_> {
+    fn fmt<W: fmt::Write>(&self, f: &mut Formatter<W>) -> fmt::Result {
+        let place = self.place;
+        match self.word {
+            Some(word) => write!(f, "word {place}, \"{}\": expected ", Shown(word))?,
+            None => write!(f, "word {place} is missing: expected ")?,
+        }
+        self.expected(f)
+    }
+}
+
+impl Display for Reason<'_> {
+    fn fmt<W: fmt::Write>(&self, f: &mut Formatter<W>) -> fmt::Result {
+        match self {
+            Reason::Mark(word) => write!(
+                f,
+                "word 1, \"{}\": expected no byte order mark (\\xef\\xbb\\xbf) at the beginning",
+                Shown(word)
+            ),
+            Reason::Return(place, word) => write!(
+                f,
+                "word {place}, \"{}\": expected no carriage return (\\x0d) at the end of the line",
+                Shown(word)
+            ),
+            Reason::Command(word) => write!(
+                f,
+                "word 1, \"{}\": expected a command, one of{}",
+                Shown(word),
+                Commands
+            ),
+            Reason::Word(misfit) => Display::fmt(misfit, f),
+            Reason::Form => f.write_str("expected a line of another form"),
+        }
+    }
 }
