@@ -1,5 +1,5 @@
 -- What stands under a name after a change.
-use Rattle.std.proofs.Common.{◌≡◌, ℕ, true, false, cond, List, Some, None, refl, sym, ap, ◌∙◌}
+use Rattle.std.proofs.Common.{◌≡◌, ◌+◌, ◌-◌, ℕ, Bool, true, false, cond, List, Some, None, refl, sym, ap, ◌∙◌, arith}
 use Rattle.std.specs.Prelude.{Option, bytes_eq}
 use Rattle.std.specs.Option.{option_map}
 use Rattle.std.specs.Ordering.{is_eq}
@@ -48,3 +48,8 @@ read_same {X} {Y} read f n q old same =
     mapped : (o : Option X) → read (option_map f o) ≡ read o
     mapped None = refl
     mapped (Some x) = same x
+
+-- how many are left where one may have been taken away
+pub one_fewer : (b : Bool) (left had : ℕ) → left + cond b 1 0 ≡ had → left ≡ cond b (had - 1) had
+one_fewer true left had e = omega (arith, e)
+one_fewer false left had e = omega (arith, e)

@@ -11,15 +11,15 @@ use Rattle.tab_policy.specs.Sets.{system_contains}
 use Rattle.tab_policy.specs.Accounts.{with_auths, with_system, system_set}
 use Rattle.tab_policy.specs.Entries.{at_name, changed_at}
 use Rattle.tab_policy.specs.declared.permission.TablePermission.{TablePermission}
-use Rattle.tab_policy.specs.State.{State, Readings, readings, user_exists, auths_of, system_granted, table_granted, table_exists, account_auths, account_system}
+use Rattle.tab_policy.specs.State.{State, Readings, readings, user_exists, user_count, auths_of, system_granted, table_granted, table_exists, account_auths, account_system}
 use Rattle.tab_policy.proofs.EntryLemmas.{at_same}
 
 -- a policy reads so where each of its readings does
-pub reads_so : (s : State) (r : Readings) → ((n : List ℕ) → user_exists s n ≡ r.users n) → ((n : List ℕ) → auths_of s n ≡ r.auths n)
+pub reads_so : (s : State) (r : Readings) → ((n : List ℕ) → user_exists s n ≡ r.users n) → user_count s ≡ r.count → ((n : List ℕ) → auths_of s n ≡ r.auths n)
     → ((n : List ℕ) (p : SystemPermission) → system_granted s n p ≡ r.system n p) → ((n : List ℕ) (p : TablePermission) (t : List ℕ) → table_granted s n p t ≡ r.rights n p t)
     → ((t : List ℕ) → table_exists s t ≡ r.tables t) → readings s ≡ r
 unfolding readings
-reads_so s r users auths system rights tables = λ i. record { users = λ n. users n i; auths = λ n. auths n i; system = λ n p. system n p i; rights = λ n p t. rights n p t i; tables = λ t. tables t i }
+reads_so s r users count auths system rights tables = λ i. record { users = λ n. users n i; count = count i; auths = λ n. auths n i; system = λ n p. system n p i; rights = λ n p t. rights n p t i; tables = λ t. tables t i }
 
 -- the authorizations after they were set
 pub auths_set : (n q : List ℕ) (old : List (List ℕ × Account)) (set : List (List ℕ))

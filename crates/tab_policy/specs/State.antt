@@ -1,5 +1,5 @@
 -- What a policy holds, and how it is read.
-use Rattle.std.specs.Prelude.{ℕ, ◌≡◌, List, [], Bool, false, ◌||◌, Option, Some, None, IfSome, is_some, bytes_eq}
+use Rattle.std.specs.Prelude.{ℕ, ◌≡◌, List, [], Bool, false, ◌||◌, Option, Some, None, IfSome, is_some, bytes_eq, length}
 use Rattle.tab_policy.specs.declared.permission.SystemPermission.{SystemPermission}
 use Rattle.tab_policy.specs.declared.permission.TablePermission.{TablePermission}
 use Rattle.tab_policy.specs.declared.sets.TablePermissions.{TablePermissions}
@@ -39,6 +39,10 @@ table_gives (Some rights) n p = some_contains (at_name n rights) p
 unfoldable pub user_exists : State → List ℕ → Bool
 user_exists s n = is_some (at_name n s.users)
 
+-- how many users there are
+unfoldable pub user_count : State → ℕ
+user_count s = length s.users
+
 -- the authorizations that the user holds, none where there is no such user
 unfoldable pub auths_of : State → List ℕ → List (List ℕ)
 auths_of s n = account_auths (at_name n s.users)
@@ -75,9 +79,10 @@ pub record IsCaller (caller : Caller) (s : State) (user : List ℕ) (named : Opt
   pub on_table : IfSome named (λ t. (p : TablePermission) → table_contains caller.on_table p ≡ table_granted s user p t)
 
 -- ---- the whole state, as it is read
--- all that is read of a policy: which users and tables there are, and what each user holds
+-- all that is read of a policy: which users and tables there are, how many users, and what each user holds
 pub record Readings : Type 0 where
   pub users : List ℕ → Bool
+  pub count : ℕ
   pub auths : List ℕ → List (List ℕ)
   pub system : List ℕ → SystemPermission → Bool
   pub rights : List ℕ → TablePermission → List ℕ → Bool
@@ -85,4 +90,4 @@ pub record Readings : Type 0 where
 
 -- what is read of this policy
 unfoldable pub readings : State → Readings
-readings s = record { users = user_exists s; auths = auths_of s; system = system_granted s; rights = table_granted s; tables = table_exists s }
+readings s = record { users = user_exists s; count = user_count s; auths = auths_of s; system = system_granted s; rights = table_granted s; tables = table_exists s }

@@ -1,5 +1,5 @@
 //! What is kept of a user.
-ghost use Rattle.std.specs.Prelude.{◌≡◌, ◌||◌, ℕ, List, [], false, bytes_eq};
+ghost use Rattle.std.specs.Prelude.{◌≡◌, ◌||◌, ℕ, List, [], false, bytes_eq, length};
 ghost use Rattle.tab_policy.specs.Roots.{root};
 ghost use Rattle.tab_policy.specs.Sets.{system_contains};
 ghost use Rattle.tab_policy.specs.Accounts.{with_auths, with_system};
@@ -73,7 +73,8 @@ pub fn is_root(user: &Name) -> bool
 
 // Gives the user these authorizations, if there is such a user.
 pub fn set_auths(users: &mut BTreeMap<Name, Account>, user: &Name, auths: AuthSet)
-    ensures { (q : List ℕ) → at_name q users.new.entries ≡ changed_at user.now (with_auths auths) users.old.entries q }
+    ensures names { (q : List ℕ) → at_name q users.new.entries ≡ changed_at user.now (with_auths auths) users.old.entries q }
+    ensures count { length users.new.entries ≡ length users.old.entries }
 {
     if let Some(account) = users.get_mut(user) {
         account.auths = auths;
@@ -87,7 +88,8 @@ pub fn set_system(
     permission: SystemPermission,
     held: bool,
 )
-    ensures { (q : List ℕ) → at_name q users.new.entries ≡ changed_at user.now (with_system permission held) users.old.entries q }
+    ensures names { (q : List ℕ) → at_name q users.new.entries ≡ changed_at user.now (with_system permission held) users.old.entries q }
+    ensures count { length users.new.entries ≡ length users.old.entries }
 {
     if let Some(account) = users.get_mut(user) {
         account.system = account.system.set_to(permission, held);

@@ -1,5 +1,5 @@
 //! The users and tables, and what may be done.
-ghost use Rattle.std.specs.Prelude.{◌≡◌, [], ℕ, List, IfOk, OnOk, OnErr, IfSome, true, false, bytes_eq, is_some, ◌&&◌, if◌then◌else◌};
+ghost use Rattle.std.specs.Prelude.{◌≡◌, ◌+◌, ◌-◌, [], ℕ, List, IfOk, OnOk, OnErr, IfSome, true, false, bytes_eq, is_some, ◌&&◌, if◌then◌else◌};
 ghost use Rattle.std.specs.Result.{result_err};
 ghost use Rattle.tab_policy.specs.Roots.{root};
 ghost use Rattle.tab_policy.specs.Sets.{system_contains, table_contains};
@@ -60,9 +60,9 @@ impl Policy {
     }
 }
 
-#[tactic(auto, unfolding(crate::specs::State::user_exists, crate::specs::State::auths_of, crate::specs::State::system_granted, crate::specs::State::table_granted, crate::specs::State::table_exists))]
+#[tactic(auto, unfolding(crate::specs::State::user_exists, crate::specs::State::user_count, crate::specs::State::auths_of, crate::specs::State::system_granted, crate::specs::State::table_granted, crate::specs::State::table_exists))]
 impl Policy {
-    ghost use Rattle.tab_policy.specs.State.{readings, user_exists, auths_of, system_granted, has_system, table_granted, table_exists};
+    ghost use Rattle.tab_policy.specs.State.{readings, user_exists, user_count, auths_of, system_granted, has_system, table_granted, table_exists};
     ghost use Rattle.tab_policy.specs.Granting.{can_hold, is_system_right, is_table_right};
 
     /// A policy with the one user `root`, who has all system permissions and no authorizations, and with no table.
@@ -72,6 +72,7 @@ impl Policy {
     /// There was no memory for the user.
     pub fn new(alloc: Global) -> Result<Policy, AllocError>
         ensures users { IfOk result (λ s. (n : List ℕ) → user_exists s n ≡ bytes_eq root n) }
+        ensures count { IfOk result (λ s. user_count s ≡ 1) }
         ensures auths { IfOk result (λ s. (n : List ℕ) → auths_of s n ≡ []) }
         ensures system { IfOk result (λ s. (n : List ℕ) (p : _) → system_granted s n p ≡ bytes_eq root n) }
         ensures rights { IfOk result (λ s. (n : List ℕ) (p : _) (t : List ℕ) → table_granted s n p t ≡ false) }
@@ -93,6 +94,13 @@ impl Policy {
         ensures { result ≡ user_exists self.now user.now }
     {
         self.users.get(user).is_some()
+    }
+
+    /// How many users there are.
+    pub fn user_count(&self) -> usize
+        ensures { result ≡ user_count self.now }
+    {
+        self.users.len()
     }
 
     /// Whether there is a table of this name.
@@ -175,6 +183,7 @@ impl Policy {
     pub fn create_user(&mut self, user: &Name) -> Result<(), AllocError>
         ensures ok { OnOk result (readings self.new ≡ record (readings self.old) {
           users = λ n. if bytes_eq user.now n then true else user_exists self.old n;
+          count = if user_exists self.old user.now then user_count self.old else user_count self.old + 1;
           auths = λ n. if bytes_eq user.now n then [] else auths_of self.old n;
           system = λ n p. if bytes_eq user.now n then false else system_granted self.old n p;
           rights = λ n p t. if bytes_eq user.now n then false else table_granted self.old n p t;
@@ -190,6 +199,7 @@ impl Policy {
     pub fn drop_user(&mut self, user: &Name)
         ensures { readings self.new ≡ record (readings self.old) {
           users = λ n. if bytes_eq user.now n then false else user_exists self.old n;
+          count = if user_exists self.old user.now then user_count self.old - 1 else user_count self.old;
           auths = λ n. if bytes_eq user.now n then [] else auths_of self.old n;
           system = λ n p. if bytes_eq user.now n then false else system_granted self.old n p;
           rights = λ n p t. if bytes_eq user.now n then false else table_granted self.old n p t;

@@ -47,7 +47,7 @@ fn steps_of(alloc: Global, lines: &[Line]) -> Result<Vec<Step>, Fail> {
 // Runs the steps, and compares the replies.
 fn replay(rt: &impl Abort, alloc: Global, lines: &[Line]) -> Result<(), Fail> {
     let steps = steps_of(alloc, lines)?;
-    let replies = run(alloc, &steps)?;
+    let replies = run(alloc, steps)?;
     assert_eq!(rt; replies.len(), lines.len());
     for (reply, (_, _, want)) in replies.iter().zip(lines) {
         let text = reply_text(alloc, reply)?;

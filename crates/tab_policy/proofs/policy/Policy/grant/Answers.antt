@@ -6,7 +6,7 @@ use Rattle.tab_policy.proofs.policy.Policy.grant.Goals as goal
 
 pub returns-in-OfSystem-clause-ok : goal.returns-in-OfSystem-clause-ok
 returns-in-OfSystem-clause-ok c = rw (c.in-OfSystem.is, ← c.self.view_is)
-    (system_given c.self.inside.users.entries c.set_system.new.users.entries c.self.inside.tables.entries c.args.user.now c.in-OfSystem.granted c.set_system.ensures)
+    (system_given c.self.inside.users.entries c.set_system.new.users.entries c.self.inside.tables.entries c.args.user.now c.in-OfSystem.granted c.set_system.ensures.names c.set_system.ensures.count)
 
 pub returns-then-not-contains_key-clause-ok : goal.returns-then-not-contains_key-clause-ok
 returns-then-not-contains_key-clause-ok c =
