@@ -1,5 +1,5 @@
 -- What acts do to a core, and what the core's step makes of it.
-use Rattle.std.proofs.Common.{◌≡◌, ◌⊎◌, inl, inr, ℕ, List, [], Bool, true, false, cond, ◌||◌, refl, sym, ◌∙◌, ap, subst, Option, Some, None}
+use Rattle.std.proofs.Common.{◌≡◌, ◌⊎◌, inl, inr, ℕ, length, List, [], Bool, true, false, cond, ◌||◌, refl, sym, ◌∙◌, ap, subst, Option, Some, None}
 use Rattle.std.specs.Prelude.{ℤ, Contains, is_some, bytes_eq, find, IfSome}
 use Rattle.std.specs.Int.{int_max}
 use Rattle.std.specs.List.Sorted.{IsStrictlySortedBy}
@@ -17,7 +17,7 @@ use Rattle.tab_policy.specs.Roots.{root}
 use Rattle.tab_mutation.specs.Mutations.{Mutation}
 use Rattle.tab_mutation.specs.Shape.{or_else, first_some}
 use Rattle.tab_history.specs.declared.event.Act.{Act}
-use Rattle.tab_history.specs.declared.event.Act.TheVariants.{Write}
+use Rattle.tab_history.specs.declared.event.Act.TheVariants.{DropTable, Write}
 use Rattle.tab_history.specs.declared.event.Event.{Event}
 use Rattle.tab_history.specs.declared.reply.Refusal.{Refusal}
 use Rattle.tab_history.specs.declared.reply.Refusal.TheVariants.{NoMemory}
@@ -25,28 +25,30 @@ use Rattle.tab_history.specs.declared.reply.Reply.{Reply}
 use Rattle.tab_history.specs.declared.reply.Reply.TheVariants.{Refused}
 use Rattle.tab_history.specs.Bases.{Base, BaseTable}
 use Rattle.tab_history.specs.Changes.{Change}
-use Rattle.tab_history.specs.Readings.{has_user, held_auths, has_system_right, has_table_right, base_settings, base_records, settings_of, next_number, updates_of}
+use Rattle.tab_history.specs.Readings.{has_user, user_count, held_auths, has_system_right, has_table_right, table_count, base_settings, base_records, settings_of, next_number, updates_of}
 use Rattle.tab_history.specs.Checks.{standing, exists_in, user_named, own_checks, action_of, denial, refusal_of}
-use Rattle.tab_history.specs.Answers.{Told, told, granted, event_answer, told_of}
+use Rattle.tab_history.specs.Answers.{Told, told, are_used_up, numbered, granted, event_answer, told_of}
 use Rattle.tab_cells.specs.SessionState.{SessionState}
-use Rattle.tab_history.specs.Legal.{IsExhausted}
+use Rattle.tab_history.specs.Legal.{takes_memory}
 use Rattle.tab_core.specs.Tables.{settings_in, records_in}
 use Rattle.tab_core.specs.Stepping.{Steps, moves_clock, Becomes, Acts, own_answer, IsAdmitted, IsCore}
 use Rattle.tab_core.proofs.Steps.{steps}
 
 -- ---- what an act makes of a core
--- what is read of users and rights after changes, beside these tables and so many users
-abbrev pub read_after : Base → List Change → (List ℕ → Bool) → ℕ → Readings
-read_after b j tables count = record { users = has_user b j; count = count; auths = held_auths b j; system = has_system_right b j; rights = has_table_right b j; tables = tables }
+-- what is read of users and rights after changes, beside these tables
+abbrev pub read_after : Base → List Change → (List ℕ → Bool) → Readings
+read_after b j tables = record { users = has_user b j; count = user_count b j; auths = held_auths b j; system = has_system_right b j; rights = has_table_right b j; tables = tables }
 
 -- a core of which all is read as the changes say
-pub becomes : (b : Base) (next : ℕ) (p : State) (ts : List BaseTable) (j : List Change) (tables : List ℕ → Bool) {count : ℕ} → next ≡ next_number b j → readings p ≡ read_after b j tables count
+pub becomes : (b : Base) (next : ℕ) (p : State) (ts : List BaseTable) (j : List Change) (tables : List ℕ → Bool) → next ≡ next_number b j → readings p ≡ read_after b j tables → length ts ≡ table_count b j
     → ((t : List ℕ) → settings_in ts t ≡ settings_of b j t) → ((t : List ℕ) → records_in ts t ≡ sorted (updates_of b j t))
     → Becomes b j (record b { next = next; policy = p; tables = ts })
-unfolding readings next_number has_user held_auths has_system_right has_table_right settings_of updates_of
-becomes b next p ts j tables numbered read settings records = record {
+unfolding readings next_number has_user user_count held_auths has_system_right has_table_right table_count settings_of updates_of
+becomes b next p ts j tables numbered read count settings records = record {
   clock = refl;
   next = numbered;
+  users = ap (λ (r : Readings). r.count) read;
+  tables = count;
   known = λ n. ap (λ (r : Readings). r.users n) read;
   auths = λ n. ap (λ (r : Readings). r.auths n) read;
   system = λ n x. ap (λ (r : Readings). r.system n x) read;
@@ -61,30 +63,38 @@ unfolding updates_of
 in_order b core t = sym (sorted_rising (records_in b.tables t) (core.rising t))
 
 -- tables of which all is read as it was
-pub becomes_alike : (b : Base) (ts : List BaseTable) → IsCore b → ((t : List ℕ) → settings_in ts t ≡ settings_in b.tables t) → ((t : List ℕ) → records_in ts t ≡ records_in b.tables t) → Becomes b [] (record b { tables = ts })
-unfolding readings next_number has_user held_auths has_system_right has_table_right settings_of updates_of
-becomes_alike b ts core settings records = becomes b b.next b.policy ts [] (table_exists b.policy) refl refl settings (λ t. records t ∙ in_order b core t)
+pub becomes_alike : (b : Base) (ts : List BaseTable) → IsCore b → length ts ≡ length b.tables → ((t : List ℕ) → settings_in ts t ≡ settings_in b.tables t) → ((t : List ℕ) → records_in ts t ≡ records_in b.tables t) → Becomes b [] (record b { tables = ts })
+unfolding readings next_number has_user user_count held_auths has_system_right has_table_right table_count settings_of updates_of
+becomes_alike b ts core count settings records = becomes b b.next b.policy ts [] (table_exists b.policy) refl refl count settings (λ t. records t ∙ in_order b core t)
 
 -- a core that an act leaves as it was
 pub becomes_same : (b : Base) → IsCore b → Becomes b [] b
-becomes_same b core = becomes_alike b b.tables core (λ t. refl) (λ t. refl)
+becomes_same b core = becomes_alike b b.tables core refl (λ t. refl) (λ t. refl)
 
 -- ---- a refusal
-pub refused : (answer : Told) (b : Base) (now : ℤ) (user : List ℕ) (act : Act) (refusal : Refusal) → IsCore b → (Refused refusal ≡ answer) ⊎ IsExhausted (Refused refusal) → Acts answer b now user act (Refused refusal) b
-refused answer b now user act refusal core is = record { answers = is; becomes = becomes_same b core; hands = tt }
+-- what is told of it
+abbrev pub refusing : Refusal → Told
+refusing refusal = Refused refusal
 
--- memory or numbers ran out
-pub lacked : (answer : Told) (b : Base) (now : ℤ) (user : List ℕ) (act : Act) → IsCore b → Acts answer b now user act (Refused NoMemory) b
-lacked answer b now user act core = refused answer b now user act NoMemory core (inr (inl refl))
+pub refused : (answer : Told) (b : Base) (now : ℤ) (user : List ℕ) (act : Act) (refusal : Refusal) → IsCore b → (Refused refusal ≡ answer) ⊎ ((takes_memory act ≡ true) × (refusal ≡ NoMemory)) → Acts answer b now user act (Refused refusal) b
+refused answer b now user act refusal core is = record { answers = go is; becomes = becomes_same b core; hands = tt }
+  where
+    go : (Refused refusal ≡ answer) ⊎ ((takes_memory act ≡ true) × (refusal ≡ NoMemory)) → (Refused refusal ≡ answer) ⊎ ((takes_memory act ≡ true) × (refusing refusal ≡ refusing NoMemory))
+    go (inl e) = inl e
+    go (inr (takes, e)) = inr (takes, ap refusing e)
 
--- memory ran out, and all that is read of the tables is as it was
-pub lacked_alike : (answer : Told) (b : Base) (ts : List BaseTable) (now : ℤ) (user : List ℕ) (act : Act) → IsCore b → ((t : List ℕ) → settings_in ts t ≡ settings_in b.tables t)
+-- memory lacked
+pub lacked : (answer : Told) (b : Base) (now : ℤ) (user : List ℕ) (act : Act) → takes_memory act ≡ true → IsCore b → Acts answer b now user act (Refused NoMemory) b
+lacked answer b now user act takes core = refused answer b now user act NoMemory core (inr (takes, refl))
+
+-- memory lacked, and all that is read of the tables is as it was
+pub lacked_alike : (answer : Told) (b : Base) (ts : List BaseTable) (now : ℤ) (user : List ℕ) (act : Act) → takes_memory act ≡ true → IsCore b → length ts ≡ length b.tables → ((t : List ℕ) → settings_in ts t ≡ settings_in b.tables t)
     → ((t : List ℕ) → records_in ts t ≡ records_in b.tables t) → Acts answer b now user act (Refused NoMemory) (record b { tables = ts })
-lacked_alike answer b ts now user act core settings records = record { answers = inr (inl refl); becomes = becomes_alike b ts core settings records; hands = tt }
+lacked_alike answer b ts now user act takes core count settings records = record { answers = inr (takes, refl); becomes = becomes_alike b ts core count settings records; hands = tt }
 
 -- an event that the first failing check of its own refuses
 pub own_refused : (b : Base) (now : ℤ) (user : List ℕ) (act : Act) (r : Refusal) → IsCore b → first_some (own_checks (standing b [] user) (exists_in b [] (user_named act)) now act) ≡ Some r → Acts (own_answer b now user act) b now user act (Refused r) b
-own_refused b now user act r core e = refused (own_answer b now user act) b now user act r core (inl (sym (ap (λ o. told o (granted (standing b [] user) act)) e)))
+own_refused b now user act r core e = refused (own_answer b now user act) b now user act r core (inl (sym (ap (λ o. told o (numbered (are_used_up b [] act) (granted (standing b [] user) act))) e)))
 
 -- ---- what the policy decides
 standing_same : (b : Base) → IsCore b → (user : List ℕ) → standing_of b.policy user ≡ (standing b [] user).policy
@@ -100,9 +110,9 @@ decided : (b : Base) → IsCore b → (user : List ℕ) (act : Act) → denial u
 decided b core user act = ap (λ s. denial user (decision s (action_of act))) (standing_same b core user)
 
 answer_is : (b : Base) (now : ℤ) (user : List ℕ) (act : Act) (d : Option Refusal) → denial user (decision (standing b [] user).policy (action_of act)) ≡ d
-    → event_answer b [] now user act ≡ told (or_else d (first_some (own_checks (standing b [] user) (exists_in b [] (user_named act)) now act))) (granted (standing b [] user) act)
+    → event_answer b [] now user act ≡ told (or_else d (first_some (own_checks (standing b [] user) (exists_in b [] (user_named act)) now act))) (numbered (are_used_up b [] act) (granted (standing b [] user) act))
 unfolding refusal_of
-answer_is b now user act d e = ap (λ o. told (or_else o (first_some (own_checks (standing b [] user) (exists_in b [] (user_named act)) now act))) (granted (standing b [] user) act)) e
+answer_is b now user act d e = ap (λ o. told (or_else o (first_some (own_checks (standing b [] user) (exists_in b [] (user_named act)) now act))) (numbered (are_used_up b [] act) (granted (standing b [] user) act))) e
 
 pub denied : (b : Base) (now : ℤ) (user : List ℕ) (act : Act) (r : Refusal) → IsCore b → denial user (decision (standing_of b.policy user) (action_of act)) ≡ Some r → Acts (event_answer b [] now user act) b now user act (Refused r) b
 denied b now user act r core e = refused (event_answer b [] now user act) b now user act r core (inl (sym (answer_is b now user act (Some r) (sym (decided b core user act) ∙ e))))
@@ -110,7 +120,7 @@ denied b now user act r core e = refused (event_answer b [] now user act) b now 
 pub admitted : (old new : Base) (now : ℤ) (user : List ℕ) (act : Act) (reply : Reply SessionState) → IsCore old → denial user (decision (standing_of old.policy user) (action_of act)) ≡ None
     → Acts (own_answer old now user act) old now user act reply new → Acts (event_answer old [] now user act) old now user act reply new
 admitted old new now user act reply core e acts = record {
-  answers = subst (λ a. (told_of reply ≡ a) ⊎ IsExhausted (told_of reply)) (sym (answer_is old now user act None (sym (decided old core user act) ∙ e))) acts.answers;
+  answers = subst (λ a. (told_of reply ≡ a) ⊎ ((takes_memory act ≡ true) × (told_of reply ≡ Refused NoMemory))) (sym (answer_is old now user act None (sym (decided old core user act) ∙ e))) acts.answers;
   becomes = acts.becomes;
   hands = acts.hands;
 }
@@ -146,6 +156,11 @@ admitted_parts s a e = go s.known refl e
 pub is_admitted : (b : Base) (user : List ℕ) (act : Act) → IsCore b → denial user (decision (standing_of b.policy user) (action_of act)) ≡ None → IsAdmitted b user act
 unfolding standing
 is_admitted b user act core e = admitted_parts (standing b [] user).policy (action_of act) (none_denied user (decision (standing b [] user).policy (action_of act)) (sym (decided b core user act) ∙ e))
+
+-- the table that an admitted drop names is there
+pub table_dropped_is : (b : Base) (user t : List ℕ) → IsAdmitted b user (DropTable t) → is_some (settings_in b.tables t) ≡ true
+unfolding settings_of
+table_dropped_is b user t h = h.1
 
 -- the table that an admitted write names is there
 pub has_table : (b : Base) (user t : List ℕ) (m : Mutation) → IsAdmitted b user (Write t m) → is_some (settings_in b.tables t) ≡ true

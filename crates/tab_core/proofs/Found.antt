@@ -1,7 +1,8 @@
 -- Tables by name, as the map has them and as definitions see them.
-use Rattle.std.proofs.Common.{◌≡◌, ℕ, Bool, true, false, cond, List, [], ◌∷◌, refl, sym, ap, ◌∙◌, subst, Option, Some, None, Result, Ok, Err}
+use Rattle.std.proofs.Common.{◌≡◌, ◌+◌, ◌-◌, ℕ, length, Bool, true, false, cond, List, [], ◌∷◌, refl, sym, ap, ◌∙◌, subst, Option, Some, None, Result, Ok, Err}
 use Rattle.std.specs.Prelude.{map, find, bytes_eq, is_some, Result, OnOk, OnErr}
 use Rattle.std.specs.Option.{option_map}
+use Rattle.std.proofs.lemmas.List.{length-map}
 use Rattle.std.proofs.lemmas.Slice.Eq.{bytes_eq-Decides}
 use Rattle.tab_key.specs.Records.{Record}
 use Rattle.tab_rules.specs.declared.constraint.Constraint.{Constraint}
@@ -133,3 +134,15 @@ there_is es q = go (at_name q es) ∙ sym (ap is_some (settings_found es q))
     go : (o : Option Table) → is_some o ≡ is_some (found_settings o)
     go None = refl
     go (Some t) = refl
+
+-- ---- how many tables there are
+pub count_kept : (old new : List (List ℕ × Table)) → length new ≡ length old → length (map as_base new) ≡ length (map as_base old)
+count_kept old new e = length-map new as_base ∙ e ∙ sym (length-map old as_base)
+
+pub count_put : (old new : List (List ℕ × Table)) (name : List ℕ) → length new ≡ cond (is_some (at_name name old)) (length old) (length old + 1)
+    → length (map as_base new) ≡ cond (is_some (settings_in (map as_base old) name)) (length (map as_base old)) (length (map as_base old) + 1)
+count_put old new name e = length-map new as_base ∙ e ∙ (λ i. cond (there_is old name i) (sym (length-map old as_base) i) (sym (length-map old as_base) i + 1))
+
+pub count_taken : (old new : List (List ℕ × Table)) (name : List ℕ) → length new ≡ cond (is_some (at_name name old)) (length old - 1) (length old)
+    → length (map as_base new) ≡ cond (is_some (settings_in (map as_base old) name)) (length (map as_base old) - 1) (length (map as_base old))
+count_taken old new name e = length-map new as_base ∙ e ∙ (λ i. cond (there_is old name i) (sym (length-map old as_base) i - 1) (sym (length-map old as_base) i))

@@ -1,5 +1,5 @@
 -- Sessions that are opened, and what a caller is told of his rights.
-use Rattle.std.proofs.Common.{◌≡◌, ◌⊎◌, inl, inr, ℕ, List, [], refl, sym, ◌∙◌, ap, subst, Some, None, Result, Ok, Err}
+use Rattle.std.proofs.Common.{◌≡◌, ◌⊎◌, inl, inr, ℕ, List, [], true, refl, sym, ◌∙◌, ap, subst, Some, None, Result, Ok, Err}
 use Rattle.std.specs.Prelude.{ℤ, IfOk, OnErr}
 use Rattle.tab_mutation.specs.Shape.{first_some}
 use Rattle.tab_policy.specs.declared.permission.SystemPermission.{SystemPermission}
@@ -22,7 +22,6 @@ use Rattle.tab_cells.specs.Cells.{Query, cells}
 use Rattle.tab_history.specs.Checks.{standing, scan_checks}
 use Rattle.tab_history.specs.Answers.{told, told_opened, session_list, listed, query_of}
 use Rattle.tab_cells.specs.SessionState.{SessionState}
-use Rattle.tab_history.specs.Legal.{IsExhausted}
 use Rattle.tab_history.proofs.RightsTold.{rights_are_told}
 use Rattle.tab_core.specs.Tables.{settings_in, records_in}
 use Rattle.tab_core.specs.Stepping.{Acts, ActsOnTables, own_answer, IsCore}
@@ -49,9 +48,9 @@ pub open_refused : (b : Base) (now : ℤ) (user : List ℕ) (scan : Scan) (auths
     → (Some r ≡ first_some (scan_checks auths scan)) ⊎ (Some r ≡ Some NoMemory) → Acts (own_answer b now user (act.Open scan)) b now user (act.Open scan) (Refused r) b
 open_refused b now user scan auths r core held h = refused (own_answer b now user (act.Open scan)) b now user (act.Open scan) r core (go h)
   where
-    go : (Some r ≡ first_some (scan_checks auths scan)) ⊎ (Some r ≡ Some NoMemory) → (Refused r ≡ own_answer b now user (act.Open scan)) ⊎ IsExhausted (Refused r)
+    go : (Some r ≡ first_some (scan_checks auths scan)) ⊎ (Some r ≡ Some NoMemory) → (Refused r ≡ own_answer b now user (act.Open scan)) ⊎ ((true ≡ true) × (r ≡ NoMemory))
     go (inl e) = inl (ap (λ o. told o told_opened) e ∙ sym (own_open b now user scan auths held))
-    go (inr e) = let is : r ≡ NoMemory = cc in inr (inl (ap (λ x. Refused x) is))
+    go (inr e) = let is : r ≡ NoMemory = cc in inr (refl, is)
 
 pub open_done : (b : Base) (now : ℤ) (user : List ℕ) (scan : Scan) (auths : List (List ℕ)) (session : SessionState) → IsCore b → auths_of b.policy user ≡ auths
     → (None ≡ first_some (scan_checks auths scan)) ⊎ (None ≡ Some NoMemory) → session ≡ record { all = listed (records_in b.tables scan.table) (query_of scan) (settings_in b.tables scan.table); given = 0 }
@@ -75,7 +74,7 @@ pub open_either : {E : Type 0} (b : Base) (now : ℤ) (user : List ℕ) (scan : 
 open_either b now user scan auths (Ok session) reply core held h is opened failed =
     subst (λ r. Acts (own_answer b now user (act.Open scan)) b now user (act.Open scan) r b) (sym opened) (open_done b now user scan auths session core held h is)
 open_either b now user scan auths (Err e) reply core held h is opened failed =
-    subst (λ r. Acts (own_answer b now user (act.Open scan)) b now user (act.Open scan) r b) (sym failed) (lacked (own_answer b now user (act.Open scan)) b now user (act.Open scan) core)
+    subst (λ r. Acts (own_answer b now user (act.Open scan)) b now user (act.Open scan) r b) (sym failed) (lacked (own_answer b now user (act.Open scan)) b now user (act.Open scan) refl core)
 
 -- ---- rights told
 pub rights_told : (b : Base) (now : ℤ) (user t : List ℕ) (system : SystemPermissions) (table : TablePermissions) (auths : List (List ℕ)) → IsCore b

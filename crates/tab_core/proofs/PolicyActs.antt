@@ -1,14 +1,14 @@
 -- Acts that change nothing but the policy: authorizations set, users made and dropped, permissions granted and revoked.
-use Rattle.std.proofs.Common.{◌≡◌, inl, ℕ, List, [], ◌∷◌, Bool, true, false, cond, not, ◌&&◌, refl, sym, ◌∙◌, ap, Some, None}
-use Rattle.std.specs.Prelude.{ℤ, bytes_eq}
+use Rattle.std.proofs.Common.{◌≡◌, inl, ℕ, ◌+◌, ◌-◌, length, List, [], ◌∷◌, Bool, true, false, cond, not, ◌&&◌, refl, sym, ◌∙◌, ap, Some, None}
+use Rattle.std.specs.Prelude.{ℤ, nat_le, bytes_eq}
 use Rattle.tab_key.specs.Sorted.{sorted}
-use Rattle.tab_key.specs.declared.part.Part.TheVariants.{Authorizations}
+use Rattle.tab_key.specs.declared.part.Part.TheVariants.{Authorizations, Numbers}
 use Rattle.tab_mutation.specs.Shape.{first_some, when}
 use Rattle.tab_policy.specs.declared.permission.Permission.{Permission}
 use Rattle.tab_policy.specs.declared.permission.Permission.TheVariants.{OfSystem, OfTable}
 use Rattle.tab_policy.specs.Granting.{can_hold, is_system_right, is_table_right}
 use Rattle.tab_policy.specs.Roots.{root}
-use Rattle.tab_policy.specs.State.{State, readings, user_exists, user_count, auths_of, system_granted, table_granted, table_exists}
+use Rattle.tab_policy.specs.State.{State, readings, user_exists, user_count as policy_users, auths_of, system_granted, table_granted, table_exists}
 use Rattle.tab_history.specs.declared.event.Act.{Act}
 use Rattle.tab_history.specs.declared.event.Act.TheVariants as act
 use Rattle.tab_history.specs.declared.reply.Refusal.{Refusal}
@@ -16,27 +16,28 @@ use Rattle.tab_history.specs.declared.reply.Refusal.TheVariants.{TooLarge, UserE
 use Rattle.tab_history.specs.declared.reply.Reply.TheVariants.{Done, Refused}
 use Rattle.tab_history.specs.Bases.{Base}
 use Rattle.tab_history.specs.Changes.{Change, given, taken, changes_of}
-use Rattle.tab_history.specs.Readings.{has_user, held_auths, has_system_right, has_table_right, settings_of, next_number, updates_of}
+use Rattle.tab_history.specs.Readings.{has_user, user_count, held_auths, has_system_right, has_table_right, table_count, settings_of, next_number, updates_of}
 use Rattle.tab_history.specs.Checks.{is_grant, right_checks, too_many_auths}
-use Rattle.tab_history.specs.Answers.{told}
+use Rattle.tab_history.specs.Answers.{told, numbered}
 use Rattle.tab_core.specs.Tables.{settings_in, records_in}
 use Rattle.tab_core.specs.Stepping.{Acts, own_answer, IsAdmitted, IsCore}
-use Rattle.tab_core.proofs.Acting.{read_after, becomes, in_order, own_refused}
+use Rattle.tab_core.proofs.Acting.{read_after, becomes, in_order, refused, own_refused}
 use Rattle.tab_core.proofs.Limits.{none_left, none_right, unmet}
 
 -- ---- only the policy changed
--- the changes make no table and write nothing
+-- the changes make and drop no table and write nothing
 record IsRuling (b : Base) (j : List Change) : Type 0 where
   numbers : next_number b j ≡ b.next
+  tables : table_count b j ≡ length b.tables
   settings : (t : List ℕ) → settings_of b j t ≡ settings_in b.tables t
   updates : (t : List ℕ) → updates_of b j t ≡ records_in b.tables t
 
 -- an act that passes its checks and leaves a policy which reads as the act's changes say
-ruled : (b : Base) (p : State) (now : ℤ) (user : List ℕ) (a : Act) {count : ℕ} → IsCore b → own_answer b now user a ≡ Done → readings p ≡ read_after b (changes_of now user a) (table_exists b.policy) count
+ruled : (b : Base) (p : State) (now : ℤ) (user : List ℕ) (a : Act) → IsCore b → own_answer b now user a ≡ Done → readings p ≡ read_after b (changes_of now user a) (table_exists b.policy)
     → IsRuling b (changes_of now user a) → Acts (own_answer b now user a) b now user a Done (record b { policy = p })
 ruled b p now user a core passes read ruling = record {
   answers = inl (sym passes);
-  becomes = becomes b b.next p b.tables (changes_of now user a) (table_exists b.policy) (sym ruling.numbers) read (λ t. sym (ruling.settings t)) (λ t. in_order b core t ∙ ap sorted (sym (ruling.updates t)));
+  becomes = becomes b b.next p b.tables (changes_of now user a) (table_exists b.policy) (sym ruling.numbers) read (sym ruling.tables) (λ t. sym (ruling.settings t)) (λ t. in_order b core t ∙ ap sorted (sym (ruling.updates t)));
   hands = tt;
 }
 
@@ -56,29 +57,42 @@ no_user b now user n auths core fits absent = own_refused b now user (act.SetAut
 pub auths_set : (b : Base) (p : State) (now : ℤ) (user n : List ℕ) (auths : List (List ℕ)) → IsCore b → too_many_auths auths ≡ false → user_exists b.policy n ≡ true
     → readings p ≡ record (readings b.policy) { auths = λ q. cond (user_exists b.policy n && bytes_eq n q) auths (auths_of b.policy q) }
     → Acts (own_answer b now user (act.SetAuths n auths)) b now user (act.SetAuths n auths) Done (record b { policy = p })
-unfolding readings next_number has_user held_auths has_system_right has_table_right settings_of updates_of
+unfolding readings next_number has_user user_count held_auths has_system_right has_table_right table_count settings_of updates_of
 auths_set b p now user n auths core fits there read = ruled b p now user (act.SetAuths n auths) core
     (λ i. told (first_some (when (fits i) (TooLarge Authorizations) ∷ when (not (there i)) (NoUser n) ∷ [])) Done)
     (read ∙ ap (λ v. record (readings b.policy) { auths = λ q. cond (v && bytes_eq n q) auths (auths_of b.policy q) }) there)
-    (record { numbers = refl; settings = λ t. refl; updates = λ t. refl })
+    (record { numbers = refl; tables = refl; settings = λ t. refl; updates = λ t. refl })
 
 -- ---- a new user
 pub user_there : (b : Base) (now : ℤ) (user n : List ℕ) → IsCore b → user_exists b.policy n ≡ true → Acts (own_answer b now user (act.CreateUser n)) b now user (act.CreateUser n) (Refused (UserExists n)) b
 unfolding has_user
 user_there b now user n core there = own_refused b now user (act.CreateUser n) (UserExists n) core (ap (λ v. first_some (when v (UserExists n) ∷ [])) there)
 
-pub user_made : (b : Base) (p : State) (now : ℤ) (user n : List ℕ) {k : ℕ} → IsCore b → user_exists b.policy n ≡ false
+pub users_used_up : (b : Base) (now : ℤ) (user n : List ℕ) → IsCore b → user_exists b.policy n ≡ false → nat_le 4294967295 (policy_users b.policy) ≡ true
+    → Acts (own_answer b now user (act.CreateUser n)) b now user (act.CreateUser n) (Refused (TooLarge Numbers)) b
+unfolding has_user user_count
+users_used_up b now user n core absent full = refused (own_answer b now user (act.CreateUser n)) b now user (act.CreateUser n) (TooLarge Numbers) core
+    (inl (sym (λ i. told (first_some (when (absent i) (UserExists n) ∷ [])) (numbered (full i) Done))))
+
+pub user_made : (b : Base) (p : State) (now : ℤ) (user n : List ℕ) → IsCore b → user_exists b.policy n ≡ false → nat_le 4294967295 (policy_users b.policy) ≡ false
     → readings p ≡ record (readings b.policy) {
       users = λ q. cond (bytes_eq n q) true (user_exists b.policy q);
-      count = k;
+      count = cond (user_exists b.policy n) (policy_users b.policy) (policy_users b.policy + 1);
       auths = λ q. cond (bytes_eq n q) [] (auths_of b.policy q);
       system = λ q x. cond (bytes_eq n q) false (system_granted b.policy q x);
       rights = λ q x t. cond (bytes_eq n q) false (table_granted b.policy q x t);
     }
     → Acts (own_answer b now user (act.CreateUser n)) b now user (act.CreateUser n) Done (record b { policy = p })
-unfolding readings next_number has_user held_auths has_system_right has_table_right settings_of updates_of
-user_made b p now user n core absent read =
-    ruled b p now user (act.CreateUser n) core (ap (λ v. told (first_some (when v (UserExists n) ∷ [])) Done) absent) read (record { numbers = refl; settings = λ t. refl; updates = λ t. refl })
+unfolding readings next_number has_user user_count held_auths has_system_right has_table_right table_count settings_of updates_of
+user_made b p now user n core absent room read =
+    ruled b p now user (act.CreateUser n) core (λ i. told (first_some (when (absent i) (UserExists n) ∷ [])) (numbered (room i) Done))
+    (read ∙ ap (λ v. record (readings b.policy) {
+      users = λ q. cond (bytes_eq n q) true (user_exists b.policy q);
+      count = cond v (policy_users b.policy) (policy_users b.policy + 1);
+      auths = λ q. cond (bytes_eq n q) [] (auths_of b.policy q);
+      system = λ q x. cond (bytes_eq n q) false (system_granted b.policy q x);
+      rights = λ q x t. cond (bytes_eq n q) false (table_granted b.policy q x t);
+    }) absent) (record { numbers = refl; tables = refl; settings = λ t. refl; updates = λ t. refl })
 
 -- ---- a user who is dropped
 pub no_user_drops : (b : Base) (now : ℤ) (user n : List ℕ) → IsCore b → user_exists b.policy n ≡ false → Acts (own_answer b now user (act.DropUser n)) b now user (act.DropUser n) (Refused (NoUser n)) b
@@ -89,18 +103,25 @@ pub root_stays_user : (b : Base) (now : ℤ) (user n : List ℕ) → IsCore b �
 unfolding has_user
 root_stays_user b now user n core there is = own_refused b now user (act.DropUser n) RootFixed core (λ i. first_some (when (not (there i)) (NoUser n) ∷ when (is i) RootFixed ∷ []))
 
-pub user_dropped : (b : Base) (p : State) (now : ℤ) (user n : List ℕ) {k : ℕ} → IsCore b → user_exists b.policy n ≡ true → bytes_eq n root ≡ false
+pub user_dropped : (b : Base) (p : State) (now : ℤ) (user n : List ℕ) → IsCore b → user_exists b.policy n ≡ true → bytes_eq n root ≡ false
     → readings p ≡ record (readings b.policy) {
       users = λ q. cond (bytes_eq n q) false (user_exists b.policy q);
-      count = k;
+      count = cond (user_exists b.policy n) (policy_users b.policy - 1) (policy_users b.policy);
       auths = λ q. cond (bytes_eq n q) [] (auths_of b.policy q);
       system = λ q x. cond (bytes_eq n q) false (system_granted b.policy q x);
       rights = λ q x t. cond (bytes_eq n q) false (table_granted b.policy q x t);
     }
     → Acts (own_answer b now user (act.DropUser n)) b now user (act.DropUser n) Done (record b { policy = p })
-unfolding readings next_number has_user held_auths has_system_right has_table_right settings_of updates_of
+unfolding readings next_number has_user user_count held_auths has_system_right has_table_right table_count settings_of updates_of
 user_dropped b p now user n core there other read =
-    ruled b p now user (act.DropUser n) core (λ i. told (first_some (when (not (there i)) (NoUser n) ∷ when (other i) RootFixed ∷ [])) Done) read (record { numbers = refl; settings = λ t. refl; updates = λ t. refl })
+    ruled b p now user (act.DropUser n) core (λ i. told (first_some (when (not (there i)) (NoUser n) ∷ when (other i) RootFixed ∷ [])) Done)
+    (read ∙ ap (λ v. record (readings b.policy) {
+      users = λ q. cond (bytes_eq n q) false (user_exists b.policy q);
+      count = cond v (policy_users b.policy - 1) (policy_users b.policy);
+      auths = λ q. cond (bytes_eq n q) [] (auths_of b.policy q);
+      system = λ q x. cond (bytes_eq n q) false (system_granted b.policy q x);
+      rights = λ q x t. cond (bytes_eq n q) false (table_granted b.policy q x t);
+    }) there) (record { numbers = refl; tables = refl; settings = λ t. refl; updates = λ t. refl })
 
 -- ---- a grant or a revocation that is refused
 pub grant_refused : (b : Base) (now : ℤ) (user n : List ℕ) (x : Permission) (r : Refusal) → IsCore b → first_some (right_checks (user_exists b.policy n) n x) ≡ Some r
@@ -131,28 +152,28 @@ can_be_held b user n (OfTable s t) core admitted e =
 given_reads : (b : Base) (n : List ℕ) (x : Permission) → record (readings b.policy) {
   system = λ q y. cond (is_system_right n x q y) true (system_granted b.policy q y);
   rights = λ q y t. cond (is_table_right n x q y t) true (table_granted b.policy q y t);
-} ≡ read_after b (given n x ∷ []) (table_exists b.policy) (user_count b.policy)
-unfolding readings has_user held_auths has_system_right has_table_right
+} ≡ read_after b (given n x ∷ []) (table_exists b.policy)
+unfolding readings has_user user_count held_auths has_system_right has_table_right
 given_reads b n (OfSystem s) = refl
 given_reads b n (OfTable s t) = refl
 
 taken_reads : (b : Base) (n : List ℕ) (x : Permission) → record (readings b.policy) {
   system = λ q y. cond (is_system_right n x q y) false (system_granted b.policy q y);
   rights = λ q y t. cond (is_table_right n x q y t) false (table_granted b.policy q y t);
-} ≡ read_after b (taken n x ∷ []) (table_exists b.policy) (user_count b.policy)
-unfolding readings has_user held_auths has_system_right has_table_right
+} ≡ read_after b (taken n x ∷ []) (table_exists b.policy)
+unfolding readings has_user user_count held_auths has_system_right has_table_right
 taken_reads b n (OfSystem s) = refl
 taken_reads b n (OfTable s t) = refl
 
 given_ruling : (b : Base) (n : List ℕ) (x : Permission) → IsRuling b (given n x ∷ [])
-unfolding next_number settings_of updates_of
-given_ruling b n (OfSystem s) = record { numbers = refl; settings = λ t. refl; updates = λ t. refl }
-given_ruling b n (OfTable s u) = record { numbers = refl; settings = λ t. refl; updates = λ t. refl }
+unfolding next_number table_count settings_of updates_of
+given_ruling b n (OfSystem s) = record { numbers = refl; tables = refl; settings = λ t. refl; updates = λ t. refl }
+given_ruling b n (OfTable s u) = record { numbers = refl; tables = refl; settings = λ t. refl; updates = λ t. refl }
 
 taken_ruling : (b : Base) (n : List ℕ) (x : Permission) → IsRuling b (taken n x ∷ [])
-unfolding next_number settings_of updates_of
-taken_ruling b n (OfSystem s) = record { numbers = refl; settings = λ t. refl; updates = λ t. refl }
-taken_ruling b n (OfTable s u) = record { numbers = refl; settings = λ t. refl; updates = λ t. refl }
+unfolding next_number table_count settings_of updates_of
+taken_ruling b n (OfSystem s) = record { numbers = refl; tables = refl; settings = λ t. refl; updates = λ t. refl }
+taken_ruling b n (OfTable s u) = record { numbers = refl; tables = refl; settings = λ t. refl; updates = λ t. refl }
 
 pub right_given : (b : Base) (p : State) (now : ℤ) (user n : List ℕ) (x : Permission) → IsCore b → IsAdmitted b user (act.Grant n x) → first_some (right_checks (user_exists b.policy n) n x) ≡ None
     → readings p ≡ record (readings b.policy) {

@@ -1,10 +1,12 @@
 -- A step of a run makes its history longer.
-use Rattle.std.proofs.Common.{get_or, ◌≡◌, ◌⊎◌, inl, inr, ℕ, ◌+◌, ◌<◌, Bool, true, false, cond, ◌&&◌, List, [], ◌∷◌, ◌++◌, length, take, Option, Some, None, refl, sym, ap, ◌∙◌, subst, arith}
+use Rattle.std.proofs.Common.{◌≡◌, ◌⊎◌, inl, inr, ℕ, Bool, true, false, cond, ◌&&◌, List, [], ◌∷◌, ◌++◌, length, Option, Some, None, refl, sym, ap, ◌∙◌, subst, arith}
 use Rattle.std.specs.Prelude.{reverse, bytes_eq}
-use Rattle.std.proofs.lemmas.List.{reverse-append, take_more, length-take-le}
+use Rattle.std.proofs.lemmas.List.{reverse-append}
 use Rattle.std.proofs.lemmas.Slice.Eq.{bytes_eq-Decides}
 use Rattle.tab_key.specs.Records.{Cell}
 use Rattle.tab_key.specs.declared.part.Part.TheVariants.{Sessions}
+use Rattle.tab_history.specs.declared.event.Act.{Act}
+use Rattle.tab_history.specs.declared.event.Act.TheVariants.{Open}
 use Rattle.tab_history.specs.declared.event.Event.{Event}
 use Rattle.tab_history.specs.declared.event.Step.{Step}
 use Rattle.tab_history.specs.declared.event.Step.TheVariants.{Event as IsEvent, Next, Close}
@@ -17,7 +19,7 @@ use Rattle.tab_history.specs.Answers.{Told, told_of, session_of, answer, event_a
 use Rattle.tab_cells.specs.SessionState.{SessionState}
 use Rattle.tab_history.specs.Sessions.{Move, Opening, Taking, Closing, is_full}
 use Rattle.tab_history.specs.Histories.{Entry, World, world_of, world_after, clock_of, clock_at, journal, user_of, moves_of}
-use Rattle.tab_history.specs.Legal.{IsAnswer, IsExhausted}
+use Rattle.tab_history.specs.Legal.{IsAnswer, LacksMemory, takes_memory}
 use Rattle.tab_history.specs.Refinement.{Refines}
 use Rattle.tab_history.specs.Runs.{IsNoEvent}
 use Rattle.tab_history.proofs.Playing.{unmoved}
@@ -49,13 +51,13 @@ next_slots w j b h user slot n (Refused r) ss ss' from are = subst (λ (l : List
 next_slots w j b h user slot n (Rights r) ss ss' from are = subst (λ (l : List (Option SessionState)). SlotsAre j l) (sym from.after) are
 next_slots w j b h user slot n (Opened s) ss ss' from are = subst (λ (l : List (Option SessionState)). SlotsAre j l) (sym from.after) are
 
-next_answers : (w : World) (h : List Entry) (user : List ℕ) (slot n : ℕ) (reply : Told) (ss ss' : List (Option SessionState)) → NextFrom ss slot n reply ss' → SlotsAre (moves_of w user h) ss → IsAnswer w h h (Next user slot n) reply ⊎ IsExhausted reply
+next_answers : (w : World) (h : List Entry) (user : List ℕ) (slot n : ℕ) (reply : Told) (ss ss' : List (Option SessionState)) → NextFrom ss slot n reply ss' → SlotsAre (moves_of w user h) ss → IsAnswer w h h (Next user slot n) reply ⊎ LacksMemory (Next user slot n) reply
 unfolding answer
 next_answers w h user slot n reply ss ss' from are = go from.answers
   where
-    go : (reply ≡ next_answer (slot_at ss slot) slot n) ⊎ (reply ≡ Refused NoMemory) → IsAnswer w h h (Next user slot n) reply ⊎ IsExhausted reply
+    go : (reply ≡ next_answer (slot_at ss slot) slot n) ⊎ (reply ≡ Refused NoMemory) → IsAnswer w h h (Next user slot n) reply ⊎ LacksMemory (Next user slot n) reply
     go (inl is) = inl (is ∙ ap (λ (s : Option SessionState). next_answer s slot n) (sym (are.sessions slot)))
-    go (inr is) = inr (inl is)
+    go (inr is) = inr (refl, is)
 
 pub runs_next : (core : Base) (os os' : List Owner) (user : List ℕ) (slot n : ℕ) (reply : Told) → NextFrom (slots_of os user) slot n reply (slots_of os' user) → LeavesOthers user os os' → RunsOn core os (Next user slot n) reply core os'
 runs_next core os os' user slot n reply from others w h refines stand legal = (
@@ -76,7 +78,7 @@ close_slots w j b h user slot (Refused r) ss ss' from are = subst (λ (l : List 
 close_slots w j b h user slot (Rights r) ss ss' from are = subst (λ (l : List (Option SessionState)). SlotsAre j l) (sym from.after) are
 close_slots w j b h user slot (Opened s) ss ss' from are = subst (λ (l : List (Option SessionState)). SlotsAre j l) (sym from.after) are
 
-close_answers : (w : World) (h : List Entry) (user : List ℕ) (slot : ℕ) (reply : Told) (ss ss' : List (Option SessionState)) → CloseFrom ss slot reply ss' → SlotsAre (moves_of w user h) ss → IsAnswer w h h (Close user slot) reply ⊎ IsExhausted reply
+close_answers : (w : World) (h : List Entry) (user : List ℕ) (slot : ℕ) (reply : Told) (ss ss' : List (Option SessionState)) → CloseFrom ss slot reply ss' → SlotsAre (moves_of w user h) ss → IsAnswer w h h (Close user slot) reply ⊎ LacksMemory (Close user slot) reply
 unfolding answer
 close_answers w h user slot reply ss ss' from are = inl (from.answers ∙ ap (λ (s : Option SessionState). close_answer s slot) (sym (are.sessions slot)))
 
@@ -88,11 +90,16 @@ runs_close core os os' user slot reply from others w h refines stand legal = (
 )
 
 -- ---- an event
-pub runs_nowhere : (core : Base) (os os' : List Owner) (event : Event) → ((u : List ℕ) → slots_of os' u ≡ slots_of os u) → RunsOn core os (IsEvent event) (Refused NoMemory) core os'
-runs_nowhere core os os' event same w h refines stand legal = (
+-- an Open takes memory
+pub open_takes : (act : Act) → is_open act ≡ true → takes_memory act ≡ true
+open_takes (Open scan) e = refl
+open_takes _ e = absurd (cc)
+
+pub runs_nowhere : (core : Base) (os os' : List Owner) (event : Event) → takes_memory event.act ≡ true → ((u : List ℕ) → slots_of os' u ≡ slots_of os u) → RunsOn core os (IsEvent event) (Refused NoMemory) core os'
+runs_nowhere core os os' event takes same w h refines stand legal = (
   still w h core (IsEvent event) (Refused NoMemory) tt refines,
   own_more w h (IsEvent event) (Refused NoMemory) os os' (subst (λ (l : List (Option SessionState)). SlotsAre (moves_of w event.user h) l) (sym (same event.user)) (stand event.user)) (λ u away. same u) stand,
-  (legal, inr (inl refl)),
+  (legal, inr (takes, refl)),
 )
 
 -- an event that opens no session
@@ -131,7 +138,7 @@ full_answer w h event opens full = sym ((λ i. cond (opens i && full i) (Refused
 
 -- where the slots are full, where memory lacked, and where the core answered
 open_stays : (core : Base) (os os' : List Owner) (event : Event) (x : Refusal) → is_open event.act ≡ true → IsNoEvent (IsEvent event) (Refused x) → ((u : List ℕ) → slots_of os' u ≡ slots_of os u)
-    → ((w : World) (h : List Entry) → OwnersRefine os w h → IsAnswer w h h (IsEvent event) (Refused x) ⊎ IsExhausted (Refused x)) → RunsOn core os (IsEvent event) (Refused x) core os'
+    → ((w : World) (h : List Entry) → OwnersRefine os w h → IsAnswer w h h (IsEvent event) (Refused x) ⊎ LacksMemory (IsEvent event) (Refused x)) → RunsOn core os (IsEvent event) (Refused x) core os'
 open_stays core os os' event x opens none_opens same answers w h refines stand legal = (
   still w h core (IsEvent event) (Refused x) none_opens refines,
   own_more w h (IsEvent event) (Refused x) os os' (subst (λ (l : List (Option SessionState)). SlotsAre (moves_of w event.user h) l) (sym (same event.user)) (stand event.user)) (λ u away. same u) stand,
@@ -168,7 +175,7 @@ runs_open old new os mid os' event reply slots slots' opens same was now others 
     moved_on old new os mid os' (IsEvent event) reply same (subst (λ (b : Base). RunsOn old mid (IsEvent event) reply b os') (sym full.2) (subst (λ (x : Told). RunsOn old mid (IsEvent event) x old os') (sym full.1) there))
 runs_open old new os mid os' event reply slots slots' opens same was now others (inr (inl lacks)) =
     let all : (u : List ℕ) → slots_of os' u ≡ slots_of mid u = same_slots mid os' event.user slots' now (lacks.2 ∙ sym was) others in
-    let there : RunsOn old mid (IsEvent event) (Refused NoMemory) old os' = runs_nowhere old mid os' event all in
+    let there : RunsOn old mid (IsEvent event) (Refused NoMemory) old os' = runs_nowhere old mid os' event (open_takes event.act opens) all in
     moved_on old new os mid os' (IsEvent event) reply same (subst (λ (b : Base). RunsOn old mid (IsEvent event) reply b os') (sym lacks.1) (subst (λ (x : Told). RunsOn old mid (IsEvent event) x old os') (sym lacks.0) there))
 runs_open old new os mid os' event reply slots slots' opens same was now others (inr (inr (room, (r, steps, is, kept)))) =
     let there : RunsOn old mid (IsEvent event) (told_of r) new os' =
@@ -183,15 +190,9 @@ entries_push [] (r ∷ replies) step reply same = absurd (omega arith)
 entries_push (x ∷ steps) [] step reply same = absurd (omega arith)
 entries_push (x ∷ steps) (r ∷ replies) step reply same = ap (λ l. record { step = x; reply = r } ∷ l) (entries_push steps replies step reply (omega arith))
 
-history_push : (steps : List Step) (replies : List Told) (step : Step) (reply : Told) → length steps ≡ length replies → history_of (steps ++ step ∷ []) (replies ++ reply ∷ []) ≡ record { step = step; reply = reply } ∷ history_of steps replies
-history_push steps replies step reply same = ap reverse (entries_push steps replies step reply same) ∙ reverse-append (entries_of steps replies) (record { step = step; reply = reply } ∷ [])
-
 -- one more step and its reply
-pub history_more : (steps : List Step) (i : ℕ) (step : Step) (replies more : List Told) (reply : Told) → i < length steps → step ≡ get_or steps i step → length replies ≡ i → more ≡ replies ++ reply ∷ []
-    → history_of (take (i + 1) steps) more ≡ record { step = step; reply = reply } ∷ history_of (take i steps) replies
-history_more steps i step replies more reply lt is count grown =
-    let taken : take (i + 1) steps ≡ take i steps ++ step ∷ [] = take_more steps i step lt ∙ ap (λ (x : Step). take i steps ++ x ∷ []) (sym is) in
-    (λ j. history_of (taken j) (grown j)) ∙ history_push (take i steps) replies step reply (length-take-le i steps (omega arith) ∙ sym count)
+pub history_push : (steps : List Step) (replies : List Told) (step : Step) (reply : Told) → length steps ≡ length replies → history_of (steps ++ step ∷ []) (replies ++ reply ∷ []) ≡ record { step = step; reply = reply } ∷ history_of steps replies
+history_push steps replies step reply same = ap reverse (entries_push steps replies step reply same) ∙ reverse-append (entries_of steps replies) (record { step = step; reply = reply } ∷ [])
 
 -- before the first step
 pub owners_none : (w : World) → OwnersRefine [] w []

@@ -14,16 +14,17 @@ use Rattle.tab_history.specs.declared.reply.Reply.{Reply}
 use Rattle.tab_history.specs.declared.reply.Reply.TheVariants.{Done, Refused, Opened, Batch, Rights}
 use Rattle.tab_history.specs.Bases.{Base}
 use Rattle.tab_history.specs.Changes.{Change}
-use Rattle.tab_history.specs.Readings.{has_user, held_auths, has_system_right, has_table_right, settings_of, next_number, updates_of}
+use Rattle.tab_history.specs.Readings.{has_user, user_count, held_auths, has_system_right, has_table_right, table_count, settings_of, next_number, updates_of}
 use Rattle.tab_history.specs.Answers.{Told, answer, event_answer, is_open, changes_by, told_of}
 use Rattle.tab_cells.specs.SessionState.{SessionState}
 use Rattle.tab_history.specs.Sessions.{opened, closed, is_full}
 use Rattle.tab_history.specs.Histories.{Entry, World, world_of, world_after, clock_of, clock_after, journal, moves_of}
-use Rattle.tab_history.specs.Legal.{IsAnswer, LegalAlone, IsExhausted}
+use Rattle.tab_history.specs.Legal.{IsAnswer, LegalAlone, LacksMemory, takes_memory}
 use Rattle.tab_history.specs.Refinement.{Refines, IsSound, IsAlike}
 use Rattle.tab_history.specs.Chains.{GoesRight, HasRoom, GoesOnFrom}
 use Rattle.tab_history.proofs.Chains.{right_step}
 use Rattle.tab_history.proofs.GoesOnLemmas.{goes_on}
+use Rattle.tab_history.proofs.Lacking.{alone}
 use Rattle.tab_cells.proofs.Rising.{rising_distinct}
 use Rattle.tab_key.proofs.Rising.{in_from, in_to, in_sorted, sorted_in}
 use Rattle.tab_core.specs.Stepping.{entry, HandsOut, Steps, changes_told, moves_clock, Acts, IsCore}
@@ -98,7 +99,7 @@ no_entry v w h e r is s = no_trace v w h e (subst (λ x. Refines v (world_after 
 abbrev set : Event → Told → Base → Base → Base
 set e r old new = record new { clock = cond (moves_clock r) (int_max old.clock e.moment) old.clock }
 
-either_answer : (old : Base) (e : Event) (r : Told) → (r ≡ event_answer old [] (int_max old.clock e.moment) e.user e.act) ⊎ IsExhausted r → IsAnswer (world_of old) [] [] (IsEvent e) r ⊎ IsExhausted r
+either_answer : (old : Base) (e : Event) (r : Told) → (r ≡ event_answer old [] (int_max old.clock e.moment) e.user e.act) ⊎ ((takes_memory e.act ≡ true) × (r ≡ Refused refusal.NoMemory)) → IsAnswer (world_of old) [] [] (IsEvent e) r ⊎ LacksMemory (IsEvent e) r
 unfolding journal moves_of clock_of answer opened closed
 either_answer old e r (inr x) = inr x
 either_answer old e r (inl a) = inl (a ∙ go (is_open e.act))
@@ -116,7 +117,7 @@ module _ (old new : Base) (e : Event) (reply : Reply SessionState) (core : IsCor
   legal_alone = (tt, either_answer old e (told_of reply) acts.answers)
 
   alike : IsAlike (world_of (set e (told_of reply) old new)) (world_after (world_of old) (entry e (told_of reply) ∷ []))
-  unfolding journal clock_of next_number has_user held_auths has_system_right has_table_right settings_of updates_of
+  unfolding journal clock_of next_number has_user user_count held_auths has_system_right has_table_right table_count settings_of updates_of
   alike =
       let j : List Change = changes_told (int_max old.clock e.moment) e.user e.act (told_of reply) in
       let same : changes_by (int_max old.clock e.moment) (IsEvent e) (told_of reply) ++ [] ≡ j = append-nil _ ∙ changes_alike (int_max old.clock e.moment) e (told_of reply) in
@@ -125,6 +126,8 @@ module _ (old new : Base) (e : Event) (reply : Reply SessionState) (core : IsCor
         reads = record {
           clock = sym (clock_moved e (told_of reply) old.clock);
           next = b.next ∙ sym (ap (next_number old) same);
+          users = b.users ∙ sym (ap (user_count old) same);
+          tables = b.tables ∙ sym (ap (table_count old) same);
           known = λ n. b.known n ∙ sym (ap (λ k. has_user old k n) same);
           auths = λ n. b.auths n ∙ sym (ap (λ k. held_auths old k n) same);
           system = λ n p. b.system n p ∙ sym (ap (λ k. has_system_right old k n p) same);
@@ -148,5 +151,6 @@ module _ (old new : Base) (e : Event) (reply : Reply SessionState) (core : IsCor
     answers = λ w h s own room. (from w h s).answers own room;
     refines = λ w h s. (from w h s).refines;
     hands = λ w h s. subst (HandsOut reply) ((from w h s).list_before e.act) acts.hands;
+    memory = (alone (world_of old) (entry e (told_of reply) ∷ []) legal_alone).1;
     unchanged = λ is w h s. no_entry (world_of (set e (told_of reply) old new)) w h e (told_of reply) is ((from w h s).refines);
   }

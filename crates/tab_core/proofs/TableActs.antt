@@ -1,8 +1,9 @@
 -- Acts that make, drop or set a table.
-use Rattle.std.proofs.Common.{◌≡◌, inl, ℕ, List, [], ◌∷◌, Bool, true, false, cond, ◌&&◌, refl, sym, ◌∙◌, ap, subst, Option, Some, None}
-use Rattle.std.specs.Prelude.{ℤ, is_some, bytes_eq, find}
+use Rattle.std.proofs.Common.{◌≡◌, inl, ℕ, ◌+◌, ◌-◌, length, arith, List, [], ◌∷◌, Bool, true, false, cond, ◌&&◌, refl, sym, ◌∙◌, ap, subst, Option, Some, None}
+use Rattle.std.specs.Prelude.{ℤ, nat_le, is_some, bytes_eq, find}
 use Rattle.std.proofs.lemmas.Slice.Eq.{bytes_eq-Decides}
 use Rattle.tab_key.specs.Sorted.{sorted}
+use Rattle.tab_key.specs.declared.part.Part.TheVariants.{Numbers}
 use Rattle.tab_mutation.specs.Shape.{first_some, when}
 use Rattle.tab_rules.specs.declared.constraint.Constraint.{Constraint}
 use Rattle.tab_policy.specs.declared.permission.TablePermission.{TablePermission}
@@ -11,26 +12,26 @@ use Rattle.tab_policy.specs.Permissions.{same_table}
 use Rattle.tab_policy.specs.State.{State, readings, table_granted, table_exists}
 use Rattle.tab_history.specs.declared.event.Act.TheVariants as act
 use Rattle.tab_history.specs.declared.event.TimeMode.{TimeMode}
-use Rattle.tab_history.specs.declared.reply.Refusal.TheVariants.{TableExists}
+use Rattle.tab_history.specs.declared.reply.Refusal.TheVariants.{TableExists, TooLarge}
 use Rattle.tab_history.specs.declared.reply.Reply.TheVariants.{Done, Refused}
 use Rattle.tab_history.specs.Bases.{Base, BaseTable}
 use Rattle.tab_history.specs.Settings.{Settings, made_with}
 use Rattle.tab_history.specs.Changes.{changes_of}
-use Rattle.tab_history.specs.Readings.{has_user, held_auths, has_system_right, has_table_right, base_settings, base_records, constrained, settings_of, next_number, updates_of}
+use Rattle.tab_history.specs.Readings.{has_user, user_count, held_auths, has_system_right, has_table_right, table_count, base_settings, base_records, constrained, settings_of, next_number, updates_of}
 use Rattle.tab_history.specs.Checks.{standing}
-use Rattle.tab_history.specs.Answers.{told}
+use Rattle.tab_history.specs.Answers.{told, numbered}
 use Rattle.tab_core.specs.Tables.{settings_in, records_in}
 use Rattle.tab_core.specs.Stepping.{Acts, own_answer, IsCore}
-use Rattle.tab_core.proofs.Acting.{becomes, in_order, own_refused}
+use Rattle.tab_core.proofs.Acting.{becomes, in_order, refused, own_refused}
 
 -- ---- constraints
-pub constraints_set : (b : Base) (ts : List BaseTable) (now : ℤ) (user t : List ℕ) (cs : List Constraint) → IsCore b
+pub constraints_set : (b : Base) (ts : List BaseTable) (now : ℤ) (user t : List ℕ) (cs : List Constraint) → IsCore b → length ts ≡ length b.tables
     → ((q : List ℕ) → settings_in ts q ≡ cond (bytes_eq t q) (constrained cs (settings_in b.tables q)) (settings_in b.tables q)) → ((q : List ℕ) → records_in ts q ≡ records_in b.tables q)
     → Acts (own_answer b now user (act.SetConstraints t cs)) b now user (act.SetConstraints t cs) Done (record b { tables = ts })
-unfolding readings next_number has_user held_auths has_system_right has_table_right settings_of updates_of
-constraints_set b ts now user t cs core settings records = record {
+unfolding readings next_number has_user user_count held_auths has_system_right has_table_right table_count settings_of updates_of
+constraints_set b ts now user t cs core count settings records = record {
   answers = inl refl;
-  becomes = becomes b b.next b.policy ts (changes_of now user (act.SetConstraints t cs)) (table_exists b.policy) refl refl settings (λ q. records q ∙ in_order b core q);
+  becomes = becomes b b.next b.policy ts (changes_of now user (act.SetConstraints t cs)) (table_exists b.policy) refl refl count settings (λ q. records q ∙ in_order b core q);
   hands = tt;
 }
 
@@ -44,6 +45,13 @@ pub table_exists_already : (b : Base) (now : ℤ) (user t : List ℕ) (time : Ti
     → Acts (own_answer b now user (act.CreateTable t time v)) b now user (act.CreateTable t time v) (Refused (TableExists t)) b
 unfolding standing settings_of
 table_exists_already b now user t time v core there = own_refused b now user (act.CreateTable t time v) (TableExists t) core (ap (λ x. first_some (when x (TableExists t) ∷ [])) there)
+
+-- where the names are free, and there are as many tables as there may be
+pub tables_used_up : (b : Base) (now : ℤ) (user t : List ℕ) (time : TimeMode) (v : ℕ) → IsCore b → is_some (settings_in b.tables t) ≡ false → nat_le 4294967295 (length b.tables) ≡ true
+    → Acts (own_answer b now user (act.CreateTable t time v)) b now user (act.CreateTable t time v) (Refused (TooLarge Numbers)) b
+unfolding standing settings_of table_count
+tables_used_up b now user t time v core absent full = refused (own_answer b now user (act.CreateTable t time v)) b now user (act.CreateTable t time v) (TooLarge Numbers) core
+    (inl (sym (λ i. told (first_some (when (absent i) (TableExists t) ∷ [])) (numbered (full i) Done))))
 
 -- the creator has the five permissions, and nobody else has any
 rights_made : (user t n s : List ℕ) (p : TablePermission) (old : Bool)
@@ -69,37 +77,46 @@ rights_made user t n s p old = go (bytes_eq user n) (bytes_eq t s) p
     go true false table.Grant = refl
     go true false table.DropTable = refl
 
-pub table_made : (b : Base) (p : State) (ts : List BaseTable) (now : ℤ) (user t : List ℕ) (time : TimeMode) (v : ℕ) → IsCore b → is_some (settings_in b.tables t) ≡ false
+pub table_made : (b : Base) (p : State) (ts : List BaseTable) (now : ℤ) (user t : List ℕ) (time : TimeMode) (v : ℕ) → IsCore b → is_some (settings_in b.tables t) ≡ false → nat_le 4294967295 (length b.tables) ≡ false → length ts ≡ cond (is_some (settings_in b.tables t)) (length b.tables) (length b.tables + 1)
     → ((q : List ℕ) → settings_in ts q ≡ cond (bytes_eq t q) (Some (made_with time v)) (settings_in b.tables q)) → ((q : List ℕ) → records_in ts q ≡ cond (bytes_eq t q) [] (records_in b.tables q))
     → readings p ≡ record (readings b.policy) {
       rights = λ n x s. cond (bytes_eq t s) (bytes_eq user n) (table_granted b.policy n x s);
       tables = λ s. cond (bytes_eq t s) true (table_exists b.policy s);
     }
     → Acts (own_answer b now user (act.CreateTable t time v)) b now user (act.CreateTable t time v) Done (record b { policy = p; tables = ts })
-unfolding standing readings next_number has_user held_auths has_system_right has_table_right settings_of updates_of
-table_made b p ts now user t time v core absent settings records read = record {
-  answers = inl (sym (ap (λ x. told (first_some (when x (TableExists t) ∷ [])) Done) absent));
+unfolding standing readings next_number has_user user_count held_auths has_system_right has_table_right table_count settings_of updates_of
+table_made b p ts now user t time v core absent room count settings records read = record {
+  answers = inl (sym (λ i. told (first_some (when (absent i) (TableExists t) ∷ [])) (numbered (room i) Done)));
   becomes = becomes b b.next p ts (changes_of now user (act.CreateTable t time v)) (λ s. cond (bytes_eq t s) true (table_exists b.policy s)) refl
       (read ∙ (λ i. record (readings b.policy) { rights = λ n x s. rights_made user t n s x (table_granted b.policy n x s) i; tables = λ s. cond (bytes_eq t s) true (table_exists b.policy s) }))
-      settings (λ q. records q ∙ cleared b core (bytes_eq t q) q);
+      (count ∙ ap (λ x. cond x (length b.tables) (length b.tables + 1)) absent) settings (λ q. records q ∙ cleared b core (bytes_eq t q) q);
   hands = tt;
 }
 
-pub table_dropped : (b : Base) (p : State) (ts : List BaseTable) (now : ℤ) (user t : List ℕ) → IsCore b
+pub table_dropped : (b : Base) (p : State) (ts : List BaseTable) (now : ℤ) (user t : List ℕ) → IsCore b → is_some (settings_in b.tables t) ≡ true → length ts ≡ cond (is_some (settings_in b.tables t)) (length b.tables - 1) (length b.tables)
     → ((q : List ℕ) → settings_in ts q ≡ cond (bytes_eq t q) None (settings_in b.tables q)) → ((q : List ℕ) → records_in ts q ≡ cond (bytes_eq t q) [] (records_in b.tables q))
     → readings p ≡ record (readings b.policy) {
       rights = λ n x s. cond (bytes_eq t s) false (table_granted b.policy n x s);
       tables = λ s. cond (bytes_eq t s) false (table_exists b.policy s);
     }
     → Acts (own_answer b now user (act.DropTable t)) b now user (act.DropTable t) Done (record b { policy = p; tables = ts })
-unfolding readings next_number has_user held_auths has_system_right has_table_right settings_of updates_of
-table_dropped b p ts now user t core settings records read = record {
+unfolding readings next_number has_user user_count held_auths has_system_right has_table_right table_count settings_of updates_of
+table_dropped b p ts now user t core there count settings records read = record {
   answers = inl refl;
-  becomes = becomes b b.next p ts (changes_of now user (act.DropTable t)) (λ s. cond (bytes_eq t s) false (table_exists b.policy s)) refl read settings (λ q. records q ∙ cleared b core (bytes_eq t q) q);
+  becomes = becomes b b.next p ts (changes_of now user (act.DropTable t)) (λ s. cond (bytes_eq t s) false (table_exists b.policy s)) refl read (count ∙ ap (λ x. cond x (length b.tables - 1) (length b.tables)) there) settings (λ q. records q ∙ cleared b core (bytes_eq t q) q);
   hands = tt;
 }
 
 -- a table put in and taken away again
+pub count_back : (old mid new : List BaseTable) (t : List ℕ) (s : Settings) → is_some (settings_in old t) ≡ false
+    → length mid ≡ cond (is_some (settings_in old t)) (length old) (length old + 1) → ((q : List ℕ) → settings_in mid q ≡ cond (bytes_eq t q) (Some s) (settings_in old q))
+    → length new ≡ cond (is_some (settings_in mid t)) (length mid - 1) (length mid) → length new ≡ length old
+count_back old mid new t s absent more settings fewer =
+    let there : is_some (settings_in mid t) ≡ true = ap is_some (settings t ∙ ap (λ v. cond v (Some s) (settings_in old t)) ((bytes_eq-Decides t t).1 refl)) in
+    let grown : length mid ≡ length old + 1 = more ∙ ap (λ v. cond v (length old) (length old + 1)) absent in
+    let shrunk : length new ≡ length mid - 1 = fewer ∙ ap (λ v. cond v (length mid - 1) (length mid)) there in
+    omega (arith, grown, shrunk)
+
 pub settings_back : (old mid new : List BaseTable) (t : List ℕ) (s : Settings) → is_some (settings_in old t) ≡ false
     → ((q : List ℕ) → settings_in mid q ≡ cond (bytes_eq t q) (Some s) (settings_in old q)) → ((q : List ℕ) → settings_in new q ≡ cond (bytes_eq t q) None (settings_in mid q)) → (q : List ℕ) → settings_in new q ≡ settings_in old q
 settings_back old mid new t s e f g q = g q ∙ ap (λ o. cond (bytes_eq t q) None o) (f q) ∙ go (bytes_eq t q) refl

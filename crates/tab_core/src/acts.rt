@@ -2,7 +2,7 @@
 ghost use Rattle.std.specs.Prelude.{◌≡◌, ◌<◌, ℕ, ℤ, true, is_some, Contains, IfOk, OnErr};
 ghost use Rattle.tab_key.specs.Records.{Record};
 ghost use Rattle.tab_core.specs.Tables.{settings_in, records_in};
-ghost use Rattle.tab_core.specs.Stepping.{Acts, ActsOnTables, own_answer};
+ghost use Rattle.tab_core.specs.Stepping.{Acts, ActsOnTables, IsAdmitted, own_answer};
 
 use crate::checking::{scan_refusal, too_many_auths};
 use crate::table::Table;
@@ -14,6 +14,9 @@ use tab_key::{Name, Part};
 use tab_label::AuthSet;
 use tab_mutation::Mutation;
 use tab_rules::ConstraintSet;
+
+// How many tables there may be.
+const MAX_TABLES: usize = u32::MAX as usize;
 
 impl Core {
     // A new table, with its creator's five rights.
@@ -31,6 +34,9 @@ impl Core {
         if self.tables.contains(&table) {
             return Reply::Refused(Refusal::TableExists(table));
         }
+        if self.tables.len() >= MAX_TABLES {
+            return Reply::Refused(Refusal::TooLarge(Part::Numbers));
+        }
         let made = Table::new(alloc, time, versions);
         match self.tables.insert(table, made) {
             Ok(()) => {}
@@ -47,6 +53,7 @@ impl Core {
 
     // A table taken away, with its records and all rights on it. It takes no memory.
     pub(crate) fn drop_table(&mut self, now: i64, user: Name, table: Name) -> Reply<Session>
+        requires { IsAdmitted self.old user (Act.DropTable table) }
         ensures { Acts (own_answer self.old now user (Act.DropTable table)) self.old now user (Act.DropTable table) result self.new }
     {
         self.tables.remove(&table);

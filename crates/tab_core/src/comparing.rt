@@ -5,7 +5,7 @@ ghost use Rattle.tab_core.specs.Comparing.{those_of, IsTold, Compares};
 
 use crate::running::run;
 use std::alloc::{AllocError, Global};
-use tab_history::{Reply, Step};
+use tab_history::{Reply, Step, copied};
 use tab_key::Name;
 
 /// What one user was told in two runs.
@@ -23,7 +23,7 @@ pub struct Compared {
 /// whole list in both, and the replies to his scans, batches, writes and questions for his rights are equal, in order. What others
 /// write under labels that he never holds is nothing that he sees, as long as it doesn't move the clock that his events meet.
 ///
-/// An error means that there was no memory for a list of replies, or for a core itself.
+/// An error means that there was no memory for a list of replies, for a copy of the steps, or for a core itself.
 pub fn compare_runs(
     alloc: Global,
     first: &[Step],
@@ -41,8 +41,38 @@ pub fn compare_runs(
 fn told_in(alloc: Global, steps: &[Step], user: &Name) -> Result<Vec<Reply>, AllocError>
     ensures { IfOk result (λ told. IsTold user.now steps.now told.items) }
 {
-    let replies = run(alloc, steps)?;
+    let replies = run(alloc, copies(alloc, steps)?)?;
     pick(alloc, steps, replies, user)
+}
+
+// A copy of the steps.
+fn copies(alloc: Global, steps: &[Step]) -> Result<Vec<Step>, AllocError>
+    ensures { IfOk result (λ copies. copies.items ≡ steps.now) }
+{
+    let mut copies = Vec::new(alloc);
+    for step in steps {
+        let copy = copy_of(step)?;
+        copies.push(copy)?;
+    }
+    Ok(copies)
+}
+
+// A copy of the step.
+fn copy_of(step: &Step) -> Result<Step, AllocError>
+    ensures { IfOk result (λ copy. copy ≡ step.now) }
+{
+    match step {
+        Step::Event(event) => Ok(Step::Event(copied(event)?)),
+        Step::Next { user, slot, count } => Ok(Step::Next {
+            user: *user,
+            slot: *slot,
+            count: *count,
+        }),
+        Step::Close { user, slot } => Ok(Step::Close {
+            user: *user,
+            slot: *slot,
+        }),
+    }
 }
 
 // Of the replies to the steps those to the user's steps.

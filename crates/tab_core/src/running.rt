@@ -2,7 +2,7 @@
 ghost use Rattle.std.specs.Prelude.{◌≡◌, ◌<◌, ◌≤◌, true, List, ℕ, IfOk, OnOk, OnErr, bytes_eq, length};
 ghost use Rattle.tab_history.specs.Bases.{new_core};
 ghost use Rattle.tab_history.specs.Histories.{world_of};
-ghost use Rattle.tab_history.specs.Legal.{Legal};
+ghost use Rattle.tab_history.specs.Legal.{Legal, LacksWhereItMay};
 ghost use Rattle.tab_history.specs.Answers.{is_open};
 ghost use Rattle.tab_core.specs.Slots.{history_of, NextFrom, CloseFrom};
 ghost use Rattle.tab_core.specs.Owners.{RunsOn, LeavesOthers, OpensIn, slots_of, owner_place};
@@ -11,7 +11,7 @@ use crate::reply::told;
 use crate::slots::Slots;
 use crate::state::Core;
 use std::alloc::{AllocError, Global};
-use tab_history::{Act, Event, Refusal, Reply, Step, copied};
+use tab_history::{Act, Event, Refusal, Reply, Step};
 use tab_key::{Name, Part};
 
 /// A user and the sessions that a run keeps for him.
@@ -27,10 +27,12 @@ pub struct Owner {
 ///
 /// The k-th session opened for a user, counted from 0, has the slot k, which closing it empties for good. Past 65,536
 /// open sessions of one user an Open is refused. Where memory lacks for a step, that step is refused and the run goes on;
-/// an error means that there was none for the list of replies, or for the core itself.
-pub fn run(alloc: Global, steps: &[Step]) -> Result<Vec<Reply>, AllocError>
-    ensures length { IfOk result (λ replies. length replies.items ≡ length steps.now) }
-    ensures legal { IfOk result (λ replies. Legal (world_of new_core) (history_of steps.now replies.items)) }
+/// it can lack only for a Next, and for an event that takes some. An error means that there was none for the list of replies,
+/// or for the core itself.
+pub fn run(alloc: Global, steps: Vec<Step>) -> Result<Vec<Reply>, AllocError>
+    ensures length { IfOk result (λ replies. length replies.items ≡ length steps.items) }
+    ensures legal { IfOk result (λ replies. Legal (world_of new_core) (history_of steps.items replies.items)) }
+    ensures memory { IfOk result (λ replies. LacksWhereItMay (history_of steps.items replies.items)) }
 {
     let mut core = Core::new(alloc)?;
     let mut owners = Vec::new(alloc);
@@ -44,13 +46,13 @@ pub fn run(alloc: Global, steps: &[Step]) -> Result<Vec<Reply>, AllocError>
 }
 
 // One step.
-fn run_step(alloc: Global, core: &mut Core, owners: &mut Vec<Owner>, step: &Step) -> Reply
-    ensures { RunsOn core.old owners.old.items step.now result core.new owners.new.items }
+fn run_step(alloc: Global, core: &mut Core, owners: &mut Vec<Owner>, step: Step) -> Reply
+    ensures { RunsOn core.old owners.old.items step result core.new owners.new.items }
 {
     match step {
         Step::Event(event) => run_event(alloc, core, owners, event),
-        Step::Next { user, slot, count } => run_next(alloc, owners, user, *slot, *count),
-        Step::Close { user, slot } => run_close(owners, user, *slot),
+        Step::Next { user, slot, count } => run_next(alloc, owners, &user, slot, count),
+        Step::Close { user, slot } => run_close(owners, &user, slot),
     }
 }
 
@@ -72,16 +74,13 @@ fn is_of(owner: &Owner, user: &Name) -> bool
 }
 
 // An event. An Open past the limit of sessions is refused, and doesn't happen.
-fn run_event(alloc: Global, core: &mut Core, owners: &mut Vec<Owner>, event: &Event) -> Reply
-    ensures { RunsOn core.old owners.old.items (Step.Event event.now) result core.new owners.new.items }
+fn run_event(alloc: Global, core: &mut Core, owners: &mut Vec<Owner>, event: Event) -> Reply
+    ensures { RunsOn core.old owners.old.items (Step.Event event) result core.new owners.new.items }
 {
-    let Ok(copy) = copied(event) else {
-        return Reply::Refused(Refusal::NoMemory);
-    };
-    if opens(&copy.act) {
-        run_open(alloc, core, owners, copy)
+    if opens(&event.act) {
+        run_open(alloc, core, owners, event)
     } else {
-        told(core.step(alloc, copy))
+        told(core.step(alloc, event))
     }
 }
 

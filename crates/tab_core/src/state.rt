@@ -57,8 +57,8 @@ impl Core {
     ///
     /// The first failing check gives the refusal: the caller is unknown; a table that is named doesn't exist; a permission
     /// is missing; then the event's own checks. A refused event changes no user, cell, right or table; it moves the clock
-    /// to its moment unless it was refused for memory, when the core stands as before. A session that is handed out shows
-    /// the scan's answer as it is now, for good.
+    /// to its moment unless it was refused for memory, when the core stands as before. Memory lacks only for acts that take
+    /// some. A session that is handed out shows the scan's answer as it is now, for good.
     pub fn step(&mut self, alloc: Global, event: Event) -> Reply<Session>
         ensures { Steps self.old event result self.new }
     {

@@ -3,11 +3,10 @@ ghost use Rattle.std.specs.Prelude.{◌≡◌, ◌<◌, ◌++◌, [], Some, map,
 ghost use Rattle.tab_key.specs.Records.{Record as Fields};
 ghost use Rattle.tab_key.specs.Sorted.{sorted};
 ghost use Rattle.tab_cells.specs.Written.{timed, records_of};
-ghost use Rattle.tab_history.specs.Checks.{mutation_checks};
 ghost use Rattle.tab_history.specs.Answers.{query_of};
 ghost use Rattle.tab_cells.specs.Cells.{cells};
 ghost use Rattle.tab_history.specs.Settings.{least};
-ghost use Rattle.tab_core.specs.Stepping.{IsChecked};
+ghost use Rattle.tab_core.specs.Stepping.{IsChecked, write_checks};
 ghost use Rattle.tab_core.specs.Tables.{table_settings, with_records};
 
 use crate::Session;
@@ -53,7 +52,7 @@ impl Table {
     ///
     /// # Errors
     ///
-    /// The first failing check refuses it, or memory or numbers ran out. The table is then as it was.
+    /// The first failing check refuses it, the last of which is that its number isn't used up; or memory lacked. The table is then as it was.
     pub fn write(
         &mut self,
         alloc: Global,
@@ -63,7 +62,7 @@ impl Table {
         now: i64,
     ) -> Result<(), Refusal>
         requires unused { (u : Fields) → Contains self.old.records u → u.seq < seq }
-        ensures checks { IsChecked (mutation_checks (Some (table_settings self.old)) authorizations.now now mutation.now) result }
+        ensures checks { IsChecked (write_checks (Some (table_settings self.old)) authorizations.now now mutation.now seq) result }
         ensures room { OnOk result (seq < 18446744073709551615) }
         ensures ok { OnOk result (self.new ≡ with_records (sorted (records_of seq mutation.now.row (reverse (map (timed now) mutation.now.updates)) ++ self.old.records)) self.old) }
         ensures err { OnErr result (self.new ≡ self.old) }

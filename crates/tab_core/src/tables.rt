@@ -1,13 +1,12 @@
 //! Tables by name.
-ghost use Rattle.std.specs.Prelude.{◌≡◌, ◌<◌, ◌++◌, ℕ, List, [], Option, Some, None, true, false, cond, reverse, map, Contains, is_some, bytes_eq, IfOk, OnOk, OnErr};
+ghost use Rattle.std.specs.Prelude.{◌≡◌, ◌<◌, ◌+◌, ◌-◌, ◌++◌, ℕ, List, [], Option, Some, None, true, false, cond, reverse, map, length, Contains, is_some, bytes_eq, IfOk, OnOk, OnErr};
 ghost use Rattle.tab_key.specs.Records.{Record};
 ghost use Rattle.tab_key.specs.Sorted.{sorted};
 ghost use Rattle.tab_policy.specs.Entries.{at_name, changed_at};
 ghost use Rattle.tab_cells.specs.Written.{timed, records_of};
-ghost use Rattle.tab_history.specs.Checks.{mutation_checks};
 ghost use Rattle.tab_history.specs.Readings.{constrained};
 ghost use Rattle.tab_history.specs.Answers.{listed, query_of};
-ghost use Rattle.tab_core.specs.Stepping.{IsChecked};
+ghost use Rattle.tab_core.specs.Stepping.{IsChecked, write_checks};
 ghost use Rattle.tab_core.specs.Tables.{settings_in, records_in, found_settings, found_records, table_settings, with_constraints, with_records};
 
 use crate::Session;
@@ -52,6 +51,13 @@ impl Tables {
         }
     }
 
+    /// How many tables there are.
+    pub fn len(&self) -> usize
+        ensures { result ≡ length self.now }
+    {
+        self.by_name.len()
+    }
+
     /// Whether there is a table of this name.
     pub fn contains(&self, name: &Name) -> bool
         ensures { result ≡ is_some (settings_in self.now name.now) }
@@ -63,6 +69,7 @@ impl Tables {
     pub fn insert(&mut self, name: Name, table: Table) -> Result<(), AllocError>
         ensures settings { OnOk result ((q : List ℕ) → settings_in self.new q ≡ cond (bytes_eq name q) (Some (table_settings table)) (settings_in self.old q)) }
         ensures records { OnOk result ((q : List ℕ) → records_in self.new q ≡ cond (bytes_eq name q) table.records (records_in self.old q)) }
+        ensures count { OnOk result (length self.new ≡ cond (is_some (settings_in self.old name)) (length self.old) (length self.old + 1)) }
         ensures err { OnErr result (self.new ≡ self.old) }
     {
         put(&mut self.by_name, self.alloc, name, table)
@@ -72,6 +79,7 @@ impl Tables {
     pub fn remove(&mut self, name: &Name)
         ensures settings { (q : List ℕ) → settings_in self.new q ≡ cond (bytes_eq name.now q) None (settings_in self.old q) }
         ensures records { (q : List ℕ) → records_in self.new q ≡ cond (bytes_eq name.now q) [] (records_in self.old q) }
+        ensures count { length self.new ≡ cond (is_some (settings_in self.old name.now)) (length self.old - 1) (length self.old) }
     {
         take_away(&mut self.by_name, name);
     }
@@ -80,6 +88,7 @@ impl Tables {
     pub fn set_constraints(&mut self, name: &Name, constraints: ConstraintSet)
         ensures settings { (q : List ℕ) → settings_in self.new q ≡ cond (bytes_eq name.now q) (constrained constraints (settings_in self.old q)) (settings_in self.old q) }
         ensures records { (q : List ℕ) → records_in self.new q ≡ records_in self.old q }
+        ensures count { length self.new ≡ length self.old }
     {
         set_constraints(&mut self.by_name, name, constraints);
     }
@@ -93,6 +102,7 @@ fn put(
     table: Table,
 ) -> Result<(), AllocError>
     ensures ok { OnOk result ((q : List ℕ) → at_name q map.new.entries ≡ cond (bytes_eq name q) (Some table) (at_name q map.old.entries)) }
+    ensures count { OnOk result (length map.new.entries ≡ cond (is_some (at_name name map.old.entries)) (length map.old.entries) (length map.old.entries + 1)) }
     ensures err { OnErr result (map.new.entries ≡ map.old.entries) }
 {
     let key = NameKey::new(alloc, &name)?;
@@ -102,13 +112,15 @@ fn put(
 
 // Takes away what stands under the name.
 fn take_away(map: &mut BTreeMap<NameKey, Table>, name: &Name)
-    ensures { (q : List ℕ) → at_name q map.new.entries ≡ cond (bytes_eq name.now q) None (at_name q map.old.entries) }
+    ensures names { (q : List ℕ) → at_name q map.new.entries ≡ cond (bytes_eq name.now q) None (at_name q map.old.entries) }
+    ensures count { length map.new.entries ≡ cond (is_some (at_name name.now map.old.entries)) (length map.old.entries - 1) (length map.old.entries) }
 {
     let _ = map.remove(name);
 }
 
 fn set_constraints(map: &mut BTreeMap<NameKey, Table>, name: &Name, constraints: ConstraintSet)
-    ensures { (q : List ℕ) → at_name q map.new.entries ≡ changed_at name.now (with_constraints constraints) map.old.entries q }
+    ensures names { (q : List ℕ) → at_name q map.new.entries ≡ changed_at name.now (with_constraints constraints) map.old.entries q }
+    ensures count { length map.new.entries ≡ length map.old.entries }
 {
     if let Some(table) = map.get_mut(name) {
         table.constraints = constraints;
@@ -120,7 +132,7 @@ impl Tables {
     ///
     /// # Errors
     ///
-    /// The first failing check refuses it, or memory or numbers ran out. The tables are then as they were.
+    /// The first failing check refuses it, the last of which is that its number isn't used up; or memory lacked. The tables are then as they were.
     pub fn write(
         &mut self,
         alloc: Global,
@@ -132,9 +144,10 @@ impl Tables {
     ) -> Result<(), Refusal>
         requires there { is_some (settings_in self.old name.now) ≡ true }
         requires unused { (u : Record) → Contains (records_in self.old name.now) u → u.seq < seq }
-        ensures checks { IsChecked (mutation_checks (settings_in self.old name.now) authorizations.now now mutation.now) result }
+        ensures checks { IsChecked (write_checks (settings_in self.old name.now) authorizations.now now mutation.now seq) result }
         ensures room { OnOk result (seq < 18446744073709551615) }
         ensures settings { (q : List ℕ) → settings_in self.new q ≡ settings_in self.old q }
+        ensures count { length self.new ≡ length self.old }
         ensures records { OnOk result ((q : List ℕ) → records_in self.new q ≡ cond (bytes_eq name.now q)
             (sorted (records_of seq mutation.now.row (reverse (map (timed now) mutation.now.updates)) ++ records_in self.old name.now)) (records_in self.old q)) }
         ensures err { OnErr result ((q : List ℕ) → records_in self.new q ≡ records_in self.old q) }
@@ -171,11 +184,12 @@ fn write(
 ) -> Result<(), Refusal>
     requires there { is_some (at_name name.now tables.old.entries) ≡ true }
     requires unused { (u : Record) → Contains (found_records (at_name name.now tables.old.entries)) u → u.seq < seq }
-    ensures checks { IsChecked (mutation_checks (found_settings (at_name name.now tables.old.entries)) authorizations.now now mutation.now) result }
+    ensures checks { IsChecked (write_checks (found_settings (at_name name.now tables.old.entries)) authorizations.now now mutation.now seq) result }
     ensures room { OnOk result (seq < 18446744073709551615) }
     ensures ok { OnOk result ((q : List ℕ) → at_name q tables.new.entries ≡ changed_at name.now
         (with_records (sorted (records_of seq mutation.now.row (reverse (map (timed now) mutation.now.updates)) ++ found_records (at_name name.now tables.old.entries)))) tables.old.entries q) }
     ensures err { OnErr result ((q : List ℕ) → at_name q tables.new.entries ≡ at_name q tables.old.entries) }
+    ensures count { length tables.new.entries ≡ length tables.old.entries }
 {
     match tables.get_mut(name) {
         Some(table) => table.write(alloc, mutation, authorizations, seq, now),

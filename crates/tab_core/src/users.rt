@@ -4,8 +4,11 @@ ghost use Rattle.tab_core.specs.Stepping.{Acts, own_answer};
 use crate::{Core, Session};
 use std::alloc::AllocError;
 use tab_history::{Act, Refusal, Reply};
-use tab_key::Name;
+use tab_key::{Name, Part};
 use tab_policy::is_root;
+
+// How many users there may be.
+const MAX_USERS: usize = u32::MAX as usize;
 
 impl Core {
     // A new user, without rights and authorizations.
@@ -14,6 +17,9 @@ impl Core {
     {
         if self.policy.user_exists(&name) {
             return Reply::Refused(Refusal::UserExists(name));
+        }
+        if self.policy.user_count() >= MAX_USERS {
+            return Reply::Refused(Refusal::TooLarge(Part::Numbers));
         }
         match self.policy.create_user(&name) {
             Ok(()) => Reply::Done,

@@ -1,7 +1,7 @@
 -- What an accepted event changes has passed the event's checks.
 use Rattle.std.proofs.Common.{◌≡◌, ◌⊎◌, inl, inr, ℕ, List, [], Bool, true, false, cond, ◌&&◌, refl, sym, subst}
 use Rattle.std.specs.Prelude.{ℤ, Option, Some, None}
-use Rattle.tab_key.specs.declared.part.Part.TheVariants.{Sessions, Numbers}
+use Rattle.tab_key.specs.declared.part.Part.TheVariants.{Sessions}
 use Rattle.tab_history.specs.declared.event.Act.{Act}
 use Rattle.tab_history.specs.declared.event.Act.TheVariants.{Open, Rights}
 use Rattle.tab_history.specs.declared.event.Event.{Event as TheEvent}
@@ -10,12 +10,12 @@ use Rattle.tab_history.specs.declared.event.Step.TheVariants.{Event}
 use Rattle.tab_history.specs.declared.reply.Refusal.{Refusal}
 use Rattle.tab_history.specs.declared.reply.Refusal.TheVariants.{NoMemory, TooLarge}
 use Rattle.tab_history.specs.declared.reply.Reply.TheVariants.{Refused}
-use Rattle.tab_history.specs.Answers.{Told, granted, told, event_answer, is_open, answer, changes_by}
+use Rattle.tab_history.specs.Answers.{Told, granted, told, are_used_up, numbered, event_answer, is_open, answer, changes_by}
 use Rattle.tab_history.specs.Bases.{Base}
 use Rattle.tab_history.specs.Changes.{Change, changes_of}
 use Rattle.tab_history.specs.Checks.{Caller, standing, user_named, exists_in, action_of, denial, own_checks, refusal_of}
 use Rattle.tab_history.specs.Histories.{Entry, World, clock_of, clock_at, journal, user_of, moves_of}
-use Rattle.tab_history.specs.Legal.{IsAnswer, IsExhausted}
+use Rattle.tab_history.specs.Legal.{IsAnswer, LacksMemory}
 use Rattle.tab_history.specs.Sessions.{Move, is_full}
 use Rattle.tab_policy.specs.Decisions.{decision}
 use Rattle.tab_mutation.specs.Shape.{first_some}
@@ -37,9 +37,10 @@ module _ (b : Base) (j : List Change) (now : ℤ) (P : List Change → Type 0) (
   of_granted e c (Rights t) p = p
   of_granted e c _ p = p
 
-  of_told : (e : TheEvent) (c : Caller) (o : Option Refusal) → (o ≡ None → P (changes_of now e.user e.act)) → P (changes_by now (Event e) (told o (granted c e.act)))
-  of_told e c None f = of_granted e c e.act (f refl)
-  of_told e c (Some x) f = none
+  of_told : (e : TheEvent) (c : Caller) (o : Option Refusal) (used_up : Bool) → (o ≡ None → P (changes_of now e.user e.act)) → P (changes_by now (Event e) (told o (numbered used_up (granted c e.act))))
+  of_told e c None true f = none
+  of_told e c None false f = of_granted e c e.act (f refl)
+  of_told e c (Some x) used_up f = none
 
   -- holds of what a step and its answer change
   of_answer : ((e : TheEvent) → refusal_of (standing b j e.user) (exists_in b j (user_named e.act)) now e.user e.act ≡ None → P (changes_of now e.user e.act)) → (moves : List Move) (step : Step) → P (changes_by now step (answer b j moves now step))
@@ -48,13 +49,12 @@ module _ (b : Base) (j : List Change) (now : ℤ) (P : List Change → Type 0) (
     where
       go : (v : Bool) → P (changes_by now (Event e) (cond v (Refused (TooLarge Sessions)) (event_answer b j now e.user e.act)))
       go true = none
-      go false = of_told e (standing b j e.user) (refusal_of (standing b j e.user) (exists_in b j (user_named e.act)) now e.user e.act) (f e)
+      go false = of_told e (standing b j e.user) (refusal_of (standing b j e.user) (exists_in b j (user_named e.act)) now e.user e.act) (are_used_up b j e.act) (f e)
   of_answer f moves _ = none
 
 -- holds of what each entry of a legal history changes
 pub of_legal : (w : World) (es own : List Entry) (step : Step) (r : Told) (P : List Change → Type 0) → P []
     → ((e : TheEvent) → refusal_of (standing w.base (journal w es) e.user) (exists_in w.base (journal w es) (user_named e.act)) (clock_at (clock_of w es) step) e.user e.act ≡ None → P (changes_of (clock_at (clock_of w es) step) e.user e.act))
-    → IsAnswer w es own step r ⊎ IsExhausted r → P (changes_by (clock_at (clock_of w es) step) step r)
+    → IsAnswer w es own step r ⊎ LacksMemory step r → P (changes_by (clock_at (clock_of w es) step) step r)
 of_legal w es own step r P none f (inl h) = subst (λ x. P (changes_by (clock_at (clock_of w es) step) step x)) (sym h) (of_answer w.base (journal w es) (clock_at (clock_of w es) step) P none f (moves_of w (user_of step) own) step)
-of_legal w es own step r P none f (inr (inl e)) = subst (λ x. P (changes_by (clock_at (clock_of w es) step) step x)) (sym e) (of_refused w.base (journal w es) (clock_at (clock_of w es) step) P none step NoMemory)
-of_legal w es own step r P none f (inr (inr e)) = subst (λ x. P (changes_by (clock_at (clock_of w es) step) step x)) (sym e) (of_refused w.base (journal w es) (clock_at (clock_of w es) step) P none step (TooLarge Numbers))
+of_legal w es own step r P none f (inr e) = subst (λ x. P (changes_by (clock_at (clock_of w es) step) step x)) (sym e.1) (of_refused w.base (journal w es) (clock_at (clock_of w es) step) P none step NoMemory)

@@ -13,7 +13,7 @@ use Rattle.tab_history.specs.Bases.{BaseTable, Base}
 use Rattle.tab_history.specs.Chains.{GoesRight, IsChain, RightStep}
 use Rattle.tab_history.specs.Held.{floor_of, RefinesUpdates, RefinesTable}
 use Rattle.tab_history.specs.Histories.{Entry, World, world_of, clock_of, journal, world_after, moves_of}
-use Rattle.tab_history.specs.Legal.{IsAnswer, IsExhausted, LegalAlone}
+use Rattle.tab_history.specs.Legal.{IsAnswer, LacksMemory, LegalAlone}
 use Rattle.tab_history.specs.Readings.{base_table, base_settings, base_records, settings_of, next_number, updates_of}
 use Rattle.tab_history.specs.Refinement.{Refines, GoOnAlike, IsSound, IsAlike, AnswersAreOne, NewCoreIsSound, RefinementIsSound}
 use Rattle.tab_history.proofs.GoOn.{histories_down, events_down}
@@ -61,6 +61,8 @@ refinement_is_transitive u v w p q = record {
   reads = record {
     clock = p.reads.clock ∙ q.reads.clock;
     next = p.reads.next ∙ q.reads.next;
+    users = p.reads.users ∙ q.reads.users;
+    tables = p.reads.tables ∙ q.reads.tables;
     known = λ n. p.reads.known n ∙ q.reads.known n;
     auths = λ n. p.reads.auths n ∙ q.reads.auths n;
     system = λ n x. p.reads.system n x ∙ q.reads.system n x;
@@ -86,6 +88,8 @@ sound_refines_itself w sound = record {
   reads = record {
     clock = refl;
     next = refl;
+    users = refl;
+    tables = refl;
     known = λ n. refl;
     auths = λ n. refl;
     system = λ n p. refl;
@@ -149,11 +153,11 @@ answers_are_one w sound es l t s e q =
     one_answer_list (updates_of w.base (journal w es) t) s.versions q (g.refines.tables t s e).updates_once
 
 -- ---- chains
-pub one_more : (w : World) (es : List Entry) (e : Entry) → LegalAlone (world_after w es) (e ∷ []) → IsAnswer w es [] e.step e.reply ⊎ IsExhausted e.reply
+pub one_more : (w : World) (es : List Entry) (e : Entry) → LegalAlone (world_after w es) (e ∷ []) → IsAnswer w es [] e.step e.reply ⊎ LacksMemory e.step e.reply
 unfolding journal clock_of moves_of
 one_more w es e l = go l.1
   where
-    go : IsAnswer (world_after w es) [] [] e.step e.reply ⊎ IsExhausted e.reply → IsAnswer w es [] e.step e.reply ⊎ IsExhausted e.reply
+    go : IsAnswer (world_after w es) [] [] e.step e.reply ⊎ LacksMemory e.step e.reply → IsAnswer w es [] e.step e.reply ⊎ LacksMemory e.step e.reply
     go h = h
 
 pub after_more : (u w : World) (es : List Entry) (e : Entry) → Refines u (world_after (world_after w es) (e ∷ [])) → Refines u (world_after w (e ∷ es))

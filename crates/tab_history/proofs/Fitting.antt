@@ -22,7 +22,7 @@ use Rattle.tab_history.specs.Changes.{Change, Written, given, taken, changes_of}
 use Rattle.tab_history.specs.Checks.{standing, user_named, exists_in, shape_refusal, malformed, stamped, outdated, violated, mutation_checks, refusal_of}
 use Rattle.tab_history.specs.Held.{floor_of}
 use Rattle.tab_history.specs.Histories.{Entry, World, clock_of, clock_at, journal}
-use Rattle.tab_history.specs.Legal.{IsAnswer, IsExhausted}
+use Rattle.tab_history.specs.Legal.{IsAnswer, LacksMemory}
 use Rattle.tab_mutation.specs.Mutations.{Update, Mutation}
 use Rattle.tab_history.specs.Readings.{next_number}
 use Rattle.tab_history.specs.Settings.{Settings, takes_timestamps}
@@ -118,7 +118,7 @@ module _ (b : Base) (j : List Change) (now : ℤ) (user : List ℕ) where
   act_fits there (Rights t) e = tt
 
 -- and so do those of each entry of a legal history
-pub fits_legal : (w : World) (es own : List Entry) (step : Step) (r : Told) → IsAnswer w es own step r ⊎ IsExhausted r → FitAll w.base (journal w es) (clock_at (clock_of w es) step) (changes_by (clock_at (clock_of w es) step) step r)
+pub fits_legal : (w : World) (es own : List Entry) (step : Step) (r : Told) → IsAnswer w es own step r ⊎ LacksMemory step r → FitAll w.base (journal w es) (clock_at (clock_of w es) step) (changes_by (clock_at (clock_of w es) step) step r)
 fits_legal w es own step r a =
     let now = clock_at (clock_of w es) step in
     of_legal w es own step r (FitAll w.base (journal w es) now) tt (λ e passed. act_fits w.base (journal w es) now e.user (exists_in w.base (journal w es) (user_named e.act)) e.act passed) a

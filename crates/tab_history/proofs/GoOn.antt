@@ -1,23 +1,23 @@
 -- From worlds of which one refines the other the same histories are legal.
 use Rattle.std.proofs.Common.{◌≡◌, ◌⊎◌, inl, inr, ℕ, List, [], ◌∷◌, ◌++◌, true, false, cond, ◌||◌, ◌&&◌, refl, sym, ◌∙◌, ap, subst, arith}
-use Rattle.std.specs.Prelude.{ℤ, int_le, int_lt, bytes_eq, Option, Some, None, is_some}
+use Rattle.std.specs.Prelude.{ℤ, nat_le, int_le, int_lt, bytes_eq, Option, Some, None, is_some}
 use Rattle.std.specs.Int.{int_max}
 use Rattle.std.proofs.lemmas.Int.{ints}
 use Rattle.tab_key.specs.declared.part.Part.TheVariants.{Sessions}
 use Rattle.tab_history.specs.declared.event.Act.{Act}
-use Rattle.tab_history.specs.declared.event.Act.TheVariants.{Open}
+use Rattle.tab_history.specs.declared.event.Act.TheVariants.{Open, Write, CreateTable, CreateUser}
 use Rattle.tab_history.specs.declared.event.Event.{Event as TheEvent}
 use Rattle.tab_history.specs.declared.event.Step.{Step}
 use Rattle.tab_history.specs.declared.event.Step.TheVariants.{Event, Next, Close}
 use Rattle.tab_history.specs.declared.reply.Refusal.TheVariants.{NoMemory, TooLarge, NoSession}
 use Rattle.tab_history.specs.declared.reply.Reply.TheVariants.{Done, Refused, Opened, Batch}
-use Rattle.tab_history.specs.Answers.{Told, granted, told, event_answer, is_open, answer, query_of, listed, session_list, changes_by, moves_by}
+use Rattle.tab_history.specs.Answers.{Told, granted, told, are_used_up, numbered, event_answer, is_open, answer, query_of, listed, session_list, changes_by, moves_by}
 use Rattle.tab_cells.specs.Cells.{cells}
 use Rattle.tab_history.specs.Changes.{changes_of}
 use Rattle.tab_history.specs.Checks.{standing, user_named, exists_in, refusal_of}
 use Rattle.tab_history.specs.Held.{floor_of, RefinesTable}
 use Rattle.tab_history.specs.Histories.{Entry, World, clock_after, clock_of, clock_at, journal, world_after, user_of, is_by, moves_of}
-use Rattle.tab_history.specs.Legal.{IsAnswer, IsExhausted, Legal, LegalAlone}
+use Rattle.tab_history.specs.Legal.{IsAnswer, LacksMemory, Legal, LegalAlone}
 use Rattle.tab_policy.specs.Roots.{root}
 use Rattle.tab_history.specs.Readings.{settings_of, next_number, updates_of}
 use Rattle.tab_history.specs.Sessions.{Move, Opening, is_full}
@@ -71,8 +71,14 @@ module _ (v w : World) (h : Refines v w) where
   exists_same None = refl
   exists_same (Some n) = h.reads.known n
 
+  used_up_same : (act : Act) → are_used_up v.base v.changes act ≡ are_used_up w.base w.changes act
+  used_up_same (Write t m) = ap (nat_le 18446744073709551615) h.reads.next
+  used_up_same (CreateTable t time n) = ap (nat_le 4294967295) h.reads.tables
+  used_up_same (CreateUser n) = ap (nat_le 4294967295) h.reads.users
+  used_up_same _ = refl
+
   event_same : (now : ℤ) (user : List ℕ) (act : Act) → event_answer v.base v.changes now user act ≡ event_answer w.base w.changes now user act
-  event_same now user act = λ i. told (refusal_of (standing_same user i) (exists_same (user_named act) i) now user act) (granted (standing_same user i) act)
+  event_same now user act = λ i. told (refusal_of (standing_same user i) (exists_same (user_named act) i) now user act) (numbered (used_up_same act i) (granted (standing_same user i) act))
 
   pub answer_same : (moves : List Move) (now : ℤ) (step : Step) → answer v.base v.changes moves now step ≡ answer w.base w.changes moves now step
   unfolding answer
@@ -109,7 +115,7 @@ agreeing_back v w es own a = record { clock = sym a.clock; moves = λ u. sym (a.
 answer_too : (v w : World) (es own : List Entry) → Agreeing v w es own → (step : Step) (r : Told) → IsAnswer v es own step r → IsAnswer w es own step r
 answer_too v w es own a step r h = h ∙ (λ i. answer v.base (journal v es) (a.moves (user_of step) i) (clock_at (a.clock i) step) step) ∙ a.answers (moves_of w (user_of step) own) (clock_at (clock_of w es) step) step
 
-either_too : (v w : World) (es own : List Entry) → Agreeing v w es own → (step : Step) (r : Told) → IsAnswer v es own step r ⊎ IsExhausted r → IsAnswer w es own step r ⊎ IsExhausted r
+either_too : (v w : World) (es own : List Entry) → Agreeing v w es own → (step : Step) (r : Told) → IsAnswer v es own step r ⊎ LacksMemory step r → IsAnswer w es own step r ⊎ LacksMemory step r
 either_too v w es own a step r (inl h) = inl (answer_too v w es own a step r h)
 either_too v w es own a step r (inr x) = inr x
 
@@ -117,7 +123,7 @@ agree_after : (v w : World) (es own : List Entry) → Refines (world_after v es)
 agree_after v w es own h moves = record { clock = h.reads.clock; moves = moves; answers = answer_same (world_after v es) (world_after w es) h }
 
 -- ---- going on
-stands_on : (v w : World) (e : Entry) (es own : List Entry) → Refines (world_after v es) (world_after w es) → IsAnswer w es own e.step e.reply ⊎ IsExhausted e.reply → Refines (world_after v (e ∷ es)) (world_after w (e ∷ es))
+stands_on : (v w : World) (e : Entry) (es own : List Entry) → Refines (world_after v es) (world_after w es) → IsAnswer w es own e.step e.reply ⊎ LacksMemory e.step e.reply → Refines (world_after v (e ∷ es)) (world_after w (e ∷ es))
 unfolding journal clock_of
 stands_on v w e es own h a =
     subst (λ c. Refines (went c e.step e.reply (world_after v es)) (went (clock_of w es) e.step e.reply (world_after w es))) (sym h.reads.clock)
@@ -127,7 +133,7 @@ on_begin : (v w : World) → Refines v w → GoOnAlike v w []
 unfolding journal clock_of moves_of
 on_begin v w h = record { refines = h; sessions = λ u. refl }
 
-on_more : (v w : World) (e : Entry) (es : List Entry) → GoOnAlike v w es → IsAnswer w es es e.step e.reply ⊎ IsExhausted e.reply → GoOnAlike v w (e ∷ es)
+on_more : (v w : World) (e : Entry) (es : List Entry) → GoOnAlike v w es → IsAnswer w es es e.step e.reply ⊎ LacksMemory e.step e.reply → GoOnAlike v w (e ∷ es)
 unfolding moves_of
 on_more v w e es g a = record {
   refines = stands_on v w e es es g.refines a;

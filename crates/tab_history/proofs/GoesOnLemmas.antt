@@ -11,7 +11,7 @@ use Rattle.tab_history.specs.Bases.{Base}
 use Rattle.tab_history.specs.Chains.{HasRoom, GoesOn}
 use Rattle.tab_history.specs.Changes.{Change}
 use Rattle.tab_history.specs.Histories.{Entry, World, world_of, clock_of, clock_at, journal, world_after, user_of, moves_of}
-use Rattle.tab_history.specs.Legal.{IsAnswer, IsExhausted}
+use Rattle.tab_history.specs.Legal.{IsAnswer, LacksMemory}
 use Rattle.tab_history.specs.Sessions.{opened, closed, is_full}
 use Rattle.tab_history.specs.Refinement.{Refines}
 use Rattle.tab_history.proofs.Chains.{refinement_is_transitive, one_more, after_more}
@@ -28,7 +28,7 @@ room_answer b j now (Event e) w own room = go (is_open e.act) room
 room_answer b j now (Next user slot n) w own room = absurd room
 room_answer b j now (Close user slot) w own room = absurd room
 
-room_too : (w : World) (h own : List Entry) (step : Step) (r : Told) → HasRoom w own step → IsAnswer w h [] step r ⊎ IsExhausted r → IsAnswer w h own step r ⊎ IsExhausted r
+room_too : (w : World) (h own : List Entry) (step : Step) (r : Told) → HasRoom w own step → IsAnswer w h [] step r ⊎ LacksMemory step r → IsAnswer w h own step r ⊎ LacksMemory step r
 unfolding moves_of
 room_too w h own step r room (inl a) = inl (a ∙ room_answer w.base (journal w h) (clock_at (clock_of w h) step) step w own room)
 room_too w h own step r room (inr x) = inr x

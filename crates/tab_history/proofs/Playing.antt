@@ -1,4 +1,4 @@
--- Each list of steps has a legal history, and only one in which nothing ran out.
+-- Each list of steps has a legal history, and only one in which memory never lacked.
 use Rattle.std.proofs.Common.{◌≡◌, ◌⊎◌, inl, inr, List, [], ◌∷◌, ◌++◌, refl, sym, ◌∙◌, ap, append_assoc, append-nil}
 use Rattle.std.specs.Prelude.{map, reverse}
 use Rattle.std.proofs.lemmas.Grind.{reverse_onto}
@@ -10,7 +10,7 @@ use Rattle.tab_history.specs.declared.reply.Refusal.TheVariants.{NoMemory, TooLa
 use Rattle.tab_history.specs.declared.reply.Reply.TheVariants.{Refused}
 use Rattle.tab_history.specs.Answers.{Told}
 use Rattle.tab_history.specs.Histories.{Entry, World, clock_of, journal, world_after, steps_of}
-use Rattle.tab_history.specs.Legal.{IsAnswer, IsExhausted, Legal, IsAmple}
+use Rattle.tab_history.specs.Legal.{IsAnswer, LacksMemory, Legal, HasMemory}
 use Rattle.tab_history.specs.Runs.{answer_to, played, EveryRunIsAnswered, OneHistory, IsNoEvent, Unmoved}
 
 played_legal : (w : World) (es : List Entry) (steps : List Step) → Legal w es → Legal w (played w es steps)
@@ -39,16 +39,16 @@ same_tail x y xs ys e = ap rest e
     rest [] = []
     rest (z ∷ zs) = zs
 
-ample_answer : (w : World) (es : List Entry) (step : Step) (r : Told) → IsAnswer w es es step r ⊎ IsExhausted r → (IsExhausted r → ⊥) → IsAnswer w es es step r
-ample_answer w es step r (inl h) n = h
-ample_answer w es step r (inr x) n = absurd (n x)
+with_memory : (w : World) (es : List Entry) (step : Step) (r : Told) → IsAnswer w es es step r ⊎ LacksMemory step r → (r ≡ Refused NoMemory → ⊥) → IsAnswer w es es step r
+with_memory w es step r (inl h) n = h
+with_memory w es step r (inr x) n = absurd (n x.1)
 
-same_steps : (w : World) (h k : List Entry) → Legal w h → Legal w k → IsAmple h → IsAmple k → map (λ (e : Entry). e.step) h ≡ map (λ (e : Entry). e.step) k → h ≡ k
+same_steps : (w : World) (h k : List Entry) → Legal w h → Legal w k → HasMemory h → HasMemory k → map (λ (e : Entry). e.step) h ≡ map (λ (e : Entry). e.step) k → h ≡ k
 same_steps w [] [] l m a b q = refl
 same_steps w (e ∷ es) (f ∷ fs) l m a b q =
     let p : es ≡ fs = same_steps w es fs l.0 m.0 a.0 b.0 (same_tail e.step f.step _ _ q) in
     let step : e.step ≡ f.step = same_head e.step f.step _ _ q in
-    let reply : e.reply ≡ f.reply = ample_answer w es e.step e.reply l.1 a.1 ∙ (λ i. answer_to w (p i) (step i)) ∙ sym (ample_answer w fs f.step f.reply m.1 b.1) in
+    let reply : e.reply ≡ f.reply = with_memory w es e.step e.reply l.1 a.1 ∙ (λ i. answer_to w (p i) (step i)) ∙ sym (with_memory w fs f.step f.reply m.1 b.1) in
     λ i. record { step = step i; reply = reply i } ∷ p i
 same_steps w [] (f ∷ fs) l m a b q = absurd (cc)
 same_steps w (e ∷ es) [] l m a b q = absurd (cc)

@@ -1,5 +1,5 @@
 -- Worlds of which one refines the other answer alike, and go on doing so.
-use Rattle.std.proofs.Common.{◌≡◌, ℕ, ◌+◌, List, [], ◌∷◌, ◌++◌, Bool, true, false, cond, refl, sym, ◌∙◌, ap, subst, arith}
+use Rattle.std.proofs.Common.{◌≡◌, ℕ, ◌+◌, ◌-◌, List, [], ◌∷◌, ◌++◌, Bool, true, false, cond, refl, sym, ◌∙◌, ap, subst, arith}
 use Rattle.std.specs.Prelude.{ℤ, int_le, bytes_eq, Option, Some, None, unwrap_or}
 use Rattle.std.proofs.lemmas.Int.{ints}
 use Rattle.std.specs.Cmp.Lexicographic.{bytes_decides}
@@ -10,7 +10,7 @@ use Rattle.tab_cells.specs.Written.{TimedUpdate, records_of}
 use Rattle.tab_history.specs.Changes.{Change, UserMade, UserDropped, AuthsSet, SystemGiven, SystemTaken, TableGiven, TableTaken, TableMade, TableDropped, ConstraintsSet, Written}
 use Rattle.tab_history.specs.Held.{floor_of, RefinesTable}
 use Rattle.tab_history.specs.Histories.{World}
-use Rattle.tab_history.specs.Readings.{has_user, held_auths, has_system_right, has_table_right, constrained, settings_of, next_number, updates_of}
+use Rattle.tab_history.specs.Readings.{has_user, user_count, held_auths, has_system_right, has_table_right, table_count, constrained, settings_of, next_number, updates_of}
 use Rattle.tab_history.specs.Settings.{Settings, made_with}
 use Rattle.tab_history.specs.Refinement.{Refines}
 use Rattle.tab_history.proofs.Holds.{holds_nothing, holds_higher, holds_beside, holds_written}
@@ -26,6 +26,18 @@ module _ (a b : Base) (i j : List Change) where
   unfolding next_number
   next_more e (Written s row ps) = ap (λ n. n + 1) e
   next_more e _ = e
+
+  users_more : user_count a i ≡ user_count b j → (x : Change) → user_count a (x ∷ i) ≡ user_count b (x ∷ j)
+  unfolding user_count
+  users_more e (UserMade m) = ap (λ n. n + 1) e
+  users_more e (UserDropped m) = ap (λ n. n - 1) e
+  users_more e _ = e
+
+  table_count_more : table_count a i ≡ table_count b j → (x : Change) → table_count a (x ∷ i) ≡ table_count b (x ∷ j)
+  unfolding table_count
+  table_count_more e (TableMade s time v) = ap (λ n. n + 1) e
+  table_count_more e (TableDropped s) = ap (λ n. n - 1) e
+  table_count_more e _ = e
 
   known_more : (n : List ℕ) → has_user a i n ≡ has_user b j n → (x : Change) → has_user a (x ∷ i) n ≡ has_user b (x ∷ j) n
   unfolding has_user
@@ -135,6 +147,8 @@ add_one v w x fit h = record {
   reads = record {
     clock = h.reads.clock;
     next = next_more v.base w.base v.changes w.changes h.reads.next x;
+    users = users_more v.base w.base v.changes w.changes h.reads.users x;
+    tables = table_count_more v.base w.base v.changes w.changes h.reads.tables x;
     known = λ n. known_more v.base w.base v.changes w.changes n (h.reads.known n) x;
     auths = λ n. auths_more v.base w.base v.changes w.changes n (h.reads.auths n) x;
     system = λ n p. system_more v.base w.base v.changes w.changes n p (h.reads.system n p) x;
@@ -153,6 +167,8 @@ later v w now le h = record {
   reads = record {
     clock = refl;
     next = h.reads.next;
+    users = h.reads.users;
+    tables = h.reads.tables;
     known = h.reads.known;
     auths = h.reads.auths;
     system = h.reads.system;

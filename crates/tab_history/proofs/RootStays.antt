@@ -15,7 +15,7 @@ use Rattle.tab_history.specs.Changes.{Change, UserMade, UserDropped, SystemGiven
 use Rattle.tab_history.specs.Readings.{has_user, has_system_right, may_system}
 use Rattle.tab_history.specs.Checks.{Caller, standing, exists_in, user_named, is_grant, refusal_of}
 use Rattle.tab_history.specs.Histories.{Entry, World, clock_of, clock_at, journal}
-use Rattle.tab_history.specs.Legal.{IsAnswer, IsExhausted, Legal, LegalAlone}
+use Rattle.tab_history.specs.Legal.{IsAnswer, LacksMemory, Legal, LegalAlone}
 use Rattle.tab_history.specs.Rooted.{IsRooted, RootStays}
 use Rattle.tab_history.proofs.Options.{or_else_left, or_else_right}
 use Rattle.tab_history.proofs.Accepted.{own_pass, of_legal}
@@ -101,7 +101,7 @@ act_keeps c there now user (Revoke n (OfTable p t)) e = (tt, tt)
 act_keeps c there now user (Rights t) e = tt
 
 -- ---- histories
-entry_keeps : (w : World) (es own : List Entry) (e : Entry) → IsAnswer w es own e.step e.reply ⊎ IsExhausted e.reply → IsRooted w.base (journal w es) → IsRooted w.base (journal w (e ∷ es))
+entry_keeps : (w : World) (es own : List Entry) (e : Entry) → IsAnswer w es own e.step e.reply ⊎ LacksMemory e.step e.reply → IsRooted w.base (journal w es) → IsRooted w.base (journal w (e ∷ es))
 unfolding journal
 entry_keeps w es own e a h = all_more w.base (journal w es) _ (of_legal w es own e.step e.reply KeepAll tt (λ f passed. act_keeps (standing w.base (journal w es) f.user) (exists_in w.base (journal w es) (user_named f.act)) (clock_at (clock_of w es) e.step) f.user f.act passed) a) h
 

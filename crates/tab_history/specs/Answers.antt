@@ -1,19 +1,19 @@
 -- The answer to each step, and what the step does.
-use Rattle.std.specs.Prelude.{ℕ, ℤ, List, [], ◌∷◌, Bool, true, false, ◌&&◌, cond, Option, Some, None, length}
+use Rattle.std.specs.Prelude.{ℕ, ℤ, List, [], ◌∷◌, Bool, true, false, ◌&&◌, cond, Option, Some, None, length, nat_le}
 use Rattle.tab_key.specs.Records.{Record, Cell}
 use Rattle.tab_history.specs.Settings.{Settings}
 use Rattle.tab_history.specs.Bases.{Base}
 use Rattle.tab_history.specs.Changes.{Change, changes_of}
-use Rattle.tab_history.specs.Readings.{settings_of, updates_of}
+use Rattle.tab_history.specs.Readings.{user_count, table_count, settings_of, next_number, updates_of}
 use Rattle.tab_cells.specs.Cells.{Query, cells}
 use Rattle.tab_history.specs.Checks.{Caller, standing, refusal_of, user_named, exists_in}
 use Rattle.tab_history.specs.OwnRights.{own_rights}
 use Rattle.tab_history.specs.Sessions.{Move, Opening, Taking, Closing, is_full, session_in}
 use Rattle.tab_cells.specs.SessionState.{SessionState, batch}
-use Rattle.tab_key.specs.declared.part.Part.TheVariants.{Sessions}
+use Rattle.tab_key.specs.declared.part.Part.TheVariants.{Sessions, Numbers}
 use Rattle.tab_history.specs.declared.event.Scan.{Scan}
 use Rattle.tab_history.specs.declared.event.Act.{Act}
-use Rattle.tab_history.specs.declared.event.Act.TheVariants.{Open, Rights as AsksRights}
+use Rattle.tab_history.specs.declared.event.Act.TheVariants.{Open, Write, CreateTable, CreateUser, Rights as AsksRights}
 use Rattle.tab_history.specs.declared.event.Step.{Step}
 use Rattle.tab_history.specs.declared.event.Step.TheVariants.{Event, Next, Close}
 use Rattle.tab_history.specs.declared.reply.Refusal.{Refusal}
@@ -57,9 +57,20 @@ abbrev pub told : Option Refusal → Told → Told
 told None reply = reply
 told (Some r) reply = Refused r
 
+-- Whether the numbers are used up that the act needs: a write's would be 2^64 - 1, or there are 2^32 - 1 tables or users already.
+abbrev pub are_used_up : Base → List Change → Act → Bool
+are_used_up b j (Write t m) = nat_le 18446744073709551615 (next_number b j)
+are_used_up b j (CreateTable t time n) = nat_le 4294967295 (table_count b j)
+are_used_up b j (CreateUser n) = nat_le 4294967295 (user_count b j)
+are_used_up b j _ = false
+
+-- the reply to what isn't refused by its checks: where the numbers are used up it is refused for that, last of all
+abbrev pub numbered : Bool → Told → Told
+numbered used_up reply = cond used_up (Refused (TooLarge Numbers)) reply
+
 -- the answer to an event; now is the clock, with the event's own moment in it
 abbrev pub event_answer : Base → List Change → ℤ → List ℕ → Act → Told
-event_answer b j now user act = told (refusal_of (standing b j user) (exists_in b j (user_named act)) now user act) (granted (standing b j user) act)
+event_answer b j now user act = told (refusal_of (standing b j user) (exists_in b j (user_named act)) now user act) (numbered (are_used_up b j act) (granted (standing b j user) act))
 
 -- whether the event opens a session
 abbrev pub is_open : Act → Bool

@@ -4,7 +4,7 @@ use Rattle.tab_history.specs.Bases.{Base}
 use Rattle.tab_history.specs.Sessions.{is_full}
 use Rattle.tab_history.specs.Answers.{is_open, session_list}
 use Rattle.tab_history.specs.Histories.{Entry, World, world_of, world_after, journal, moves_of}
-use Rattle.tab_history.specs.Legal.{IsAnswer, IsExhausted, LegalAlone}
+use Rattle.tab_history.specs.Legal.{IsAnswer, LacksMemory, LegalAlone}
 use Rattle.tab_history.specs.Refinement.{Refines, IsSound, IsAlike}
 use Rattle.tab_history.specs.declared.event.Act.{Act}
 use Rattle.tab_history.specs.declared.event.Step.{Step}
@@ -31,7 +31,7 @@ HasRoom w own (Close user slot) = ⊥
 -- what the step means after the entries h of w, for which the core stood before
 pub record GoesOnFrom (w : World) (h : List Entry) (before : Base) (e : Entry) (after : Base) : Type 0 where
   -- the reply is an answer, whichever sessions were opened, if there is room
-  pub answers : (own : List Entry) → HasRoom w own e.step → IsAnswer w h own e.step e.reply ⊎ IsExhausted e.reply
+  pub answers : (own : List Entry) → HasRoom w own e.step → IsAnswer w h own e.step e.reply ⊎ LacksMemory e.step e.reply
   -- the next core refines the history with this entry
   pub refines : Refines (world_of after) (world_after w (e ∷ h))
   -- a session opened on what the core held shows what one opened on that history does

@@ -1,9 +1,10 @@
 -- Worked examples, computed: lists of steps from a new core, and the replies to them that say more than that all went well.
-use Rattle.std.specs.Prelude.{◌≡◌, ℕ, ℤ, pos, List, [], ◌∷◌, ◌++◌, Bool, true, false, cond, Option, Some, None, codes, reverse, replicate, refl}
+use Rattle.std.specs.Prelude.{◌≡◌, ℕ, ◌-◌, ℤ, pos, nat_le, length, List, [], ◌∷◌, ◌++◌, Bool, true, false, cond, Option, Some, None, codes, reverse, replicate, refl}
 use Rattle.tab_key.specs.Records.{Cell}
 use Rattle.tab_key.specs.Order.{column_cmp, key_cmp, place_cmp, newer_cmp}
 use Rattle.tab_key.specs.Kept.{same_column, hides, is_deleted, outranks, is_kept}
 use Rattle.tab_key.specs.declared.key.Kind.TheVariants.{Put, Delete}
+use Rattle.tab_key.specs.declared.part.Part.TheVariants.{Numbers}
 use Rattle.tab_key.specs.declared.range.Bounds.{Bounds}
 use Rattle.tab_key.specs.declared.range.Bound.TheVariants.{Inclusive, Exclusive}
 use Rattle.tab_label.specs.Grammar.{is_term_byte}
@@ -13,15 +14,16 @@ use Rattle.tab_mutation.specs.Mutations.{Update}
 use Rattle.tab_mutation.specs.Shape.{shape_error}
 use Rattle.tab_rules.specs.Verdict.{violations}
 use Rattle.tab_policy.specs.Roots.{root}
-use Rattle.tab_policy.specs.State.{user_exists, auths_of, system_granted, table_granted}
+use Rattle.tab_policy.specs.State.{user_exists, user_count as policy_users, auths_of, system_granted, table_granted}
 use Rattle.tab_history.specs.Settings.{least, made_with}
 use Rattle.tab_history.specs.Bases.{Base, new_policy, new_core}
-use Rattle.tab_history.specs.Readings.{has_user, held_auths, has_system_right, has_table_right, settings_of, next_number, updates_of}
+use Rattle.tab_history.specs.Changes.{UserDropped, TableDropped}
+use Rattle.tab_history.specs.Readings.{has_user, user_count, held_auths, has_system_right, has_table_right, table_count, settings_of, next_number, updates_of}
 use Rattle.tab_cells.specs.Written.{records_of}
 use Rattle.tab_cells.specs.Cells.{matches, cells}
 use Rattle.tab_history.specs.Checks.{standing, malformed, stamped, outdated, refusal_of}
 use Rattle.tab_history.specs.Sessions.{opened, closed, session_in}
-use Rattle.tab_history.specs.Answers.{Told, answer, session_list}
+use Rattle.tab_history.specs.Answers.{Told, are_used_up, answer, session_list}
 use Rattle.tab_history.specs.Histories.{Entry, world_of, clock_of, journal, moves_of}
 use Rattle.tab_history.specs.Runs.{played}
 use Rattle.tab_rules.specs.declared.constraint.Constraint.TheVariants.{Visibility}
@@ -35,7 +37,7 @@ use Rattle.tab_history.specs.declared.event.Act.{Act}
 use Rattle.tab_history.specs.declared.event.Act.TheVariants as act
 use Rattle.tab_history.specs.declared.event.Step.{Step}
 use Rattle.tab_history.specs.declared.event.Step.TheVariants.{Next, Close}
-use Rattle.tab_history.specs.declared.reply.Refusal.TheVariants.{UnknownUser, NoTable, PermissionDenied, BadAuthorizations, MalformedVisibility, ConstraintViolation, TimestampNotAllowed, EmptyMutation, TableExists, UserExists, NoUser, BadRange, NoSession, RootFixed, GrantInvalid, BelowHorizon}
+use Rattle.tab_history.specs.declared.reply.Refusal.TheVariants.{UnknownUser, NoTable, PermissionDenied, BadAuthorizations, MalformedVisibility, ConstraintViolation, TimestampNotAllowed, EmptyMutation, TooLarge, TableExists, UserExists, NoUser, BadRange, NoSession, RootFixed, GrantInvalid, BelowHorizon}
 use Rattle.tab_history.specs.declared.reply.Reply.TheVariants.{Done, Refused, Opened, Batch, Rights}
 use Rattle.tab_history.specs.ExampleWords.{t, r, f, q, v, bob, everywhere, asks, as_root, as_bob}
 
@@ -60,7 +62,7 @@ replies steps = replies_from new_core steps
 
 -- names what the examples look into
 everything : ℕ
-unfolding is_term_byte step ending reads_on label_of column_cmp key_cmp place_cmp newer_cmp same_column hides is_deleted outranks is_kept matches cells user_exists auths_of system_granted table_granted has_user held_auths has_system_right has_table_right settings_of next_number records_of updates_of shape_error malformed stamped outdated violations standing refusal_of opened closed session_in answer session_list clock_of journal moves_of
+unfolding is_term_byte step ending reads_on label_of column_cmp key_cmp place_cmp newer_cmp same_column hides is_deleted outranks is_kept matches cells user_exists policy_users auths_of system_granted table_granted has_user user_count held_auths has_system_right has_table_right table_count settings_of next_number records_of updates_of shape_error malformed stamped outdated violations standing refusal_of opened closed session_in answer session_list clock_of journal moves_of
 everything = 0
 
 -- ---- steps, updates and cells of the examples
@@ -401,3 +403,35 @@ from_base : replies_from with_table (scan [] 0 ++ as_root (writes r (put [] v (S
     ≡ Batch (cell r [] (pos 3) (codes "old") ∷ []) ∷ Refused (BelowHorizon 1) ∷ Batch (cell r [] (pos 10) v ∷ cell r [] (pos 3) (codes "old") ∷ []) ∷ []
 unfolding everything
 from_base = refl
+
+-- ---- numbers that are used up
+-- a core whose table t root may read and write, and whose next write would get this number
+abbrev numbered_from : ℕ → Base
+numbered_from n = record with_table { next = n }
+
+-- the last number is given
+last_number : replies_from (numbered_from 18446744073709551614) (as_root (writes r (put [] v (Some (pos 10)) ∷ [])) ∷ as_root (writes r (put [] v (Some (pos 11)) ∷ [])) ∷ scan [] 0)
+    ≡ Refused (TooLarge Numbers) ∷ Batch (cell r [] (pos 10) v ∷ cell r [] (pos 3) (codes "old") ∷ []) ∷ []
+unfolding everything
+last_number = refl
+
+-- then a write is refused, a malformed one for its label first, and a table is dropped and made as before
+no_number : replies_from (numbered_from 18446744073709551615) (as_root (writes r (put (codes "a&") v (Some (pos 10)) ∷ [])) ∷ as_root (writes r (put [] v (Some (pos 10)) ∷ [])) ∷ as_root (act.DropTable t) ∷ make ∷ scan [] 0)
+    ≡ Refused (MalformedVisibility 0 2) ∷ Refused (TooLarge Numbers) ∷ Batch [] ∷ []
+unfolding everything
+no_number = refl
+
+-- where there are 2^32 - 1 tables none is made, and once one was dropped one is
+no_table : (b : Base) → length b.tables ≡ 4294967295 → (are_used_up b [] (act.CreateTable t Any 1) ≡ true) × (are_used_up b (TableDropped t ∷ []) (act.CreateTable t Any 1) ≡ false)
+unfolding everything
+no_table b full = (λ i. nat_le 4294967295 (full i), λ i. nat_le 4294967295 (full i - 1))
+
+-- and so it is with users
+no_user : (b : Base) → policy_users b.policy ≡ 4294967295 → (are_used_up b [] (act.CreateUser bob) ≡ true) × (are_used_up b (UserDropped bob ∷ []) (act.CreateUser bob) ≡ false)
+unfolding everything
+no_user b full = (λ i. nat_le 4294967295 (full i), λ i. nat_le 4294967295 (full i - 1))
+
+-- a new core has one user and no table; making and dropping them counts
+counted : (user_count new_core [] ≡ 1) × (table_count new_core [] ≡ 0) × (user_count new_core (journal (world_of new_core) (played (world_of new_core) [] (make ∷ make_bob ∷ as_root (act.CreateUser bob) ∷ as_root (act.DropTable t) ∷ make ∷ []))) ≡ 2) × (table_count new_core (journal (world_of new_core) (played (world_of new_core) [] (make ∷ make_bob ∷ as_root (act.DropTable t) ∷ make ∷ []))) ≡ 1)
+unfolding everything
+counted = (refl, refl, refl, refl)

@@ -1,9 +1,12 @@
--- Which histories are legal: each reply is the answer to its step.
-use Rattle.std.specs.Prelude.{◌≡◌, ◌⊎◌, List, [], ◌∷◌}
+-- Which histories are legal: each reply is the answer to its step, unless memory lacked for it.
+use Rattle.std.specs.Prelude.{◌≡◌, ◌⊎◌, List, [], ◌∷◌, Bool, true, false}
 use Rattle.tab_history.specs.Answers.{Told, answer}
 use Rattle.tab_history.specs.Histories.{Entry, World, clock_of, clock_at, journal, user_of, moves_of}
 use Rattle.tab_key.specs.declared.part.Part.TheVariants.{Numbers}
+use Rattle.tab_history.specs.declared.event.Act.{Act}
+use Rattle.tab_history.specs.declared.event.Act.TheVariants.{DropTable, SetConstraints, DropUser, SetAuths, Revoke}
 use Rattle.tab_history.specs.declared.event.Step.{Step}
+use Rattle.tab_history.specs.declared.event.Step.TheVariants.{Event, Next, Close}
 use Rattle.tab_history.specs.declared.reply.Refusal.TheVariants.{NoMemory, TooLarge}
 use Rattle.tab_history.specs.declared.reply.Reply.TheVariants.{Refused}
 
@@ -11,21 +14,52 @@ use Rattle.tab_history.specs.declared.reply.Reply.TheVariants.{Refused}
 abbrev pub IsAnswer : World → List Entry → List Entry → Step → Told → Type 0
 IsAnswer w es own step reply = reply ≡ answer w.base (journal w es) (moves_of w (user_of step) own) (clock_at (clock_of w es) step) step
 
--- memory, and the numbers of mutations, may run out at any step
-abbrev pub IsExhausted : Told → Type 0
-IsExhausted reply = (reply ≡ Refused NoMemory) ⊎ (reply ≡ Refused (TooLarge Numbers))
+-- ---- who may lack memory
+-- whether the act takes memory: those don't that only take away, or put what was handed in in place of what is there
+abbrev pub takes_memory : Act → Bool
+takes_memory (DropTable t) = false
+takes_memory (SetConstraints t cs) = false
+takes_memory (DropUser n) = false
+takes_memory (SetAuths n auths) = false
+takes_memory (Revoke n p) = false
+takes_memory _ = true
 
--- each reply of a run is an answer
+-- whether memory may lack for the step
+abbrev pub may_lack : Step → Bool
+may_lack (Event e) = takes_memory e.act
+may_lack (Next user slot n) = true
+may_lack (Close user slot) = false
+
+-- memory lacked for a step that takes some
+abbrev pub LacksMemory : Step → Told → Type 0
+LacksMemory step reply = (may_lack step ≡ true) × (reply ≡ Refused NoMemory)
+
+-- ---- histories
+-- each reply of a run is an answer, unless memory lacked
 abbrev pub Legal : World → List Entry → Type 0
 Legal w [] = Unit {0}
-Legal w (e ∷ es) = Legal w es × (IsAnswer w es es e.step e.reply ⊎ IsExhausted e.reply)
+Legal w (e ∷ es) = Legal w es × (IsAnswer w es es e.step e.reply ⊎ LacksMemory e.step e.reply)
 
 -- the same of events that stand alone, in no one's list of sessions
 abbrev pub LegalAlone : World → List Entry → Type 0
 LegalAlone w [] = Unit {0}
-LegalAlone w (e ∷ es) = LegalAlone w es × (IsAnswer w es [] e.step e.reply ⊎ IsExhausted e.reply)
+LegalAlone w (e ∷ es) = LegalAlone w es × (IsAnswer w es [] e.step e.reply ⊎ LacksMemory e.step e.reply)
 
--- nothing ran out
+-- memory never lacked
+abbrev pub HasMemory : List Entry → Type 0
+HasMemory [] = Unit {0}
+HasMemory (e ∷ es) = HasMemory es × ¬ (e.reply ≡ Refused NoMemory)
+
+-- where it lacked, it may lack
+abbrev pub LacksWhereItMay : List Entry → Type 0
+LacksWhereItMay [] = Unit {0}
+LacksWhereItMay (e ∷ es) = LacksWhereItMay es × (e.reply ≡ Refused NoMemory → may_lack e.step ≡ true)
+
+-- memory lacked, or numbers are used up
+abbrev pub IsExhausted : Told → Type 0
+IsExhausted reply = (reply ≡ Refused NoMemory) ⊎ (reply ≡ Refused (TooLarge Numbers))
+
+-- nothing ran out, neither memory nor numbers
 abbrev pub IsAmple : List Entry → Type 0
 IsAmple [] = Unit {0}
 IsAmple (e ∷ es) = IsAmple es × ¬ (IsExhausted e.reply)

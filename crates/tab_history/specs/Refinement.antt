@@ -1,11 +1,11 @@
 -- When one world refines another: the same clock, users, rights and tables, and of each table held records that refine its updates.
 use Rattle.std.specs.Prelude.{◌≡◌, ℕ, ◌<◌, ◌↔◌, pos, List, [], false, Some, Contains, bytes_eq}
 use Rattle.tab_policy.specs.Roots.{root}
-use Rattle.tab_policy.specs.State.{user_exists, auths_of, system_granted, table_granted}
+use Rattle.tab_policy.specs.State.{user_exists, user_count as policy_users, auths_of, system_granted, table_granted}
 use Rattle.tab_key.specs.Records.{Record}
 use Rattle.tab_key.specs.Sorted.{IsDistinct}
 use Rattle.tab_history.specs.Settings.{Settings}
-use Rattle.tab_history.specs.Readings.{has_user, held_auths, has_system_right, has_table_right, settings_of, next_number, updates_of}
+use Rattle.tab_history.specs.Readings.{has_user, user_count, held_auths, has_system_right, has_table_right, table_count, settings_of, next_number, updates_of}
 use Rattle.tab_cells.specs.Cells.{Query, HasOneAnswer}
 use Rattle.tab_history.specs.Bases.{Base, new_core}
 use Rattle.tab_history.specs.Histories.{Entry, World, world_of, world_after, moves_of}
@@ -14,10 +14,12 @@ use Rattle.tab_history.specs.Held.{floor_of, RefinesTable}
 use Rattle.tab_policy.specs.declared.permission.SystemPermission.{SystemPermission}
 use Rattle.tab_policy.specs.declared.permission.TablePermission.{TablePermission}
 
--- the clock, the next number, users, rights and settings read the same in both
+-- the clock, the next number, users, rights and settings read the same in both, and so do the numbers of users and tables
 pub record ReadsAlike (v w : World) : Type 0 where
   pub clock : v.clock ≡ w.clock
   pub next : next_number v.base v.changes ≡ next_number w.base w.changes
+  pub users : user_count v.base v.changes ≡ user_count w.base w.changes
+  pub tables : table_count v.base v.changes ≡ table_count w.base w.changes
   pub known : (n : List ℕ) → has_user v.base v.changes n ≡ has_user w.base w.changes n
   pub auths : (n : List ℕ) → held_auths v.base v.changes n ≡ held_auths w.base w.changes n
   pub system : (n : List ℕ) (p : SystemPermission) → has_system_right v.base v.changes n p ≡ has_system_right w.base w.changes n p
@@ -72,6 +74,7 @@ pub record IsNewCore (b : Base) : Type 0 where
   pub next : b.next ≡ 0
   pub tables : b.tables ≡ []
   pub users : (n : List ℕ) → user_exists b.policy n ≡ bytes_eq root n
+  pub count : policy_users b.policy ≡ 1
   pub auths : (n : List ℕ) → auths_of b.policy n ≡ []
   pub system : (n : List ℕ) (p : SystemPermission) → system_granted b.policy n p ≡ bytes_eq root n
   pub rights : (n : List ℕ) (p : TablePermission) (t : List ℕ) → table_granted b.policy n p t ≡ false

@@ -1,8 +1,8 @@
--- Each list of steps has a legal history, and but for want of memory or numbers just one.
+-- Each list of steps has a legal history, and but for want of memory just one.
 use Rattle.std.specs.Prelude.{◌≡◌, List, [], ◌∷◌}
 use Rattle.tab_history.specs.Answers.{Told, answer}
 use Rattle.tab_history.specs.Histories.{Entry, World, clock_of, clock_at, journal, user_of, moves_of, world_after, steps_of}
-use Rattle.tab_history.specs.Legal.{Legal, IsAmple}
+use Rattle.tab_history.specs.Legal.{Legal, LegalAlone, HasMemory, LacksWhereItMay}
 use Rattle.tab_key.specs.declared.part.Part.TheVariants.{Sessions}
 use Rattle.tab_history.specs.declared.event.Step.{Step}
 use Rattle.tab_history.specs.declared.event.Step.TheVariants.{Event, Next, Close}
@@ -23,10 +23,15 @@ played w es (step ∷ steps) = played w (record { step = step; reply = answer_to
 abbrev pub EveryRunIsAnswered : Type 0
 EveryRunIsAnswered = (w : World) (steps : List Step) → (es : List Entry) × Legal w es × (steps_of es ≡ steps)
 
--- ---- The law: it has just one in which nothing ran out.
--- two legal histories of the same steps in which nothing ran out are one
+-- ---- The law: it has just one in which memory never lacked.
+-- two legal histories of the same steps in which memory never lacked are one
 abbrev pub OneHistory : Type 0
-OneHistory = (w : World) (h k : List Entry) → Legal w h → Legal w k → IsAmple h → IsAmple k → steps_of h ≡ steps_of k → h ≡ k
+OneHistory = (w : World) (h k : List Entry) → Legal w h → Legal w k → HasMemory h → HasMemory k → steps_of h ≡ steps_of k → h ≡ k
+
+-- ---- The law: memory lacks only where it may.
+-- in each legal history, also of events that stand alone
+abbrev pub MemoryLacksWhereItMay : Type 0
+MemoryLacksWhereItMay = (w : World) (es : List Entry) → (Legal w es → LacksWhereItMay es) × (LegalAlone w es → LacksWhereItMay es)
 
 -- ---- The law: what is no event leaves all as it was.
 -- no step of a session, nor what was refused for memory or by the list of sessions, is an event

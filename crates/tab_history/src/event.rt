@@ -32,23 +32,26 @@ pub struct Scan {
 }
 
 /// What an event asks. An unknown caller, a table that doesn't exist and a missing permission refuse it before the checks named here.
+/// `DropTable`, `SetConstraints`, `DropUser`, `SetAuths` and `Revoke` take no memory; for the others it may lack.
 #[derive(Clone, Drop)]
 pub enum Act {
     /// Open a session on a scan, which answers from that moment for good. Refused for too many columns or authorizations, for a bad
     /// range, for an authorization that the caller doesn't hold, and before all else where the caller's list of sessions is full.
     Open(Scan),
     /// Apply the mutation to the table, all its updates together or none. Refused for the mutation's shape, a malformed label, a
-    /// timestamp where the table gives them or below its horizon, and for what the table's constraints say.
+    /// timestamp where the table gives them or below its horizon, for what the table's constraints say, and last of all where 2^64 - 1
+    /// writes were done.
     Write(Name, Mutation),
     /// Make a table with this time mode and number of versions. The caller gets its five permissions. Refused where there is
-    /// a table of the name.
+    /// a table of the name, and last of all where there are 2^32 - 1 tables.
     CreateTable(Name, TimeMode, Versions),
     /// Take the table away with its cells and all rights on it. A table made under its name later begins with none of them. Sessions
     /// that were opened on it go on.
     DropTable(Name),
     /// Set which constraints the table has, in place of those that it had. (Accumulo user manual: constraints)
     SetConstraints(Name, ConstraintSet),
-    /// Make a user without rights and authorizations, whatever a dropped user of the name had. Refused where there is a user of the name.
+    /// Make a user without rights and authorizations, whatever a dropped user of the name had. Refused where there is a user of the name,
+    /// and last of all where there are 2^32 - 1 users.
     CreateUser(Name),
     /// Take the user away with his rights and authorizations; his sessions go on. Refused where there is no such user, and for root.
     DropUser(Name),

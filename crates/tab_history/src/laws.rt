@@ -4,7 +4,7 @@ ghost use Rattle.tab_history.specs.Lives.{LivesAreApart};
 ghost use Rattle.tab_history.specs.Rooted.{RootStays};
 ghost use Rattle.tab_history.specs.Refinement.{SameHistories, SameEvents, RefinementIsTransitive, SoundRefinesItself, NewCoreIsSound, NewCoreRefines, RefinementIsSound, AlikeRefines, AnswersAreOne};
 ghost use Rattle.tab_history.specs.Chains.{RightStep, GoesOn, ChainsRefine};
-ghost use Rattle.tab_history.specs.Runs.{EveryRunIsAnswered, OneHistory, Unmoved};
+ghost use Rattle.tab_history.specs.Runs.{EveryRunIsAnswered, OneHistory, MemoryLacksWhereItMay, Unmoved};
 
 /// What a user is told of his rights has just the permissions that he has, and his authorizations.
 pub fn rights_are_told()
@@ -26,9 +26,14 @@ pub fn every_run_is_answered()
     ensures { EveryRunIsAnswered }
 {}
 
-/// Two legal histories of the same steps in which neither memory nor numbers ran out are one.
+/// Two legal histories of the same steps in which memory never lacked are one.
 pub fn one_history()
     ensures { OneHistory }
+{}
+
+/// In each legal history memory lacks only for steps that may take some.
+pub fn memory_lacks_where_it_may()
+    ensures { MemoryLacksWhereItMay }
 {}
 
 /// What is no event leaves users, rights, tables and the clock as they were.

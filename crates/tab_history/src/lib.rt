@@ -24,9 +24,9 @@ mod versions;
 pub use event::{Act, Event, Scan, Step, TimeMode, copied};
 pub use laws::{
     alike_refines, answers_are_one, chains_refine, every_run_is_answered, goes_on, lives_are_apart,
-    new_core_is_sound, new_core_refines, one_history, refinement_is_sound,
-    refinement_is_transitive, right_step, rights_are_told, root_stays, same_events, same_histories,
-    sound_refines_itself, unmoved,
+    memory_lacks_where_it_may, new_core_is_sound, new_core_refines, one_history,
+    refinement_is_sound, refinement_is_transitive, right_step, rights_are_told, root_stays,
+    same_events, same_histories, sound_refines_itself, unmoved,
 };
 pub use reply::{Refusal, Reply};
 pub use rights::Rights;

@@ -24,7 +24,8 @@ pub enum Refusal {
     TimestampNotAllowed(u32),
     /// The mutation has no update.
     EmptyMutation,
-    /// A part is over its limit, which [`Part`] names; `Part::Sessions` is a full list of sessions, `Part::Numbers` numbers that are used up.
+    /// A part is over its limit, which [`Part`] names; `Part::Sessions` is a full list of sessions. `Part::Numbers` says, last of all
+    /// checks, that the numbers of writes, tables or users are used up.
     TooLarge(Part),
     /// There is a table of this name already.
     TableExists(Name),
@@ -36,7 +37,7 @@ pub enum Refusal {
     BadRange,
     /// There is no session in this slot of the user.
     NoSession(u32),
-    /// There was no memory; the step had no effect at all.
+    /// There was no memory for a step that takes some; it had no effect at all.
     NoMemory,
     /// Root can't be dropped, and its system permissions don't change.
     RootFixed,

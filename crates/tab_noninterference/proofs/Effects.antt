@@ -18,7 +18,7 @@ use Rattle.tab_history.specs.Changes.{Change, changes_of}
 use Rattle.tab_history.specs.Readings.{base_table, base_records, has_user, held_auths, settings_of, updates_of}
 use Rattle.tab_history.specs.Checks.{standing, denial, action_of, too_many_auths, refusal_of, user_named, exists_in}
 use Rattle.tab_history.specs.Sessions.{Move, Opening, is_full}
-use Rattle.tab_history.specs.Answers.{Told, told_opened, answer, event_answer, told, granted, is_open, query_of, listed, session_list, changes_by, moves_by}
+use Rattle.tab_history.specs.Answers.{Told, told_opened, told, granted, is_open, query_of, listed, session_list, changes_by, moves_by}
 use Rattle.tab_history.specs.Histories.{user_of}
 use Rattle.tab_history.specs.declared.event.Scan.{Scan}
 use Rattle.tab_history.specs.declared.event.Act.{Act}
@@ -29,6 +29,7 @@ use Rattle.tab_history.specs.declared.reply.Refusal.{Refusal}
 use Rattle.tab_history.specs.declared.reply.Refusal.TheVariants.{BadAuthorizations, TooLarge, BadRange}
 use Rattle.tab_history.specs.declared.reply.Reply.TheVariants.{Done, Refused, Opened, Batch}
 use Rattle.tab_history.proofs.Options.{or_else_left, or_else_right, unmapped}
+use Rattle.tab_noninterference.proofs.Ample.{ample_event, ample_answer}
 use Rattle.tab_noninterference.specs.Given.{auths_given}
 use Rattle.tab_noninterference.specs.Concerns.{only_if, visible}
 use Rattle.tab_noninterference.specs.Hearing.{is_covered_act, heard_of}
@@ -103,19 +104,19 @@ module _ (held : List (List ℕ)) (b : Base) (user : List ℕ) (low : (t : List 
 
   -- over both lists of changes the step does the same
   abbrev Same : Step → Type 0
-  Same step = SameEffect held c b user now step his j (answer c his moves now step) (answer b j moves now step)
+  Same step = SameEffect held c b user now step his j (ample_answer c his moves now step) (ample_answer b j moves now step)
 
-  answer_visible : (act : Act) → exists_in c his (user_named act) ≡ exists_in b j (user_named act) → event_answer c his now user act ≡ event_answer b j now user act
+  answer_visible : (act : Act) → exists_in c his (user_named act) ≡ exists_in b j (user_named act) → ample_event c his now user act ≡ ample_event b j now user act
   answer_visible act e = λ i. told (refusal_of (standing_visible held b user j i) (e i) now user act) (granted (standing_visible held b user j i) act)
 
   -- an act without a second user that opens no session
   plain_effect : (moment : ℤ) (act : Act) → user_named act ≡ None → is_open act ≡ false → ((x : Told) → heard_of c his (asks user moment act) x ≡ heard_of b j (asks user moment act) x) → Same (asks user moment act)
-  unfolding answer
+  unfolding ample_answer
   plain_effect moment act e o h = same_reply held c b user now moment act his j _ _ (rw (o, e) (λ i. told (refusal_of (standing_visible held b user j i) true now user act) (granted (standing_visible held b user j i) act))) o h
 
   -- an act on a user
   named_effect : (moment : ℤ) (act : Act) (n : List ℕ) → user_named act ≡ Some n → is_open act ≡ false → is_covered_act act ≡ false → (bytes_eq n user ≡ false → visible held user (changes_of now user act) ≡ []) → Same (asks user moment act)
-  unfolding answer
+  unfolding ample_answer
   named_effect moment act n e o uncovered unseen = go (bytes_eq n user) refl
     where
       go : (v : Bool) → bytes_eq n user ≡ v → Same (asks user moment act)
@@ -152,14 +153,14 @@ module _ (held : List (List ℕ)) (b : Base) (user : List ℕ) (low : (t : List 
         by_settings (Some s) = cells_visible held b low user j scan.table s.versions (query_of scan) more
 
     open_effect : Same (asks user moment (Open scan))
-    unfolding answer
+    unfolding ample_answer
     open_effect = by_room (is_full moves)
       where
         by_refusal : (o : Option Refusal) → refused ≡ o → SameEffect held c b user now (asks user moment (Open scan)) his j (told o told_opened) (told o told_opened)
         by_refusal (Some r) e = record { changes = refl; moves = refl; heard = refl }
         by_refusal None e = record { changes = refl; moves = ap (λ l. Opening l ∷ []) (same_list e); heard = ap (λ l. record { reply = told_opened; list = l } ∷ []) (same_list e) }
 
-        by_room : (v : Bool) → SameEffect held c b user now (asks user moment (Open scan)) his j (cond v (Refused (TooLarge Sessions)) (event_answer c his now user (Open scan))) (cond v (Refused (TooLarge Sessions)) (event_answer b j now user (Open scan)))
+        by_room : (v : Bool) → SameEffect held c b user now (asks user moment (Open scan)) his j (cond v (Refused (TooLarge Sessions)) (ample_event c his now user (Open scan))) (cond v (Refused (TooLarge Sessions)) (ample_event b j now user (Open scan)))
         by_room true = record { changes = refl; moves = refl; heard = refl }
         by_room false = subst (λ o. SameEffect held c b user now (asks user moment (Open scan)) his j (told o told_opened) (told refused told_opened)) (ap (λ s. refusal_of s true now user (Open scan)) (sym (standing_visible held b user j))) (by_refusal refused refl)
 
@@ -183,7 +184,7 @@ module _ (held : List (List ℕ)) (b : Base) (user : List ℕ) (low : (t : List 
   event_effect m (SetAuths n auths) within = named_effect m (SetAuths n auths) n refl refl refl (unseen_one n _)
 
   pub own_effect : (step : Step) → user_of step ≡ user → IsSubset (auths_given b user j) held → Same step
-  unfolding answer
+  unfolding ample_answer
   own_effect (Event e) u within = subst (λ y. Same (asks y e.moment e.act)) (sym u) (event_effect e.moment e.act within)
   own_effect (Next x slot n) u within = record { changes = refl; moves = next_moves c b his j x slot n _; heard = refl }
   own_effect (Close x slot) u within = record { changes = refl; moves = close_moves c b his j x slot _; heard = refl }

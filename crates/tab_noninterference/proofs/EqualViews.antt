@@ -1,5 +1,5 @@
 -- Histories that look alike to a user answer him alike.
-use Rattle.std.proofs.Common.{◌≡◌, ◌⊎◌, ◌&&◌, inl, inr, ℕ, ℤ, pos, List, [], ◌∷◌, ◌++◌, Bool, true, false, cond, refl, sym, ◌∙◌, ap}
+use Rattle.std.proofs.Common.{◌≡◌, ◌⊎◌, ◌&&◌, inl, inr, ℕ, ℤ, pos, List, [], ◌∷◌, ◌++◌, Bool, true, false, cond, refl, sym, ◌∙◌, ap, subst}
 use Rattle.std.specs.Prelude.{Some, None, unwrap_or}
 use Rattle.std.specs.Cmp.Lexicographic.{bytes_decides}
 use Rattle.tab_key.specs.declared.part.Part.TheVariants.{Sessions}
@@ -8,15 +8,16 @@ use Rattle.tab_history.specs.Bases.{Base, new_core}
 use Rattle.tab_history.specs.Changes.{Change}
 use Rattle.tab_history.specs.Readings.{base_table, base_records}
 use Rattle.tab_history.specs.Sessions.{Move, is_full}
-use Rattle.tab_history.specs.Answers.{Told, answer, event_answer, is_open, changes_by, moves_by}
+use Rattle.tab_history.specs.Answers.{Told, is_open, changes_by, moves_by}
 use Rattle.tab_history.specs.Histories.{Entry, World, world_of, clock_of, clock_at, journal, moves_of, is_by, user_of}
-use Rattle.tab_history.specs.Legal.{IsAnswer, Legal, IsAmple, IsExhausted}
+use Rattle.tab_history.specs.Legal.{IsAnswer, Legal, IsAmple, IsExhausted, LacksMemory}
 use Rattle.tab_history.specs.declared.event.Act.{Act}
 use Rattle.tab_history.specs.declared.event.Act.TheVariants.{Open, Write, CreateTable, DropTable, SetConstraints, CreateUser, DropUser, SetAuths, Grant, Revoke, Rights}
 use Rattle.tab_history.specs.declared.event.Step.{Step}
 use Rattle.tab_history.specs.declared.event.Step.TheVariants.{Event, Next, Close}
 use Rattle.tab_history.specs.declared.reply.Refusal.TheVariants.{TooLarge}
 use Rattle.tab_history.specs.declared.reply.Reply.TheVariants.{Refused}
+use Rattle.tab_noninterference.proofs.Ample.{is_ample, ample_event, ample_answer}
 use Rattle.tab_noninterference.specs.Given.{auths_given}
 use Rattle.tab_noninterference.specs.Concerns.{visible}
 use Rattle.tab_noninterference.specs.Views.{clock_shown, own_sight, other_sight, sights, View, view}
@@ -34,14 +35,14 @@ abbrev shown_clock : List Move → ℤ → Step → ℤ
 shown_clock moves clock step = unwrap_or (clock_shown moves (clock_at clock step) step) (pos 0)
 
 -- where the clock isn't shown, the answer doesn't read it
-clock_irrelevant : (b : Base) (j : List Change) (moves : List Move) (clock : ℤ) (step : Step) → answer b j moves (shown_clock moves clock step) step ≡ answer b j moves (clock_at clock step) step
-unfolding answer
+clock_irrelevant : (b : Base) (j : List Change) (moves : List Move) (clock : ℤ) (step : Step) → ample_answer b j moves (shown_clock moves clock step) step ≡ ample_answer b j moves (clock_at clock step) step
+unfolding ample_answer
 clock_irrelevant b j moves clock (Event e) = go (is_open e.act && is_full moves)
   where
     now : ℤ
     now = clock_at clock (Event e)
 
-    go : (v : Bool) → cond v (Refused (TooLarge Sessions)) (event_answer b j (unwrap_or (cond v None (Some now)) (pos 0)) e.user e.act) ≡ cond v (Refused (TooLarge Sessions)) (event_answer b j now e.user e.act)
+    go : (v : Bool) → cond v (Refused (TooLarge Sessions)) (ample_event b j (unwrap_or (cond v None (Some now)) (pos 0)) e.user e.act) ≡ cond v (Refused (TooLarge Sessions)) (ample_event b j now e.user e.act)
     go true = refl
     go false = refl
 clock_irrelevant b j moves clock (Next u slot n) = refl
@@ -79,7 +80,7 @@ module _ (b : Base) (clock : ℤ) (held : List (List ℕ)) (user : List ℕ) (lo
   known es = record { changes = visible held user (journal w es); moves = moves_of w user es; heard = heard user w es }
 
   abbrev answered : Entry → List Entry → Told
-  answered e es = answer b (journal w es) (moves_of w user es) (clock_at (clock_of w es) e.step) e.step
+  answered e es = ample_answer b (journal w es) (moves_of w user es) (clock_at (clock_of w es) e.step) e.step
 
   -- a step of the user's own, replayed over what he knows, leads to what he knows next
   own_step : (e : Entry) (es : List Entry) → user_of e.step ≡ user → e.reply ≡ answered e es → IsSubset (auths_given b user (journal w es)) held
@@ -88,18 +89,18 @@ module _ (b : Base) (clock : ℤ) (held : List (List ℕ)) (user : List ℕ) (lo
   own_step e es u is within =
       let j : List Change = journal w es in
       let now : ℤ = clock_at (clock_of w es) e.step in
-      let effect : SameEffect held c b user now e.step (visible held user j) j (answer c (visible held user j) (moves_of w user es) now e.step) (answer b j (moves_of w user es) now e.step) = own_effect held b user low (moves_of w user es) now j e.step u within in
-      let r : answer c (visible held user j) (moves_of w user es) (shown_clock (moves_of w user es) (clock_of w es) e.step) e.step ≡ answer c (visible held user j) (moves_of w user es) now e.step = clock_irrelevant c (visible held user j) (moves_of w user es) (clock_of w es) e.step in
+      let effect : SameEffect held c b user now e.step (visible held user j) j (ample_answer c (visible held user j) (moves_of w user es) now e.step) (ample_answer b j (moves_of w user es) now e.step) = own_effect held b user low (moves_of w user es) now j e.step u within in
+      let r : ample_answer c (visible held user j) (moves_of w user es) (shown_clock (moves_of w user es) (clock_of w es) e.step) e.step ≡ ample_answer c (visible held user j) (moves_of w user es) now e.step = clock_irrelevant c (visible held user j) (moves_of w user es) (clock_of w es) e.step in
       let see : List Change → List Change = visible held user in
-      let changes : see (changes_by (shown_clock (moves_of w user es) (clock_of w es) e.step) e.step (answer c (see j) (moves_of w user es) (shown_clock (moves_of w user es) (clock_of w es) e.step) e.step)) ++ see j ≡ see (changes_by now e.step e.reply ++ j) =
+      let changes : see (changes_by (shown_clock (moves_of w user es) (clock_of w es) e.step) e.step (ample_answer c (see j) (moves_of w user es) (shown_clock (moves_of w user es) (clock_of w es) e.step) e.step)) ++ see j ≡ see (changes_by now e.step e.reply ++ j) =
       ap (λ x. see (changes_by (shown_clock (moves_of w user es) (clock_of w es) e.step) e.step x) ++ see j) r
-      ∙ ap (λ cs. see cs ++ see j) (changes_irrelevant (moves_of w user es) (clock_of w es) e.step (answer c (see j) (moves_of w user es) now e.step))
+      ∙ ap (λ cs. see cs ++ see j) (changes_irrelevant (moves_of w user es) (clock_of w es) e.step (ample_answer c (see j) (moves_of w user es) now e.step))
       ∙ ap (λ cs. cs ++ see j) effect.changes
       ∙ ap (λ x. see (changes_by now e.step x) ++ see j) (sym is)
       ∙ sym (visible_append held user (changes_by now e.step e.reply) j) in
-      let moves : moves_by c (see j) e.step (answer c (see j) (moves_of w user es) (shown_clock (moves_of w user es) (clock_of w es) e.step) e.step) ++ moves_of w user es ≡ moves_by b j e.step e.reply ++ moves_of w user es =
+      let moves : moves_by c (see j) e.step (ample_answer c (see j) (moves_of w user es) (shown_clock (moves_of w user es) (clock_of w es) e.step) e.step) ++ moves_of w user es ≡ moves_by b j e.step e.reply ++ moves_of w user es =
       ap (λ x. moves_by c (see j) e.step x ++ moves_of w user es) r ∙ ap (λ ms. ms ++ moves_of w user es) effect.moves ∙ ap (λ x. moves_by b j e.step x ++ moves_of w user es) (sym is) in
-      let told : heard_of c (see j) e.step (answer c (see j) (moves_of w user es) (shown_clock (moves_of w user es) (clock_of w es) e.step) e.step) ++ heard user w es ≡ heard_of b j e.step e.reply ++ heard user w es =
+      let told : heard_of c (see j) e.step (ample_answer c (see j) (moves_of w user es) (shown_clock (moves_of w user es) (clock_of w es) e.step) e.step) ++ heard user w es ≡ heard_of b j e.step e.reply ++ heard user w es =
       ap (λ x. heard_of c (see j) e.step x ++ heard user w es) r ∙ ap (λ hs. hs ++ heard user w es) effect.heard ∙ ap (λ x. heard_of b j e.step x ++ heard user w es) (sym is) in
       λ i. record { changes = changes i; moves = moves i; heard = told i }
 
@@ -118,16 +119,16 @@ module _ (b : Base) (clock : ℤ) (held : List (List ℕ)) (user : List ℕ) (lo
       now : ℤ
       now = clock_at (clock_of w es) e.step
 
-      is_answer : IsAnswer w es es e.step e.reply ⊎ IsExhausted e.reply → e.reply ≡ answer b (journal w es) (moves_of w (user_of e.step) es) now e.step
-      is_answer (inl h) = h
-      is_answer (inr h) = absurd (ample.1 h)
+      is_answer : IsAnswer w es es e.step e.reply ⊎ LacksMemory e.step e.reply → e.reply ≡ ample_answer b (journal w es) (moves_of w (user_of e.step) es) now e.step
+      is_answer (inl h) = h ∙ is_ample b (journal w es) (moves_of w (user_of e.step) es) now e.step (λ x. ample.1 (subst IsExhausted (sym h) x))
+      is_answer (inr h) = absurd (ample.1 (inl h.1))
 
       by_whom : (v : Bool) → is_by user e.step ≡ v → replay c held user (sights held user w es) ≡ known es
           → replay c held user (cond v (own_sight (moves_of w user es) now e.step) (other_sight held user now e.step e.reply) ++ sights held user w es)
           ≡ record { changes = visible held user (cs ++ journal w es); moves = cond v (moves_by b (journal w es) e.step e.reply ++ moves_of w user es) (moves_of w user es); heard = cond v (heard_of b (journal w es) e.step e.reply ++ heard user w es) (heard user w es) }
       by_whom true t ih =
           let his : user_of e.step ≡ user = (bytes_decides (user_of e.step) user).0 t in
-          ap (own c held user e.step (shown_clock (moves_of w user es) (clock_of w es) e.step)) ih ∙ own_step e es his (is_answer legal.1 ∙ ap (λ x. answer b (journal w es) (moves_of w x es) now e.step) his) earlier
+          ap (own c held user e.step (shown_clock (moves_of w user es) (clock_of w es) e.step)) ih ∙ own_step e es his (is_answer legal.1 ∙ ap (λ x. ample_answer b (journal w es) (moves_of w x es) now e.step) his) earlier
       by_whom false t ih = replay_changed c held user (visible held user cs) (sights held user w es) ∙ (λ i. record { changes = visible held user cs ++ (ih i).changes; moves = (ih i).moves; heard = (ih i).heard }) ∙ (λ i. record { changes = sym (visible_append held user cs (journal w es)) i; moves = moves_of w user es; heard = heard user w es })
 
 -- Two histories that look alike to a user tell him the same.

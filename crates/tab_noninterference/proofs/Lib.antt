@@ -4,6 +4,7 @@ pub mod Pairs
 pub mod SeenCells
 pub mod SeenUpdates
 pub mod Auths
+pub mod Ample
 pub mod Effects
 pub mod Replay
 pub mod EqualViews

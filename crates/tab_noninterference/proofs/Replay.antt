@@ -4,8 +4,9 @@ use Rattle.std.specs.Prelude.{map, unwrap_or}
 use Rattle.tab_history.specs.Bases.{Base}
 use Rattle.tab_history.specs.Changes.{Change}
 use Rattle.tab_history.specs.Sessions.{Move}
-use Rattle.tab_history.specs.Answers.{answer, changes_by, moves_by}
+use Rattle.tab_history.specs.Answers.{changes_by, moves_by}
 use Rattle.tab_history.specs.declared.event.Step.{Step}
+use Rattle.tab_noninterference.proofs.Ample.{ample_answer}
 use Rattle.tab_noninterference.specs.Concerns.{concerning, visible}
 use Rattle.tab_noninterference.specs.Views.{Sight, Asked, Changed}
 use Rattle.tab_noninterference.specs.Hearing.{Heard, heard_of}
@@ -19,7 +20,7 @@ pub record Replay : Type 0 where
 -- one's own step, answered from what is known
 abbrev pub own : Base → List (List ℕ) → List ℕ → Step → ℤ → Replay → Replay
 own b held user step now s =
-    let reply = answer b s.changes s.moves now step in
+    let reply = ample_answer b s.changes s.moves now step in
     record { changes = visible held user (changes_by now step reply) ++ s.changes; moves = moves_by b s.changes step reply ++ s.moves; heard = heard_of b s.changes step reply ++ s.heard }
 
 -- a change made by somebody else

@@ -14,13 +14,13 @@ use Rattle.tab_mutation.specs.Shape.{shape_error}
 use Rattle.tab_rules.specs.Verdict.{violations}
 use Rattle.tab_rules.specs.declared.constraint.Constraint.TheVariants.{Numeric}
 use Rattle.tab_policy.specs.Roots.{root}
-use Rattle.tab_policy.specs.State.{user_exists, auths_of, system_granted, table_granted}
+use Rattle.tab_policy.specs.State.{user_exists, user_count as policy_users, auths_of, system_granted, table_granted}
 use Rattle.tab_policy.specs.declared.permission.Permission.TheVariants.{OfTable}
 use Rattle.tab_policy.specs.declared.permission.TablePermission.TheVariants as table
 use Rattle.tab_history.specs.Bases.{new_core}
 use Rattle.tab_history.specs.Changes.{UserMade, AuthsSet, TableGiven, TableMade, ConstraintsSet, Written}
 use Rattle.tab_cells.specs.Written.{TimedUpdate, records_of}
-use Rattle.tab_history.specs.Readings.{has_user, held_auths, has_system_right, has_table_right, settings_of, next_number, updates_of}
+use Rattle.tab_history.specs.Readings.{has_user, user_count, held_auths, has_system_right, has_table_right, table_count, settings_of, next_number, updates_of}
 use Rattle.tab_cells.specs.Cells.{matches, cells}
 use Rattle.tab_history.specs.Checks.{standing, malformed, stamped, outdated, refusal_of}
 use Rattle.tab_history.specs.Sessions.{opened, closed, session_in}
@@ -41,7 +41,7 @@ use Rattle.tab_noninterference.specs.Hearing.{Heard, heard}
 
 -- names what the examples look into
 everything : ℕ
-unfolding is_term_byte step ending reads_on label_of column_cmp key_cmp place_cmp newer_cmp same_column hides is_deleted outranks is_kept matches cells user_exists auths_of system_granted table_granted has_user held_auths has_system_right has_table_right settings_of next_number records_of updates_of shape_error malformed stamped outdated violations standing refusal_of opened closed session_in answer session_list clock_of journal moves_of auths_given sights heard
+unfolding is_term_byte step ending reads_on label_of column_cmp key_cmp place_cmp newer_cmp same_column hides is_deleted outranks is_kept matches cells user_exists policy_users auths_of system_granted table_granted has_user user_count held_auths has_system_right has_table_right table_count settings_of next_number records_of updates_of shape_error malformed stamped outdated violations standing refusal_of opened closed session_in answer session_list clock_of journal moves_of auths_given sights heard
 everything = 0
 
 -- ---- steps, updates and cells of the examples

@@ -4,7 +4,7 @@ use Rattle.std.specs.Prelude.{nat_le, bytes_eq, option_map}
 use Rattle.std.proofs.lemmas.Slice.Eq.{bytes_eq-Decides}
 use Rattle.std.proofs.lemmas.Bool.{eq-eqb, lt-leb}
 use Rattle.tab_key.specs.Records.{Cell}
-use Rattle.tab_key.specs.declared.part.Part.TheVariants.{Sessions, Numbers}
+use Rattle.tab_key.specs.declared.part.Part.TheVariants.{Sessions}
 use Rattle.tab_history.specs.declared.event.Scan.{Scan}
 use Rattle.tab_history.specs.declared.event.Act.TheVariants.{Open}
 use Rattle.tab_history.specs.declared.event.Event.{Event}
@@ -19,7 +19,7 @@ use Rattle.tab_history.specs.Answers.{Told, told, answer, event_answer, moves_by
 use Rattle.tab_cells.specs.SessionState.{SessionState, gave}
 use Rattle.tab_history.specs.Sessions.{Move, Opening, Taking, Closing, opened, closed, is_full, session_in}
 use Rattle.tab_history.specs.Histories.{Entry, World, world_of, world_after, clock_of, clock_at, journal, is_by, moves_of}
-use Rattle.tab_history.specs.Legal.{Legal, IsAnswer, IsExhausted}
+use Rattle.tab_history.specs.Legal.{Legal, IsAnswer, LacksMemory}
 use Rattle.tab_history.specs.Refinement.{Refines}
 use Rattle.tab_history.proofs.Playing.{unmoved}
 use Rattle.tab_core.specs.Stepping.{Steps}
@@ -193,7 +193,7 @@ module _ (w : World) (user : List ℕ) (slot : ℕ) (all : List Cell) where
   part_legal k es fits legal g =
       let b = batches_legal k es fits legal g in
       let before : List Entry = batches user slot all k ++ es in
-      ((b.0, inr (inl refl)), inl (close_right (1000 * k) (lacked ∷ before) (lacked_gave (1000 * k) before b.1)))
+      ((b.0, inr (refl, refl)), inl (close_right (1000 * k) (lacked ∷ before) (lacked_gave (1000 * k) before b.1)))
 
   part_opened : (k : ℕ) (es : List Entry) → opened (moves_of w user (reading_steps user slot all (Lacking k) ++ es)) ≡ opened (moves_of w user es)
   part_opened k es =
@@ -257,7 +257,7 @@ abbrev pub asked : ScriptState → ℕ
 asked s = count_of s.opened s.asker.user
 
 legal_open : (s : ScriptState) (core : Base) (scan : Scan) (reply : Reply SessionState) (w : World) (h : List Entry) → asked s < 4294967295 → Steps s.core (event_by s.asker (Open scan)) reply core → ScriptRefines s w h
-    → IsAnswer w h h (IsEvent (event_by s.asker (Open scan))) (told_of reply) ⊎ IsExhausted (told_of reply)
+    → IsAnswer w h h (IsEvent (event_by s.asker (Open scan))) (told_of reply) ⊎ LacksMemory (IsEvent (event_by s.asker (Open scan))) (told_of reply)
 legal_open s core scan reply w h lt steps refines = steps.answers w h refines.core h (λ yes. has_room (moves_of w s.asker.user h) (asked s) (refines.opened s.asker.user) (refines.closed s.asker.user) lt)
 
 -- the session's cells are those that are defined
@@ -355,10 +355,9 @@ open_told None scan = inl refl
 open_told (Some r) scan = inr (r, refl)
 
 -- nothing else
-not_done : (w : World) (h : List Entry) (who : Asker) (scan : Scan) (reply : Told) → IsAnswer w h h (IsEvent (event_by who (Open scan))) reply ⊎ IsExhausted reply → (reply ≡ Opened tt) ⊎ ((r : Refusal) × (reply ≡ Refused r))
+not_done : (w : World) (h : List Entry) (who : Asker) (scan : Scan) (reply : Told) → IsAnswer w h h (IsEvent (event_by who (Open scan))) reply ⊎ LacksMemory (IsEvent (event_by who (Open scan))) reply → (reply ≡ Opened tt) ⊎ ((r : Refusal) × (reply ≡ Refused r))
 unfolding answer
-not_done w h who scan reply (inr (inl x)) = inr (NoMemory, x)
-not_done w h who scan reply (inr (inr x)) = inr (TooLarge Numbers, x)
+not_done w h who scan reply (inr x) = inr (NoMemory, x.1)
 not_done w h who scan reply (inl is) =
     let now = clock_at (clock_of w h) (IsEvent (event_by who (Open scan))) in
     let o : Option Refusal = refusal_of (standing w.base (journal w h) who.user) (exists_in w.base (journal w h) (user_named (Open scan))) now who.user (Open scan) in
@@ -443,7 +442,7 @@ starved_answered s scan = record {
       let after : Refines (world_of s.core) (world_after w (e ∷ h)) = subst (λ (v : World). Refines (world_of s.core) v) (sym (unmoved w h e tt)) refines.core in (
         e ∷ [],
         (Refused NoMemory, (refl, refl)),
-        (legal, inr (inl refl)),
+        (legal, inr (refl, refl)),
         refused_stands s s.core scan NoMemory w h after refines,
       );
 }

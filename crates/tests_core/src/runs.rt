@@ -27,7 +27,7 @@ fn a_run_keeps_sessions_by_their_numbers(rt: HostRuntime) -> Result<(), Fail> {
     for (slot, count) in [(0, 1), (1, 1), (2, 1), (0, 0), (0, 5), (0, 5), (1, 5)] {
         steps.push(next(b"root", slot, count)?)?;
     }
-    let replies = run(alloc, &steps)?;
+    let replies = run(alloc, steps)?;
     assert_eq!(rt;
         text_of(alloc, &replies)?.as_slice(),
         b"ok ok ok opened ok opened @2=2, @3=3, unopened  @1=1,  @2=2,@1=1, ".as_slice()
@@ -49,7 +49,7 @@ fn a_closed_session_is_gone_for_good(rt: HostRuntime) -> Result<(), Fail> {
         steps.push(next(user, slot, 1)?)?;
     }
     steps.push(close(b"eve", 0)?)?;
-    let replies = run(alloc, &steps)?;
+    let replies = run(alloc, steps)?;
     assert_eq!(rt;
         text_of(alloc, &replies)?.as_slice(),
         b"ok ok ok opened ok opened ok unopened unopened unheld opened unknown unopened @3=3, unopened unopened "
@@ -72,7 +72,7 @@ fn a_run_keeps_many_sessions(rt: HostRuntime) -> Result<(), Fail> {
     for slot in 0..150u32 {
         steps.push(next(b"root", slot, 2)?)?;
     }
-    let replies = run(alloc, &steps)?;
+    let replies = run(alloc, steps)?;
     for (at, reply) in replies.iter().skip(301).enumerate() {
         let want = format!(in alloc; "@{at}=")?;
         let text = text_of(alloc, std::slice::from_ref(reply))?;

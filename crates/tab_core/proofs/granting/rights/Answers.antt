@@ -1,4 +1,4 @@
-use Rattle.std.proofs.Common.{◌∙◌}
+use Rattle.std.proofs.Common.{refl, ◌∙◌}
 use Rattle.tab_history.specs.declared.event.Act.TheVariants as act
 use Rattle.tab_core.proofs.Acting.{lacked}
 use Rattle.tab_core.proofs.Opening.{rights_told}
@@ -9,4 +9,4 @@ returns-in-Ok c = λ b now user t core is.
     rights_told b now user t c.args.caller.system c.args.caller.on_table c.in-Ok.authorizations core is.system is.on_table (c.in-Ok.ensures.cases ∙ is.authorizations)
 
 pub returns-in-Err : goal.returns-in-Err
-returns-in-Err c = λ b now user t core is. lacked _ b now user (act.Rights t) core
+returns-in-Err c = λ b now user t core is. lacked _ b now user (act.Rights t) refl core

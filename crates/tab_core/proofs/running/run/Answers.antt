@@ -1,12 +1,17 @@
-use Rattle.std.proofs.Common.{◌≡◌, List, [], ◌∷◌, ◌++◌, take, subst, sym, rules}
+use Rattle.std.proofs.Common.{◌≡◌, ◌+◌, List, [], ◌∷◌, ◌++◌, length, subst, sym, ◌∙◌, ap, rules}
+use Rattle.std.proofs.lemmas.Iterator.Adapters.{YieldsList-from_vec}
+use Rattle.std.proofs.lemmas.Iterator.Consumers.{YieldsList-end}
+use Rattle.std.proofs.lemmas.List.{map-id, length_push}
+use Rattle.tab_history.specs.declared.event.Step.{Step}
 use Rattle.tab_history.specs.Bases.{new_core}
 use Rattle.tab_history.specs.Histories.{Entry, World, world_of, world_after}
-use Rattle.tab_history.specs.Legal.{Legal}
+use Rattle.tab_history.specs.Legal.{Legal, LacksWhereItMay}
 use Rattle.tab_history.specs.Refinement.{Refines}
+use Rattle.tab_history.proofs.Lacking.{legal}
 use Rattle.tab_core.specs.Slots.{history_of}
 use Rattle.tab_core.specs.Owners.{OwnersRefine}
 use Rattle.tab_core.specs.declared.running.Owner.{Owner}
-use Rattle.tab_core.proofs.Runs.{history_more, owners_none, after_none}
+use Rattle.tab_core.proofs.Runs.{history_push, owners_none, after_none}
 use Rattle.tab_core.proofs.running.run.Goals as goal
 
 pub loop-step-init : goal.loop-step-init
@@ -19,12 +24,30 @@ loop-step-init c = record {
 
 pub loop-step-preserved : goal.loop-step-preserved
 loop-step-preserved c =
+    let step : Step = c.in-Some.step in
+    let before : List Entry = history_of c.loop-step.yielded c.loop-step.replies.items in
     let grown : c.push_reserved.new.self.items ≡ c.loop-step.replies.items ++ c.run_step-reply.result ∷ [] = search rules in
-    let more = history_more c.args.steps.now c.loop-step.step-index c.step-item.result c.loop-step.replies.items c.push_reserved.new.self.items c.run_step-reply.result c.loop-step-test.true c.step-item.is c.loop-step.invariant.count grown in
-    let after = c.run_step-reply.ensures (world_of new_core) (history_of (take c.loop-step.step-index c.args.steps.now) c.loop-step.replies.items) c.loop-step.invariant.refines c.loop-step.invariant.owners c.loop-step.invariant.legal in
+    let more : history_of (c.loop-step.yielded ++ step ∷ []) c.push_reserved.new.self.items ≡ record { step = step; reply = c.run_step-reply.result } ∷ before =
+    ap (history_of (c.loop-step.yielded ++ step ∷ [])) grown ∙ history_push c.loop-step.yielded c.loop-step.replies.items step c.run_step-reply.result c.loop-step.invariant.count in
+    let after = c.run_step-reply.ensures (world_of new_core) before c.loop-step.invariant.refines c.loop-step.invariant.owners c.loop-step.invariant.legal in
     record {
-      count = search rules;
+      count = length_push c.loop-step.yielded step ∙ ap (λ n. n + 1) c.loop-step.invariant.count ∙ sym (length_push c.loop-step.replies.items c.run_step-reply.result) ∙ ap length (sym grown);
       refines = subst (λ (h : List Entry). Refines (world_of c.run_step-reply.new.core) (world_after (world_of new_core) h)) (sym more) after.0;
       owners = subst (λ (h : List Entry). OwnersRefine c.run_step-reply.new.owners.items (world_of new_core) h) (sym more) after.1;
       legal = subst (λ (h : List Entry). Legal (world_of new_core) h) (sym more) after.2;
     }
+
+pub returns-clause-length : goal.returns-clause-length
+returns-clause-length c =
+    let all = YieldsList-end (YieldsList-from_vec c.args.steps.items (search rules) (search rules)) c.loop-step.yielded c.loop-step.step-iterator c.loop-step.yielded_by _ c.next.new.self c.in-None.is c.next.ensures.steps in
+    sym c.loop-step.invariant.count ∙ all.1
+
+pub returns-clause-legal : goal.returns-clause-legal
+returns-clause-legal c =
+    let all = YieldsList-end (YieldsList-from_vec c.args.steps.items (search rules) (search rules)) c.loop-step.yielded c.loop-step.step-iterator c.loop-step.yielded_by _ c.next.new.self c.in-None.is c.next.ensures.steps in
+    subst (λ (steps : List Step). Legal (world_of new_core) (history_of steps c.loop-step.replies.items)) (sym (map-id c.loop-step.yielded) ∙ all.0) c.loop-step.invariant.legal
+
+pub returns-clause-memory : goal.returns-clause-memory
+returns-clause-memory c =
+    let all = YieldsList-end (YieldsList-from_vec c.args.steps.items (search rules) (search rules)) c.loop-step.yielded c.loop-step.step-iterator c.loop-step.yielded_by _ c.next.new.self c.in-None.is c.next.ensures.steps in
+    subst (λ (steps : List Step). LacksWhereItMay (history_of steps c.loop-step.replies.items)) (sym (map-id c.loop-step.yielded) ∙ all.0) (legal (world_of new_core) _ c.loop-step.invariant.legal)

@@ -3,7 +3,7 @@ use Rattle.std.specs.Prelude.{bytes_eq, slice_set}
 use Rattle.tab_core.specs.Owners.{owner_place}
 use Rattle.tab_core.specs.declared.running.Owner.{Owner}
 use Rattle.tab_core.proofs.OwnerLemmas.{found_at, user_at, set_own, leaves_others}
-use Rattle.tab_core.proofs.Runs.{runs_nowhere, runs_open}
+use Rattle.tab_core.proofs.Runs.{open_takes, runs_nowhere, runs_open}
 use Rattle.tab_core.proofs.running.run_open.Goals as goal
 
 pub returns-in-Ok : goal.returns-in-Ok
@@ -18,4 +18,4 @@ returns-in-Ok c =
     (found_at os c.args.event.user c.in-Ok.at o at lt c.index_mut.ensures.value) (set_own os c.args.event.user c.in-Ok.at changed at lt here) (leaves_others os c.args.event.user c.in-Ok.at changed at lt here) c.open_in.ensures
 
 pub returns-in-Err : goal.returns-in-Err
-returns-in-Err c = runs_nowhere c.args.core.now c.args.owners.now.items c.owner_for.new.owners.items c.args.event c.owner_for.ensures.slots
+returns-in-Err c = runs_nowhere c.args.core.now c.args.owners.now.items c.owner_for.new.owners.items c.args.event (open_takes c.args.event.act c.requires) c.owner_for.ensures.slots

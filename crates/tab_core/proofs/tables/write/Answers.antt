@@ -36,3 +36,6 @@ returns-in-Some-clause-err c =
     let had : at_name n c.args.tables.now.entries ≡ Some c.in-Some.table.now = search rules in
     let after = (c.get_mut.follows.holds c.write.new.self).3 (search rules) in
     on_err_weaker c.write.result (λ same q. table_kept n q c.args.tables.now.entries _ c.in-Some.table.now c.write.new.self had same (after.0 q)) c.write.ensures.err
+
+pub returns-in-Some-clause-count : goal.returns-in-Some-clause-count
+returns-in-Some-clause-count c = (c.get_mut.follows.holds c.write.new.self).2

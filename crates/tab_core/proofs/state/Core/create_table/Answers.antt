@@ -1,9 +1,10 @@
-use Rattle.std.proofs.Common.{◌≡◌, [], true, false, cond, subst, sym, ap, ◌∙◌, List, Some}
-use Rattle.std.specs.Prelude.{is_some, bytes_eq}
+use Rattle.std.proofs.Common.{◌≡◌, [], true, false, cond, refl, subst, sym, ap, ◌∙◌, List, Some, length, rules}
+use Rattle.std.specs.Prelude.{nat_le, is_some, bytes_eq}
 use Rattle.tab_policy.specs.State.{State, Readings, readings}
+use Rattle.tab_key.specs.declared.part.Part.TheVariants.{Numbers}
 use Rattle.tab_history.specs.declared.event.Act.{Act}
 use Rattle.tab_history.specs.declared.event.Act.TheVariants as act
-use Rattle.tab_history.specs.declared.reply.Refusal.TheVariants.{TableExists, NoMemory}
+use Rattle.tab_history.specs.declared.reply.Refusal.TheVariants.{TableExists, NoMemory, TooLarge}
 use Rattle.tab_history.specs.declared.reply.Reply.TheVariants.{Done, Refused}
 use Rattle.tab_history.specs.Settings.{Settings, made_with}
 use Rattle.tab_history.specs.Bases.{Base, BaseTable}
@@ -12,7 +13,7 @@ use Rattle.tab_core.specs.Tables.{settings_in, records_in, table_settings}
 use Rattle.tab_core.specs.Stepping.{Acts, own_answer, IsCore}
 use Rattle.tab_core.proofs.Acting.{lacked, lacked_alike}
 use Rattle.tab_core.proofs.Cores.{core_renewed, core_alike}
-use Rattle.tab_core.proofs.TableActs.{table_exists_already, table_made, settings_back, records_back}
+use Rattle.tab_core.proofs.TableActs.{table_exists_already, tables_used_up, table_made, count_back, settings_back, records_back}
 use Rattle.tab_core.proofs.state.Core.create_table.Goals as goal
 
 pub returns-then-contains : goal.returns-then-contains
@@ -22,6 +23,14 @@ returns-then-contains c =
     subst (λ (b : Base). Acts (own_answer b c.args.now c.args.user a) b c.args.now c.args.user a (Refused (TableExists c.args.table)) b) c.self.view_is
     (table_exists_already _ c.args.now c.args.user c.args.table c.args.time c.args.versions c.self.invariant there)
 
+pub returns-then-len-ge-MAX_TABLES : goal.returns-then-len-ge-MAX_TABLES
+returns-then-len-ge-MAX_TABLES c =
+    let a : Act = act.CreateTable c.args.table c.args.time c.args.versions in
+    let absent : is_some (settings_in c.self.inside.tables c.args.table) ≡ false = sym c.contains.ensures ∙ c.if-contains.false in
+    let full : nat_le 4294967295 (length c.self.inside.tables) ≡ true = search rules in
+    subst (λ (b : Base). Acts (own_answer b c.args.now c.args.user a) b c.args.now c.args.user a (Refused (TooLarge Numbers)) b) c.self.view_is
+    (tables_used_up _ c.args.now c.args.user c.args.table c.args.time c.args.versions c.self.invariant absent full)
+
 pub returns-in-Err : goal.returns-in-Err
 returns-in-Err c =
     let a : Act = act.CreateTable c.args.table c.args.time c.args.versions in
@@ -29,7 +38,7 @@ returns-in-Err c =
     let P : List BaseTable → Type 0 = λ ts. Acts (own_answer c.args.self.now c.args.now c.args.user a) c.args.self.now c.args.now c.args.user a (Refused NoMemory)
     (record { clock = c.self.inside.clock; next = c.self.inside.next; policy = c.self.inside.policy; tables = ts }) in
     subst P (sym same) (subst (λ (b : Base). Acts (own_answer b c.args.now c.args.user a) b c.args.now c.args.user a (Refused NoMemory) (record { clock = c.self.inside.clock; next = c.self.inside.next; policy = c.self.inside.policy; tables = c.self.inside.tables }))
-    c.self.view_is (lacked _ _ c.args.now c.args.user a c.self.invariant))
+    c.self.view_is (lacked _ _ c.args.now c.args.user a refl c.self.invariant))
 
 pub invariant_of-self-in-Ok-create_table : goal.invariant_of-self-in-Ok-create_table
 unfolding readings
@@ -54,9 +63,10 @@ returns-in-Ok-create_table c =
     let none : c.new-made.result.records ≡ [] = ap (λ (t : Table). t.records) c.new-made.ensures in
     let made : table_settings c.new-made.result ≡ made_with c.args.time c.args.versions = ap table_settings c.new-made.ensures in
     let absent : is_some (settings_in c.self.inside.tables c.args.table) ≡ false = sym c.contains.ensures ∙ c.if-contains.false in
+    let room : nat_le 4294967295 (length c.self.inside.tables) ≡ false = search rules in
     let new : Base = record { clock = c.self.inside.clock; next = c.self.inside.next; policy = c.create_table.new.self; tables = c.insert.new.self } in
     subst (λ (b : Base). Acts (own_answer b c.args.now c.args.user a) b c.args.now c.args.user a Done new) c.self.view_is
-    (table_made _ c.create_table.new.self c.insert.new.self c.args.now c.args.user c.args.table c.args.time c.args.versions c.self.invariant absent
+    (table_made _ c.create_table.new.self c.insert.new.self c.args.now c.args.user c.args.table c.args.time c.args.versions c.self.invariant absent room c.in-Ok.ensures.count
     (λ q. c.in-Ok.ensures.settings q ∙ ap (λ (s : Settings). cond (bytes_eq c.args.table q) (Some s) (settings_in c.self.inside.tables q)) made)
     (λ q. c.in-Ok.ensures.records q ∙ ap (λ us. cond (bytes_eq c.args.table q) us (records_in c.self.inside.tables q)) none) c.in-Ok-create_table.ensures.ok)
 
@@ -69,7 +79,8 @@ returns-in-Err-create_table c =
     (record { clock = c.self.inside.clock; next = c.self.inside.next; policy = p; tables = c.remove.new.self }) in
     let new : Base = record { clock = c.self.inside.clock; next = c.self.inside.next; policy = c.self.inside.policy; tables = c.remove.new.self } in
     subst P (sym c.in-Err-create_table.ensures.err) (subst (λ (b : Base). Acts (own_answer b c.args.now c.args.user a) b c.args.now c.args.user a (Refused NoMemory) new) c.self.view_is
-    (lacked_alike _ _ c.remove.new.self c.args.now c.args.user a c.self.invariant
+    (lacked_alike _ _ c.remove.new.self c.args.now c.args.user a refl c.self.invariant
+    (count_back c.self.inside.tables c.insert.new.self c.remove.new.self c.args.table (table_settings c.new-made.result) absent c.in-Ok.ensures.count c.in-Ok.ensures.settings c.remove.ensures.count)
     (settings_back c.self.inside.tables c.insert.new.self c.remove.new.self c.args.table (table_settings c.new-made.result) absent c.in-Ok.ensures.settings c.remove.ensures.settings)
     (records_back c.self.inside.tables c.insert.new.self c.remove.new.self c.args.table absent
     (λ q. c.in-Ok.ensures.records q ∙ ap (λ us. cond (bytes_eq c.args.table q) us (records_in c.self.inside.tables q)) none) c.remove.ensures.records)))

@@ -42,5 +42,5 @@ returns c =
       | in-Ok w ↦ subst P (sym w.result-is) (subst (λ (b : Base). Acts (own_answer b c.args.now c.args.user a) b c.args.now c.args.user a Done (new c.grant.new.self)) c.self.view_is
           (right_given _ c.grant.new.self c.args.now c.args.user c.args.name c.args.permission c.self.invariant admitted passes w.in-Ok.ensures.ok))
       | in-Err w ↦ subst P (sym w.result-is) (subst (λ (p : State). Acts (own_answer c.args.self.now c.args.now c.args.user a) c.args.self.now c.args.now c.args.user a (Refused NoMemory) (new p)) (sym w.in-Err.ensures.err)
-          (subst (λ (b : Base). Acts (own_answer b c.args.now c.args.user a) b c.args.now c.args.user a (Refused NoMemory) (new c.self.inside.policy)) c.self.view_is (lacked _ _ c.args.now c.args.user a c.self.invariant)))
+          (subst (λ (b : Base). Acts (own_answer b c.args.now c.args.user a) b c.args.now c.args.user a (Refused NoMemory) (new c.self.inside.policy)) c.self.view_is (lacked _ _ c.args.now c.args.user a refl c.self.invariant)))
     ]

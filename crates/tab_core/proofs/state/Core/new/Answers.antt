@@ -12,6 +12,7 @@ returns c = new_core_refines _ (record {
   next = refl;
   tables = c.new-2.ensures;
   users = c.in_ok-new.ensures.users;
+  count = c.in_ok-new.ensures.count;
   auths = c.in_ok-new.ensures.auths;
   system = c.in_ok-new.ensures.system;
   rights = c.in_ok-new.ensures.rights;

@@ -14,4 +14,4 @@ pub returns : goal.returns
 returns c =
     let new : Base = record { clock = c.self.inside.clock; next = c.self.inside.next; policy = c.self.inside.policy; tables = c.set_constraints.new.self } in
     subst (λ (b : Base). Acts (own_answer b c.args.now c.args.user (act.SetConstraints c.args.table c.args.constraints)) b c.args.now c.args.user (act.SetConstraints c.args.table c.args.constraints) Done new) c.self.view_is
-    (constraints_set _ c.set_constraints.new.self c.args.now c.args.user c.args.table c.args.constraints c.self.invariant c.set_constraints.ensures.settings c.set_constraints.ensures.records)
+    (constraints_set _ c.set_constraints.new.self c.args.now c.args.user c.args.table c.args.constraints c.self.invariant c.set_constraints.ensures.count c.set_constraints.ensures.settings c.set_constraints.ensures.records)

@@ -7,9 +7,8 @@ use Rattle.tab_history.specs.Bases.{BaseTable}
 use Rattle.tab_cells.specs.Written.{timed, records_of}
 use Rattle.tab_core.specs.declared.table.Table.{Table}
 use Rattle.tab_core.specs.Tables.{settings_in, records_in, found_settings, found_records, with_records}
-use Rattle.tab_core.specs.Stepping.{IsChecked}
-use Rattle.tab_history.specs.Checks.{mutation_checks}
-use Rattle.tab_core.proofs.Found.{is_there, settings_found, records_found, settings_written, records_written, settings_kept, records_kept, on_both}
+use Rattle.tab_core.specs.Stepping.{IsChecked, write_checks}
+use Rattle.tab_core.proofs.Found.{is_there, settings_found, records_found, settings_written, records_written, settings_kept, records_kept, count_kept, on_both}
 use Rattle.tab_core.proofs.tables.Tables.write.Goals as goal
 
 pub write-requires-clause-there : goal.write-requires-clause-there
@@ -23,7 +22,7 @@ pub returns-clause-checks : goal.returns-clause-checks
 returns-clause-checks c =
     let trip : to_z w64 (of_z w64 c.args.now) ≡ c.args.now = search rules in
     rw (← c.self.view_is, settings_found c.self.inside.by_name.entries c.args.name.now)
-    (subst (λ (t : ℤ). IsChecked (mutation_checks (found_settings (at_name c.args.name.now c.self.inside.by_name.entries)) c.args.authorizations.now t c.args.mutation.now) c.write.result) trip c.write.ensures.checks)
+    (subst (λ (t : ℤ). IsChecked (write_checks (found_settings (at_name c.args.name.now c.self.inside.by_name.entries)) c.args.authorizations.now t c.args.mutation.now c.args.seq) c.write.result) trip c.write.ensures.checks)
 
 pub returns-clause-settings : goal.returns-clause-settings
 returns-clause-settings c = rw (← c.self.view_is) (on_both c.write.result
@@ -44,3 +43,6 @@ returns-clause-records c =
 
 pub returns-clause-err : goal.returns-clause-err
 returns-clause-err c = rw (← c.self.view_is) (on_err_weaker c.write.result (λ f. records_kept c.self.inside.by_name.entries c.write.new.tables.entries f) c.write.ensures.err)
+
+pub returns-clause-count : goal.returns-clause-count
+returns-clause-count c = rw (← c.self.view_is) (count_kept c.self.inside.by_name.entries c.write.new.tables.entries c.write.ensures.count)

@@ -1,0 +1,200 @@
+-- Want of memory is no answer, so in a legal history it stands only where memory may lack.
+use Rattle.std.proofs.Common.{◌≡◌, ◌⊎◌, inl, inr, ℕ, ◌+◌, List, [], ◌∷◌, Bool, true, false, cond, ◌&&◌, not, refl, sym, ◌∙◌, ap}
+use Rattle.std.specs.Prelude.{ℤ, bytes_eq, nat_lt, length, is_some, Option, Some, None, Result, Ok, Err, option_map}
+use mathlib.Core.Bool.{true≢false}
+use Rattle.tab_key.specs.Ranges.{is_bad_range}
+use Rattle.tab_key.specs.declared.part.Part.TheVariants.{Columns, Authorizations, Sessions}
+use Rattle.tab_label.specs.Sets.{first_missing}
+use Rattle.tab_label.specs.Reading.{label_of}
+use Rattle.tab_mutation.specs.Mutations.{Update, Mutation}
+use Rattle.tab_mutation.specs.Shape.{or_else, first_some, when, first_found, shape_error}
+use Rattle.tab_mutation.specs.declared.shape_error.ShapeError.{ShapeError}
+use Rattle.tab_mutation.specs.declared.shape_error.ShapeError.TheVariants as shape
+use Rattle.tab_rules.specs.Verdict.{violations}
+use Rattle.tab_rules.specs.declared.violation.Violation.{Violation}
+use Rattle.tab_policy.specs.Decisions.{decision}
+use Rattle.tab_policy.specs.Roots.{root}
+use Rattle.tab_policy.specs.declared.decision.Denial.{Denial}
+use Rattle.tab_policy.specs.declared.decision.Denial.TheVariants as policy
+use Rattle.tab_policy.specs.declared.permission.Permission.{Permission}
+use Rattle.tab_policy.specs.declared.permission.Permission.TheVariants.{OfSystem, OfTable}
+use Rattle.tab_history.specs.declared.event.Act.{Act}
+use Rattle.tab_history.specs.declared.event.Act.TheVariants.{Open, Write, CreateTable, DropTable, SetConstraints, CreateUser, DropUser, SetAuths, Grant, Revoke, Rights as AsksRights}
+use Rattle.tab_history.specs.declared.event.Scan.{Scan}
+use Rattle.tab_history.specs.declared.event.Step.{Step}
+use Rattle.tab_history.specs.declared.event.Step.TheVariants.{Event, Next, Close}
+use Rattle.tab_history.specs.declared.reply.Refusal.{Refusal}
+use Rattle.tab_history.specs.declared.reply.Refusal.TheVariants.{NoMemory, TooLarge, TableExists, UserExists, NoUser, BadAuthorizations, BadRange, TimestampNotAllowed, BelowHorizon, RootFixed, GrantInvalid}
+use Rattle.tab_history.specs.declared.reply.Reply.TheVariants.{Refused}
+use Rattle.tab_history.specs.Settings.{Settings, takes_timestamps}
+use Rattle.tab_history.specs.Bases.{Base}
+use Rattle.tab_history.specs.Changes.{Change}
+use Rattle.tab_history.specs.Checks.{Caller, standing, user_named, exists_in, action_of, denial, shape_refusal, malformed_at, malformed, stamped, outdated, violated, mutation_checks, too_many_auths, scan_checks, is_grant, right_checks, own_checks, refusal_of}
+use Rattle.tab_history.specs.Answers.{Told, granted, told, are_used_up, numbered, event_answer, is_open, next_answer, close_answer, answer}
+use Rattle.tab_history.specs.Sessions.{Move, is_full, session_in}
+use Rattle.tab_cells.specs.SessionState.{SessionState}
+use Rattle.tab_history.specs.Histories.{Entry, World, clock_of, clock_at, journal, user_of, moves_of}
+use Rattle.tab_history.specs.Legal.{IsAnswer, LacksMemory, may_lack, Legal, LegalAlone, LacksWhereItMay}
+use Rattle.tab_history.specs.Runs.{MemoryLacksWhereItMay}
+
+-- ---- checks
+-- whether the refusal is want of memory
+abbrev wants : Refusal → Bool
+wants NoMemory = true
+wants _ = false
+
+abbrev says_want : Option Refusal → Bool
+says_want None = false
+says_want (Some r) = wants r
+
+-- it isn't
+abbrev Speaks : Option Refusal → Type 0
+Speaks o = says_want o ≡ false
+
+abbrev All : List (Option Refusal) → Type 0
+All [] = Unit {0}
+All (o ∷ os) = Speaks o × All os
+
+either : (a b : Option Refusal) → Speaks a → Speaks b → Speaks (or_else a b)
+either None b p q = q
+either (Some r) b p q = p
+
+first : (os : List (Option Refusal)) → All os → Speaks (first_some os)
+first [] h = refl
+first (o ∷ os) h = either o (first_some os) h.0 (first os h.1)
+
+unless : (b : Bool) (r : Refusal) → wants r ≡ false → Speaks (when b r)
+unless true r e = e
+unless false r e = refl
+
+mapped : {X : Type 0} (f : X → Refusal) → ((x : X) → wants (f x) ≡ false) → (o : Option X) → Speaks (option_map f o)
+mapped f h None = refl
+mapped f h (Some x) = h x
+
+found : (f : ℕ → Update → Option Refusal) → ((i : ℕ) (u : Update) → Speaks (f i u)) → (i : ℕ) (us : List Update) → Speaks (first_found f i us)
+found f h i [] = refl
+found f h i (u ∷ us) = either (f i u) (first_found f (i + 1) us) (h i u) (found f h (i + 1) us)
+
+denied : (user : List ℕ) (d : Option Denial) → Speaks (denial user d)
+denied user None = refl
+denied user (Some policy.UnknownUser) = refl
+denied user (Some (policy.NoTable t)) = refl
+denied user (Some (policy.PermissionDenied p)) = refl
+
+shaped : (e : ShapeError) → wants (shape_refusal e) ≡ false
+shaped shape.Empty = refl
+shaped (shape.TooLarge part) = refl
+
+misread : {X : Type 0} (i : ℕ) (r : Result X ℕ) → Speaks (malformed_at i r)
+misread i (Ok label) = refl
+misread i (Err offset) = refl
+
+not_taken : (b : Bool) (o : Option Refusal) → Speaks o → Speaks (cond b None o)
+not_taken true o h = refl
+not_taken false o h = h
+
+failed : (fs : List Violation) → Speaks (violated fs)
+failed [] = refl
+failed (f ∷ fs) = refl
+
+of_mutation : (o : Option Settings) (auths : List (List ℕ)) (now : ℤ) (m : Mutation) → All (mutation_checks o auths now m)
+unfolding malformed stamped outdated
+of_mutation None auths now m = tt
+of_mutation (Some s) auths now m = (
+  mapped shape_refusal shaped (shape_error m),
+  (
+    found _ (λ i u. misread i (label_of u.label)) 0 m.updates,
+    (
+      not_taken (takes_timestamps s.time) _ (mapped TimestampNotAllowed (λ i. refl) _),
+      (
+        mapped BelowHorizon (λ i. refl) _,
+        (failed (violations s.constraints auths m), tt),
+      ),
+    ),
+  ),
+)
+
+of_scan : (auths : List (List ℕ)) (scan : Scan) → All (scan_checks auths scan)
+of_scan auths scan = (
+  unless (nat_lt 1000 (length scan.columns)) (TooLarge Columns) refl,
+  (
+    unless (too_many_auths scan.authorizations) (TooLarge Authorizations) refl,
+    (
+      unless (is_bad_range scan.bounds.low scan.bounds.high) BadRange refl,
+      (mapped BadAuthorizations (λ a. refl) (first_missing scan.authorizations auths), tt),
+    ),
+  ),
+)
+
+of_right : (there : Bool) (n : List ℕ) (p : Permission) → All (right_checks there n p)
+of_right there n (OfSystem p) = (unless (is_grant p) GrantInvalid refl, (unless (not there) (NoUser n) refl, (unless (bytes_eq n root) RootFixed refl, tt)))
+of_right there n (OfTable p t) = (unless (not there) (NoUser n) refl, tt)
+
+of_own : (c : Caller) (there : Bool) (now : ℤ) (act : Act) → All (own_checks c there now act)
+of_own c there now (Open scan) = of_scan c.auths scan
+of_own c there now (Write t m) = of_mutation (c.settings t) c.auths now m
+of_own c there now (CreateTable t time n) = (unless (is_some (c.settings t)) (TableExists t) refl, tt)
+of_own c there now (DropTable t) = tt
+of_own c there now (SetConstraints t cs) = tt
+of_own c there now (CreateUser n) = (unless there (UserExists n) refl, tt)
+of_own c there now (DropUser n) = (unless (not there) (NoUser n) refl, (unless (bytes_eq n root) RootFixed refl, tt))
+of_own c there now (SetAuths n auths) = (unless (too_many_auths auths) (TooLarge Authorizations) refl, (unless (not there) (NoUser n) refl, tt))
+of_own c there now (Grant n p) = of_right there n p
+of_own c there now (Revoke n p) = of_right there n p
+of_own c there now (AsksRights t) = tt
+
+of_refusal : (c : Caller) (there : Bool) (now : ℤ) (user : List ℕ) (act : Act) → Speaks (refusal_of c there now user act)
+unfolding refusal_of
+of_refusal c there now user act = first (denial user (decision c.policy (action_of act)) ∷ own_checks c there now act) (denied user (decision c.policy (action_of act)), of_own c there now act)
+
+-- ---- answers
+abbrev tells_want : Told → Bool
+tells_want (Refused r) = wants r
+tells_want _ = false
+
+of_granted : (c : Caller) (act : Act) → tells_want (granted c act) ≡ false
+of_granted c (Open scan) = refl
+of_granted c (AsksRights t) = refl
+of_granted c _ = refl
+
+of_numbered : (used_up : Bool) (c : Caller) (act : Act) → tells_want (numbered used_up (granted c act)) ≡ false
+of_numbered true c act = refl
+of_numbered false c act = of_granted c act
+
+of_told : (o : Option Refusal) (reply : Told) → Speaks o → tells_want reply ≡ false → tells_want (told o reply) ≡ false
+of_told None reply p q = q
+of_told (Some r) reply p q = p
+
+of_next : (o : Option SessionState) (slot n : ℕ) → tells_want (next_answer o slot n) ≡ false
+of_next None slot n = refl
+of_next (Some held) slot n = refl
+
+of_close : (o : Option SessionState) (slot : ℕ) → tells_want (close_answer o slot) ≡ false
+of_close None slot = refl
+of_close (Some held) slot = refl
+
+of_answer : (b : Base) (j : List Change) (moves : List Move) (now : ℤ) (step : Step) → tells_want (answer b j moves now step) ≡ false
+unfolding answer
+of_answer b j moves now (Event e) = go (is_open e.act && is_full moves)
+  where
+    go : (v : Bool) → tells_want (cond v (Refused (TooLarge Sessions)) (event_answer b j now e.user e.act)) ≡ false
+    go true = refl
+    go false = of_told (refusal_of (standing b j e.user) (exists_in b j (user_named e.act)) now e.user e.act) _ (of_refusal (standing b j e.user) (exists_in b j (user_named e.act)) now e.user e.act) (of_numbered (are_used_up b j e.act) (standing b j e.user) e.act)
+of_answer b j moves now (Next user slot n) = of_next (session_in moves slot) slot n
+of_answer b j moves now (Close user slot) = of_close (session_in moves slot) slot
+
+-- ---- histories
+one : (w : World) (es own : List Entry) (e : Entry) → IsAnswer w es own e.step e.reply ⊎ LacksMemory e.step e.reply → e.reply ≡ Refused NoMemory → may_lack e.step ≡ true
+one w es own e (inl is) lacks = absurd (true≢false (sym (ap tells_want (sym is ∙ lacks)) ∙ of_answer w.base (journal w es) (moves_of w (user_of e.step) own) (clock_at (clock_of w es) e.step) e.step))
+one w es own e (inr lacks) is = lacks.0
+
+pub legal : (w : World) (es : List Entry) → Legal w es → LacksWhereItMay es
+legal w [] l = tt
+legal w (e ∷ es) l = (legal w es l.0, one w es es e l.1)
+
+pub alone : (w : World) (es : List Entry) → LegalAlone w es → LacksWhereItMay es
+alone w [] l = tt
+alone w (e ∷ es) l = (alone w es l.0, one w es [] e l.1)
+
+pub memory_lacks_where_it_may : MemoryLacksWhereItMay
+memory_lacks_where_it_may w es = (legal w es, alone w es)
