@@ -16,7 +16,7 @@ use std::collections::BTreeMap;
 use std::marker::Model;
 use tab_key::Name;
 
-// How many rights of others a table keeps at the least before it looks for those of ended lives.
+// With so many rights of others a table doesn't look for those of ended lives.
 const FEW: usize = 15;
 
 // The rights on one table, by the lives of those who have them. Rights of lives that ended may be among them: nobody reads them.
@@ -100,7 +100,7 @@ impl TableRights {
         }
     }
 
-    // Takes the rights of ended lives away, if there are many rights. Between two times as many come as were left, or more.
+    // Takes the rights of ended lives away, if there are many rights. Before the next time more come than were left now.
     fn weed(&mut self, lives: &Lives)
         ensures { Weeds (is_among lives.now.living.entries) self.old self.new }
     {
