@@ -1,5 +1,5 @@
 -- Tables by name, as the map has them and as definitions see them.
-use Rattle.std.proofs.Common.{◌≡◌, ◌+◌, ◌-◌, ℕ, length, Bool, true, false, cond, List, [], ◌∷◌, refl, sym, ap, ◌∙◌, subst, Option, Some, None, Result, Ok, Err}
+use Rattle.std.proofs.Common.{◌≡◌, ◌+◌, ◌-◌, ℕ, length, Bool, true, false, cond, List, [], ◌∷◌, refl, sym, ap, ◌∙◌, subst, arith, Option, Some, None, Result, Ok, Err}
 use Rattle.std.specs.Prelude.{map, find, bytes_eq, is_some, Result, OnOk, OnErr}
 use Rattle.std.specs.Option.{option_map}
 use Rattle.std.proofs.lemmas.List.{length-map}
@@ -146,3 +146,8 @@ count_put old new name e = length-map new as_base ∙ e ∙ (λ i. cond (there_i
 pub count_taken : (old new : List (List ℕ × Table)) (name : List ℕ) → length new ≡ cond (is_some (at_name name old)) (length old - 1) (length old)
     → length (map as_base new) ≡ cond (is_some (settings_in (map as_base old) name)) (length (map as_base old) - 1) (length (map as_base old))
 count_taken old new name e = length-map new as_base ∙ e ∙ (λ i. cond (there_is old name i) (sym (length-map old as_base) i - 1) (sym (length-map old as_base) i))
+
+-- how many are left where one may have been taken away
+pub one_fewer : (b : Bool) (left had : ℕ) → left + cond b 1 0 ≡ had → left ≡ cond b (had - 1) had
+one_fewer true left had e = omega (arith, e)
+one_fewer false left had e = omega (arith, e)

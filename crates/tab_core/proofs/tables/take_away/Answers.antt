@@ -1,7 +1,7 @@
 use Rattle.std.proofs.Common.{◌≡◌, ◌+◌, None, ap, subst, ◌∙◌, cond, length, is_some}
 use Rattle.tab_policy.specs.Entries.{at_name}
-use Rattle.tab_policy.proofs.EntryLemmas.{one_fewer}
 use Rattle.tab_policy.proofs.NameLemmas.{same_name}
+use Rattle.tab_core.proofs.Found.{one_fewer}
 use Rattle.tab_core.proofs.tables.take_away.Goals as goal
 
 pub returns-clause-names : goal.returns-clause-names
