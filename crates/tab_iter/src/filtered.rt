@@ -105,8 +105,8 @@ impl<S: Source, R: Rule> Source for Filtered<S, R> {
     }
 }
 
-// So many records held back in a row are passed one by one before a seek.
-const FEW: u32 = 8;
+// So many records held back in a row are passed one by one before a seek, which takes about as long as six of them.
+const FEW: u32 = 16;
 
 // Passes the records that the rule holds back, up to one that it doesn't.
 fn settle<S: Source, R: Rule>(source: &mut S, rule: &mut R) -> Result<(), NoMemory>
@@ -134,6 +134,8 @@ fn settle<S: Source, R: Rule>(source: &mut S, rule: &mut R) -> Result<(), NoMemo
 }
 
 // Goes past the record on top, which was just observed and held back, and past all behind it that the rule knows not to pass.
+#[cold]
+#[inline(never)]
 fn leap<S: Source, R: Rule>(source: &mut S, rule: &mut R) -> Result<(), NoMemory>
     requires observed { ∥ R.HasObserved rule.old (S.whole source.old) (tail (S.rest source.old)) ∥₁ }
     requires held { is_settled (R.admits rule.old (S.whole source.old)) (S.rest source.old) ≡ false }
