@@ -165,3 +165,35 @@ fn names_are_read_back(rt: HostRuntime) -> Result<(), Fail> {
     }
     Ok(())
 }
+
+// Makes the user, gives him a right on the table and drops him, again and again. Whether he had no right each time that he came.
+fn comes_bare(policy: &mut Policy, user: &Name, table: Name, times: u32) -> Result<bool, Fail> {
+    for _ in 0..times {
+        policy.create_user(user)?;
+        if !policy
+            .rights_on(&table, user)
+            .is_some_and(|held| held.is_empty())
+        {
+            return Ok(false);
+        }
+        policy.grant(user, &Permission::OfTable(TablePermission::Write, table))?;
+        policy.drop_user(user);
+    }
+    Ok(true)
+}
+
+#[test]
+fn rights_of_those_who_went_make_room(rt: HostRuntime) -> Result<(), Fail> {
+    let alloc = rt.alloc();
+    let (bob, table) = (name(b"bob")?, name(b"t")?);
+    let mut policy = with_bob(alloc)?;
+    policy.grant(&bob, &Permission::OfTable(TablePermission::Read, table))?;
+    assert!(rt; comes_bare(&mut policy, &name(b"ann")?, table, 100)?);
+    assert_eq!(rt; policy.user_count(), 2);
+    assert_eq!(rt;
+        counts(alloc, &policy, &bob, &table)?,
+        (Some(0), Some(0), Some(1)),
+        "who stays"
+    );
+    Ok(())
+}
