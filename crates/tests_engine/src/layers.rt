@@ -199,7 +199,7 @@ fn counts_versions(rt: HostRuntime) -> Result<(), Fail> {
     ];
     for (most, want) in cases {
         let source = source_of(&rt, records_of(alloc, 1, 0)?);
-        let layer = Filtered::new(source, VersioningRule::new(alloc, most));
+        let layer = Filtered::new(source, VersioningRule::new(alloc, most, true));
         let mut layer = layer.or(Err(AllocError))?;
         reads(&rt, alloc, &mut layer, want)?;
     }
@@ -213,7 +213,7 @@ fn fetches(
     want: &[u64],
 ) -> Result<(), AllocError> {
     let source = source_of(rt, records_of(alloc, 1, 0)?);
-    let layer = Filtered::new(source, FetchingRule::new(columns));
+    let layer = Filtered::new(source, FetchingRule::new(alloc, columns));
     let mut layer = layer.or(Err(AllocError))?;
     reads(rt, alloc, &mut layer, want)
 }

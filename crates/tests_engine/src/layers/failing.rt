@@ -194,13 +194,19 @@ fn recovers_filtered(rt: HostRuntime) -> Result<(), Fail> {
             &rt,
             alloc,
             calls,
-            FetchingRule::new(&columns),
+            FetchingRule::new(alloc, &columns),
             &[14, 13, 15, 16],
         )?;
         let seen = [7, 6, 8, 5, 4, 10, 9, 3, 12, 14, 13, 15, 16];
         filters(&rt, alloc, calls, VisibleRule::new(alloc, &auths), &seen)?;
         let newest = [7, 6, 10, 11, 12, 14, 13, 16, 17];
-        filters(&rt, alloc, calls, VersioningRule::new(alloc, 1), &newest)?;
+        filters(
+            &rt,
+            alloc,
+            calls,
+            VersioningRule::new(alloc, 1, true),
+            &newest,
+        )?;
     }
     Ok(())
 }
