@@ -85,6 +85,11 @@ impl Table {
         ensures opened { IfOk result (λ s. s ≡ record { all = cells self.old.records self.old.versions (query_of scan); given = 0 }) }
     {
         let version = self.records.open(alloc, &scan.bounds)?;
-        Ok(Session::new(version, scan.columns, scan.authorizations, self.versions.get()))
+        Ok(Session::new(
+            version,
+            scan.columns,
+            scan.authorizations,
+            self.versions.get(),
+        ))
     }
 }

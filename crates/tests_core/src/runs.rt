@@ -52,8 +52,7 @@ fn a_closed_session_is_gone_for_good(rt: HostRuntime) -> Result<(), Fail> {
     let replies = run(alloc, steps)?;
     assert_eq!(rt;
         text_of(alloc, &replies)?.as_slice(),
-        b"ok ok ok opened ok opened ok unopened unopened unheld opened unknown unopened @3=3, unopened unopened "
-            .as_slice()
+        b"ok ok ok opened ok opened ok unopened unopened unheld opened unknown unopened @3=3, unopened unopened ".as_slice()
     );
     Ok(())
 }
@@ -76,7 +75,10 @@ fn a_run_keeps_many_sessions(rt: HostRuntime) -> Result<(), Fail> {
     for (at, reply) in replies.iter().skip(301).enumerate() {
         let want = format!(in alloc; "@{at}=")?;
         let text = text_of(alloc, std::slice::from_ref(reply))?;
-        assert!(rt; text.as_slice().starts_with(want.as_bytes()), "session {at}");
+        assert!(rt;
+            text.as_slice().starts_with(want.as_bytes()),
+            "session {at}"
+        );
     }
     Ok(())
 }

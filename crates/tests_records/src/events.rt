@@ -38,7 +38,13 @@ fn copies_a_write(rt: HostRuntime) -> Result<(), Fail> {
 #[test]
 fn counts_versions_from_1_to_1000(rt: HostRuntime) -> Result<(), Fail> {
     assert_eq!(rt; Versions::one().get(), 1);
-    for (count, is_counted) in [(0u64, false), (1, true), (1000, true), (1001, false), (u64::MAX, false)] {
+    for (count, is_counted) in [
+        (0u64, false),
+        (1, true),
+        (1000, true),
+        (1001, false),
+        (u64::MAX, false),
+    ] {
         assert_eq!(rt; Versions::new(count).is_some(), is_counted, "{count}");
     }
     Ok(())

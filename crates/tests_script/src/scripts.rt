@@ -27,7 +27,10 @@ fn answers_lines_wherever_they_are_cut(rt: HostRuntime) -> Result<(), Fail> {
     lines_are_forms();
     for piece in [1, 7, 1000] {
         let text = printed(rt.alloc(), LINES, piece)?;
-        assert_eq!(rt; text.as_slice(), b"ok\nok\nline fault\nr f q \\e 5 v\nend\n".as_slice());
+        assert_eq!(rt;
+            text.as_slice(),
+            b"ok\nok\nline fault\nr f q \\e 5 v\nend\n".as_slice()
+        );
     }
     Ok(())
 }
