@@ -22,7 +22,7 @@ use Rattle.tab_history.specs.Answers.{told, numbered}
 use Rattle.tab_core.specs.Tables.{settings_in, records_in}
 use Rattle.tab_core.specs.Stepping.{Acts, own_answer, IsAdmitted, IsCore}
 use Rattle.tab_core.proofs.Acting.{read_after, becomes, in_order, refused, own_refused}
-use Rattle.tab_core.proofs.Limits.{none_left, none_right, unmet}
+use Rattle.tab_mutation.proofs.Shapes.{none_left, none_right, unmet}
 
 -- ---- only the policy changed
 -- the changes make and drop no table and write nothing

@@ -9,7 +9,7 @@ use Rattle.tab_rules.specs.declared.constraint.Constraint.{Constraint}
 use Rattle.tab_policy.specs.declared.permission.TablePermission.{TablePermission}
 use Rattle.tab_policy.specs.declared.permission.TablePermission.TheVariants as table
 use Rattle.tab_policy.specs.Permissions.{same_table}
-use Rattle.tab_policy.specs.State.{State, readings, table_granted, table_exists}
+use Rattle.tab_policy.specs.State.{State, readings, user_exists, table_granted, table_exists}
 use Rattle.tab_history.specs.declared.event.Act.TheVariants as act
 use Rattle.tab_history.specs.declared.event.TimeMode.{TimeMode}
 use Rattle.tab_history.specs.declared.reply.Refusal.TheVariants.{TableExists, TooLarge}
@@ -76,6 +76,21 @@ rights_made user t n s p old = go (bytes_eq user n) (bytes_eq t s) p
     go true false table.AlterTable = refl
     go true false table.Grant = refl
     go true false table.DropTable = refl
+
+-- the creator is a user
+pub made_by : (old new : State) (user t : List ℕ) → user_exists old user ≡ true
+    → readings new ≡ record (readings old) {
+      rights = λ n x s. cond (bytes_eq t s) (user_exists old user && bytes_eq user n) (table_granted old n x s);
+      tables = λ s. cond (bytes_eq t s) true (table_exists old s);
+    }
+    → readings new ≡ record (readings old) {
+      rights = λ n x s. cond (bytes_eq t s) (bytes_eq user n) (table_granted old n x s);
+      tables = λ s. cond (bytes_eq t s) true (table_exists old s);
+    }
+made_by old new user t known made = made ∙ ap (λ b. record (readings old) {
+  rights = λ n x s. cond (bytes_eq t s) (b && bytes_eq user n) (table_granted old n x s);
+  tables = λ s. cond (bytes_eq t s) true (table_exists old s);
+}) known
 
 pub table_made : (b : Base) (p : State) (ts : List BaseTable) (now : ℤ) (user t : List ℕ) (time : TimeMode) (v : ℕ) → IsCore b → is_some (settings_in b.tables t) ≡ false → nat_le 4294967295 (length b.tables) ≡ false → length ts ≡ cond (is_some (settings_in b.tables t)) (length b.tables) (length b.tables + 1)
     → ((q : List ℕ) → settings_in ts q ≡ cond (bytes_eq t q) (Some (made_with time v)) (settings_in b.tables q)) → ((q : List ℕ) → records_in ts q ≡ cond (bytes_eq t q) [] (records_in b.tables q))

@@ -29,6 +29,7 @@ impl Core {
         time: TimeMode,
         versions: Versions,
     ) -> Reply<Session>
+        requires { IsAdmitted self.old user (Act.CreateTable table time versions) }
         ensures { Acts (own_answer self.old now user (Act.CreateTable table time versions)) self.old now user (Act.CreateTable table time versions) result self.new }
     {
         if self.tables.contains(&table) {

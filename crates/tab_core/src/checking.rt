@@ -54,6 +54,7 @@ fn malformed(mutation: &Mutation, auths: &AuthSet) -> Option<Refusal>
 // The first update with a timestamp, where the table gives them.
 #[tactic(auto, unfolding(tab_history::specs::Checks::stamped))]
 fn stamped(table: &Table, mutation: &Mutation) -> Option<Refusal>
+    requires { shape_error mutation.now ≡ None }
     ensures { result ≡ stamped (table_settings table.now) mutation.now }
 {
     if table.time == TimeMode::Any {
@@ -70,6 +71,7 @@ fn stamped(table: &Table, mutation: &Mutation) -> Option<Refusal>
 // The first update below the table's horizon.
 #[tactic(auto, unfolding(tab_history::specs::Checks::outdated))]
 fn outdated(table: &Table, now: i64, mutation: &Mutation) -> Option<Refusal>
+    requires { shape_error mutation.now ≡ None }
     ensures { result ≡ outdated (table_settings table.now) now mutation.now }
 {
     for index in 0..mutation.len() {

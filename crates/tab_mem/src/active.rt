@@ -1,8 +1,9 @@
 //! What is written to a table, until it is frozen.
-ghost use Rattle.std.specs.Prelude.{◌≡◌, ◌<◌, ◌++◌, ◌==◌, [], length, IfOk, OnOk, OnErr, Contains};
+ghost use Rattle.std.specs.Prelude.{◌≡◌, ◌<◌, ◌++◌, ◌==◌, [], None, length, IfOk, OnOk, OnErr, Contains};
 ghost use Rattle.std.specs.List.{slice_index_or};
 ghost use Rattle.tab_key.specs.Records.{Record as Fields};
 ghost use Rattle.tab_key.specs.Sorted.{IsDistinct, sorted};
+ghost use Rattle.tab_mutation.specs.Shape.{shape_error};
 ghost use Rattle.tab_cells.specs.Written.{mutation_records};
 
 use crate::Run;
@@ -67,12 +68,13 @@ impl Active {
         self.records.get(index)
     }
 
-    /// Adds the updates of an accepted mutation: each with this number, its place in the mutation counted from 0,
+    /// Adds the updates of a mutation, whose shape was accepted: each with this number, its place in the mutation counted from 0,
     /// and the clock where it gives no timestamp. It takes time linear in the mutation, however much was written before.
     ///
     /// `AllocError` leaves all as it was: the mutation goes in whole or not at all.
     pub fn write(&mut self, mutation: &Mutation, seq: u64, clock: i64) -> Result<(), AllocError>
-        requires { (u : Fields) → Contains self.old u → u.seq < seq }
+        requires shape { shape_error mutation.now ≡ None }
+        requires unused { (u : Fields) → Contains self.old u → u.seq < seq }
         ensures ok { OnOk result (self.new ≡ self.old ++ mutation_records seq clock mutation.now) }
         ensures err { OnErr result (self.new ≡ self.old) }
     {

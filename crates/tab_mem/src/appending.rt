@@ -1,7 +1,8 @@
 //! The records of an accepted mutation, put behind others.
-ghost use Rattle.std.specs.Prelude.{◌≡◌, ◌++◌, ◌<◌, ◌^◌, true, int_le, length, map, take, unwrap_or, IfOk, OnOk};
+ghost use Rattle.std.specs.Prelude.{◌≡◌, ◌++◌, ◌<◌, ◌^◌, true, int_le, length, map, take, unwrap_or, None, IfOk, OnOk};
 ghost use Rattle.std.specs.List.{AllByRecursion};
 ghost use Rattle.tab_key.specs.RecordSpans.{record_in, IsWithin};
+ghost use Rattle.tab_mutation.specs.Shape.{shape_error};
 ghost use Rattle.tab_cells.specs.Written.{timed, record_of, mutation_records};
 ghost use Rattle.tab_iter.specs.Lists.{latest, HasI64Timestamps};
 
@@ -43,7 +44,8 @@ pub(crate) fn append_all(
     seq: u64,
     clock: i64,
 ) -> Result<(), AllocError>
-    requires { AllByRecursion (IsWithin body.old.items) places.old.items }
+    requires within { AllByRecursion (IsWithin body.old.items) places.old.items }
+    requires shape { shape_error mutation.now ≡ None }
     ensures bytes { take (length body.old.items) body.new.items ≡ body.old.items }
     ensures places { take (length places.old.items) places.new.items ≡ places.old.items }
     ensures within { OnOk result (AllByRecursion (IsWithin body.new.items) places.new.items) }

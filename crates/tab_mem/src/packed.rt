@@ -1,6 +1,7 @@
 //! Records in one body of bytes.
-ghost use Rattle.std.specs.Prelude.{◌≡◌, ◌<◌, ◌++◌, ◌∷◌, ◌==◌, [], IfOk, OnOk, OnErr, length};
+ghost use Rattle.std.specs.Prelude.{◌≡◌, ◌<◌, ◌++◌, ◌∷◌, ◌==◌, [], None, IfOk, OnOk, OnErr, length};
 ghost use Rattle.std.specs.List.{slice_index_or};
+ghost use Rattle.tab_mutation.specs.Shape.{shape_error};
 ghost use Rattle.tab_cells.specs.Written.{mutation_records};
 ghost use Rattle.tab_iter.specs.Lists.{HasI64Timestamps};
 
@@ -101,6 +102,7 @@ impl Packed {
         seq: u64,
         clock: i64,
     ) -> Result<(), AllocError>
+        requires { shape_error mutation.now ≡ None }
         ensures ok { OnOk result (self.new ≡ self.old ++ mutation_records seq clock mutation.now) }
         ensures timestamps { OnOk result (HasI64Timestamps (mutation_records seq clock mutation.now)) }
         ensures err { OnErr result (self.new ≡ self.old) }

@@ -13,7 +13,7 @@
 //!
 //! `specs/Mutations` has mutations as contracts see them, `specs/Shape` the limits, `specs/UpdateSpans` and
 //! `specs/MutationFields` the updates and the mutation that lie in a buffer. In `proofs`, `Bodies` is on buffers that grow,
-//! `Firsts` on the first answer in a list.
+//! `Firsts` on the first answer in a list, `Shapes` on what an accepted shape says.
 #![tactic(auto)]
 
 mod mutation;

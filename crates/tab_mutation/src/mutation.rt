@@ -1,5 +1,5 @@
 //! A row and the updates for it.
-ghost use Rattle.std.specs.Prelude.{◌≡◌, ◌<◌, ◌^◌, ◌==◌, [], IfOk, OnOk, OnErr, None, length};
+ghost use Rattle.std.specs.Prelude.{◌≡◌, ◌<◌, ◌==◌, [], IfOk, OnOk, OnErr, None, length};
 ghost use Rattle.std.specs.List.{slice_index_or};
 ghost use Rattle.tab_mutation.specs.Mutations.{with_update, put_update, delete_update};
 ghost use Rattle.tab_mutation.specs.Shape.{first_found, long_name, long_value, shape_error};
@@ -10,9 +10,6 @@ use crate::{ShapeError, UpdateRef, Updates};
 use std::alloc::{AllocError, Global};
 use std::marker::Model;
 use tab_key::{Kind, MAX_UPDATES, Part};
-
-/// The most updates that a mutation can store, far more than one may have to be accepted.
-const MAX_STORED_UPDATES: usize = 4_294_967_295;
 
 /// A row and the puts and deletes that are to be applied to it together.
 ///
@@ -71,9 +68,6 @@ impl Mutation {
         })) }
         ensures err { OnErr result (self.new ≡ self.old) }
     {
-        if self.spans.len() >= MAX_STORED_UPDATES {
-            return Err(AllocError);
-        }
         self.spans.reserve(1)?;
         let span = append(
             &mut self.body,
@@ -92,7 +86,7 @@ impl Mutation {
     ///
     /// # Errors
     ///
-    /// There is no memory, or the mutation has 4,294,967,295 updates. It is then unchanged.
+    /// There is no memory. The mutation is then unchanged.
     pub fn put(
         &mut self,
         family: &[u8],
@@ -112,7 +106,7 @@ impl Mutation {
     ///
     /// # Errors
     ///
-    /// There is no memory, or the mutation has 4,294,967,295 updates. It is then unchanged.
+    /// There is no memory. The mutation is then unchanged.
     pub fn delete(
         &mut self,
         family: &[u8],
@@ -133,10 +127,9 @@ impl Mutation {
         &self.body[..self.row_end]
     }
 
-    /// How many updates there are, at most 4,294,967,295.
+    /// How many updates there are. A mutation holds as many as there is memory for; with over 1,000 its shape is refused.
     pub fn len(&self) -> usize
-        ensures len { result ≡ length self.now.updates }
-        ensures bound { length self.now.updates < 2 ^ 32 }
+        ensures { result ≡ length self.now.updates }
     {
         self.spans.len()
     }

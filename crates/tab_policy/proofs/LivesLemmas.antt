@@ -1,13 +1,13 @@
 -- Lives of users, and what follows of them for rights.
 use Rattle.std.proofs.Common.{◌≡◌, ℕ, ◌<◌, ◌≤◌, Bool, true, false, cond, ◌&&◌, List, Some, None, refl, sym, ap, ◌∙◌, arith}
-use Rattle.std.specs.Prelude.{Option, bytes_eq}
+use Rattle.std.specs.Prelude.{Option, is_some, bytes_eq}
 use Rattle.std.proofs.lemmas.Slice.Eq.{bytes_eq-Decides}
 use Rattle.tab_policy.specs.declared.permission.TablePermission.{TablePermission}
 use Rattle.tab_policy.specs.declared.sets.TablePermissions.{TablePermissions}
 use Rattle.tab_policy.specs.declared.account.Account.{Account}
 use Rattle.tab_policy.specs.Entries.{at_name, at_life, changed_at, same_life}
 use Rattle.tab_policy.specs.State.{some_contains, account_life, table_gives}
-use Rattle.tab_policy.specs.Lives.{AreLived, life_among, gives_among}
+use Rattle.tab_policy.specs.Lives.{AreLived, is_life, life_among, gives_among}
 use Rattle.tab_policy.proofs.NameLemmas.{life_is, is_life_of}
 use Rattle.tab_policy.proofs.EntryLemmas.{read_same}
 use Rattle.tab_policy.proofs.RightsLemmas.{false_either_way}
@@ -66,23 +66,16 @@ module _ {lives : List ℕ → Option ℕ} {living : ℕ → Bool} {gives : List
       go None e = no_life new p ∙ sym (no_life o p) ∙ unset a (table_gives o None p) ∙ sym (ap (λ b. cond (a && (b && c)) held (table_gives o None p)) (another n q l of_n e))
       go (Some m) e = change m (are.kept q m e) ∙ ap (λ b. cond (a && (b && c)) held (table_gives o (Some m) p)) (one_life n q l m of_n e)
 
-  -- all rights for a life are all rights for the user who is in it
-  pub made_for : (n q : List ℕ) (l : ℕ) (rights : List (ℕ × TablePermissions)) (p : TablePermission) → lives n ≡ Some l
-      → ((m : ℕ) → some_contains (at_life m rights) p ≡ same_life m l) → table_gives (Some rights) (lives q) p ≡ bytes_eq n q
-  made_for n q l rights p of_n all = go (lives q) refl
+  -- all rights for a life are all rights for the user who is in it, and for nobody where nobody is
+  pub made_for : (n q : List ℕ) (rights : List (ℕ × TablePermissions)) (p : TablePermission)
+      → ((m : ℕ) → some_contains (at_life m rights) p ≡ is_life (lives n) m) → table_gives (Some rights) (lives q) p ≡ is_some (lives n) && bytes_eq n q
+  made_for n q rights p all = go (lives n) refl (lives q) refl
     where
-      turned : (m : ℕ) → same_life m l ≡ same_life l m
-      turned m = go (same_life m l) refl (same_life l m) refl
-        where
-          go : (v : Bool) → same_life m l ≡ v → (w : Bool) → same_life l m ≡ w → v ≡ w
-          go true e true f = refl
-          go false e false f = refl
-          go true e false f = sym (is_life_of l m (sym (life_is m l e))) ∙ f
-          go false e true f = sym e ∙ is_life_of m l (sym (life_is l m f))
-
-      go : (m : Option ℕ) → lives q ≡ m → table_gives (Some rights) m p ≡ bytes_eq n q
-      go None e = sym (another n q l of_n e)
-      go (Some m) e = all m ∙ turned m ∙ one_life n q l m of_n e
+      go : (l : Option ℕ) → lives n ≡ l → (m : Option ℕ) → lives q ≡ m → table_gives (Some rights) m p ≡ is_some l && bytes_eq n q
+      go None e None f = refl
+      go None e (Some m) f = all m ∙ ap (λ l. is_life l m) e
+      go (Some l) e None f = sym (another n q l e f)
+      go (Some l) e (Some m) f = all m ∙ ap (λ k. is_life k m) e ∙ one_life n q l m e f
 
   -- whoever isn't there has no right to lose
   pub nothing_taken : (n q : List ℕ) (o : Option (List (ℕ × TablePermissions))) (p : TablePermission) (c : Bool) → lives n ≡ None
@@ -123,6 +116,11 @@ pub either_way : {X E C A B : Type 0} (r : Result X E) → OnOk r A → OnErr r 
 either_way (Ok x) a b f g = f a
 either_way (Err e) a b f g = g b
 
+-- whoever is there is in a life
+pub lives_who_is : (o : Option Account) → is_some (account_life o) ≡ is_some o
+lives_who_is None = refl
+lives_who_is (Some a) = refl
+
 -- a life that has begun isn't one that is still to come
 pub not_begun : (life next l : ℕ) → life < next → next ≤ l → same_life life l ≡ false
 not_begun life next l begun to_come = go (same_life life l) refl
@@ -156,17 +154,17 @@ pub rights_taken : (next life : ℕ) (ts new : Tables) (b c : List ℕ → Table
 rights_taken next life ts new b c h t l p to_come none = h t l p ∙ ap (cond (same_life life l && (b t p && c t p)) false) none ∙ false_either_way (same_life life l && (b t p && c t p))
 
 -- a table that is made gives nothing to lives that are still to come
-pub table_made : (next life : ℕ) (ts new : Tables) (table : List ℕ) (rights : List (ℕ × TablePermissions)) → life < next
-    → ((l : ℕ) (p : TablePermission) → some_contains (at_life l rights) p ≡ same_life l life)
+pub table_made : (next : ℕ) (life : Option ℕ) (ts new : Tables) (table : List ℕ) (rights : List (ℕ × TablePermissions)) → ((l : ℕ) → life ≡ Some l → l < next)
+    → ((l : ℕ) (p : TablePermission) → some_contains (at_life l rights) p ≡ is_life life l)
     → (t : List ℕ) (l : ℕ) (p : TablePermission) → next ≤ l → gives_among ts t l p ≡ false
     → ((q : List ℕ) → at_name q new ≡ cond (bytes_eq table q) (Some rights) (at_name q ts)) → gives_among new t l p ≡ false
 table_made next life ts new table rights begun all t l p to_come none h =
     ap (λ o. table_gives o (Some l) p) (h t) ∙ go (bytes_eq table t)
   where
-    turned : (v : Bool) → same_life l life ≡ v → v ≡ false
-    turned true e = absurd (omega (arith, begun, to_come, life_is l life e))
-    turned false e = refl
+    later : (o : Option ℕ) → life ≡ o → is_life o l ≡ false
+    later None e = refl
+    later (Some m) e = not_begun m next l (begun m e) to_come
 
     go : (v : Bool) → table_gives (cond v (Some rights) (at_name t ts)) (Some l) p ≡ false
-    go true = all l p ∙ turned (same_life l life) refl
+    go true = all l p ∙ later life refl
     go false = none

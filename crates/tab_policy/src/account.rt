@@ -5,6 +5,7 @@ ghost use Rattle.tab_policy.specs.Sets.{system_contains};
 ghost use Rattle.tab_policy.specs.Accounts.{with_auths, with_system};
 ghost use Rattle.tab_policy.specs.Entries.{at_name, changed_at};
 ghost use Rattle.tab_policy.specs.State.{account_life};
+ghost use Rattle.tab_policy.specs.Lives.{life_among};
 
 use crate::decision::Caller;
 use crate::name_key::NameKey;
@@ -74,6 +75,14 @@ pub fn is_root(user: &Name) -> bool
     ensures { result ≡ bytes_eq user.now root }
 {
     user.as_bytes() == b"root".as_slice()
+}
+
+// The life of the user of this name, if there is one.
+pub fn life_among(users: &BTreeMap<NameKey, Account>, name: &Name) -> Option<u64>
+    ensures { result ≡ life_among users.now.entries name.now }
+{
+    let account = users.get(name)?;
+    Some(account.life)
 }
 
 // Puts the account under the name, and answers the life of the account that stood there. An error leaves the accounts as they were.

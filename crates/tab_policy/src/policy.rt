@@ -4,7 +4,9 @@ ghost use Rattle.std.specs.Result.{result_err};
 ghost use Rattle.tab_policy.specs.Roots.{root};
 ghost use Rattle.tab_policy.specs.Sets.{system_contains, table_contains};
 
-use crate::account::{Account, put_account, root_name, set_auths, set_system, take_account};
+use crate::account::{
+    Account, life_among, put_account, root_name, set_auths, set_system, take_account,
+};
 use crate::action::Action;
 use crate::decision::{Decision, Denial};
 use crate::entries::{put, take_away};
@@ -166,21 +168,19 @@ impl Policy {
     }
 
     /// Makes the table, with all permissions on it for its creator and none for others. What stood under its name is gone.
+    /// Where there is no user of the creator's name, nobody has a permission on it.
     ///
     /// # Errors
     ///
-    /// There was no memory for the table, or there is no user of the creator's name. The policy is then as it was.
+    /// There was no memory for the table. The policy is then as it was.
     pub fn create_table(&mut self, creator: &Name, table: &Name) -> Result<(), AllocError>
         ensures ok { OnOk result (readings self.new ≡ record (readings self.old) {
-          rights = λ n p t. if bytes_eq table.now t then bytes_eq creator.now n else table_granted self.old n p t;
+          rights = λ n p t. if bytes_eq table.now t then (user_exists self.old creator.now && bytes_eq creator.now n) else table_granted self.old n p t;
           tables = λ t. if bytes_eq table.now t then true else table_exists self.old t;
         }) }
         ensures err { OnErr result (self.new ≡ self.old) }
     {
-        let Some(account) = self.users.get(creator) else {
-            return Err(AllocError);
-        };
-        let rights = TableRights::new(self.alloc, account.life);
+        let rights = TableRights::new(self.alloc, life_among(&self.users, creator));
         let key = NameKey::new(self.alloc, table)?;
         put(&mut self.tables, key, rights)
     }

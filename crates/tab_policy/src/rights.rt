@@ -4,7 +4,7 @@ ghost use Rattle.tab_policy.specs.Entries.{at_name, at_life, same_life};
 ghost use Rattle.tab_policy.specs.Sets.{table_contains};
 ghost use Rattle.tab_policy.specs.Permissions.{same_table};
 ghost use Rattle.tab_policy.specs.State.{some_contains, table_gives};
-ghost use Rattle.tab_policy.specs.Lives.{is_among, Weeds};
+ghost use Rattle.tab_policy.specs.Lives.{is_life, is_among, Weeds};
 
 use crate::entries::{put_at, replace_at, take_away_at};
 use crate::lives::Lives;
@@ -40,13 +40,17 @@ impl Model for TableRights {
 }
 
 impl TableRights {
-    // All rights for the creator, and none for others. It takes no memory.
-    pub fn new(alloc: Global, creator: u64) -> TableRights
-        ensures { (l : ℕ) (p : _) → some_contains (at_life l result) p ≡ same_life l creator }
+    // All rights for whoever is in the creator's life, and none for others; for nobody where there is no such life. It takes no memory.
+    pub fn new(alloc: Global, creator: Option<u64>) -> TableRights
+        ensures { (l : ℕ) (p : _) → some_contains (at_life l result) p ≡ is_life creator l }
     {
+        let (maker, own) = match creator {
+            Some(life) => (life, TablePermissions::all()),
+            None => (0, TablePermissions::none()),
+        };
         TableRights {
-            maker: creator,
-            own: TablePermissions::all(),
+            maker,
+            own,
             others: BTreeMap::new(alloc),
             room: FEW,
         }

@@ -1,8 +1,8 @@
 //! The check of a mutation against a table's constraints.
-ghost use Rattle.std.specs.Prelude.{◌≡◌, IfOk, not};
+ghost use Rattle.std.specs.Prelude.{◌≡◌, None, IfOk, not};
 ghost use Rattle.std.specs.Char.{is_ascii_alphanumeric};
 ghost use Rattle.std.specs.List.{filter_map, list_all};
-ghost use Rattle.tab_mutation.specs.Shape.{first_index};
+ghost use Rattle.tab_mutation.specs.Shape.{first_index, shape_error};
 ghost use Rattle.tab_rules.specs.Verdict.{fails, violation, violations};
 
 use crate::fails::fails;
@@ -59,6 +59,7 @@ fn first_by_row(mutation: &Mutation) -> Option<u32>
 
 // The first update that fails the test.
 fn first_failing(mutation: &Mutation, auths: &AuthSet, test: Test) -> Option<u32>
+    requires { shape_error mutation.now ≡ None }
     ensures { result ≡ first_index (fails auths.now mutation.now.row test.constraint test.code) 0
         mutation.now.updates }
 {
@@ -78,6 +79,7 @@ fn violation(
     mutation: &Mutation,
     test: Test,
 ) -> Option<Violation>
+    requires { shape_error mutation.now ≡ None }
     ensures { result ≡ violation constraints.now auths.now mutation.now test }
 {
     if !constraints.contains(test.constraint) {
@@ -105,6 +107,7 @@ fn violations_among(
     auths: &AuthSet,
     mutation: &Mutation,
 ) -> Result<Vec<Violation>, AllocError>
+    requires { shape_error mutation.now ≡ None }
     ensures { IfOk result (λ v. v.items ≡
         filter_map (violation constraints.now auths.now mutation.now) tests.now) }
 {
@@ -114,7 +117,7 @@ fn violations_among(
         .collect(alloc)
 }
 
-/// What the mutation fails of a table's constraints, for a writer who holds these authorizations.
+/// What the mutation fails of a table's constraints, for a writer who holds these authorizations. Its shape was accepted.
 ///
 /// Every violation is listed, rising by constraint and code, each with the first update that fails
 /// so, counted from 0. The list is empty where nothing fails.
@@ -125,6 +128,7 @@ pub fn check(
     mutation: &Mutation,
     auths: &AuthSet,
 ) -> Result<Verdict, AllocError>
+    requires { shape_error mutation.now ≡ None }
     ensures { IfOk result (λ v. v ≡ violations constraints.now auths.now mutation.now) }
 {
     let violations = violations_among(alloc, &TESTS, constraints, auths, mutation)?;

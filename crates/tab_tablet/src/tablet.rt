@@ -1,7 +1,8 @@
 //! The tablet.
-ghost use Rattle.std.specs.Prelude.{◌≡◌, ◌<◌, ◌++◌, [], IfOk, OnOk, OnErr, Contains};
+ghost use Rattle.std.specs.Prelude.{◌≡◌, ◌<◌, ◌++◌, [], None, IfOk, OnOk, OnErr, Contains};
 ghost use Rattle.tab_key.specs.Records.{Record as Fields};
 ghost use Rattle.tab_key.specs.Sorted.{sorted};
+ghost use Rattle.tab_mutation.specs.Shape.{shape_error};
 ghost use Rattle.tab_cells.specs.Written.{mutation_records};
 ghost use Rattle.tab_tablet.specs.Opened.{ShowsRowsOf};
 
@@ -45,11 +46,12 @@ impl Tablet {
         }
     }
 
-    /// Adds the updates of an accepted mutation: each with this number, its place in the mutation counted from 0,
+    /// Adds the updates of a mutation, whose shape was accepted: each with this number, its place in the mutation counted from 0,
     /// and the clock where it gives no timestamp. It takes time linear in the mutation, however much was written before.
     ///
     /// `AllocError` leaves all as it was: the mutation goes in whole or not at all.
     pub fn write(&mut self, mutation: &Mutation, seq: u64, clock: i64) -> Result<(), AllocError>
+        requires shape { shape_error mutation.now ≡ None }
         requires unused { (u : Fields) → Contains self.old u → u.seq < seq }
         ensures ok { OnOk result (self.new ≡ sorted (mutation_records seq clock mutation.now ++ self.old)) }
         ensures err { OnErr result (self.new ≡ self.old) }

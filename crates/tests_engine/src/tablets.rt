@@ -18,9 +18,10 @@ fn random_update(random: &mut Random) -> Update {
     random.update(row, 0, 0, CLOCK)
 }
 
-// A tablet of one mutation.
+// A tablet of one mutation, whose shape must be accepted.
 #[tactic(auto, using(crate::proofs::Later::nothing_older))]
-fn written(alloc: Global, mutation: &Mutation) -> Result<Tablet, AllocError> {
+fn written(rt: &impl Abort, alloc: Global, mutation: &Mutation) -> Result<Tablet, AllocError> {
+    assert!(rt; mutation.shape().is_none());
     let mut tablet = Tablet::new(alloc);
     tablet.write(mutation, 0, CLOCK)?;
     Ok(tablet)
@@ -49,7 +50,7 @@ fn a_tablet_shows_what_the_model_shows(rt: HostRuntime) -> Result<(), Fail> {
     for _ in 0..400 {
         let row = random.one_of(&ROWS);
         let table = random.updates(alloc, row, 0, CLOCK)?;
-        let mut tablet = written(alloc, &mutation_of(alloc, row, &table)?)?;
+        let mut tablet = written(&rt, alloc, &mutation_of(alloc, row, &table)?)?;
         for _ in 0..3 {
             let count = compare(&rt, alloc, &mut random, &mut tablet, &table)?;
             shown = shown.saturating_add(count);
@@ -97,7 +98,7 @@ fn compare_deep(
         has_a: true,
         ..Query::ALL
     };
-    let mut tablet = written(alloc, &mutation_of(alloc, b"k", table)?)?;
+    let mut tablet = written(rt, alloc, &mutation_of(alloc, b"k", table)?)?;
     let version = tablet.open(alloc, &query.bounds(alloc)?)?;
     let want = scanned(alloc, table, &query)?;
     for sought in table.iter().step_by(10) {

@@ -28,7 +28,7 @@ fn is_new(active: &Active, seq: u64) -> bool
     true
 }
 
-/// Writes the mutation, and once more where memory is refused: then it finds all as it was.
+/// Writes the mutation, and once more where memory is refused: then it finds all as it was. Its shape must be accepted.
 pub fn write(
     rt: &impl Abort,
     active: &mut Active,
@@ -36,6 +36,7 @@ pub fn write(
     seq: u64,
 ) -> Result<(), AllocError> {
     assert!(rt; is_new(active, seq));
+    assert!(rt; mutation.shape().is_none());
     let before = active.len();
     if active.write(mutation, seq, CLOCK).is_ok() {
         return Ok(());

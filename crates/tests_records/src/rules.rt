@@ -12,6 +12,17 @@ const ALL: [Constraint; 4] = [
     Constraint::Alphanumeric,
 ];
 
+// What the mutation fails, whose shape must be accepted.
+fn checked(
+    rt: &HostRuntime,
+    set: &ConstraintSet,
+    mutation: &Mutation,
+    auths: &AuthSet,
+) -> Result<Verdict, AllocError> {
+    assert!(rt; mutation.shape().is_none());
+    check(rt.alloc(), set, mutation, auths)
+}
+
 // The numbers of the failing constraints, with their codes and updates.
 fn listed(rt: &HostRuntime, verdict: &Verdict) -> Result<Vec<(u8, u8, u32)>, AllocError> {
     let mut list = Vec::new(rt.alloc());
@@ -40,7 +51,7 @@ fn lists_every_failing_pair(rt: HostRuntime) -> Result<(), Fail> {
         Constraint::Alphanumeric,
         Constraint::Numeric,
     ]);
-    let verdict = check(rt.alloc(), &set, &mutation, &auths)?;
+    let verdict = checked(&rt, &set, &mutation, &auths)?;
     let list = listed(&rt, &verdict)?;
     assert_eq!(rt;
         list.as_slice(),
@@ -52,7 +63,9 @@ fn lists_every_failing_pair(rt: HostRuntime) -> Result<(), Fail> {
         update: 0,
     };
     assert_eq!(rt; verdict.as_slice().first().copied(), Some(first));
-    assert!(rt; check(rt.alloc(), &ConstraintSet::none(), &mutation, &auths)?.is_empty());
+    assert!(rt; checked(&rt, &ConstraintSet::none(), &mutation, &auths)?.is_empty());
+    assert!(rt; set.contains(Constraint::Numeric));
+    assert!(rt; !set.contains(Constraint::Visibility));
     Ok(())
 }
 
@@ -64,9 +77,9 @@ fn judges_labels_by_all_authorizations(rt: HostRuntime) -> Result<(), Fail> {
     mutation.put(b"f", b"q", b"A&B", Some(1), b"y")?;
     mutation.delete(b"f", b"q", b"B", Some(1))?;
     let set = ConstraintSet::of(&[Constraint::Visibility]);
-    let verdict = check(rt.alloc(), &set, &mutation, &holding(&rt, b"A")?)?;
+    let verdict = checked(&rt, &set, &mutation, &holding(&rt, b"A")?)?;
     assert_eq!(rt; listed(&rt, &verdict)?.as_slice(), [(4, 2, 2)].as_slice());
-    let verdict = check(rt.alloc(), &set, &mutation, &AuthSet::empty(rt.alloc()))?;
+    let verdict = checked(&rt, &set, &mutation, &AuthSet::empty(rt.alloc()))?;
     assert_eq!(rt; listed(&rt, &verdict)?.as_slice(), [(4, 2, 1)].as_slice());
     Ok(())
 }
@@ -90,7 +103,7 @@ fn tells_numerals(rt: HostRuntime) -> Result<(), Fail> {
     ] {
         let mut mutation = Mutation::new(rt.alloc(), b"r")?;
         mutation.put(b"f", b"q", b"", None, value)?;
-        let verdict = check(rt.alloc(), &set, &mutation, &auths)?;
+        let verdict = checked(&rt, &set, &mutation, &auths)?;
         assert_eq!(rt; verdict.is_empty(), passes, "{value:?}");
     }
     Ok(())
@@ -113,7 +126,7 @@ fn tells_letters_and_digits(rt: HostRuntime) -> Result<(), Fail> {
     ] {
         let mut mutation = Mutation::new(rt.alloc(), b"")?;
         mutation.put(family, b"", b"", None, b"")?;
-        let verdict = check(rt.alloc(), &set, &mutation, &auths)?;
+        let verdict = checked(&rt, &set, &mutation, &auths)?;
         assert_eq!(rt; verdict.is_empty(), passes, "{family:?}");
     }
     Ok(())
@@ -130,11 +143,11 @@ fn limits_the_key(rt: HostRuntime) -> Result<(), Fail> {
     let mut mutation = Mutation::new(rt.alloc(), quarter)?;
     mutation.put(quarter, quarter, quarter, None, b"1")?;
     let set = ConstraintSet::of(&[Constraint::KeySize]);
-    assert!(rt; check(rt.alloc(), &set, &mutation, &auths)?.is_empty());
+    assert!(rt; checked(&rt, &set, &mutation, &auths)?.is_empty());
     mutation.delete(quarter, whole, quarter, None)?;
-    let verdict = check(rt.alloc(), &set, &mutation, &auths)?;
+    let verdict = checked(&rt, &set, &mutation, &auths)?;
     assert_eq!(rt; listed(&rt, &verdict)?.as_slice(), [(1, 1, 1)].as_slice());
-    let verdict = check(rt.alloc(), &ConstraintSet::of(&ALL), &mutation, &auths)?;
+    let verdict = checked(&rt, &ConstraintSet::of(&ALL), &mutation, &auths)?;
     assert_eq!(rt;
         listed(&rt, &verdict)?.as_slice(),
         [(1, 1, 1), (4, 2, 0)].as_slice()

@@ -30,6 +30,14 @@ grant-requires c =
     sym (ap (denial c.args.user) (c.in-Ok.ensures.decided ∙ (λ i. decision (standing_of (policy i) c.args.user) (c.action_of.ensures i)))) in
     subst (λ (a : Act). IsAdmitted c.args.self.now c.args.user a) c.in-Grant.is (is_admitted c.args.self.now c.args.user c.args.act core e)
 
+pub create_table-requires : goal.create_table-requires
+create_table-requires c =
+    let core : IsCore c.args.self.now = subst (λ (b : Base). IsCore b) c.self.view_is c.self.invariant in
+    let policy : c.self.inside.policy ≡ c.args.self.now.policy = ap (λ (b : Base). b.policy) c.self.view_is in
+    let e : denial c.args.user (decision (standing_of c.args.self.now.policy c.args.user) (action_of c.args.act)) ≡ None =
+    sym (ap (denial c.args.user) (c.in-Ok.ensures.decided ∙ (λ i. decision (standing_of (policy i) c.args.user) (c.action_of.ensures i)))) in
+    subst (λ (a : Act). IsAdmitted c.args.self.now c.args.user a) c.in-CreateTable.is (is_admitted c.args.self.now c.args.user c.args.act core e)
+
 pub drop_table-requires : goal.drop_table-requires
 drop_table-requires c =
     let core : IsCore c.args.self.now = subst (λ (b : Base). IsCore b) c.self.view_is c.self.invariant in

@@ -1,6 +1,6 @@
 use Rattle.std.proofs.Common.{◌≡◌, [], true, false, cond, refl, subst, sym, ap, ◌∙◌, List, Some, length, rules}
 use Rattle.std.specs.Prelude.{nat_le, is_some, bytes_eq}
-use Rattle.tab_policy.specs.State.{State, Readings, readings}
+use Rattle.tab_policy.specs.State.{State, Readings, readings, user_exists}
 use Rattle.tab_key.specs.declared.part.Part.TheVariants.{Numbers}
 use Rattle.tab_history.specs.declared.event.Act.{Act}
 use Rattle.tab_history.specs.declared.event.Act.TheVariants as act
@@ -13,7 +13,7 @@ use Rattle.tab_core.specs.Tables.{settings_in, records_in, table_settings}
 use Rattle.tab_core.specs.Stepping.{Acts, own_answer, IsCore}
 use Rattle.tab_core.proofs.Acting.{lacked, lacked_alike}
 use Rattle.tab_core.proofs.Cores.{core_renewed, core_alike}
-use Rattle.tab_core.proofs.TableActs.{table_exists_already, tables_used_up, table_made, count_back, settings_back, records_back}
+use Rattle.tab_core.proofs.TableActs.{table_exists_already, tables_used_up, table_made, made_by, count_back, settings_back, records_back}
 use Rattle.tab_core.proofs.state.Core.create_table.Goals as goal
 
 pub returns-then-contains : goal.returns-then-contains
@@ -65,10 +65,11 @@ returns-in-Ok-create_table c =
     let absent : is_some (settings_in c.self.inside.tables c.args.table) ≡ false = sym c.contains.ensures ∙ c.if-contains.false in
     let room : nat_le 4294967295 (length c.self.inside.tables) ≡ false = search rules in
     let new : Base = record { clock = c.self.inside.clock; next = c.self.inside.next; policy = c.create_table.new.self; tables = c.insert.new.self } in
+    let known : user_exists c.self.inside.policy c.args.user ≡ true = subst (λ (b : Base). user_exists b.policy c.args.user ≡ true) (sym c.self.view_is) c.requires.0 in
     subst (λ (b : Base). Acts (own_answer b c.args.now c.args.user a) b c.args.now c.args.user a Done new) c.self.view_is
     (table_made _ c.create_table.new.self c.insert.new.self c.args.now c.args.user c.args.table c.args.time c.args.versions c.self.invariant absent room c.in-Ok.ensures.count
     (λ q. c.in-Ok.ensures.settings q ∙ ap (λ (s : Settings). cond (bytes_eq c.args.table q) (Some s) (settings_in c.self.inside.tables q)) made)
-    (λ q. c.in-Ok.ensures.records q ∙ ap (λ us. cond (bytes_eq c.args.table q) us (records_in c.self.inside.tables q)) none) c.in-Ok-create_table.ensures.ok)
+    (λ q. c.in-Ok.ensures.records q ∙ ap (λ us. cond (bytes_eq c.args.table q) us (records_in c.self.inside.tables q)) none) (made_by _ c.create_table.new.self c.args.user c.args.table known c.in-Ok-create_table.ensures.ok))
 
 pub returns-in-Err-create_table : goal.returns-in-Err-create_table
 returns-in-Err-create_table c =

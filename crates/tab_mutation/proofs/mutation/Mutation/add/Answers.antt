@@ -19,7 +19,6 @@ invariant_of-self-2 c =
     record {
       row = omega (arith, no_shorter _ _ c.append.ensures.front, c.self.invariant.row);
       updates = pushed_within _ _ _ _ c.in_ok-span.span spans c.append.ensures.front c.self.invariant.updates c.in_ok-span.ensures.within;
-      count = omega (arith, ap length spans, length-append c.self.inside.spans.items (c.in_ok-span.span ∷ []), c.len.ensures);
     }
 
 pub returns-clause-ok : goal.returns-clause-ok
