@@ -38,7 +38,7 @@ fn malformed_at(update: &UpdateRef<'_>, place: u32, auths: &AuthSet) -> Option<R
 }
 
 // The first update whose label is malformed.
-#[tactic(auto, unfolding(tab_history::specs::Checks::malformed))]
+#[tactic(auto, unfolding(tab_history::specs::Checks::malformed), using(tab_mutation::proofs::Shapes::shaped_few))]
 fn malformed(mutation: &Mutation, auths: &AuthSet) -> Option<Refusal>
     requires { shape_error mutation.now ≡ None }
     ensures { result ≡ malformed mutation.now }
@@ -52,7 +52,7 @@ fn malformed(mutation: &Mutation, auths: &AuthSet) -> Option<Refusal>
 }
 
 // The first update with a timestamp, where the table gives them.
-#[tactic(auto, unfolding(tab_history::specs::Checks::stamped))]
+#[tactic(auto, unfolding(tab_history::specs::Checks::stamped), using(tab_mutation::proofs::Shapes::shaped_few))]
 fn stamped(table: &Table, mutation: &Mutation) -> Option<Refusal>
     requires { shape_error mutation.now ≡ None }
     ensures { result ≡ stamped (table_settings table.now) mutation.now }
@@ -69,7 +69,7 @@ fn stamped(table: &Table, mutation: &Mutation) -> Option<Refusal>
 }
 
 // The first update below the table's horizon.
-#[tactic(auto, unfolding(tab_history::specs::Checks::outdated))]
+#[tactic(auto, unfolding(tab_history::specs::Checks::outdated), using(tab_mutation::proofs::Shapes::shaped_few))]
 fn outdated(table: &Table, now: i64, mutation: &Mutation) -> Option<Refusal>
     requires { shape_error mutation.now ≡ None }
     ensures { result ≡ outdated (table_settings table.now) now mutation.now }

@@ -37,6 +37,7 @@ fn append_one(
 
 /// Puts the records of a mutation at the end, the last update's first. What was there before stays in front, also after an
 /// error; then some records may stand behind it.
+#[tactic(auto, using(tab_mutation::proofs::Shapes::shaped_few))]
 pub(crate) fn append_all(
     body: &mut Vec<u8>,
     places: &mut Vec<RecordSpan>,

@@ -58,6 +58,7 @@ fn first_by_row(mutation: &Mutation) -> Option<u32>
 }
 
 // The first update that fails the test.
+#[tactic(auto, using(tab_mutation::proofs::Shapes::shaped_few))]
 fn first_failing(mutation: &Mutation, auths: &AuthSet, test: Test) -> Option<u32>
     requires { shape_error mutation.now ≡ None }
     ensures { result ≡ first_index (fails auths.now mutation.now.row test.constraint test.code) 0

@@ -1,4 +1,4 @@
-use Rattle.std.proofs.Common.{◌≡◌, ◌∙◌, ℕ, List, Some, cond, ap, sym, subst, rules, bytes_eq, ◌&&◌}
+use Rattle.std.proofs.Common.{◌≡◌, ◌∙◌, ℕ, List, Some, cond, ap, subst, bytes_eq, ◌&&◌}
 use Rattle.std.specs.Prelude.{OnOk, Option, is_some}
 use Rattle.std.proofs.lemmas.Result.{on_ok_weaker}
 use Rattle.tab_policy.specs.Entries.{at_name}
@@ -25,7 +25,7 @@ returns-clause-ok c =
     let new = c.put.new.map.entries in
     let users = c.self.inside.users.entries in
     rw (← c.self.view_is)
-    (on_ok_weaker c.put.result (table_renewed users old new c.args.table.now (Some c.new-rights.result) (λ n. user_exists _ c.args.creator.now && bytes_eq c.args.creator.now n)
+    (on_ok_weaker c.put.result (table_renewed users old new c.args.table.now (Some c.new-rights.result) (λ n. is_some (at_name c.args.creator.now users) && bytes_eq c.args.creator.now n)
     (λ n p. made_for c.self.invariant c.args.creator.now n c.new-rights.result p (λ m. c.new-rights.ensures m p ∙ ap (λ o. is_life o m) c.life_among.ensures)
     ∙ ap (λ b. b && bytes_eq c.args.creator.now n) (lives_who_is (at_name c.args.creator.now users))))
     (subst (λ (k : List ℕ). OnOk c.put.result ((q : List ℕ) → at_name q new ≡ cond (bytes_eq k q) (Some c.new-rights.result) (at_name q old))) c.in_ok-key.ensures c.put.ensures.ok))
