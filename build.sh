@@ -12,8 +12,8 @@ rm -rf "$place" && mkdir -p "$place" || exit 1
 trap 'rm -rf "$place"' EXIT
 trap 'kill $(jobs -p) 2>/dev/null; exit 1' INT TERM HUP
 
-# The crate and all that it stands on, those with the longest way up to it first.
-below() { # CRATE
+# The crate and all that it stands on, each behind how many steps lead up from it, those with the most first.
+ways() { # CRATE
     awk -v top="$1" -F ':' '
         !/^#/ && NF > 1 { uses[$1] = $2 }
         function climb(name, steps, words, count, i) {
@@ -22,7 +22,12 @@ below() { # CRATE
             count = split(uses[name], words, " ")
             for (i = 1; i <= count; i++) climb(words[i], steps + 1)
         }
-        END { climb(top, 0); for (name in way) print way[name], name }' "$top/crates.txt" | sort -k1,1nr -k2 | cut -d ' ' -f 2
+        END { climb(top, 0); for (name in way) print way[name], name }' "$top/crates.txt" | sort -k1,1nr -k2
+}
+
+# The crate and all that it stands on.
+below() { # CRATE
+    ways "$1" | cut -d ' ' -f 2
 }
 
 # Whether the crate has a library already; that it is the right one, `rt` sees to afterwards.
@@ -39,7 +44,7 @@ is_ready() { # CRATE
 }
 
 # Builds the crate's library in a folder of its own, and moves it to its place.
-build_library() { # CRATE
+build_library() { # CRATE NICE
     local at=$place/$1 one part
     for one in $(below "$1"); do
         mkdir -p "$at/crates/$one/out" || return 1
@@ -49,17 +54,32 @@ build_library() { # CRATE
         done
         [ "$one" = "$1" ] || cp -Rl "$top/crates/$one/out/rlib" "$at/crates/$one/out/rlib" || return 1
     done
-    (cd "$at/crates/$1" && rt lib) >"$place/$1.log" 2>&1 </dev/null || return 1
+    (cd "$at/crates/$1" && nice -n "$2" rt lib) >"$place/$1.log" 2>&1 </dev/null || return 1
     mkdir -p "$top/crates/$1/out"
     rm -rf "$top/crates/$1/out/rlib" "$top/crates/$1/out/incremental"
     mv "$at/crates/$1/out/"* "$top/crates/$1/out/" && rm -rf "$at"
 }
 
-# Two processors a crate, and three gigabytes of memory.
+# As many crates at once as leave a processor over, and three gigabytes of memory for each.
 cores=$(nproc)
 memory=$(awk '/^MemAvailable/ { print int($2 / 3000000) }' /proc/meminfo)
-lanes=$((cores / 2 < memory ? cores / 2 : memory))
+lanes=$((cores - 1 < memory ? cores - 1 : memory))
 [ "$lanes" -ge 1 ] || lanes=1
+
+# How nice the crate is to be: those from which as many steps lead up as from any that is under way hold up the others.
+declare -A way
+while read -r steps crate; do way[$crate]=$steps; done < <(ways tabd)
+niceness() { # CRATE
+    local one
+    for one in "$place"/*/; do
+        one=$(basename "$one")
+        if [ -n "${way[$one]:-}" ] && [ "${way[$one]}" -gt "${way[$1]}" ]; then
+            echo 10
+            return
+        fi
+    done
+    echo 0
+}
 
 crates=$(below tabd)
 count=$(wc -w <<<"$crates")
@@ -74,7 +94,9 @@ while [ -n "$left" ] || [ "$running" -gt 0 ]; do
         if [ "$running" -lt "$lanes" ] && is_ready "$crate"; then
             begun=$((begun + 1)) running=$((running + 1))
             echo "tabd: proving $crate, $begun of $count" >&2
-            { build_library "$crate" || : >"$place/$crate.failed"; } &
+            nice=$(niceness "$crate")
+            mkdir -p "$place/$crate"
+            { build_library "$crate" "$nice" || : >"$place/$crate.failed"; } &
         else
             later="$later $crate"
         fi

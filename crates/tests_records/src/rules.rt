@@ -1,5 +1,6 @@
 //! Constraints, and the list of what a mutation fails.
-use std::alloc::AllocError;
+use std::alloc::{AllocError, Global};
+use std::process::Abort;
 use std::test::Fail;
 use tab_label::AuthSet;
 use tab_mutation::Mutation;
@@ -14,13 +15,14 @@ const ALL: [Constraint; 4] = [
 
 // What the mutation fails, whose shape must be accepted.
 fn checked(
-    rt: &HostRuntime,
+    rt: &impl Abort,
+    alloc: Global,
     set: &ConstraintSet,
     mutation: &Mutation,
     auths: &AuthSet,
 ) -> Result<Verdict, AllocError> {
     assert!(rt; mutation.shape().is_none());
-    check(rt.alloc(), set, mutation, auths)
+    check(alloc, set, mutation, auths)
 }
 
 // The numbers of the failing constraints, with their codes and updates.
@@ -51,7 +53,7 @@ fn lists_every_failing_pair(rt: HostRuntime) -> Result<(), Fail> {
         Constraint::Alphanumeric,
         Constraint::Numeric,
     ]);
-    let verdict = checked(&rt, &set, &mutation, &auths)?;
+    let verdict = checked(&rt, rt.alloc(), &set, &mutation, &auths)?;
     let list = listed(&rt, &verdict)?;
     assert_eq!(rt;
         list.as_slice(),
@@ -63,7 +65,7 @@ fn lists_every_failing_pair(rt: HostRuntime) -> Result<(), Fail> {
         update: 0,
     };
     assert_eq!(rt; verdict.as_slice().first().copied(), Some(first));
-    assert!(rt; checked(&rt, &ConstraintSet::none(), &mutation, &auths)?.is_empty());
+    assert!(rt; checked(&rt, rt.alloc(), &ConstraintSet::none(), &mutation, &auths)?.is_empty());
     assert!(rt; set.contains(Constraint::Numeric));
     assert!(rt; !set.contains(Constraint::Visibility));
     Ok(())
@@ -77,9 +79,15 @@ fn judges_labels_by_all_authorizations(rt: HostRuntime) -> Result<(), Fail> {
     mutation.put(b"f", b"q", b"A&B", Some(1), b"y")?;
     mutation.delete(b"f", b"q", b"B", Some(1))?;
     let set = ConstraintSet::of(&[Constraint::Visibility]);
-    let verdict = checked(&rt, &set, &mutation, &holding(&rt, b"A")?)?;
+    let verdict = checked(&rt, rt.alloc(), &set, &mutation, &holding(&rt, b"A")?)?;
     assert_eq!(rt; listed(&rt, &verdict)?.as_slice(), [(4, 2, 2)].as_slice());
-    let verdict = checked(&rt, &set, &mutation, &AuthSet::empty(rt.alloc()))?;
+    let verdict = checked(
+        &rt,
+        rt.alloc(),
+        &set,
+        &mutation,
+        &AuthSet::empty(rt.alloc()),
+    )?;
     assert_eq!(rt; listed(&rt, &verdict)?.as_slice(), [(4, 2, 1)].as_slice());
     Ok(())
 }
@@ -103,7 +111,7 @@ fn tells_numerals(rt: HostRuntime) -> Result<(), Fail> {
     ] {
         let mut mutation = Mutation::new(rt.alloc(), b"r")?;
         mutation.put(b"f", b"q", b"", None, value)?;
-        let verdict = checked(&rt, &set, &mutation, &auths)?;
+        let verdict = checked(&rt, rt.alloc(), &set, &mutation, &auths)?;
         assert_eq!(rt; verdict.is_empty(), passes, "{value:?}");
     }
     Ok(())
@@ -126,7 +134,7 @@ fn tells_letters_and_digits(rt: HostRuntime) -> Result<(), Fail> {
     ] {
         let mut mutation = Mutation::new(rt.alloc(), b"")?;
         mutation.put(family, b"", b"", None, b"")?;
-        let verdict = checked(&rt, &set, &mutation, &auths)?;
+        let verdict = checked(&rt, rt.alloc(), &set, &mutation, &auths)?;
         assert_eq!(rt; verdict.is_empty(), passes, "{family:?}");
     }
     Ok(())
@@ -143,11 +151,11 @@ fn limits_the_key(rt: HostRuntime) -> Result<(), Fail> {
     let mut mutation = Mutation::new(rt.alloc(), quarter)?;
     mutation.put(quarter, quarter, quarter, None, b"1")?;
     let set = ConstraintSet::of(&[Constraint::KeySize]);
-    assert!(rt; checked(&rt, &set, &mutation, &auths)?.is_empty());
+    assert!(rt; checked(&rt, rt.alloc(), &set, &mutation, &auths)?.is_empty());
     mutation.delete(quarter, whole, quarter, None)?;
-    let verdict = checked(&rt, &set, &mutation, &auths)?;
+    let verdict = checked(&rt, rt.alloc(), &set, &mutation, &auths)?;
     assert_eq!(rt; listed(&rt, &verdict)?.as_slice(), [(1, 1, 1)].as_slice());
-    let verdict = checked(&rt, &ConstraintSet::of(&ALL), &mutation, &auths)?;
+    let verdict = checked(&rt, rt.alloc(), &ConstraintSet::of(&ALL), &mutation, &auths)?;
     assert_eq!(rt;
         listed(&rt, &verdict)?.as_slice(),
         [(1, 1, 1), (4, 2, 0)].as_slice()

@@ -7,6 +7,7 @@ use Rattle.tab_history.specs.declared.event.Act.TheVariants as act
 use Rattle.tab_history.specs.declared.reply.Refusal.TheVariants.{TableExists, NoMemory, TooLarge}
 use Rattle.tab_history.specs.declared.reply.Reply.TheVariants.{Done, Refused}
 use Rattle.tab_history.specs.Settings.{Settings, made_with}
+use Rattle.tab_history.specs.Readings.{has_user}
 use Rattle.tab_history.specs.Bases.{Base, BaseTable}
 use Rattle.tab_core.specs.declared.table.Table.{Table}
 use Rattle.tab_core.specs.Tables.{settings_in, records_in, table_settings}
@@ -58,6 +59,7 @@ invariant_of-self-in-Err-create_table c =
     (λ q. c.in-Ok.ensures.records q ∙ ap (λ us. cond (bytes_eq c.args.table q) us (records_in c.self.inside.tables q)) none) c.remove.ensures.records))
 
 pub returns-in-Ok-create_table : goal.returns-in-Ok-create_table
+unfolding user_exists has_user
 returns-in-Ok-create_table c =
     let a : Act = act.CreateTable c.args.table c.args.time c.args.versions in
     let none : c.new-made.result.records ≡ [] = ap (λ (t : Table). t.records) c.new-made.ensures in

@@ -8,8 +8,8 @@ use Rattle.tab_iter.specs.Bags.{flat}
 use Rattle.tab_tablet.proofs.Gathered.{active_below, written_sorted, distinct_after}
 use Rattle.tab_tablet.proofs.tablet.Tablet.write.Goals as goal
 
-pub write-requires : goal.write-requires
-write-requires c = active_below c.args.seq c.args.mutation.now.row [] c.self.inside.active (flat c.self.inside.runs.items)
+pub write-requires-clause-unused : goal.write-requires-clause-unused
+write-requires-clause-unused c = active_below c.args.seq c.args.mutation.now.row [] c.self.inside.active (flat c.self.inside.runs.items)
     (subst (λ us. (u : Record) → Contains us u → u.seq < c.args.seq) (sym c.self.view_is) c.requires.unused) c.self.invariant
 
 pub invariant_of-self : goal.invariant_of-self
