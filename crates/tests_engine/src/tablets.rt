@@ -50,6 +50,9 @@ fn a_tablet_shows_what_the_model_shows(rt: HostRuntime) -> Result<(), Fail> {
     for _ in 0..400 {
         let row = random.one_of(&ROWS);
         let table = random.updates(alloc, row, 0, CLOCK)?;
+        if table.is_empty() {
+            continue;
+        }
         let mut tablet = written(&rt, alloc, &mutation_of(alloc, row, &table)?)?;
         for _ in 0..3 {
             let count = compare(&rt, alloc, &mut random, &mut tablet, &table)?;

@@ -45,7 +45,7 @@ pub fn write(
     active.write(mutation, seq, CLOCK)
 }
 
-/// Writes as many random mutations of the rows, numbered from here on, and adds them to the table.
+/// Writes as many random mutations of the rows, numbered from here on, and adds them to the table. One without updates is left out.
 pub fn fill(
     rt: &impl Abort,
     alloc: Global,
@@ -60,6 +60,9 @@ pub fn fill(
         let seq = first.saturating_add(number);
         let row = random.one_of(rows);
         let updates = random.updates(alloc, row, seq, CLOCK)?;
+        if updates.is_empty() {
+            continue;
+        }
         let mutation = mutation_of(alloc, row, &updates)?;
         write(rt, active, &mutation, u64::from(seq))?;
         for update in &updates {
