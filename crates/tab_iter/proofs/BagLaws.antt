@@ -90,11 +90,11 @@ pub sought_key : (k : Key) (ws : List (List Record)) → EachRises ws → IsDist
 sought_key k ws r d = sought (from_key k) (λ r. not (is_lt (key_cmp r.key k))) (from_key_filters k) ws r d
 
 -- ---- ends of several lists
-apart_left : (xs ys : List Record) → IsDistinct (xs ++ ys) → IsDistinct xs
+pub apart_left : (xs ys : List Record) → IsDistinct (xs ++ ys) → IsDistinct xs
 apart_left [] ys d = tt
 apart_left (x ∷ xs) ys d = distinct_more x xs (λ u h. distinct_first x (xs ++ ys) d u (in_left xs ys u h)) (apart_left xs ys d.1)
 
-apart_right : (xs ys : List Record) → IsDistinct (xs ++ ys) → IsDistinct ys
+pub apart_right : (xs ys : List Record) → IsDistinct (xs ++ ys) → IsDistinct ys
 apart_right [] ys d = d
 apart_right (x ∷ xs) ys d = apart_right xs ys d.1
 

@@ -1,6 +1,6 @@
 -- What one remembered column tells of the records that are left.
 use Rattle.std.proofs.Common.{◌≡◌, ◌⊎◌, inl, inr, ℕ, ◌-◌, List, [], ◌∷◌, ◌++◌, Bool, true, false, cond, not, ◌&&◌, ◌||◌, refl, sym, ◌∙◌, ap, subst, length, arith}
-use Rattle.std.specs.Prelude.{ℤ, Option, Some, None, filter, nat_lt, int_le}
+use Rattle.std.specs.Prelude.{ℤ, Option, Some, None, filter, nat_lt, int_le, int_lt}
 use Rattle.std.specs.List.{list_any}
 use Rattle.std.proofs.lemmas.List.Elements.{filter-append}
 use Rattle.std.proofs.lemmas.List.Folds.{list_any-append}
@@ -21,8 +21,9 @@ use Rattle.tab_key.proofs.Ties.{same_column-cmp}
 use Rattle.tab_cells.proofs.Lists.{by_bool}
 use Rattle.tab_iter.specs.Lists.{IsRising, IsEnd, BeginsColumn}
 use Rattle.tab_key.specs.Kept.{is_put, same_column, hides, is_deleted}
-use Rattle.tab_iter.specs.Layers.{is_left, is_newer, is_among}
-use Rattle.tab_iter.specs.Columns.{is_of, is_upto, KnowsDeleted, left_of, KnowsCount, IsColumnOf}
+use Rattle.tab_cells.specs.Merged.{is_first_marker}
+use Rattle.tab_iter.specs.Layers.{is_left, is_newer, is_among, is_needed}
+use Rattle.tab_iter.specs.Columns.{is_of, is_upto, KnowsTold, leads, KnowsDeleted, KnowsLed, left_of, KnowsCount, IsColumnOf}
 use Rattle.tab_iter.proofs.ListLaws.{first_less, column_upto, rising_end}
 
 is_equal : (o : Ordering) → is_eq o ≡ true → o ≡ Equal
@@ -111,58 +112,28 @@ later_spares r u e p = by_bool (is_put u.kind) (λ q. rw q refl) (λ q. by_bool 
         let t : int_le r.key.timestamp u.key.timestamp ≡ false = no_earlier u.key.timestamp r.key.timestamp u.kind _ q f in
         rw (q, s, t) refl
 
--- ---- the deleted
+-- ---- what markers tell
 any_none : (p : Record → Bool) (xs : List Record) → ((x : Record) → IsIn xs x → p x ≡ false) → list_any p xs ≡ false
 any_none p [] f = refl
 any_none p (x ∷ xs) f = rw (f x (inl refl)) (any_none p xs (λ y h. f y (inr h)))
 
-other_spares : (m u : Record) → column_cmp m.key u.key ≡ Less → hides m u ≡ false
-unfolding hides
-other_spares m u e = rw (less_other m.key u.key e) (go (is_put m.kind))
-  where
-    go : (v : Bool) → ((not v && false) && int_le u.key.timestamp m.key.timestamp) ≡ false
-    go true = refl
-    go false = refl
-
-pub deleted_more : (r : Record) (rs : List Record) (u : Record) → is_deleted (r ∷ rs) u ≡ (hides r u || is_deleted rs u)
-unfolding is_deleted
-deleted_more r rs u = refl
-
-pub deleted_append : (xs ys : List Record) (u : Record) → is_deleted (xs ++ ys) u ≡ (is_deleted xs u || is_deleted ys u)
-unfolding is_deleted
-deleted_append xs ys u = list_any-append (λ m. hides m u) xs ys
-
-pub deleted_none : (xs : List Record) (u : Record) → ((x : Record) → IsIn xs x → hides x u ≡ false) → is_deleted xs u ≡ false
-unfolding is_deleted
-deleted_none xs u f = any_none (λ m. hides m u) xs f
-
-pub starts_deleted : (w rs : List Record) → BeginsColumn rs w → KnowsDeleted None w rs
-starts_deleted w rs b = record {
-  deleted = λ u h. ap (λ l. is_deleted l u) (sym b.whole) ∙ deleted_append b.passed rs u ∙ ap (λ v. v || is_deleted rs u) (deleted_none b.passed u (λ x k. other_spares x u (b.apart x u k h)));
-  ahead = λ u h. tt;
-}
-
-put_spares : (r u : Record) → is_put r.kind ≡ true → hides r u ≡ false
-unfolding hides
-put_spares r u p = rw p refl
-
--- nothing from a put on hides it
-pub none_from : (r : Record) (rs : List Record) → IsRising (r ∷ rs) → is_put r.kind ≡ true → is_deleted (r ∷ rs) r ≡ false
-none_from r rs up p = deleted_more r rs r ∙ ap (λ v. v || is_deleted rs r) (put_spares r r p) ∙ deleted_none rs r (λ x h. later_spares r x (first_less r rs up x h) p)
+absorbs : (a b c : Bool) → (a ≡ true → b ≡ true) → (a || (b || c)) ≡ (b || c)
+absorbs true b c f = rw (f refl) refl
+absorbs false b c f = refl
 
 or_false : (a : Bool) → (a || false) ≡ a
 or_false true = refl
 or_false false = refl
 
-pub put_left : (keeps : Bool) (column : Option Record) (w : List Record) (r : Record) (rs : List Record) → IsRising w → IsEnd (r ∷ rs) w → is_put r.kind ≡ true → KnowsDeleted column w (r ∷ rs) → not (is_of column r.key) ≡ is_left keeps w r
-unfolding is_left
-put_left keeps column w r rs up end p t =
-    let e : is_deleted w r ≡ is_of column r.key = t.deleted r (inl refl) ∙ ap (λ v. is_of column r.key || v) (none_from r rs (rising_end (r ∷ rs) w end up) p) ∙ or_false (is_of column r.key) in
-    rw (p, e) refl
+-- a column remembered before reaches the later record through the one between
+reaches : (column : Option Record) (r u : Record) → is_upto column r.key → record_cmp r u ≡ Less → is_of column u.key ≡ true → same_column r.key u.key ≡ true
+reaches None r u a e h = absurd (true≢false (sym h))
+reaches (Some c) r u a e h = between c.key r.key u.key a (column_upto r u e) h
 
-pub marker_left : (keeps : Bool) (w : List Record) (r : Record) → is_put r.kind ≡ false → keeps ≡ is_left keeps w r
-unfolding is_left
-marker_left keeps w r p = rw p refl
+-- no record from a record on stands before it
+from_first : (r : Record) (rs : List Record) → IsRising (r ∷ rs) → (x : Record) → (r ≡ x) ⊎ IsIn rs x → is_lt (record_cmp x r) ≡ false
+from_first r rs up x (inl e) = subst (λ (y : Record). is_lt (record_cmp y r) ≡ false) e (ap is_lt (tied_itself record_cmp_total r))
+from_first r rs up x (inr h) = rw (record_cmp_total.antisymm x r, first_less r rs up x h) refl
 
 pub column_of_copy : (copy : Record) (key : Key) → copy.key ≡ key → IsColumnOf (Some copy) key
 column_of_copy copy key e = record { same = λ k. ap (λ j. same_column j k) e; upto = λ k u. ap (λ j. is_gt (column_cmp j k)) e ∙ u }
@@ -174,30 +145,109 @@ column_of_same (Some c) key e = record {
   upto = λ k u. ap is_gt (column_cmp_total.congr c.key key k (same_equal c.key key e)) ∙ u;
 }
 
-pub passes_put : (column : Option Record) (w : List Record) (r : Record) (rs : List Record) → IsRising w → IsEnd (r ∷ rs) w → is_put r.kind ≡ true → KnowsDeleted column w (r ∷ rs) → KnowsDeleted column w rs
-passes_put column w r rs up end p t = record {
-  deleted = λ u h. t.deleted u (inr h) ∙ ap (λ v. is_of column u.key || v) (deleted_more r rs u ∙ ap (λ v. v || is_deleted rs u) (put_spares r u p));
-  ahead = λ u h. t.ahead u (inr h);
-}
+-- what a put tells of none, and a marker of those of its column behind it, and of no later column's
+pub record IsTold (tells : Record → Record → Bool) : Type 0 where
+  pub put : (r u : Record) → is_put r.kind ≡ true → tells r u ≡ false
+  pub other : (r u : Record) → column_cmp r.key u.key ≡ Less → tells r u ≡ false
+  pub after : (r u : Record) → record_cmp r u ≡ Less → is_put r.kind ≡ false → tells r u ≡ same_column r.key u.key
 
-absorbs : (a b c : Bool) → (a ≡ true → b ≡ true) → (a || (b || c)) ≡ (b || c)
-absorbs true b c f = rw (f refl) refl
-absorbs false b c f = refl
+module _ (tells : Record → Record → Bool) (is : IsTold tells) where
+  pub starts_told : (w rs : List Record) → BeginsColumn rs w → KnowsTold tells None w rs
+  starts_told w rs b = record {
+    told = λ u h.
+        ap (list_any (λ m. tells m u)) (sym b.whole) ∙ list_any-append (λ m. tells m u) b.passed rs
+        ∙ ap (λ v. v || list_any (λ m. tells m u) rs) (any_none (λ m. tells m u) b.passed (λ x k. is.other x u (b.apart x u k h)));
+    ahead = λ u h. tt;
+  }
 
--- a column remembered before reaches the later record through the one between
-reaches : (column : Option Record) (r u : Record) → is_upto column r.key → record_cmp r u ≡ Less → is_of column u.key ≡ true → same_column r.key u.key ≡ true
-reaches None r u a e h = absurd (true≢false (sym h))
-reaches (Some c) r u a e h = between c.key r.key u.key a (column_upto r u e) h
+  pub passes_put : (column : Option Record) (w : List Record) (r : Record) (rs : List Record) → is_put r.kind ≡ true → KnowsTold tells column w (r ∷ rs) → KnowsTold tells column w rs
+  passes_put column w r rs p t = record {
+    told = λ u h. t.told u (inr h) ∙ ap (λ v. is_of column u.key || (v || list_any (λ m. tells m u) rs)) (is.put r u p);
+    ahead = λ u h. t.ahead u (inr h);
+  }
 
-pub passes_marker : (column after : Option Record) (w : List Record) (r : Record) (rs : List Record) → IsRising w → IsEnd (r ∷ rs) w → is_put r.kind ≡ false → IsColumnOf after r.key → KnowsDeleted column w (r ∷ rs) → KnowsDeleted after w rs
-passes_marker column after w r rs up end p now t = record {
-  deleted = λ u h.
-      let less = first_less r rs (rising_end (r ∷ rs) w end up) u h in
-      t.deleted u (inr h) ∙ ap (λ v. is_of column u.key || v) (deleted_more r rs u ∙ ap (λ v. v || is_deleted rs u) (hides_after r u less p))
-      ∙ absorbs (is_of column u.key) (same_column r.key u.key) (is_deleted rs u) (reaches column r u (t.ahead r (inl refl)) less)
-      ∙ ap (λ v. v || is_deleted rs u) (sym (now.same u.key));
-  ahead = λ u h. now.upto u.key (column_upto r u (first_less r rs (rising_end (r ∷ rs) w end up) u h));
-}
+  pub passes_marker : (column after : Option Record) (w : List Record) (r : Record) (rs : List Record) → IsRising w → IsEnd (r ∷ rs) w → is_put r.kind ≡ false → IsColumnOf after r.key → KnowsTold tells column w (r ∷ rs) → KnowsTold tells after w rs
+  passes_marker column after w r rs up end p now t = record {
+    told = λ u h.
+        let less = first_less r rs (rising_end (r ∷ rs) w end up) u h in
+        t.told u (inr h) ∙ ap (λ v. is_of column u.key || (v || list_any (λ m. tells m u) rs)) (is.after r u less p)
+        ∙ absorbs (is_of column u.key) (same_column r.key u.key) (list_any (λ m. tells m u) rs) (reaches column r u (t.ahead r (inl refl)) less)
+        ∙ ap (λ v. v || list_any (λ m. tells m u) rs) (sym (now.same u.key));
+    ahead = λ u h. now.upto u.key (column_upto r u (first_less r rs (rising_end (r ∷ rs) w end up) u h));
+  }
+
+-- ---- the deleted
+put_spares : (r u : Record) → is_put r.kind ≡ true → hides r u ≡ false
+unfolding hides
+put_spares r u p = rw p refl
+
+other_spares : (m u : Record) → column_cmp m.key u.key ≡ Less → hides m u ≡ false
+unfolding hides
+other_spares m u e = rw (less_other m.key u.key e) (go (is_put m.kind))
+  where
+    go : (v : Bool) → ((not v && false) && int_le u.key.timestamp m.key.timestamp) ≡ false
+    go true = refl
+    go false = refl
+
+pub hiding : IsTold hides
+hiding = record { put = put_spares; other = other_spares; after = hides_after }
+
+-- nothing from a put on hides it
+none_from : (r : Record) (rs : List Record) → IsRising (r ∷ rs) → is_put r.kind ≡ true → list_any (λ m. hides m r) (r ∷ rs) ≡ false
+none_from r rs up p = ap (λ v. v || list_any (λ m. hides m r) rs) (put_spares r r p) ∙ any_none (λ m. hides m r) rs (λ x h. later_spares r x (first_less r rs up x h) p)
+
+pub put_left : (keeps : Bool) (column : Option Record) (w : List Record) (r : Record) (rs : List Record) → IsRising w → IsEnd (r ∷ rs) w → is_put r.kind ≡ true → KnowsDeleted column w (r ∷ rs) → not (is_of column r.key) ≡ is_left keeps w r
+unfolding is_left is_deleted
+put_left keeps column w r rs up end p t =
+    let e : list_any (λ m. hides m r) w ≡ is_of column r.key = t.told r (inl refl) ∙ ap (λ v. is_of column r.key || v) (none_from r rs (rising_end (r ∷ rs) w end up) p) ∙ or_false (is_of column r.key) in
+    rw (p, e) refl
+
+pub marker_left : (keeps : Bool) (w : List Record) (r : Record) → is_put r.kind ≡ false → keeps ≡ is_left keeps w r
+unfolding is_left
+marker_left keeps w r p = rw p refl
+
+-- ---- the first markers
+put_leads_none : (r u : Record) → is_put r.kind ≡ true → leads r u ≡ false
+put_leads_none r u p = rw p refl
+
+leads_in_column : (m u : Record) → column_cmp m.key u.key ≡ Less → leads m u ≡ false
+leads_in_column m u e = rw (less_other m.key u.key e) (go (is_put m.kind))
+  where
+    go : (v : Bool) → ((not v && false) && stands_before m u) ≡ false
+    go true = refl
+    go false = refl
+
+leads_after : (r u : Record) → record_cmp r u ≡ Less → is_put r.kind ≡ false → leads r u ≡ same_column r.key u.key
+leads_after r u e p = rw (p, e) (go (same_column r.key u.key))
+  where
+    go : (x : Bool) → (x && true) ≡ x
+    go true = refl
+    go false = refl
+
+pub leading : IsTold leads
+leading = record { put = put_leads_none; other = leads_in_column; after = leads_after }
+
+leads_not : (m u : Record) → is_lt (record_cmp m u) ≡ false → leads m u ≡ false
+leads_not m u e = rw e (go (not (is_put m.kind) && same_column m.key u.key))
+  where
+    go : (x : Bool) → (x && false) ≡ false
+    go true = refl
+    go false = refl
+
+-- nothing from a record on leads it
+none_leads : (r : Record) (rs : List Record) → IsRising (r ∷ rs) → list_any (λ m. leads m r) (r ∷ rs) ≡ false
+none_leads r rs up = any_none (λ m. leads m r) (r ∷ rs) (λ x h. leads_not x r (from_first r rs up x h))
+
+pub put_needed : (full : Bool) (floor : ℤ) (w : List Record) (r : Record) → is_put r.kind ≡ true → true ≡ is_needed full floor w r
+unfolding is_needed
+put_needed full floor w r p = rw p refl
+
+pub marker_needed : (full : Bool) (floor : ℤ) (column : Option Record) (w : List Record) (r : Record) (rs : List Record) → IsRising w → IsEnd (r ∷ rs) w → is_put r.kind ≡ false → KnowsLed column w (r ∷ rs)
+    → (not (is_of column r.key) && not (full && int_lt r.key.timestamp floor)) ≡ is_needed full floor w r
+unfolding is_needed is_first_marker
+marker_needed full floor column w r rs up end p t =
+    let e : list_any (λ m. leads m r) w ≡ is_of column r.key = t.told r (inl refl) ∙ ap (λ v. is_of column r.key || v) (none_leads r rs (rising_end (r ∷ rs) w end up)) ∙ or_false (is_of column r.key) in
+    rw (p, e) refl
 
 -- ---- the newest
 newer_no : (u v : Record) → is_put v.kind ≡ false → is_newer u v ≡ false
@@ -232,16 +282,9 @@ pub filter_none : (p : Record → Bool) (xs : List Record) → ((x : Record) →
 filter_none p [] f = refl
 filter_none p (x ∷ xs) f = rw (f x (inl refl)) (filter_none p xs (λ y h. f y (inr h)))
 
-after_not : (a b : Record) → record_cmp a b ≡ Less → is_lt (record_cmp b a) ≡ false
-after_not a b e = rw (record_cmp_total.antisymm b a, e) refl
-
 -- nothing from a record on is newer
 pub none_newer : (r : Record) (rs : List Record) → IsRising (r ∷ rs) → filter (is_newer r) (r ∷ rs) ≡ []
-none_newer r rs up = filter_none (is_newer r) (r ∷ rs) f
-  where
-    f : (x : Record) → (r ≡ x) ⊎ IsIn rs x → is_newer r x ≡ false
-    f x (inl e) = subst (λ (y : Record). is_newer r y ≡ false) e (newer_not r r (ap is_lt (tied_itself record_cmp_total r)))
-    f x (inr h) = newer_not r x (after_not r x (first_less r rs up x h))
+none_newer r rs up = filter_none (is_newer r) (r ∷ rs) (λ x h. newer_not r x (from_first r rs up x h))
 
 pub starts_count : (n left : ℕ) (w rs : List Record) → BeginsColumn rs w → KnowsCount n None left w rs
 starts_count n left w rs b = record {

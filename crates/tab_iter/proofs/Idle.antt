@@ -20,9 +20,9 @@ module _ (column : Option Record) (w : List Record) (held : Record) (rs : List R
 
   -- behind a marker
   pub none_left : (keeps : Bool) → KnowsDeleted column w rs → keeps ≡ false → (u : Record) → IsIn rs u → column_cmp u.key (next_of column) ≡ Less → is_left keeps w u ≡ false
-  unfolding is_left
+  unfolding is_left is_deleted
   none_left keeps t k u h e =
-      let gone : is_deleted w u ≡ true = t.deleted u h ∙ ap (λ v. v || is_deleted rs u) (still u h e) in
+      let gone : is_deleted w u ≡ true = t.told u h ∙ ap (λ v. v || is_deleted rs u) (still u h e) in
       rw (gone, k) (go (is_put u.kind))
     where
       go : (v : Bool) → cond v false false ≡ false

@@ -10,6 +10,7 @@ pub mod NamedColumns
 pub mod BagLaws
 pub mod MergingLaws
 pub mod StackLaws
+pub mod MergeLaws
 pub mod Steps
 pub mod Orders
 pub mod Verdicts

@@ -115,7 +115,7 @@ any_inserted p x (y ∷ ys) = go (stands_before x y) (any_inserted p x ys)
     go true ih = refl
     go false ih = ap (λ b. p y || b) ih ∙ swap (p y) (p x) (list_any p ys)
 
-any_sorted : (p : Record → Bool) (xs : List Record) → list_any p (sorted xs) ≡ list_any p xs
+pub any_sorted : (p : Record → Bool) (xs : List Record) → list_any p (sorted xs) ≡ list_any p xs
 any_sorted p [] = refl
 any_sorted p (x ∷ xs) = any_inserted p x (sorted xs) ∙ ap (λ b. p x || b) (any_sorted p xs)
 
@@ -127,7 +127,7 @@ outranks_sorted : (us : List Record) (u v : Record) → outranks (sorted us) u v
 unfolding outranks
 outranks_sorted us u v = rw (deleted_sorted us v) refl
 
-kept_sorted : (us : List Record) (n : ℕ) (u : Record) → is_kept (sorted us) n u ≡ is_kept us n u
+pub kept_sorted : (us : List Record) (n : ℕ) (u : Record) → is_kept (sorted us) n u ≡ is_kept us n u
 unfolding is_kept
 kept_sorted us n u = rw (deleted_sorted us u, filter_equal (outranks (sorted us) u) (outranks us u) (sorted us) (outranks_sorted us u), length_sorted (outranks us u) us) refl
 

@@ -1,9 +1,10 @@
 -- What a rule remembers of the records passed: one column.
-use Rattle.std.specs.Prelude.{◌≡◌, ℕ, ◌-◌, Option, Some, None, List, [], ◌∷◌, ◌++◌, Bool, false, cond, ◌||◌, filter, length}
+use Rattle.std.specs.Prelude.{◌≡◌, ℕ, ◌-◌, Option, Some, None, List, [], ◌∷◌, ◌++◌, Bool, false, cond, not, ◌&&◌, ◌||◌, filter, length}
+use Rattle.std.specs.List.{list_any}
 use Rattle.std.specs.Ordering.{is_gt}
-use Rattle.tab_key.specs.Order.{column_cmp}
+use Rattle.tab_key.specs.Order.{column_cmp, stands_before}
 use Rattle.tab_key.specs.Records.{Key, Record}
-use Rattle.tab_key.specs.Kept.{same_column, is_deleted}
+use Rattle.tab_key.specs.Kept.{is_put, same_column, hides}
 use Rattle.tab_key.specs.Sorted.{IsIn}
 use Rattle.tab_iter.specs.Layers.{is_newer}
 use Rattle.tab_iter.specs.Lists.{latest}
@@ -36,10 +37,22 @@ pub record IsColumnOf (column : Option Record) (key : Key) : Type 0 where
   pub same : (k : Key) → is_of column k ≡ same_column key k
   pub upto : (k : Key) → is_gt (column_cmp key k) ≡ false → is_upto column k
 
--- of what was passed, a marker hides just the puts of this column
-pub record KnowsDeleted (column : Option Record) (w rs : List Record) : Type 0 where
-  pub deleted : (u : Record) → IsIn rs u → is_deleted w u ≡ (is_of column u.key || is_deleted rs u)
+-- a marker tells something of the records of its column behind it: what was passed tells it of just this column's
+pub record KnowsTold (tells : Record → Record → Bool) (column : Option Record) (w rs : List Record) : Type 0 where
+  pub told : (u : Record) → IsIn rs u → list_any (λ m. tells m u) w ≡ (is_of column u.key || list_any (λ m. tells m u) rs)
   pub ahead : (u : Record) → IsIn rs u → is_upto column u.key
+
+-- a marker of the record's column that stands before it
+abbrev pub leads : Record → Record → Bool
+leads m u = not (is_put m.kind) && same_column m.key u.key && stands_before m u
+
+-- of what was passed, a marker hides just the puts of this column
+abbrev pub KnowsDeleted : Option Record → List Record → List Record → Type 0
+KnowsDeleted = KnowsTold hides
+
+-- of what was passed, a marker leads just the records of this column
+abbrev pub KnowsLed : Option Record → List Record → List Record → Type 0
+KnowsLed = KnowsTold leads
 
 -- how many of n more may pass
 abbrev pub left_of : ℕ → Option Record → ℕ → Key → ℕ

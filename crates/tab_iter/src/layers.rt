@@ -9,7 +9,8 @@ ghost use Rattle.tab_iter.specs.Stack.{query_of, shown_of};
 ghost use Rattle.tab_key.specs.KeyOf.{key_of};
 
 use crate::{
-    DeletingRule, FetchingRule, Filtered, Merging, NoMemory, Source, VersioningRule, VisibleRule,
+    DeletingRule, FetchingRule, Filtered, FirstMarkersRule, Merging, NoMemory, Source,
+    VersioningRule, VisibleRule,
 };
 use std::alloc::Global;
 use tab_key::{Column, Key};
@@ -26,6 +27,9 @@ pub type Visible<'a, S> = Filtered<S, VisibleRule<'a>>;
 
 /// Of each column of the source the newest puts, and the markers if they are kept.
 pub type Versioning<S> = Filtered<S, VersioningRule>;
+
+/// The puts of the source, and of each column the first marker; in a full merge that one only from a floor on.
+pub type FirstMarkers<S> = Filtered<S, FirstMarkersRule>;
 
 /// What a scan reads: versions of what is visible of what is fetched of what isn't deleted of all sources.
 pub type Stack<'a, S> = Versioning<Visible<'a, Fetching<'a, Deleting<Merging<S>>>>>;

@@ -8,22 +8,27 @@
 //! | `source_order` | the order of several sources by their first records |
 //! | `filtered` | a source without the records that a rule holds back |
 //! | `rule` | what a rule observes, what it tells, and where it aims |
-//! | `deleting_rule`, `fetching_rule`, `visible_rule`, `versioning_rule` | the four rules: markers, columns, labels, versions |
+//! | `deleting_rule`, `fetching_rule`, `visible_rule`, `versioning_rule` | the four rules of a scan: markers, columns, labels, versions |
+//! | `first_markers_rule` | the rule of a merge: of each column the first marker |
 //! | `last_column` | the column of the last record that a rule observed, and the one next after it |
 //! | `named_column` | where the columns that a scan names begin in a row |
 //! | `verdict` | verdicts on labels, kept and found again |
 //! | `layers` | the layers by their names, and the stack of them that a scan reads |
+//! | `merged` | the stack of them that a merge writes |
 //!
 //! Each layer lets a part of its source's whole list through, by a test of that list and the record. The tests stand in
-//! `specs/Layers`; `stack_of` says that all of them together show what the definition of a scan's answer shows.
+//! `specs/Layers`; `stack_of` says that all of them together show what the definition of a scan's answer shows, and `merged_of`
+//! that those of a merge list what the definition of a merge keeps.
 #![tactic(auto)]
 
 mod deleting_rule;
 mod fetching_rule;
 mod filtered;
+mod first_markers_rule;
 mod last_column;
 mod layers;
 mod list_source;
+mod merged;
 mod merging;
 mod named_column;
 mod rule;
@@ -36,8 +41,12 @@ mod visible_rule;
 pub use deleting_rule::DeletingRule;
 pub use fetching_rule::FetchingRule;
 pub use filtered::Filtered;
-pub use layers::{Deleting, Fetching, Stack, Versioning, Visible, stack_from, stack_of};
+pub use first_markers_rule::FirstMarkersRule;
+pub use layers::{
+    Deleting, Fetching, FirstMarkers, Stack, Versioning, Visible, stack_from, stack_of,
+};
 pub use list_source::{ListSource, is_rising};
+pub use merged::{Merged, merged_of};
 pub use merging::Merging;
 pub use rule::Rule;
 pub use source::{NoMemory, Source};
