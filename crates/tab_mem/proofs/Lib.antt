@@ -1,4 +1,5 @@
 pub mod KeptFront
+pub mod ShortParts
 pub mod Written
 pub mod BigEndian
 pub mod RowPrefix

@@ -14,7 +14,7 @@ use Rattle.tab_key.specs.declared.range.Bounds.{Bounds}
 use Rattle.tab_key.specs.Sorted.{IsIn}
 use Rattle.tab_cells.proofs.Lists.{by_bool}
 use Rattle.tab_iter.specs.Lists.{first_of, HasI64Timestamps}
-use Rattle.tab_mem.specs.Lists.{part}
+use Rattle.tab_mem.specs.Lists.{part, HasShortParts}
 use Rattle.tab_mem.specs.Starts.{is_before, from_start}
 use Rattle.tab_mem.specs.declared.start.Start.{Start}
 use Rattle.tab_mem.proofs.Seeking.{before_down, start_drops, start_takes}
@@ -64,6 +64,9 @@ in_drop (suc n) (r ∷ rs) u h = inr (in_drop n rs u h)
 
 pub part_timestamps : (from end : ℕ) (rs : List Record) → HasI64Timestamps rs → HasI64Timestamps (part from end rs)
 part_timestamps from end rs t u h = t u (in_take end rs u (in_drop from (take end rs) u h))
+
+pub part_short : (from end : ℕ) (rs : List Record) → HasShortParts rs → HasShortParts (part from end rs)
+part_short from end rs s u h = s u (in_take end rs u (in_drop from (take end rs) u h))
 
 filter_both : (p q : Record → Bool) (rs : List Record) → filter q (filter p rs) ≡ filter (λ u. p u && q u) rs
 filter_both p q [] = refl

@@ -1,6 +1,6 @@
 -- Where the records from a start on begin.
 use Rattle.std.proofs.Common.{◌≡◌, ◌⊎◌, inl, inr, ℕ, zero, suc, ◌+◌, ◌<◌, ◌≤◌, List, [], ◌∷◌, Bool, true, false, cond, not, refl, sym, ◌∙◌, ap, length, take, drop, arith, one-add}
-use Rattle.std.specs.Prelude.{filter}
+use Rattle.std.specs.Prelude.{filter, pos}
 use Rattle.std.specs.List.{AllByRecursion, slice_index_or, prefix_len}
 use Rattle.std.specs.List.Sorted.{IsStrictlySortedBy}
 use Rattle.std.specs.Ordering.{nat_cmp, is_lt, ordering_then}
@@ -8,6 +8,7 @@ use Rattle.std.specs.declared.cmp.Ordering.{Ordering}
 use Rattle.std.specs.declared.cmp.Ordering.TheVariants.{Less, Equal, Greater}
 use mathlib.Core.Bool.{true≢false}
 use Rattle.tab_key.specs.Ranges.{is_above, is_below}
+use Rattle.tab_key.specs.declared.key.Kind.TheVariants.{Put}
 use Rattle.tab_key.specs.KeyOf.{key_of}
 use Rattle.tab_key.specs.Records.{Key, Record}
 use Rattle.tab_key.specs.Order.{kind_rank, key_cmp, place_cmp, newer_cmp, record_cmp}
@@ -94,6 +95,10 @@ pub start_takes : (s : Start) (rs : List Record) → IsStrictlySortedBy record_c
 start_takes s rs r = front_kept (is_before s) (before_down s) rs r
 
 -- ---- one step of the search
+-- some record
+pub blank : Record
+blank = record { key = record { row = []; family = []; qualifier = []; label = []; timestamp = pos 0 }; kind = Put; value = []; seq = 0; idx = 0 }
+
 all_at : (P : Record → Type 0) (xs : List Record) → AllByRecursion P xs → (i : ℕ) (d : Record) → i < length xs → P (slice_index_or xs i d)
 all_at P [] a i d low = absurd (omega (arith, low))
 all_at P (x ∷ xs) a zero d low = a.0

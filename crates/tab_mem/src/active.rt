@@ -81,17 +81,26 @@ impl Active {
         self.records.write(mutation, seq, clock)
     }
 
+    /// The records as a run, written anew in their order. They are kept here too.
+    ///
+    /// It takes memory for the run and, until it returns, for 48 bytes a record. `AllocError` says that it lacked.
+    pub fn to_run(&self, alloc: Global) -> Result<Arc<Run>, AllocError>
+        ensures { IfOk result (λ run. run.value ≡ sorted self.now) }
+    {
+        let records = sorted_copy(alloc, &self.records)?;
+        let run = Arc::new(alloc, Run { records })?;
+        Ok(run)
+    }
+
     /// The records as a run, written anew in their order; none are kept here.
     ///
-    /// It takes memory for the run and, until it returns, for 48 bytes a record; the memory of what was written is given back.
-    /// `AllocError` leaves all as it was.
+    /// It takes memory as `to_run` does; the memory of what was written is given back. `AllocError` leaves all as it was.
     pub fn freeze(&mut self, alloc: Global) -> Result<Arc<Run>, AllocError>
         ensures ok { IfOk result (λ run. run.value ≡ sorted self.old) }
         ensures empty { OnOk result (self.new ≡ []) }
         ensures err { OnErr result (self.new ≡ self.old) }
     {
-        let records = sorted_copy(alloc, &self.records)?;
-        let run = Arc::new(alloc, Run { records })?;
+        let run = self.to_run(alloc)?;
         self.records = Packed::new(alloc);
         Ok(run)
     }

@@ -10,7 +10,7 @@
 //! | `appending` | the records of an accepted mutation, put behind others |
 //! | `item`, `sorting` | what a freeze sorts, and the sort |
 //! | `run` | a frozen run |
-//! | `start`, `searching` | where in a run a search goes, and the searches |
+//! | `ordered`, `start`, `searching` | records by their index, where a search in them goes, and the searches |
 //! | `cursor` | a part of a run that is gone over, as a source of `tab_iter` |
 #![tactic(auto)]
 
@@ -18,6 +18,7 @@ mod active;
 mod appending;
 mod cursor;
 mod item;
+mod ordered;
 mod packed;
 mod run;
 mod searching;
@@ -26,4 +27,7 @@ mod start;
 
 pub use active::Active;
 pub use cursor::RunCursor;
+pub use ordered::Ordered;
 pub use run::Run;
+pub use searching::{first_near, rows_in};
+pub use start::Start;

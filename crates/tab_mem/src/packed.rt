@@ -6,6 +6,7 @@ ghost use Rattle.tab_cells.specs.Written.{mutation_records};
 ghost use Rattle.tab_iter.specs.Lists.{HasI64Timestamps};
 
 use crate::appending::append_all;
+use crate::{Ordered, Start};
 use std::alloc::{AllocError, Global};
 use std::marker::Model;
 use tab_key::{RecordRef, RecordSpan, append_copy};
@@ -117,5 +118,13 @@ impl Packed {
                 Err(fault)
             }
         }
+    }
+}
+
+impl Ordered for Packed {
+    ghost listed = { λ p. p };
+
+    fn precedes(&self, index: usize, start: Start<'_>) -> bool {
+        start.is_after(&self.get(index))
     }
 }

@@ -1,11 +1,15 @@
 //! Frozen runs.
-ghost use Rattle.std.specs.Prelude.{◌≡◌, ◌<◌, ◌==◌, length};
+ghost use Rattle.std.specs.Prelude.{◌≡◌, ◌<◌, ◌≤◌, ◌==◌, length, filter};
 ghost use Rattle.std.specs.List.{slice_index_or};
+ghost use Rattle.tab_key.specs.Ranges.{is_in_range};
 ghost use Rattle.tab_iter.specs.Lists.{IsRising, HasI64Timestamps};
+ghost use Rattle.tab_mem.specs.Lists.{part, HasShortParts};
 
 use crate::packed::Packed;
+use crate::searching::rows_in;
 use std::marker::Model;
-use tab_key::RecordRef;
+use std::ops::Range;
+use tab_key::{Bounds, RecordRef};
 
 /// Records that no longer change, in their order. A contract sees their list.
 ///
@@ -33,6 +37,7 @@ impl Run {
         ensures len { result ≡ length self.now }
         ensures rising { IsRising self.now }
         ensures timestamps { HasI64Timestamps self.now }
+        ensures short { HasShortParts self.now }
     {
         self.records.len()
     }
@@ -50,5 +55,20 @@ impl Run {
         ensures { result ≡ slice_index_or self.now index result }
     {
         self.records.get(index)
+    }
+
+    /// The indexes of the records of a part whose rows are in bounds: these records stand together. The part goes from one index
+    /// up to another, that one excluded.
+    ///
+    /// The low end takes time logarithmic in the part, the high end time logarithmic in the number of records between them.
+    pub fn rows_in(&self, from: usize, end: usize, bounds: &Bounds) -> Range<usize>
+        requires ends { from ≤ end }
+        requires inside { end ≤ length self.now }
+        ensures low { from ≤ result.start }
+        ensures order { result.start ≤ result.end }
+        ensures high { result.end ≤ end }
+        ensures rows { part result.start result.end self.now ≡ filter (λ u. is_in_range bounds.now u.key.row) (part from end self.now) }
+    {
+        rows_in(&self.records, from, end, bounds)
     }
 }

@@ -1,4 +1,4 @@
-//! Where a search in a run goes.
+//! Where a search goes.
 ghost use Rattle.std.specs.Prelude.{◌≡◌};
 ghost use Rattle.tab_mem.specs.Starts.{is_before};
 
@@ -6,7 +6,7 @@ use tab_key::{Bound, Key, RecordRef};
 
 /// The first place that a search may stop at.
 #[derive(Clone, Copy)]
-pub(crate) enum Start<'a> {
+pub enum Start<'a> {
     /// The first record whose key isn't before this one.
     AtKey(Key<'a>),
     /// The first record whose row isn't below this low end.
@@ -18,7 +18,7 @@ pub(crate) enum Start<'a> {
 impl<'a> Start<'a> {
     /// Whether the record stands before the start.
     #[tactic(auto, unfolding(crate::specs::Starts::is_before))]
-    pub(crate) fn is_after(self, other: &RecordRef<'_>) -> bool
+    pub fn is_after(self, other: &RecordRef<'_>) -> bool
         ensures { result ≡ is_before self.entry other.now }
     {
         match self {

@@ -3,8 +3,8 @@ ghost use Rattle.std.specs.Prelude.{List, [], Bool, true, false, ◌-◌};
 ghost use Rattle.tab_iter.specs.SourceLaws.{ends_drop, always_positioned};
 ghost use Rattle.tab_mem.specs.Cursors.{whole, rest};
 
-use crate::RunCursor;
-use crate::start::Start;
+use crate::searching::first_near;
+use crate::{RunCursor, Start};
 use tab_iter::{NoMemory, Source};
 use tab_key::{Key, RecordRef};
 
@@ -38,7 +38,7 @@ impl<'a> Source for RunCursor<'a> {
     #[tactic(auto, unfolding(crate::specs::Starts::from_start))]
     fn seek(&mut self, key: Key<'_>) -> Result<(), NoMemory> {
         let start = Start::AtKey(key);
-        self.at = self.records.first_near(self.from, self.at, self.end, start);
+        self.at = first_near(self.records, self.from, self.at, self.end, start);
         Ok(())
     }
 }

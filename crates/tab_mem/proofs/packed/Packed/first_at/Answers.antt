@@ -1,5 +1,0 @@
-use Rattle.tab_mem.proofs.Parts.{part_from_start}
-use Rattle.tab_mem.proofs.packed.Packed.first_at.Goals as goal
-
-pub returns-clause-found : goal.returns-clause-found
-returns-clause-found c = part_from_start c.args.start c.args.self.now c.requires.rising c.args.from c.args.end c.count_between.result c.requires.ends c.requires.inside c.count_between.ensures
