@@ -1,0 +1,4 @@
+pub mod Slices
+pub mod Encoded
+pub mod Grown
+pub mod Standing

@@ -1,0 +1,107 @@
+-- How a record lies in the body of a sorted table.
+--
+-- A head of 41 bytes, and then row, family, qualifier, label and value in one piece. The head has, the most significant byte first: the
+-- five lengths, 4 bytes each; the timestamp, 8 bytes; the kind, 1 byte, which is 0 for a marker; the number of the mutation, 8 bytes; and
+-- the place in it, 4 bytes.
+use Rattle.std.specs.Prelude.{ℕ, ◌≡◌, ◌≤◌, ◌<◌, ◌^◌, ◌+◌, List, [], ◌∷◌, ◌++◌, length, map, zero, suc, FitsSigned}
+use Rattle.std.specs.List.{AllByRecursion, AllByRecursion-prop, slice_range, slice_index}
+use Rattle.std.specs.Coded.{le_prop}
+use Rattle.std.specs.Int.{w32, w64, to_be_bytes, from_be_bytes, cast_signed, cast_unsigned}
+use mathlib.Core.HLevel.{Π_prop}
+use Rattle.tab_key.specs.Order.{kind_rank}
+use Rattle.tab_key.specs.Records as view
+use Rattle.tab_key.specs.RecordSpans.{record_in, IsWithin, packed}
+use Rattle.tab_key.specs.declared.key.Kind.{Kind}
+use Rattle.tab_key.specs.declared.key.Kind.TheVariants.{Delete, Put}
+use Rattle.tab_key.specs.declared.record_span.RecordSpan.{RecordSpan}
+use Rattle.tab_mem.specs.Lists.{IsShort, HasShortParts}
+
+-- ---- reading
+-- the number that four bytes spell, from the place on
+unfoldable pub length_at : List ℕ → ℕ → ℕ
+length_at body p = from_be_bytes w32 (slice_range body p (p + 4))
+
+-- the number that eight bytes spell
+unfoldable pub number_at : List ℕ → ℕ → ℕ
+number_at body p = from_be_bytes w64 (slice_range body p (p + 8))
+
+-- the kind that a byte stands for
+abbrev pub kind_of : ℕ → Kind
+kind_of zero = Delete
+kind_of (suc n) = Put
+
+-- where the record lies whose head begins at a place, and what its head says
+unfoldable pub span_at : List ℕ → ℕ → RecordSpan
+span_at body p =
+    let start = p + 41 in
+    let row_end = start + length_at body p in
+    let family_end = row_end + length_at body (p + 4) in
+    let qualifier_end = family_end + length_at body (p + 8) in
+    let label_end = qualifier_end + length_at body (p + 12) in
+    record {
+      start = start;
+      row_end = row_end;
+      family_end = family_end;
+      qualifier_end = qualifier_end;
+      label_end = label_end;
+      end = label_end + length_at body (p + 16);
+      timestamp = cast_signed w64 (number_at body (p + 20));
+      seq = number_at body (p + 29);
+      idx = length_at body (p + 37);
+      kind = kind_of (slice_index body (p + 28));
+    }
+
+-- the record itself
+abbrev pub record_at : List ℕ → ℕ → view.Record
+record_at body p = record_in body (span_at body p)
+
+-- the records whose heads begin at these places
+abbrev pub records_at : List ℕ → List ℕ → List view.Record
+records_at body places = map (record_at body) places
+
+-- each of them lies in the body
+abbrev pub AreWithin : List ℕ → List ℕ → Type 0
+AreWithin body places = AllByRecursion (λ p. IsWithin body (span_at body p)) places
+
+-- ---- writing
+-- a number in four bytes, and in eight
+unfoldable pub four_bytes : ℕ → List ℕ
+four_bytes n = to_be_bytes w32 n
+
+unfoldable pub eight_bytes : ℕ → List ℕ
+eight_bytes n = to_be_bytes w64 n
+
+-- the five lengths of a record's head
+abbrev pub lengths : view.Record → List ℕ
+lengths r = four_bytes (length r.key.row) ++ four_bytes (length r.key.family) ++ four_bytes (length r.key.qualifier) ++ four_bytes (length r.key.label) ++ four_bytes (length r.value)
+
+-- what follows them there
+abbrev pub numbers : view.Record → List ℕ
+numbers r = eight_bytes (cast_unsigned w64 r.key.timestamp) ++ (kind_rank r.kind ∷ []) ++ eight_bytes r.seq ++ four_bytes r.idx
+
+-- a record's bytes
+abbrev pub encoded : view.Record → List ℕ
+encoded r = lengths r ++ numbers r ++ packed r
+
+-- what isn't bytes of a record has its place in the head
+pub record FitsNumbers (r : view.Record) : Type 0 where
+  pub timestamp : FitsSigned w64 r.key.timestamp
+  pub bits : cast_unsigned w64 r.key.timestamp < 2 ^ 64
+  pub seq : r.seq < 2 ^ 64
+  pub idx : r.idx < 2 ^ 32
+
+-- ---- each of these facts has one proof
+IsWithin-prop : (body : List ℕ) (p : RecordSpan) (a b : IsWithin body p) → a ≡ b
+IsWithin-prop body p a b = λ i. record { row = le_prop a.row b.row i; family = le_prop a.family b.family i; qualifier = le_prop a.qualifier b.qualifier i; label = le_prop a.label b.label i; value = le_prop a.value b.value i; whole = le_prop a.whole b.whole i }
+
+pub IsWithin-prop_if : {P : Type 0} (body : List ℕ) (p : RecordSpan) (a b : P → IsWithin body p) → a ≡ b
+IsWithin-prop_if body p = Π_prop λ _. IsWithin-prop body p
+
+pub AreWithin-prop : (body places : List ℕ) (a b : AreWithin body places) → a ≡ b
+AreWithin-prop body places = AllByRecursion-prop _ (λ p. IsWithin-prop body (span_at body p)) places
+
+IsShort-prop : (u : view.Record) (a b : IsShort u) → a ≡ b
+IsShort-prop u a b = λ i. record { row = le_prop a.row b.row i; family = le_prop a.family b.family i; qualifier = le_prop a.qualifier b.qualifier i; label = le_prop a.label b.label i; value = le_prop a.value b.value i }
+
+pub HasShortParts-prop : (rs : List view.Record) (a b : HasShortParts rs) → a ≡ b
+HasShortParts-prop rs = Π_prop λ u. Π_prop λ _. IsShort-prop u

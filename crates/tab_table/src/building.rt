@@ -1,0 +1,59 @@
+//! Tables built of what a source has left.
+ghost use Rattle.std.specs.Prelude.{◌≡◌, IfOk, length};
+ghost use Rattle.tab_mem.specs.Lists.{HasShortParts};
+ghost use Rattle.tab_table.specs.Encoding.{records_at, AreWithin};
+ghost use Rattle.tab_table.specs.Sizes.{encoded_size};
+
+use crate::Table;
+use crate::encoding::append;
+use bytes::Bytes;
+use std::alloc::{AllocError, Global};
+use tab_iter::{NoMemory, Source};
+
+// Records, one after another, and where their heads begin.
+#[derive(Drop)]
+struct Gathered {
+    body: Vec<u8>,
+    places: Vec<usize>,
+}
+
+// Copies of the records that the source has left.
+fn gather<S: Source>(alloc: Global, source: &mut S) -> Result<Gathered, NoMemory>
+    requires { HasShortParts (S.rest source.old) }
+    ensures records { IfOk result (λ g. records_at g.body.items g.places.items ≡ S.rest source.old) }
+    ensures within { IfOk result (λ g. AreWithin g.body.items g.places.items) }
+    ensures size { IfOk result (λ g. length g.body.items ≡ encoded_size (records_at g.body.items g.places.items)) }
+{
+    let mut body = Vec::new(alloc);
+    let mut places = Vec::new(alloc);
+    while let Some(next) = source.top() {
+        let place = append(&mut body, &next)?;
+        places.push(place)?;
+        source.advance()?;
+    }
+    Ok(Gathered { body, places })
+}
+
+impl Table {
+    ghost use Rattle.tab_table.specs.Tables.{records};
+
+    /// A table of the records that the source has left, which it reads to its end. Each is copied once.
+    ///
+    /// While it grows it may take twice the memory that the table keeps. After an error, which only want of memory gives, some of the
+    /// records are passed.
+    pub fn build<S: Source>(alloc: Global, source: &mut S) -> Result<Table, NoMemory>
+        requires { HasShortParts (S.rest source.old) }
+        ensures { IfOk result (λ t. records t ≡ S.rest source.old) }
+    {
+        let Gathered {
+            mut body,
+            mut places,
+        } = gather(alloc, source)?;
+        body.shrink_to_fit();
+        places.shrink_to_fit();
+        match Bytes::from_vec(body) {
+            Ok(body) => Ok(Table { body, places }),
+            Err(_) => Err(AllocError),
+        }
+    }
+}

@@ -1,0 +1,166 @@
+//! A part of a table that is gone over.
+ghost use Rattle.std.specs.Prelude.{◌≡◌, ◌≤◌, ◌<◌, List, [], Bool, true, false, ◌-◌, drop, length};
+ghost use Rattle.std.specs.List.{slice_index_or};
+ghost use Rattle.tab_key.specs.RecordSpans.{record_in, IsWithin};
+ghost use Rattle.tab_mem.specs.Lists.{part};
+ghost use Rattle.tab_table.specs.Encoding.{records_at, IsWithin-prop_if};
+
+use crate::Table;
+use std::sync::Arc;
+use tab_iter::{NoMemory, Source};
+use tab_key::{Key, Kind, RecordRef, RecordSpan};
+use tab_mem::{Start, first_near};
+
+/// Whoever has a table: who borrows it, or who shares it.
+pub trait Tabled {
+    ghost use Rattle.tab_table.specs.declared.table.Table.{Table as Fields};
+
+    ghost table: { Self → Fields };
+
+    /// The table.
+    fn table(&self) -> &Table
+        ensures { result.now ≡ table self.now };
+}
+
+impl<'a> Tabled for &'a Table {
+    ghost table = { λ t. t.now };
+
+    fn table(&self) -> &Table {
+        *self
+    }
+}
+
+impl Tabled for Arc<Table> {
+    ghost table = { λ t. t.value };
+
+    fn table(&self) -> &Table {
+        &**self
+    }
+}
+
+/// The records of a table from one index up to another, and a place among them: a source of `tab_iter`. A contract sees all of
+/// these records, and those that are left.
+///
+/// It keeps what the head of its first record left says, so that this record is lent without a copy.
+#[derive(Drop)]
+pub struct TableCursor<T: Tabled> {
+    table: T,
+    from: usize,
+    at: usize,
+    end: usize,
+    // where the first record left lies, if there is one
+    span: RecordSpan,
+    ghost ordered: { from ≤ at },
+    ghost upto: { at ≤ end },
+    ghost inside: { end ≤ length (records_at (T.table table).body (T.table table).places.items) },
+    ghost within: { at < end → IsWithin (T.table table).body span } by { IsWithin-prop_if (T.table table).body span },
+    ghost lent: { at < end → record_in (T.table table).body span ≡ slice_index_or (records_at (T.table table).body (T.table table).places.items) at (record_in (T.table table).body span) },
+}
+
+/// A cursor that borrows its table.
+pub type Cursor<'a> = TableCursor<&'a Table>;
+
+/// A cursor that shares its table, and so outlives whoever made it.
+pub type OwnedCursor = TableCursor<Arc<Table>>;
+
+// Where the record at an index lies, if the part goes that far.
+fn span_before(table: &Table, at: usize, end: usize) -> RecordSpan
+    requires { end ≤ length (records_at table.now.body table.now.places.items) }
+    ensures within { at < end → IsWithin table.now.body result }
+    ensures lent { at < end → record_in table.now.body result ≡ slice_index_or (records_at table.now.body table.now.places.items) at (record_in table.now.body result) }
+{
+    if at < end {
+        return table.span(at);
+    }
+    RecordSpan {
+        start: 0,
+        row_end: 0,
+        family_end: 0,
+        qualifier_end: 0,
+        label_end: 0,
+        end: 0,
+        timestamp: 0,
+        seq: 0,
+        idx: 0,
+        kind: Kind::Put,
+    }
+}
+
+impl<T: Tabled + Drop> TableCursor<T> {
+    ghost use Rattle.tab_table.specs.Tables.{records};
+
+    /// A cursor over the whole table, at its first record.
+    pub fn new(table: T) -> TableCursor<T>
+        ensures whole { ⟦<TableCursor<T> as Source>⟧.whole result ≡ records (T.table table) }
+        ensures rest { ⟦<TableCursor<T> as Source>⟧.rest result ≡ records (T.table table) }
+    {
+        let end = table.table().len();
+        TableCursor::over(table, 0, end)
+    }
+
+    /// A cursor over the records from one index up to another, that one excluded, at the first of them.
+    pub fn over(table: T, from: usize, end: usize) -> TableCursor<T>
+        requires ends { from ≤ end }
+        requires inside { end ≤ length (records (T.table table)) }
+        ensures whole { ⟦<TableCursor<T> as Source>⟧.whole result ≡ part from end (records (T.table table)) }
+        ensures rest { ⟦<TableCursor<T> as Source>⟧.rest result ≡ part from end (records (T.table table)) }
+    {
+        let span = span_before(table.table(), from, end);
+        TableCursor {
+            table,
+            from,
+            at: from,
+            end,
+            span,
+        }
+    }
+}
+
+/// No call takes memory. A seek takes time logarithmic in how far it goes on, or in the part where it goes back.
+impl<T: Tabled> Source for TableCursor<T> {
+    ghost use Rattle.tab_iter.specs.SourceLaws.{ends_drop, always_positioned};
+    ghost use Rattle.tab_mem.proofs.Parts.{part_rises, part_timestamps};
+    ghost use Rattle.tab_table.specs.Tables.{records};
+
+    ghost whole = { λ c. part c.from c.end (records (T.table c.table)) };
+
+    ghost rest = { λ c. drop (c.at - c.from) (part c.from c.end (records (T.table c.table))) };
+
+    ghost is_unpositioned = { λ c. false };
+
+    ghost whole_rises = { λ c. part_rises c.from c.end (records (T.table c.table)) (T.table c.table).rising };
+
+    ghost has_i64_timestamps = { λ c. part_timestamps c.from c.end (records (T.table c.table)) (T.table c.table).timestamps };
+
+    ghost rest_is_suffix = { λ c. ends_drop (c.at - c.from) (part c.from c.end (records (T.table c.table))) };
+
+    ghost unpositioned_is_empty = { λ c. always_positioned (drop (c.at - c.from) (part c.from c.end (records (T.table c.table)))) };
+
+    fn top(&self) -> Option<RecordRef<'_>> {
+        if self.at < self.end {
+            Some(RecordRef::at(self.table.table().bytes(), &self.span))
+        } else {
+            None
+        }
+    }
+
+    fn advance(&mut self) -> Result<(), NoMemory> {
+        if self.at < self.end {
+            let at = self.at + 1;
+            let span = span_before(self.table.table(), at, self.end);
+            self.at = at;
+            self.span = span;
+        }
+        Ok(())
+    }
+
+    #[tactic(auto, unfolding(tab_mem::specs::Starts::from_start))]
+    fn seek(&mut self, key: Key<'_>) -> Result<(), NoMemory> {
+        let start = Start::AtKey(key);
+        let at = first_near(self.table.table(), self.from, self.at, self.end, start);
+        let span = span_before(self.table.table(), at, self.end);
+        self.at = at;
+        self.span = span;
+        Ok(())
+    }
+}

@@ -1,0 +1,124 @@
+//! Sorted tables.
+ghost use Rattle.std.specs.Prelude.{◌≡◌, ◌<◌, ◌≤◌, ◌==◌, length, filter};
+ghost use Rattle.std.specs.List.{slice_index_or};
+ghost use Rattle.std.proofs.lemmas.Map.Keys.{IsStrictlySortedBy-prop};
+ghost use Rattle.tab_key.specs.Order.{record_cmp};
+ghost use Rattle.tab_key.specs.Ranges.{is_in_range};
+ghost use Rattle.tab_key.specs.Records.{Record as Fields};
+ghost use Rattle.tab_key.specs.RecordSpans.{record_in, IsWithin};
+ghost use Rattle.tab_iter.specs.Lists.{IsRising, HasI64Timestamps};
+ghost use Rattle.tab_iter.specs.Propositions.{HasI64Timestamps-prop};
+ghost use Rattle.tab_mem.specs.Lists.{part, HasShortParts};
+ghost use Rattle.tab_table.specs.Encoding.{records_at, AreWithin, AreWithin-prop, HasShortParts-prop};
+ghost use Rattle.tab_table.specs.Sizes.{encoded_size};
+
+use crate::Entry;
+use crate::encoding::span_at;
+use bytes::Bytes;
+use std::ops::Range;
+use tab_key::{Bounds, RecordSpan};
+use tab_mem::{Ordered, Start, rows_in};
+
+/// Records that no longer change, in their order. A contract sees their list by `records`.
+///
+/// They lie in one piece of bytes, one after another; beside it a table takes 8 bytes a record, and no bytes of a record stand
+/// twice. (Accumulo user manual: a file that a compaction writes)
+#[derive(Drop)]
+pub struct Table {
+    pub(crate) body: Bytes,
+    // where the records' heads begin
+    pub(crate) places: Vec<usize>,
+    ghost within: { AreWithin body places.items } by { AreWithin-prop body places.items },
+    ghost rising: { IsRising (records_at body places.items) } by { IsStrictlySortedBy-prop record_cmp (records_at body places.items) },
+    ghost timestamps: { HasI64Timestamps (records_at body places.items) } by { HasI64Timestamps-prop (records_at body places.items) },
+    ghost short: { HasShortParts (records_at body places.items) } by { HasShortParts-prop (records_at body places.items) },
+    ghost sized: { length body ≡ encoded_size (records_at body places.items) },
+}
+
+impl Table {
+    ghost use Rattle.tab_table.specs.Tables.{records};
+
+    /// How many bytes the records take: 41 for each and its five byte strings.
+    pub fn size(&self) -> u64
+        ensures { result ≡ encoded_size (records self.now) }
+    {
+        self.body.len() as u64
+    }
+
+    /// How many records there are, markers and hidden ones among them.
+    pub fn len(&self) -> usize
+        ensures len { result ≡ length (records self.now) }
+        ensures rising { IsRising (records self.now) }
+        ensures timestamps { HasI64Timestamps (records self.now) }
+        ensures short { HasShortParts (records self.now) }
+    {
+        self.places.len()
+    }
+
+    /// Whether there is no record.
+    pub fn is_empty(&self) -> bool
+        ensures { result ≡ (length (records self.now) == 0) }
+    {
+        self.places.is_empty()
+    }
+
+    /// The record at an index, counted from 0 in the order of records.
+    pub fn get(&self, index: usize) -> Entry<'_>
+        requires { index < length (records self.now) }
+        ensures { (u : Fields) → result ≡ slice_index_or (records self.now) index u }
+    {
+        Entry::new(self.body.as_slice(), self.span(index))
+    }
+
+    /// The indexes of the records of a part whose rows are in bounds: these records stand together. The part goes from one index
+    /// up to another, that one excluded.
+    ///
+    /// The low end takes time logarithmic in the part, the high end time logarithmic in the number of records between them.
+    pub fn rows_in(&self, from: usize, end: usize, bounds: &Bounds) -> Range<usize>
+        requires ends { from ≤ end }
+        requires inside { end ≤ length (records self.now) }
+        ensures low { from ≤ result.start }
+        ensures order { result.start ≤ result.end }
+        ensures high { result.end ≤ end }
+        ensures rows { part result.start result.end (records self.now) ≡ filter (λ u. is_in_range bounds.now u.key.row) (part from end (records self.now)) }
+    {
+        rows_in(self, from, end, bounds)
+    }
+
+    // The body.
+    pub(crate) fn bytes(&self) -> &[u8]
+        ensures { result.now ≡ self.now.body }
+    {
+        self.body.as_slice()
+    }
+
+    // Where the record at an index lies in the body.
+    pub(crate) fn span(&self, index: usize) -> RecordSpan
+        requires { index < length (records self.now) }
+        ensures within { IsWithin self.now.body result }
+        ensures found { (u : Fields) → record_in self.now.body result ≡ slice_index_or (records self.now) index u }
+    {
+        span_of(self.body.as_slice(), self.places.as_slice(), index)
+    }
+}
+
+// Where the record lies in the body whose head begins at the place with this index.
+fn span_of(body: &[u8], places: &[usize], index: usize) -> RecordSpan
+    requires places { AreWithin body.now places.now }
+    requires inside { index < length (records_at body.now places.now) }
+    ensures within { IsWithin body.now result }
+    ensures found { (u : Fields) → record_in body.now result ≡ slice_index_or (records_at body.now places.now) index u }
+{
+    let place = places[index];
+    span_at(body, place)
+}
+
+impl Ordered for Table {
+    ghost use Rattle.tab_table.specs.Tables.{records};
+
+    ghost listed = { λ t. records t };
+
+    fn precedes(&self, index: usize, start: Start<'_>) -> bool {
+        start.is_after(&self.get(index).as_ref())
+    }
+}
