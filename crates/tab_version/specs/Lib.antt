@@ -1,2 +1,4 @@
 pub mod Clips
+pub mod OneOf
 pub mod Shown
+pub mod Sources

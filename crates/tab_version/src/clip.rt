@@ -1,26 +1,32 @@
-//! Parts of shared runs.
+//! Parts of shared runs and tables.
 ghost use Rattle.std.specs.Prelude.{◌≡◌, ◌==◌, IfOk, length, filter};
 ghost use Rattle.tab_key.specs.Ranges.{is_in_range};
 ghost use Rattle.tab_iter.specs.Lists.{IsRising};
+ghost use Rattle.tab_mem.specs.Lists.{HasShortParts};
 
+use crate::Whole;
 use std::alloc::AllocError;
 use std::marker::Model;
 use std::sync::Arc;
 use tab_iter::Source;
 use tab_key::Bounds;
 use tab_mem::{Run, RunCursor};
+use tab_table::{Cursor, Table};
 
-/// The records of a shared run whose rows lie in bounds. A contract sees the list of these records.
+/// The records of a shared run or table whose rows lie in bounds. A contract sees the list of these records.
 ///
-/// It holds a share of the run and two indexes, and no copy of a record.
+/// It holds a share of the whole and two indexes, and no copy of a record.
 #[derive(Drop)]
-pub struct Clip {
-    run: Arc<Run>,
+pub struct Part<W: Whole> {
+    whole: Arc<W>,
     from: usize,
     end: usize,
 }
 
-impl Model for Clip {
+/// A part of a frozen run.
+pub type Clip = Part<Run>;
+
+impl<W: Whole> Model for Part<W> {
     ghost use Rattle.std.specs.Prelude.{List};
     ghost use Rattle.tab_key.specs.Records.{Record as Fields};
     ghost use Rattle.tab_mem.specs.Lists.{part};
@@ -28,48 +34,58 @@ impl Model for Clip {
 
     ghost Value = { List Fields };
 
-    ghost view = { λ c. part c.from c.end c.run.value };
+    ghost view = { λ c. part c.from c.end (W.listed c.whole.value) };
 
-    ghost invariant = { λ c. IsPart c.from c.end c.run.value };
+    ghost invariant = { λ c. IsPart c.from c.end (W.listed c.whole.value) };
 }
 
-impl Clip {
-    /// All records of the run.
-    pub fn whole(run: Arc<Run>) -> Clip
-        ensures { result ≡ run.value }
+impl<W: Whole + Drop> Part<W> {
+    /// All records.
+    pub fn whole(whole: Arc<W>) -> Part<W>
+        ensures { result ≡ W.listed whole.value }
     {
-        let end = run.len();
-        Clip { run, from: 0, end }
+        let end = whole.len();
+        Part {
+            whole,
+            from: 0,
+            end,
+        }
     }
 
-    /// The records of this clip whose rows are in bounds. It shares the run and copies no record; it takes time logarithmic in the
-    /// clip.
+    /// The records of this clip whose rows are in bounds. It shares what this clip shares and copies no record; it takes time
+    /// logarithmic in the clip.
     ///
-    /// `AllocError` says that the run couldn't be shared once more.
-    pub fn in_rows(&self, bounds: &Bounds) -> Result<Clip, AllocError>
+    /// `AllocError` says that it couldn't be shared once more.
+    pub fn in_rows(&self, bounds: &Bounds) -> Result<Part<W>, AllocError>
         ensures { IfOk result (λ c. c ≡ filter (λ u. is_in_range bounds.now u.key.row) self.now) }
     {
-        let run = self.run.clone()?;
-        let rows = self.run.rows_in(self.from, self.end, bounds);
-        Ok(Clip {
-            run,
+        let whole = self.whole.clone()?;
+        let rows = self.whole.rows_in(self.from, self.end, bounds);
+        Ok(Part {
+            whole,
             from: rows.start,
             end: rows.end,
         })
     }
 
-    /// The records as a source, at its first record.
-    pub fn cursor<'a>(&'a self) -> RunCursor<'a>
-        ensures whole { ⟦<RunCursor<'a> as Source>⟧.whole result ≡ self.now }
-        ensures at_start { ⟦<RunCursor<'a> as Source>⟧.rest result ≡ ⟦<RunCursor<'a> as Source>⟧.whole result }
+    /// The same records, shared once more.
+    ///
+    /// `AllocError` says that they couldn't be.
+    pub fn share(&self) -> Result<Part<W>, AllocError>
+        ensures { IfOk result (λ c. c ≡ self.now) }
     {
-        RunCursor::over(&self.run, self.from, self.end)
+        Ok(Part {
+            whole: self.whole.clone()?,
+            from: self.from,
+            end: self.end,
+        })
     }
 
     /// How many records there are, markers and hidden ones among them.
     pub fn len(&self) -> usize
         ensures len { result ≡ length self.now }
         ensures rising { IsRising self.now }
+        ensures short { HasShortParts self.now }
     {
         self.end - self.from
     }
@@ -79,5 +95,28 @@ impl Clip {
         ensures { result ≡ (length self.now == 0) }
     {
         self.from == self.end
+    }
+}
+
+impl Part<Run> {
+    /// The records as a source, at its first record.
+    pub fn cursor<'a>(&'a self) -> RunCursor<'a>
+        ensures whole { ⟦<RunCursor<'a> as Source>⟧.whole result ≡ self.now }
+        ensures at_start { ⟦<RunCursor<'a> as Source>⟧.rest result ≡ ⟦<RunCursor<'a> as Source>⟧.whole result }
+        ensures short { HasShortParts self.now }
+    {
+        RunCursor::over(&self.whole, self.from, self.end)
+    }
+}
+
+impl Part<Table> {
+    /// The records as a source, at its first record.
+    pub(crate) fn table_cursor<'a>(&'a self) -> Cursor<'a>
+        ensures whole { ⟦<Cursor<'a> as Source>⟧.whole result ≡ self.now }
+        ensures at_start { ⟦<Cursor<'a> as Source>⟧.rest result ≡ ⟦<Cursor<'a> as Source>⟧.whole result }
+        ensures short { HasShortParts self.now }
+    {
+        let table: &'a Table = &self.whole;
+        Cursor::over(table, self.from, self.end)
     }
 }

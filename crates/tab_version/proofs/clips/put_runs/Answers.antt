@@ -1,0 +1,15 @@
+-- One cursor more.
+use Rattle.std.proofs.Common.{◌<◌, ◌∙◌, length, arith}
+use Rattle.tab_version.proofs.Gathering.{put_list, short_list}
+use Rattle.tab_version.proofs.clips.put_runs.Goals as goal
+
+pub loop-clip-preserved : goal.loop-clip-preserved
+loop-clip-preserved c =
+    let clips = c.args.clips.now in
+    let i = c.loop-clip.clip-index in
+    let lt : i < length clips = omega arith in
+    record {
+      whole = put_list _ _ c.loop-clip.cursors.items c.push.new.self.items _ clips i c.clip-item.result lt c.clip-item.is c.in_ok-push.ensures.items c.cursor.ensures.whole c.loop-clip.invariant.whole;
+      rest = put_list _ _ c.loop-clip.cursors.items c.push.new.self.items _ clips i c.clip-item.result lt c.clip-item.is c.in_ok-push.ensures.items (c.cursor.ensures.at_start ∙ c.cursor.ensures.whole) c.loop-clip.invariant.rest;
+      short = short_list clips i c.clip-item.result lt c.clip-item.is c.loop-clip.invariant.short c.cursor.ensures.short;
+    }

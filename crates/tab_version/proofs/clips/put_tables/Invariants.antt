@@ -1,0 +1,16 @@
+-- A cursor for each clip so far.
+use Rattle.std.proofs.Common.{◌≡◌, ◌++◌, ◌-◌, map, take, drop}
+use Rattle.tab_iter.specs.Bags.{flat}
+use Rattle.tab_mem.specs.Lists.{part, HasShortParts}
+use Rattle.tab_mem.specs.Cursors.{whole, rest}
+use Rattle.tab_table.specs.Tables.{records}
+use Rattle.tab_version.specs.OneOf.{one_of}
+use Rattle.tab_version.specs.Sources.{Sorted}
+use Rattle.tab_version.proofs.clips.put_tables.Given as goal
+
+abbrev pub invariant-loop-clip : goal.invariant-loop-clip
+invariant-loop-clip l = record {
+  whole : map (one_of whole (λ c. part c.from c.end (records c.table.now))) l.cursors.items ≡ map (one_of whole (λ c. part c.from c.end (records c.table.now))) l.initial.cursors.items ++ map (λ (t : Sorted). t.records) (take l.clip-index l.clips);
+  rest : map (one_of rest (λ c. drop (c.at - c.from) (part c.from c.end (records c.table.now)))) l.cursors.items ≡ map (one_of rest (λ c. drop (c.at - c.from) (part c.from c.end (records c.table.now)))) l.initial.cursors.items ++ map (λ (t : Sorted). t.records) (take l.clip-index l.clips);
+  short : HasShortParts (flat (map (λ (t : Sorted). t.records) (take l.clip-index l.clips)));
+}

@@ -1,0 +1,167 @@
+//! Clips of runs and of tables.
+ghost use Rattle.std.specs.Prelude.{◌≡◌, ◌++◌, ◌∷◌, [], map, IfOk, OnOk, OnErr};
+ghost use Rattle.tab_iter.specs.Bags.{flat};
+ghost use Rattle.tab_mem.specs.Lists.{HasShortParts};
+ghost use Rattle.tab_version.specs.Clips.{lists_of};
+ghost use Rattle.tab_version.specs.Sources.{no_sources, records_of};
+
+use crate::{Clip, OneOf, TableClip};
+use std::alloc::{AllocError, Global};
+use std::marker::Model;
+use tab_iter::Source;
+use tab_mem::RunCursor;
+use tab_table::Cursor;
+
+/// A cursor over a clip of a run or of a table.
+pub type ClipCursor<'a> = OneOf<RunCursor<'a>, Cursor<'a>>;
+
+/// What a tablet reads beside its active part: clips of runs and clips of tables, each in the order in which they came.
+#[derive(Drop)]
+pub struct Clips {
+    runs: Vec<Clip>,
+    tables: Vec<TableClip>,
+}
+
+impl Model for Clips {
+    ghost use Rattle.tab_version.specs.Sources.{Sources};
+
+    ghost Value = { Sources };
+
+    ghost view = { λ c. record { runs = c.runs.items; tables = c.tables.items } };
+}
+
+impl Clips {
+    /// No clips. It takes no memory.
+    pub fn new(alloc: Global) -> Clips
+        ensures { result ≡ no_sources }
+    {
+        Clips {
+            runs: Vec::new(alloc),
+            tables: Vec::new(alloc),
+        }
+    }
+
+    /// These clips. It takes no memory.
+    pub fn of(runs: Vec<Clip>, tables: Vec<TableClip>) -> Clips
+        ensures { result ≡ record { runs = runs.items; tables = tables.items } }
+    {
+        Clips { runs, tables }
+    }
+
+    /// The clips of runs.
+    pub fn runs(&self) -> &[Clip]
+        ensures { result.now ≡ self.now.runs }
+    {
+        self.runs.as_slice()
+    }
+
+    /// The clips of tables.
+    pub fn tables(&self) -> &[TableClip]
+        ensures { result.now ≡ self.now.tables }
+    {
+        self.tables.as_slice()
+    }
+
+    /// The clips, taken apart. It takes no memory.
+    pub fn into_parts(self) -> (Vec<Clip>, Vec<TableClip>)
+        ensures runs { result.0.items ≡ self.runs }
+        ensures tables { result.1.items ≡ self.tables }
+    {
+        let Clips { runs, tables } = self;
+        (runs, tables)
+    }
+
+    /// The same clips, each source shared once more. No record is copied.
+    ///
+    /// It takes memory for a share of each source. `AllocError` says that it lacked.
+    pub fn share(&self, alloc: Global) -> Result<Clips, AllocError>
+        ensures { IfOk result (λ c. c ≡ self.now) }
+    {
+        let runs = share_runs(alloc, &self.runs)?;
+        let tables = share_tables(alloc, &self.tables)?;
+        Ok(Clips { runs, tables })
+    }
+
+    /// Puts a clip of a run behind the others. `AllocError` leaves all as it was.
+    pub fn add_run(&mut self, clip: Clip) -> Result<(), AllocError>
+        ensures ok { OnOk result (self.new ≡ record (self.old) { runs = self.old.runs ++ clip ∷ [] }) }
+        ensures err { OnErr result (self.new ≡ self.old) }
+    {
+        self.runs.reserve(1)?;
+        self.runs.push_reserved(clip);
+        Ok(())
+    }
+
+    /// Puts a clip of a table behind the others. `AllocError` leaves all as it was.
+    pub fn add_table(&mut self, clip: TableClip) -> Result<(), AllocError>
+        ensures ok { OnOk result (self.new ≡ record (self.old) { tables = self.old.tables ++ clip ∷ [] }) }
+        ensures err { OnErr result (self.new ≡ self.old) }
+    {
+        self.tables.reserve(1)?;
+        self.tables.push_reserved(clip);
+        Ok(())
+    }
+
+    /// A cursor over each clip, at its first record. No record has a part that is too long for a table.
+    pub fn cursors<'a>(&'a self, alloc: Global) -> Result<Vec<ClipCursor<'a>>, AllocError>
+        ensures lists { IfOk result (λ v. map ⟦<ClipCursor<'a> as Source>⟧.whole v.items ≡ lists_of self.now) }
+        ensures whole { IfOk result (λ v. flat (map ⟦<ClipCursor<'a> as Source>⟧.whole v.items) ≡ records_of self.now) }
+        ensures at_start { IfOk result (λ v. map ⟦<ClipCursor<'a> as Source>⟧.rest v.items ≡ map ⟦<ClipCursor<'a> as Source>⟧.whole v.items) }
+        ensures short { OnOk result (HasShortParts (records_of self.now)) }
+    {
+        let count = self.runs.len().saturating_add(self.tables.len());
+        let mut cursors = Vec::with_capacity(alloc, count)?;
+        put_runs(&mut cursors, &self.runs)?;
+        put_tables(&mut cursors, &self.tables)?;
+        Ok(cursors)
+    }
+}
+
+// The same runs, each shared once more.
+fn share_runs(alloc: Global, runs: &[Clip]) -> Result<Vec<Clip>, AllocError>
+    ensures { IfOk result (λ v. v.items ≡ runs.now) }
+{
+    let mut shared = Vec::with_capacity(alloc, runs.len())?;
+    for run in runs {
+        shared.push(run.share()?)?;
+    }
+    Ok(shared)
+}
+
+// The same tables, each shared once more.
+fn share_tables(alloc: Global, tables: &[TableClip]) -> Result<Vec<TableClip>, AllocError>
+    ensures { IfOk result (λ v. v.items ≡ tables.now) }
+{
+    let mut shared = Vec::with_capacity(alloc, tables.len())?;
+    for table in tables {
+        shared.push(table.share()?)?;
+    }
+    Ok(shared)
+}
+
+// Puts a cursor over each of the runs' clips behind the others.
+fn put_runs<'a>(cursors: &mut Vec<ClipCursor<'a>>, clips: &'a [Clip]) -> Result<(), AllocError>
+    ensures whole { OnOk result (map ⟦<ClipCursor<'a> as Source>⟧.whole cursors.new.items ≡ map ⟦<ClipCursor<'a> as Source>⟧.whole cursors.old.items ++ clips.now) }
+    ensures rest { OnOk result (map ⟦<ClipCursor<'a> as Source>⟧.rest cursors.new.items ≡ map ⟦<ClipCursor<'a> as Source>⟧.rest cursors.old.items ++ clips.now) }
+    ensures short { OnOk result (HasShortParts (flat clips.now)) }
+{
+    for clip in clips {
+        cursors.push(OneOf::Run(clip.cursor()))?;
+    }
+    Ok(())
+}
+
+// Puts a cursor over each of the tables' clips behind the others.
+fn put_tables<'a>(
+    cursors: &mut Vec<ClipCursor<'a>>,
+    clips: &'a [TableClip],
+) -> Result<(), AllocError>
+    ensures whole { OnOk result (map ⟦<ClipCursor<'a> as Source>⟧.whole cursors.new.items ≡ map ⟦<ClipCursor<'a> as Source>⟧.whole cursors.old.items ++ map (λ t. t.records) clips.now) }
+    ensures rest { OnOk result (map ⟦<ClipCursor<'a> as Source>⟧.rest cursors.new.items ≡ map ⟦<ClipCursor<'a> as Source>⟧.rest cursors.old.items ++ map (λ t. t.records) clips.now) }
+    ensures short { OnOk result (HasShortParts (flat (map (λ t. t.records) clips.now))) }
+{
+    for clip in clips {
+        cursors.push(OneOf::Table(clip.cursor()))?;
+    }
+    Ok(())
+}

@@ -1,0 +1,100 @@
+//! Parts of shared tables, with the tables' sizes.
+ghost use Rattle.std.specs.Prelude.{◌≡◌, ◌==◌, IfOk, length, filter};
+ghost use Rattle.tab_key.specs.Ranges.{is_in_range};
+ghost use Rattle.tab_iter.specs.Lists.{IsRising};
+ghost use Rattle.tab_mem.specs.Lists.{HasShortParts};
+ghost use Rattle.tab_table.specs.Tables.{records};
+ghost use Rattle.tab_version.specs.Sources.{built};
+
+use crate::Part;
+use std::alloc::AllocError;
+use std::marker::Model;
+use std::sync::Arc;
+use tab_iter::Source;
+use tab_key::Bounds;
+use tab_table::{Cursor, Table};
+
+/// The records of a shared table whose rows lie in bounds, and the size of the whole table, in bytes.
+#[derive(Drop)]
+pub struct TableClip {
+    part: Part<Table>,
+    size: u64,
+}
+
+impl Model for TableClip {
+    ghost use Rattle.tab_version.specs.Sources.{Sorted};
+
+    ghost Value = { Sorted };
+
+    ghost view = { λ c. record { records = c.part; size = c.size } };
+}
+
+impl TableClip {
+    /// All records of the table.
+    pub fn whole(table: Arc<Table>) -> TableClip
+        ensures { result ≡ built (records table.value) }
+    {
+        let size = table.size();
+        TableClip {
+            part: Part::whole(table),
+            size,
+        }
+    }
+
+    /// The records of this clip whose rows are in bounds; the size stays the whole table's. It shares the table and copies no record;
+    /// it takes time logarithmic in the clip.
+    ///
+    /// `AllocError` says that the table couldn't be shared once more.
+    pub fn in_rows(&self, bounds: &Bounds) -> Result<TableClip, AllocError>
+        ensures { IfOk result (λ c. c ≡ record (self.now) { records = filter (λ u. is_in_range bounds.now u.key.row) self.now.records }) }
+    {
+        Ok(TableClip {
+            part: self.part.in_rows(bounds)?,
+            size: self.size,
+        })
+    }
+
+    /// The same clip, its table shared once more.
+    ///
+    /// `AllocError` says that the table couldn't be.
+    pub fn share(&self) -> Result<TableClip, AllocError>
+        ensures { IfOk result (λ c. c ≡ self.now) }
+    {
+        Ok(TableClip {
+            part: self.part.share()?,
+            size: self.size,
+        })
+    }
+
+    /// The records as a source, at its first record.
+    pub fn cursor<'a>(&'a self) -> Cursor<'a>
+        ensures whole { ⟦<Cursor<'a> as Source>⟧.whole result ≡ self.now.records }
+        ensures at_start { ⟦<Cursor<'a> as Source>⟧.rest result ≡ ⟦<Cursor<'a> as Source>⟧.whole result }
+        ensures short { HasShortParts self.now.records }
+    {
+        self.part.table_cursor()
+    }
+
+    /// The size of the whole table, in bytes: 41 for each of its records and that record's five byte strings.
+    pub fn size(&self) -> u64
+        ensures { result ≡ self.now.size }
+    {
+        self.size
+    }
+
+    /// How many records there are, markers and hidden ones among them.
+    pub fn len(&self) -> usize
+        ensures len { result ≡ length self.now.records }
+        ensures rising { IsRising self.now.records }
+        ensures short { HasShortParts self.now.records }
+    {
+        self.part.len()
+    }
+
+    /// Whether there is no record.
+    pub fn is_empty(&self) -> bool
+        ensures { result ≡ (length self.now.records == 0) }
+    {
+        self.part.is_empty()
+    }
+}

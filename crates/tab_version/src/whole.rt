@@ -1,0 +1,59 @@
+//! What clips are cut of.
+ghost use Rattle.std.specs.Prelude.{◌≡◌, ◌≤◌, List, length, filter};
+ghost use Rattle.tab_key.specs.Ranges.{is_in_range};
+ghost use Rattle.tab_iter.specs.Lists.{IsRising};
+ghost use Rattle.tab_mem.specs.Lists.{part, HasShortParts};
+
+use std::ops::Range;
+use tab_key::Bounds;
+use tab_mem::Run;
+use tab_table::Table;
+
+/// A frozen run or a sorted table: records that no longer change, in their order.
+pub trait Whole {
+    ghost use Rattle.tab_key.specs.Records.{Record};
+
+    ghost listed: { Self → List Record };
+
+    /// How many records there are, markers and hidden ones among them.
+    fn len(&self) -> usize
+        ensures len { result ≡ length (listed self.now) }
+        ensures rising { IsRising (listed self.now) }
+        ensures short { HasShortParts (listed self.now) };
+
+    /// The indexes of the records of a part whose rows are in bounds: these records stand together. The part goes from one index
+    /// up to another, that one excluded.
+    fn rows_in(&self, from: usize, end: usize, bounds: &Bounds) -> Range<usize>
+        requires ends { from ≤ end }
+        requires inside { end ≤ length (listed self.now) }
+        ensures low { from ≤ result.start }
+        ensures order { result.start ≤ result.end }
+        ensures high { result.end ≤ end }
+        ensures rows { part result.start result.end (listed self.now) ≡ filter (λ u. is_in_range bounds.now u.key.row) (part from end (listed self.now)) };
+}
+
+impl Whole for Run {
+    ghost listed = { λ r. r };
+
+    fn len(&self) -> usize {
+        Run::len(self)
+    }
+
+    fn rows_in(&self, from: usize, end: usize, bounds: &Bounds) -> Range<usize> {
+        Run::rows_in(self, from, end, bounds)
+    }
+}
+
+impl Whole for Table {
+    ghost use Rattle.tab_table.specs.Tables.{records};
+
+    ghost listed = { λ t. records t };
+
+    fn len(&self) -> usize {
+        Table::len(self)
+    }
+
+    fn rows_in(&self, from: usize, end: usize, bounds: &Bounds) -> Range<usize> {
+        Table::rows_in(self, from, end, bounds)
+    }
+}
