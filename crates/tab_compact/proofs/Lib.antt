@@ -1,0 +1,5 @@
+-- The lemmas of this crate.
+pub mod Plans
+pub mod Inputs
+pub mod BySize
+pub mod ShortParts

@@ -1,0 +1,4 @@
+-- The definitions of this crate.
+pub mod Plans
+pub mod PlanExamples
+pub mod Merges

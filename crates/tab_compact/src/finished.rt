@@ -1,0 +1,60 @@
+//! A merge that is made.
+ghost use Rattle.std.specs.Prelude.{◌≡◌};
+ghost use Rattle.tab_table.specs.Tables.{records};
+ghost use Rattle.tab_compact.specs.Merges.{output};
+
+use crate::Job;
+use std::marker::Model;
+use std::sync::Arc;
+use tab_table::Table;
+
+/// A job with the table that its merge made. Only [`Job::merge`] makes one. A contract sees the job's `Merge`.
+#[derive(Drop)]
+pub struct Finished {
+    job: Job,
+    table: Arc<Table>,
+}
+
+impl Model for Finished {
+    ghost use Rattle.std.specs.Prelude.{◌≡◌};
+    ghost use Rattle.tab_table.specs.Tables.{records};
+    ghost use Rattle.tab_compact.specs.Merges.{Merge, output};
+
+    ghost Value = { Merge };
+
+    ghost view = { λ f. f.job };
+
+    ghost invariant = { λ f. records f.table.value ≡ output f.job };
+}
+
+impl Finished {
+    // The job with its table.
+    pub(crate) fn new(job: Job, table: Arc<Table>) -> Finished
+        requires { records table.value ≡ output job }
+        ensures { result ≡ job }
+    {
+        Finished { job, table }
+    }
+
+    /// The job that was done.
+    pub fn job(&self) -> &Job
+        ensures { result.now ≡ self.now }
+    {
+        &self.job
+    }
+
+    /// The table that the merge made.
+    pub fn table(&self) -> &Arc<Table>
+        ensures { records result.now.value ≡ output self.now }
+    {
+        &self.table
+    }
+
+    /// The same table, taken out. The job and its share of the sources are dropped.
+    pub fn into_table(self) -> Arc<Table>
+        ensures { records result.value ≡ output self }
+    {
+        let Finished { table, .. } = self;
+        table
+    }
+}
