@@ -1,2 +1,9 @@
 pub mod Gathered
 pub mod Shown
+pub mod Parted
+pub mod Captures
+pub mod Moved
+pub mod Clipped
+pub mod Compacted
+pub mod Larger
+pub mod Counted

@@ -1,30 +1,62 @@
-//! The records of runs whose rows are asked for.
-ghost use Rattle.std.specs.Prelude.{◌≡◌, ◌++◌, filter, IfOk, OnOk};
+//! The records of sources whose rows are asked for.
+ghost use Rattle.std.specs.Prelude.{◌≡◌, ◌++◌, filter, map, IfOk, OnOk};
 ghost use Rattle.tab_key.specs.Ranges.{is_in_range};
 ghost use Rattle.tab_iter.specs.Bags.{flat};
+ghost use Rattle.tab_version.specs.Sources.{records_of};
 
 use std::alloc::{AllocError, Global};
 use tab_key::Bounds;
-use tab_version::Clip;
+use tab_version::{Clip, Clips, TableClip};
 
-/// The part of each run whose rows are in range, without those that have none. No record is copied.
-pub(crate) fn clips_in(
-    alloc: Global,
-    runs: &[Clip],
-    bounds: &Bounds,
-) -> Result<Vec<Clip>, AllocError>
+/// The part of each source whose rows are in range, without those that have none. No record is copied.
+pub(crate) fn clips_in(alloc: Global, sources: &Clips, bounds: &Bounds) -> Result<Clips, AllocError>
+    ensures { IfOk result (λ c. records_of c ≡ filter (λ u. is_in_range bounds.now u.key.row) (records_of sources.now)) }
+{
+    let runs = runs_in(alloc, sources.runs(), bounds)?;
+    let tables = tables_in(alloc, sources.tables(), bounds)?;
+    Ok(Clips::of(runs, tables))
+}
+
+// The part of each run.
+fn runs_in(alloc: Global, runs: &[Clip], bounds: &Bounds) -> Result<Vec<Clip>, AllocError>
     ensures { IfOk result (λ clips. flat clips.items ≡ filter (λ u. is_in_range bounds.now u.key.row) (flat runs.now)) }
 {
     let mut clips = Vec::new(alloc);
     for run in runs {
-        add(&mut clips, run.in_rows(bounds)?)?;
+        add_run(&mut clips, run.in_rows(bounds)?)?;
     }
     Ok(clips)
 }
 
 // Puts the clip behind the others, if it has a record.
-fn add(clips: &mut Vec<Clip>, clip: Clip) -> Result<(), AllocError>
+fn add_run(clips: &mut Vec<Clip>, clip: Clip) -> Result<(), AllocError>
     ensures { OnOk result (flat clips.new.items ≡ flat clips.old.items ++ clip) }
+{
+    if clip.is_empty() {
+        return Ok(());
+    }
+    clips.push(clip)?;
+    Ok(())
+}
+
+// The part of each table.
+fn tables_in(
+    alloc: Global,
+    tables: &[TableClip],
+    bounds: &Bounds,
+) -> Result<Vec<TableClip>, AllocError>
+    ensures { IfOk result (λ clips. flat (map (λ t. t.records) clips.items) ≡ filter (λ u. is_in_range bounds.now u.key.row) (flat (map (λ t. t.records) tables.now))) }
+{
+    let mut clips = Vec::new(alloc);
+    for table in tables {
+        add_table(&mut clips, table.in_rows(bounds)?)?;
+    }
+    Ok(clips)
+}
+
+// Puts the clip behind the others, if it has a record.
+fn add_table(clips: &mut Vec<TableClip>, clip: TableClip) -> Result<(), AllocError>
+    ensures { OnOk result (flat (map (λ t. t.records) clips.new.items) ≡ flat (map (λ t. t.records) clips.old.items) ++ clip.records) }
 {
     if clip.is_empty() {
         return Ok(());

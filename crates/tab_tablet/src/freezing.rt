@@ -1,28 +1,22 @@
 //! What was written, made a run.
-ghost use Rattle.std.specs.Prelude.{◌≡◌, ◌++◌, [], OnOk, OnErr};
-ghost use Rattle.tab_key.specs.Sorted.{sorted};
-ghost use Rattle.tab_iter.specs.Bags.{flat};
+ghost use Rattle.std.specs.Prelude.{◌≡◌, ◌++◌, OnOk};
+ghost use Rattle.tab_tablet.specs.Tablets.{run_of};
 
 use std::alloc::{AllocError, Global};
 use tab_mem::Active;
-use tab_version::Clip;
+use tab_version::{Clip, Clips};
 
-/// Freezes what was written, if there is any, and puts it behind the runs. An error leaves all as it was.
-pub(crate) fn freeze(
+/// Puts what was written behind the runs, as one run, if there is any.
+pub(crate) fn add_frozen(
     alloc: Global,
-    active: &mut Active,
-    runs: &mut Vec<Clip>,
+    active: &Active,
+    sources: &mut Clips,
 ) -> Result<(), AllocError>
-    ensures empty { OnOk result (active.new ≡ []) }
-    ensures runs { OnOk result (flat runs.new.items ≡ flat runs.old.items ++ sorted active.old) }
-    ensures err { OnErr result (active.new ≡ active.old) }
-    ensures err_runs { OnErr result (runs.new.items ≡ runs.old.items) }
+    ensures { OnOk result (sources.new ≡ record (sources.old) { runs = sources.old.runs ++ run_of active.now }) }
 {
     if active.is_empty() {
         return Ok(());
     }
-    runs.reserve(1)?;
-    let run = active.freeze(alloc)?;
-    runs.push_reserved(Clip::whole(run));
-    Ok(())
+    let run = active.to_run(alloc)?;
+    sources.add_run(Clip::whole(run))
 }

@@ -1,0 +1,36 @@
+-- The records of tables, table by table.
+use Rattle.std.proofs.Common.{◌≡◌, ℕ, ◌<◌, ◌+◌, List, [], ◌∷◌, ◌++◌, Bool, sym, ◌∙◌, ap, length, take, get_or}
+use Rattle.std.specs.Prelude.{filter, map, Contains}
+use Rattle.std.proofs.lemmas.List.{take_more, map-append}
+use Rattle.tab_key.specs.Records.{Record}
+use Rattle.tab_key.specs.Sorted.{sorted}
+use Rattle.tab_key.proofs.Rising.{in_from, in_to, in_sorted}
+use Rattle.tab_cells.proofs.Lists.{filter_append}
+use Rattle.tab_iter.specs.Bags.{flat}
+use Rattle.tab_version.specs.Sources.{Sorted}
+use Rattle.tab_tablet.proofs.Gathered.{flat_more}
+
+-- all records that are held of some tables
+abbrev pub held_in : List Sorted → List Record
+held_in ts = flat (map (λ (t : Sorted). t.records) ts)
+
+-- with one more table
+pub held_more : (ts : List Sorted) (t : Sorted) → held_in (ts ++ t ∷ []) ≡ held_in ts ++ t.records
+held_more ts t = ap flat (map-append (λ (x : Sorted). x.records) ts (t ∷ [])) ∙ flat_more (map (λ (x : Sorted). x.records) ts) t.records
+
+-- of the first tables, and of the next
+pub held_next : (ts : List Sorted) (i : ℕ) (t : Sorted) → i < length ts → t ≡ get_or ts i t → held_in (take (i + 1) ts) ≡ held_in (take i ts) ++ t.records
+held_next ts i t lt is = ap held_in (take_more ts i t lt ∙ ap (λ x. take i ts ++ x ∷ []) (sym is)) ∙ held_more (take i ts) t
+
+-- the parts of the first tables, and that of the next
+pub tables_more : (p : Record → Bool) (tables clips more : List Sorted) (i : ℕ) (table part : Sorted) → i < length tables → table ≡ get_or tables i table → part ≡ record table { records = filter p table.records }
+    → held_in clips ≡ filter p (held_in (take i tables)) → held_in more ≡ held_in clips ++ part.records → held_in more ≡ filter p (held_in (take (i + 1) tables))
+tables_more p tables clips more i table part lt is of before after =
+    after ∙ (λ j. before j ++ (of j).records)
+    ∙ sym (filter_append p (held_in (take i tables)) table.records)
+    ∙ ap (filter p) (sym (held_next tables i table lt is))
+
+-- ---- a write
+-- what lies below a number lies below it in order too
+pub below_sorted : (seq : ℕ) (us : List Record) → ((u : Record) → Contains us u → u.seq < seq) → (u : Record) → Contains (sorted us) u → u.seq < seq
+below_sorted seq us below u k = below u (in_to us u (in_sorted us u (in_from (sorted us) u k)))

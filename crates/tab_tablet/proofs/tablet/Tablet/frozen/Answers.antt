@@ -1,0 +1,11 @@
+use Rattle.std.proofs.Common.{◌≡◌, subst, rules}
+use Rattle.std.specs.Prelude.{None}
+use Rattle.tab_key.specs.Sorted.{IsDistinct}
+use Rattle.tab_tablet.specs.Tablets.{records_in, frozen}
+use Rattle.tab_tablet.proofs.Compacted.{frozen_distinct_in}
+use Rattle.tab_tablet.proofs.tablet.Tablet.frozen.Goals as goal
+
+pub invariant_of-result : goal.invariant_of-result
+invariant_of-result c =
+    let is : frozen (record { end = None; active = c.self.inside.active; sources = c.self.inside.sources }) ≡ record { end = None; active = c.new.result; sources = c.add_frozen.new.sources } = search rules in
+    subst (λ t. IsDistinct (records_in t)) is (frozen_distinct_in (record { end = None; active = c.self.inside.active; sources = c.self.inside.sources }) c.self.invariant)
