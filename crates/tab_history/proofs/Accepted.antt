@@ -2,24 +2,26 @@
 use Rattle.std.proofs.Common.{◌≡◌, ◌⊎◌, inl, inr, ℕ, List, [], Bool, true, false, cond, ◌&&◌, refl, sym, subst}
 use Rattle.std.specs.Prelude.{ℤ, Option, Some, None}
 use Rattle.tab_key.specs.declared.part.Part.TheVariants.{Sessions}
+use Rattle.tab_history.specs.declared.counts.Counts.{Counts}
 use Rattle.tab_history.specs.declared.event.Act.{Act}
-use Rattle.tab_history.specs.declared.event.Act.TheVariants.{Open, Rights}
+use Rattle.tab_history.specs.declared.event.Act.TheVariants.{Open, Status}
 use Rattle.tab_history.specs.declared.event.Event.{Event as TheEvent}
 use Rattle.tab_history.specs.declared.event.Step.{Step}
 use Rattle.tab_history.specs.declared.event.Step.TheVariants.{Event}
 use Rattle.tab_history.specs.declared.reply.Refusal.{Refusal}
 use Rattle.tab_history.specs.declared.reply.Refusal.TheVariants.{NoMemory, TooLarge}
-use Rattle.tab_history.specs.declared.reply.Reply.TheVariants.{Refused}
+use Rattle.tab_history.specs.declared.reply.Reply.TheVariants.{Refused, Counted}
 use Rattle.tab_history.specs.Answers.{Told, granted, told, are_used_up, numbered, event_answer, is_open, answer, changes_by}
 use Rattle.tab_history.specs.Bases.{Base}
 use Rattle.tab_history.specs.Changes.{Change, changes_of}
 use Rattle.tab_history.specs.Checks.{Caller, standing, user_named, exists_in, action_of, denial, own_checks, refusal_of}
 use Rattle.tab_history.specs.Histories.{Entry, World, clock_of, clock_at, journal, user_of, moves_of}
-use Rattle.tab_history.specs.Legal.{IsAnswer, LacksMemory}
+use Rattle.tab_history.specs.Legal.{answer_at, IsAnswer, LacksMemory}
 use Rattle.tab_history.specs.Sessions.{Move, is_full}
 use Rattle.tab_policy.specs.Decisions.{decision}
 use Rattle.tab_mutation.specs.Shape.{first_some}
 use Rattle.tab_history.proofs.Options.{or_else_right}
+use Rattle.tab_history.proofs.LeftOpen.{of_reply}
 
 -- what an event's own checks say, once it is admitted
 pub own_pass : (c : Caller) (there : Bool) (now : ℤ) (user : List ℕ) (act : Act) → refusal_of c there now user act ≡ None → first_some (own_checks c there now act) ≡ None
@@ -34,7 +36,6 @@ module _ (b : Base) (j : List Change) (now : ℤ) (P : List Change → Type 0) (
 
   of_granted : (e : TheEvent) (c : Caller) (act : Act) → P (changes_of now e.user e.act) → P (changes_by now (Event e) (granted c act))
   of_granted e c (Open scan) p = p
-  of_granted e c (Rights t) p = p
   of_granted e c _ p = p
 
   of_told : (e : TheEvent) (c : Caller) (o : Option Refusal) (used_up : Bool) → (o ≡ None → P (changes_of now e.user e.act)) → P (changes_by now (Event e) (told o (numbered used_up (granted c e.act))))
@@ -52,9 +53,15 @@ module _ (b : Base) (j : List Change) (now : ℤ) (P : List Change → Type 0) (
       go false = of_told e (standing b j e.user) (refusal_of (standing b j e.user) (exists_in b j (user_named e.act)) now e.user e.act) (are_used_up b j e.act) (f e)
   of_answer f moves _ = none
 
+  -- counts are told of what changes nothing
+  of_counts : (step : Step) (e : TheEvent) (t : List ℕ) → step ≡ Event e → e.act ≡ Status t → (counts : Counts) → P (changes_by now step (Counted counts))
+  of_counts step e t q a counts = subst (λ s. P (changes_by now s (Counted counts))) (sym q) (subst (λ act. P (changes_of now e.user act)) (sym a) none)
+
 -- holds of what each entry of a legal history changes
 pub of_legal : (w : World) (es own : List Entry) (step : Step) (r : Told) (P : List Change → Type 0) → P []
     → ((e : TheEvent) → refusal_of (standing w.base (journal w es) e.user) (exists_in w.base (journal w es) (user_named e.act)) (clock_at (clock_of w es) step) e.user e.act ≡ None → P (changes_of (clock_at (clock_of w es) step) e.user e.act))
     → IsAnswer w es own step r ⊎ LacksMemory step r → P (changes_by (clock_at (clock_of w es) step) step r)
-of_legal w es own step r P none f (inl h) = subst (λ x. P (changes_by (clock_at (clock_of w es) step) step x)) (sym h) (of_answer w.base (journal w es) (clock_at (clock_of w es) step) P none f (moves_of w (user_of step) own) step)
+of_legal w es own step r P none f (inl h) =
+    let now = clock_at (clock_of w es) step in
+    of_reply (λ x. P (changes_by now step x)) step (answer_at w es own step) r h (of_answer w.base (journal w es) now P none f (moves_of w (user_of step) own) step) (of_counts w.base (journal w es) now P none step)
 of_legal w es own step r P none f (inr e) = subst (λ x. P (changes_by (clock_at (clock_of w es) step) step x)) (sym e.1) (of_refused w.base (journal w es) (clock_at (clock_of w es) step) P none step NoMemory)

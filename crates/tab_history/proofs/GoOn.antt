@@ -11,13 +11,13 @@ use Rattle.tab_history.specs.declared.event.Step.{Step}
 use Rattle.tab_history.specs.declared.event.Step.TheVariants.{Event, Next, Close}
 use Rattle.tab_history.specs.declared.reply.Refusal.TheVariants.{NoMemory, TooLarge, NoSession}
 use Rattle.tab_history.specs.declared.reply.Reply.TheVariants.{Done, Refused, Opened, Batch}
-use Rattle.tab_history.specs.Answers.{Told, granted, told, are_used_up, numbered, event_answer, is_open, answer, query_of, listed, session_list, changes_by, moves_by}
+use Rattle.tab_history.specs.Answers.{Told, granted, told, are_used_up, numbered, event_answer, is_open, answer, IsReply, query_of, listed, session_list, changes_by, moves_by}
 use Rattle.tab_cells.specs.Cells.{cells}
 use Rattle.tab_history.specs.Changes.{changes_of}
 use Rattle.tab_history.specs.Checks.{standing, user_named, exists_in, refusal_of}
 use Rattle.tab_history.specs.Held.{floor_of, RefinesTable}
 use Rattle.tab_history.specs.Histories.{Entry, World, clock_after, clock_of, clock_at, journal, world_after, user_of, is_by, moves_of}
-use Rattle.tab_history.specs.Legal.{IsAnswer, LacksMemory, Legal, LegalAlone}
+use Rattle.tab_history.specs.Legal.{answer_at, IsAnswer, LacksMemory, Legal, LegalAlone}
 use Rattle.tab_policy.specs.Roots.{root}
 use Rattle.tab_history.specs.Readings.{settings_of, next_number, updates_of}
 use Rattle.tab_history.specs.Sessions.{Move, Opening, is_full}
@@ -113,7 +113,10 @@ agreeing_back : (v w : World) (es own : List Entry) → Agreeing v w es own → 
 agreeing_back v w es own a = record { clock = sym a.clock; moves = λ u. sym (a.moves u); answers = λ ms now step. sym (a.answers ms now step) }
 
 answer_too : (v w : World) (es own : List Entry) → Agreeing v w es own → (step : Step) (r : Told) → IsAnswer v es own step r → IsAnswer w es own step r
-answer_too v w es own a step r h = h ∙ (λ i. answer v.base (journal v es) (a.moves (user_of step) i) (clock_at (a.clock i) step) step) ∙ a.answers (moves_of w (user_of step) own) (clock_at (clock_of w es) step) step
+answer_too v w es own a step r h = subst (λ x. IsReply step x r) both h
+  where
+    both : answer_at v es own step ≡ answer_at w es own step
+    both = (λ i. answer v.base (journal v es) (a.moves (user_of step) i) (clock_at (a.clock i) step) step) ∙ a.answers (moves_of w (user_of step) own) (clock_at (clock_of w es) step) step
 
 either_too : (v w : World) (es own : List Entry) → Agreeing v w es own → (step : Step) (r : Told) → IsAnswer v es own step r ⊎ LacksMemory step r → IsAnswer w es own step r ⊎ LacksMemory step r
 either_too v w es own a step r (inl h) = inl (answer_too v w es own a step r h)

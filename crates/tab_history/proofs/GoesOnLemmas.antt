@@ -1,12 +1,12 @@
 -- A right step goes on with each history that the core refines.
-use Rattle.std.proofs.Common.{◌≡◌, ◌⊎◌, inl, inr, List, [], ◌∷◌, Bool, true, false, cond, ◌&&◌, refl, sym, ◌∙◌, ap}
+use Rattle.std.proofs.Common.{◌≡◌, ◌⊎◌, inl, inr, List, [], ◌∷◌, Bool, true, false, cond, ◌&&◌, refl, sym, ap, subst}
 use Rattle.std.specs.Prelude.{ℤ}
 use Rattle.tab_key.specs.declared.part.Part.TheVariants.{Sessions}
 use Rattle.tab_history.specs.declared.event.Step.{Step}
 use Rattle.tab_history.specs.declared.event.Step.TheVariants.{Event, Next, Close}
 use Rattle.tab_history.specs.declared.reply.Refusal.TheVariants.{TooLarge}
 use Rattle.tab_history.specs.declared.reply.Reply.TheVariants.{Refused}
-use Rattle.tab_history.specs.Answers.{Told, event_answer, is_open, answer}
+use Rattle.tab_history.specs.Answers.{Told, event_answer, is_open, answer, IsReply}
 use Rattle.tab_history.specs.Bases.{Base}
 use Rattle.tab_history.specs.Chains.{HasRoom, GoesOn}
 use Rattle.tab_history.specs.Changes.{Change}
@@ -30,7 +30,7 @@ room_answer b j now (Close user slot) w own room = absurd room
 
 room_too : (w : World) (h own : List Entry) (step : Step) (r : Told) → HasRoom w own step → IsAnswer w h [] step r ⊎ LacksMemory step r → IsAnswer w h own step r ⊎ LacksMemory step r
 unfolding moves_of
-room_too w h own step r room (inl a) = inl (a ∙ room_answer w.base (journal w h) (clock_at (clock_of w h) step) step w own room)
+room_too w h own step r room (inl a) = inl (subst (λ x. IsReply step x r) (room_answer w.base (journal w h) (clock_at (clock_of w h) step) step w own room) a)
 room_too w h own step r room (inr x) = inr x
 
 pub goes_on : GoesOn

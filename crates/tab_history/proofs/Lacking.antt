@@ -19,7 +19,7 @@ use Rattle.tab_policy.specs.declared.decision.Denial.TheVariants as policy
 use Rattle.tab_policy.specs.declared.permission.Permission.{Permission}
 use Rattle.tab_policy.specs.declared.permission.Permission.TheVariants.{OfSystem, OfTable}
 use Rattle.tab_history.specs.declared.event.Act.{Act}
-use Rattle.tab_history.specs.declared.event.Act.TheVariants.{Open, Write, CreateTable, DropTable, SetConstraints, CreateUser, DropUser, SetAuths, Grant, Revoke, Rights as AsksRights}
+use Rattle.tab_history.specs.declared.event.Act.TheVariants.{Open, Write, CreateTable, DropTable, SetConstraints, CreateUser, DropUser, SetAuths, Grant, Revoke, Rights as AsksRights, Status, Flush, Compact}
 use Rattle.tab_history.specs.declared.event.Scan.{Scan}
 use Rattle.tab_history.specs.declared.event.Step.{Step}
 use Rattle.tab_history.specs.declared.event.Step.TheVariants.{Event, Next, Close}
@@ -34,8 +34,9 @@ use Rattle.tab_history.specs.Answers.{Told, granted, told, are_used_up, numbered
 use Rattle.tab_history.specs.Sessions.{Move, is_full, session_in}
 use Rattle.tab_cells.specs.SessionState.{SessionState}
 use Rattle.tab_history.specs.Histories.{Entry, World, clock_of, clock_at, journal, user_of, moves_of}
-use Rattle.tab_history.specs.Legal.{IsAnswer, LacksMemory, may_lack, Legal, LegalAlone, LacksWhereItMay}
+use Rattle.tab_history.specs.Legal.{answer_at, IsAnswer, LacksMemory, may_lack, Legal, LegalAlone, LacksWhereItMay}
 use Rattle.tab_history.specs.Runs.{MemoryLacksWhereItMay}
+use Rattle.tab_history.proofs.LeftOpen.{of_reply}
 
 -- ---- checks
 -- whether the refusal is want of memory
@@ -142,6 +143,9 @@ of_own c there now (SetAuths n auths) = (unless (too_many_auths auths) (TooLarge
 of_own c there now (Grant n p) = of_right there n p
 of_own c there now (Revoke n p) = of_right there n p
 of_own c there now (AsksRights t) = tt
+of_own c there now (Status t) = tt
+of_own c there now (Flush t) = tt
+of_own c there now (Compact t extent) = tt
 
 of_refusal : (c : Caller) (there : Bool) (now : ℤ) (user : List ℕ) (act : Act) → Speaks (refusal_of c there now user act)
 unfolding refusal_of
@@ -154,7 +158,6 @@ tells_want _ = false
 
 of_granted : (c : Caller) (act : Act) → tells_want (granted c act) ≡ false
 of_granted c (Open scan) = refl
-of_granted c (AsksRights t) = refl
 of_granted c _ = refl
 
 of_numbered : (used_up : Bool) (c : Caller) (act : Act) → tells_want (numbered used_up (granted c act)) ≡ false
@@ -185,7 +188,7 @@ of_answer b j moves now (Close user slot) = of_close (session_in moves slot) slo
 
 -- ---- histories
 one : (w : World) (es own : List Entry) (e : Entry) → IsAnswer w es own e.step e.reply ⊎ LacksMemory e.step e.reply → e.reply ≡ Refused NoMemory → may_lack e.step ≡ true
-one w es own e (inl is) lacks = absurd (true≢false (sym (ap tells_want (sym is ∙ lacks)) ∙ of_answer w.base (journal w es) (moves_of w (user_of e.step) own) (clock_at (clock_of w es) e.step) e.step))
+one w es own e (inl is) lacks = absurd (true≢false (sym (ap tells_want lacks) ∙ of_reply (λ r. tells_want r ≡ false) e.step (answer_at w es own e.step) e.reply is (of_answer w.base (journal w es) (moves_of w (user_of e.step) own) (clock_at (clock_of w es) e.step) e.step) (λ f t q a counts. refl)))
 one w es own e (inr lacks) is = lacks.0
 
 pub legal : (w : World) (es : List Entry) → Legal w es → LacksWhereItMay es

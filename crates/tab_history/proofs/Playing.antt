@@ -1,8 +1,8 @@
--- Each list of steps has a legal history, and only one in which memory never lacked.
-use Rattle.std.proofs.Common.{◌≡◌, ◌⊎◌, inl, inr, List, [], ◌∷◌, ◌++◌, refl, sym, ◌∙◌, ap, append_assoc, append-nil}
-use Rattle.std.specs.Prelude.{map, reverse}
+-- Each list of steps has a legal history, and with the same open replies only one in which memory never lacked.
+use Rattle.std.proofs.Common.{◌≡◌, ◌⊎◌, inl, inr, List, [], ◌∷◌, ◌++◌, Bool, true, false, cond, refl, sym, ◌∙◌, ap, append_assoc, append-nil}
+use Rattle.std.specs.Prelude.{map, Option, Some, None, unwrap_or}
 use Rattle.std.proofs.lemmas.Grind.{reverse_onto}
-use Rattle.std.proofs.lemmas.List.{reverse-reverse}
+use mathlib.Core.Bool.{true≢false}
 use Rattle.tab_key.specs.declared.part.Part.TheVariants.{Sessions}
 use Rattle.tab_history.specs.declared.event.Step.{Step}
 use Rattle.tab_history.specs.declared.event.Step.TheVariants.{Event, Next, Close}
@@ -10,12 +10,14 @@ use Rattle.tab_history.specs.declared.reply.Refusal.TheVariants.{NoMemory, TooLa
 use Rattle.tab_history.specs.declared.reply.Reply.TheVariants.{Refused}
 use Rattle.tab_history.specs.Answers.{Told}
 use Rattle.tab_history.specs.Histories.{Entry, World, clock_of, journal, world_after, steps_of}
-use Rattle.tab_history.specs.Legal.{IsAnswer, LacksMemory, Legal, HasMemory}
-use Rattle.tab_history.specs.Runs.{answer_to, played, EveryRunIsAnswered, OneHistory, IsNoEvent, Unmoved}
+use Rattle.tab_history.specs.Legal.{answer_at, IsAnswer, LacksMemory, Legal, HasMemory}
+use Rattle.tab_history.specs.Runs.{answer_to, played, EveryRunIsAnswered, is_left_open, asked_of, OneHistory, IsNoEvent, Unmoved}
+use Rattle.tab_cells.proofs.Lists.{by_bool}
+use Rattle.tab_history.proofs.LeftOpen.{closed_reply, one_is_reply}
 
 played_legal : (w : World) (es : List Entry) (steps : List Step) → Legal w es → Legal w (played w es steps)
 played_legal w es [] l = l
-played_legal w es (step ∷ steps) l = played_legal w (record { step = step; reply = answer_to w es step } ∷ es) steps (l, inl refl)
+played_legal w es (step ∷ steps) l = played_legal w (record { step = step; reply = answer_to w es step } ∷ es) steps (l, inl (one_is_reply step (answer_at w es es step)))
 
 played_steps : (w : World) (es : List Entry) (steps : List Step) → steps_of (played w es steps) ≡ steps_of es ++ steps
 played_steps w es [] = sym (append-nil (steps_of es))
@@ -43,18 +45,29 @@ with_memory : (w : World) (es : List Entry) (step : Step) (r : Told) → IsAnswe
 with_memory w es step r (inl h) n = h
 with_memory w es step r (inr x) n = absurd (n x.1)
 
-same_steps : (w : World) (h k : List Entry) → Legal w h → Legal w k → HasMemory h → HasMemory k → map (λ (e : Entry). e.step) h ≡ map (λ (e : Entry). e.step) k → h ≡ k
+-- two replies that stand where they are left open
+said : (v : Bool) (x y : Told) → cond v (Some x) None ≡ cond v (Some y) None → v ≡ true → x ≡ y
+said true x y e t = ap (λ o. unwrap_or o x) e
+said false x y e t = absurd (true≢false (sym t))
+
+same_steps : (w : World) (h k : List Entry) → Legal w h → Legal w k → HasMemory h → HasMemory k → map asked_of h ≡ map asked_of k → h ≡ k
 same_steps w [] [] l m a b q = refl
 same_steps w (e ∷ es) (f ∷ fs) l m a b q =
-    let p : es ≡ fs = same_steps w es fs l.0 m.0 a.0 b.0 (same_tail e.step f.step _ _ q) in
-    let step : e.step ≡ f.step = same_head e.step f.step _ _ q in
-    let reply : e.reply ≡ f.reply = with_memory w es e.step e.reply l.1 a.1 ∙ (λ i. answer_to w (p i) (step i)) ∙ sym (with_memory w fs f.step f.reply m.1 b.1) in
+    let p : es ≡ fs = same_steps w es fs l.0 m.0 a.0 b.0 (same_tail (asked_of e) (asked_of f) _ _ q) in
+    let asked : asked_of e ≡ asked_of f = same_head (asked_of e) (asked_of f) _ _ q in
+    let step : e.step ≡ f.step = ap (λ (x : Step × Option Told). x.0) asked in
+    let left_open : is_left_open e.step ≡ true → e.reply ≡ f.reply = said (is_left_open e.step) e.reply f.reply (ap (λ (x : Step × Option Told). x.1) asked ∙ sym (ap (λ (s : Step). cond (is_left_open s) (Some f.reply) None) step)) in
+    let closed : is_left_open e.step ≡ false → e.reply ≡ f.reply = λ n.
+    closed_reply e.step (answer_at w es es e.step) e.reply n (with_memory w es e.step e.reply l.1 a.1)
+    ∙ (λ i. answer_at w (p i) (p i) (step i))
+    ∙ sym (closed_reply f.step (answer_at w fs fs f.step) f.reply (sym (ap is_left_open step) ∙ n) (with_memory w fs f.step f.reply m.1 b.1)) in
+    let reply : e.reply ≡ f.reply = by_bool (is_left_open e.step) left_open closed in
     λ i. record { step = step i; reply = reply i } ∷ p i
 same_steps w [] (f ∷ fs) l m a b q = absurd (cc)
 same_steps w (e ∷ es) [] l m a b q = absurd (cc)
 
 pub one_history : OneHistory
-one_history w h k l m a b q = same_steps w h k l m a b (sym (reverse-reverse (map (λ (e : Entry). e.step) h)) ∙ ap reverse q ∙ reverse-reverse (map (λ (e : Entry). e.step) k))
+one_history w h k l m a b q = same_steps w h k l m a b q
 
 -- ---- no events
 unmoved_by : (w : World) (es : List Entry) (step : Step) (r : Told) → IsNoEvent step r → world_after w (record { step = step; reply = r } ∷ es) ≡ world_after w es

@@ -1,5 +1,5 @@
--- The answer to each step, and what the step does.
-use Rattle.std.specs.Prelude.{ℕ, ℤ, List, [], ◌∷◌, Bool, true, false, ◌&&◌, cond, Option, Some, None, length, nat_le}
+-- The answer to each step, which answers are left open, and what the step does.
+use Rattle.std.specs.Prelude.{◌≡◌, ℕ, ℤ, List, [], ◌∷◌, Bool, true, false, ◌&&◌, cond, Option, Some, None, length, nat_le}
 use Rattle.tab_key.specs.Records.{Record, Cell}
 use Rattle.tab_history.specs.Settings.{Settings}
 use Rattle.tab_history.specs.Bases.{Base}
@@ -13,13 +13,14 @@ use Rattle.tab_cells.specs.SessionState.{SessionState, batch}
 use Rattle.tab_key.specs.declared.part.Part.TheVariants.{Sessions, Numbers}
 use Rattle.tab_history.specs.declared.event.Scan.{Scan}
 use Rattle.tab_history.specs.declared.event.Act.{Act}
-use Rattle.tab_history.specs.declared.event.Act.TheVariants.{Open, Write, CreateTable, CreateUser, Rights as AsksRights}
+use Rattle.tab_history.specs.declared.event.Act.TheVariants.{Open, Write, CreateTable, DropTable, SetConstraints, CreateUser, DropUser, SetAuths, Grant, Revoke, Rights as AsksRights, Status, Flush, Compact}
 use Rattle.tab_history.specs.declared.event.Step.{Step}
 use Rattle.tab_history.specs.declared.event.Step.TheVariants.{Event, Next, Close}
+use Rattle.tab_history.specs.declared.counts.Counts.{Counts}
 use Rattle.tab_history.specs.declared.reply.Refusal.{Refusal}
 use Rattle.tab_history.specs.declared.reply.Refusal.TheVariants.{TooLarge, NoSession}
 use Rattle.tab_history.specs.declared.reply.Reply.{Reply}
-use Rattle.tab_history.specs.declared.reply.Reply.TheVariants.{Done, Refused, Opened, Batch, Rights}
+use Rattle.tab_history.specs.declared.reply.Reply.TheVariants.{Done, Refused, Opened, Batch, Rights, Counted}
 
 -- a reply without the session that goes with it
 abbrev pub Told : Type 0
@@ -36,6 +37,7 @@ told_of (Refused refusal) = Refused refusal
 told_of (Opened session) = told_opened
 told_of (Batch cells) = Batch cells
 told_of (Rights rights) = Rights rights
+told_of (Counted counts) = Counted counts
 
 -- the session that goes with a reply
 abbrev pub session_of : {S : Type 0} → Reply S → Option S
@@ -44,13 +46,25 @@ session_of (Refused refusal) = None
 session_of (Opened session) = Some session
 session_of (Batch cells) = None
 session_of (Rights rights) = None
+session_of (Counted counts) = None
 
 -- ---- answers
--- what the caller is told of an event that isn't refused
+-- What the caller is told of an event that isn't refused. Where that is left open (`MayTell`) Done stands here for all of it.
 abbrev pub granted : Caller → Act → Told
 granted c (Open scan) = told_opened
+granted c (Write t m) = Done
+granted c (CreateTable t time n) = Done
+granted c (DropTable t) = Done
+granted c (SetConstraints t cs) = Done
+granted c (CreateUser n) = Done
+granted c (DropUser n) = Done
+granted c (SetAuths n auths) = Done
+granted c (Grant n p) = Done
+granted c (Revoke n p) = Done
 granted c (AsksRights t) = Rights (own_rights c t)
-granted c _ = Done
+granted c (Status t) = Done
+granted c (Flush t) = Done
+granted c (Compact t extent) = Done
 
 -- the refusal, if there is one
 abbrev pub told : Option Refusal → Told → Told
@@ -62,7 +76,17 @@ abbrev pub are_used_up : Base → List Change → Act → Bool
 are_used_up b j (Write t m) = nat_le 18446744073709551615 (next_number b j)
 are_used_up b j (CreateTable t time n) = nat_le 4294967295 (table_count b j)
 are_used_up b j (CreateUser n) = nat_le 4294967295 (user_count b j)
-are_used_up b j _ = false
+are_used_up b j (Open scan) = false
+are_used_up b j (DropTable t) = false
+are_used_up b j (SetConstraints t cs) = false
+are_used_up b j (DropUser n) = false
+are_used_up b j (SetAuths n auths) = false
+are_used_up b j (Grant n p) = false
+are_used_up b j (Revoke n p) = false
+are_used_up b j (AsksRights t) = false
+are_used_up b j (Status t) = false
+are_used_up b j (Flush t) = false
+are_used_up b j (Compact t extent) = false
 
 -- the reply to what isn't refused by its checks: where the numbers are used up it is refused for that, last of all
 abbrev pub numbered : Bool → Told → Told
@@ -88,10 +112,57 @@ close_answer None slot = Refused (NoSession slot)
 close_answer (Some held) slot = Done
 
 -- The answer to a step of a user whose sessions went through these moves. An Open past the limit of sessions is refused before all else.
+-- Where what is told is left open, this says whether the step is refused, and why.
 unfoldable pub answer : Base → List Change → List Move → ℤ → Step → Told
 answer b j moves now (Event e) = cond (is_open e.act && is_full moves) (Refused (TooLarge Sessions)) (event_answer b j now e.user e.act)
 answer b j moves now (Next user slot n) = next_answer (session_in moves slot) slot n
 answer b j moves now (Close user slot) = close_answer (session_in moves slot) slot
+
+-- ---- open answers: no history tells where records lie, and so neither what is told of that
+-- whether what is told of the event is left open, once no check refuses it
+abbrev pub leaves_open : Act → Bool
+leaves_open (Open scan) = false
+leaves_open (Write t m) = false
+leaves_open (CreateTable t time n) = false
+leaves_open (DropTable t) = false
+leaves_open (SetConstraints t cs) = false
+leaves_open (CreateUser n) = false
+leaves_open (DropUser n) = false
+leaves_open (SetAuths n auths) = false
+leaves_open (Grant n p) = false
+leaves_open (Revoke n p) = false
+leaves_open (AsksRights t) = false
+leaves_open (Status t) = true
+leaves_open (Flush t) = false
+leaves_open (Compact t extent) = false
+
+-- What may be told of an event that isn't refused. Of a Status it is any counts; of each other act it is the one answer, here plain.
+abbrev pub MayTell : Act → Told → Told → Type 0
+MayTell (Open scan) plain reply = reply ≡ plain
+MayTell (Write t m) plain reply = reply ≡ plain
+MayTell (CreateTable t time n) plain reply = reply ≡ plain
+MayTell (DropTable t) plain reply = reply ≡ plain
+MayTell (SetConstraints t cs) plain reply = reply ≡ plain
+MayTell (CreateUser n) plain reply = reply ≡ plain
+MayTell (DropUser n) plain reply = reply ≡ plain
+MayTell (SetAuths n auths) plain reply = reply ≡ plain
+MayTell (Grant n p) plain reply = reply ≡ plain
+MayTell (Revoke n p) plain reply = reply ≡ plain
+MayTell (AsksRights t) plain reply = reply ≡ plain
+MayTell (Status t) plain reply = (counts : Counts) × (reply ≡ Counted counts)
+MayTell (Flush t) plain reply = reply ≡ plain
+MayTell (Compact t extent) plain reply = reply ≡ plain
+
+-- The reply answers the act, of which plain is the answer: it is that refusal, or what may be told in the place of what isn't one.
+abbrev pub IsEventReply : Act → Told → Told → Type 0
+IsEventReply act (Refused r) reply = reply ≡ Refused r
+IsEventReply act plain reply = MayTell act plain reply
+
+-- the same of a step
+abbrev pub IsReply : Step → Told → Told → Type 0
+IsReply (Event e) plain reply = IsEventReply e.act plain reply
+IsReply (Next user slot n) plain reply = reply ≡ plain
+IsReply (Close user slot) plain reply = reply ≡ plain
 
 -- ---- what a step does
 -- what the scan asks of its table

@@ -28,7 +28,7 @@ use Rattle.tab_policy.specs.Actions as action
 use Rattle.tab_policy.specs.Actions.{Action}
 use Rattle.tab_history.specs.declared.event.Scan.{Scan}
 use Rattle.tab_history.specs.declared.event.Act.{Act}
-use Rattle.tab_history.specs.declared.event.Act.TheVariants.{Open, Write, CreateTable, DropTable, SetConstraints, CreateUser, DropUser, SetAuths, Grant, Revoke, Rights}
+use Rattle.tab_history.specs.declared.event.Act.TheVariants.{Open, Write, CreateTable, DropTable, SetConstraints, CreateUser, DropUser, SetAuths, Grant, Revoke, Rights, Status, Flush, Compact}
 use Rattle.tab_history.specs.declared.reply.Refusal.{Refusal}
 use Rattle.tab_history.specs.declared.reply.Refusal.TheVariants.{UnknownUser, NoTable, PermissionDenied, BadAuthorizations, MalformedVisibility, ConstraintViolation, TimestampNotAllowed, EmptyMutation, TooLarge, TableExists, UserExists, NoUser, BadRange, RootFixed, GrantInvalid, BelowHorizon}
 
@@ -54,7 +54,15 @@ user_named (DropUser n) = Some n
 user_named (SetAuths n auths) = Some n
 user_named (Grant n p) = Some n
 user_named (Revoke n p) = Some n
-user_named _ = None
+user_named (Open scan) = None
+user_named (Write t m) = None
+user_named (CreateTable t time n) = None
+user_named (DropTable t) = None
+user_named (SetConstraints t cs) = None
+user_named (Rights t) = None
+user_named (Status t) = None
+user_named (Flush t) = None
+user_named (Compact t extent) = None
 
 -- whether that user exists, where one is named
 abbrev pub exists_in : Base → List Change → Option (List ℕ) → Bool
@@ -75,6 +83,9 @@ action_of (SetAuths n auths) = action.OnServer server.SetAuths
 action_of (Grant n p) = action.Grant p
 action_of (Revoke n p) = action.Revoke p
 action_of (Rights t) = action.OnTable on.Rights t
+action_of (Status t) = action.OnTable on.Status t
+action_of (Flush t) = action.OnTable on.Flush t
+action_of (Compact t extent) = action.OnTable on.Compact t
 
 -- why the policy doesn't admit the user's event
 abbrev pub denial : List ℕ → Option Denial → Option Refusal
@@ -149,6 +160,9 @@ own_checks c there now (SetAuths n auths) = when (too_many_auths auths) (TooLarg
 own_checks c there now (Grant n p) = right_checks there n p
 own_checks c there now (Revoke n p) = right_checks there n p
 own_checks c there now (Rights t) = []
+own_checks c there now (Status t) = []
+own_checks c there now (Flush t) = []
+own_checks c there now (Compact t extent) = []
 
 -- why the event is refused: the first failing check, the policy's before its own
 unfoldable pub refusal_of : Caller → Bool → ℤ → List ℕ → Act → Option Refusal

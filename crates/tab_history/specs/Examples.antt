@@ -1,5 +1,7 @@
--- Worked examples, computed: lists of steps from a new core, and the replies to them that say more than that all went well.
+-- Worked examples, computed: lists of steps from a new core, and the replies to them that say more than that all went well. Where a
+-- reply is left open, the counts of a Status, they show it with zeros.
 use Rattle.std.specs.Prelude.{◌≡◌, ℕ, ◌-◌, ℤ, pos, nat_le, length, List, [], ◌∷◌, ◌++◌, Bool, true, false, cond, Option, Some, None, codes, reverse, replicate, refl}
+use Rattle.std.proofs.Common.{subst}
 use Rattle.tab_key.specs.Records.{Cell}
 use Rattle.tab_key.specs.Order.{column_cmp, key_cmp, place_cmp, newer_cmp}
 use Rattle.tab_key.specs.Kept.{same_column, hides, is_deleted, outranks, is_kept}
@@ -25,6 +27,7 @@ use Rattle.tab_history.specs.Checks.{standing, malformed, stamped, outdated, ref
 use Rattle.tab_history.specs.Sessions.{opened, closed, session_in}
 use Rattle.tab_history.specs.Answers.{Told, are_used_up, answer, session_list}
 use Rattle.tab_history.specs.Histories.{Entry, world_of, clock_of, journal, moves_of}
+use Rattle.tab_history.specs.Legal.{IsAnswer, may_lack}
 use Rattle.tab_history.specs.Runs.{played}
 use Rattle.tab_rules.specs.declared.constraint.Constraint.TheVariants.{Visibility}
 use Rattle.tab_policy.specs.declared.permission.Permission.TheVariants.{OfSystem, OfTable}
@@ -32,13 +35,15 @@ use Rattle.tab_policy.specs.declared.permission.SystemPermission.TheVariants as 
 use Rattle.tab_policy.specs.declared.permission.TablePermission.TheVariants as table
 use Rattle.tab_policy.specs.declared.sets.SystemPermissions.{SystemPermissions}
 use Rattle.tab_policy.specs.declared.sets.TablePermissions.{TablePermissions}
+use Rattle.tab_history.specs.declared.counts.Counts.{Counts}
 use Rattle.tab_history.specs.declared.event.TimeMode.TheVariants.{Any, Server}
+use Rattle.tab_history.specs.declared.event.Extent.TheVariants.{Partial, Full}
 use Rattle.tab_history.specs.declared.event.Act.{Act}
 use Rattle.tab_history.specs.declared.event.Act.TheVariants as act
 use Rattle.tab_history.specs.declared.event.Step.{Step}
 use Rattle.tab_history.specs.declared.event.Step.TheVariants.{Next, Close}
 use Rattle.tab_history.specs.declared.reply.Refusal.TheVariants.{UnknownUser, NoTable, PermissionDenied, BadAuthorizations, MalformedVisibility, ConstraintViolation, TimestampNotAllowed, EmptyMutation, TooLarge, TableExists, UserExists, NoUser, BadRange, NoSession, RootFixed, GrantInvalid, BelowHorizon}
-use Rattle.tab_history.specs.declared.reply.Reply.TheVariants.{Done, Refused, Opened, Batch, Rights}
+use Rattle.tab_history.specs.declared.reply.Reply.TheVariants.{Done, Refused, Opened, Batch, Rights, Counted}
 use Rattle.tab_history.specs.ExampleWords.{t, r, f, q, v, bob, everywhere, asks, as_root, as_bob}
 
 -- whether the reply says no more than that all went well
@@ -369,6 +374,72 @@ beyond_the_user : replies (three_rows ++ make_bob ∷ let_bob_read ∷ as_bob (o
     ≡ Batch (cell (codes "a") [] (pos 1) v ∷ []) ∷ Batch (cell (codes "b") [] (pos 1) v ∷ []) ∷ Batch (cell (codes "c") [] (pos 1) v ∷ []) ∷ Batch (cell (codes "a") [] (pos 1) v ∷ []) ∷ []
 unfolding everything
 beyond_the_user = refl
+
+-- ---- compactions and counts
+-- counts of which a history says nothing
+abbrev zeros : Told
+zeros = Counted (record { tablets = 0; sources = 0; records = 0 })
+
+-- what bob is told where he has no permission that admits a compaction
+abbrev may_not_alter : Told
+may_not_alter = Refused (PermissionDenied (OfSystem system.AlterTable))
+
+-- an unknown user before an unknown table, and that before a missing permission
+inner_refusals : replies (as_bob (act.Status t) ∷ as_bob (act.Flush t) ∷ as_bob (act.Compact t Full) ∷ make_bob ∷ as_bob (act.Status t) ∷ as_bob (act.Flush t) ∷ as_bob (act.Compact t Full) ∷ make ∷ as_bob (act.Status t) ∷ as_bob (act.Flush t) ∷ as_bob (act.Compact t Full) ∷ [])
+    ≡ Refused (UnknownUser bob) ∷ Refused (UnknownUser bob) ∷ Refused (UnknownUser bob) ∷ Refused (NoTable t) ∷ Refused (NoTable t) ∷ Refused (NoTable t) ∷ may_not_alter ∷ may_not_alter ∷ may_not_alter ∷ []
+unfolding everything
+inner_refusals = refl
+
+-- who may write may compact, but not count; who may alter the table may do both
+inner_permissions : replies (make ∷ make_bob ∷ as_root (act.Grant bob (OfTable table.Write t)) ∷ as_bob (act.Flush t) ∷ as_bob (act.Compact t Partial) ∷ as_bob (act.Status t) ∷ as_root (act.Revoke bob (OfTable table.Write t)) ∷ as_root (act.Grant bob (OfTable table.AlterTable t)) ∷ as_bob (act.Flush t) ∷ as_bob (act.Compact t Full) ∷ as_bob (act.Status t) ∷ [])
+    ≡ may_not_alter ∷ zeros ∷ []
+unfolding everything
+inner_permissions = refl
+
+-- once t is made
+abbrev made_only : List Entry
+made_only = played (world_of new_core) [] (make ∷ [])
+
+-- any counts of it may be told
+any_counts : (counts : Counts) → IsAnswer (world_of new_core) made_only [] (as_root (act.Status t)) (Counted counts)
+unfolding everything
+any_counts counts = (counts, refl)
+
+-- whether the reply tells counts
+abbrev TellsCounts : Told → Type 0
+TellsCounts (Counted counts) = Unit {0}
+TellsCounts _ = ⊥
+
+-- none of a table that isn't there
+no_counts : (counts : Counts) → IsAnswer (world_of new_core) [] [] (as_root (act.Status t)) (Counted counts) → ⊥
+unfolding everything
+no_counts counts e = subst TellsCounts e tt
+
+-- nor where something else was asked
+flush_counts_nothing : (counts : Counts) → IsAnswer (world_of new_core) made_only [] (as_root (act.Flush t)) (Counted counts) → ⊥
+unfolding everything
+flush_counts_nothing counts e = subst TellsCounts e tt
+
+-- a compaction may lack memory, and counting takes none
+inner_memory : (may_lack (as_root (act.Flush t)) ≡ true) × (may_lack (as_root (act.Compact t Full)) ≡ true) × (may_lack (as_root (act.Status t)) ≡ false)
+inner_memory = (refl, refl, refl)
+
+-- their moments count
+inner_moments : replies (as_root (act.CreateTable t Server 1) ∷ asks root (pos 7) (act.Status t) ∷ as_root (writes r (put [] (codes "x") None ∷ [])) ∷ scan [] 0 ++ asks root (pos 9) (act.Flush t) ∷ as_root (writes r (put [] v None ∷ [])) ∷ scan [] 1)
+    ≡ zeros ∷ Batch (cell r [] (pos 7) (codes "x") ∷ []) ∷ Batch (cell r [] (pos 9) v ∷ []) ∷ []
+unfolding everything
+inner_moments = refl
+
+-- a marker hides what is written later below it, also where everything was merged meanwhile
+hidden_after_a_compaction : replies (make ∷ as_root (writes r (del [] (Some (pos 5)) ∷ [])) ∷ as_root (act.Compact t Full) ∷ as_root (writes r (put [] v (Some (pos 4)) ∷ [])) ∷ scan [] 0) ≡ Batch [] ∷ []
+unfolding everything
+hidden_after_a_compaction = refl
+
+-- a session reads on over what was merged and deleted since
+beyond_a_compaction : replies (three_rows ++ as_root (opens everywhere []) ∷ Next root 0 1 ∷ as_root (writes (codes "b") (del [] (Some (pos 1)) ∷ [])) ∷ as_root (act.Flush t) ∷ as_root (act.Compact t Full) ∷ Next root 0 5 ∷ [])
+    ≡ Batch (cell (codes "a") [] (pos 1) v ∷ []) ∷ Batch (cell (codes "b") [] (pos 1) v ∷ cell (codes "c") [] (pos 1) v ∷ []) ∷ []
+unfolding everything
+beyond_a_compaction = refl
 
 -- ---- what a reader can't see
 -- bob reads under A, and what stands between is written by root

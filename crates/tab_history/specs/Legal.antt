@@ -1,28 +1,40 @@
 -- Which histories are legal: each reply is the answer to its step, unless memory lacked for it.
 use Rattle.std.specs.Prelude.{◌≡◌, ◌⊎◌, List, [], ◌∷◌, Bool, true, false}
-use Rattle.tab_history.specs.Answers.{Told, answer}
+use Rattle.tab_history.specs.Answers.{Told, answer, IsReply}
 use Rattle.tab_history.specs.Histories.{Entry, World, clock_of, clock_at, journal, user_of, moves_of}
 use Rattle.tab_key.specs.declared.part.Part.TheVariants.{Numbers}
 use Rattle.tab_history.specs.declared.event.Act.{Act}
-use Rattle.tab_history.specs.declared.event.Act.TheVariants.{DropTable, SetConstraints, DropUser, SetAuths, Revoke}
+use Rattle.tab_history.specs.declared.event.Act.TheVariants.{Open, Write, CreateTable, DropTable, SetConstraints, CreateUser, DropUser, SetAuths, Grant, Revoke, Rights, Status, Flush, Compact}
 use Rattle.tab_history.specs.declared.event.Step.{Step}
 use Rattle.tab_history.specs.declared.event.Step.TheVariants.{Event, Next, Close}
 use Rattle.tab_history.specs.declared.reply.Refusal.TheVariants.{NoMemory, TooLarge}
 use Rattle.tab_history.specs.declared.reply.Reply.TheVariants.{Refused}
 
--- The reply is an answer to the step after the entries es. The sessions are those that were opened in the entries own.
+-- The answer to the step after the entries es, with Done where it is left open. The sessions are those that were opened in the entries own.
+abbrev pub answer_at : World → List Entry → List Entry → Step → Told
+answer_at w es own step = answer w.base (journal w es) (moves_of w (user_of step) own) (clock_at (clock_of w es) step) step
+
+-- The reply is an answer to the step there.
 abbrev pub IsAnswer : World → List Entry → List Entry → Step → Told → Type 0
-IsAnswer w es own step reply = reply ≡ answer w.base (journal w es) (moves_of w (user_of step) own) (clock_at (clock_of w es) step) step
+IsAnswer w es own step reply = IsReply step (answer_at w es own step) reply
 
 -- ---- who may lack memory
--- whether the act takes memory: those don't that only take away, or put what was handed in in place of what is there
+-- whether the act takes memory: those don't that only take away, put what was handed in in place of what is there, or count
 abbrev pub takes_memory : Act → Bool
 takes_memory (DropTable t) = false
 takes_memory (SetConstraints t cs) = false
 takes_memory (DropUser n) = false
 takes_memory (SetAuths n auths) = false
 takes_memory (Revoke n p) = false
-takes_memory _ = true
+takes_memory (Status t) = false
+takes_memory (Open scan) = true
+takes_memory (Write t m) = true
+takes_memory (CreateTable t time n) = true
+takes_memory (CreateUser n) = true
+takes_memory (Grant n p) = true
+takes_memory (Rights t) = true
+takes_memory (Flush t) = true
+takes_memory (Compact t extent) = true
 
 -- whether memory may lack for the step
 abbrev pub may_lack : Step → Bool

@@ -1,18 +1,44 @@
--- Each list of steps has a legal history, and but for want of memory just one.
-use Rattle.std.specs.Prelude.{◌≡◌, List, [], ◌∷◌}
-use Rattle.tab_history.specs.Answers.{Told, answer}
-use Rattle.tab_history.specs.Histories.{Entry, World, clock_of, clock_at, journal, user_of, moves_of, world_after, steps_of}
-use Rattle.tab_history.specs.Legal.{Legal, LegalAlone, HasMemory, LacksWhereItMay}
+-- Each list of steps has a legal history, and but for open answers and want of memory just one.
+use Rattle.std.specs.Prelude.{◌≡◌, List, [], ◌∷◌, Bool, false, cond, Option, Some, None, map}
+use Rattle.tab_history.specs.Answers.{Told, leaves_open}
+use Rattle.tab_history.specs.Histories.{Entry, World, world_after, steps_of}
+use Rattle.tab_history.specs.Legal.{answer_at, Legal, LegalAlone, HasMemory, LacksWhereItMay}
 use Rattle.tab_key.specs.declared.part.Part.TheVariants.{Sessions}
+use Rattle.tab_history.specs.declared.event.Act.{Act}
+use Rattle.tab_history.specs.declared.event.Act.TheVariants.{Open, Write, CreateTable, DropTable, SetConstraints, CreateUser, DropUser, SetAuths, Grant, Revoke, Rights, Status, Flush, Compact}
 use Rattle.tab_history.specs.declared.event.Step.{Step}
 use Rattle.tab_history.specs.declared.event.Step.TheVariants.{Event, Next, Close}
 use Rattle.tab_history.specs.declared.reply.Refusal.TheVariants.{NoMemory, TooLarge, NoSession}
-use Rattle.tab_history.specs.declared.reply.Reply.TheVariants.{Refused}
+use Rattle.tab_history.specs.declared.reply.Reply.TheVariants.{Refused, Counted}
 
 -- ---- The law: each list of steps has a legal history.
--- the answer to a step after these entries, in one run
+-- one of what may be told of an event that isn't refused
+abbrev pub one_of : Act → Told → Told
+one_of (Open scan) plain = plain
+one_of (Write t m) plain = plain
+one_of (CreateTable t time n) plain = plain
+one_of (DropTable t) plain = plain
+one_of (SetConstraints t cs) plain = plain
+one_of (CreateUser n) plain = plain
+one_of (DropUser n) plain = plain
+one_of (SetAuths n auths) plain = plain
+one_of (Grant n p) plain = plain
+one_of (Revoke n p) plain = plain
+one_of (Rights t) plain = plain
+one_of (Status t) plain = Counted (record { tablets = 0; sources = 0; records = 0 })
+one_of (Flush t) plain = plain
+one_of (Compact t extent) plain = plain
+
+-- one of the replies to a step with this answer
+abbrev pub one_reply : Step → Told → Told
+one_reply (Event e) (Refused r) = Refused r
+one_reply (Event e) plain = one_of e.act plain
+one_reply (Next user slot n) plain = plain
+one_reply (Close user slot) plain = plain
+
+-- one of the replies to a step after these entries, in one run
 abbrev pub answer_to : World → List Entry → Step → Told
-answer_to w es step = answer w.base (journal w es) (moves_of w (user_of step) es) (clock_at (clock_of w es) step) step
+answer_to w es step = one_reply step (answer_at w es es step)
 
 -- the history of these steps, the first of them first, after the entries es
 abbrev pub played : World → List Entry → List Step → List Entry
@@ -23,10 +49,20 @@ played w es (step ∷ steps) = played w (record { step = step; reply = answer_to
 abbrev pub EveryRunIsAnswered : Type 0
 EveryRunIsAnswered = (w : World) (steps : List Step) → (es : List Entry) × Legal w es × (steps_of es ≡ steps)
 
--- ---- The law: it has just one in which memory never lacked.
--- two legal histories of the same steps in which memory never lacked are one
+-- ---- The law: with the same replies where they are left open it has just one in which memory never lacked.
+-- whether what is told of the step is left open
+abbrev pub is_left_open : Step → Bool
+is_left_open (Event e) = leaves_open e.act
+is_left_open (Next user slot n) = false
+is_left_open (Close user slot) = false
+
+-- the step of an entry, and its reply where that is left open
+abbrev pub asked_of : Entry → Step × Option Told
+asked_of e = (e.step, cond (is_left_open e.step) (Some e.reply) None)
+
+-- two legal histories of the same steps, with the same replies where they are left open, and in which memory never lacked, are one
 abbrev pub OneHistory : Type 0
-OneHistory = (w : World) (h k : List Entry) → Legal w h → Legal w k → HasMemory h → HasMemory k → steps_of h ≡ steps_of k → h ≡ k
+OneHistory = (w : World) (h k : List Entry) → Legal w h → Legal w k → HasMemory h → HasMemory k → map asked_of h ≡ map asked_of k → h ≡ k
 
 -- ---- The law: memory lacks only where it may.
 -- in each legal history, also of events that stand alone

@@ -18,6 +18,15 @@ pub enum TimeMode {
     Server,
 }
 
+/// What a compaction of a whole table merges. (Accumulo user manual: compaction, full major compaction)
+#[derive(Clone, Copy, Debug, PartialEq, Eq)]
+pub enum Extent {
+    /// Some of each tablet's sorted tables, chosen by their sizes.
+    Partial,
+    /// All that each tablet holds.
+    Full,
+}
+
 /// What a scan asks for. (Accumulo user manual: scanner, fetching columns, authorizations)
 #[derive(Clone, Drop)]
 pub struct Scan {
@@ -32,7 +41,7 @@ pub struct Scan {
 }
 
 /// What an event asks. An unknown caller, a table that doesn't exist and a missing permission refuse it before the checks named here.
-/// `DropTable`, `SetConstraints`, `DropUser`, `SetAuths` and `Revoke` take no memory; for the others it may lack.
+/// `DropTable`, `SetConstraints`, `DropUser`, `SetAuths`, `Revoke` and `Status` take no memory; for the others it may lack.
 #[derive(Clone, Drop)]
 pub enum Act {
     /// Open a session on a scan, which answers from that moment for good. Refused for too many columns or authorizations, for a bad
@@ -66,6 +75,15 @@ pub enum Act {
     Revoke(Name, Permission),
     /// Tell the caller his own system permissions, his permissions on the table, and his authorizations. It needs no permission.
     Rights(Name),
+    /// Tell how many tablets the table has, and how many sources and records they hold. Where these lie is the core's own affair: a
+    /// history allows any counts.
+    Status(Name),
+    /// Merge what was written to the table since the last flush into a sorted table, in each of its tablets. No scan is answered
+    /// otherwise after it. (Accumulo user manual: minor compaction)
+    Flush(Name),
+    /// Merge sorted tables of the table, in each of its tablets, and what was written since the last flush with them where it merges all.
+    /// No scan is answered otherwise after it. (Accumulo user manual: major compaction)
+    Compact(Name, Extent),
 }
 
 /// What a user asks at a moment. Events are the atomic steps of a core. The clock is the greatest moment of all events so far, refused

@@ -26,7 +26,7 @@ pub fn every_run_is_answered()
     ensures { EveryRunIsAnswered }
 {}
 
-/// Two legal histories of the same steps in which memory never lacked are one.
+/// Two legal histories of the same steps, with the same replies where they are left open, in which memory never lacked, are one.
 pub fn one_history()
     ensures { OneHistory }
 {}

@@ -4,24 +4,27 @@
 //! |---|---|
 //! | `event` | events, and the steps of a run |
 //! | `reply` | replies and refusals |
+//! | `counts` | what a table's tablets hold, counted |
 //! | `versions` | how many versions of a column a table shows |
 //! | `rights` | what a user is told of his own rights |
 //! | `laws` | the laws of the definitions, each the contract of a function that does nothing |
 //!
 //! The definitions stand in `specs`, in this order of reading: `Settings`, `Bases`, `Changes`, `Readings` (what there is after some
 //! changes), `Cells` (what a scan shows), `Checks` (why an event is refused), `OwnRights` (what a user is told of his rights),
-//! `Sessions`, `Answers` (the answer to each step), `Histories`, `Lives` (what a creation begins with), `Legal` (which histories are),
+//! `Sessions`, `Answers` (the answer to each step, and which are left open), `Histories`, `Lives` (what a creation begins with), `Legal` (which histories are),
 //! `Rooted` (root stays), `Held` and `Refinement` (which cores refine which histories), `Chains`, `Runs`. `Examples` computes
 //! examples. The definitions of records, labels, mutations, constraints and permissions stand in the crates below.
 #![tactic(auto)]
 
+mod counts;
 mod event;
 mod laws;
 mod reply;
 mod rights;
 mod versions;
 
-pub use event::{Act, Event, Scan, Step, TimeMode, copied};
+pub use counts::Counts;
+pub use event::{Act, Event, Extent, Scan, Step, TimeMode, copied};
 pub use laws::{
     alike_refines, answers_are_one, chains_refine, every_run_is_answered, goes_on, lives_are_apart,
     memory_lacks_where_it_may, new_core_is_sound, new_core_refines, one_history,

@@ -1,5 +1,6 @@
 //! What is answered.
 
+use crate::counts::Counts;
 use crate::rights::Rights;
 use tab_key::{ByteString, Cell, Items, Name, Part};
 use tab_policy::Permission;
@@ -60,6 +61,8 @@ pub enum Reply<S = ()> {
     Batch(Items<Cell>),
     /// What the caller may do and holds.
     Rights(Rights),
+    /// What a table's tablets hold.
+    Counted(Counts),
 }
 
 impl<S> Reply<S> {
@@ -77,6 +80,7 @@ impl<S> Reply<S> {
             Reply::Opened(session) => (Reply::Opened(()), Some(session)),
             Reply::Batch(cells) => (Reply::Batch(cells), None),
             Reply::Rights(rights) => (Reply::Rights(rights), None),
+            Reply::Counted(counts) => (Reply::Counted(counts), None),
         }
     }
 }

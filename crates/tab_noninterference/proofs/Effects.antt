@@ -22,7 +22,7 @@ use Rattle.tab_history.specs.Answers.{Told, told_opened, told, granted, is_open,
 use Rattle.tab_history.specs.Histories.{user_of}
 use Rattle.tab_history.specs.declared.event.Scan.{Scan}
 use Rattle.tab_history.specs.declared.event.Act.{Act}
-use Rattle.tab_history.specs.declared.event.Act.TheVariants.{Open, Write, CreateTable, DropTable, SetConstraints, CreateUser, DropUser, SetAuths, Grant, Revoke, Rights}
+use Rattle.tab_history.specs.declared.event.Act.TheVariants.{Open, Write, CreateTable, DropTable, SetConstraints, CreateUser, DropUser, SetAuths, Grant, Revoke, Rights, Status, Flush, Compact}
 use Rattle.tab_history.specs.declared.event.Step.{Step}
 use Rattle.tab_history.specs.declared.event.Step.TheVariants.{Event, Next, Close}
 use Rattle.tab_history.specs.declared.reply.Refusal.{Refusal}
@@ -49,7 +49,7 @@ no_changes now u moment act (Refused x) e = refl
 no_changes now u moment act _ e = e
 
 -- what is no Open does nothing to sessions
-no_moves : (b : Base) (j : List Change) (u : List ℕ) (moment : ℤ) (act : Act) (r : Told) → is_open act ≡ false → moves_by b j (asks u moment act) r ≡ []
+pub no_moves : (b : Base) (j : List Change) (u : List ℕ) (moment : ℤ) (act : Act) (r : Told) → is_open act ≡ false → moves_by b j (asks u moment act) r ≡ []
 no_moves b j u moment act (Opened session) e = rw e refl
 no_moves b j u moment act _ e = refl
 
@@ -182,6 +182,9 @@ module _ (held : List (List ℕ)) (b : Base) (user : List ℕ) (low : (t : List 
   event_effect m (Revoke n (OfSystem p)) within = named_effect m (Revoke n (OfSystem p)) n refl refl refl (unseen_one n _)
   event_effect m (Revoke n (OfTable p t)) within = named_effect m (Revoke n (OfTable p t)) n refl refl refl (unseen_one n _)
   event_effect m (SetAuths n auths) within = named_effect m (SetAuths n auths) n refl refl refl (unseen_one n _)
+  event_effect m (Status t) within = plain_effect m (Status t) refl refl (λ x. refl)
+  event_effect m (Flush t) within = plain_effect m (Flush t) refl refl (λ x. refl)
+  event_effect m (Compact t extent) within = plain_effect m (Compact t extent) refl refl (λ x. refl)
 
   pub own_effect : (step : Step) → user_of step ≡ user → IsSubset (auths_given b user j) held → Same step
   unfolding ample_answer

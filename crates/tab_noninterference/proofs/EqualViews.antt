@@ -10,9 +10,9 @@ use Rattle.tab_history.specs.Readings.{base_table, base_records}
 use Rattle.tab_history.specs.Sessions.{Move, is_full}
 use Rattle.tab_history.specs.Answers.{Told, is_open, changes_by, moves_by}
 use Rattle.tab_history.specs.Histories.{Entry, World, world_of, clock_of, clock_at, journal, moves_of, is_by, user_of}
-use Rattle.tab_history.specs.Legal.{IsAnswer, Legal, IsAmple, IsExhausted, LacksMemory}
+use Rattle.tab_history.specs.Legal.{answer_at, IsAnswer, Legal, IsAmple, IsExhausted, LacksMemory}
 use Rattle.tab_history.specs.declared.event.Act.{Act}
-use Rattle.tab_history.specs.declared.event.Act.TheVariants.{Open, Write, CreateTable, DropTable, SetConstraints, CreateUser, DropUser, SetAuths, Grant, Revoke, Rights}
+use Rattle.tab_history.specs.declared.event.Act.TheVariants.{Open, Write, CreateTable, DropTable, SetConstraints, CreateUser, DropUser, SetAuths, Grant, Revoke, Rights, Status, Flush, Compact}
 use Rattle.tab_history.specs.declared.event.Step.{Step}
 use Rattle.tab_history.specs.declared.event.Step.TheVariants.{Event, Next, Close}
 use Rattle.tab_history.specs.declared.reply.Refusal.TheVariants.{TooLarge}
@@ -20,14 +20,16 @@ use Rattle.tab_history.specs.declared.reply.Reply.TheVariants.{Refused}
 use Rattle.tab_noninterference.proofs.Ample.{is_ample, ample_event, ample_answer}
 use Rattle.tab_noninterference.specs.Given.{auths_given}
 use Rattle.tab_noninterference.specs.Concerns.{visible}
-use Rattle.tab_noninterference.specs.Views.{clock_shown, own_sight, other_sight, sights, View, view}
+use Rattle.tab_noninterference.specs.Views.{Asked, clock_shown, is_aside, own_sight, other_sight, sights, View, view}
 use Rattle.tab_noninterference.specs.Hearing.{Heard, heard_of, heard}
 use Rattle.tab_noninterference.specs.Noninterference.{Noninterference, NoninterferenceFromABase}
 use Rattle.tab_history.proofs.Chains.{new_core_is_sound}
+use Rattle.tab_history.proofs.LeftOpen.{closed_reply}
 use Rattle.tab_key.specs.Order.{NumbersBelow}
 use Rattle.tab_noninterference.proofs.SeenBase.{base_seen, sound_below}
 use Rattle.tab_noninterference.proofs.Auths.{given_before}
 use Rattle.tab_noninterference.proofs.Effects.{asks, no_changes, SameEffect, own_effect}
+use Rattle.tab_noninterference.proofs.Aside.{aside_changes, aside_moves, aside_heard, outside_closed}
 use Rattle.tab_noninterference.proofs.Replay.{Replay, own, replay, visible_append, replay_changed}
 
 -- the clock that is shown of a step
@@ -61,6 +63,9 @@ event_changes_irrelevant moves clock u m (Grant n p) r = refl
 event_changes_irrelevant moves clock u m (Revoke n p) r = refl
 event_changes_irrelevant moves clock u m (Rights t) r = refl
 event_changes_irrelevant moves clock u m (SetAuths n auths) r = refl
+event_changes_irrelevant moves clock u m (Status t) r = refl
+event_changes_irrelevant moves clock u m (Flush t) r = refl
+event_changes_irrelevant moves clock u m (Compact t extent) r = refl
 
 changes_irrelevant : (moves : List Move) (clock : ℤ) (step : Step) (r : Told) → changes_by (shown_clock moves clock step) step r ≡ changes_by (clock_at clock step) step r
 changes_irrelevant moves clock (Event e) r = event_changes_irrelevant moves clock e.user e.moment e.act r
@@ -119,16 +124,24 @@ module _ (b : Base) (clock : ℤ) (held : List (List ℕ)) (user : List ℕ) (lo
       now : ℤ
       now = clock_at (clock_of w es) e.step
 
-      is_answer : IsAnswer w es es e.step e.reply ⊎ LacksMemory e.step e.reply → e.reply ≡ ample_answer b (journal w es) (moves_of w (user_of e.step) es) now e.step
-      is_answer (inl h) = h ∙ is_ample b (journal w es) (moves_of w (user_of e.step) es) now e.step (λ x. ample.1 (subst IsExhausted (sym h) x))
-      is_answer (inr h) = absurd (ample.1 (inl h.1))
+      is_answer : is_aside e.step ≡ false → IsAnswer w es es e.step e.reply ⊎ LacksMemory e.step e.reply → e.reply ≡ ample_answer b (journal w es) (moves_of w (user_of e.step) es) now e.step
+      is_answer a (inl h) =
+          let one : e.reply ≡ answer_at w es es e.step = closed_reply e.step (answer_at w es es e.step) e.reply (outside_closed e.step a) h in
+          one ∙ is_ample b (journal w es) (moves_of w (user_of e.step) es) now e.step (λ x. ample.1 (subst IsExhausted (sym one) x))
+      is_answer a (inr h) = absurd (ample.1 (inl h.1))
 
       by_whom : (v : Bool) → is_by user e.step ≡ v → replay c held user (sights held user w es) ≡ known es
           → replay c held user (cond v (own_sight (moves_of w user es) now e.step) (other_sight held user now e.step e.reply) ++ sights held user w es)
           ≡ record { changes = visible held user (cs ++ journal w es); moves = cond v (moves_by b (journal w es) e.step e.reply ++ moves_of w user es) (moves_of w user es); heard = cond v (heard_of b (journal w es) e.step e.reply ++ heard user w es) (heard user w es) }
-      by_whom true t ih =
-          let his : user_of e.step ≡ user = (bytes_decides (user_of e.step) user).0 t in
-          ap (own c held user e.step (shown_clock (moves_of w user es) (clock_of w es) e.step)) ih ∙ own_step e es his (is_answer legal.1 ∙ ap (λ x. ample_answer b (journal w es) (moves_of w x es) now e.step) his) earlier
+      by_whom true t ih = by_side (is_aside e.step) refl
+        where
+          by_side : (x : Bool) → is_aside e.step ≡ x
+              → replay c held user (cond x [] (Asked e.step (clock_shown (moves_of w user es) now e.step) ∷ []) ++ sights held user w es)
+              ≡ record { changes = visible held user (cs ++ journal w es); moves = moves_by b (journal w es) e.step e.reply ++ moves_of w user es; heard = heard_of b (journal w es) e.step e.reply ++ heard user w es }
+          by_side true a = ih ∙ (λ i. record { changes = visible held user (sym (aside_changes now e.step e.reply a) i ++ journal w es); moves = sym (aside_moves b (journal w es) e.step e.reply a) i ++ moves_of w user es; heard = sym (aside_heard b (journal w es) e.step e.reply a) i ++ heard user w es })
+          by_side false a =
+              let his : user_of e.step ≡ user = (bytes_decides (user_of e.step) user).0 t in
+              ap (own c held user e.step (shown_clock (moves_of w user es) (clock_of w es) e.step)) ih ∙ own_step e es his (is_answer a legal.1 ∙ ap (λ x. ample_answer b (journal w es) (moves_of w x es) now e.step) his) earlier
       by_whom false t ih = replay_changed c held user (visible held user cs) (sights held user w es) ∙ (λ i. record { changes = visible held user cs ++ (ih i).changes; moves = (ih i).moves; heard = (ih i).heard }) ∙ (λ i. record { changes = sym (visible_append held user cs (journal w es)) i; moves = moves_of w user es; heard = heard user w es })
 
 -- Two histories that look alike to a user tell him the same.

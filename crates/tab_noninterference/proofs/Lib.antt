@@ -6,5 +6,6 @@ pub mod SeenUpdates
 pub mod Auths
 pub mod Ample
 pub mod Effects
+pub mod Aside
 pub mod Replay
 pub mod EqualViews

@@ -28,6 +28,7 @@ use Rattle.tab_history.specs.Answers.{Told, told_opened, answer, session_list}
 use Rattle.tab_history.specs.Histories.{Entry, world_of, clock_of, journal, moves_of}
 use Rattle.tab_history.specs.Runs.{played}
 use Rattle.tab_history.specs.declared.event.TimeMode.TheVariants.{Any}
+use Rattle.tab_history.specs.declared.event.Extent.TheVariants.{Partial, Full}
 use Rattle.tab_history.specs.declared.event.Act.{Act}
 use Rattle.tab_history.specs.declared.event.Act.TheVariants as act
 use Rattle.tab_history.specs.declared.event.Step.{Step}
@@ -149,6 +150,49 @@ told_alone = refl
 told_beside_others : hears (beside (unseen_writes ++ unseen_events) unseen_delete) ≡ told_beside
 unfolding everything
 told_beside_others = refl
+
+-- ---- compactions
+-- what root does to t between: a write that bob may not read, a flush, a compaction of everything, and counts
+abbrev unseen_compactions : List Step
+unseen_compactions = as_root (writes (update Put (codes "B") (codes "y") (Some (pos 6)) ∷ [])) ∷ as_root (act.Flush t) ∷ as_root (act.Compact t Full) ∷ as_root (act.Status t) ∷ []
+
+-- he sees nothing of it
+seen_beside_compactions : sees (beside unseen_compactions unseen_compactions) ≡ seen_beside
+unfolding everything
+seen_beside_compactions = refl
+
+-- and is told the same
+told_beside_compactions : hears (beside unseen_compactions unseen_compactions) ≡ told_beside
+unfolding everything
+told_beside_compactions = refl
+
+-- so it is where he asks for counts and compactions himself, admitted or not
+abbrev his_own : List Step
+his_own = as_bob (act.Status t) ∷ as_root (act.Grant bob (OfTable table.AlterTable t)) ∷ as_bob (act.Status t) ∷ as_bob (act.Flush t) ∷ as_bob (act.Compact t Partial) ∷ []
+
+-- what he sees is the grant alone
+seen_his_own : (sees (make ++ his_own)).sights ≡ Changed (TableGiven bob table.AlterTable t) ∷ (sees make).sights
+unfolding everything
+seen_his_own = refl
+
+-- the same without them
+abbrev granted_alone : List Step
+granted_alone = as_root (act.Grant bob (OfTable table.AlterTable t)) ∷ []
+
+-- the two histories look alike to him
+alike_with_his_own : sees (beside his_own []) ≡ sees (beside granted_alone [])
+unfolding everything
+alike_with_his_own = refl
+
+-- and tell him the same
+same_with_his_own : hears (beside his_own []) ≡ hears (beside granted_alone [])
+unfolding everything
+same_with_his_own = refl
+
+-- of their moments he sees what they did to the clock that his next event meets
+clock_of_his_own : (sees (make ++ asks bob (pos 8) (act.Status t) ∷ as_bob (writes []) ∷ [])).sights ≡ Asked (as_bob (writes [])) (Some (pos 8)) ∷ (sees make).sights
+unfolding everything
+clock_of_his_own = refl
 
 -- ---- what is seen
 -- tables, their settings, himself and his rights, without who changed them and when; what others ask and what they may isn't

@@ -6,7 +6,7 @@ use Rattle.tab_history.specs.Changes.{Change}
 use Rattle.tab_history.specs.Answers.{Told, session_list}
 use Rattle.tab_history.specs.Histories.{Entry, World, journal, is_by}
 use Rattle.tab_history.specs.declared.event.Act.{Act}
-use Rattle.tab_history.specs.declared.event.Act.TheVariants.{Open, Write, Rights}
+use Rattle.tab_history.specs.declared.event.Act.TheVariants.{Open, Write, CreateTable, DropTable, SetConstraints, CreateUser, DropUser, SetAuths, Grant, Revoke, Rights, Status, Flush, Compact}
 use Rattle.tab_history.specs.declared.event.Step.{Step}
 use Rattle.tab_history.specs.declared.event.Step.TheVariants.{Event, Next, Close}
 use Rattle.tab_history.specs.declared.reply.Reply.TheVariants.{Opened}
@@ -21,7 +21,17 @@ abbrev pub is_covered_act : Act → Bool
 is_covered_act (Open scan) = true
 is_covered_act (Write t m) = true
 is_covered_act (Rights t) = true
-is_covered_act _ = false
+is_covered_act (CreateTable t time n) = false
+is_covered_act (DropTable t) = false
+is_covered_act (SetConstraints t cs) = false
+is_covered_act (CreateUser n) = false
+is_covered_act (DropUser n) = false
+is_covered_act (SetAuths n auths) = false
+is_covered_act (Grant n p) = false
+is_covered_act (Revoke n p) = false
+is_covered_act (Status t) = false
+is_covered_act (Flush t) = false
+is_covered_act (Compact t extent) = false
 
 -- the steps of that kind: these events, and batches
 abbrev pub is_covered : Step → Bool

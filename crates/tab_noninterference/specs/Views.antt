@@ -1,10 +1,12 @@
 -- All that a user can see of a history.
-use Rattle.std.specs.Prelude.{ℕ, ℤ, List, [], ◌∷◌, ◌++◌, cond, ◌&&◌, Option, Some, None, map}
+use Rattle.std.specs.Prelude.{ℕ, ℤ, List, [], ◌∷◌, ◌++◌, Bool, true, false, cond, ◌&&◌, Option, Some, None, map}
 use Rattle.tab_history.specs.Bases.{Base}
 use Rattle.tab_history.specs.Changes.{Change}
 use Rattle.tab_history.specs.Sessions.{Move, is_full}
 use Rattle.tab_history.specs.Answers.{Told, changes_by, is_open}
 use Rattle.tab_history.specs.Histories.{Entry, World, world_of, clock_of, clock_at, journal, moves_of, is_by}
+use Rattle.tab_history.specs.declared.event.Act.{Act}
+use Rattle.tab_history.specs.declared.event.Act.TheVariants.{Open, Write, CreateTable, DropTable, SetConstraints, CreateUser, DropUser, SetAuths, Grant, Revoke, Rights, Status, Flush, Compact}
 use Rattle.tab_history.specs.declared.event.Step.{Step}
 use Rattle.tab_history.specs.declared.event.Step.TheVariants.{Event, Next, Close}
 use Rattle.tab_noninterference.specs.Given.{auths_given}
@@ -23,9 +25,32 @@ clock_shown moves now (Event e) = cond (is_open e.act && is_full moves) None (So
 clock_shown moves now (Next user slot n) = None
 clock_shown moves now (Close user slot) = None
 
--- what he sees of a step of his own: the step, without its reply
+-- whether the event only asks where records lie, or lays them otherwise: it changes nothing that a history reads but the clock
+abbrev pub is_inner : Act → Bool
+is_inner (Open scan) = false
+is_inner (Write t m) = false
+is_inner (CreateTable t time n) = false
+is_inner (DropTable t) = false
+is_inner (SetConstraints t cs) = false
+is_inner (CreateUser n) = false
+is_inner (DropUser n) = false
+is_inner (SetAuths n auths) = false
+is_inner (Grant n p) = false
+is_inner (Revoke n p) = false
+is_inner (Rights t) = false
+is_inner (Status t) = true
+is_inner (Flush t) = true
+is_inner (Compact t extent) = true
+
+-- the steps of that kind
+abbrev pub is_aside : Step → Bool
+is_aside (Event e) = is_inner e.act
+is_aside (Next user slot n) = false
+is_aside (Close user slot) = false
+
+-- what he sees of a step of his own: the step, without its reply, and nothing of one that is aside
 abbrev pub own_sight : List Move → ℤ → Step → List Sight
-own_sight moves now step = Asked step (clock_shown moves now step) ∷ []
+own_sight moves now step = cond (is_aside step) [] (Asked step (clock_shown moves now step) ∷ [])
 
 -- what he sees of a step of somebody else: not who took it and when, but what it changes that concerns him
 abbrev pub other_sight : List (List ℕ) → List ℕ → ℤ → Step → Told → List Sight

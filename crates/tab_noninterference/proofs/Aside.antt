@@ -1,0 +1,73 @@
+-- A step of a user's own that only asks where records lie, or lays them otherwise: it changes nothing, and nothing is heard of it.
+use Rattle.std.proofs.Common.{◌≡◌, ℕ, ℤ, List, [], Bool, true, false, refl, sym}
+use mathlib.Core.Bool.{true≢false}
+use Rattle.tab_history.specs.Bases.{Base}
+use Rattle.tab_history.specs.Changes.{Change, changes_of}
+use Rattle.tab_history.specs.Answers.{Told, leaves_open, is_open, changes_by, moves_by}
+use Rattle.tab_history.specs.Runs.{is_left_open}
+use Rattle.tab_history.specs.declared.event.Act.{Act}
+use Rattle.tab_history.specs.declared.event.Act.TheVariants.{Open, Write, CreateTable, DropTable, SetConstraints, CreateUser, DropUser, SetAuths, Grant, Revoke, Rights, Status, Flush, Compact}
+use Rattle.tab_history.specs.declared.event.Step.{Step}
+use Rattle.tab_history.specs.declared.event.Step.TheVariants.{Event, Next, Close}
+use Rattle.tab_noninterference.specs.Views.{is_inner, is_aside}
+use Rattle.tab_noninterference.specs.Hearing.{is_covered_act, heard_of}
+use Rattle.tab_noninterference.proofs.Effects.{no_changes, no_moves}
+
+-- it changes nothing, opens no session, and its reply isn't covered
+record DoesNothing (act : Act) : Type 0 where
+  changes : (now : ℤ) (user : List ℕ) → changes_of now user act ≡ []
+  opens : is_open act ≡ false
+  uncovered : is_covered_act act ≡ false
+
+inner_does_nothing : (act : Act) → is_inner act ≡ true → DoesNothing act
+inner_does_nothing (Status t) e = record { changes = λ now user. refl; opens = refl; uncovered = refl }
+inner_does_nothing (Flush t) e = record { changes = λ now user. refl; opens = refl; uncovered = refl }
+inner_does_nothing (Compact t extent) e = record { changes = λ now user. refl; opens = refl; uncovered = refl }
+inner_does_nothing (Open scan) e = absurd (true≢false (sym e))
+inner_does_nothing (Write t m) e = absurd (true≢false (sym e))
+inner_does_nothing (CreateTable t time n) e = absurd (true≢false (sym e))
+inner_does_nothing (DropTable t) e = absurd (true≢false (sym e))
+inner_does_nothing (SetConstraints t cs) e = absurd (true≢false (sym e))
+inner_does_nothing (CreateUser n) e = absurd (true≢false (sym e))
+inner_does_nothing (DropUser n) e = absurd (true≢false (sym e))
+inner_does_nothing (SetAuths n auths) e = absurd (true≢false (sym e))
+inner_does_nothing (Grant n p) e = absurd (true≢false (sym e))
+inner_does_nothing (Revoke n p) e = absurd (true≢false (sym e))
+inner_does_nothing (Rights t) e = absurd (true≢false (sym e))
+
+pub aside_changes : (now : ℤ) (step : Step) (r : Told) → is_aside step ≡ true → changes_by now step r ≡ []
+aside_changes now (Event e) r a = no_changes now e.user e.moment e.act r ((inner_does_nothing e.act a).changes now e.user)
+aside_changes now (Next u slot n) r a = absurd (true≢false (sym a))
+aside_changes now (Close u slot) r a = absurd (true≢false (sym a))
+
+pub aside_moves : (b : Base) (j : List Change) (step : Step) (r : Told) → is_aside step ≡ true → moves_by b j step r ≡ []
+aside_moves b j (Event e) r a = no_moves b j e.user e.moment e.act r (inner_does_nothing e.act a).opens
+aside_moves b j (Next u slot n) r a = absurd (true≢false (sym a))
+aside_moves b j (Close u slot) r a = absurd (true≢false (sym a))
+
+pub aside_heard : (b : Base) (j : List Change) (step : Step) (r : Told) → is_aside step ≡ true → heard_of b j step r ≡ []
+aside_heard b j (Event e) r a = rw (inner_does_nothing e.act a).uncovered refl
+aside_heard b j (Next u slot n) r a = absurd (true≢false (sym a))
+aside_heard b j (Close u slot) r a = refl
+
+-- what is told of the other steps isn't left open
+outer_closed : (act : Act) → is_inner act ≡ false → leaves_open act ≡ false
+outer_closed (Status t) e = absurd (true≢false e)
+outer_closed (Flush t) e = refl
+outer_closed (Compact t extent) e = refl
+outer_closed (Open scan) e = refl
+outer_closed (Write t m) e = refl
+outer_closed (CreateTable t time n) e = refl
+outer_closed (DropTable t) e = refl
+outer_closed (SetConstraints t cs) e = refl
+outer_closed (CreateUser n) e = refl
+outer_closed (DropUser n) e = refl
+outer_closed (SetAuths n auths) e = refl
+outer_closed (Grant n p) e = refl
+outer_closed (Revoke n p) e = refl
+outer_closed (Rights t) e = refl
+
+pub outside_closed : (step : Step) → is_aside step ≡ false → is_left_open step ≡ false
+outside_closed (Event e) a = outer_closed e.act a
+outside_closed (Next u slot n) a = refl
+outside_closed (Close u slot) a = refl
