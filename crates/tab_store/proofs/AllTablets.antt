@@ -1,0 +1,151 @@
+-- What work does to the tablets of a table leaves each of them refining the updates in its rows, and all together refining all updates.
+use Rattle.std.proofs.Common.{◌≡◌, inl, inr, ℕ, ◌+◌, List, [], ◌∷◌, ◌++◌, Bool, true, false, cond, not, refl, sym, ◌∙◌, ap, subst}
+use Rattle.std.specs.Prelude.{ℤ, int_le, map, filter, reverse, Contains, Option, Some, None}
+use mathlib.Core.Bool.{true≢false}
+use Rattle.tab_key.specs.Records.{Record}
+use Rattle.tab_key.specs.Sorted.{IsIn}
+use Rattle.tab_key.proofs.Rising.{in_from, in_to, in_filter, distinct_filter}
+use Rattle.tab_cells.specs.Written.{TimedUpdate, timed, records_of, mutation_records}
+use Rattle.tab_cells.specs.declared.compaction.Compaction.{Compaction}
+use Rattle.tab_cells.proofs.Lists.{filter_append}
+use Rattle.tab_iter.proofs.ColumnLaws.{filter_none}
+use Rattle.tab_version.specs.Sources.{Sources, left_by}
+use Rattle.tab_compact.specs.Merges.{Merge}
+use Rattle.tab_tablet.specs.Tablets.{Tablet, is_up_to, records_in, written, frozen, capture, replaced_in, merged_by, compacted}
+use Rattle.tab_history.specs.Held.{RefinesTable}
+use Rattle.tab_history.proofs.Holds.{holds_nothing, holds_beside}
+use Rattle.tab_store.specs.Stores.{records_of_all, at_row}
+use Rattle.tab_store.specs.Stepping.{Freezing, Writing, Compacting, Counting, Place, floor_at, lays}
+use Rattle.tab_store.specs.Keeping.{TabletRefines, is_low, is_high, EndsRise, AreWhole, TabletsRefine, TabletsHoldAll, WorkKeeps, StaysWhole}
+use Rattle.tab_store.proofs.ByRows.{joined_refines}
+use Rattle.tab_store.proofs.OneTablet.{freezes_keep, writes_keep, compactions_keep}
+
+-- ---- filters
+filter_all : (p : Record → Bool) (xs : List Record) → ((u : Record) → IsIn xs u → p u ≡ true) → filter p xs ≡ xs
+filter_all p [] f = refl
+filter_all p (x ∷ xs) f = rw (f x (inl refl)) (ap (λ l. x ∷ l) (filter_all p xs (λ u h. f u (inr h))))
+
+-- ---- one tablet for one, with the same end row
+all_map : (next n : ℕ) (floor : ℤ) (f : Tablet → Tablet) → ((t : Tablet) → (f t).end ≡ t.end) → ((t : Tablet) (us : List Record) → TabletRefines t us next n floor → TabletRefines (f t) us next n floor)
+    → (ts : List Tablet) (us : List Record) → TabletsRefine ts us next n floor → TabletsRefine (map f ts) us next n floor
+all_map next n floor f ends keeps [] us a = a
+all_map next n floor f ends keeps (t ∷ ts) us a = (
+  subst (λ e. TabletRefines (f t) (filter (is_low e) us) next n floor) (sym (ends t)) (keeps t (filter (is_low t.end) us) a.0),
+  subst (λ e. TabletsRefine (map f ts) (filter (is_high e) us) next n floor) (sym (ends t)) (all_map next n floor f ends keeps ts (filter (is_high t.end) us) a.1),
+)
+
+-- ---- one more number
+one_more : (t : Tablet) (us : List Record) (next n : ℕ) (floor : ℤ) → TabletRefines t us next n floor → TabletRefines t us (next + 1) n floor
+one_more t us next n floor h = record { refines = holds_beside (records_in t) us next n floor h.refines }
+
+all_more : (ts : List Tablet) (us : List Record) (next n : ℕ) (floor : ℤ) → TabletsRefine ts us next n floor → TabletsRefine ts us (next + 1) n floor
+all_more [] us next n floor a = a
+all_more (t ∷ ts) us next n floor a = (one_more t (filter (is_low t.end) us) next n floor a.0, all_more ts (filter (is_high t.end) us) next n floor a.1)
+
+-- ---- a write
+in_row : (next : ℕ) (row : List ℕ) (ps : List TimedUpdate) (u : Record) → IsIn (records_of next row ps) u → u.key.row ≡ row
+unfolding records_of
+in_row next row [] u h = absurd h
+in_row next row (p ∷ ps) u (inl e) = ap (λ (r : Record). r.key.row) (sym e)
+in_row next row (p ∷ ps) u (inr h) = in_row next row ps u h
+
+module _ (row : List ℕ) (ps : List TimedUpdate) (next n : ℕ) (floor : ℤ) (recent : (u : Record) → Contains (records_of next row ps) u → int_le floor u.key.timestamp ≡ true) where
+  abbrev new : List Record
+  new = records_of next row ps
+
+  -- the tablet that holds the row, and those behind it
+  here_written : (t : Tablet) (ts : List Tablet) (us : List Record) → is_up_to t.end row ≡ true → TabletRefines t (filter (is_low t.end) us) next n floor → TabletsRefine ts (filter (is_high t.end) us) next n floor → TabletsRefine (written new t ∷ ts) (new ++ us) (next + 1) n floor
+  here_written t ts us e h a = (
+    subst (λ l. TabletRefines (written new t) l (next + 1) n floor) (sym low_are) (writes_keep t (filter (is_low t.end) us) next n floor row ps recent h),
+    subst (λ l. TabletsRefine ts l (next + 1) n floor) (sym high_are) (all_more ts (filter (is_high t.end) us) next n floor a),
+  )
+    where
+      up : (u : Record) → IsIn new u → is_up_to t.end u.key.row ≡ true
+      up u h = subst (λ r. is_up_to t.end r ≡ true) (sym (in_row next row ps u h)) e
+
+      low_are : filter (is_low t.end) (new ++ us) ≡ new ++ filter (is_low t.end) us
+      low_are = filter_append (is_low t.end) new us ∙ ap (λ l. l ++ filter (is_low t.end) us) (filter_all (is_low t.end) new up)
+
+      high_are : filter (is_high t.end) (new ++ us) ≡ filter (is_high t.end) us
+      high_are = filter_append (is_high t.end) new us ∙ ap (λ l. l ++ filter (is_high t.end) us) (filter_none (is_high t.end) new (λ u h. ap not (up u h)))
+
+  -- a tablet before it
+  passed : (t : Tablet) (others : List Tablet) (us : List Record) → is_up_to t.end row ≡ false → TabletRefines t (filter (is_low t.end) us) next n floor → TabletsRefine others (new ++ filter (is_high t.end) us) (next + 1) n floor → TabletsRefine (t ∷ others) (new ++ us) (next + 1) n floor
+  passed t others us e h a = (
+    subst (λ l. TabletRefines t l (next + 1) n floor) (sym low_are) (one_more t (filter (is_low t.end) us) next n floor h),
+    subst (λ l. TabletsRefine others l (next + 1) n floor) (sym high_are) a,
+  )
+    where
+      over : (u : Record) → IsIn new u → is_up_to t.end u.key.row ≡ false
+      over u h = subst (λ r. is_up_to t.end r ≡ false) (sym (in_row next row ps u h)) e
+
+      low_are : filter (is_low t.end) (new ++ us) ≡ filter (is_low t.end) us
+      low_are = filter_append (is_low t.end) new us ∙ ap (λ l. l ++ filter (is_low t.end) us) (filter_none (is_low t.end) new over)
+
+      high_are : filter (is_high t.end) (new ++ us) ≡ new ++ filter (is_high t.end) us
+      high_are = filter_append (is_high t.end) new us ∙ ap (λ l. l ++ filter (is_high t.end) us) (filter_all (is_high t.end) new (λ u h. ap not (over u h)))
+
+  all_written : (ts : List Tablet) (us : List Record) → AreWhole ts → TabletsRefine ts us next n floor → TabletsRefine (at_row row (λ x. written new x ∷ []) ts) (new ++ us) (next + 1) n floor
+  all_written [] us whole a = absurd whole
+  all_written (t ∷ []) us whole a = go (is_up_to t.end row) refl
+    where
+      go : (v : Bool) → is_up_to t.end row ≡ v → TabletsRefine (cond v (written new t ∷ []) (t ∷ [])) (new ++ us) (next + 1) n floor
+      go true e = here_written t [] us e a.0 a.1
+      go false e = absurd (true≢false (sym (ap (λ o. is_up_to o row) whole) ∙ e))
+  all_written (t ∷ s ∷ ts) us whole a = go (is_up_to t.end row) refl (all_written (s ∷ ts) (filter (is_high t.end) us) whole.1 a.1)
+    where
+      go : (v : Bool) → is_up_to t.end row ≡ v → TabletsRefine (at_row row (λ x. written new x ∷ []) (s ∷ ts)) (new ++ filter (is_high t.end) us) (next + 1) n floor
+          → TabletsRefine (cond v (written new t ∷ s ∷ ts) (t ∷ at_row row (λ x. written new x ∷ []) (s ∷ ts))) (new ++ us) (next + 1) n floor
+      go true e ih = here_written t (s ∷ ts) us e a.0 a.1
+      go false e ih = passed t (at_row row (λ x. written new x ∷ []) (s ∷ ts)) us e a.0 ih
+
+-- ---- a compaction
+compacted_end : (kind : Compaction) (floor : ℤ) (n : ℕ) (t : Tablet) → (compacted kind floor n t).end ≡ t.end
+compacted_end kind floor n t = go (capture kind floor n t)
+  where
+    by_left : (m : Merge) (o : Option Sources) → (replaced_in m o (frozen t)).end ≡ t.end
+    by_left m None = refl
+    by_left m (Some left) = refl
+
+    go : (o : Option Merge) → (merged_by o (frozen t)).end ≡ t.end
+    go None = refl
+    go (Some m) = by_left m (left_by m.inputs (frozen t).sources)
+
+-- ---- all work
+pub work_keeps : WorkKeeps
+unfolding lays
+work_keeps p Freezing plain ts us w r a = all_map p.next p.settings.versions (floor_at p) frozen (λ t. refl) (λ t vs h. freezes_keep t vs p.next p.settings.versions (floor_at p) h) ts us a
+work_keeps p (Writing m) plain ts us w r a = all_written m.row (reverse (map (timed p.now) m.updates)) p.next p.settings.versions (floor_at p) r ts us w a
+work_keeps p (Compacting kind) plain ts us w r a = all_map p.next p.settings.versions (floor_at p) (compacted kind (floor_at p) p.settings.versions) (compacted_end kind (floor_at p) p.settings.versions) (λ t vs h. compactions_keep kind t vs p.next p.settings.versions (floor_at p) h) ts us a
+work_keeps p Counting plain ts us w r a = a
+
+-- ---- each row has one tablet
+abbrev ends_of : List Tablet → List (Option (List ℕ))
+ends_of ts = map (λ (t : Tablet). t.end) ts
+
+ends_map : (f : Tablet → Tablet) → ((t : Tablet) → (f t).end ≡ t.end) → (ts : List Tablet) → ends_of (map f ts) ≡ ends_of ts
+ends_map f ends [] = refl
+ends_map f ends (t ∷ ts) = λ i. ends t i ∷ ends_map f ends ts i
+
+ends_at_row : (row : List ℕ) (f : Tablet → Tablet) → ((t : Tablet) → (f t).end ≡ t.end) → (ts : List Tablet) → ends_of (at_row row (λ t. f t ∷ []) ts) ≡ ends_of ts
+ends_at_row row f ends [] = refl
+ends_at_row row f ends (t ∷ ts) = go (is_up_to t.end row) (ends_at_row row f ends ts)
+  where
+    go : (v : Bool) → ends_of (at_row row (λ t. f t ∷ []) ts) ≡ ends_of ts → ends_of (cond v (f t ∷ ts) (t ∷ at_row row (λ t. f t ∷ []) ts)) ≡ t.end ∷ ends_of ts
+    go true ih = ap (λ e. e ∷ ends_of ts) (ends t)
+    go false ih = ap (λ es. t.end ∷ es) ih
+
+pub stays_whole : StaysWhole
+unfolding lays
+stays_whole p Freezing plain ts w = subst EndsRise (sym (ends_map frozen (λ t. refl) ts)) w
+stays_whole p (Writing m) plain ts w = subst EndsRise (sym (ends_at_row m.row (written (mutation_records p.next p.now m)) (λ t. refl) ts)) w
+stays_whole p (Compacting kind) plain ts w = subst EndsRise (sym (ends_map (compacted kind (floor_at p) p.settings.versions) (compacted_end kind (floor_at p) p.settings.versions) ts)) w
+stays_whole p Counting plain ts w = w
+
+-- ---- so all that is held refines all updates
+pub tablets_hold_all : TabletsHoldAll
+tablets_hold_all [] us next n floor once numbers a = subst (λ l. RefinesTable [] l next n floor) (sym a) (holds_nothing next n floor)
+tablets_hold_all (t ∷ ts) us next n floor once numbers a =
+    joined_refines (is_up_to t.end) (records_in t) (records_of_all ts) us next n floor a.0.refines
+    (tablets_hold_all ts (filter (is_high t.end) us) next n floor (distinct_filter (is_high t.end) us once) (λ u c. numbers u (in_to us u (in_filter (is_high t.end) us u (in_from _ u c)).0)) a.1)
+    once (λ u i. numbers u (in_to us u i))

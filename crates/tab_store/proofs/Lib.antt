@@ -1,0 +1,14 @@
+pub mod HeldMerge
+pub mod ByRows
+pub mod OneTablet
+pub mod AllTablets
+pub mod Sound
+pub mod Reading
+pub mod Telling
+pub mod OneTable
+pub mod Right
+pub mod ChainLaws
+pub mod Joining
+pub mod Single
+pub mod Named
+pub mod Changed

@@ -1,0 +1,22 @@
+-- What an event is told exactly is one of the answers that histories allow.
+use Rattle.std.proofs.Common.{refl}
+use Rattle.tab_history.specs.declared.event.Act.TheVariants.{Open, Write, CreateTable, DropTable, SetConstraints, CreateUser, DropUser, SetAuths, Grant, Revoke, Rights, Status, Flush, Compact}
+use Rattle.tab_store.specs.Stores.{tablets_in, counts_of}
+use Rattle.tab_store.specs.Stepping.{lays, TellsLegally}
+
+pub tells_legally : TellsLegally
+unfolding lays
+tells_legally h now (Open scan) plain = refl
+tells_legally h now (Write t m) plain = refl
+tells_legally h now (CreateTable t time n) plain = refl
+tells_legally h now (DropTable t) plain = refl
+tells_legally h now (SetConstraints t cs) plain = refl
+tells_legally h now (CreateUser n) plain = refl
+tells_legally h now (DropUser n) plain = refl
+tells_legally h now (SetAuths n auths) plain = refl
+tells_legally h now (Grant n p) plain = refl
+tells_legally h now (Revoke n p) plain = refl
+tells_legally h now (Rights t) plain = refl
+tells_legally h now (Status t) plain = (counts_of (tablets_in h t), refl)
+tells_legally h now (Flush t) plain = refl
+tells_legally h now (Compact t e) plain = refl

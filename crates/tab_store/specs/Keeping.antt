@@ -1,0 +1,135 @@
+-- When tablets refine the updates of their table, and that whatever is done to them leaves them so.
+use Rattle.std.specs.Prelude.{◌≡◌, ℕ, ℤ, ◌+◌, ◌<◌, List, [], ◌∷◌, ◌++◌, Bool, true, not, int_le, filter, map, Contains, Option, Some, None}
+use Rattle.std.specs.declared.cmp.Ordering.TheVariants.{Less}
+use Rattle.tab_key.specs.Bytes.{bytes_cmp}
+use Rattle.tab_key.specs.Records.{Record}
+use Rattle.tab_key.specs.Sorted.{sorted, IsDistinct}
+use Rattle.tab_cells.specs.Written.{TimedUpdate, records_of, mutation_records}
+use Rattle.tab_cells.specs.declared.compaction.Compaction.{Compaction}
+use Rattle.tab_tablet.specs.Tablets.{Tablet, is_up_to, new_tablet, records_in, written, frozen, compacted}
+use Rattle.tab_history.specs.Settings.{Settings}
+use Rattle.tab_history.specs.Readings.{settings_of, updates_of}
+use Rattle.tab_history.specs.Held.{RefinesTable}
+use Rattle.tab_history.specs.Answers.{Told}
+use Rattle.tab_store.specs.Stores.{HeldTable, Held, base_of, table_in, tablets_in, records_of_all}
+use Rattle.tab_store.specs.Stepping.{TabletWork, Freezing, Writing, Compacting, Counting, Place, floor_at, lays}
+
+-- ---- one tablet
+-- what a tablet holds refines the updates in its rows
+pub record TabletRefines (t : Tablet) (us : List Record) (next n : ℕ) (floor : ℤ) : Type 0 where
+  pub refines : RefinesTable (records_in t) us next n floor
+
+-- ---- The laws of one tablet: each thing that is done to it leaves it so.
+abbrev pub FreezesKeep : Type 0
+FreezesKeep = (t : Tablet) (us : List Record) (next n : ℕ) (floor : ℤ) → TabletRefines t us next n floor → TabletRefines (frozen t) us next n floor
+
+-- a write at or above the floor
+abbrev pub WritesKeep : Type 0
+WritesKeep = (t : Tablet) (us : List Record) (next n : ℕ) (floor : ℤ) (row : List ℕ) (ps : List TimedUpdate) → ((u : Record) → Contains (records_of next row ps) u → int_le floor u.key.timestamp ≡ true)
+    → TabletRefines t us next n floor → TabletRefines (written (records_of next row ps) t) (records_of next row ps ++ us) (next + 1) n floor
+
+-- a whole compaction, at the present floor and number of versions
+abbrev pub CompactionsKeep : Type 0
+CompactionsKeep = (kind : Compaction) (t : Tablet) (us : List Record) (next n : ℕ) (floor : ℤ) → TabletRefines t us next n floor → TabletRefines (compacted kind floor n t) us next n floor
+
+-- a clock or a horizon that rises
+abbrev pub LaterKeeps : Type 0
+LaterKeeps = (t : Tablet) (us : List Record) (next n : ℕ) (floor higher : ℤ) → int_le floor higher ≡ true → TabletRefines t us next n floor → TabletRefines t us next n higher
+
+-- ---- all tablets of a table
+-- whether a record's row is up to an end row, or above it
+abbrev pub is_low : Option (List ℕ) → Record → Bool
+is_low end u = is_up_to end u.key.row
+
+abbrev pub is_high : Option (List ℕ) → Record → Bool
+is_high end u = not (is_up_to end u.key.row)
+
+-- Each tablet refines the updates in its rows: those up to its end row, and not up to the end row of one before it.
+abbrev pub TabletsRefine : List Tablet → List Record → ℕ → ℕ → ℤ → Type 0
+TabletsRefine [] us next n floor = us ≡ []
+TabletsRefine (t ∷ ts) us next n floor = TabletRefines t (filter (is_low t.end) us) next n floor × TabletsRefine ts (filter (is_high t.end) us) next n floor
+
+-- one end row lies before the next one, of which there may be none
+abbrev pub EndsBefore : Option (List ℕ) → Option (List ℕ) → Type 0
+EndsBefore None next = ⊥
+EndsBefore (Some end) None = Unit {0}
+EndsBefore (Some end) (Some next) = bytes_cmp end next ≡ Less
+
+-- they rise strictly, and the last alone is none
+abbrev pub EndsRise : List (Option (List ℕ)) → Type 0
+EndsRise [] = ⊥
+EndsRise (end ∷ []) = end ≡ None
+EndsRise (end ∷ next ∷ ends) = EndsBefore end next × EndsRise (next ∷ ends)
+
+-- so each row has one tablet
+abbrev pub AreWhole : List Tablet → Type 0
+AreWhole ts = EndsRise (map (λ (t : Tablet). t.end) ts)
+
+-- ---- The law: so all that the table holds refines all its updates.
+abbrev pub TabletsHoldAll : Type 0
+TabletsHoldAll = (ts : List Tablet) (us : List Record) (next n : ℕ) (floor : ℤ) → IsDistinct us → ((u : Record) → Contains us u → u.seq < next) → TabletsRefine ts us next n floor → RefinesTable (records_of_all ts) us next n floor
+
+-- ---- The law: whatever work does to the tablets of its table leaves them so, for the updates that there are then.
+-- the updates of the table afterwards
+abbrev pub updates_after : Place → TabletWork → List Record → List Record
+updates_after p Freezing us = us
+updates_after p (Writing m) us = mutation_records p.next p.now m ++ us
+updates_after p (Compacting kind) us = us
+updates_after p Counting us = us
+
+-- the number of the next write afterwards
+abbrev pub next_after : Place → TabletWork → ℕ
+next_after p Freezing = p.next
+next_after p (Writing m) = p.next + 1
+next_after p (Compacting kind) = p.next
+next_after p Counting = p.next
+
+-- a write has no timestamp below the floor
+abbrev pub IsRecent : Place → TabletWork → Type 0
+IsRecent p Freezing = Unit {0}
+IsRecent p (Writing m) = (u : Record) → Contains (mutation_records p.next p.now m) u → int_le (floor_at p) u.key.timestamp ≡ true
+IsRecent p (Compacting kind) = Unit {0}
+IsRecent p Counting = Unit {0}
+
+abbrev pub WorkKeeps : Type 0
+WorkKeeps = (p : Place) (work : TabletWork) (plain : Told) (ts : List Tablet) (us : List Record) → AreWhole ts → IsRecent p work
+    → TabletsRefine ts us p.next p.settings.versions (floor_at p) → TabletsRefine (lays p work plain ts).1 (updates_after p work us) (next_after p work) p.settings.versions (floor_at p)
+
+-- ---- The law: and each row has one tablet still.
+abbrev pub StaysWhole : Type 0
+StaysWhole = (p : Place) (work : TabletWork) (plain : Told) (ts : List Tablet) → AreWhole ts → AreWhole (lays p work plain ts).1
+
+-- ---- What a core keeps of a table's tablets by itself, whichever histories it refines.
+-- each row has one tablet; no two records stand at one place, and their numbers are used up; and the tablets refine what they hold
+pub record AreSound (ts : List Tablet) (next n : ℕ) (floor : ℤ) : Type 0 where
+  pub whole : AreWhole ts
+  pub once : IsDistinct (records_of_all ts)
+  pub numbered : (u : Record) → Contains (records_of_all ts) u → u.seq < next
+  pub refines : TabletsRefine ts (sorted (records_of_all ts)) next n floor
+
+-- ---- The law: all work keeps it; and what the table holds then refines what it held before, with what was written.
+-- the work goes on well
+pub record GoesOnWell (p : Place) (work : TabletWork) (ts after : List Tablet) : Type 0 where
+  pub sound : AreSound after (next_after p work) p.settings.versions (floor_at p)
+  pub refines : RefinesTable (sorted (records_of_all after)) (updates_after p work (sorted (records_of_all ts))) (next_after p work) p.settings.versions (floor_at p)
+
+abbrev pub WorkStaysSound : Type 0
+WorkStaysSound = (p : Place) (work : TabletWork) (plain : Told) (ts : List Tablet) → AreSound ts p.next p.settings.versions (floor_at p) → IsRecent p work → GoesOnWell p work ts (lays p work plain ts).1
+
+-- ---- The law: a table begins so.
+abbrev pub NewTablesAreSound : Type 0
+NewTablesAreSound = (next n : ℕ) (floor : ℤ) → AreSound (new_tablet None ∷ []) next n floor
+
+-- ---- The law: it stays so while the clock or the horizon rises, and where other tables are written.
+abbrev pub SoundLater : Type 0
+SoundLater = (ts : List Tablet) (next more n : ℕ) (floor higher : ℤ) → int_le floor higher ≡ true → AreSound ts next n floor → AreSound ts (next + more) n higher
+
+-- ---- The law: what histories read of a core is what its tablets hold.
+-- a table's settings, if it exists
+abbrev pub settings_in : Option HeldTable → Option Settings
+settings_in None = None
+settings_in (Some t) = Some t.settings
+
+-- the settings, and one rising list of all records of the tablets
+abbrev pub BasesRead : Type 0
+BasesRead = (h : Held) (q : List ℕ) → (settings_of (base_of h) [] q ≡ settings_in (table_in h q)) × (updates_of (base_of h) [] q ≡ sorted (records_of_all (tablets_in h q)))

@@ -1,0 +1,39 @@
+-- The laws that join a core's exact steps to histories: each is a right step, and keeps the core a store.
+use Rattle.std.specs.Prelude.{◌≡◌, ℕ, List, [], ◌∷◌, Some}
+use Rattle.tab_history.specs.Held.{floor_of}
+use Rattle.tab_history.specs.Answers.{Told}
+use Rattle.tab_history.specs.Histories.{world_of, world_after}
+use Rattle.tab_history.specs.Refinement.{ReadsAlike, IsSound}
+use Rattle.tab_history.specs.Chains.{GoesRight}
+use Rattle.tab_history.specs.declared.event.Event.{Event}
+use Rattle.tab_store.specs.Stores.{HeldTable, Held, NamesRise, base_of, table_in, IsNewStore}
+use Rattle.tab_store.specs.Stepping.{LaysExactly, now_at, plain_answer, entry_of}
+use Rattle.tab_store.specs.Keeping.{AreSound}
+
+-- ---- stores
+-- the tables lie in the order of their names, and the tablets of each are sound, at the clock
+pub record IsStore (h : Held) : Type 0 where
+  pub names : NamesRise h
+  pub tables : (q : List ℕ) (t : HeldTable) → table_in h q ≡ Some t → AreSound t.tablets h.next t.settings.versions (floor_of t.settings.time h.clock t.settings.horizon)
+
+-- ---- The law: a new core is one.
+abbrev pub NewStoresAreStores : Type 0
+NewStoresAreStores = (h : Held) → IsNewStore h → IsStore h
+
+-- ---- The law: what histories see of a store is sound.
+abbrev pub StoresAreSound : Type 0
+StoresAreSound = (h : Held) → IsStore h → IsSound (world_of (base_of h))
+
+-- ---- The laws of one step.
+-- an event leaves the tablets of a store exactly so, and all that is read beside records as its entry says
+pub record LeavesExactly (old : Held) (event : Event) (told : Told) (new : Held) : Type 0 where
+  pub exact : LaysExactly old (now_at old event) event.act (plain_answer old event) told new
+  pub reads : ReadsAlike (world_of (base_of new)) (world_after (world_of (base_of old)) (entry_of event told ∷ []))
+
+-- then it is a right step
+abbrev pub StepsAreRight : Type 0
+StepsAreRight = (old new : Held) (event : Event) (told : Told) → IsStore old → LeavesExactly old event told new → GoesRight (base_of old) (entry_of event told) (base_of new)
+
+-- and the new core is a store
+abbrev pub StoresStay : Type 0
+StoresStay = (old new : Held) (event : Event) (told : Told) → IsStore old → LeavesExactly old event told new → IsStore new

@@ -1,0 +1,169 @@
+-- What an event does to the tablets of a core, exactly, and what it is told where histories leave that open.
+use Rattle.std.specs.Prelude.{◌≡◌, ◌⊎◌, ℕ, ℤ, List, [], ◌∷◌, true, cond, Option, Some, None, map, bytes_eq}
+use Rattle.std.specs.Int.{int_max}
+use Rattle.tab_mutation.specs.Mutations.{Mutation}
+use Rattle.tab_cells.specs.Written.{mutation_records}
+use Rattle.tab_cells.specs.declared.compaction.Compaction.{Compaction}
+use Rattle.tab_cells.specs.declared.compaction.Compaction.TheVariants.{Minor, Partial, Full}
+use Rattle.tab_version.specs.Sources.{left_by}
+use Rattle.tab_compact.specs.Merges.{Merge}
+use Rattle.tab_tablet.specs.Tablets.{Tablet, new_tablet, written, frozen, capture, compacted}
+use Rattle.tab_tablet.specs.Spared.{spared}
+use Rattle.tab_history.specs.Settings.{Settings, made_with}
+use Rattle.tab_history.specs.Held.{floor_of}
+use Rattle.tab_history.specs.Answers.{Told, MayTell, event_answer}
+use Rattle.tab_history.specs.Histories.{Entry}
+use Rattle.tab_history.specs.Legal.{takes_memory}
+use Rattle.tab_history.specs.Chains.{GoesRight}
+use Rattle.tab_history.specs.declared.event.TimeMode.TheVariants.{Any}
+use Rattle.tab_history.specs.declared.event.Extent.{Extent}
+use Rattle.tab_history.specs.declared.event.Extent.TheVariants as extent
+use Rattle.tab_history.specs.declared.event.Act.{Act}
+use Rattle.tab_history.specs.declared.event.Act.TheVariants.{Open, Write, CreateTable, DropTable, SetConstraints, CreateUser, DropUser, SetAuths, Grant, Revoke, Rights, Status, Flush, Compact}
+use Rattle.tab_history.specs.declared.event.Event.{Event}
+use Rattle.tab_history.specs.declared.event.Step.TheVariants.{Event as IsEvent}
+use Rattle.tab_history.specs.declared.reply.Refusal.TheVariants.{NoMemory}
+use Rattle.tab_history.specs.declared.reply.Reply.TheVariants.{Refused, Counted}
+use Rattle.tab_store.specs.Stores.{HeldTable, Held, base_of, NamesRise, table_in, tablets_found, tablets_in, at_row, counts_of}
+
+-- ---- what an act asks of the tables
+-- what is done with the tablets of a table that is there
+pub data TabletWork : Type 0 where
+  -- each is frozen
+  Freezing : TabletWork
+  -- the mutation is written to the one that holds its row
+  Writing : Mutation → TabletWork
+  -- each is compacted
+  Compacting : Compaction → TabletWork
+  -- they are counted
+  Counting : TabletWork
+
+-- what is done with tables
+pub data TableWork : Type 0 where
+  -- nothing that concerns tablets
+  Aside : TableWork
+  -- a table of this name is made
+  Making : List ℕ → TableWork
+  -- the table of this name is dropped
+  Dropping : List ℕ → TableWork
+  -- work on the tablets of the table of this name
+  On : List ℕ → TabletWork → TableWork
+
+-- the compaction that an extent names
+abbrev pub kind_of : Extent → Compaction
+kind_of extent.Partial = Partial
+kind_of extent.Full = Full
+
+-- what an act asks, once no check refuses it
+abbrev pub work_of : Act → TableWork
+work_of (Open scan) = On scan.table Freezing
+work_of (Write t m) = On t (Writing m)
+work_of (CreateTable t time n) = Making t
+work_of (DropTable t) = Dropping t
+work_of (SetConstraints t cs) = Aside
+work_of (CreateUser n) = Aside
+work_of (DropUser n) = Aside
+work_of (SetAuths n auths) = Aside
+work_of (Grant n p) = Aside
+work_of (Revoke n p) = Aside
+work_of (Rights t) = Aside
+work_of (Status t) = On t Counting
+work_of (Flush t) = On t (Compacting Minor)
+work_of (Compact t e) = On t (Compacting (kind_of e))
+
+-- ---- what that does to the tablets of one table
+-- what an event finds beside the tablets: the settings of the table, the clock with the event's moment in it, and the number of the next write
+pub record Place : Type 0 where
+  pub settings : Settings
+  pub now : ℤ
+  pub next : ℕ
+
+-- below this time the table takes no update any more
+abbrev pub floor_at : Place → ℤ
+floor_at p = floor_of p.settings.time p.now p.settings.horizon
+
+-- what is told of the work, where the answer of histories is this one, and the tablets afterwards
+unfoldable pub lays : Place → TabletWork → Told → List Tablet → Told × List Tablet
+lays p Freezing plain ts = (plain, map frozen ts)
+lays p (Writing m) plain ts = (plain, at_row m.row (λ t. written (mutation_records p.next p.now m) t ∷ []) ts)
+lays p (Compacting kind) plain ts = (plain, map (compacted kind (floor_at p) p.settings.versions) ts)
+lays p Counting plain ts = (Counted (counts_of ts), ts)
+
+-- ---- and to all tables
+-- what a table is set to; where there is none, no one looks at this
+abbrev pub settings_found : Option HeldTable → Settings
+settings_found None = made_with Any 1
+settings_found (Some t) = t.settings
+
+-- the place of a table
+abbrev pub place_of : Held → ℤ → Option HeldTable → Place
+place_of h now t = record { settings = settings_found t; now = now; next = h.next }
+
+-- what is told of the work on a table, and its tablets afterwards
+abbrev pub lays_in : Held → ℤ → TabletWork → Told → Option HeldTable → Told × List Tablet
+lays_in h now work plain t = lays (place_of h now t) work plain (tablets_found t)
+
+-- what is told of the work
+abbrev pub told_by : Held → ℤ → TableWork → Told → Told
+told_by h now Aside plain = plain
+told_by h now (Making t) plain = plain
+told_by h now (Dropping t) plain = plain
+told_by h now (On t work) plain = (lays_in h now work plain (table_in h t)).0
+
+-- the tablets of the table q afterwards: a table that is made has one, that of all rows
+abbrev pub laid_by : Held → ℤ → TableWork → Told → List ℕ → List Tablet
+laid_by h now Aside plain q = tablets_in h q
+laid_by h now (Making t) plain q = cond (bytes_eq t q) (new_tablet None ∷ []) (tablets_in h q)
+laid_by h now (Dropping t) plain q = cond (bytes_eq t q) [] (tablets_in h q)
+laid_by h now (On t work) plain q = cond (bytes_eq t q) (lays_in h now work plain (table_in h q)).1 (tablets_in h q)
+
+-- ---- the exact step
+-- what an event is told whose answer is this one: a refusal, or what the tablets give
+abbrev pub told_exactly : Held → ℤ → Act → Told → Told
+told_exactly h now act (Refused r) = Refused r
+told_exactly h now act plain = told_by h now (work_of act) plain
+
+-- the tablets of the table q after an event whose answer is this one: where a check refuses it they are as they were
+abbrev pub laid_exactly : Held → ℤ → Act → Told → List ℕ → List Tablet
+laid_exactly h now act (Refused r) q = tablets_in h q
+laid_exactly h now act plain q = laid_by h now (work_of act) plain q
+
+-- the same once it was told this: where memory lacked they are wholly as they were, and not frozen either
+abbrev pub laid_told : Told → Held → ℤ → Act → Told → List ℕ → List Tablet
+laid_told (Refused NoMemory) h now act plain q = tablets_in h q
+laid_told told h now act plain q = laid_exactly h now act plain q
+
+-- At this clock, an act whose answer is plain is told so and leaves the tablets so.
+pub record LaysExactly (old : Held) (now : ℤ) (act : Act) (plain told : Told) (new : Held) : Type 0 where
+  -- it is told what the tablets give, unless memory lacked and it takes some
+  pub answers : (told ≡ told_exactly old now act plain) ⊎ ((takes_memory act ≡ true) × (told ≡ Refused NoMemory))
+  -- the tablets of each table are those that it leaves
+  pub tablets : (q : List ℕ) → tablets_in new q ≡ laid_told told old now act plain q
+  -- the tables lie in the order of their names
+  pub names : NamesRise new
+
+-- the clock, with an event's moment in it
+abbrev pub now_at : Held → Event → ℤ
+now_at h e = int_max h.clock e.moment
+
+-- the answer to an event by what histories see of the core
+abbrev pub plain_answer : Held → Event → Told
+plain_answer h e = event_answer (base_of h) [] (now_at h e) e.user e.act
+
+-- the entry of an event
+abbrev pub entry_of : Event → Told → Entry
+entry_of event told = record { step = IsEvent event; reply = told }
+
+-- An event is told, and does, what the tablets give; and as histories see it, it is a right step.
+pub record StepsExactly (old : Held) (event : Event) (told : Told) (new : Held) : Type 0 where
+  pub right : GoesRight (base_of old) (entry_of event told) (base_of new)
+  pub exact : LaysExactly old (now_at old event) event.act (plain_answer old event) told new
+
+-- ---- The law: what an event is told exactly is one of the answers that histories allow.
+abbrev pub TellsLegally : Type 0
+TellsLegally = (h : Held) (now : ℤ) (act : Act) (plain : Told) → MayTell act plain (told_by h now (work_of act) plain)
+
+-- ---- The law: a merge that a compaction makes finds its inputs among the sources, so where there is anything to merge it is merged.
+-- and what is left are the sources that the compaction spares
+abbrev pub CapturesAreThere : Type 0
+CapturesAreThere = (kind : Compaction) (floor : ℤ) (n : ℕ) (t : Tablet) (m : Merge) → capture kind floor n t ≡ Some m → left_by m.inputs (frozen t).sources ≡ Some (spared kind (frozen t).sources)

@@ -1,0 +1,49 @@
+-- Tables by name, and what calls change of them.
+use Rattle.std.specs.Prelude.{ℕ, List, [], ◌∷◌, Option, Some, None, cond, find, bytes_eq}
+use Rattle.std.specs.Option.{option_map}
+use Rattle.tab_rules.specs.declared.constraint.Constraint.{Constraint}
+use Rattle.tab_tablet.specs.Tablets.{Tablet, new_tablet}
+use Rattle.tab_history.specs.Settings.{Settings, made_with}
+use Rattle.tab_history.specs.declared.event.TimeMode.{TimeMode}
+use Rattle.tab_store.specs.Stores.{HeldTable}
+
+-- a table without its name
+pub record TableState : Type 0 where
+  pub settings : Settings
+  pub tablets : List Tablet
+
+-- a table under its name
+abbrev pub named_table : List ℕ × TableState → HeldTable
+named_table e = record { name = e.0; settings = e.1.settings; tablets = e.1.tablets }
+
+-- a table as it is made: one tablet, that of all rows
+abbrev pub made_table : TimeMode → ℕ → TableState
+made_table time versions = record { settings = made_with time versions; tablets = new_tablet None ∷ [] }
+
+-- the table with its tablets changed so
+abbrev pub with_tablets : (List Tablet → List Tablet) → TableState → TableState
+with_tablets f t = record t { tablets = f t.tablets }
+
+-- the table with these constraints
+abbrev pub with_constraints : List Constraint → TableState → TableState
+with_constraints cs t = record t { settings = record (t.settings) { constraints = cs } }
+
+-- the table of this name, without the name
+abbrev pub state_of : HeldTable → TableState
+state_of t = record { settings = t.settings; tablets = t.tablets }
+
+abbrev pub table_at : List HeldTable → List ℕ → Option TableState
+table_at ts q = option_map state_of (find (λ (t : HeldTable). bytes_eq t.name q) ts)
+
+-- the table of the name q once f has changed the one of the name n, if there is one
+abbrev pub changed_table : List ℕ → (TableState → TableState) → List HeldTable → List ℕ → Option TableState
+changed_table n f ts q = cond (bytes_eq n q) (option_map f (table_at ts q)) (table_at ts q)
+
+-- what a table that may be missing is set to
+abbrev pub settings_at : Option TableState → Option Settings
+settings_at o = option_map (λ (t : TableState). t.settings) o
+
+-- the tablets of a table that may be missing
+abbrev pub tablets_of : Option TableState → List Tablet
+tablets_of None = []
+tablets_of (Some t) = t.tablets

@@ -1,0 +1,100 @@
+//! Laws of the definitions. Each is the contract of a function that does nothing, so that it is proved.
+ghost use Rattle.tab_store.specs.Stepping.{TellsLegally, CapturesAreThere};
+ghost use Rattle.tab_store.specs.Keeping.{FreezesKeep, WritesKeep, CompactionsKeep, LaterKeeps, WorkKeeps, StaysWhole, TabletsHoldAll, WorkStaysSound, NewTablesAreSound, SoundLater, BasesRead};
+ghost use Rattle.tab_store.specs.Rightness.{NewStoresAreStores, StoresAreSound, StepsAreRight, StoresStay};
+ghost use Rattle.tab_store.specs.Chains.{ChainsStay, ChainsAreLegal};
+
+/// A freeze leaves a tablet refining the updates in its rows.
+pub fn freezes_keep()
+    ensures { FreezesKeep }
+{}
+
+/// So does a write at or above the floor, for the updates with it.
+pub fn writes_keep()
+    ensures { WritesKeep }
+{}
+
+/// So does a whole compaction of any kind.
+pub fn compactions_keep()
+    ensures { CompactionsKeep }
+{}
+
+/// So does time that passes.
+pub fn later_keeps()
+    ensures { LaterKeeps }
+{}
+
+/// Work on the tablets of a table leaves each of them refining the updates in its rows.
+pub fn work_keeps()
+    ensures { WorkKeeps }
+{}
+
+/// Each row has one tablet, before and after.
+pub fn stays_whole()
+    ensures { StaysWhole }
+{}
+
+/// Where each tablet refines the updates in its rows, all that they hold refines all updates of the table.
+pub fn tablets_hold_all()
+    ensures { TabletsHoldAll }
+{}
+
+/// Work keeps what a core keeps of a table's tablets, and what the table holds then refines what it held before with what was written.
+pub fn work_stays_sound()
+    ensures { WorkStaysSound }
+{}
+
+/// A table begins so.
+pub fn new_tables_are_sound()
+    ensures { NewTablesAreSound }
+{}
+
+/// It stays so while the clock or the horizon rises, and where other tables are written.
+pub fn sound_later()
+    ensures { SoundLater }
+{}
+
+/// What an event is told exactly is one of the answers that histories allow.
+pub fn tells_legally()
+    ensures { TellsLegally }
+{}
+
+/// A merge that a compaction makes finds its inputs among the sources, and leaves those that the compaction spares.
+pub fn captures_are_there()
+    ensures { CapturesAreThere }
+{}
+
+/// What histories read of a core is what its tablets hold.
+pub fn bases_read()
+    ensures { BasesRead }
+{}
+
+/// A new core is a store.
+pub fn new_stores_are_stores()
+    ensures { NewStoresAreStores }
+{}
+
+/// What histories see of a store is sound.
+pub fn stores_are_sound()
+    ensures { StoresAreSound }
+{}
+
+/// An exact step of a store, which leaves all else as its entry says, is a right step.
+pub fn steps_are_right()
+    ensures { StepsAreRight }
+{}
+
+/// And it leaves a store.
+pub fn stores_stay()
+    ensures { StoresStay }
+{}
+
+/// A chain of exact steps of a store ends in one, which refines what the entries leave.
+pub fn chains_stay()
+    ensures { ChainsStay }
+{}
+
+/// A chain of events alone is a legal history.
+pub fn chains_are_legal()
+    ensures { ChainsAreLegal }
+{}

@@ -1,0 +1,37 @@
+//! What a core holds beyond what histories see of it: tables of tablets. The tables, their definitions, and the laws that join them to
+//! histories.
+//!
+//! | File | What |
+//! |---|---|
+//! | `specs/Stores` | what a core holds, and what histories see of it |
+//! | `specs/Stepping` | what an event does to the tablets, exactly, and what it is told |
+//! | `specs/Keeping` | when tablets refine the updates of their table, and what a core keeps of them |
+//! | `specs/Rightness` | stores, and that their exact steps are right ones |
+//! | `specs/Chains` | chains of exact steps |
+//! | `specs/Examples` | worked examples, computed |
+//! | `specs/Tables` | tables by name, and what calls change of them |
+//! | `table` | one table: its settings, and its tablet |
+//! | `tables` | tables by name |
+//! | `laws` | the laws of the definitions, each the contract of a function that does nothing |
+//! | `proofs/HeldMerge` | held records still refine the updates once some of them are merged |
+//! | `proofs/ByRows`, `OneTablet`, `AllTablets` | what is done to tablets leaves them refining the updates, row by row |
+//! | `proofs/Sound`, `OneTable` | what a core keeps of a table by itself |
+//! | `proofs/Reading`, `Telling`, `Right` | exact steps are right ones, act by act |
+//! | `proofs/ChainLaws`, `Joining` | chains of exact steps, and two chains as one |
+//! | `proofs/Single` | a table of one tablet |
+//! | `proofs/Named` | tables by name, as the map has them |
+//! | `proofs/Changed` | a change of one table, as an exact step and as histories read it |
+#![tactic(auto)]
+
+mod laws;
+mod table;
+mod tables;
+
+pub use laws::{
+    bases_read, captures_are_there, chains_are_legal, chains_stay, compactions_keep, freezes_keep,
+    later_keeps, new_stores_are_stores, new_tables_are_sound, sound_later, stays_whole,
+    steps_are_right, stores_are_sound, stores_stay, tablets_hold_all, tells_legally, work_keeps,
+    work_stays_sound, writes_keep,
+};
+pub use table::Table;
+pub use tables::Tables;

@@ -1,0 +1,274 @@
+//! Tables by name.
+ghost use Rattle.std.specs.Prelude.{◌≡◌, ◌<◌, ◌+◌, ◌-◌, ℕ, List, [], ◌∷◌, Option, Some, None, cond, map, length, Contains, is_some, bytes_eq, option_copied, IfOk, OnOk, OnErr};
+ghost use Rattle.std.specs.BTreeMap.{IsOrdered};
+ghost use Rattle.tab_key.specs.Bytes.{bytes_cmp};
+ghost use Rattle.tab_key.specs.Records.{Record};
+ghost use Rattle.tab_key.specs.Sorted.{sorted};
+ghost use Rattle.tab_mutation.specs.Shape.{shape_error};
+ghost use Rattle.tab_cells.specs.Written.{mutation_records};
+ghost use Rattle.tab_policy.specs.Entries.{at_name, changed_at};
+ghost use Rattle.tab_tablet.specs.Opened.{ShowsRowsOf};
+ghost use Rattle.tab_tablet.specs.Tablets.{written, frozen, compacted};
+ghost use Rattle.tab_history.specs.Held.{floor_of};
+ghost use Rattle.tab_store.specs.Stores.{RiseByName, at_row, records_of_all};
+ghost use Rattle.tab_store.specs.Tables.{made_table, with_tablets, with_constraints, table_at, changed_table, tablets_of};
+
+use crate::Table;
+use std::alloc::{AllocError, Global};
+use std::collections::BTreeMap;
+use std::marker::Model;
+use tab_cells::Compaction;
+use tab_history::{TimeMode, Versions};
+use tab_iter::NoMemory;
+use tab_key::{Bounds, Name};
+use tab_mutation::Mutation;
+use tab_policy::NameKey;
+use tab_rules::ConstraintSet;
+use tab_version::Version;
+
+/// The tables that there are, in the order of their names. A contract sees them as definitions have them, with their tablets.
+#[derive(Drop)]
+pub struct Tables {
+    alloc: Global,
+    by_name: BTreeMap<NameKey, Table>,
+}
+
+impl Model for Tables {
+    ghost use Rattle.std.specs.Prelude.{List, map};
+    ghost use Rattle.std.specs.BTreeMap.{IsOrdered};
+    ghost use Rattle.tab_key.specs.Bytes.{bytes_cmp};
+    ghost use Rattle.tab_store.specs.Stores.{HeldTable};
+    ghost use Rattle.tab_store.specs.Tables.{named_table};
+
+    ghost Value = { List HeldTable };
+
+    ghost view = { λ t. map named_table t.by_name.entries };
+
+    ghost invariant = { λ t. IsOrdered bytes_cmp t.by_name };
+}
+
+impl Tables {
+    /// No table. It takes no memory.
+    pub fn new(alloc: Global) -> Tables
+        ensures { result ≡ [] }
+    {
+        Tables {
+            alloc,
+            by_name: BTreeMap::new(alloc),
+        }
+    }
+
+    /// How many tables there are.
+    pub fn len(&self) -> usize
+        ensures { result ≡ length self.now }
+    {
+        self.by_name.len()
+    }
+
+    /// The table of this name.
+    pub fn get(&self, name: &Name) -> Option<&Table>
+        ensures { option_copied result ≡ table_at self.now name.now }
+    {
+        self.by_name.get(name)
+    }
+
+    /// Makes a table of this name, in the place of one that there is. An error leaves the tables as they were.
+    pub fn insert(
+        &mut self,
+        name: Name,
+        time: TimeMode,
+        versions: Versions,
+    ) -> Result<(), AllocError>
+        ensures tables { OnOk result ((q : List ℕ) → table_at self.new q ≡ cond (bytes_eq name q) (Some (made_table time versions)) (table_at self.old q)) }
+        ensures count { OnOk result (length self.new ≡ cond (is_some (table_at self.old name)) (length self.old) (length self.old + 1)) }
+        ensures names { RiseByName self.new }
+        ensures err { OnErr result (self.new ≡ self.old) }
+    {
+        put(
+            &mut self.by_name,
+            self.alloc,
+            name,
+            Table::new(self.alloc, time, versions),
+        )
+    }
+
+    /// Takes the table of this name away, if there is one.
+    pub fn remove(&mut self, name: &Name)
+        ensures tables { (q : List ℕ) → table_at self.new q ≡ cond (bytes_eq name.now q) None (table_at self.old q) }
+        ensures count { length self.new ≡ cond (is_some (table_at self.old name.now)) (length self.old - 1) (length self.old) }
+        ensures names { RiseByName self.new }
+    {
+        take_away(&mut self.by_name, name);
+    }
+
+    /// Sets the table's constraints, if there is such a table.
+    pub fn set_constraints(&mut self, name: &Name, constraints: ConstraintSet)
+        ensures tables { (q : List ℕ) → table_at self.new q ≡ changed_table name.now (with_constraints constraints) self.old q }
+        ensures count { length self.new ≡ length self.old }
+        ensures names { RiseByName self.new }
+    {
+        set_constraints(&mut self.by_name, name, constraints);
+    }
+
+    /// Writes a mutation, whose shape was accepted, to the table's tablet of its row, if there is such a table.
+    ///
+    /// `AllocError` leaves the tables as they were.
+    pub fn write(
+        &mut self,
+        name: &Name,
+        mutation: &Mutation,
+        seq: u64,
+        now: i64,
+    ) -> Result<(), AllocError>
+        requires shape { shape_error mutation.now ≡ None }
+        requires unused { (u : Record) → Contains (records_of_all (tablets_of (table_at self.old name.now))) u → u.seq < seq }
+        ensures ok { OnOk result ((q : List ℕ) → table_at self.new q
+            ≡ changed_table name.now (with_tablets (at_row mutation.now.row (λ t. written (mutation_records seq now mutation.now) t ∷ []))) self.old q) }
+        ensures count { length self.new ≡ length self.old }
+        ensures names { RiseByName self.new }
+        ensures err { OnErr result (self.new ≡ self.old) }
+    {
+        write(&mut self.by_name, name, mutation, seq, now)
+    }
+
+    /// What a scan of these rows of the table reads, as it is now; nothing, where there is no such table. Its tablets are frozen.
+    ///
+    /// `AllocError` leaves the tables as they were.
+    pub fn open(
+        &mut self,
+        alloc: Global,
+        name: &Name,
+        bounds: &Bounds,
+    ) -> Result<Version, AllocError>
+        ensures ok { OnOk result ((q : List ℕ) → table_at self.new q ≡ changed_table name.now (with_tablets (map frozen)) self.old q) }
+        ensures answers { IfOk result (λ v. ShowsRowsOf bounds.now (sorted (records_of_all (tablets_of (table_at self.old name.now)))) v) }
+        ensures count { length self.new ≡ length self.old }
+        ensures names { RiseByName self.new }
+        ensures err { OnErr result (self.new ≡ self.old) }
+    {
+        open(&mut self.by_name, alloc, name, bounds)
+    }
+
+    /// Compacts the tablets of the table, if there is such a table, at this moment.
+    ///
+    /// NoMemory leaves the tables as they were.
+    pub fn compact(
+        &mut self,
+        alloc: Global,
+        name: &Name,
+        kind: Compaction,
+        now: i64,
+    ) -> Result<(), NoMemory>
+        ensures ok { OnOk result ((q : List ℕ) → table_at self.new q
+            ≡ changed_table name.now (λ t. with_tablets (map (compacted kind (floor_of t.settings.time now t.settings.horizon) t.settings.versions)) t) self.old q) }
+        ensures count { length self.new ≡ length self.old }
+        ensures names { RiseByName self.new }
+        ensures err { OnErr result (self.new ≡ self.old) }
+    {
+        compact(&mut self.by_name, alloc, name, kind, now)
+    }
+}
+
+// Puts the table under the name. An error leaves the map as it was.
+fn put(
+    tables: &mut BTreeMap<NameKey, Table>,
+    alloc: Global,
+    name: Name,
+    table: Table,
+) -> Result<(), AllocError>
+    ensures ok { OnOk result ((q : List ℕ) → at_name q tables.new.entries ≡ cond (bytes_eq name q) (Some table) (at_name q tables.old.entries)) }
+    ensures count { OnOk result (length tables.new.entries ≡ cond (is_some (at_name name tables.old.entries)) (length tables.old.entries) (length tables.old.entries + 1)) }
+    ensures ordered { OnOk result (IsOrdered bytes_cmp tables.new) }
+    ensures err { OnErr result (tables.new.entries ≡ tables.old.entries) }
+{
+    let key = NameKey::new(alloc, &name)?;
+    tables.insert(key, table)?;
+    Ok(())
+}
+
+// Takes away what stands under the name.
+fn take_away(tables: &mut BTreeMap<NameKey, Table>, name: &Name)
+    ensures names { (q : List ℕ) → at_name q tables.new.entries ≡ cond (bytes_eq name.now q) None (at_name q tables.old.entries) }
+    ensures count { length tables.new.entries ≡ cond (is_some (at_name name.now tables.old.entries)) (length tables.old.entries - 1) (length tables.old.entries) }
+    ensures ordered { IsOrdered bytes_cmp tables.new }
+{
+    let _ = tables.remove(name);
+}
+
+fn set_constraints(tables: &mut BTreeMap<NameKey, Table>, name: &Name, constraints: ConstraintSet)
+    ensures names { (q : List ℕ) → at_name q tables.new.entries ≡ changed_at name.now (with_constraints constraints) tables.old.entries q }
+    ensures count { length tables.new.entries ≡ length tables.old.entries }
+    ensures ordered { IsOrdered bytes_cmp tables.new }
+{
+    if let Some(table) = tables.get_mut(name) {
+        table.set_constraints(constraints);
+    }
+}
+
+// Writes the mutation to the table under the name, if there is one.
+fn write(
+    tables: &mut BTreeMap<NameKey, Table>,
+    name: &Name,
+    mutation: &Mutation,
+    seq: u64,
+    now: i64,
+) -> Result<(), AllocError>
+    requires shape { shape_error mutation.now ≡ None }
+    requires unused { (u : Record) → Contains (records_of_all (tablets_of (at_name name.now tables.old.entries))) u → u.seq < seq }
+    ensures ok { OnOk result ((q : List ℕ) → at_name q tables.new.entries
+        ≡ changed_at name.now (with_tablets (at_row mutation.now.row (λ t. written (mutation_records seq now mutation.now) t ∷ []))) tables.old.entries q) }
+    ensures count { length tables.new.entries ≡ length tables.old.entries }
+    ensures ordered { IsOrdered bytes_cmp tables.new }
+    ensures err { OnErr result (tables.new.entries ≡ tables.old.entries) }
+{
+    match tables.get_mut(name) {
+        Some(table) => table.write(mutation, seq, now),
+        None => Ok(()),
+    }
+}
+
+// What a scan of these rows of the table under the name reads, or nothing. Its tablets are frozen.
+fn open(
+    tables: &mut BTreeMap<NameKey, Table>,
+    alloc: Global,
+    name: &Name,
+    bounds: &Bounds,
+) -> Result<Version, AllocError>
+    ensures ok { OnOk result ((q : List ℕ) → at_name q tables.new.entries ≡ changed_at name.now (with_tablets (map frozen)) tables.old.entries q) }
+    ensures answers { IfOk result (λ v. ShowsRowsOf bounds.now (sorted (records_of_all (tablets_of (at_name name.now tables.old.entries)))) v) }
+    ensures count { length tables.new.entries ≡ length tables.old.entries }
+    ensures ordered { IsOrdered bytes_cmp tables.new }
+    ensures err { OnErr result (tables.new.entries ≡ tables.old.entries) }
+{
+    match tables.get_mut(name) {
+        Some(table) => table.open(alloc, bounds),
+        None => Ok(empty(alloc)),
+    }
+}
+
+// A version without records. It takes no memory.
+fn empty(alloc: Global) -> Version
+    ensures { result ≡ [] }
+{
+    Version::new(Vec::new(alloc))
+}
+
+// Compacts the tablets of the table under the name, if there is one.
+fn compact(
+    tables: &mut BTreeMap<NameKey, Table>,
+    alloc: Global,
+    name: &Name,
+    kind: Compaction,
+    now: i64,
+) -> Result<(), NoMemory>
+    ensures ok { OnOk result ((q : List ℕ) → at_name q tables.new.entries
+        ≡ changed_at name.now (λ t. with_tablets (map (compacted kind (floor_of t.settings.time now t.settings.horizon) t.settings.versions)) t) tables.old.entries q) }
+    ensures count { length tables.new.entries ≡ length tables.old.entries }
+    ensures ordered { IsOrdered bytes_cmp tables.new }
+    ensures err { OnErr result (tables.new.entries ≡ tables.old.entries) }
+{
+    match tables.get_mut(name) {
+        Some(table) => table.compact(alloc, kind, now),
+        None => Ok(()),
+    }
+}
