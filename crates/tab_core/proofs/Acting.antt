@@ -1,194 +1,112 @@
--- What acts do to a core, and what the core's step makes of it.
-use Rattle.std.proofs.Common.{◌≡◌, ◌⊎◌, inl, inr, ℕ, length, List, [], Bool, true, false, cond, ◌||◌, refl, sym, ◌∙◌, ap, subst, Option, Some, None}
-use Rattle.std.specs.Prelude.{ℤ, Contains, is_some, bytes_eq, find, IfSome}
-use Rattle.std.specs.Int.{int_max}
-use Rattle.std.specs.List.Sorted.{IsStrictlySortedBy}
-use Rattle.tab_key.specs.Order.{record_cmp}
-use Rattle.tab_key.specs.Sorted.{sorted}
-use Rattle.tab_key.proofs.Rising.{in_from}
-use Rattle.tab_cells.proofs.Rising.{sorted_rising}
-use Rattle.tab_policy.specs.declared.decision.Denial.{Denial}
-use Rattle.tab_policy.specs.declared.decision.Denial.TheVariants as policy
-use Rattle.tab_policy.specs.declared.permission.Permission.{Permission}
-use Rattle.tab_policy.specs.Actions.{Action, table_named, needs}
-use Rattle.tab_policy.specs.Decisions.{Standing, decision, judged, table_missing, permission_missing}
-use Rattle.tab_policy.specs.State.{State, Readings, readings, standing_of, user_exists, system_granted, table_granted, table_exists}
-use Rattle.tab_policy.specs.Roots.{root}
-use Rattle.tab_mutation.specs.Mutations.{Mutation}
-use Rattle.tab_mutation.specs.Shape.{or_else, first_some}
+-- What an act makes of a core: exactly, and as histories read it.
+use Rattle.std.proofs.Common.{◌≡◌, ◌⊎◌, inl, inr, ℕ, length, List, [], Bool, true, refl, sym, ◌∙◌, ap, Some}
+use Rattle.std.specs.Prelude.{ℤ, is_some}
+use Rattle.tab_policy.specs.State.{State, Readings, readings, table_exists}
+use Rattle.tab_mutation.specs.Shape.{first_some}
 use Rattle.tab_history.specs.declared.event.Act.{Act}
-use Rattle.tab_history.specs.declared.event.Act.TheVariants.{DropTable, Write}
-use Rattle.tab_history.specs.declared.event.Event.{Event}
 use Rattle.tab_history.specs.declared.reply.Refusal.{Refusal}
 use Rattle.tab_history.specs.declared.reply.Refusal.TheVariants.{NoMemory}
-use Rattle.tab_history.specs.declared.reply.Reply.{Reply}
-use Rattle.tab_history.specs.declared.reply.Reply.TheVariants.{Refused}
-use Rattle.tab_history.specs.Bases.{Base, BaseTable}
+use Rattle.tab_history.specs.declared.reply.Reply.TheVariants.{Done, Refused}
+use Rattle.tab_history.specs.Bases.{Base}
 use Rattle.tab_history.specs.Changes.{Change}
-use Rattle.tab_history.specs.Readings.{has_user, user_count, held_auths, has_system_right, has_table_right, table_count, base_settings, base_records, settings_of, next_number, updates_of}
-use Rattle.tab_history.specs.Checks.{standing, exists_in, user_named, own_checks, action_of, denial, refusal_of}
-use Rattle.tab_history.specs.Answers.{Told, told, are_used_up, numbered, granted, event_answer, told_of}
-use Rattle.tab_cells.specs.SessionState.{SessionState}
+use Rattle.tab_history.specs.Readings.{has_user, user_count, held_auths, has_system_right, has_table_right, table_count, settings_of, next_number}
+use Rattle.tab_history.specs.Checks.{standing, exists_in, user_named, own_checks}
+use Rattle.tab_history.specs.Answers.{Told, told, are_used_up, numbered, granted}
 use Rattle.tab_history.specs.Legal.{takes_memory}
-use Rattle.tab_core.specs.Tables.{settings_in, records_in}
-use Rattle.tab_core.specs.Stepping.{Steps, moves_clock, Becomes, Acts, own_answer, IsAdmitted, IsCore}
-use Rattle.tab_core.proofs.Steps.{steps}
+use Rattle.tab_store.specs.Stores.{HeldTable, Held, RiseByName, base_of, tablets_in}
+use Rattle.tab_store.specs.Stepping.{TableWork, work_of, told_by, laid_by, told_exactly, laid_told, LaysExactly}
+use Rattle.tab_store.specs.Tables.{table_at}
+use Rattle.tab_store.proofs.Changed.{count_read, tablets_same, settings_same}
+use Rattle.tab_core.specs.Stepping.{Becomes, KnowsTables, IsCore, Acts, own_answer}
 
--- ---- what an act makes of a core
+-- ---- as histories read it
 -- what is read of users and rights after changes, beside these tables
 abbrev pub read_after : Base → List Change → (List ℕ → Bool) → Readings
 read_after b j tables = record { users = has_user b j; count = user_count b j; auths = held_auths b j; system = has_system_right b j; rights = has_table_right b j; tables = tables }
 
 -- a core of which all is read as the changes say
-pub becomes : (b : Base) (next : ℕ) (p : State) (ts : List BaseTable) (j : List Change) (tables : List ℕ → Bool) → next ≡ next_number b j → readings p ≡ read_after b j tables → length ts ≡ table_count b j
-    → ((t : List ℕ) → settings_in ts t ≡ settings_of b j t) → ((t : List ℕ) → records_in ts t ≡ sorted (updates_of b j t))
-    → Becomes b j (record b { next = next; policy = p; tables = ts })
-unfolding readings next_number has_user user_count held_auths has_system_right has_table_right table_count settings_of updates_of
-becomes b next p ts j tables numbered read count settings records = record {
+pub becomes : (h : Held) (next : ℕ) (p : State) (ts : List HeldTable) (j : List Change) (tables : List ℕ → Bool) → next ≡ next_number (base_of h) j → readings p ≡ read_after (base_of h) j tables → length ts ≡ table_count (base_of h) j
+    → ((q : List ℕ) → settings_of (base_of (record h { tables = ts })) [] q ≡ settings_of (base_of h) j q)
+    → Becomes (base_of h) j (base_of (record h { next = next; policy = p; tables = ts }))
+unfolding readings next_number has_user user_count held_auths has_system_right has_table_right settings_of
+becomes h next p ts j tables numbered read count settings = record {
   clock = refl;
   next = numbered;
   users = ap (λ (r : Readings). r.count) read;
-  tables = count;
+  tables = count_read (record h { next = next; policy = p; tables = ts }) ∙ count;
   known = λ n. ap (λ (r : Readings). r.users n) read;
   auths = λ n. ap (λ (r : Readings). r.auths n) read;
   system = λ n x. ap (λ (r : Readings). r.system n x) read;
   rights = λ n x t. ap (λ (r : Readings). r.rights n x t) read;
   settings = settings;
-  records = records;
 }
 
--- of a core's records each is in its place
-pub in_order : (b : Base) → IsCore b → (t : List ℕ) → records_in b.tables t ≡ sorted (records_in b.tables t)
-unfolding updates_of
-in_order b core t = sym (sorted_rising (records_in b.tables t) (core.rising t))
+-- tables with the same settings
+abbrev pub SetAlike : Held → List HeldTable → Type 0
+SetAlike h ts = (q : List ℕ) → settings_of (base_of (record h { tables = ts })) [] q ≡ settings_of (base_of h) [] q
 
--- tables of which all is read as it was
-pub becomes_alike : (b : Base) (ts : List BaseTable) → IsCore b → length ts ≡ length b.tables → ((t : List ℕ) → settings_in ts t ≡ settings_in b.tables t) → ((t : List ℕ) → records_in ts t ≡ records_in b.tables t) → Becomes b [] (record b { tables = ts })
-unfolding readings next_number has_user user_count held_auths has_system_right has_table_right table_count settings_of updates_of
-becomes_alike b ts core count settings records = becomes b b.next b.policy ts [] (table_exists b.policy) refl refl count settings (λ t. records t ∙ in_order b core t)
+pub becomes_alike : (h : Held) (ts : List HeldTable) → length ts ≡ length h.tables → SetAlike h ts → Becomes (base_of h) [] (base_of (record h { tables = ts }))
+unfolding readings next_number has_user user_count held_auths has_system_right has_table_right
+becomes_alike h ts count settings = becomes h h.next h.policy ts [] (table_exists h.policy) refl refl (count ∙ sym (count_read h)) settings
 
--- a core that an act leaves as it was
-pub becomes_same : (b : Base) → IsCore b → Becomes b [] b
-becomes_same b core = becomes_alike b b.tables core refl (λ t. refl) (λ t. refl)
+-- the policy still knows the tables
+pub knows_alike : (h : Held) (ts : List HeldTable) → IsCore h → SetAlike h ts → KnowsTables (record h { tables = ts })
+knows_alike h ts core settings q = core.knows q ∙ sym (ap is_some (settings q))
+
+-- ---- exactly
+-- an act that passes its checks and is told Done
+pub done_exactly : (h new : Held) (now : ℤ) (act : Act) (answer : Told) (work : TableWork) → work_of act ≡ work → Done ≡ answer → Done ≡ told_by h now work Done → ((q : List ℕ) → tablets_in new q ≡ laid_by h now work Done q) → RiseByName new.tables
+    → LaysExactly h now act answer Done new
+done_exactly h new now act answer work is passes told same names = record {
+  answers = inl (told ∙ ap (λ w. told_by h now w Done) (sym is) ∙ ap (told_exactly h now act) passes);
+  tablets = λ q. same q ∙ ap (λ w. laid_by h now w Done q) (sym is) ∙ ap (λ a. laid_told Done h now act a q) passes;
+  names = names;
+}
 
 -- ---- a refusal
--- what is told of it
+-- tables that are read as those of the core
+pub record AreAlike (h : Held) (ts : List HeldTable) : Type 0 where
+  pub names : RiseByName ts
+  pub count : length ts ≡ length h.tables
+  pub same : (q : List ℕ) → table_at ts q ≡ table_at h.tables q
+
+-- what is told of a refusal
 abbrev pub refusing : Refusal → Told
 refusing refusal = Refused refusal
 
-pub refused : (answer : Told) (b : Base) (now : ℤ) (user : List ℕ) (act : Act) (refusal : Refusal) → IsCore b → (Refused refusal ≡ answer) ⊎ ((takes_memory act ≡ true) × (refusal ≡ NoMemory)) → Acts answer b now user act (Refused refusal) b
-refused answer b now user act refusal core is = record { answers = go is; becomes = becomes_same b core; hands = tt }
+-- whatever refuses an event, the tablets stay
+laid_refused : (h : Held) (now : ℤ) (act : Act) (r k : Refusal) (q : List ℕ) → laid_told (Refused r) h now act (Refused k) q ≡ tablets_in h q
+laid_refused h now act NoMemory k q = refl
+laid_refused h now act _ k q = refl
+
+refused_exactly : (answer : Told) (h : Held) (ts : List HeldTable) (now : ℤ) (act : Act) (r : Refusal) → AreAlike h ts → (Refused r ≡ answer) ⊎ ((takes_memory act ≡ true) × (r ≡ NoMemory)) → LaysExactly h now act answer (Refused r) (record h { tables = ts })
+refused_exactly answer h ts now act r alike is = record { answers = told_so is; tablets = λ q. tablets_same h (record h { tables = ts }) alike.same q ∙ laid_so is q; names = alike.names }
   where
-    go : (Refused refusal ≡ answer) ⊎ ((takes_memory act ≡ true) × (refusal ≡ NoMemory)) → (Refused refusal ≡ answer) ⊎ ((takes_memory act ≡ true) × (refusing refusal ≡ refusing NoMemory))
-    go (inl e) = inl e
-    go (inr (takes, e)) = inr (takes, ap refusing e)
+    told_so : (Refused r ≡ answer) ⊎ ((takes_memory act ≡ true) × (r ≡ NoMemory)) → (refusing r ≡ told_exactly h now act answer) ⊎ ((takes_memory act ≡ true) × (refusing r ≡ refusing NoMemory))
+    told_so (inl e) = inl (ap (told_exactly h now act) e)
+    told_so (inr x) = inr (x.0, ap refusing x.1)
+
+    laid_so : (Refused r ≡ answer) ⊎ ((takes_memory act ≡ true) × (r ≡ NoMemory)) → (q : List ℕ) → tablets_in h q ≡ laid_told (Refused r) h now act answer q
+    laid_so (inl e) q = sym (laid_refused h now act r r q) ∙ ap (λ a. laid_told (Refused r) h now act a q) e
+    laid_so (inr x) q = ap (λ k. laid_told (Refused k) h now act answer q) (sym x.1)
+
+pub refused_alike : (answer : Told) (h : Held) (ts : List HeldTable) (now : ℤ) (user : List ℕ) (act : Act) (r : Refusal) → IsCore h → AreAlike h ts → (Refused r ≡ answer) ⊎ ((takes_memory act ≡ true) × (r ≡ NoMemory)) → Acts answer h now user act (Refused r) (record h { tables = ts })
+refused_alike answer h ts now user act r core alike is =
+    let settings : SetAlike h ts = settings_same h (record h { tables = ts }) alike.same in
+    record { exact = refused_exactly answer h ts now act r alike is; becomes = becomes_alike h ts alike.count settings; hands = tt; knows = knows_alike h ts core settings }
+
+pub refused : (answer : Told) (h : Held) (now : ℤ) (user : List ℕ) (act : Act) (r : Refusal) → IsCore h → (Refused r ≡ answer) ⊎ ((takes_memory act ≡ true) × (r ≡ NoMemory)) → Acts answer h now user act (Refused r) h
+refused answer h now user act r core is = refused_alike answer h h.tables now user act r core (record { names = core.store.names; count = refl; same = λ q. refl }) is
 
 -- memory lacked
-pub lacked : (answer : Told) (b : Base) (now : ℤ) (user : List ℕ) (act : Act) → takes_memory act ≡ true → IsCore b → Acts answer b now user act (Refused NoMemory) b
-lacked answer b now user act takes core = refused answer b now user act NoMemory core (inr (takes, refl))
+pub lacked : (answer : Told) (h : Held) (now : ℤ) (user : List ℕ) (act : Act) → takes_memory act ≡ true → IsCore h → Acts answer h now user act (Refused NoMemory) h
+lacked answer h now user act takes core = refused answer h now user act NoMemory core (inr (takes, refl))
 
--- memory lacked, and all that is read of the tables is as it was
-pub lacked_alike : (answer : Told) (b : Base) (ts : List BaseTable) (now : ℤ) (user : List ℕ) (act : Act) → takes_memory act ≡ true → IsCore b → length ts ≡ length b.tables → ((t : List ℕ) → settings_in ts t ≡ settings_in b.tables t)
-    → ((t : List ℕ) → records_in ts t ≡ records_in b.tables t) → Acts answer b now user act (Refused NoMemory) (record b { tables = ts })
-lacked_alike answer b ts now user act takes core count settings records = record { answers = inr (takes, refl); becomes = becomes_alike b ts core count settings records; hands = tt }
+-- memory lacked, and the tables are read as they were
+pub lacked_alike : (answer : Told) (h : Held) (ts : List HeldTable) (now : ℤ) (user : List ℕ) (act : Act) → takes_memory act ≡ true → IsCore h → AreAlike h ts → Acts answer h now user act (Refused NoMemory) (record h { tables = ts })
+lacked_alike answer h ts now user act takes core alike = refused_alike answer h ts now user act NoMemory core alike (inr (takes, refl))
 
 -- an event that the first failing check of its own refuses
-pub own_refused : (b : Base) (now : ℤ) (user : List ℕ) (act : Act) (r : Refusal) → IsCore b → first_some (own_checks (standing b [] user) (exists_in b [] (user_named act)) now act) ≡ Some r → Acts (own_answer b now user act) b now user act (Refused r) b
-own_refused b now user act r core e = refused (own_answer b now user act) b now user act r core (inl (sym (ap (λ o. told o (numbered (are_used_up b [] act) (granted (standing b [] user) act))) e)))
-
--- ---- what the policy decides
-standing_same : (b : Base) → IsCore b → (user : List ℕ) → standing_of b.policy user ≡ (standing b [] user).policy
-unfolding standing has_user has_system_right has_table_right
-standing_same b core user = λ i. record {
-  known = user_exists b.policy user;
-  system = λ p. bytes_eq user root || system_granted b.policy user p;
-  table = λ p t. table_granted b.policy user p t;
-  exists = λ t. core.tables t i;
-}
-
-decided : (b : Base) → IsCore b → (user : List ℕ) (act : Act) → denial user (decision (standing_of b.policy user) (action_of act)) ≡ denial user (decision (standing b [] user).policy (action_of act))
-decided b core user act = ap (λ s. denial user (decision s (action_of act))) (standing_same b core user)
-
-answer_is : (b : Base) (now : ℤ) (user : List ℕ) (act : Act) (d : Option Refusal) → denial user (decision (standing b [] user).policy (action_of act)) ≡ d
-    → event_answer b [] now user act ≡ told (or_else d (first_some (own_checks (standing b [] user) (exists_in b [] (user_named act)) now act))) (numbered (are_used_up b [] act) (granted (standing b [] user) act))
-unfolding refusal_of
-answer_is b now user act d e = ap (λ o. told (or_else o (first_some (own_checks (standing b [] user) (exists_in b [] (user_named act)) now act))) (numbered (are_used_up b [] act) (granted (standing b [] user) act))) e
-
-pub denied : (b : Base) (now : ℤ) (user : List ℕ) (act : Act) (r : Refusal) → IsCore b → denial user (decision (standing_of b.policy user) (action_of act)) ≡ Some r → Acts (event_answer b [] now user act) b now user act (Refused r) b
-denied b now user act r core e = refused (event_answer b [] now user act) b now user act r core (inl (sym (answer_is b now user act (Some r) (sym (decided b core user act) ∙ e))))
-
-pub admitted : (old new : Base) (now : ℤ) (user : List ℕ) (act : Act) (reply : Reply SessionState) → IsCore old → denial user (decision (standing_of old.policy user) (action_of act)) ≡ None
-    → Acts (own_answer old now user act) old now user act reply new → Acts (event_answer old [] now user act) old now user act reply new
-admitted old new now user act reply core e acts = record {
-  answers = subst (λ a. (told_of reply ≡ a) ⊎ ((takes_memory act ≡ true) × (told_of reply ≡ Refused NoMemory))) (sym (answer_is old now user act None (sym (decided old core user act) ∙ e))) acts.answers;
-  becomes = acts.becomes;
-  hands = acts.hands;
-}
-
--- the same of an act that is told by another name, at a clock that is told so
-pub admitted_as : (old new : Base) (now t : ℤ) (user : List ℕ) (act named : Act) (reply : Reply SessionState) → IsCore old → act ≡ named → t ≡ now → denial user (decision (standing_of old.policy user) (action_of act)) ≡ None
-    → Acts (own_answer old t user named) old t user named reply new → Acts (event_answer old [] now user act) old now user act reply new
-admitted_as old new now t user act named reply core is trip e acts = admitted old new now user act reply core e
-    (subst (λ (x : Act). Acts (own_answer old now user x) old now user x reply new) (sym is) (subst (λ (c : ℤ). Acts (own_answer old c user named) old c user named reply new) trip acts))
-
--- who is admitted is known, and the table that he names is there
-none_denied : (user : List ℕ) (d : Option Denial) → denial user d ≡ None → d ≡ None
-none_denied user None e = refl
-none_denied user (Some policy.UnknownUser) e = absurd (cc)
-none_denied user (Some (policy.NoTable t)) e = absurd (cc)
-none_denied user (Some (policy.PermissionDenied p)) e = absurd (cc)
-
-judged_there : (s : Standing) (o : Option (List ℕ)) (m : Option Permission) → judged (table_missing s o) m ≡ None → IfSome o (λ t. s.exists t ≡ true)
-judged_there s None m e = tt
-judged_there s (Some t) m e = go (s.exists t) refl e
-  where
-    go : (v : Bool) → s.exists t ≡ v → judged (cond v None (Some t)) m ≡ None → s.exists t ≡ true
-    go true is e = is
-    go false is e = absurd (cc)
-
-admitted_parts : (s : Standing) (a : Action) → decision s a ≡ None → (s.known ≡ true) × IfSome (table_named a) (λ t. s.exists t ≡ true)
-admitted_parts s a e = go s.known refl e
-  where
-    go : (v : Bool) → s.known ≡ v → cond v (judged (table_missing s (table_named a)) (permission_missing s (needs a))) (Some policy.UnknownUser) ≡ None → (s.known ≡ true) × IfSome (table_named a) (λ t. s.exists t ≡ true)
-    go true is e = (is, judged_there s (table_named a) (permission_missing s (needs a)) e)
-    go false is e = absurd (cc)
-
-pub is_admitted : (b : Base) (user : List ℕ) (act : Act) → IsCore b → denial user (decision (standing_of b.policy user) (action_of act)) ≡ None → IsAdmitted b user act
-unfolding standing
-is_admitted b user act core e = admitted_parts (standing b [] user).policy (action_of act) (none_denied user (decision (standing b [] user).policy (action_of act)) (sym (decided b core user act) ∙ e))
-
--- the table that an admitted drop names is there
-pub table_dropped_is : (b : Base) (user t : List ℕ) → IsAdmitted b user (DropTable t) → is_some (settings_in b.tables t) ≡ true
-unfolding settings_of
-table_dropped_is b user t h = h.1
-
--- the table that an admitted write names is there
-pub has_table : (b : Base) (user t : List ℕ) (m : Mutation) → IsAdmitted b user (Write t m) → is_some (settings_in b.tables t) ≡ true
-unfolding settings_of
-has_table b user t m h = h.1
-
--- ---- a new core
-pub new_is_core : (b : Base) → b.tables ≡ [] → ((t : List ℕ) → table_exists b.policy t ≡ false) → IsCore b
-unfolding updates_of settings_of IsStrictlySortedBy
-new_is_core b none unknown = record {
-  rising = λ t. subst (λ (ts : List BaseTable). IsStrictlySortedBy record_cmp (base_records (find (λ (u : BaseTable). bytes_eq u.name t) ts))) (sym none) tt;
-  numbered = λ t u h. absurd (in_from [] u (subst (λ (ts : List BaseTable). Contains (base_records (find (λ (u : BaseTable). bytes_eq u.name t) ts)) u) none h));
-  tables = λ t. unknown t ∙ sym (ap (λ (ts : List BaseTable). is_some (base_settings (find (λ (u : BaseTable). bytes_eq u.name t) ts))) none);
-}
-
--- ---- the step
-pub core_at : (b : Base) (clock : ℤ) → IsCore b → IsCore (record b { clock = clock })
-unfolding updates_of settings_of
-core_at b clock core = record { rising = core.rising; numbered = core.numbered; tables = core.tables }
-
-pub stepped : (old new : Base) (e : Event) (reply : Reply SessionState) (now clock : ℤ) → IsCore old → IsCore new → now ≡ int_max old.clock e.moment → clock ≡ now
-    → Acts (event_answer old [] now e.user e.act) old now e.user e.act reply new → moves_clock (told_of reply) ≡ true → Steps old e reply (record new { clock = clock })
-stepped old new e reply now clock core left is same acts moves =
-    let h : Acts (event_answer old [] (int_max old.clock e.moment) e.user e.act) old (int_max old.clock e.moment) e.user e.act reply new = subst (λ t. Acts (event_answer old [] t e.user e.act) old t e.user e.act reply new) is acts in
-    subst (λ (c : ℤ). Steps old e reply (record new { clock = c })) (ap (λ v. cond v (int_max old.clock e.moment) old.clock) moves ∙ sym is ∙ sym same) (steps old new e reply core left h)
-
-pub stayed : (old new : Base) (e : Event) (reply : Reply SessionState) (now : ℤ) → IsCore old → IsCore new → now ≡ int_max old.clock e.moment
-    → Acts (event_answer old [] now e.user e.act) old now e.user e.act reply new → moves_clock (told_of reply) ≡ false → Steps old e reply new
-stayed old new e reply now core left is acts moves =
-    let h : Acts (event_answer old [] (int_max old.clock e.moment) e.user e.act) old (int_max old.clock e.moment) e.user e.act reply new = subst (λ t. Acts (event_answer old [] t e.user e.act) old t e.user e.act reply new) is acts in
-    subst (λ (c : ℤ). Steps old e reply (record new { clock = c })) (ap (λ v. cond v (int_max old.clock e.moment) old.clock) moves ∙ sym acts.becomes.clock) (steps old new e reply core left h)
+pub own_refused : (h : Held) (now : ℤ) (user : List ℕ) (act : Act) (r : Refusal) → IsCore h → first_some (own_checks (standing (base_of h) [] user) (exists_in (base_of h) [] (user_named act)) now act) ≡ Some r
+    → Acts (own_answer (base_of h) now user act) h now user act (Refused r) h
+own_refused h now user act r core e = refused (own_answer (base_of h) now user act) h now user act r core (inl (sym (ap (λ o. told o (numbered (are_used_up (base_of h) [] act) (granted (standing (base_of h) [] user) act))) e)))

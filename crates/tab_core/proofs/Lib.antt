@@ -1,6 +1,6 @@
 pub mod Acting
-pub mod Cores
-pub mod Found
+pub mod Admitting
+pub mod Compacting
 pub mod Limits
 pub mod Opening
 pub mod OwnerLemmas

@@ -1,6 +1,7 @@
 -- Sessions that are opened, and what a caller is told of his rights.
-use Rattle.std.proofs.Common.{◌≡◌, ◌⊎◌, inl, inr, ℕ, List, [], true, refl, sym, ◌∙◌, ap, subst, Some, None, Result, Ok, Err}
-use Rattle.std.specs.Prelude.{ℤ, IfOk, OnErr}
+use Rattle.std.proofs.Common.{◌≡◌, ◌⊎◌, inl, inr, ℕ, List, [], true, refl, sym, ◌∙◌, ap, subst, length, map, Option, Some, None, Result, Ok, Err}
+use Rattle.std.specs.Prelude.{ℤ, IfOk, OnOk, OnErr}
+use Rattle.tab_key.specs.Sorted.{sorted}
 use Rattle.tab_mutation.specs.Shape.{first_some}
 use Rattle.tab_policy.specs.declared.permission.SystemPermission.{SystemPermission}
 use Rattle.tab_policy.specs.declared.permission.TablePermission.{TablePermission}
@@ -8,7 +9,9 @@ use Rattle.tab_policy.specs.declared.sets.SystemPermissions.{SystemPermissions}
 use Rattle.tab_policy.specs.declared.sets.TablePermissions.{TablePermissions}
 use Rattle.tab_policy.specs.Sets.{system_contains, table_contains}
 use Rattle.tab_policy.specs.State.{auths_of, has_system, table_granted}
-use Rattle.tab_history.specs.declared.event.Act.{Act}
+use Rattle.tab_cells.specs.Cells.{Query, cells}
+use Rattle.tab_cells.specs.SessionState.{SessionState}
+use Rattle.tab_tablet.specs.Tablets.{frozen}
 use Rattle.tab_history.specs.declared.event.Act.TheVariants as act
 use Rattle.tab_history.specs.declared.event.Scan.{Scan}
 use Rattle.tab_history.specs.declared.reply.Refusal.{Refusal}
@@ -16,75 +19,107 @@ use Rattle.tab_history.specs.declared.reply.Refusal.TheVariants.{NoMemory}
 use Rattle.tab_history.specs.declared.reply.Reply.{Reply}
 use Rattle.tab_history.specs.declared.reply.Reply.TheVariants.{Refused, Opened, Rights as TellsRights}
 use Rattle.tab_history.specs.declared.rights.Rights.{Rights}
-use Rattle.tab_history.specs.Bases.{Base, BaseTable}
-use Rattle.tab_history.specs.Readings.{held_auths, has_system_right, has_table_right, settings_of, updates_of}
-use Rattle.tab_cells.specs.Cells.{Query, cells}
+use Rattle.tab_history.specs.Readings.{held_auths, has_system_right, has_table_right, settings_of}
 use Rattle.tab_history.specs.Checks.{standing, scan_checks}
 use Rattle.tab_history.specs.Answers.{told, told_opened, session_list, listed, query_of}
-use Rattle.tab_cells.specs.SessionState.{SessionState}
 use Rattle.tab_history.proofs.RightsTold.{rights_are_told}
-use Rattle.tab_core.specs.Tables.{settings_in, records_in}
+use Rattle.tab_store.specs.Stores.{HeldTable, Held, RiseByName, base_of, records_of_all}
+use Rattle.tab_store.specs.Stepping.{lays, told_exactly, laid_told}
+use Rattle.tab_store.specs.Tables.{TableState, with_tablets, table_at, changed_table, settings_at, tablets_of}
+use Rattle.tab_store.proofs.Changed.{records_read, settings_read, settings_kept, table_frozen}
+use Rattle.tab_core.specs.Holding.{versions_shown}
 use Rattle.tab_core.specs.Stepping.{Acts, ActsOnTables, own_answer, IsCore}
-use Rattle.tab_core.proofs.Acting.{becomes_same, refused, lacked}
+use Rattle.tab_core.proofs.Acting.{becomes_alike, knows_alike, refused, lacked}
 
 -- no records show no cells
-pub cells_of_none : (n : ℕ) (q : Query) → cells [] n q ≡ []
+cells_of_none : (n : ℕ) (q : Query) → cells [] n q ≡ []
 unfolding cells
 cells_of_none n q = refl
 
--- an act that leaves the tables as they were
-pub leaves_tables : (auths : List (List ℕ)) (now : ℤ) (a : Act) (ts new : List BaseTable) (next : ℕ) (reply : Reply SessionState) → new ≡ ts
-    → ((b : Base) (user : List ℕ) → IsCore b → b.tables ≡ ts → auths_of b.policy user ≡ auths → Acts (own_answer b now user a) b now user a reply b)
-    → ActsOnTables auths now a ts next reply new next
-leaves_tables auths now a ts new next reply same f = λ b user core tables numbered held.
-    subst (λ (x : Base). Acts (own_answer b now user a) b now user a reply x × IsCore x) (λ i. record b { next = numbered i; tables = (tables ∙ sym same) i }) (f b user core tables held, core)
+-- what a scan shows of a table that may be missing
+pub cells_listed : (ts : List HeldTable) (t : List ℕ) (q : Query)
+    → cells (sorted (records_of_all (tablets_of (table_at ts t)))) (versions_shown (settings_at (table_at ts t))) q ≡ listed (sorted (records_of_all (tablets_of (table_at ts t)))) q (settings_at (table_at ts t))
+cells_listed ts t q = go (table_at ts t)
+  where
+    go : (o : Option TableState) → cells (sorted (records_of_all (tablets_of o))) (versions_shown (settings_at o)) q ≡ listed (sorted (records_of_all (tablets_of o))) q (settings_at o)
+    go None = cells_of_none 0 q
+    go (Some s) = refl
 
 -- ---- a scan
-own_open : (b : Base) (now : ℤ) (user : List ℕ) (scan : Scan) (auths : List (List ℕ)) → auths_of b.policy user ≡ auths → own_answer b now user (act.Open scan) ≡ told (first_some (scan_checks auths scan)) told_opened
+own_open : (h : Held) (now : ℤ) (user : List ℕ) (scan : Scan) (auths : List (List ℕ)) → auths_of h.policy user ≡ auths → own_answer (base_of h) now user (act.Open scan) ≡ told (first_some (scan_checks auths scan)) told_opened
 unfolding standing held_auths
-own_open b now user scan auths held = λ i. told (first_some (scan_checks (held i) scan)) told_opened
+own_open h now user scan auths held = λ i. told (first_some (scan_checks (held i) scan)) told_opened
 
-pub open_refused : (b : Base) (now : ℤ) (user : List ℕ) (scan : Scan) (auths : List (List ℕ)) (r : Refusal) → IsCore b → auths_of b.policy user ≡ auths
-    → (Some r ≡ first_some (scan_checks auths scan)) ⊎ (Some r ≡ Some NoMemory) → Acts (own_answer b now user (act.Open scan)) b now user (act.Open scan) (Refused r) b
-open_refused b now user scan auths r core held h = refused (own_answer b now user (act.Open scan)) b now user (act.Open scan) r core (go h)
+open_refused : (h : Held) (now : ℤ) (user : List ℕ) (scan : Scan) (auths : List (List ℕ)) (r : Refusal) → IsCore h → auths_of h.policy user ≡ auths
+    → (Some r ≡ first_some (scan_checks auths scan)) ⊎ (Some r ≡ Some NoMemory) → Acts (own_answer (base_of h) now user (act.Open scan)) h now user (act.Open scan) (Refused r) h
+open_refused h now user scan auths r core held fails = refused (own_answer (base_of h) now user (act.Open scan)) h now user (act.Open scan) r core (go fails)
   where
-    go : (Some r ≡ first_some (scan_checks auths scan)) ⊎ (Some r ≡ Some NoMemory) → (Refused r ≡ own_answer b now user (act.Open scan)) ⊎ ((true ≡ true) × (r ≡ NoMemory))
-    go (inl e) = inl (ap (λ o. told o told_opened) e ∙ sym (own_open b now user scan auths held))
+    go : (Some r ≡ first_some (scan_checks auths scan)) ⊎ (Some r ≡ Some NoMemory) → (Refused r ≡ own_answer (base_of h) now user (act.Open scan)) ⊎ ((true ≡ true) × (r ≡ NoMemory))
+    go (inl e) = inl (ap (λ o. told o told_opened) e ∙ sym (own_open h now user scan auths held))
     go (inr e) = let is : r ≡ NoMemory = cc in inr (refl, is)
 
-pub open_done : (b : Base) (now : ℤ) (user : List ℕ) (scan : Scan) (auths : List (List ℕ)) (session : SessionState) → IsCore b → auths_of b.policy user ≡ auths
-    → (None ≡ first_some (scan_checks auths scan)) ⊎ (None ≡ Some NoMemory) → session ≡ record { all = listed (records_in b.tables scan.table) (query_of scan) (settings_in b.tables scan.table); given = 0 }
-    → Acts (own_answer b now user (act.Open scan)) b now user (act.Open scan) (Opened session) b
-unfolding session_list settings_of updates_of
-open_done b now user scan auths session core held h is = record {
-  answers = inl (go h ∙ sym (own_open b now user scan auths held));
-  becomes = becomes_same b core;
-  hands = is;
-}
+-- the session of a scan of these tables
+abbrev pub session_in : List HeldTable → Scan → SessionState
+session_in ts scan = record { all = listed (sorted (records_of_all (tablets_of (table_at ts scan.table)))) (query_of scan) (settings_at (table_at ts scan.table)); given = 0 }
+
+-- what a scan leaves of these tables
+pub record Froze (t : List ℕ) (ts new : List HeldTable) : Type 0 where
+  pub names : RiseByName new
+  pub count : length new ≡ length ts
+  pub changed : (q : List ℕ) → table_at new q ≡ changed_table t (with_tablets (map frozen)) ts q
+
+open_done : (h : Held) (ts : List HeldTable) (now : ℤ) (user : List ℕ) (scan : Scan) (auths : List (List ℕ)) (session : SessionState) → IsCore h → auths_of h.policy user ≡ auths
+    → (None ≡ first_some (scan_checks auths scan)) ⊎ (None ≡ Some NoMemory) → session ≡ session_in h.tables scan → Froze scan.table h.tables ts
+    → Acts (own_answer (base_of h) now user (act.Open scan)) h now user (act.Open scan) (Opened session) (record h { tables = ts })
+unfolding lays session_list
+open_done h ts now user scan auths session core held passes is after =
+    let new : Held = record h { tables = ts } in
+    let answer : told_opened ≡ own_answer (base_of h) now user (act.Open scan) = go passes ∙ sym (own_open h now user scan auths held) in
+    let settings : (q : List ℕ) → settings_of (base_of new) [] q ≡ settings_of (base_of h) [] q = settings_kept h new scan.table (with_tablets (map frozen)) (λ s. refl) after.changed in
+    record {
+      exact = record {
+        answers = inl (ap (told_exactly h now (act.Open scan)) answer);
+        tablets = λ q. table_frozen h new scan.table now told_opened after.changed q ∙ ap (λ a. laid_told told_opened h now (act.Open scan) a q) answer;
+        names = after.names;
+      };
+      becomes = becomes_alike h ts after.count settings;
+      hands = is ∙ sym (λ i. record { all = listed (records_read h scan.table i) (query_of scan) (settings_read h scan.table i); given = 0 });
+      knows = knows_alike h ts core settings;
+    }
   where
     go : (None ≡ first_some (scan_checks auths scan)) ⊎ (None ≡ Some NoMemory) → told_opened ≡ told (first_some (scan_checks auths scan)) told_opened
     go (inl e) = ap (λ o. told o told_opened) e
     go (inr e) = absurd (cc)
 
+-- ---- the same of whichever core has these tables
+-- an act that leaves the tables as they were
+pub leaves_tables : (auths : List (List ℕ)) (now : ℤ) (scan : Scan) (ts : List HeldTable) (next : ℕ) (r : Refusal) → (Some r ≡ first_some (scan_checks auths scan)) ⊎ (Some r ≡ Some NoMemory) → ActsOnTables auths now (act.Open scan) ts next (Refused r) ts next
+leaves_tables auths now scan ts next r fails h user core tables numbered held =
+    subst (λ (x : Held). Acts (own_answer (base_of h) now user (act.Open scan)) h now user (act.Open scan) (Refused r) x) (λ i. record h { next = numbered i; tables = tables i }) (open_refused h now user scan auths r core held fails)
+
 -- whether there was memory for it or not
-pub open_either : {E : Type 0} (b : Base) (now : ℤ) (user : List ℕ) (scan : Scan) (auths : List (List ℕ)) (made : Result SessionState E) (reply : Reply SessionState) → IsCore b → auths_of b.policy user ≡ auths
-    → (None ≡ first_some (scan_checks auths scan)) ⊎ (None ≡ Some NoMemory) → IfOk made (λ session. session ≡ record { all = listed (records_in b.tables scan.table) (query_of scan) (settings_in b.tables scan.table); given = 0 })
-    → IfOk made (λ session. reply ≡ Opened session) → OnErr made (reply ≡ Refused NoMemory)
-    → Acts (own_answer b now user (act.Open scan)) b now user (act.Open scan) reply b
-open_either b now user scan auths (Ok session) reply core held h is opened failed =
-    subst (λ r. Acts (own_answer b now user (act.Open scan)) b now user (act.Open scan) r b) (sym opened) (open_done b now user scan auths session core held h is)
-open_either b now user scan auths (Err e) reply core held h is opened failed =
-    subst (λ r. Acts (own_answer b now user (act.Open scan)) b now user (act.Open scan) r b) (sym failed) (lacked (own_answer b now user (act.Open scan)) b now user (act.Open scan) refl core)
+pub open_either : {E : Type 0} (auths : List (List ℕ)) (now : ℤ) (scan : Scan) (ts new : List HeldTable) (next : ℕ) (made : Result SessionState E) (reply : Reply SessionState) → (None ≡ first_some (scan_checks auths scan)) ⊎ (None ≡ Some NoMemory)
+    → IfOk made (λ session. session ≡ session_in ts scan) → OnOk made (Froze scan.table ts new) → OnErr made (new ≡ ts) → IfOk made (λ session. reply ≡ Opened session) → OnErr made (reply ≡ Refused NoMemory)
+    → ActsOnTables auths now (act.Open scan) ts next reply new next
+open_either auths now scan ts new next (Ok session) reply passes is after same opened failed h user core tables numbered held =
+    subst (λ r. Acts (own_answer (base_of h) now user (act.Open scan)) h now user (act.Open scan) r (record h { next = next; tables = new })) (sym opened)
+    (subst (λ (n : ℕ). Acts (own_answer (base_of h) now user (act.Open scan)) h now user (act.Open scan) (Opened session) (record h { next = n; tables = new })) numbered
+    (open_done h new now user scan auths session core held passes (is ∙ ap (λ us. session_in us scan) (sym tables)) (subst (λ (us : List HeldTable). Froze scan.table us new) (sym tables) after)))
+open_either auths now scan ts new next (Err e) reply passes is after same opened failed h user core tables numbered held =
+    subst (λ r. Acts (own_answer (base_of h) now user (act.Open scan)) h now user (act.Open scan) r (record h { next = next; tables = new })) (sym failed)
+    (subst (λ (x : Held). Acts (own_answer (base_of h) now user (act.Open scan)) h now user (act.Open scan) (Refused NoMemory) x) (λ i. record h { next = numbered i; tables = (tables ∙ sym same) i })
+    (lacked (own_answer (base_of h) now user (act.Open scan)) h now user (act.Open scan) refl core))
 
 -- ---- rights told
-pub rights_told : (b : Base) (now : ℤ) (user t : List ℕ) (system : SystemPermissions) (table : TablePermissions) (auths : List (List ℕ)) → IsCore b
-    → ((p : SystemPermission) → system_contains system p ≡ has_system b.policy user p) → ((p : TablePermission) → table_contains table p ≡ table_granted b.policy user p t) → auths ≡ auths_of b.policy user
-    → Acts (own_answer b now user (act.Rights t)) b now user (act.Rights t) (TellsRights (record { system = system; table = table; authorizations = auths })) b
+pub rights_told : (h : Held) (now : ℤ) (user t : List ℕ) (system : SystemPermissions) (table : TablePermissions) (auths : List (List ℕ)) → IsCore h
+    → ((p : SystemPermission) → system_contains system p ≡ has_system h.policy user p) → ((p : TablePermission) → table_contains table p ≡ table_granted h.policy user p t) → auths ≡ auths_of h.policy user
+    → Acts (own_answer (base_of h) now user (act.Rights t)) h now user (act.Rights t) (TellsRights (record { system = system; table = table; authorizations = auths })) h
 unfolding held_auths has_system_right has_table_right
-rights_told b now user t system table auths core may on_table held =
+rights_told h now user t system table auths core may on_table held =
     let rights : Rights = record { system = system; table = table; authorizations = auths } in
     record {
-      answers = inl (ap TellsRights ((rights_are_told b [] user t rights).0 (record { system = may; table = on_table; authorizations = held })));
-      becomes = becomes_same b core;
+      exact = record { answers = inl (ap TellsRights ((rights_are_told (base_of h) [] user t rights).0 (record { system = may; table = on_table; authorizations = held }))); tablets = λ q. refl; names = core.store.names };
+      becomes = becomes_alike h h.tables refl (λ q. refl);
       hands = tt;
+      knows = core.knows;
     }

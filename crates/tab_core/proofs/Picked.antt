@@ -11,6 +11,7 @@ use Rattle.tab_history.specs.Legal.{Legal}
 use Rattle.tab_history.specs.declared.event.Step.{Step}
 use Rattle.tab_noninterference.specs.Hearing.{Heard, is_covered, list_opened, heard}
 use Rattle.tab_noninterference.proofs.EqualViews.{two_worlds}
+use Rattle.tab_store.specs.Chains.{IsExactRun}
 use Rattle.tab_core.specs.Slots.{entries_of, history_of}
 use Rattle.tab_core.specs.Comparing.{those_of, replies_to, covered_replies, IsToldIn, IsTold, LookAlike, TellAlike, Compares}
 
@@ -137,6 +138,6 @@ told_compares user first second a b (h, p) (k, q) = (h, k, p, q, alike)
           covered_same = covered_in user first a h p ∙ ap (λ (l : List Heard). reverse (map (λ x. x.reply) l)) same ∙ sym (covered_in user second b k q);
         }
 
--- the replies to the user in a legal history are what he is told
-pub told_by : (user : List ℕ) (steps : List Step) (replies told : List Told) → length replies ≡ length steps → Legal (world_of new_core) (history_of steps replies) → told ≡ those_of (is_by user) steps replies → IsTold user steps told
-told_by user steps replies told same legal is = (history_of steps replies, record { steps_are = its_steps steps replies same; legal = legal; replies = its_replies user steps replies ∙ sym is })
+-- the replies to the user in a legal history of exact steps are what he is told
+pub told_by : (user : List ℕ) (steps : List Step) (replies told : List Told) → length replies ≡ length steps → Legal (world_of new_core) (history_of steps replies) → IsExactRun (history_of steps replies) → told ≡ those_of (is_by user) steps replies → IsTold user steps told
+told_by user steps replies told same legal exact is = (history_of steps replies, record { steps_are = its_steps steps replies same; legal = legal; exact = exact; replies = its_replies user steps replies ∙ sym is })

@@ -13,9 +13,9 @@ use Rattle.tab_history.specs.declared.event.Step.TheVariants.{Event as IsEvent, 
 use Rattle.tab_history.specs.declared.reply.Refusal.{Refusal}
 use Rattle.tab_history.specs.declared.reply.Refusal.TheVariants.{NoMemory, TooLarge, NoSession}
 use Rattle.tab_history.specs.declared.reply.Reply.{Reply}
-use Rattle.tab_history.specs.declared.reply.Reply.TheVariants.{Done, Refused, Opened, Batch, Rights}
+use Rattle.tab_history.specs.declared.reply.Reply.TheVariants.{Done, Refused, Opened, Batch, Rights, Counted}
 use Rattle.tab_history.specs.Bases.{Base}
-use Rattle.tab_history.specs.Answers.{Told, told_of, session_of, answer, event_answer, next_answer, close_answer, is_open, moves_by, session_list}
+use Rattle.tab_history.specs.Answers.{Told, told_of, session_of, answer, event_answer, IsEventReply, next_answer, close_answer, is_open, moves_by, session_list}
 use Rattle.tab_cells.specs.SessionState.{SessionState}
 use Rattle.tab_history.specs.Sessions.{Move, Opening, Taking, Closing, is_full}
 use Rattle.tab_history.specs.Histories.{Entry, World, world_of, world_after, clock_of, clock_at, journal, user_of, moves_of}
@@ -23,9 +23,11 @@ use Rattle.tab_history.specs.Legal.{IsAnswer, LacksMemory, takes_memory}
 use Rattle.tab_history.specs.Refinement.{Refines}
 use Rattle.tab_history.specs.Runs.{IsNoEvent}
 use Rattle.tab_history.proofs.Playing.{unmoved}
+use Rattle.tab_store.specs.Stores.{Held, base_of}
+use Rattle.tab_store.specs.Stepping.{LaysExactly, now_at, plain_answer, StepsExactly}
 use Rattle.tab_core.specs.Stepping.{Steps, HandsOut}
 use Rattle.tab_core.specs.Slots.{slot_at, are_full, NextFrom, CloseFrom, SlotsAre, entries_of, history_of}
-use Rattle.tab_core.specs.Owners.{slots_of, LeavesOthers, OwnersRefine, RunsOn, kept_with, OpensIn}
+use Rattle.tab_core.specs.Owners.{slots_of, LeavesOthers, OwnersRefine, Lengthens, RunsOn, kept_with, OpensIn}
 use Rattle.tab_core.specs.declared.running.Owner.{Owner}
 use Rattle.tab_core.proofs.SlotLemmas.{slots_none, slots_opened, slots_taken, slots_closed, full_alike}
 
@@ -49,6 +51,7 @@ next_slots w j b h user slot n (Batch cells) ss ss' from are = subst (λ (l : Li
 next_slots w j b h user slot n Done ss ss' from are = subst (λ (l : List (Option SessionState)). SlotsAre j l) (sym from.after) are
 next_slots w j b h user slot n (Refused r) ss ss' from are = subst (λ (l : List (Option SessionState)). SlotsAre j l) (sym from.after) are
 next_slots w j b h user slot n (Rights r) ss ss' from are = subst (λ (l : List (Option SessionState)). SlotsAre j l) (sym from.after) are
+next_slots w j b h user slot n (Counted counts) ss ss' from are = subst (λ (l : List (Option SessionState)). SlotsAre j l) (sym from.after) are
 next_slots w j b h user slot n (Opened s) ss ss' from are = subst (λ (l : List (Option SessionState)). SlotsAre j l) (sym from.after) are
 
 next_answers : (w : World) (h : List Entry) (user : List ℕ) (slot n : ℕ) (reply : Told) (ss ss' : List (Option SessionState)) → NextFrom ss slot n reply ss' → SlotsAre (moves_of w user h) ss → IsAnswer w h h (Next user slot n) reply ⊎ LacksMemory (Next user slot n) reply
@@ -59,12 +62,15 @@ next_answers w h user slot n reply ss ss' from are = go from.answers
     go (inl is) = inl (is ∙ ap (λ (s : Option SessionState). next_answer s slot n) (sym (are.sessions slot)))
     go (inr is) = inr (refl, is)
 
-pub runs_next : (core : Base) (os os' : List Owner) (user : List ℕ) (slot n : ℕ) (reply : Told) → NextFrom (slots_of os user) slot n reply (slots_of os' user) → LeavesOthers user os os' → RunsOn core os (Next user slot n) reply core os'
-runs_next core os os' user slot n reply from others w h refines stand legal = (
+next_longer : (core : Base) (os os' : List Owner) (user : List ℕ) (slot n : ℕ) (reply : Told) → NextFrom (slots_of os user) slot n reply (slots_of os' user) → LeavesOthers user os os' → Lengthens core os (Next user slot n) reply core os'
+next_longer core os os' user slot n reply from others w h refines stand legal = (
   still w h core (Next user slot n) reply tt refines,
   own_more w h (Next user slot n) reply os os' (next_slots w (moves_of w user h) w.base h user slot n reply (slots_of os user) (slots_of os' user) from (stand user)) others stand,
   (legal, next_answers w h user slot n reply (slots_of os user) (slots_of os' user) from (stand user)),
 )
+
+pub runs_next : (core : Held) (os os' : List Owner) (user : List ℕ) (slot n : ℕ) (reply : Told) → NextFrom (slots_of os user) slot n reply (slots_of os' user) → LeavesOthers user os os' → RunsOn core os (Next user slot n) reply core os'
+runs_next core os os' user slot n reply from others = record { histories = next_longer (base_of core) os os' user slot n reply from others; exact = inr (tt, refl) }
 
 -- ---- a Close
 close_slots : (w : World) (j : List Move) (b : Base) (h : List Entry) (user : List ℕ) (slot : ℕ) (reply : Told) (ss ss' : List (Option SessionState)) → CloseFrom ss slot reply ss' → SlotsAre j ss → SlotsAre (moves_by b (journal w h) (Close user slot) reply ++ j) ss'
@@ -76,18 +82,22 @@ close_slots w j b h user slot Done ss ss' from are = go (slot_at ss slot) refl
 close_slots w j b h user slot (Batch cells) ss ss' from are = subst (λ (l : List (Option SessionState)). SlotsAre j l) (sym from.after) are
 close_slots w j b h user slot (Refused r) ss ss' from are = subst (λ (l : List (Option SessionState)). SlotsAre j l) (sym from.after) are
 close_slots w j b h user slot (Rights r) ss ss' from are = subst (λ (l : List (Option SessionState)). SlotsAre j l) (sym from.after) are
+close_slots w j b h user slot (Counted counts) ss ss' from are = subst (λ (l : List (Option SessionState)). SlotsAre j l) (sym from.after) are
 close_slots w j b h user slot (Opened s) ss ss' from are = subst (λ (l : List (Option SessionState)). SlotsAre j l) (sym from.after) are
 
 close_answers : (w : World) (h : List Entry) (user : List ℕ) (slot : ℕ) (reply : Told) (ss ss' : List (Option SessionState)) → CloseFrom ss slot reply ss' → SlotsAre (moves_of w user h) ss → IsAnswer w h h (Close user slot) reply ⊎ LacksMemory (Close user slot) reply
 unfolding answer
 close_answers w h user slot reply ss ss' from are = inl (from.answers ∙ ap (λ (s : Option SessionState). close_answer s slot) (sym (are.sessions slot)))
 
-pub runs_close : (core : Base) (os os' : List Owner) (user : List ℕ) (slot : ℕ) (reply : Told) → CloseFrom (slots_of os user) slot reply (slots_of os' user) → LeavesOthers user os os' → RunsOn core os (Close user slot) reply core os'
-runs_close core os os' user slot reply from others w h refines stand legal = (
+close_longer : (core : Base) (os os' : List Owner) (user : List ℕ) (slot : ℕ) (reply : Told) → CloseFrom (slots_of os user) slot reply (slots_of os' user) → LeavesOthers user os os' → Lengthens core os (Close user slot) reply core os'
+close_longer core os os' user slot reply from others w h refines stand legal = (
   still w h core (Close user slot) reply tt refines,
   own_more w h (Close user slot) reply os os' (close_slots w (moves_of w user h) w.base h user slot reply (slots_of os user) (slots_of os' user) from (stand user)) others stand,
   (legal, close_answers w h user slot reply (slots_of os user) (slots_of os' user) from (stand user)),
 )
+
+pub runs_close : (core : Held) (os os' : List Owner) (user : List ℕ) (slot : ℕ) (reply : Told) → CloseFrom (slots_of os user) slot reply (slots_of os' user) → LeavesOthers user os os' → RunsOn core os (Close user slot) reply core os'
+runs_close core os os' user slot reply from others = record { histories = close_longer (base_of core) os os' user slot reply from others; exact = inr (tt, refl) }
 
 -- ---- an event
 -- an Open takes memory
@@ -95,12 +105,19 @@ pub open_takes : (act : Act) → is_open act ≡ true → takes_memory act ≡ t
 open_takes (Open scan) e = refl
 open_takes _ e = absurd (cc)
 
-pub runs_nowhere : (core : Base) (os os' : List Owner) (event : Event) → takes_memory event.act ≡ true → ((u : List ℕ) → slots_of os' u ≡ slots_of os u) → RunsOn core os (IsEvent event) (Refused NoMemory) core os'
-runs_nowhere core os os' event takes same w h refines stand legal = (
+nowhere_longer : (core : Base) (os os' : List Owner) (event : Event) → takes_memory event.act ≡ true → ((u : List ℕ) → slots_of os' u ≡ slots_of os u) → Lengthens core os (IsEvent event) (Refused NoMemory) core os'
+nowhere_longer core os os' event takes same w h refines stand legal = (
   still w h core (IsEvent event) (Refused NoMemory) tt refines,
   own_more w h (IsEvent event) (Refused NoMemory) os os' (subst (λ (l : List (Option SessionState)). SlotsAre (moves_of w event.user h) l) (sym (same event.user)) (stand event.user)) (λ u away. same u) stand,
   (legal, inr (takes, refl)),
 )
+
+pub runs_nowhere : (core : Held) (os os' : List Owner) (event : Event) → takes_memory event.act ≡ true → ((u : List ℕ) → slots_of os' u ≡ slots_of os u) → RunsOn core os (IsEvent event) (Refused NoMemory) core os'
+runs_nowhere core os os' event takes same = record { histories = nowhere_longer (base_of core) os os' event takes same; exact = inr (tt, refl) }
+
+-- what the core answered, it did exactly
+pub did_exactly : (old new : Held) (event : Event) (r : Reply SessionState) → Steps (base_of old) event r (base_of new) → LaysExactly old (now_at old event) event.act (plain_answer old event) (told_of r) new → StepsExactly old event (told_of r) new
+did_exactly old new event r steps exact = record { right = steps.right; exact = exact }
 
 -- an event that opens no session
 other_slots : (w : World) (j : List Move) (h : List Entry) (event : Event) (reply : Told) (ss : List (Option SessionState)) → is_open event.act ≡ false → SlotsAre j ss → SlotsAre (moves_by w.base (journal w h) (IsEvent event) reply ++ j) ss
@@ -108,17 +125,20 @@ other_slots w j h event (Batch cells) ss none_opens are = are
 other_slots w j h event Done ss none_opens are = are
 other_slots w j h event (Refused r) ss none_opens are = are
 other_slots w j h event (Rights r) ss none_opens are = are
+other_slots w j h event (Counted counts) ss none_opens are = are
 other_slots w j h event (Opened s) ss none_opens are = subst (λ (b : Bool). SlotsAre (cond b (Opening (session_list w.base (journal w h) event.act) ∷ []) [] ++ j) ss) (sym none_opens) are
 
-pub runs_other : (old new : Base) (os : List Owner) (event : Event) (r : Reply SessionState) (reply : Told) → is_open event.act ≡ false → Steps old event r new → reply ≡ told_of r → RunsOn old os (IsEvent event) reply new os
-runs_other old new os event r reply none_opens steps is = subst (λ (x : Told). RunsOn old os (IsEvent event) x new os) (sym is) there
-  where
-    there : RunsOn old os (IsEvent event) (told_of r) new os
-    there w h refines stand legal = (
-      steps.refines w h refines,
-      own_more w h (IsEvent event) (told_of r) os os (other_slots w (moves_of w event.user h) h event (told_of r) (slots_of os event.user) none_opens (stand event.user)) (λ u away. refl) stand,
-      (legal, steps.answers w h refines h (λ opens. absurd (cc (sym none_opens ∙ opens)))),
-    )
+other_longer : (old new : Base) (os : List Owner) (event : Event) (r : Reply SessionState) → is_open event.act ≡ false → Steps old event r new → Lengthens old os (IsEvent event) (told_of r) new os
+other_longer old new os event r none_opens steps w h refines stand legal = (
+  steps.refines w h refines,
+  own_more w h (IsEvent event) (told_of r) os os (other_slots w (moves_of w event.user h) h event (told_of r) (slots_of os event.user) none_opens (stand event.user)) (λ u away. refl) stand,
+  (legal, steps.answers w h refines h (λ opens. absurd (cc (sym none_opens ∙ opens)))),
+)
+
+pub runs_other : (old new : Held) (os : List Owner) (event : Event) (r : Reply SessionState) (reply : Told) → is_open event.act ≡ false → Steps (base_of old) event r (base_of new) → StepsExactly old event (told_of r) new → reply ≡ told_of r → RunsOn old os (IsEvent event) reply new os
+runs_other old new os event r reply none_opens steps exact is =
+    let there : RunsOn old os (IsEvent event) (told_of r) new os = record { histories = other_longer (base_of old) (base_of new) os event r none_opens steps; exact = inl exact } in
+    subst (λ (x : Told). RunsOn old os (IsEvent event) x new os) (sym is) there
 
 -- a session that is handed out is kept
 kept_slots : (w : World) (j : List Move) (h : List Entry) (event : Event) (r : Reply SessionState) (ss : List (Option SessionState)) → is_open event.act ≡ true → HandsOut r (session_list w.base (journal w h) event.act) → SlotsAre j ss
@@ -127,6 +147,7 @@ kept_slots w j h event (Batch cells) ss opens hands are = are
 kept_slots w j h event Done ss opens hands are = are
 kept_slots w j h event (Refused x) ss opens hands are = are
 kept_slots w j h event (Rights x) ss opens hands are = are
+kept_slots w j h event (Counted counts) ss opens hands are = are
 kept_slots w j h event (Opened s) ss opens hands are =
     let list : List Cell = session_list w.base (journal w h) event.act in
     let there : SlotsAre (Opening list ∷ j) (ss ++ Some s ∷ []) = subst (λ (x : SessionState). SlotsAre (Opening list ∷ j) (ss ++ Some x ∷ [])) (sym hands) (slots_opened j ss list are) in
@@ -134,11 +155,12 @@ kept_slots w j h event (Opened s) ss opens hands are =
 
 full_answer : (w : World) (h : List Entry) (event : Event) → is_open event.act ≡ true → is_full (moves_of w event.user h) ≡ true → IsAnswer w h h (IsEvent event) (Refused (TooLarge Sessions))
 unfolding answer
-full_answer w h event opens full = sym ((λ i. cond (opens i && full i) (Refused (TooLarge Sessions)) (event_answer w.base (journal w h) (clock_at (clock_of w h) (IsEvent event)) event.user event.act)))
+full_answer w h event opens full =
+    subst (λ (x : Told). IsEventReply event.act x (Refused (TooLarge Sessions))) (sym ((λ i. cond (opens i && full i) (Refused (TooLarge Sessions)) (event_answer w.base (journal w h) (clock_at (clock_of w h) (IsEvent event)) event.user event.act)))) refl
 
 -- where the slots are full, where memory lacked, and where the core answered
 open_stays : (core : Base) (os os' : List Owner) (event : Event) (x : Refusal) → is_open event.act ≡ true → IsNoEvent (IsEvent event) (Refused x) → ((u : List ℕ) → slots_of os' u ≡ slots_of os u)
-    → ((w : World) (h : List Entry) → OwnersRefine os w h → IsAnswer w h h (IsEvent event) (Refused x) ⊎ LacksMemory (IsEvent event) (Refused x)) → RunsOn core os (IsEvent event) (Refused x) core os'
+    → ((w : World) (h : List Entry) → OwnersRefine os w h → IsAnswer w h h (IsEvent event) (Refused x) ⊎ LacksMemory (IsEvent event) (Refused x)) → Lengthens core os (IsEvent event) (Refused x) core os'
 open_stays core os os' event x opens none_opens same answers w h refines stand legal = (
   still w h core (IsEvent event) (Refused x) none_opens refines,
   own_more w h (IsEvent event) (Refused x) os os' (subst (λ (l : List (Option SessionState)). SlotsAre (moves_of w event.user h) l) (sym (same event.user)) (stand event.user)) (λ u away. same u) stand,
@@ -146,7 +168,7 @@ open_stays core os os' event x opens none_opens same answers w h refines stand l
 )
 
 open_answered : (old new : Base) (os os' : List Owner) (event : Event) (r : Reply SessionState) → is_open event.act ≡ true → are_full (slots_of os event.user) ≡ false → Steps old event r new → slots_of os' event.user ≡ kept_with (slots_of os event.user) (session_of r)
-    → LeavesOthers event.user os os' → RunsOn old os (IsEvent event) (told_of r) new os'
+    → LeavesOthers event.user os os' → Lengthens old os (IsEvent event) (told_of r) new os'
 open_answered old new os os' event r opens room steps slots others w h refines stand legal =
     let ss : List (Option SessionState) = slots_of os event.user in
     let own : SlotsAre (moves_by w.base (journal w h) (IsEvent event) (told_of r) ++ moves_of w event.user h) (kept_with ss (session_of r)) = kept_slots w (moves_of w event.user h) h event r ss opens (steps.hands w h refines) (stand event.user) in (
@@ -156,8 +178,8 @@ open_answered old new os os' event r opens room steps slots others w h refines s
     )
 
 -- of the same slots for all, as of an owner who was added with none
-moved_on : (core new : Base) (os mid os' : List Owner) (step : Step) (reply : Told) → ((u : List ℕ) → slots_of mid u ≡ slots_of os u) → RunsOn core mid step reply new os' → RunsOn core os step reply new os'
-moved_on core new os mid os' step reply same runs w h refines stand legal = runs w h refines (λ u. subst (λ (l : List (Option SessionState)). SlotsAre (moves_of w u h) l) (sym (same u)) (stand u)) legal
+moved_on : (core new : Base) (os mid os' : List Owner) (step : Step) (reply : Told) → ((u : List ℕ) → slots_of mid u ≡ slots_of os u) → Lengthens core mid step reply new os' → Lengthens core os step reply new os'
+moved_on core new os mid os' step reply same longer w h refines stand legal = longer w h refines (λ u. subst (λ (l : List (Option SessionState)). SlotsAre (moves_of w u h) l) (sym (same u)) (stand u)) legal
 
 same_slots : (mid os' : List Owner) (user : List ℕ) (slots' : List (Option SessionState)) → slots_of os' user ≡ slots' → slots' ≡ slots_of mid user → LeavesOthers user mid os' → (u : List ℕ) → slots_of os' u ≡ slots_of mid u
 same_slots mid os' user slots' now same others u = go (bytes_eq user u) refl
@@ -166,21 +188,28 @@ same_slots mid os' user slots' now same others u = go (bytes_eq user u) refl
     go true is = subst (λ (n : List ℕ). slots_of os' n ≡ slots_of mid n) ((bytes_eq-Decides user u).0 is) (now ∙ same)
     go false away = others u away
 
-pub runs_open : (old new : Base) (os mid os' : List Owner) (event : Event) (reply : Told) (slots slots' : List (Option SessionState)) → is_open event.act ≡ true → ((u : List ℕ) → slots_of mid u ≡ slots_of os u)
+pub runs_open : (old new : Held) (os mid os' : List Owner) (event : Event) (reply : Told) (slots slots' : List (Option SessionState)) → is_open event.act ≡ true → ((u : List ℕ) → slots_of mid u ≡ slots_of os u)
     → slots_of mid event.user ≡ slots → slots_of os' event.user ≡ slots' → LeavesOthers event.user mid os' → OpensIn old slots event reply new slots' → RunsOn old os (IsEvent event) reply new os'
 runs_open old new os mid os' event reply slots slots' opens same was now others (inl full) =
+    let b : Base = base_of old in
+    let r : Told = Refused (TooLarge Sessions) in
     let all : (u : List ℕ) → slots_of os' u ≡ slots_of mid u = same_slots mid os' event.user slots' now (full.3 ∙ sym was) others in
-    let there : RunsOn old mid (IsEvent event) (Refused (TooLarge Sessions)) old os' =
-    open_stays old mid os' event (TooLarge Sessions) opens tt all (λ w h stand. inl (full_answer w h event opens (full_alike (moves_of w event.user h) (slots_of mid event.user) (stand event.user) ∙ ap are_full was ∙ full.0))) in
-    moved_on old new os mid os' (IsEvent event) reply same (subst (λ (b : Base). RunsOn old mid (IsEvent event) reply b os') (sym full.2) (subst (λ (x : Told). RunsOn old mid (IsEvent event) x old os') (sym full.1) there))
+    let longer : Lengthens b mid (IsEvent event) r b os' =
+    open_stays b mid os' event (TooLarge Sessions) opens tt all (λ w h stand. inl (full_answer w h event opens (full_alike (moves_of w event.user h) (slots_of mid event.user) (stand event.user) ∙ ap are_full was ∙ full.0))) in
+    let there : RunsOn old os (IsEvent event) r old os' = record { histories = moved_on b b os mid os' (IsEvent event) r same longer; exact = inr (tt, refl) } in
+    subst (λ (core : Held). RunsOn old os (IsEvent event) reply core os') (sym full.2) (subst (λ (x : Told). RunsOn old os (IsEvent event) x old os') (sym full.1) there)
 runs_open old new os mid os' event reply slots slots' opens same was now others (inr (inl lacks)) =
+    let b : Base = base_of old in
+    let r : Told = Refused NoMemory in
     let all : (u : List ℕ) → slots_of os' u ≡ slots_of mid u = same_slots mid os' event.user slots' now (lacks.2 ∙ sym was) others in
-    let there : RunsOn old mid (IsEvent event) (Refused NoMemory) old os' = runs_nowhere old mid os' event (open_takes event.act opens) all in
-    moved_on old new os mid os' (IsEvent event) reply same (subst (λ (b : Base). RunsOn old mid (IsEvent event) reply b os') (sym lacks.1) (subst (λ (x : Told). RunsOn old mid (IsEvent event) x old os') (sym lacks.0) there))
-runs_open old new os mid os' event reply slots slots' opens same was now others (inr (inr (room, (r, steps, is, kept)))) =
-    let there : RunsOn old mid (IsEvent event) (told_of r) new os' =
-    open_answered old new mid os' event r opens (ap are_full was ∙ room) steps (now ∙ kept ∙ ap (λ l. kept_with l (session_of r)) (sym was)) others in
-    moved_on old new os mid os' (IsEvent event) reply same (subst (λ (x : Told). RunsOn old mid (IsEvent event) x new os') (sym is) there)
+    let longer : Lengthens b mid (IsEvent event) r b os' = nowhere_longer b mid os' event (open_takes event.act opens) all in
+    let there : RunsOn old os (IsEvent event) r old os' = record { histories = moved_on b b os mid os' (IsEvent event) r same longer; exact = inr (tt, refl) } in
+    subst (λ (core : Held). RunsOn old os (IsEvent event) reply core os') (sym lacks.1) (subst (λ (x : Told). RunsOn old os (IsEvent event) x old os') (sym lacks.0) there)
+runs_open old new os mid os' event reply slots slots' opens same was now others (inr (inr (room, (r, steps, exact, is, kept)))) =
+    let longer : Lengthens (base_of old) mid (IsEvent event) (told_of r) (base_of new) os' =
+    open_answered (base_of old) (base_of new) mid os' event r opens (ap are_full was ∙ room) steps (now ∙ kept ∙ ap (λ l. kept_with l (session_of r)) (sym was)) others in
+    let there : RunsOn old os (IsEvent event) (told_of r) new os' = record { histories = moved_on (base_of old) (base_of new) os mid os' (IsEvent event) (told_of r) same longer; exact = inl exact } in
+    subst (λ (x : Told). RunsOn old os (IsEvent event) x new os') (sym is) there
 
 -- ---- the list of entries
 entries_push : (steps : List Step) (replies : List Told) (step : Step) (reply : Told) → length steps ≡ length replies

@@ -5,6 +5,7 @@ use Rattle.tab_history.specs.Answers.{Told}
 use Rattle.tab_history.specs.Histories.{Entry, world_of, is_by, steps_of}
 use Rattle.tab_history.specs.Legal.{Legal, IsAmple}
 use Rattle.tab_history.specs.declared.event.Step.{Step}
+use Rattle.tab_store.specs.Chains.{IsExactRun}
 use Rattle.tab_noninterference.specs.Views.{view}
 use Rattle.tab_noninterference.specs.Hearing.{is_covered, heard}
 
@@ -13,10 +14,11 @@ use Rattle.tab_noninterference.specs.Hearing.{is_covered, heard}
 abbrev pub replies_to : List ℕ → List Entry → List Told
 replies_to user h = reverse (map (λ e. e.reply) (filter (λ e. is_by user e.step) h))
 
--- The history is a run of these steps: from a new core each of them once, in order, and legally answered. What was told are all replies to the user in it.
+-- The history is a run of these steps: from a new core each of them once, in order, legally answered and exactly done. What was told are all replies to the user in it.
 pub record IsToldIn (h : List Entry) (user : List ℕ) (steps : List Step) (told : List Told) : Type 0 where
   pub steps_are : steps_of h ≡ steps
   pub legal : Legal (world_of new_core) h
+  pub exact : IsExactRun h
   pub replies : replies_to user h ≡ told
 
 -- in some run of these steps this is what the user was told

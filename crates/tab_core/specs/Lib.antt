@@ -1,5 +1,5 @@
 pub mod Owners
-pub mod Tables
+pub mod Holding
 pub mod Slots
 pub mod Stepping
 pub mod Comparing

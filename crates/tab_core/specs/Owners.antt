@@ -13,6 +13,9 @@ use Rattle.tab_cells.specs.SessionState.{SessionState}
 use Rattle.tab_history.specs.Histories.{Entry, World, world_of, world_after, moves_of}
 use Rattle.tab_history.specs.Legal.{Legal}
 use Rattle.tab_history.specs.Refinement.{Refines}
+use Rattle.tab_store.specs.Stores.{Held, base_of}
+use Rattle.tab_store.specs.Stepping.{StepsExactly}
+use Rattle.tab_store.specs.Chains.{EntryGoes}
 use Rattle.tab_core.specs.Slots.{SlotsAre, are_full}
 use Rattle.tab_core.specs.Stepping.{Steps}
 use Rattle.tab_core.specs.declared.running.Owner.{Owner}
@@ -35,21 +38,28 @@ abbrev pub OwnersRefine : List Owner → World → List Entry → Type 0
 OwnersRefine os w h = (user : List ℕ) → SlotsAre (moves_of w user h) (slots_of os user)
 
 -- Whatever legal history core and slots refined, they refine the one with this entry, which is legal.
-abbrev pub RunsOn : Base → List Owner → Step → Told → Base → List Owner → Type 0
-RunsOn old os step reply new os' = (w : World) (h : List Entry) → Refines (world_of old) (world_after w h) → OwnersRefine os w h → Legal w h
+abbrev pub Lengthens : Base → List Owner → Step → Told → Base → List Owner → Type 0
+Lengthens old os step reply new os' = (w : World) (h : List Entry) → Refines (world_of old) (world_after w h) → OwnersRefine os w h → Legal w h
     → let longer : List Entry = record { step = step; reply = reply } ∷ h in Refines (world_of new) (world_after w longer) × OwnersRefine os' w longer × Legal w longer
+
+-- A step of a run: histories go on by it, and so does the core, exactly.
+pub record RunsOn (old : Held) (os : List Owner) (step : Step) (reply : Told) (new : Held) (os' : List Owner) : Type 0 where
+  -- each legal history that core and slots refined
+  pub histories : Lengthens (base_of old) os step reply (base_of new) os'
+  -- an event is an exact step, and what is none leaves the core as it was
+  pub exact : EntryGoes old (record { step = step; reply = reply }) new
 
 -- the slots with the session that was handed out, if there is one
 abbrev pub kept_with : List (Option SessionState) → Option SessionState → List (Option SessionState)
 kept_with slots None = slots
 kept_with slots (Some session) = slots ++ Some session ∷ []
 
--- the core answered the event, and a session that it handed out is kept
-abbrev pub AnswersIn : Base → List (Option SessionState) → Event → Told → Base → List (Option SessionState) → Type 0
-AnswersIn old slots event reply new slots' = (r : Reply SessionState) × Steps old event r new × (reply ≡ told_of r) × (slots' ≡ kept_with slots (session_of r))
+-- the core answered the event, exactly, and a session that it handed out is kept
+abbrev pub AnswersIn : Held → List (Option SessionState) → Event → Told → Held → List (Option SessionState) → Type 0
+AnswersIn old slots event reply new slots' = (r : Reply SessionState) × Steps (base_of old) event r (base_of new) × StepsExactly old event (told_of r) new × (reply ≡ told_of r) × (slots' ≡ kept_with slots (session_of r))
 
 -- an Open of a user with these slots: all stays where they are full or memory lacks, and otherwise the core answers
-abbrev pub OpensIn : Base → List (Option SessionState) → Event → Told → Base → List (Option SessionState) → Type 0
+abbrev pub OpensIn : Held → List (Option SessionState) → Event → Told → Held → List (Option SessionState) → Type 0
 OpensIn old slots event reply new slots' =
     ((are_full slots ≡ true) × (reply ≡ Refused (TooLarge Sessions)) × (new ≡ old) × (slots' ≡ slots))
     ⊎ ((reply ≡ Refused NoMemory) × (new ≡ old) × (slots' ≡ slots))

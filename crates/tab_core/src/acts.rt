@@ -1,45 +1,41 @@
-//! What each event does; those on users and on permissions stand in `users` and `granting`.
-ghost use Rattle.std.specs.Prelude.{◌≡◌, ◌<◌, ℕ, ℤ, true, is_some, Contains, IfOk, OnErr};
-ghost use Rattle.tab_key.specs.Records.{Record};
-ghost use Rattle.tab_core.specs.Tables.{settings_in, records_in};
-ghost use Rattle.tab_core.specs.Stepping.{Acts, ActsOnTables, IsAdmitted, own_answer};
+//! What events on tables do to what a core holds, and authorizations set; those on users and on permissions stand in `users` and `granting`.
+ghost use Rattle.tab_store.specs.Stores.{base_of};
+ghost use Rattle.tab_core.specs.Holding.{held};
+ghost use Rattle.tab_core.specs.Stepping.{Does, IsCore, IsAdmitted};
 
-use crate::checking::{scan_refusal, too_many_auths};
-use crate::table::Table;
-use crate::tables::Tables;
-use crate::{Core, Session};
-use std::alloc::{AllocError, Global};
-use tab_history::{Act, Refusal, Reply, Scan, TimeMode, Versions};
+use crate::Session;
+use crate::checking::too_many_auths;
+use crate::store::Store;
+use std::alloc::AllocError;
+use tab_history::{Act, Refusal, Reply, TimeMode, Versions};
 use tab_key::{Name, Part};
 use tab_label::AuthSet;
-use tab_mutation::Mutation;
 use tab_rules::ConstraintSet;
 
 // How many tables there may be.
 const MAX_TABLES: usize = u32::MAX as usize;
 
-impl Core {
+impl Store {
     // A new table, with its creator's five rights.
     pub(crate) fn create_table(
         &mut self,
-        alloc: Global,
         now: i64,
         user: Name,
         table: Name,
         time: TimeMode,
         versions: Versions,
     ) -> Reply<Session>
-        requires { IsAdmitted self.old user (Act.CreateTable table time versions) }
-        ensures { Acts (own_answer self.old now user (Act.CreateTable table time versions)) self.old now user (Act.CreateTable table time versions) result self.new }
+        requires core { IsCore (held self.old) }
+        requires admitted { IsAdmitted (base_of (held self.old)) user (Act.CreateTable table time versions) }
+        ensures { Does self.old now user (Act.CreateTable table time versions) result self.new }
     {
-        if self.tables.contains(&table) {
+        if self.tables.get(&table).is_some() {
             return Reply::Refused(Refusal::TableExists(table));
         }
         if self.tables.len() >= MAX_TABLES {
             return Reply::Refused(Refusal::TooLarge(Part::Numbers));
         }
-        let made = Table::new(alloc, time, versions);
-        match self.tables.insert(table, made) {
+        match self.tables.insert(table, time, versions) {
             Ok(()) => {}
             Err(AllocError) => return Reply::Refused(Refusal::NoMemory),
         }
@@ -54,8 +50,9 @@ impl Core {
 
     // A table taken away, with its records and all rights on it. It takes no memory.
     pub(crate) fn drop_table(&mut self, now: i64, user: Name, table: Name) -> Reply<Session>
-        requires { IsAdmitted self.old user (Act.DropTable table) }
-        ensures { Acts (own_answer self.old now user (Act.DropTable table)) self.old now user (Act.DropTable table) result self.new }
+        requires core { IsCore (held self.old) }
+        requires admitted { IsAdmitted (base_of (held self.old)) user (Act.DropTable table) }
+        ensures { Does self.old now user (Act.DropTable table) result self.new }
     {
         self.tables.remove(&table);
         self.policy.drop_table(&table);
@@ -70,7 +67,8 @@ impl Core {
         table: Name,
         constraints: ConstraintSet,
     ) -> Reply<Session>
-        ensures { Acts (own_answer self.old now user (Act.SetConstraints table constraints)) self.old now user (Act.SetConstraints table constraints) result self.new }
+        requires { IsCore (held self.old) }
+        ensures { Does self.old now user (Act.SetConstraints table constraints) result self.new }
     {
         self.tables.set_constraints(&table, constraints);
         Reply::Done
@@ -84,7 +82,8 @@ impl Core {
         name: Name,
         auths: AuthSet,
     ) -> Reply<Session>
-        ensures { Acts (own_answer self.old now user (Act.SetAuths name auths)) self.old now user (Act.SetAuths name auths) result self.new }
+        requires { IsCore (held self.old) }
+        ensures { Does self.old now user (Act.SetAuths name auths) result self.new }
     {
         let known = self.policy.user_exists(&name);
         if too_many_auths(&auths) {
@@ -95,54 +94,5 @@ impl Core {
         }
         self.policy.set_auths(&name, auths);
         Reply::Done
-    }
-}
-
-/// All updates of a mutation, or none, by a caller with these authorizations. The number is the one that the write gets.
-pub fn write(
-    alloc: Global,
-    tables: &mut Tables,
-    next: &mut u64,
-    authorizations: &AuthSet,
-    now: i64,
-    table: Name,
-    mutation: Mutation,
-) -> Reply<Session>
-    requires unused { (u : Record) → Contains (records_in tables.old table) u → u.seq < next.old }
-    requires there { is_some (settings_in tables.old table) ≡ true }
-    ensures { ActsOnTables authorizations.now now (Act.Write table mutation) tables.old next.old result tables.new next.new }
-{
-    match tables.write(alloc, &table, &mutation, authorizations, *next, now) {
-        Ok(()) => {
-            *next += 1;
-            Reply::Done
-        }
-        Err(refusal) => Reply::Refused(refusal),
-    }
-}
-
-/// A session on a scan's answer, for a caller with these authorizations.
-pub fn open(
-    alloc: Global,
-    tables: &mut Tables,
-    authorizations: &AuthSet,
-    scan: Scan,
-) -> Reply<Session>
-    ensures { (now : ℤ) (next : ℕ) → ActsOnTables authorizations.now now (Act.Open scan) tables.old next result tables.new next }
-{
-    if let Some(refusal) = scan_refusal(alloc, authorizations, &scan) {
-        return Reply::Refused(refusal);
-    }
-    handed(tables.scan(alloc, scan))
-}
-
-// The session is handed out, if it could be made.
-fn handed(made: Result<Session, AllocError>) -> Reply<Session>
-    ensures ok { IfOk made (λ session. result ≡ Reply.Opened session) }
-    ensures err { OnErr made (result ≡ Reply.Refused Refusal.NoMemory) }
-{
-    match made {
-        Ok(session) => Reply::Opened(session),
-        Err(AllocError) => Reply::Refused(Refusal::NoMemory),
     }
 }

@@ -3,9 +3,7 @@ ghost use Rattle.std.specs.Prelude.{◌≡◌, ◌<◌, ◌≤◌, ◌⊎◌, �
 ghost use Rattle.tab_mutation.specs.Shape.{first_some, shape_error};
 ghost use Rattle.tab_label.specs.Reading.{label_of};
 ghost use Rattle.tab_history.specs.Checks.{malformed_at, malformed, stamped, outdated, violated, mutation_checks, scan_checks, too_many_auths, shape_refusal, right_checks};
-ghost use Rattle.tab_core.specs.Tables.{table_settings};
 
-use crate::table::Table;
 use std::alloc::{AllocError, Global};
 use tab_history::{Refusal, Scan, TimeMode};
 use tab_key::{
@@ -16,6 +14,7 @@ use tab_label::{AuthSet, judge};
 use tab_mutation::{Mutation, ShapeError, UpdateRef};
 use tab_policy::{Permission, SystemPermission, is_root};
 use tab_rules::{Violation, check};
+use tab_store::Table;
 
 fn shape_refusal(error: ShapeError) -> Refusal
     ensures { result ≡ shape_refusal error }
@@ -55,9 +54,9 @@ fn malformed(mutation: &Mutation, auths: &AuthSet) -> Option<Refusal>
 #[tactic(auto, unfolding(tab_history::specs::Checks::stamped), using(tab_mutation::proofs::Shapes::shaped_few))]
 fn stamped(table: &Table, mutation: &Mutation) -> Option<Refusal>
     requires { shape_error mutation.now ≡ None }
-    ensures { result ≡ stamped (table_settings table.now) mutation.now }
+    ensures { result ≡ stamped table.now.settings mutation.now }
 {
-    if table.time == TimeMode::Any {
+    if table.time() == TimeMode::Any {
         return None;
     }
     for index in 0..mutation.len() {
@@ -72,10 +71,11 @@ fn stamped(table: &Table, mutation: &Mutation) -> Option<Refusal>
 #[tactic(auto, unfolding(tab_history::specs::Checks::outdated), using(tab_mutation::proofs::Shapes::shaped_few))]
 fn outdated(table: &Table, now: i64, mutation: &Mutation) -> Option<Refusal>
     requires { shape_error mutation.now ≡ None }
-    ensures { result ≡ outdated (table_settings table.now) now mutation.now }
+    ensures { result ≡ outdated table.now.settings now mutation.now }
 {
+    let horizon = table.horizon();
     for index in 0..mutation.len() {
-        if mutation.update(index).timestamp().unwrap_or(now) < table.horizon {
+        if mutation.update(index).timestamp().unwrap_or(now) < horizon {
             return Some(Refusal::BelowHorizon(index as u32));
         }
     }
@@ -100,7 +100,7 @@ pub fn mutation_refusal(
     now: i64,
     mutation: &Mutation,
 ) -> Option<Refusal>
-    ensures answers { (result ≡ first_some (mutation_checks (Some (table_settings table.now)) auths.now now mutation.now)) ⊎ (result ≡ Some Refusal.NoMemory) }
+    ensures answers { (result ≡ first_some (mutation_checks (Some table.now.settings) auths.now now mutation.now)) ⊎ (result ≡ Some Refusal.NoMemory) }
     ensures shape { result ≡ None → shape_error mutation.now ≡ None }
 {
     if let Some(error) = mutation.shape() {
@@ -115,7 +115,7 @@ pub fn mutation_refusal(
     if let Some(refusal) = outdated(table, now, mutation) {
         return Some(refusal);
     }
-    match check(alloc, &table.constraints, mutation, auths) {
+    match check(alloc, table.constraints(), mutation, auths) {
         Ok(failing) => violated(failing),
         Err(AllocError) => Some(Refusal::NoMemory),
     }

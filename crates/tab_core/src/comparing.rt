@@ -17,7 +17,7 @@ pub struct Compared {
     pub second: Vec<Reply>,
 }
 
-/// Runs the steps of each list from a new core, as [`run`] does, and gives the replies to the user's steps in both.
+/// Runs the steps of each list from a new core, as exactly as [`run`] does, and gives the replies to the user's steps in both.
 ///
 /// Where he sees the same of both runs and nothing ran out in either, he is told the same: each scan that he opened has the same
 /// whole list in both, and the replies to his scans, batches, writes and questions for his rights are equal, in order. What others

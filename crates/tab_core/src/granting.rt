@@ -1,14 +1,17 @@
 //! Permissions granted and revoked, and what a user is told of his own.
-ghost use Rattle.tab_core.specs.Stepping.{Acts, IsAdmitted, Tells, own_answer};
+ghost use Rattle.tab_store.specs.Stores.{base_of};
+ghost use Rattle.tab_core.specs.Holding.{held};
+ghost use Rattle.tab_core.specs.Stepping.{Does, IsAdmitted, IsCore, Tells};
 
+use crate::Session;
 use crate::checking::right_refusal;
-use crate::{Core, Session};
+use crate::store::Store;
 use std::alloc::AllocError;
 use tab_history::{Act, Refusal, Reply, Rights};
 use tab_key::Name;
 use tab_policy::{Caller, Permission};
 
-impl Core {
+impl Store {
     // A permission given to a user.
     pub(crate) fn grant(
         &mut self,
@@ -17,8 +20,9 @@ impl Core {
         name: Name,
         permission: Permission,
     ) -> Reply<Session>
-        requires { IsAdmitted self.old user (Act.Grant name permission) }
-        ensures { Acts (own_answer self.old now user (Act.Grant name permission)) self.old now user (Act.Grant name permission) result self.new }
+        requires core { IsCore (held self.old) }
+        requires admitted { IsAdmitted (base_of (held self.old)) user (Act.Grant name permission) }
+        ensures { Does self.old now user (Act.Grant name permission) result self.new }
     {
         let known = self.policy.user_exists(&name);
         if let Some(refusal) = right_refusal(known, name, &permission) {
@@ -38,7 +42,8 @@ impl Core {
         name: Name,
         permission: Permission,
     ) -> Reply<Session>
-        ensures { Acts (own_answer self.old now user (Act.Revoke name permission)) self.old now user (Act.Revoke name permission) result self.new }
+        requires { IsCore (held self.old) }
+        ensures { Does self.old now user (Act.Revoke name permission) result self.new }
     {
         let known = self.policy.user_exists(&name);
         if let Some(refusal) = right_refusal(known, name, &permission) {

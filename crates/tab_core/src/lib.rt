@@ -6,17 +6,17 @@
 //!
 //! | File | What |
 //! |---|---|
-//! | `state` | the core, and its step: the policy decides once, then the act is done |
+//! | `state` | the core, and its step |
+//! | `store` | what a core holds, and what an event does to it: the policy decides once, then the act is done |
 //! | `policing` | what the policy is asked, and the refusal of whom it doesn't admit |
-//! | `acts`, `users`, `granting` | what each act does |
+//! | `acts`, `users`, `granting`, `writes`, `scans`, `tablets` | what each act does |
 //! | `checking` | the checks that are an event's own |
-//! | `table`, `tables` | one table, and tables by name |
 //! | `reply` | replies without what they hand out |
 //! | `slots`, `running` | the sessions of one user in a run, and runs of steps |
 //! | `comparing` | two runs compared by what one user is told in them |
 //!
-//! Of the definitions in `specs`, `Stepping` says what a step does, `Slots` and `Owners` what a run keeps, `Tables` how tables are
-//! read, and `Comparing` what two runs tell; `ComparingExamples` computes it for a small history.
+//! Of the definitions in `specs`, `Stepping` says what a step does, `Holding` what a store holds, `Slots` and `Owners` what a run keeps,
+//! and `Comparing` what two runs tell; `ComparingExamples` computes it for a small history.
 #![tactic(auto)]
 
 mod acts;
@@ -26,11 +26,13 @@ mod granting;
 mod policing;
 mod reply;
 mod running;
+mod scans;
 mod slots;
 mod state;
-mod table;
-mod tables;
+mod store;
+mod tablets;
 mod users;
+mod writes;
 
 pub use comparing::{Compared, compare_runs};
 pub use reply::told;

@@ -23,6 +23,9 @@ pub fn action_of(act: &Act) -> Action<'_>
         Act::Grant(_, permission) => Action::Grant(permission),
         Act::Revoke(_, permission) => Action::Revoke(permission),
         Act::Rights(table) => Action::OnTable(TableAction::Rights, table),
+        Act::Status(table) => Action::OnTable(TableAction::Status, table),
+        Act::Flush(table) => Action::OnTable(TableAction::Flush, table),
+        Act::Compact(table, _) => Action::OnTable(TableAction::Compact, table),
     }
 }
 

@@ -4,6 +4,7 @@ ghost use Rattle.tab_history.specs.Bases.{new_core};
 ghost use Rattle.tab_history.specs.Histories.{world_of};
 ghost use Rattle.tab_history.specs.Legal.{Legal, LacksWhereItMay};
 ghost use Rattle.tab_history.specs.Answers.{is_open};
+ghost use Rattle.tab_store.specs.Chains.{IsExactRun};
 ghost use Rattle.tab_core.specs.Slots.{history_of, NextFrom, CloseFrom};
 ghost use Rattle.tab_core.specs.Owners.{RunsOn, LeavesOthers, OpensIn, slots_of, owner_place};
 
@@ -25,6 +26,9 @@ pub struct Owner {
 
 /// Answers the steps in order, beginning with a new core, and keeps each user's sessions.
 ///
+/// Each event is one step of that core, exactly: a Flush and a Compact lay its records otherwise, and a Status counts them as they
+/// lie. What is no event leaves the core as it was: a Next, a Close, and what is refused for want of memory or by a full list of sessions.
+///
 /// The k-th session opened for a user, counted from 0, has the slot k, which closing it empties for good. Past 65,536
 /// open sessions of one user an Open is refused. Where memory lacks for a step, that step is refused and the run goes on;
 /// it can lack only for a Next, and for an event that takes some. An error means that there was none for the list of replies,
@@ -33,6 +37,7 @@ pub fn run(alloc: Global, steps: Vec<Step>) -> Result<Vec<Reply>, AllocError>
     ensures length { IfOk result (λ replies. length replies.items ≡ length steps.items) }
     ensures legal { IfOk result (λ replies. Legal (world_of new_core) (history_of steps.items replies.items)) }
     ensures memory { IfOk result (λ replies. LacksWhereItMay (history_of steps.items replies.items)) }
+    ensures exact { IfOk result (λ replies. IsExactRun (history_of steps.items replies.items)) }
 {
     let mut core = Core::new(alloc)?;
     let mut owners = Vec::new(alloc);
@@ -119,6 +124,7 @@ fn owner_for(alloc: Global, owners: &mut Vec<Owner>, user: Name) -> Result<usize
 }
 
 // The same with the sessions of the event's user.
+#[tactic(auto, using(crate::proofs::Runs::did_exactly))]
 fn open_in(alloc: Global, core: &mut Core, sessions: &mut Slots, event: Event) -> Reply
     ensures { OpensIn core.old sessions.old event result core.new sessions.new }
 {

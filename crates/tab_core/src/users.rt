@@ -1,7 +1,9 @@
 //! Users made and dropped.
-ghost use Rattle.tab_core.specs.Stepping.{Acts, own_answer};
+ghost use Rattle.tab_core.specs.Holding.{held};
+ghost use Rattle.tab_core.specs.Stepping.{Does, IsCore};
 
-use crate::{Core, Session};
+use crate::Session;
+use crate::store::Store;
 use std::alloc::AllocError;
 use tab_history::{Act, Refusal, Reply};
 use tab_key::{Name, Part};
@@ -10,10 +12,11 @@ use tab_policy::is_root;
 // How many users there may be.
 const MAX_USERS: usize = u32::MAX as usize;
 
-impl Core {
+impl Store {
     // A new user, without rights and authorizations.
     pub(crate) fn create_user(&mut self, now: i64, user: Name, name: Name) -> Reply<Session>
-        ensures { Acts (own_answer self.old now user (Act.CreateUser name)) self.old now user (Act.CreateUser name) result self.new }
+        requires { IsCore (held self.old) }
+        ensures { Does self.old now user (Act.CreateUser name) result self.new }
     {
         if self.policy.user_exists(&name) {
             return Reply::Refused(Refusal::UserExists(name));
@@ -29,7 +32,8 @@ impl Core {
 
     // A user taken away, with his rights and authorizations. It takes no memory.
     pub(crate) fn drop_user(&mut self, now: i64, user: Name, name: Name) -> Reply<Session>
-        ensures { Acts (own_answer self.old now user (Act.DropUser name)) self.old now user (Act.DropUser name) result self.new }
+        requires { IsCore (held self.old) }
+        ensures { Does self.old now user (Act.DropUser name) result self.new }
     {
         if !self.policy.user_exists(&name) {
             return Reply::Refused(Refusal::NoUser(name));

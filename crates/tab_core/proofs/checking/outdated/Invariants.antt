@@ -5,4 +5,4 @@ use Rattle.tab_mutation.specs.Shape.{first_index}
 use Rattle.tab_core.proofs.checking.outdated.Given as goal
 
 abbrev pub invariant-loop-index : goal.invariant-loop-index
-invariant-loop-index l = first_index (λ (u : Update). int_lt (unwrap_or u.timestamp l.now) l.table.horizon) 0 l.mutation.updates ≡ first_index (λ (u : Update). int_lt (unwrap_or u.timestamp l.now) l.table.horizon) l.index (drop l.index l.mutation.updates)
+invariant-loop-index l = first_index (λ (u : Update). int_lt (unwrap_or u.timestamp l.now) l.horizon) 0 l.mutation.updates ≡ first_index (λ (u : Update). int_lt (unwrap_or u.timestamp l.now) l.horizon) l.index (drop l.index l.mutation.updates)

@@ -5,8 +5,8 @@ use Rattle.tab_core.proofs.Opening.{rights_told}
 use Rattle.tab_core.proofs.granting.rights.Goals as goal
 
 pub returns-in-Ok : goal.returns-in-Ok
-returns-in-Ok c = λ b now user t core is.
-    rights_told b now user t c.args.caller.system c.args.caller.on_table c.in-Ok.authorizations core is.system is.on_table (c.in-Ok.ensures.cases ∙ is.authorizations)
+returns-in-Ok c = λ h now user t core is.
+    rights_told h now user t c.args.caller.system c.args.caller.on_table c.in-Ok.authorizations core is.system is.on_table (c.in-Ok.ensures.cases ∙ is.authorizations)
 
 pub returns-in-Err : goal.returns-in-Err
-returns-in-Err c = λ b now user t core is. lacked _ b now user (act.Rights t) refl core
+returns-in-Err c = λ h now user t core is. lacked _ h now user (act.Rights t) refl core

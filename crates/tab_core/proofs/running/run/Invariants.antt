@@ -3,15 +3,19 @@ use Rattle.tab_history.specs.Bases.{new_core}
 use Rattle.tab_history.specs.Histories.{world_of, world_after}
 use Rattle.tab_history.specs.Legal.{Legal}
 use Rattle.tab_history.specs.Refinement.{Refines}
+use Rattle.tab_history.specs.Chains.{IsChain}
+use Rattle.tab_store.specs.Stores.{Held, base_of, IsNewStore}
+use Rattle.tab_store.specs.Chains.{EntryGoes}
 use Rattle.tab_core.specs.Slots.{history_of}
 use Rattle.tab_core.specs.Owners.{OwnersRefine}
 use Rattle.tab_core.proofs.running.run.Given as goal
 
--- core and slots refine the legal history of the steps taken so far
+-- core and slots refine the legal history of the steps taken so far, whose events are a chain of exact steps from the core that was new
 abbrev pub invariant-loop-step : goal.invariant-loop-step
 invariant-loop-step l = record {
   count : length l.yielded ≡ length l.replies.items;
-  refines : Refines (world_of l.core) (world_after (world_of new_core) (history_of l.yielded l.replies.items));
+  refines : Refines (world_of (base_of l.core)) (world_after (world_of new_core) (history_of l.yielded l.replies.items));
   owners : OwnersRefine l.owners.items (world_of new_core) (history_of l.yielded l.replies.items);
   legal : Legal (world_of new_core) (history_of l.yielded l.replies.items);
+  exact : (first : Held) × IsNewStore first × IsChain EntryGoes first (history_of l.yielded l.replies.items) l.core;
 }

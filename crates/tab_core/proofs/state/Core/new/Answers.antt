@@ -1,19 +1,23 @@
-use Rattle.std.proofs.Common.{refl}
+use Rattle.std.proofs.Common.{refl, ap, map}
 use Rattle.tab_history.proofs.NewCore.{new_core_refines}
-use Rattle.tab_core.proofs.Acting.{new_is_core}
+use Rattle.tab_store.specs.Stores.{base_table_of}
+use Rattle.tab_core.proofs.Steps.{new_is_core}
 use Rattle.tab_core.proofs.state.Core.new.Goals as goal
 
-pub invariant_of-result : goal.invariant_of-result
-invariant_of-result c = new_is_core _ c.new-2.ensures c.in_ok-new.ensures.tables
-
-pub returns : goal.returns
-returns c = new_core_refines _ (record {
+pub returns-clause-new : goal.returns-clause-new
+returns-clause-new c = record {
   clock = refl;
   next = refl;
-  tables = c.new-2.ensures;
+  tables = ap (map base_table_of) c.new-2.ensures;
   users = c.in_ok-new.ensures.users;
   count = c.in_ok-new.ensures.count;
   auths = c.in_ok-new.ensures.auths;
   system = c.in_ok-new.ensures.system;
   rights = c.in_ok-new.ensures.rights;
-})
+}
+
+pub returns-clause-refines : goal.returns-clause-refines
+returns-clause-refines c = new_core_refines _ (returns-clause-new c)
+
+pub invariant_of-result : goal.invariant_of-result
+invariant_of-result c = new_is_core _ (returns-clause-new c) c.in_ok-new.ensures.tables

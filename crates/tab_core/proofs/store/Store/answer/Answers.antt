@@ -1,0 +1,109 @@
+use Rattle.std.proofs.Common.{◌≡◌, [], Some, refl, sym, ap, ◌∙◌, subst, rules, to_z, of_z, w64}
+use Rattle.tab_policy.specs.Actions.{Action, table_named}
+use Rattle.tab_policy.specs.Decisions.{decision}
+use Rattle.tab_policy.specs.State.{standing_of, IsCaller}
+use Rattle.tab_cells.specs.SessionState.{SessionState}
+use Rattle.tab_history.specs.declared.reply.Reply.{Reply}
+use Rattle.tab_history.specs.Answers.{event_answer}
+use Rattle.tab_history.specs.Checks.{denial, action_of}
+use Rattle.tab_store.specs.Stores.{base_of}
+use Rattle.tab_store.proofs.Changed.{next_unused}
+use Rattle.tab_core.specs.Holding.{held}
+use Rattle.tab_core.specs.Stepping.{Acts}
+use Rattle.tab_core.proofs.Admitting.{denied, admitted, is_admitted}
+use Rattle.tab_core.proofs.Writing.{table_there}
+use Rattle.tab_core.proofs.store.Store.answer.Goals as goal
+
+pub returns-in-Err : goal.returns-in-Err
+returns-in-Err c =
+    let d : Some c.in-Err.denial ≡ decision (standing_of c.args.self.now.policy c.args.user) (action_of c.args.act) = c.in-Err.ensures.decided ∙ ap (decision (standing_of c.args.self.now.policy c.args.user)) c.action_of.ensures in
+    subst (λ (r : Reply SessionState). Acts (event_answer (base_of (held c.args.self.now)) [] c.args.now c.args.user c.args.act) (held c.args.self.now) c.args.now c.args.user c.args.act r (held c.args.self.now)) (sym c.refused.ensures)
+    (denied (held c.args.self.now) c.args.now c.args.user c.args.act c.refusal_of.result c.requires (sym (c.refusal_of.ensures ∙ ap (denial c.args.user) d)))
+
+pub grant-requires-clause-admitted : goal.grant-requires-clause-admitted
+grant-requires-clause-admitted c = is_admitted (held c.args.self.now) c.args.user c.args.act _ _ c.requires c.action_of.ensures c.in-Ok.ensures.decided c.in-Grant.is
+
+pub create_table-requires-clause-admitted : goal.create_table-requires-clause-admitted
+create_table-requires-clause-admitted c = is_admitted (held c.args.self.now) c.args.user c.args.act _ _ c.requires c.action_of.ensures c.in-Ok.ensures.decided c.in-CreateTable.is
+
+pub drop_table-requires-clause-admitted : goal.drop_table-requires-clause-admitted
+drop_table-requires-clause-admitted c = is_admitted (held c.args.self.now) c.args.user c.args.act _ _ c.requires c.action_of.ensures c.in-Ok.ensures.decided c.in-DropTable.is
+
+pub write-requires-clause-unused : goal.write-requires-clause-unused
+write-requires-clause-unused c = next_unused (held c.args.self.now) c.requires.store c.in-Write.table
+
+pub write-requires-clause-there : goal.write-requires-clause-there
+write-requires-clause-there c = table_there (held c.args.self.now) c.args.user c.in-Write.table c.in-Write.mutation (is_admitted (held c.args.self.now) c.args.user c.args.act _ _ c.requires c.action_of.ensures c.in-Ok.ensures.decided c.in-Write.is)
+
+pub returns-in-Open : goal.returns-in-Open
+returns-in-Open c =
+    admitted (held c.args.self.now) _ c.args.now c.args.now c.args.user c.args.act _ _ c.open.result c.requires c.action_of.ensures c.in-Ok.ensures.decided c.in-Open.is refl
+    (c.open.ensures c.args.now c.args.self.now.next (held c.args.self.now) c.args.user c.requires refl refl (sym c.in-Ok.ensures.caller.authorizations))
+
+pub returns-in-Write : goal.returns-in-Write
+returns-in-Write c =
+    let trip : to_z w64 (of_z w64 c.args.now) ≡ c.args.now = search rules in
+    admitted (held c.args.self.now) _ c.args.now _ c.args.user c.args.act _ _ c.write.result c.requires c.action_of.ensures c.in-Ok.ensures.decided c.in-Write.is trip
+    (c.write.ensures (held c.args.self.now) c.args.user c.requires refl refl (sym c.in-Ok.ensures.caller.authorizations))
+
+pub returns-in-Rights : goal.returns-in-Rights
+returns-in-Rights c =
+    let caller : IsCaller c.in-Ok.caller c.args.self.now.policy c.args.user (Some c.in-Rights.field-0) =
+    subst (λ (a : Action). IsCaller c.in-Ok.caller c.args.self.now.policy c.args.user (table_named a)) (c.action_of.ensures ∙ ap action_of c.in-Rights.is) c.in-Ok.ensures.caller in
+    admitted (held c.args.self.now) (held c.args.self.now) c.args.now c.args.now c.args.user c.args.act _ _ c.rights.result c.requires c.action_of.ensures c.in-Ok.ensures.decided c.in-Rights.is refl
+    (c.rights.ensures (held c.args.self.now) c.args.now c.args.user c.in-Rights.field-0 c.requires caller)
+
+pub returns-in-Status : goal.returns-in-Status
+returns-in-Status c =
+    let trip : to_z w64 (of_z w64 c.args.now) ≡ c.args.now = search rules in
+    admitted (held c.args.self.now) (held c.args.self.now) c.args.now _ c.args.user c.args.act _ _ c.status.result c.requires c.action_of.ensures c.in-Ok.ensures.decided c.in-Status.is trip c.status.ensures
+
+pub returns-in-CreateTable : goal.returns-in-CreateTable
+returns-in-CreateTable c =
+    let trip : to_z w64 (of_z w64 c.args.now) ≡ c.args.now = search rules in
+    admitted (held c.args.self.now) (held c.create_table.new.self) c.args.now _ c.args.user c.args.act _ _ c.create_table.result c.requires c.action_of.ensures c.in-Ok.ensures.decided c.in-CreateTable.is trip c.create_table.ensures
+
+pub returns-in-DropTable : goal.returns-in-DropTable
+returns-in-DropTable c =
+    let trip : to_z w64 (of_z w64 c.args.now) ≡ c.args.now = search rules in
+    admitted (held c.args.self.now) (held c.drop_table.new.self) c.args.now _ c.args.user c.args.act _ _ c.drop_table.result c.requires c.action_of.ensures c.in-Ok.ensures.decided c.in-DropTable.is trip c.drop_table.ensures
+
+pub returns-in-SetConstraints : goal.returns-in-SetConstraints
+returns-in-SetConstraints c =
+    let trip : to_z w64 (of_z w64 c.args.now) ≡ c.args.now = search rules in
+    admitted (held c.args.self.now) (held c.set_constraints.new.self) c.args.now _ c.args.user c.args.act _ _ c.set_constraints.result c.requires c.action_of.ensures c.in-Ok.ensures.decided c.in-SetConstraints.is trip c.set_constraints.ensures
+
+pub returns-in-CreateUser : goal.returns-in-CreateUser
+returns-in-CreateUser c =
+    let trip : to_z w64 (of_z w64 c.args.now) ≡ c.args.now = search rules in
+    admitted (held c.args.self.now) (held c.create_user.new.self) c.args.now _ c.args.user c.args.act _ _ c.create_user.result c.requires c.action_of.ensures c.in-Ok.ensures.decided c.in-CreateUser.is trip c.create_user.ensures
+
+pub returns-in-DropUser : goal.returns-in-DropUser
+returns-in-DropUser c =
+    let trip : to_z w64 (of_z w64 c.args.now) ≡ c.args.now = search rules in
+    admitted (held c.args.self.now) (held c.drop_user.new.self) c.args.now _ c.args.user c.args.act _ _ c.drop_user.result c.requires c.action_of.ensures c.in-Ok.ensures.decided c.in-DropUser.is trip c.drop_user.ensures
+
+pub returns-in-SetAuths : goal.returns-in-SetAuths
+returns-in-SetAuths c =
+    let trip : to_z w64 (of_z w64 c.args.now) ≡ c.args.now = search rules in
+    admitted (held c.args.self.now) (held c.set_auths.new.self) c.args.now _ c.args.user c.args.act _ _ c.set_auths.result c.requires c.action_of.ensures c.in-Ok.ensures.decided c.in-SetAuths.is trip c.set_auths.ensures
+
+pub returns-in-Grant : goal.returns-in-Grant
+returns-in-Grant c =
+    let trip : to_z w64 (of_z w64 c.args.now) ≡ c.args.now = search rules in
+    admitted (held c.args.self.now) (held c.grant.new.self) c.args.now _ c.args.user c.args.act _ _ c.grant.result c.requires c.action_of.ensures c.in-Ok.ensures.decided c.in-Grant.is trip c.grant.ensures
+
+pub returns-in-Revoke : goal.returns-in-Revoke
+returns-in-Revoke c =
+    let trip : to_z w64 (of_z w64 c.args.now) ≡ c.args.now = search rules in
+    admitted (held c.args.self.now) (held c.revoke.new.self) c.args.now _ c.args.user c.args.act _ _ c.revoke.result c.requires c.action_of.ensures c.in-Ok.ensures.decided c.in-Revoke.is trip c.revoke.ensures
+
+pub returns-in-Flush : goal.returns-in-Flush
+returns-in-Flush c =
+    let trip : to_z w64 (of_z w64 c.args.now) ≡ c.args.now = search rules in
+    admitted (held c.args.self.now) (held c.flush.new.self) c.args.now _ c.args.user c.args.act _ _ c.flush.result c.requires c.action_of.ensures c.in-Ok.ensures.decided c.in-Flush.is trip c.flush.ensures
+
+pub returns-in-Compact : goal.returns-in-Compact
+returns-in-Compact c =
+    let trip : to_z w64 (of_z w64 c.args.now) ≡ c.args.now = search rules in
+    admitted (held c.args.self.now) (held c.compact.new.self) c.args.now _ c.args.user c.args.act _ _ c.compact.result c.requires c.action_of.ensures c.in-Ok.ensures.decided c.in-Compact.is trip c.compact.ensures

@@ -1,0 +1,66 @@
+//! Scans opened.
+ghost use Rattle.std.specs.Prelude.{◌≡◌, ℕ, ℤ, List, map, length, IfOk, OnOk, OnErr};
+ghost use Rattle.tab_key.specs.Sorted.{sorted};
+ghost use Rattle.tab_tablet.specs.Tablets.{frozen};
+ghost use Rattle.tab_history.specs.Answers.{listed, query_of};
+ghost use Rattle.tab_store.specs.Stores.{RiseByName, records_of_all};
+ghost use Rattle.tab_store.specs.Tables.{table_at, changed_table, with_tablets, settings_at, tablets_of};
+ghost use Rattle.tab_core.specs.Holding.{versions_shown};
+ghost use Rattle.tab_core.specs.Stepping.{ActsOnTables};
+
+use crate::Session;
+use crate::checking::scan_refusal;
+use std::alloc::{AllocError, Global};
+use tab_history::{Act, Refusal, Reply, Scan};
+use tab_key::Name;
+use tab_label::AuthSet;
+use tab_store::Tables;
+
+/// A session on a scan's answer, for a caller with these authorizations.
+pub fn open(
+    alloc: Global,
+    tables: &mut Tables,
+    authorizations: &AuthSet,
+    scan: Scan,
+) -> Reply<Session>
+    ensures { (now : ℤ) (next : ℕ) → ActsOnTables authorizations.now now (Act.Open scan) tables.old next result tables.new next }
+{
+    if let Some(refusal) = scan_refusal(alloc, authorizations, &scan) {
+        return Reply::Refused(refusal);
+    }
+    handed(session_on(alloc, tables, scan))
+}
+
+// A session on what the scan shows of its table, on nothing where there is no such table. The table's tablets are frozen.
+fn session_on(alloc: Global, tables: &mut Tables, scan: Scan) -> Result<Session, AllocError>
+    ensures ok { OnOk result ((q : List ℕ) → table_at tables.new q ≡ changed_table scan.table (with_tablets (map frozen)) tables.old q) }
+    ensures opened { IfOk result (λ s. s ≡ record { all = listed (sorted (records_of_all (tablets_of (table_at tables.old scan.table)))) (query_of scan) (settings_at (table_at tables.old scan.table)); given = 0 }) }
+    ensures count { length tables.new ≡ length tables.old }
+    ensures names { RiseByName tables.new }
+    ensures err { OnErr result (tables.new ≡ tables.old) }
+{
+    let versions = versions_of(tables, &scan.table);
+    let version = tables.open(alloc, &scan.table, &scan.bounds)?;
+    Ok(Session::new(version, scan.columns, scan.authorizations, versions))
+}
+
+// How many versions the table shows; none, where there is no such table.
+fn versions_of(tables: &Tables, name: &Name) -> u32
+    ensures { result ≡ versions_shown (settings_at (table_at tables.now name.now)) }
+{
+    match tables.get(name) {
+        Some(table) => table.versions().get(),
+        None => 0,
+    }
+}
+
+// The session is handed out, if it could be made.
+fn handed(made: Result<Session, AllocError>) -> Reply<Session>
+    ensures ok { IfOk made (λ session. result ≡ Reply.Opened session) }
+    ensures err { OnErr made (result ≡ Reply.Refused Refusal.NoMemory) }
+{
+    match made {
+        Ok(session) => Reply::Opened(session),
+        Err(AllocError) => Reply::Refused(Refusal::NoMemory),
+    }
+}

@@ -1,0 +1,81 @@
+//! What a core holds, and what an event does to it.
+ghost use Rattle.std.specs.Prelude.{◌≡◌, []};
+ghost use Rattle.tab_history.specs.Answers.{event_answer};
+ghost use Rattle.tab_store.specs.Stores.{base_of};
+ghost use Rattle.tab_core.specs.Holding.{held};
+ghost use Rattle.tab_core.specs.Stepping.{Acts, IsCore};
+
+use crate::Session;
+use crate::granting::rights;
+use crate::policing::{action_of, refusal_of};
+use crate::scans::open;
+use crate::writes::write;
+use std::alloc::Global;
+use tab_history::{Act, Refusal, Reply};
+use tab_key::Name;
+use tab_policy::Policy;
+use tab_store::Tables;
+
+/// The clock, the number that the next accepted write gets, users with their rights, and tables.
+#[derive(Drop)]
+pub struct Store {
+    /// The greatest moment so far.
+    pub clock: i64,
+    /// The number of the next accepted write.
+    pub next: u64,
+    /// Users and rights.
+    pub policy: Policy,
+    /// The tables.
+    pub tables: Tables,
+}
+
+impl Store {
+    /// Answers the event, and does what the answer says; the clock is set afterwards. `now` is the clock with the event's moment in it.
+    pub fn answer(&mut self, alloc: Global, now: i64, user: Name, act: Act) -> Reply<Session>
+        requires { IsCore (held self.old) }
+        ensures { Acts (event_answer (base_of (held self.old)) [] now user act) (held self.old) now user act result (held self.new) }
+    {
+        let caller = match self.policy.decide(&user, &action_of(&act)) {
+            Ok(caller) => caller,
+            Err(denial) => return refused(act, refusal_of(user, denial)),
+        };
+        match act {
+            Act::Open(scan) => open(alloc, &mut self.tables, caller.authorizations, scan),
+            Act::Write(table, mutation) => write(
+                alloc,
+                &mut self.tables,
+                &mut self.next,
+                caller.authorizations,
+                now,
+                table,
+                mutation,
+            ),
+            Act::CreateTable(table, time, versions) => self.create_table(
+                now, user, table, time, versions,
+            ),
+            Act::DropTable(table) => self.drop_table(now, user, table),
+            Act::SetConstraints(table, constraints) => self.set_constraints(
+                now,
+                user,
+                table,
+                constraints,
+            ),
+            Act::CreateUser(name) => self.create_user(now, user, name),
+            Act::DropUser(name) => self.drop_user(now, user, name),
+            Act::SetAuths(name, auths) => self.set_auths(now, user, name, auths),
+            Act::Grant(name, permission) => self.grant(now, user, name, permission),
+            Act::Revoke(name, permission) => self.revoke(now, user, name, permission),
+            Act::Rights(_) => rights(caller),
+            Act::Status(table) => self.status(now, user, table),
+            Act::Flush(table) => self.flush(alloc, now, user, table),
+            Act::Compact(table, extent) => self.compact(alloc, now, user, table, extent),
+        }
+    }
+}
+
+// The reply to an act that isn't done.
+fn refused(_act: Act, refusal: Refusal) -> Reply<Session>
+    ensures { result ≡ Reply.Refused refusal }
+{
+    Reply::Refused(refusal)
+}

@@ -1,0 +1,71 @@
+//! Mutations written.
+ghost use Rattle.std.specs.Prelude.{◌≡◌, ◌<◌, ◌⊎◌, Some, None, true, is_some, Contains};
+ghost use Rattle.tab_key.specs.Records.{Record};
+ghost use Rattle.tab_mutation.specs.Shape.{first_some, shape_error};
+ghost use Rattle.tab_store.specs.Stores.{records_of_all};
+ghost use Rattle.tab_store.specs.Tables.{table_at, settings_at, tablets_of};
+ghost use Rattle.tab_core.specs.Stepping.{ActsOnTables, write_checks};
+
+use crate::Session;
+use crate::checking::mutation_refusal;
+use std::alloc::{AllocError, Global};
+use tab_history::{Act, Refusal, Reply};
+use tab_key::{Name, Part};
+use tab_label::AuthSet;
+use tab_mutation::Mutation;
+use tab_store::Tables;
+
+/// All updates of a mutation, or none, by a caller with these authorizations. The number is the one that the write gets.
+pub fn write(
+    alloc: Global,
+    tables: &mut Tables,
+    next: &mut u64,
+    authorizations: &AuthSet,
+    now: i64,
+    table: Name,
+    mutation: Mutation,
+) -> Reply<Session>
+    requires there { is_some (table_at tables.old table) ≡ true }
+    requires unused { (u : Record) → Contains (records_of_all (tablets_of (table_at tables.old table))) u → u.seq < next.old }
+    ensures { ActsOnTables authorizations.now now (Act.Write table mutation) tables.old next.old result tables.new next.new }
+{
+    let refusal = write_refusal(alloc, tables, &table, authorizations, *next, now, &mutation);
+    if let Some(refusal) = refusal {
+        return Reply::Refused(refusal);
+    }
+    match tables.write(&table, &mutation, *next, now) {
+        Ok(()) => {
+            *next += 1;
+            Reply::Done
+        }
+        Err(AllocError) => Reply::Refused(Refusal::NoMemory),
+    }
+}
+
+// Why a mutation of the table, which must be there, by a caller with these authorizations is refused, or that memory lacked; last of all
+// checks comes the number that the write would get.
+fn write_refusal(
+    alloc: Global,
+    tables: &Tables,
+    name: &Name,
+    authorizations: &AuthSet,
+    next: u64,
+    now: i64,
+    mutation: &Mutation,
+) -> Option<Refusal>
+    requires { is_some (table_at tables.now name.now) ≡ true }
+    ensures answers { (result ≡ first_some (write_checks (settings_at (table_at tables.now name.now)) authorizations.now now mutation.now next)) ⊎ (result ≡ Some Refusal.NoMemory) }
+    ensures shape { result ≡ None → shape_error mutation.now ≡ None }
+    ensures room { result ≡ None → next < 18446744073709551615 }
+{
+    let Some(table) = tables.get(name) else {
+        return Some(Refusal::NoTable(*name));
+    };
+    if let Some(refusal) = mutation_refusal(alloc, table, authorizations, now, mutation) {
+        return Some(refusal);
+    }
+    if next == u64::MAX {
+        return Some(Refusal::TooLarge(Part::Numbers));
+    }
+    None
+}
