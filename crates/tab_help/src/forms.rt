@@ -18,7 +18,10 @@ pub const LINES: &str = "  as U
   insert T ROW FAM QUAL LABEL VALUE [TS]
   delete T ROW FAM QUAL LABEL [TS]
   mutate T ROW [UPDATE [; UPDATE]..]
-  scan T AUTHS [LOW HIGH [COLS]]";
+  scan T AUTHS [LOW HIGH [COLS]]
+  flush T
+  compact T EXTENT
+  status T";
 
 /// The updates of a `mutate`, as the lines.
 pub const UPDATES: &str = "  put FAM QUAL LABEL VALUE STAMP
@@ -44,6 +47,7 @@ pub const KINDS: &str = "  U                  a user's name: 1 to 128 of a-z A-Z
   LOW                [ and a byte word (from this row on), ( and a byte word (behind it), or \\0 for no bound
   HIGH               [ and a byte word (up to this row), ( and a byte word (before it), or \\0 for no bound
   COLS               FAM or FAM:QUAL, with commas between them, or \\0 for all
+  EXTENT             partial or full
   UPDATE             put or del, and the words behind it
   ;                  between two updates";
 

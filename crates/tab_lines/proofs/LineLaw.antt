@@ -14,9 +14,11 @@ use Rattle.tab_mutation.specs.Mutations.{Mutation, Update, with_update}
 use Rattle.tab_rules.specs.Constraints.{constraint_set_of}
 use Rattle.tab_rules.specs.declared.constraint.Constraint.{Constraint}
 use Rattle.tab_policy.specs.declared.permission.Permission.{Permission}
+use Rattle.tab_history.specs.declared.event.Extent.{Extent}
+use Rattle.tab_history.specs.declared.event.Extent.TheVariants.{Partial, Full}
 use Rattle.tab_history.specs.declared.event.TimeMode.{TimeMode}
 use Rattle.tab_history.specs.declared.event.TimeMode.TheVariants.{Any, Server}
-use Rattle.tab_history.specs.declared.event.Act.TheVariants.{CreateTable, DropTable, CreateUser, DropUser, SetAuths, Grant, Revoke, SetConstraints, Write, Rights}
+use Rattle.tab_history.specs.declared.event.Act.TheVariants.{CreateTable, DropTable, CreateUser, DropUser, SetAuths, Grant, Revoke, SetConstraints, Write, Rights, Status, Flush, Compact}
 use Rattle.tab_lines.specs.declared.line.Line.{Line}
 use Rattle.tab_lines.specs.declared.line.Line.TheVariants as says
 use Rattle.tab_lines.specs.declared.command.Command.{Command}
@@ -26,13 +28,13 @@ use Rattle.tab_lines.specs.Gives.{field, ends, optional}
 use Rattle.tab_lines.specs.Words.{words_of}
 use Rattle.tab_text.specs.Words.{IsWord}
 use Rattle.tab_text.specs.Reading.{bytes_of}
-use Rattle.tab_lines.specs.Fields.{name_of, signed_of, time_word, versions_word, list_of, constraints_of, bound_of, columns_of}
+use Rattle.tab_lines.specs.Fields.{name_of, signed_of, time_word, extent_word, versions_word, list_of, constraints_of, bound_of, columns_of}
 use Rattle.tab_lines.specs.Updates.{row_of, with_updates, put_of, delete_of, updates_of}
-use Rattle.tab_lines.specs.Lines.{name_alone, grant_of, settings_at, settings, createtable_of, setauths_of, constraints_line_of, insert_of, delete_line_of, mutate_of, bounds_of, scan_of, at_of, command_of, commanded, said, is_comment, line_of}
-use Rattle.tab_lines.specs.Forms.{IsNameWord, IsNumber, IsList, IsConstraint, IsBound, IsVersions, time_name, AreSettings, IsPermission, IsLastTimestamp, AreUpdates, AreLimits, Form, IsLine, LinesAreForms}
+use Rattle.tab_lines.specs.Lines.{name_alone, grant_of, settings_at, settings, createtable_of, setauths_of, constraints_line_of, insert_of, delete_line_of, mutate_of, bounds_of, scan_of, compact_of, at_of, command_of, commanded, said, is_comment, line_of}
+use Rattle.tab_lines.specs.Forms.{IsNameWord, IsNumber, IsList, IsConstraint, IsBound, IsVersions, time_name, extent_name, AreSettings, IsPermission, IsLastTimestamp, AreUpdates, AreLimits, Form, IsLine, LinesAreForms}
 use Rattle.tab_lines.specs.Forms.AreSettings.{neither as set_neither, time as set_time, versions as set_versions, both as set_both}
 use Rattle.tab_lines.specs.Forms.AreLimits.{all as limit_all, rows as limit_rows, columns as limit_columns}
-use Rattle.tab_lines.specs.Forms.Form.{blank as form_blank, asker as form_asker, at as form_at, createtable as form_createtable, droptable as form_droptable, createuser as form_createuser, dropuser as form_dropuser, setauths as form_setauths, grant as form_grant, revoke as form_revoke, rights as form_rights, constraints as form_constraints, insert as form_insert, delete as form_delete, mutate as form_mutate, scan as form_scan}
+use Rattle.tab_lines.specs.Forms.Form.{blank as form_blank, asker as form_asker, at as form_at, createtable as form_createtable, droptable as form_droptable, createuser as form_createuser, dropuser as form_dropuser, setauths as form_setauths, grant as form_grant, revoke as form_revoke, rights as form_rights, constraints as form_constraints, insert as form_insert, delete as form_delete, mutate as form_mutate, scan as form_scan, flush as form_flush, compact as form_compact, status as form_status}
 use Rattle.tab_lines.specs.Forms.IsLine.{comment as line_comment, words as line_words}
 use Rattle.tab_lines.proofs.WordLaw.{words_read}
 use Rattle.tab_lines.proofs.WordsLaw.{words_sound, words_complete}
@@ -52,6 +54,20 @@ on_cond false x y z P is then other = other refl is
 ends_none : (words end : Words) → ends words ≡ Some end → words ≡ []
 ends_none [] end is = refl
 ends_none (word ∷ words) end is = absurd cc
+
+-- ---- what a compaction merges
+
+extent_sound : (word : List ℕ) (extent : Extent) → extent_word word ≡ Some extent → word ≡ extent_name extent
+extent_sound word extent is =
+    on_cond (bytes_eq word (codes "partial")) (Some Partial) _ extent (word ≡ extent_name extent) is
+    (λ yes e. (bytes_eq-Decides word (codes "partial")).0 yes ∙ ap extent_name (some_inj Partial extent e))
+    (λ no e. on_cond (bytes_eq word (codes "full")) (Some Full) _ extent (word ≡ extent_name extent) e
+    (λ yes e2. (bytes_eq-Decides word (codes "full")).0 yes ∙ ap extent_name (some_inj Full extent e2))
+    (λ no2 e2. absurd cc))
+
+extent_complete : (extent : Extent) → extent_word (extent_name extent) ≡ Some extent
+extent_complete Partial = refl
+extent_complete Full = refl
 
 -- ---- the settings of a new table
 
@@ -307,6 +323,22 @@ at_complete : (t : List ℕ) (moment : ℤ) → IsNumber t moment → at_of (t �
 unfolding at_of
 at_complete t moment is = bind_some (field signed_of (t ∷ [])) (moment, []) _ _ (field_some signed_of t [] moment (numbers_read.complete t moment is)) refl
 
+compact_sound : (words : Words) (line : Line) → compact_of words ≡ Some line → Form (codes "compact" ∷ words) line
+unfolding compact_of
+compact_sound words line is =
+    on_field name_of words _ line (λ ws. Form (codes "compact" ∷ ws) line) is (λ t ws1 table e1 f1.
+    on_field extent_word ws1 _ line (λ ws. Form (codes "compact" ∷ t ∷ ws) line) f1 (λ word ws2 extent e2 f2.
+    on_ends ws2 _ line (λ ws. Form (codes "compact" ∷ t ∷ word ∷ ws) line) f2 (λ f3.
+    subst (λ (y : Line). Form (codes "compact" ∷ t ∷ word ∷ []) y) (some_inj (says.Act (Compact table extent)) line f3)
+    (subst (λ (w : List ℕ). Form (codes "compact" ∷ t ∷ w ∷ []) (says.Act (Compact table extent))) (sym (extent_sound word extent e2))
+    (form_compact t table extent (names_read.sound t table e1))))))
+
+compact_complete : (t table : List ℕ) (extent : Extent) → IsNameWord t table → compact_of (t ∷ extent_name extent ∷ []) ≡ Some (says.Act (Compact table extent))
+unfolding compact_of
+compact_complete t table extent name =
+    bind_some (field name_of (t ∷ extent_name extent ∷ [])) (table, extent_name extent ∷ []) _ _ (field_some name_of t (extent_name extent ∷ []) table (names_read.complete t table name))
+    (bind_some (field extent_word (extent_name extent ∷ [])) (extent, []) _ _ (field_some extent_word (extent_name extent) [] extent (extent_complete extent)) refl)
+
 -- ---- all lines
 
 -- the word of a command
@@ -326,6 +358,9 @@ command_name command.Insert = codes "insert"
 command_name command.Delete = codes "delete"
 command_name command.Mutate = codes "mutate"
 command_name command.Scan = codes "scan"
+command_name command.Flush = codes "flush"
+command_name command.Compact = codes "compact"
+command_name command.Status = codes "status"
 
 command_sound : (word : List ℕ) (c : Command) → command_of word ≡ Some c → word ≡ command_name c
 command_sound word c is =
@@ -343,7 +378,10 @@ command_sound word c is =
     on_cond (bytes_eq word (codes "insert")) (Some command.Insert) _ c (word ≡ command_name c) e11 (λ yes e. named (codes "insert") command.Insert yes refl e) (λ no12 e12.
     on_cond (bytes_eq word (codes "delete")) (Some command.Delete) _ c (word ≡ command_name c) e12 (λ yes e. named (codes "delete") command.Delete yes refl e) (λ no13 e13.
     on_cond (bytes_eq word (codes "mutate")) (Some command.Mutate) _ c (word ≡ command_name c) e13 (λ yes e. named (codes "mutate") command.Mutate yes refl e) (λ no14 e14.
-    on_cond (bytes_eq word (codes "scan")) (Some command.Scan) _ c (word ≡ command_name c) e14 (λ yes e. named (codes "scan") command.Scan yes refl e) (λ no15 e15. absurd cc)))))))))))))))
+    on_cond (bytes_eq word (codes "scan")) (Some command.Scan) _ c (word ≡ command_name c) e14 (λ yes e. named (codes "scan") command.Scan yes refl e) (λ no15 e15.
+    on_cond (bytes_eq word (codes "flush")) (Some command.Flush) _ c (word ≡ command_name c) e15 (λ yes e. named (codes "flush") command.Flush yes refl e) (λ no16 e16.
+    on_cond (bytes_eq word (codes "compact")) (Some command.Compact) _ c (word ≡ command_name c) e16 (λ yes e. named (codes "compact") command.Compact yes refl e) (λ no17 e17.
+    on_cond (bytes_eq word (codes "status")) (Some command.Status) _ c (word ≡ command_name c) e17 (λ yes e. named (codes "status") command.Status yes refl e) (λ no18 e18. absurd cc))))))))))))))))))
   where
     named : (text : List ℕ) (d : Command) → bytes_eq word text ≡ true → text ≡ command_name d → Some d ≡ Some c → word ≡ command_name c
     named text d same name e = (bytes_eq-Decides word text).0 same ∙ name ∙ ap command_name (some_inj d c e)
@@ -379,6 +417,9 @@ commanded_sound command.Insert words line is = insert_sound words line is
 commanded_sound command.Delete words line is = delete_sound words line is
 commanded_sound command.Mutate words line is = mutate_sound words line is
 commanded_sound command.Scan words line is = scan_sound words line is
+commanded_sound command.Flush words line is = named_sound (codes "flush") (λ name. says.Act (Flush name)) words line form_flush is
+commanded_sound command.Compact words line is = compact_sound words line is
+commanded_sound command.Status words line is = named_sound (codes "status") (λ name. says.Act (Status name)) words line form_status is
 
 said_sound : (words : Words) (line : Line) → said words ≡ Some line → Form words line
 said_sound [] line is = subst (λ (y : Line). Form [] y) (some_inj says.Blank line is) form_blank
@@ -404,6 +445,9 @@ said_complete words line (form_delete t r f q l table row family qualifier label
     delete_line_complete t r f q l table row family qualifier label ws timestamp name w0 w1 w2 w3 time
 said_complete words line (form_mutate t r table row ws updates name w0 are) = mutate_complete t r table row ws updates name w0 are
 said_complete words line (form_scan t a table members ws bounds columns name list are) = scan_complete t a table members ws bounds columns name list are
+said_complete words line (form_flush t table name) = ap (λ (o : Option (List ℕ)). option_map (λ n. says.Act (Flush n)) o) (name_alone_complete t table name)
+said_complete words line (form_compact t table extent name) = compact_complete t table extent name
+said_complete words line (form_status t table name) = ap (λ (o : Option (List ℕ)). option_map (λ n. says.Act (Status n)) o) (name_alone_complete t table name)
 
 line_sound : (text : List ℕ) (line : Line) → line_of text ≡ Some line → IsLine text line
 line_sound [] line is = line_words [] (words_of []) line (λ rest e. absurd cc) (words_sound (words_of []) [] refl) (said_sound (words_of []) line is)

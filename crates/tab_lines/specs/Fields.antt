@@ -16,6 +16,8 @@ use Rattle.tab_rules.specs.declared.constraint.Constraint.{Constraint}
 use Rattle.tab_policy.specs.Permissions.{system_by_name, table_by_name}
 use Rattle.tab_policy.specs.declared.permission.Permission.{Permission}
 use Rattle.tab_policy.specs.declared.permission.Permission.TheVariants.{OfSystem, OfTable}
+use Rattle.tab_history.specs.declared.event.Extent.{Extent}
+use Rattle.tab_history.specs.declared.event.Extent.TheVariants.{Partial, Full}
 use Rattle.tab_history.specs.declared.event.TimeMode.{TimeMode}
 use Rattle.tab_history.specs.declared.event.TimeMode.TheVariants.{Any, Server}
 use Rattle.tab_lines.specs.Words.{parts_at}
@@ -80,6 +82,12 @@ time_word word = if bytes_eq word (codes "time=any") then Some Any else if bytes
 -- how many versions, behind the nine bytes versions=
 abbrev pub versions_word : List ℕ → Option ℕ
 versions_word word = if bytes_eq (take 9 word) (codes "versions=") then option_and_then (only_if is_version_count) (magnitude_of (drop 9 word)) else None
+
+-- ---- a word of a compaction
+
+-- what it merges
+abbrev pub extent_word : List ℕ → Option Extent
+extent_word word = if bytes_eq word (codes "partial") then Some Partial else if bytes_eq word (codes "full") then Some Full else None
 
 -- ---- permissions
 

@@ -16,9 +16,11 @@ use Rattle.tab_rules.specs.declared.constraint.Constraint.{Constraint}
 use Rattle.tab_policy.specs.Permissions.{system_name, table_name}
 use Rattle.tab_policy.specs.declared.permission.Permission.{Permission}
 use Rattle.tab_policy.specs.declared.permission.Permission.TheVariants.{OfSystem, OfTable}
+use Rattle.tab_history.specs.declared.event.Extent.{Extent}
+use Rattle.tab_history.specs.declared.event.Extent.TheVariants.{Partial, Full}
 use Rattle.tab_history.specs.declared.event.TimeMode.{TimeMode}
 use Rattle.tab_history.specs.declared.event.TimeMode.TheVariants.{Any, Server}
-use Rattle.tab_history.specs.declared.event.Act.TheVariants.{CreateTable, DropTable, CreateUser, DropUser, SetAuths, Grant, Revoke, SetConstraints, Write, Rights}
+use Rattle.tab_history.specs.declared.event.Act.TheVariants.{CreateTable, DropTable, CreateUser, DropUser, SetAuths, Grant, Revoke, SetConstraints, Write, Rights, Status, Flush, Compact}
 use Rattle.tab_lines.specs.declared.line.Line.{Line}
 use Rattle.tab_lines.specs.declared.line.Line.TheVariants as line
 use Rattle.tab_lines.specs.Words.{parts_at}
@@ -73,6 +75,11 @@ IsColumn word (Qualified family qualifier) =
 abbrev pub time_name : TimeMode → List ℕ
 time_name Any = codes "time=any"
 time_name Server = codes "time=server"
+
+-- how a line says what a compaction merges
+abbrev pub extent_name : Extent → List ℕ
+extent_name Partial = codes "partial"
+extent_name Full = codes "full"
 
 -- the word is versions= and a number from 1 to 1,000
 abbrev pub IsVersions : List ℕ → ℕ → Type 0
@@ -154,6 +161,9 @@ pub data Form : List (List ℕ) → Line → Type 0 where
   scan : (t a table : List ℕ) (members : List (List ℕ)) (words : List (List ℕ)) (bounds : Bounds) (columns : List Column)
       → IsNameWord t table → IsList IsWord a members → AreLimits words bounds columns
       → Form (codes "scan" ∷ t ∷ a ∷ words) (line.Scan (record { table = table; bounds = bounds; columns = columns; authorizations = set_of members }))
+  flush : (t table : List ℕ) → IsNameWord t table → Form (codes "flush" ∷ t ∷ []) (line.Act (Flush table))
+  compact : (t table : List ℕ) (extent : Extent) → IsNameWord t table → Form (codes "compact" ∷ t ∷ extent_name extent ∷ []) (line.Act (Compact table extent))
+  status : (t table : List ℕ) → IsNameWord t table → Form (codes "status" ∷ t ∷ []) (line.Act (Status table))
 
 -- there is a byte, and none is a space
 abbrev pub IsPlainWord : List ℕ → Type 0

@@ -9,7 +9,7 @@ use Rattle.tab_policy.specs.declared.permission.Permission.{Permission}
 use Rattle.tab_history.specs.declared.event.TimeMode.{TimeMode}
 use Rattle.tab_history.specs.declared.event.TimeMode.TheVariants.{Any}
 use Rattle.tab_rules.specs.Constraints.{constraint_set_of}
-use Rattle.tab_history.specs.declared.event.Act.TheVariants.{CreateTable, DropTable, CreateUser, DropUser, SetAuths, Grant, Revoke, SetConstraints, Write, Rights}
+use Rattle.tab_history.specs.declared.event.Act.TheVariants.{CreateTable, DropTable, CreateUser, DropUser, SetAuths, Grant, Revoke, SetConstraints, Write, Rights, Status, Flush, Compact}
 use Rattle.tab_lines.specs.declared.line.Line.{Line}
 use Rattle.tab_lines.specs.declared.line.Line.TheVariants as line
 use Rattle.tab_lines.specs.declared.command.Command.{Command}
@@ -17,7 +17,7 @@ use Rattle.tab_lines.specs.declared.command.Command.TheVariants as command
 use Rattle.tab_lines.specs.declared.updates.TimestampForm.TheVariants.{Optional}
 use Rattle.tab_lines.specs.Gives.{◌>>=◌, field, ends, optional}
 use Rattle.tab_lines.specs.Words.{words_of}
-use Rattle.tab_lines.specs.Fields.{name_of, signed_of, time_word, versions_word, system_permission, table_permission, list_of, constraints_of, bound_of, columns_of}
+use Rattle.tab_lines.specs.Fields.{name_of, signed_of, time_word, versions_word, extent_word, system_permission, table_permission, list_of, constraints_of, bound_of, columns_of}
 use Rattle.tab_lines.specs.Updates.{row_of, with_updates, put_of, delete_of, updates_of}
 use Rattle.tab_mutation.specs.Mutations.{with_update}
 
@@ -125,6 +125,14 @@ scan_of words = do
   end ← ends columns.1
   Some (line.Scan (record { table = table.0; bounds = bounds.0; columns = columns.0; authorizations = set_of auths.0 }))
 
+-- the words behind the command of a line compact T partial or compact T full
+unfoldable pub compact_of : List (List ℕ) → Option Line
+compact_of words = do
+  table ← field name_of words
+  extent ← field extent_word table.1
+  end ← ends extent.1
+  Some (line.Act (Compact table.0 extent.0))
+
 -- the words behind the command of a line at MOMENT
 unfoldable pub at_of : List (List ℕ) → Option Line
 at_of words = do
@@ -150,6 +158,9 @@ command_of word =
     else if bytes_eq word (codes "delete") then Some command.Delete
     else if bytes_eq word (codes "mutate") then Some command.Mutate
     else if bytes_eq word (codes "scan") then Some command.Scan
+    else if bytes_eq word (codes "flush") then Some command.Flush
+    else if bytes_eq word (codes "compact") then Some command.Compact
+    else if bytes_eq word (codes "status") then Some command.Status
     else None
 
 -- the words after the command
@@ -169,6 +180,9 @@ commanded command.Insert words = insert_of words
 commanded command.Delete words = delete_line_of words
 commanded command.Mutate words = mutate_of words
 commanded command.Scan words = scan_of words
+commanded command.Flush words = option_map (λ table. line.Act (Flush table)) (name_alone words)
+commanded command.Compact words = compact_of words
+commanded command.Status words = option_map (λ table. line.Act (Status table)) (name_alone words)
 
 -- what the words of a line say; no words say nothing
 abbrev pub said : List (List ℕ) → Option Line

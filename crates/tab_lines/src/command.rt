@@ -35,6 +35,12 @@ pub enum Command {
     Mutate,
     /// `scan`
     Scan,
+    /// `flush`
+    Flush,
+    /// `compact`
+    Compact,
+    /// `status`
+    Status,
 }
 
 /// The command that a word is. Commands are literal: nothing in them may be escaped.
@@ -57,6 +63,9 @@ pub fn command_of(word: &[u8]) -> Option<Command>
         b"delete" => Some(Command::Delete),
         b"mutate" => Some(Command::Mutate),
         b"scan" => Some(Command::Scan),
+        b"flush" => Some(Command::Flush),
+        b"compact" => Some(Command::Compact),
+        b"status" => Some(Command::Status),
         _ => None,
     }
 }

@@ -5,17 +5,18 @@ ghost use Rattle.tab_lines.specs.Gives.{Gives, field, ends};
 ghost use Rattle.tab_lines.specs.Words.{words_left};
 ghost use Rattle.tab_text.specs.Reading.{bytes_of};
 ghost use Rattle.tab_lines.specs.Spelling.{bytes_spelled};
-ghost use Rattle.tab_lines.specs.Fields.{name_of, signed_of, list_of, bound_of};
+ghost use Rattle.tab_lines.specs.Fields.{name_of, signed_of, list_of, bound_of, extent_word};
 ghost use Rattle.tab_lines.specs.Lines.{name_alone};
 
 use crate::LineError;
 use crate::bounds::bound_of;
 use crate::lists::list_of;
-use crate::names::name_of;
+use crate::names::{extent_word, name_of};
 use crate::numbers::signed_of;
 use crate::spelling::{Spelled, spelling_of};
 use crate::words::Words;
 use std::alloc::Global;
+use tab_history::Extent;
 use tab_key::{Bound, Name};
 
 /// Takes a word that spells a name.
@@ -66,6 +67,19 @@ pub fn a_bound(alloc: Global, words: &mut Words) -> Result<Bound, LineError>
         return Err(LineError::Fault);
     };
     bound_of(alloc, word)
+}
+
+/// Takes a word that says what a compaction merges.
+pub fn an_extent(words: &mut Words) -> Result<Extent, LineError>
+    ensures { Gives (λ x. (x, words_left words.new)) result (field extent_word (words_left words.old)) }
+{
+    let Some(word) = words.next() else {
+        return Err(LineError::Fault);
+    };
+    let Some(extent) = extent_word(word) else {
+        return Err(LineError::Fault);
+    };
+    Ok(extent)
 }
 
 /// Takes the last word, which spells a name.

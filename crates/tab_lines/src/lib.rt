@@ -20,8 +20,11 @@
 //! | `delete T ROW FAM QUAL LABEL [TS]` | a mutation of one delete |
 //! | `mutate T ROW`, updates parted by the word `;` | a mutation of `put FAM QUAL LABEL VALUE TS` and `del FAM QUAL LABEL TS`, TS a number or `-` for none |
 //! | `scan T AUTHS [LOW HIGH [COLS]]` | a whole scan |
+//! | `flush T` | a minor compaction of each of a table's tablets |
+//! | `compact T partial\|full` | a major compaction of each of them, of some of their sorted tables or of all that they hold |
+//! | `status T` | count a table's tablets, and what they hold |
 //!
-//! Commands, the names of permissions and the words `put`, `del`, `;`, `-`, `time=..` and `versions=` are literal. Names
+//! Commands, the names of permissions and the words `put`, `del`, `;`, `-`, `time=..`, `versions=`, `partial` and `full` are literal. Names
 //! of users and tables, rows and the other parts are byte words (crate `tab_text`). P is the name of a permission as
 //! crate `tab_policy` has it: of a system permission where it is the last word, else of a table permission. The forms of updates have fixed lengths and are read by place, so a value may be
 //! the word `;`. A number is decimal digits, leading zeros are accepted, a minus stands before a negative one alone, and

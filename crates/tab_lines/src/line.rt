@@ -3,12 +3,12 @@ ghost use Rattle.std.specs.Prelude.{[]};
 ghost use Rattle.tab_lines.specs.Gives.{Gives, optional};
 ghost use Rattle.tab_lines.specs.Words.{words_left};
 ghost use Rattle.tab_lines.specs.Fields.{constraints_of, columns_of, versions_word};
-ghost use Rattle.tab_lines.specs.Lines.{settings, createtable_of, setauths_of, constraints_line_of, insert_of, delete_line_of, mutate_of, bounds_of, scan_of, at_of, commanded, said, line_of};
+ghost use Rattle.tab_lines.specs.Lines.{settings, createtable_of, setauths_of, constraints_line_of, insert_of, delete_line_of, mutate_of, bounds_of, scan_of, compact_of, at_of, commanded, said, line_of};
 
 use crate::LineError;
 use crate::bounds::bound_of;
 use crate::command::{Command, command_of};
-use crate::fields::{a_bound, a_list, a_name, a_number, ends, name_alone};
+use crate::fields::{a_bound, a_list, a_name, a_number, an_extent, ends, name_alone};
 use crate::lists::{columns_of, constraints_of};
 use crate::names::time_word;
 use crate::numbers::versions_word;
@@ -177,6 +177,16 @@ fn scan(alloc: Global, words: &mut Words) -> Result<Line, LineError>
     }))
 }
 
+#[tactic(auto, unfolding(crate::specs::Lines::compact_of))]
+fn compact(alloc: Global, words: &mut Words) -> Result<Line, LineError>
+    ensures { Gives (λ x. x) result (compact_of (words_left words.old)) }
+{
+    let table = a_name(alloc, words)?;
+    let extent = an_extent(words)?;
+    ends(words)?;
+    Ok(Line::Act(Act::Compact(table, extent)))
+}
+
 #[tactic(auto, unfolding(crate::specs::Lines::at_of))]
 fn at(words: &mut Words) -> Result<Line, LineError>
     ensures { Gives (λ x. x) result (at_of (words_left words.old)) }
@@ -212,6 +222,9 @@ fn commanded(alloc: Global, command: Command, words: &mut Words) -> Result<Line,
         Command::Delete => delete(alloc, words),
         Command::Mutate => mutate(alloc, words),
         Command::Scan => scan(alloc, words),
+        Command::Flush => Ok(Line::Act(Act::Flush(name_alone(alloc, words)?))),
+        Command::Compact => compact(alloc, words),
+        Command::Status => Ok(Line::Act(Act::Status(name_alone(alloc, words)?))),
     }
 }
 

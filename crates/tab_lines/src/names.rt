@@ -1,12 +1,12 @@
 //! The names that words spell.
 ghost use Rattle.std.specs.Prelude.{◌≡◌};
 ghost use Rattle.tab_lines.specs.Gives.{Gives};
-ghost use Rattle.tab_lines.specs.Fields.{name_of, is_name, only_if, time_word, constraint_of};
+ghost use Rattle.tab_lines.specs.Fields.{name_of, is_name, only_if, time_word, extent_word, constraint_of};
 
 use crate::LineError;
 use crate::spelling::spelling_of;
 use std::alloc::Global;
-use tab_history::TimeMode;
+use tab_history::{Extent, TimeMode};
 use tab_key::Name;
 use tab_rules::Constraint;
 
@@ -36,6 +36,17 @@ pub fn time_word(word: &[u8]) -> Option<TimeMode>
     match word {
         b"time=any" => Some(TimeMode::Any),
         b"time=server" => Some(TimeMode::Server),
+        _ => None,
+    }
+}
+
+/// What a compaction merges: the words `partial` and `full`.
+pub fn extent_word(word: &[u8]) -> Option<Extent>
+    ensures { result ≡ extent_word word.now }
+{
+    match word {
+        b"partial" => Some(Extent::Partial),
+        b"full" => Some(Extent::Full),
         _ => None,
     }
 }

@@ -1,8 +1,9 @@
 -- What a subcommand does, from its input to its output.
 use Rattle.std.specs.Prelude.{◌≡◌, Result, Ok, Err}
-use Rattle.tab_history.specs.Bases.{Base, new_core}
+use Rattle.tab_history.specs.Bases.{new_core}
 use Rattle.tab_history.specs.Histories.{world_of}
 use Rattle.tab_history.specs.Refinement.{Refines}
+use Rattle.tab_store.specs.Stores.{Held, base_of, IsNewStore}
 use Rattle.tab_io.specs.declared.reading.Input.{Ghosts as InputGhosts}
 use Rattle.tab_io.specs.declared.writing.Output.{Ghosts}
 use Rattle.tab_prog.specs.declared.scripting.ProgramFault.{ProgramFault}
@@ -16,7 +17,7 @@ use Rattle.tab_shell.specs.Progress.{RunsScript}
 
 -- a script over a new core
 abbrev pub IsFresh : ScriptState → Type 0
-IsFresh script = (core : Base) × Refines (world_of core) (world_of new_core) × (script ≡ new_script core)
+IsFresh script = (core : Held) × IsNewStore core × Refines (world_of (base_of core)) (world_of new_core) × (script ≡ new_script core)
 
 -- the script runs over the input, to some last state
 abbrev pub Runs : {R W : Type 0} → InputGhosts R → Ghosts W → ScriptState → R → W → R → W → Result Ended ScriptFault → Type 0

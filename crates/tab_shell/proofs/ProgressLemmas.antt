@@ -5,6 +5,8 @@ use Rattle.std.specs.Io.KnownBytes.{Keeps}
 use Rattle.std.proofs.lemmas.List.{append-nil}
 use Rattle.tab_history.specs.Histories.{Entry, World}
 use Rattle.tab_history.specs.Legal.{Legal}
+use Rattle.tab_store.specs.Chains.{EntryGoes}
+use Rattle.tab_store.proofs.Joining.{chain_join}
 use Rattle.tab_io.specs.Streams.{IsEnd, Fills}
 use Rattle.tab_io.specs.Writing.{HasPut, HasPutPart, WriteFailed}
 use Rattle.tab_io.specs.declared.writing.Output.{Ghosts}
@@ -44,24 +46,27 @@ lines_both who mid last w h (l ∷ ls) ms es fs t u a b =
     )
 
 pub ran_none : (s : ScriptState) → ScriptAnswersLines s [] [] s
-ran_none s w h refines legal = ([], (refl, refl, refl), legal, refines)
+ran_none s w h refines legal = ([], (refl, refl, refl), record { legal = legal; exact = refl; refines = refines })
 
 pub ran_both : (a b c : ScriptState) (ls ms : List (List ℕ)) (t u : List ℕ) → ScriptAnswersLines a ls t b → ScriptAnswersLines b ms u c → ScriptAnswersLines a (ls ++ ms) (t ++ u) c
 ran_both a b c ls ms t u f g w h refines legal =
     let x = f w h refines legal in
-    let y = g w (x.0 ++ h) x.3 x.2 in
+    let y = g w (x.0 ++ h) x.2.refines x.2.legal in
     let es : (y.0 ++ x.0) ++ h ≡ y.0 ++ (x.0 ++ h) = append_assoc y.0 x.0 h in (
       y.0 ++ x.0,
       lines_both a.asker b.asker c.asker w h ls ms x.0 y.0 t u x.1 y.1,
-      subst (λ (e : List Entry). Legal w e) (sym es) y.2,
-      subst (λ (e : List Entry). ScriptRefines c w e) (sym es) y.3,
+      record {
+        legal = subst (λ (e : List Entry). Legal w e) (sym es) y.2.legal;
+        exact = chain_join EntryGoes a.core b.core c.core x.0 y.0 x.2.exact y.2.exact;
+        refines = subst (λ (e : List Entry). ScriptRefines c w e) (sym es) y.2.refines;
+      },
     )
 
 -- one line
 pub ran_line : (a b : ScriptState) (said : Result Line LineError) (line : List ℕ) (text : List ℕ) → ReadsLine said line → ScriptAnswersLine a said text b → ScriptAnswersLines a (line ∷ []) text b
 ran_line a b said line text says answered w h refines legal =
     let x = answered.extends w h refines legal in
-    (x.0, (said, x.0, [], text, [], says, x.1, (refl, refl, answered.asker), refl, sym (append-nil text)), x.2, x.3)
+    (x.0, (said, x.0, [], text, [], says, x.1, (refl, refl, answered.asker), refl, sym (append-nil text)), x.2)
 
 -- ---- of some bytes
 -- no line yet

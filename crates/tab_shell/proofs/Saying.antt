@@ -1,17 +1,20 @@
 -- What one line does and prints.
-use Rattle.std.proofs.Common.{ℕ, ℤ, ◌≡◌, Bool, true, false, cond, List, [], ◌∷◌, ◌++◌, refl, ap, ◌∙◌, Result, Ok, Err}
+use Rattle.std.proofs.Common.{ℕ, ℤ, ◌≡◌, inl, Bool, true, false, cond, List, [], ◌∷◌, ◌++◌, refl, ap, ◌∙◌, Result, Ok, Err}
 use Rattle.std.specs.Prelude.{Result, codes}
 use Rattle.tab_history.specs.declared.event.Act.{Act}
 use Rattle.tab_history.specs.declared.event.Event.{Event}
 use Rattle.tab_history.specs.declared.event.Step.TheVariants.{Event as IsEvent}
 use Rattle.tab_history.specs.declared.reply.Reply.{Reply}
-use Rattle.tab_history.specs.declared.reply.Reply.TheVariants.{Done, Refused, Opened, Batch, Rights as OwnRights}
+use Rattle.tab_history.specs.declared.reply.Reply.TheVariants.{Done, Refused, Opened, Batch, Rights as OwnRights, Counted}
 use Rattle.tab_history.specs.declared.reply.Refusal.TheVariants as refusal
-use Rattle.tab_history.specs.Bases.{Base}
 use Rattle.tab_history.specs.Answers.{Told, is_open, session_list, told_of}
 use Rattle.tab_cells.specs.SessionState.{SessionState}
 use Rattle.tab_history.specs.Sessions.{Opening, opened, closed}
 use Rattle.tab_history.specs.Histories.{Entry, World, is_by, journal, moves_of}
+use Rattle.tab_history.specs.Chains.{IsChain}
+use Rattle.tab_store.specs.Stores.{Held, base_of}
+use Rattle.tab_store.specs.Stepping.{StepsExactly}
+use Rattle.tab_store.specs.Chains.{EntryGoes}
 use Rattle.tab_core.specs.Stepping.{Steps}
 use Rattle.tab_io.specs.Writing.{HasPut, Puts}
 use Rattle.tab_io.specs.declared.writing.Output.{Ghosts}
@@ -26,7 +29,7 @@ use Rattle.tab_shell.specs.Progress.{PrintsAnswer}
 
 -- ---- lines without a step
 silent : (s : ScriptState) (said : Result Line LineError) (text : List ℕ) → s.asker ≡ asker_after s.asker said → ((w : World) (h : List Entry) → LineAnswered s.asker w h said [] text) → ScriptAnswersLine s said text s
-silent s said text same says = record { asker = same; extends = λ w h refines legal. ([], says w h, legal, refines) }
+silent s said text same says = record { asker = same; extends = λ w h refines legal. ([], says w h, record { legal = legal; exact = refl; refines = refines }) }
 
 blank_answered : (s : ScriptState) → ScriptAnswersLine s (Ok line.Blank) [] s
 blank_answered s = silent s (Ok line.Blank) [] refl (λ w h. (refl, refl))
@@ -41,7 +44,7 @@ with_user s user = record s { asker = record s.asker { user = user } }
 user_answered : (s : ScriptState) (user : List ℕ) → ScriptAnswersLine s (Ok (line.As user)) [] (with_user s user)
 user_answered s user = record {
   asker = refl;
-  extends = λ w h refines legal. ([], (refl, refl), legal, record { core = refines.core; opened = refines.opened; closed = refines.closed });
+  extends = λ w h refines legal. ([], (refl, refl), record { legal = legal; exact = refl; refines = record { core = refines.core; opened = refines.opened; closed = refines.closed } });
 }
 
 pub user_prints : {W : Type 0} (g : Ghosts W) (s : ScriptState) (user : List ℕ) (o : W) → (text : List ℕ) × ScriptAnswersLine s (Ok (line.As user)) text (with_user s user) × HasPut g o o text
@@ -54,7 +57,7 @@ at_moment s moment = record s { asker = record s.asker { moment = moment } }
 moment_answered : (s : ScriptState) (moment : ℤ) → ScriptAnswersLine s (Ok (line.At moment)) [] (at_moment s moment)
 moment_answered s moment = record {
   asker = refl;
-  extends = λ w h refines legal. ([], (refl, refl), legal, record { core = refines.core; opened = refines.opened; closed = refines.closed });
+  extends = λ w h refines legal. ([], (refl, refl), record { legal = legal; exact = refl; refines = record { core = refines.core; opened = refines.opened; closed = refines.closed } });
 }
 
 pub moment_prints : {W : Type 0} (g : Ghosts W) (s : ScriptState) (moment : ℤ) (o : W) → (text : List ℕ) × ScriptAnswersLine s (Ok (line.At moment)) text (at_moment s moment) × HasPut g o o text
@@ -89,24 +92,33 @@ act_moves w user h event (Opened u) shut =
     ap (λ (t : Bool). cond (is_by user (IsEvent event)) (cond t (Opening (session_list w.base (journal w h) event.act) ∷ []) [] ++ moves_of w user h) (moves_of w user h)) shut ∙ same_cond (is_by user (IsEvent event)) (moves_of w user h)
 act_moves w user h event (Batch cells) shut = same_cond (is_by user (IsEvent event)) (moves_of w user h)
 act_moves w user h event (OwnRights rights) shut = same_cond (is_by user (IsEvent event)) (moves_of w user h)
+act_moves w user h event (Counted counts) shut = same_cond (is_by user (IsEvent event)) (moves_of w user h)
 
 -- the script with another core
-abbrev pub with_core : ScriptState → Base → ScriptState
+abbrev pub with_core : ScriptState → Held → ScriptState
 with_core s core = record s { core = core }
 
-pub act_answered : (s : ScriptState) (core : Base) (act : Act) (reply : Reply SessionState) → is_open act ≡ false → Steps s.core (event_by s.asker act) reply core → ScriptAnswersLine s (Ok (line.Act act)) (reply_text (told_of reply)) (with_core s core)
-act_answered s core act reply shut steps = record {
+-- an event that was done exactly is a chain of one step
+pub one_step : (old new : Held) (event : Event) (told : Told) → StepsExactly old event told new → IsChain EntryGoes old (entry event told ∷ []) new
+one_step old new event told exact = (old, refl, inl exact)
+
+pub act_answered : (s : ScriptState) (core : Held) (act : Act) (reply : Reply SessionState) → is_open act ≡ false → Steps (base_of s.core) (event_by s.asker act) reply (base_of core) → StepsExactly s.core (event_by s.asker act) (told_of reply) core
+    → ScriptAnswersLine s (Ok (line.Act act)) (reply_text (told_of reply)) (with_core s core)
+act_answered s core act reply shut steps exact = record {
   asker = refl;
   extends = λ w h refines legal.
       let event : Event = event_by s.asker act in
       let moves = λ (user : List ℕ). act_moves w user h event (told_of reply) shut in (
         entry event (told_of reply) ∷ [],
         (told_of reply, refl, refl),
-        (legal, steps.answers w h refines.core h (λ opening. absurd (clash act opening shut))),
         record {
-          core = steps.refines w h refines.core;
-          opened = λ user. ap opened (moves user) ∙ refines.opened user;
-          closed = λ user. ap closed (moves user) ∙ refines.closed user;
+          legal = (legal, steps.answers w h refines.core h (λ opening. absurd (clash act opening shut)));
+          exact = one_step s.core core event (told_of reply) exact;
+          refines = record {
+            core = steps.refines w h refines.core;
+            opened = λ user. ap opened (moves user) ∙ refines.opened user;
+            closed = λ user. ap closed (moves user) ∙ refines.closed user;
+          };
         },
       );
 }

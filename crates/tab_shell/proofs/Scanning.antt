@@ -12,23 +12,27 @@ use Rattle.tab_history.specs.declared.event.Step.TheVariants.{Event as IsEvent, 
 use Rattle.tab_history.specs.declared.reply.Refusal.{Refusal}
 use Rattle.tab_history.specs.declared.reply.Refusal.TheVariants.{NoMemory, TooLarge}
 use Rattle.tab_history.specs.declared.reply.Reply.{Reply}
-use Rattle.tab_history.specs.declared.reply.Reply.TheVariants.{Done, Refused, Opened, Batch, Rights as OwnRights}
-use Rattle.tab_history.specs.Bases.{Base}
+use Rattle.tab_history.specs.declared.reply.Reply.TheVariants.{Done, Refused, Opened, Batch, Rights as OwnRights, Counted}
 use Rattle.tab_history.specs.Checks.{standing, refusal_of, exists_in, user_named}
-use Rattle.tab_history.specs.Answers.{Told, told, answer, event_answer, moves_by, session_list, next_answer, close_answer, told_of}
+use Rattle.tab_history.specs.Answers.{Told, told, answer, event_answer, IsEventReply, moves_by, session_list, next_answer, close_answer, told_of}
 use Rattle.tab_cells.specs.SessionState.{SessionState, gave}
 use Rattle.tab_history.specs.Sessions.{Move, Opening, Taking, Closing, opened, closed, is_full, session_in}
 use Rattle.tab_history.specs.Histories.{Entry, World, world_of, world_after, clock_of, clock_at, journal, is_by, moves_of}
-use Rattle.tab_history.specs.Legal.{Legal, IsAnswer, LacksMemory}
+use Rattle.tab_history.specs.Legal.{answer_at, Legal, IsAnswer, LacksMemory}
 use Rattle.tab_history.specs.Refinement.{Refines}
+use Rattle.tab_history.specs.Chains.{IsChain}
+use Rattle.tab_history.proofs.LeftOpen.{closed_reply}
 use Rattle.tab_history.proofs.Playing.{unmoved}
+use Rattle.tab_store.specs.Stores.{Held, base_of}
+use Rattle.tab_store.specs.Stepping.{StepsExactly}
+use Rattle.tab_store.specs.Chains.{EntryGoes}
 use Rattle.tab_core.specs.Stepping.{Steps}
 use Rattle.tab_lines.specs.declared.line.Line.TheVariants as line
 use Rattle.tab_shell.specs.Texts.{reply_text, refusal_text}
 use Rattle.tab_shell.specs.Batches.{left_of}
 use Rattle.tab_shell.specs.Readings.{ReadingEnd, AllRead, Lacking, CanEnd, IsReadingText, reading_text, reading_steps, batch_at, batches}
 use Rattle.tab_shell.specs.Counts.{count_of}
-use Rattle.tab_shell.proofs.Saying.{same_cond}
+use Rattle.tab_shell.proofs.Saying.{same_cond, one_step}
 use Rattle.tab_lines.specs.declared.line.Line.{Line}
 use Rattle.tab_lines.specs.declared.line_error.LineError.{LineError}
 use Rattle.tab_shell.specs.Scripts.{Asker, ScriptState, ScriptRefines, ScanSteps, ScriptAnswersLine, event_by, entry}
@@ -146,6 +150,11 @@ module _ (w : World) (user : List ℕ) (slot : ℕ) (all : List Cell) where
   batches_unmoved zero es = refl
   batches_unmoved (suc k) es = unmoved w (batches user slot all k ++ es) (taken k) tt ∙ batches_unmoved k es
 
+  -- and leave the core as it was
+  batches_exact : (k : ℕ) (first last : Held) (es : List Entry) → IsChain EntryGoes first es last → IsChain EntryGoes first (batches user slot all k ++ es) last
+  batches_exact zero first last es chain = chain
+  batches_exact (suc k) first last es chain = (last, batches_exact k first last es chain, inr (tt, refl))
+
   -- they are none of another user's
   batches_others : (other : List ℕ) (k : ℕ) (es : List Entry) → bytes_eq user other ≡ false → moves_of w other (batches user slot all k ++ es) ≡ moves_of w other es
   batches_others other zero es not = refl
@@ -176,6 +185,9 @@ module _ (w : World) (user : List ℕ) (slot : ℕ) (all : List Cell) where
 
   read_unmoved : (es : List Entry) → world_after w (reading_steps user slot all AllRead ++ es) ≡ world_after w es
   read_unmoved es = unmoved w (batches user slot all (suc (length all / 1000)) ++ es) (record { step = Close user slot; reply = Done }) tt ∙ batches_unmoved (suc (length all / 1000)) es
+
+  read_exact : (first last : Held) (es : List Entry) → IsChain EntryGoes first es last → IsChain EntryGoes first (reading_steps user slot all AllRead ++ es) last
+  read_exact first last es chain = (last, batches_exact (suc (length all / 1000)) first last es chain, inr (tt, refl))
 
   -- the batch for which memory lacked
   abbrev lacked : Entry
@@ -215,6 +227,9 @@ module _ (w : World) (user : List ℕ) (slot : ℕ) (all : List Cell) where
       let before : List Entry = batches user slot all k ++ es in
       unmoved w (lacked ∷ before) (record { step = Close user slot; reply = Done }) tt ∙ unmoved w before lacked tt ∙ batches_unmoved k es
 
+  part_exact : (k : ℕ) (first last : Held) (es : List Entry) → IsChain EntryGoes first es last → IsChain EntryGoes first (reading_steps user slot all (Lacking k) ++ es) last
+  part_exact k first last es chain = (last, (last, batches_exact k first last es chain, inr (tt, refl)), inr (tt, refl))
+
   -- entries that read the session and close it
   record Reads (out : List Entry) : Type 0 where
     legal : (es : List Entry) → Legal w es → Gave es 0 → Legal w (out ++ es)
@@ -222,12 +237,13 @@ module _ (w : World) (user : List ℕ) (slot : ℕ) (all : List Cell) where
     closed : (es : List Entry) → closed (moves_of w user (out ++ es)) ≡ closed (moves_of w user es) + 1
     others : (other : List ℕ) (es : List Entry) → bytes_eq user other ≡ false → moves_of w other (out ++ es) ≡ moves_of w other es
     unmoved : (es : List Entry) → world_after w (out ++ es) ≡ world_after w es
+    exact : (first last : Held) (es : List Entry) → IsChain EntryGoes first es last → IsChain EntryGoes first (out ++ es) last
 
   reads_whole : Reads (reading_steps user slot all AllRead)
-  reads_whole = record { legal = read_legal; opened = read_opened; closed = read_closed; others = read_others; unmoved = read_unmoved }
+  reads_whole = record { legal = read_legal; opened = read_opened; closed = read_closed; others = read_others; unmoved = read_unmoved; exact = read_exact }
 
   reads_part : (k : ℕ) → 1000 * k ≤ length all → Reads (reading_steps user slot all (Lacking k))
-  reads_part k fits = record { legal = λ es. part_legal k es fits; opened = part_opened k; closed = part_closed k; others = λ other. part_others other k; unmoved = part_unmoved k }
+  reads_part k fits = record { legal = λ es. part_legal k es fits; opened = part_opened k; closed = part_closed k; others = λ other. part_others other k; unmoved = part_unmoved k; exact = part_exact k }
 
   reads_to : (end : ReadingEnd) → CanEnd all end → Reads (reading_steps user slot all end)
   reads_to AllRead fits = reads_whole
@@ -249,14 +265,14 @@ is_spent ms o = ap (λ n. nat_le 65536 (n - closed ms) || nat_le 4294967295 n) o
     or_true false = refl
 
 -- the script with another core, and these counts of sessions
-abbrev pub with_sessions : ScriptState → Base → List (List ℕ × ℕ) → ScriptState
+abbrev pub with_sessions : ScriptState → Held → List (List ℕ × ℕ) → ScriptState
 with_sessions s core counts = record { core = core; asker = s.asker; opened = counts }
 
 -- how many sessions the asker opened
 abbrev pub asked : ScriptState → ℕ
 asked s = count_of s.opened s.asker.user
 
-legal_open : (s : ScriptState) (core : Base) (scan : Scan) (reply : Reply SessionState) (w : World) (h : List Entry) → asked s < 4294967295 → Steps s.core (event_by s.asker (Open scan)) reply core → ScriptRefines s w h
+legal_open : (s : ScriptState) (core : Held) (scan : Scan) (reply : Reply SessionState) (w : World) (h : List Entry) → asked s < 4294967295 → Steps (base_of s.core) (event_by s.asker (Open scan)) reply (base_of core) → ScriptRefines s w h
     → IsAnswer w h h (IsEvent (event_by s.asker (Open scan))) (told_of reply) ⊎ LacksMemory (IsEvent (event_by s.asker (Open scan))) (told_of reply)
 legal_open s core scan reply w h lt steps refines = steps.answers w h refines.core h (λ yes. has_room (moves_of w s.asker.user h) (asked s) (refines.opened s.asker.user) (refines.closed s.asker.user) lt)
 
@@ -316,10 +332,11 @@ module _ (w : World) (who : Asker) (h : List Entry) (scan : Scan) (out : List En
       (reads.closed begins ∙ ap (λ n. n + 1) (ap closed (open_moves w who h scan tt) ∙ opening_closed (moves_of w who.user h) all_cells))
       (λ other not. ap closed (others_unmoved reads other not))
 
-pub scan_answered : (s : ScriptState) (core : Base) (counts : List (List ℕ × ℕ)) (scan : Scan) (session : SessionState) (text : List ℕ) → asked s < 4294967295 → Steps s.core (event_by s.asker (Open scan)) (Opened session) core
+pub scan_answered : (s : ScriptState) (core : Held) (counts : List (List ℕ × ℕ)) (scan : Scan) (session : SessionState) (text : List ℕ) → asked s < 4294967295 → Steps (base_of s.core) (event_by s.asker (Open scan)) (Opened session) (base_of core)
+    → StepsExactly s.core (event_by s.asker (Open scan)) (Opened tt) core
     → ((n : List ℕ) → count_of counts n ≡ cond (bytes_eq s.asker.user n) (count_of s.opened n + 1) (count_of s.opened n))
     → IsReadingText (left_of session) text → ScriptAnswersLine s (Ok (line.Scan scan)) text (with_sessions s core counts)
-scan_answered s core counts scan session text lt steps raised rest = record {
+scan_answered s core counts scan session text lt steps exact raised rest = record {
   asker = refl;
   extends = λ w h refines legal.
       let user : List ℕ = s.asker.user in
@@ -334,7 +351,7 @@ scan_answered s core counts scan session text lt steps raised rest = record {
       let begun : Legal w first = (legal, legal_open s core scan (Opened session) w h lt steps refines) in
       let held : session_in (moves_of w user first) slot ≡ Some (record { all = all; given = 0 }) = ap (λ ms. session_in ms slot) moved ∙ session_opened (moves_of w user h) all in
       let whole : (out ++ e ∷ []) ++ h ≡ out ++ first = append_assoc out (e ∷ []) h in
-      let after : Refines (world_of core) (world_after w (out ++ first)) = subst (λ (v : World). Refines (world_of core) v) (sym (reads.unmoved first)) (steps.refines w h refines.core) in
+      let after : Refines (world_of (base_of core)) (world_after w (out ++ first)) = subst (λ (v : World). Refines (world_of (base_of core)) v) (sym (reads.unmoved first)) (steps.refines w h refines.core) in
       let new : ScriptState = with_sessions s core counts in
       let stood : ScriptRefines new w (out ++ first) = record {
         core = after;
@@ -343,8 +360,11 @@ scan_answered s core counts scan session text lt steps raised rest = record {
       } in (
         out ++ e ∷ [],
         (Opened tt, opened_scans s.asker w h scan all read.0 text refl read.1 read.2),
-        subst (λ (es : List Entry). Legal w es) (sym whole) (reads.legal first begun held),
-        subst (λ (es : List Entry). ScriptRefines new w es) (sym whole) stood,
+        record {
+          legal = subst (λ (es : List Entry). Legal w es) (sym whole) (reads.legal first begun held);
+          exact = reads.exact s.core core (e ∷ []) (one_step s.core core (event_by s.asker (Open scan)) (Opened tt) exact);
+          refines = subst (λ (es : List Entry). ScriptRefines new w es) (sym whole) stood;
+        },
       );
 }
 
@@ -361,30 +381,34 @@ not_done w h who scan reply (inr x) = inr (NoMemory, x.1)
 not_done w h who scan reply (inl is) =
     let now = clock_at (clock_of w h) (IsEvent (event_by who (Open scan))) in
     let o : Option Refusal = refusal_of (standing w.base (journal w h) who.user) (exists_in w.base (journal w h) (user_named (Open scan))) now who.user (Open scan) in
-    subst (λ (t : Told). (t ≡ Opened tt) ⊎ ((r : Refusal) × (t ≡ Refused r))) (sym is) (go (is_full (moves_of w who.user h)) o)
+    let one : reply ≡ answer_at w h h (IsEvent (event_by who (Open scan))) = closed_reply (IsEvent (event_by who (Open scan))) (answer_at w h h (IsEvent (event_by who (Open scan)))) reply refl is in
+    subst (λ (t : Told). (t ≡ Opened tt) ⊎ ((r : Refusal) × (t ≡ Refused r))) (sym one) (go (is_full (moves_of w who.user h)) o)
   where
     go : (b : Bool) (o : Option Refusal) → (cond (true && b) (Refused (TooLarge Sessions)) (told o (Opened tt)) ≡ Opened tt) ⊎ ((r : Refusal) × (cond (true && b) (Refused (TooLarge Sessions)) (told o (Opened tt)) ≡ Refused r))
     go true o = inr (TooLarge Sessions, refl)
     go false o = open_told o scan
 
-abbrev with_new_core : ScriptState → Base → ScriptState
+abbrev with_new_core : ScriptState → Held → ScriptState
 with_new_core s core = record s { core = core }
 
-refused_stands : (s : ScriptState) (core : Base) (scan : Scan) (r : Refusal) (w : World) (h : List Entry) → Refines (world_of core) (world_after w (entry (event_by s.asker (Open scan)) (Refused r) ∷ h)) → ScriptRefines s w h
+refused_stands : (s : ScriptState) (core : Held) (scan : Scan) (r : Refusal) (w : World) (h : List Entry) → Refines (world_of (base_of core)) (world_after w (entry (event_by s.asker (Open scan)) (Refused r) ∷ h)) → ScriptRefines s w h
     → ScriptRefines (with_new_core s core) w (entry (event_by s.asker (Open scan)) (Refused r) ∷ h)
 refused_stands s core scan r w h after refines =
     let moves = λ (n : List ℕ). refused_moves w n s.asker h scan r in
     record { core = after; opened = λ n. ap opened (moves n) ∙ refines.opened n; closed = λ n. ap closed (moves n) ∙ refines.closed n }
 
-refused_answered : (s : ScriptState) (core : Base) (scan : Scan) (r : Refusal) → asked s < 4294967295 → Steps s.core (event_by s.asker (Open scan)) (Refused r) core
+refused_answered : (s : ScriptState) (core : Held) (scan : Scan) (r : Refusal) → asked s < 4294967295 → Steps (base_of s.core) (event_by s.asker (Open scan)) (Refused r) (base_of core) → StepsExactly s.core (event_by s.asker (Open scan)) (Refused r) core
     → ScriptAnswersLine s (Ok (line.Scan scan)) (refusal_text r) (with_new_core s core)
-refused_answered s core scan r lt steps = record {
+refused_answered s core scan r lt steps exact = record {
   asker = refl;
   extends = λ w h refines legal. (
     entry (event_by s.asker (Open scan)) (Refused r) ∷ [],
     (Refused r, (refl, refl)),
-    (legal, legal_open s core scan (Refused r) w h lt steps refines),
-    refused_stands s core scan r w h (steps.refines w h refines.core) refines,
+    record {
+      legal = (legal, legal_open s core scan (Refused r) w h lt steps refines);
+      exact = one_step s.core core (event_by s.asker (Open scan)) (Refused r) exact;
+      refines = refused_stands s core scan r w h (steps.refines w h refines.core) refines;
+    },
   );
 }
 
@@ -395,41 +419,47 @@ Opens (Refused r) = Unit {0}
 Opens (Opened u) = Unit {0}
 Opens (Batch cells) = ⊥
 Opens (OwnRights rights) = ⊥
+Opens (Counted counts) = ⊥
 
 opens : (reply : Told) → (reply ≡ Opened tt) ⊎ ((r : Refusal) × (reply ≡ Refused r)) → Opens reply
 opens reply (inl e) = subst Opens (sym e) tt
 opens reply (inr e) = subst Opens (sym e.1) tt
 
 -- what refines no history answers each line
-never : (s : ScriptState) (core : Base) (scan : Scan) (text : List ℕ) → ((w : World) (h : List Entry) → ScriptRefines s w h → ⊥) → ScriptAnswersLine s (Ok (line.Scan scan)) text (with_new_core s core)
+never : (s : ScriptState) (core : Held) (scan : Scan) (text : List ℕ) → ((w : World) (h : List Entry) → ScriptRefines s w h → ⊥) → ScriptAnswersLine s (Ok (line.Scan scan)) text (with_new_core s core)
 never s core scan text nowhere = record { asker = refl; extends = λ w h refines legal. absurd (nowhere w h refines) }
 
 -- each reply but an opened session
-pub kept_answered : (s : ScriptState) (core : Base) (scan : Scan) (reply : Reply SessionState) → asked s < 4294967295 → Steps s.core (event_by s.asker (Open scan)) reply core → ((session : SessionState) → reply ≡ Opened session → ⊥)
+pub kept_answered : (s : ScriptState) (core : Held) (scan : Scan) (reply : Reply SessionState) → asked s < 4294967295 → Steps (base_of s.core) (event_by s.asker (Open scan)) reply (base_of core) → StepsExactly s.core (event_by s.asker (Open scan)) (told_of reply) core → ((session : SessionState) → reply ≡ Opened session → ⊥)
     → ScriptAnswersLine s (Ok (line.Scan scan)) (reply_text (told_of reply)) (with_new_core s core)
-kept_answered s core scan (Refused r) lt steps other = refused_answered s core scan r lt steps
-kept_answered s core scan (Opened session) lt steps other = absurd (other session refl)
-kept_answered s core scan Done lt steps other = never s core scan (reply_text Done) (λ w h refines. opens Done (not_done w h s.asker scan Done (legal_open s core scan Done w h lt steps refines)))
-kept_answered s core scan (Batch cells) lt steps other = never s core scan (reply_text (Batch cells)) (λ w h refines. opens (Batch cells) (not_done w h s.asker scan (Batch cells) (legal_open s core scan (Batch cells) w h lt steps refines)))
-kept_answered s core scan (OwnRights rights) lt steps other = never s core scan (reply_text (OwnRights rights)) (λ w h refines. opens (OwnRights rights) (not_done w h s.asker scan (OwnRights rights) (legal_open s core scan (OwnRights rights) w h lt steps refines)))
+kept_answered s core scan (Refused r) lt steps exact other = refused_answered s core scan r lt steps exact
+kept_answered s core scan (Opened session) lt steps exact other = absurd (other session refl)
+kept_answered s core scan Done lt steps exact other = never s core scan (reply_text Done) (λ w h refines. opens Done (not_done w h s.asker scan Done (legal_open s core scan Done w h lt steps refines)))
+kept_answered s core scan (Batch cells) lt steps exact other = never s core scan (reply_text (Batch cells)) (λ w h refines. opens (Batch cells) (not_done w h s.asker scan (Batch cells) (legal_open s core scan (Batch cells) w h lt steps refines)))
+kept_answered s core scan (OwnRights rights) lt steps exact other = never s core scan (reply_text (OwnRights rights)) (λ w h refines. opens (OwnRights rights) (not_done w h s.asker scan (OwnRights rights) (legal_open s core scan (OwnRights rights) w h lt steps refines)))
+kept_answered s core scan (Counted counts) lt steps exact other = never s core scan (reply_text (Counted counts)) (λ w h refines. opens (Counted counts) (not_done w h s.asker scan (Counted counts) (legal_open s core scan (Counted counts) w h lt steps refines)))
 
 -- ---- a full list of sessions
 spent_right : (w : World) (h : List Entry) (who : Asker) (scan : Scan) → is_full (moves_of w who.user h) ≡ true → IsAnswer w h h (IsEvent (event_by who (Open scan))) (Refused (TooLarge Sessions))
 unfolding answer
 spent_right w h who scan full =
     let event : Event = event_by who (Open scan) in
-    sym (ap (λ (b : Bool). cond (true && b) (Refused (TooLarge Sessions)) (event_answer w.base (journal w h) (clock_at (clock_of w h) (IsEvent event)) who.user (Open scan))) full)
+    subst (λ (x : Told). IsEventReply (Open scan) x (Refused (TooLarge Sessions)))
+    (sym (ap (λ (b : Bool). cond (true && b) (Refused (TooLarge Sessions)) (event_answer w.base (journal w h) (clock_at (clock_of w h) (IsEvent event)) who.user (Open scan))) full)) refl
 
 pub spent_answered : (s : ScriptState) (scan : Scan) → asked s ≡ 4294967295 → ScriptAnswersLine s (Ok (line.Scan scan)) (refusal_text (TooLarge Sessions)) s
 spent_answered s scan spent = record {
   asker = refl;
   extends = λ w h refines legal.
       let e : Entry = entry (event_by s.asker (Open scan)) (Refused (TooLarge Sessions)) in
-      let after : Refines (world_of s.core) (world_after w (e ∷ h)) = subst (λ (v : World). Refines (world_of s.core) v) (sym (unmoved w h e tt)) refines.core in (
+      let after : Refines (world_of (base_of s.core)) (world_after w (e ∷ h)) = subst (λ (v : World). Refines (world_of (base_of s.core)) v) (sym (unmoved w h e tt)) refines.core in (
         e ∷ [],
         (Refused (TooLarge Sessions), (refl, refl)),
-        (legal, inl (spent_right w h s.asker scan (is_spent (moves_of w s.asker.user h) (refines.opened s.asker.user ∙ spent)))),
-        refused_stands s s.core scan (TooLarge Sessions) w h after refines,
+        record {
+          legal = (legal, inl (spent_right w h s.asker scan (is_spent (moves_of w s.asker.user h) (refines.opened s.asker.user ∙ spent))));
+          exact = (s.core, refl, inr (tt, refl));
+          refines = refused_stands s s.core scan (TooLarge Sessions) w h after refines;
+        },
       );
 }
 
@@ -439,11 +469,14 @@ starved_answered s scan = record {
   asker = refl;
   extends = λ w h refines legal.
       let e : Entry = entry (event_by s.asker (Open scan)) (Refused NoMemory) in
-      let after : Refines (world_of s.core) (world_after w (e ∷ h)) = subst (λ (v : World). Refines (world_of s.core) v) (sym (unmoved w h e tt)) refines.core in (
+      let after : Refines (world_of (base_of s.core)) (world_after w (e ∷ h)) = subst (λ (v : World). Refines (world_of (base_of s.core)) v) (sym (unmoved w h e tt)) refines.core in (
         e ∷ [],
         (Refused NoMemory, (refl, refl)),
-        (legal, inr (refl, refl)),
-        refused_stands s s.core scan NoMemory w h after refines,
+        record {
+          legal = (legal, inr (refl, refl));
+          exact = (s.core, refl, inr (tt, refl));
+          refines = refused_stands s s.core scan NoMemory w h after refines;
+        },
       );
 }
 
@@ -456,7 +489,9 @@ pub recounted : (s : ScriptState) (counts : List (List ℕ × ℕ)) (said : Resu
     → ScriptAnswersLine (with_counts s counts) said text new → ScriptAnswersLine s said text new
 recounted s counts said text new same answered = record {
   asker = answered.asker;
-  extends = λ w h refines legal. answered.extends w h (record { core = refines.core; opened = λ n. refines.opened n ∙ sym (same n); closed = λ n. refines.closed n ∙ sym (same n) }) legal;
+  extends = λ w h refines legal.
+      let x = answered.extends w h (record { core = refines.core; opened = λ n. refines.opened n ∙ sym (same n); closed = λ n. refines.closed n ∙ sym (same n) }) legal in
+      (x.0, x.1, record { legal = x.2.legal; exact = x.2.exact; refines = x.2.refines });
 }
 
 pub kept_counts : (s : ScriptState) (counts : List (List ℕ × ℕ)) (said : Result Line LineError) (text : List ℕ) → ((n : List ℕ) → count_of counts n ≡ count_of s.opened n)
@@ -465,5 +500,6 @@ kept_counts s counts said text same answered = record {
   asker = answered.asker;
   extends = λ w h refines legal.
       let x = answered.extends w h refines legal in
-      (x.0, x.1, x.2, record { core = x.3.core; opened = λ n. x.3.opened n ∙ sym (same n); closed = λ n. x.3.closed n ∙ sym (same n) });
+      let left = x.2.refines in
+      (x.0, x.1, record { legal = x.2.legal; exact = x.2.exact; refines = record { core = left.core; opened = λ n. left.opened n ∙ sym (same n); closed = λ n. left.closed n ∙ sym (same n) } });
 }

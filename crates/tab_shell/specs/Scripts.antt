@@ -8,13 +8,15 @@ use Rattle.tab_history.specs.declared.event.Act.TheVariants.{Open}
 use Rattle.tab_history.specs.declared.event.Event.{Event}
 use Rattle.tab_history.specs.declared.event.Step.TheVariants.{Event as IsEvent}
 use Rattle.tab_history.specs.declared.reply.Refusal.TheVariants as refusal
-use Rattle.tab_history.specs.declared.reply.Reply.TheVariants.{Done, Refused, Opened, Batch, Rights as OwnRights}
-use Rattle.tab_history.specs.Bases.{Base}
+use Rattle.tab_history.specs.declared.reply.Reply.TheVariants.{Done, Refused, Opened, Batch, Rights as OwnRights, Counted}
 use Rattle.tab_history.specs.Answers.{Told, session_list}
 use Rattle.tab_history.specs.Sessions.{opened, closed}
 use Rattle.tab_history.specs.Histories.{Entry, World, world_of, world_after, journal, moves_of}
 use Rattle.tab_history.specs.Legal.{Legal}
 use Rattle.tab_history.specs.Refinement.{Refines}
+use Rattle.tab_history.specs.Chains.{IsChain}
+use Rattle.tab_store.specs.Stores.{Held, base_of}
+use Rattle.tab_store.specs.Chains.{EntryGoes}
 use Rattle.tab_lines.specs.declared.line.Line.{Line}
 use Rattle.tab_lines.specs.declared.line.Line.TheVariants as line
 use Rattle.tab_lines.specs.declared.line_error.LineError.{LineError}
@@ -33,19 +35,28 @@ pub record Asker : Type 0 where
 
 -- the core, who asks, and how many sessions its lines opened for each user, and closed
 pub record ScriptState : Type 0 where
-  pub core : Base
+  pub core : Held
   pub asker : Asker
   pub opened : List (List ℕ × ℕ)
 
 -- a script over this core: root asks at moment 0, and no session was opened
-abbrev pub new_script : Base → ScriptState
+abbrev pub new_script : Held → ScriptState
 new_script core = record { core = core; asker = record { user = root; moment = pos 0 }; opened = [] }
 
 -- The script refines the history h of w: its core does, and h opened and closed as many sessions of each user as the script did.
 pub record ScriptRefines (s : ScriptState) (w : World) (h : List Entry) : Type 0 where
-  pub core : Refines (world_of s.core) (world_after w h)
+  pub core : Refines (world_of (base_of s.core)) (world_after w h)
   pub opened : (user : List ℕ) → opened (moves_of w user h) ≡ count_of s.opened user
   pub closed : (user : List ℕ) → closed (moves_of w user h) ≡ count_of s.opened user
+
+-- From the history h of w, which it refined, the script went on by these entries.
+pub record ScriptGoes (old : ScriptState) (w : World) (h es : List Entry) (new : ScriptState) : Type 0 where
+  -- they make the history longer, legally
+  pub legal : Legal w (es ++ h)
+  -- their events are a chain of exact steps, from the core before to the core left
+  pub exact : IsChain EntryGoes old.core es new.core
+  -- the script left refines the longer history
+  pub refines : ScriptRefines new w (es ++ h)
 
 -- ---- the steps of one line
 -- what he asks
@@ -66,6 +77,7 @@ ScanSteps who w h event (Opened session) es text =
 ScanSteps who w h event Done es text = ⊥
 ScanSteps who w h event (Batch cells) es text = ⊥
 ScanSteps who w h event (OwnRights rights) es text = ⊥
+ScanSteps who w h event (Counted counts) es text = ⊥
 
 -- after the history h of w the line makes these entries, the last one first, and prints this text
 abbrev pub LineSteps : Asker → World → List Entry → Line → List Entry → List ℕ → Type 0
@@ -90,10 +102,10 @@ asker_after who (Ok (line.Act act)) = who
 asker_after who (Ok (line.Scan scan)) = who
 asker_after who (Err error) = who
 
--- for each legal history that the script refined there are entries that make it longer by this line, and the script refines that
+-- from each legal history that the script refined it went on by the entries of this line
 pub record ScriptAnswersLine (old : ScriptState) (said : Result Line LineError) (text : List ℕ) (new : ScriptState) : Type 0 where
   pub asker : new.asker ≡ asker_after old.asker said
-  pub extends : (w : World) (h : List Entry) → ScriptRefines old w h → Legal w h → (es : List Entry) × LineAnswered old.asker w h said es text × Legal w (es ++ h) × ScriptRefines new w (es ++ h)
+  pub extends : (w : World) (h : List Entry) → ScriptRefines old w h → Legal w h → (es : List Entry) × LineAnswered old.asker w h said es text × ScriptGoes old w h es new
 
 -- ---- many lines
 -- the entries of lines, the last one first, their texts in order, and who asks afterwards
@@ -103,10 +115,10 @@ LinesAnswered who w h (line ∷ lines) es text last =
     (said : Result Line LineError) × (first : List Entry) × (more : List Entry) × (t : List ℕ) × (u : List ℕ)
     × Gives (λ x. x) said (line_of line) × LineAnswered who w h said first t × LinesAnswered (asker_after who said) w (first ++ h) lines more u last × (es ≡ more ++ first) × (text ≡ t ++ u)
 
--- for each legal history that the script refined there are entries that make it longer by these lines, and the script refines that
+-- from each legal history that the script refined it went on by the entries of these lines
 abbrev pub ScriptAnswersLines : ScriptState → List (List ℕ) → List ℕ → ScriptState → Type 0
 ScriptAnswersLines old lines text new = (w : World) (h : List Entry) → ScriptRefines old w h → Legal w h
-    → (es : List Entry) × LinesAnswered old.asker w h lines es text new.asker × Legal w (es ++ h) × ScriptRefines new w (es ++ h)
+    → (es : List Entry) × LinesAnswered old.asker w h lines es text new.asker × ScriptGoes old w h es new
 
 -- ---- what is read
 -- no line feed

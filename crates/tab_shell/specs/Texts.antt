@@ -7,8 +7,9 @@ use Rattle.tab_key.specs.declared.part.Part.{Part}
 use Rattle.tab_key.specs.declared.part.Part.TheVariants as part
 use Rattle.tab_history.specs.declared.reply.Refusal.{Refusal}
 use Rattle.tab_history.specs.declared.reply.Refusal.TheVariants as refusal
-use Rattle.tab_history.specs.declared.reply.Reply.TheVariants.{Done, Refused, Opened, Batch, Rights as OwnRights}
+use Rattle.tab_history.specs.declared.reply.Reply.TheVariants.{Done, Refused, Opened, Batch, Rights as OwnRights, Counted}
 use Rattle.tab_history.specs.declared.rights.Rights.{Rights}
+use Rattle.tab_history.specs.declared.counts.Counts.{Counts}
 use Rattle.tab_history.specs.Answers.{Told}
 use Rattle.tab_lines.specs.Words.{parts_at, is_filled}
 use Rattle.tab_text.specs.Words.{word}
@@ -112,6 +113,10 @@ auth_text term = line_text (codes "auth" ∷ word term ∷ [])
 abbrev pub rights_text : Rights → List ℕ
 rights_text r = system_text r.system ++ (table_text r.table ++ (flat_map auth_text r.authorizations ++ codes "end\n"))
 
+-- what a table's tablets hold
+abbrev pub counts_text : Counts → List ℕ
+counts_text c = line_text (codes "tablets" ∷ decimal c.tablets ∷ codes "sources" ∷ decimal c.sources ∷ codes "records" ∷ decimal c.records ∷ [])
+
 -- The text of a reply. An opened session has none: the line that opened it prints its cells.
 abbrev pub reply_text : Told → List ℕ
 reply_text Done = codes "ok\n"
@@ -119,6 +124,7 @@ reply_text (Refused r) = refusal_text r
 reply_text (Opened session) = []
 reply_text (Batch cells) = flat_map cell_text cells
 reply_text (OwnRights rights) = rights_text rights
+reply_text (Counted counts) = counts_text counts
 
 -- a line outside the grammar
 abbrev pub fault_text : List ℕ

@@ -14,9 +14,9 @@
 //! | `laws` | two runs of a script are one |
 //!
 //! `specs/Texts` has the lines of a text and the texts of replies, `specs/Counts` counts by user, `specs/Readings` how a
-//! scan reads its session, `specs/Scripts` what a line adds to every history that the script refines, and prints,
-//! `specs/Batches` what reading a session puts, `specs/Ahead` what is to come where a line has begun, and
-//! `specs/Progress` how far a run has come, also where the reader or the writer failed.
+//! scan reads its session, `specs/Scripts` what a line adds to every history that the script refines, how its core goes on,
+//! and what is printed, `specs/Batches` what reading a session puts, `specs/Ahead` what is to come where a line has begun,
+//! and `specs/Progress` how far a run has come, also where the reader or the writer failed.
 #![tactic(auto)]
 
 mod batches;

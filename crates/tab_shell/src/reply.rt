@@ -5,19 +5,19 @@ ghost use Rattle.std.specs.Prelude.{◌≡◌};
 ghost use Rattle.std.specs.List.{flat_map};
 ghost use Rattle.tab_io.specs.Writing.{Puts};
 ghost use Rattle.tab_text.specs.Lines.{cell_text};
-ghost use Rattle.tab_shell.specs.Texts.{reply_text};
+ghost use Rattle.tab_shell.specs.Texts.{reply_text, counts_text};
 
 use crate::refusal::put_refusal;
 use crate::rights::put_rights;
-use tab_history::Reply;
+use tab_history::{Counts, Reply};
 use tab_io::{Output, WriteFault};
 use tab_key::Cell;
-use tab_text::{PutItem, put_cell, put_each};
+use tab_text::{PutItem, Word, put_cell, put_each, put_line};
 
 /// Writes the text of the reply. It takes no memory.
 ///
-/// `ok`; `refused`, the refusal's number, its name and its words; a batch's cells, each on a line of its own; or one's own
-/// rights, a line for each kind of permission and for each authorization, and `end`. An
+/// `ok`; `refused`, the refusal's number, its name and its words; a batch's cells, each on a line of its own; one's own
+/// rights, a line for each kind of permission and for each authorization, and `end`; or counts, each behind its name. An
 /// opened session has no text of its own: the line that opened it prints its cells. After an error a beginning of the
 /// text may have been written.
 pub fn write_reply<W: Output>(output: &mut W, reply: &Reply) -> Result<(), WriteFault>
@@ -29,7 +29,25 @@ pub fn write_reply<W: Output>(output: &mut W, reply: &Reply) -> Result<(), Write
         Reply::Opened(_) => output.put(b""),
         Reply::Batch(cells) => put_cells(output, cells.as_slice()),
         Reply::Rights(rights) => put_rights(output, rights),
+        Reply::Counted(counts) => put_counts(output, *counts),
     }
+}
+
+// What a table's tablets hold, on one line.
+fn put_counts<W: Output>(output: &mut W, counts: Counts) -> Result<(), WriteFault>
+    ensures { Puts W.Output output.old output.new (counts_text counts) result }
+{
+    put_line(
+        output,
+        &[
+            Word::Text(b"tablets"),
+            Word::Number(counts.tablets),
+            Word::Text(b"sources"),
+            Word::Number(counts.sources),
+            Word::Text(b"records"),
+            Word::Number(counts.records),
+        ],
+    )
 }
 
 /// Each cell on a line of its own.

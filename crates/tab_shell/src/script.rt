@@ -267,6 +267,8 @@ impl Script {
 
     /// Answers each line that is read, until the input ends. The last line may lack its line feed.
     ///
+    /// Each act that a line asks for is one exact step of the script's core, in the order of the lines, and nothing else touches the core.
+    ///
     /// Replies are flushed whenever no more input is here, before the reader is asked for more. A line for which memory
     /// lacks is read to its end and answered by its refusal. A fault of the reader or the writer ends the run; the
     /// lines answered before it have taken effect, and the script can be run again, from the beginning of a line.

@@ -48,3 +48,12 @@ returns-in-mutate c = found command_of c.args.word.now (codes "mutate") (omega a
 
 pub returns-in-scan : goal.returns-in-scan
 returns-in-scan c = found command_of c.args.word.now (codes "scan") (omega arith) (search rules)
+
+pub returns-in-flush : goal.returns-in-flush
+returns-in-flush c = found command_of c.args.word.now (codes "flush") (omega arith) (search rules)
+
+pub returns-in-compact : goal.returns-in-compact
+returns-in-compact c = found command_of c.args.word.now (codes "compact") (omega arith) (search rules)
+
+pub returns-in-status : goal.returns-in-status
+returns-in-status c = found command_of c.args.word.now (codes "status") (omega arith) (search rules)
