@@ -7,20 +7,23 @@
 //! | `random` | a stream of numbers that look random |
 //! | `update` | an update as plain data, and the order of updates |
 //! | `query` | what a scan asks for, as plain data |
-//! | `model` | what a scan of a table shows, rule by rule |
+//! | `model` | what a scan of a table shows and what a merge keeps, rule by rule |
+//! | `holding` | what a tablet holds, and what freezes and compactions make of it |
 //! | `generating` | random updates and queries |
 //! | `building` | names, authorizations, columns and mutations from literals |
 #![tactic(auto)]
 
 mod building;
 mod generating;
+mod holding;
 mod model;
 mod query;
 mod random;
 mod update;
 
 pub use building::{auths_of, family, mutation_of, name, qualified};
-pub use model::scanned;
+pub use holding::{Holding, table_len};
+pub use model::{merged, scanned};
 pub use query::{Columns, End, Query, in_rows};
 pub use random::Random;
 pub use update::{Update, column_order, from_key, key_order, sort};

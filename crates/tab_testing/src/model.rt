@@ -1,5 +1,5 @@
-//! The oracle of the random tests: a table as one list of updates, and what a scan of it shows, each rule in its own words.
-//! (Accumulo user manual: deletes, versioning iterator, column visibility)
+//! The oracle of the random tests: a table as one list of updates, what a scan of it shows, and what a merge of some updates
+//! keeps, each rule in its own words. (Accumulo user manual: deletes, versioning iterator, column visibility, compactions)
 
 use crate::query::{Columns, Query, is_in_rows};
 use crate::update::{Update, column_order, order, sort};
@@ -68,4 +68,31 @@ pub fn scanned(alloc: Global, table: &[Update], query: &Query) -> Result<Vec<Upd
     }
     sort(&mut shown);
     Ok(shown)
+}
+
+/// A marker before which no other of its column stands.
+fn is_first_marker(updates: &[Update], update: &Update) -> bool {
+    let is_led = updates.iter().any(|other| {
+        !other.is_put && column_order(other, update).is_eq() && order(other, update).is_lt()
+    });
+    !update.is_put && !is_led
+}
+
+/// What a merge of these updates keeps, in its order: the puts that are kept, and of each column the first marker. A full merge
+/// has a floor, and drops the first marker too where it lies below.
+pub fn merged(
+    alloc: Global,
+    updates: &[Update],
+    floor: Option<i64>,
+    versions: u32,
+) -> Result<Vec<Update>, AllocError> {
+    let mut kept = Vec::new(alloc);
+    for update in updates {
+        let is_low = floor.is_some_and(|floor| update.timestamp < floor);
+        if is_kept(updates, versions, update) || is_first_marker(updates, update) && !is_low {
+            kept.push(*update)?;
+        }
+    }
+    sort(&mut kept);
+    Ok(kept)
 }

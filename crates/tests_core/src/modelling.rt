@@ -1,10 +1,10 @@
-//! Random writes and scans through a core, beside the model of the updates that it accepted.
+//! Random writes, scans, flushes and compactions through a core, beside the model of the updates that it accepted.
 
 use std::alloc::Global;
 use std::process::Abort;
 use std::test::Fail;
 use tab_core::{Core, Session};
-use tab_history::{Act, Event, Reply, Scan, TimeMode, Versions};
+use tab_history::{Act, Event, Extent, Reply, Scan, TimeMode, Versions};
 use tab_key::{Cell, Items};
 use tab_testing::{Query, Random, Update, auths_of, mutation_of, name, scanned};
 
@@ -131,23 +131,45 @@ fn expect_scan(
     }
 }
 
-// Sixteen writes and scans of a new table; how many cells they showed.
+// A flush or a compaction of the table. It changes nothing that is shown.
+fn compact(
+    rt: &impl Abort,
+    alloc: Global,
+    core: &mut Core,
+    moment: u8,
+    random: &mut Random,
+) -> Result<(), Fail> {
+    let table = name(b"t")?;
+    let act = match random.below(3) {
+        0 => Act::Flush(table),
+        1 => Act::Compact(table, Extent::Partial),
+        _ => Act::Compact(table, Extent::Full),
+    };
+    assert!(rt; matches!(asked(core, alloc, moment, act)?, Reply::Done));
+    Ok(())
+}
+
+// Twenty-four writes, scans and compactions of a new table; how many cells were shown.
 fn play(rt: &impl Abort, alloc: Global, random: &mut Random) -> Result<usize, Fail> {
     let versions = 1 + random.below(3) as u32;
     let mut core = prepared(alloc, versions)?;
     let mut table = Vec::new(alloc);
     let mut shown = 0usize;
-    for moment in 0..16u8 {
-        if random.below(3) == 0 {
-            let query = Query {
-                versions,
-                ..random.query(&ROWS)
-            };
-            let count = expect_scan(rt, alloc, &mut core, &table, moment, &query)?;
-            shown = shown.saturating_add(count);
-        } else {
-            let updates = random_updates(alloc, random, moment)?;
-            write(rt, alloc, &mut core, &mut table, moment, &updates)?;
+    for moment in 0..24u8 {
+        match random.below(7) {
+            0..=1 => {
+                let query = Query {
+                    versions,
+                    ..random.query(&ROWS)
+                };
+                let count = expect_scan(rt, alloc, &mut core, &table, moment, &query)?;
+                shown = shown.saturating_add(count);
+            }
+            2..=3 => compact(rt, alloc, &mut core, moment, random)?,
+            _ => {
+                let updates = random_updates(alloc, random, moment)?;
+                write(rt, alloc, &mut core, &mut table, moment, &updates)?;
+            }
         }
     }
     Ok(shown)
@@ -157,7 +179,7 @@ fn play(rt: &impl Abort, alloc: Global, random: &mut Random) -> Result<usize, Fa
 fn a_core_shows_what_the_model_shows(rt: HostRuntime) -> Result<(), Fail> {
     let mut random = Random::new(11);
     let mut shown = 0usize;
-    for _ in 0..3000 {
+    for _ in 0..2000 {
         let count = play(&rt, rt.alloc(), &mut random)?;
         shown = shown.saturating_add(count);
     }

@@ -2,7 +2,7 @@
 
 use std::alloc::{AllocError, Global};
 use std::test::Fail;
-use tab_history::{Act, Event, Refusal, Reply, Scan, Step, TimeMode, Versions};
+use tab_history::{Act, Counts, Event, Refusal, Reply, Scan, Step, TimeMode, Versions};
 use tab_key::{Bound, Bounds, Cell, Items};
 use tab_label::AuthSet;
 use tab_mutation::Mutation;
@@ -96,6 +96,15 @@ fn add_cells(alloc: Global, text: &mut Vec<u8>, cells: &[Cell]) -> Result<(), Al
     Ok(())
 }
 
+// The counts, as `tablets/sources/records`.
+fn add_counts(alloc: Global, text: &mut Vec<u8>, counts: &Counts) -> Result<(), AllocError> {
+    let tablets = counts.tablets;
+    let sources = counts.sources;
+    let records = counts.records;
+    let counted = format!(in alloc; "{tablets}/{sources}/{records}")?;
+    text.extend_from_slice(counted.as_bytes())
+}
+
 fn word_of(refusal: &Refusal) -> &'static [u8] {
     match refusal {
         Refusal::BadAuthorizations(_) => b"unheld",
@@ -120,6 +129,7 @@ pub fn text_of(alloc: Global, replies: &[Reply]) -> Result<Vec<u8>, AllocError> 
                     text.extend_from_slice(term)?;
                 }
             }
+            Reply::Counted(counts) => add_counts(alloc, &mut text, counts)?,
         }
         text.push(b' ')?;
     }

@@ -1,2 +1,4 @@
 pub mod Apart
 pub mod Later
+pub mod Tabled
+pub mod Numbers

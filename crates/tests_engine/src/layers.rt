@@ -21,6 +21,7 @@ use tab_testing::{auths_of, family, qualified};
 
 mod failing;
 mod many;
+mod merged;
 
 #[derive(Clone, Copy)]
 struct Line {

@@ -5,7 +5,6 @@ use std::process::Abort;
 use tab_iter::Source;
 use tab_key::{Column, Record};
 use tab_label::AuthSet;
-use tab_mem::RunCursor;
 use tab_testing::{Query, Update, from_key};
 use tab_version::Version;
 
@@ -30,14 +29,38 @@ fn expect_same(rt: &impl Abort, records: &[Record], want: &[Update]) {
     }
 }
 
-/// The cursor has the records of these updates left, and no others.
-pub fn expect_rest(
+/// The source has the records of these updates left, and no others.
+pub fn expect_rest<S: Source>(
     rt: &impl Abort,
     alloc: Global,
-    cursor: &mut RunCursor<'_>,
+    source: &mut S,
     want: &[Update],
 ) -> Result<(), AllocError> {
-    expect_same(rt, &rest_of(alloc, cursor)?, want);
+    expect_same(rt, &rest_of(alloc, source)?, want);
+    Ok(())
+}
+
+/// The source has these records left, and behind a seek, from wherever it stands, those from the key on.
+pub fn expect_seek<S: Source>(
+    rt: &impl Abort,
+    alloc: Global,
+    source: &mut S,
+    want: &[Update],
+    sought: &Update,
+) -> Result<(), AllocError> {
+    source.seek(sought.key()).or(Err(AllocError))?;
+    expect_rest(rt, alloc, source, &from_key(alloc, want, sought)?)
+}
+
+/// The version has the records of these updates, and no others.
+pub fn expect_raw<'a>(
+    rt: &impl Abort,
+    alloc: Global,
+    version: &'a Version,
+    want: &[Update],
+) -> Result<(), AllocError> {
+    let mut raw = version.raw(alloc)?;
+    expect_same(rt, &rest_of(alloc, &mut raw)?, want);
     Ok(())
 }
 

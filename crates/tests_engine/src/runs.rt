@@ -1,13 +1,12 @@
 //! Random mutations, written and frozen, beside the order of updates.
 
-use crate::reading::expect_rest;
+use crate::reading::{expect_rest, expect_seek};
 use crate::writing::{CLOCK, fill};
 use std::alloc::{AllocError, Global};
 use std::process::Abort;
 use std::test::Fail;
-use tab_iter::Source;
 use tab_mem::{Active, Run, RunCursor};
-use tab_testing::{Random, Update, from_key, in_rows, sort};
+use tab_testing::{Random, Update, in_rows, sort};
 
 // Rows in the order of their bytes, some alike in their first 16.
 const ROWS: [&[u8]; 8] = [
@@ -36,9 +35,7 @@ fn expect_seeks(
 ) -> Result<(), AllocError> {
     expect_rest(rt, alloc, &mut cursor, updates)?;
     for _ in 0..10 {
-        let sought = random_update(random);
-        Source::seek(&mut cursor, sought.key()).or(Err(AllocError))?;
-        expect_rest(rt, alloc, &mut cursor, &from_key(alloc, updates, &sought)?)?;
+        expect_seek(rt, alloc, &mut cursor, updates, &random_update(random))?;
     }
     Ok(())
 }

@@ -1,4 +1,4 @@
-//! Scans of a tablet, beside the model. Tablets of many writes are tested through the core that writes them.
+//! Scans of a tablet, beside the model.
 
 use crate::reading::expect_scan;
 use std::alloc::{AllocError, Global};
@@ -7,6 +7,8 @@ use std::test::Fail;
 use tab_mutation::Mutation;
 use tab_tablet::Tablet;
 use tab_testing::{Columns, Query, Random, Update, mutation_of, scanned};
+
+mod stories;
 
 const ROWS: [&[u8]; 2] = [b"k", b"l"];
 
@@ -27,18 +29,19 @@ fn written(rt: &impl Abort, alloc: Global, mutation: &Mutation) -> Result<Tablet
     Ok(tablet)
 }
 
-// A random scan of the tablet shows what one of the table shows; how many records.
+// A scan of the tablet shows what one of the table shows, also from some key on; how many records.
 fn compare(
     rt: &impl Abort,
     alloc: Global,
     random: &mut Random,
-    tablet: &mut Tablet,
+    tablet: &Tablet,
     table: &[Update],
+    query: &Query,
 ) -> Result<usize, AllocError> {
-    let query = random.query(&ROWS);
-    let version = tablet.open(alloc, &query.bounds(alloc)?)?;
-    let want = scanned(alloc, table, &query)?;
-    expect_scan(rt, alloc, &version, &query, &want, &random_update(random))?;
+    let frozen = tablet.frozen(alloc)?;
+    let version = frozen.version(alloc, &query.bounds(alloc)?)?;
+    let want = scanned(alloc, table, query)?;
+    expect_scan(rt, alloc, &version, query, &want, &random_update(random))?;
     Ok(want.len())
 }
 
@@ -53,9 +56,10 @@ fn a_tablet_shows_what_the_model_shows(rt: HostRuntime) -> Result<(), Fail> {
         if table.is_empty() {
             continue;
         }
-        let mut tablet = written(&rt, alloc, &mutation_of(alloc, row, &table)?)?;
+        let tablet = written(&rt, alloc, &mutation_of(alloc, row, &table)?)?;
         for _ in 0..3 {
-            let count = compare(&rt, alloc, &mut random, &mut tablet, &table)?;
+            let query = random.query(&ROWS);
+            let count = compare(&rt, alloc, &mut random, &tablet, &table, &query)?;
             shown = shown.saturating_add(count);
         }
     }
@@ -101,8 +105,8 @@ fn compare_deep(
         has_a: true,
         ..Query::ALL
     };
-    let mut tablet = written(rt, alloc, &mutation_of(alloc, b"k", table)?)?;
-    let version = tablet.open(alloc, &query.bounds(alloc)?)?;
+    let tablet = written(rt, alloc, &mutation_of(alloc, b"k", table)?)?.frozen(alloc)?;
+    let version = tablet.version(alloc, &query.bounds(alloc)?)?;
     let want = scanned(alloc, table, &query)?;
     for sought in table.iter().step_by(10) {
         expect_scan(rt, alloc, &version, &query, &want, sought)?;

@@ -1,15 +1,18 @@
-//! Random runs, clipped and read through a stack, beside the model.
+//! Random runs and tables, clipped and read through a stack, beside the model.
+ghost use Rattle.std.specs.Prelude.{◌≡◌, IfOk, map, option_to_list};
+ghost use Rattle.tab_iter.specs.Bags.{flat};
+ghost use Rattle.tab_version.specs.Sources.{records_of};
 
-use crate::reading::{expect_rest, expect_scan};
+use crate::reading::{expect_raw, expect_rest, expect_scan, expect_seek};
 use crate::writing::{CLOCK, add, fill};
 use std::alloc::{AllocError, Global};
 use std::process::Abort;
 use std::sync::Arc;
 use std::test::Fail;
-use tab_iter::Source;
 use tab_mem::{Active, Run};
-use tab_testing::{End, Query, Random, Update, from_key, in_rows, scanned, sort};
-use tab_version::{Clip, Version};
+use tab_table::Table;
+use tab_testing::{End, Query, Random, Update, in_rows, scanned, sort};
+use tab_version::{Clip, Clips, TableClip, Version};
 
 const ROWS: [&[u8]; 4] = [b"", b"a", b"b\0", b"c"];
 
@@ -48,8 +51,7 @@ fn expect_clip(
     );
     let mut cursor = clip.cursor();
     expect_rest(rt, alloc, &mut cursor, want)?;
-    Source::seek(&mut cursor, sought.key()).or(Err(AllocError))?;
-    expect_rest(rt, alloc, &mut cursor, &from_key(alloc, want, sought)?)
+    expect_seek(rt, alloc, &mut cursor, want, sought)
 }
 
 // The clip has the rows between the ends, and no others; it is handed on with them.
@@ -121,7 +123,82 @@ fn random_clip(
     whole.in_rows(&low.to(alloc, high)?)
 }
 
-// Three clips of runs of their own, and what stands in them.
+// The clip as one of a table of its own.
+fn tabled(alloc: Global, clip: Clip) -> Result<TableClip, AllocError>
+    ensures { IfOk result (λ t. t.records ≡ clip) }
+{
+    let table = Table::build(alloc, &mut clip.cursor())?;
+    Ok(TableClip::whole(Arc::new(alloc, table)?))
+}
+
+// The clip, if there is one, as one of a table of its own.
+fn all_tabled(alloc: Global, clip: Option<Clip>) -> Result<Vec<TableClip>, AllocError>
+    ensures { IfOk result (λ v. map (λ t. t.records) v.items ≡ option_to_list clip) }
+{
+    let mut tables = Vec::with_capacity(alloc, 1)?;
+    match clip {
+        None => Ok(tables),
+        Some(clip) => {
+            tables.push(tabled(alloc, clip)?)?;
+            Ok(tables)
+        }
+    }
+}
+
+// The clips, the last one as one of a table.
+fn last_tabled(alloc: Global, clips: Vec<Clip>) -> Result<Clips, AllocError>
+    ensures { IfOk result (λ c. records_of c ≡ flat clips.items) }
+{
+    let mut runs = clips;
+    let last = runs.pop();
+    let tables = all_tabled(alloc, last)?;
+    Ok(Clips::of(runs, tables))
+}
+
+// The clip of a table has these records, and no others, also from a key on, and the rows between the ends.
+fn expect_table_clip(
+    rt: &impl Abort,
+    alloc: Global,
+    clip: &TableClip,
+    updates: &[Update],
+    random: &mut Random,
+) -> Result<(), AllocError> {
+    let low = random.end(&EDGES);
+    let high = random.end(&EDGES);
+    let within = clip.in_rows(&low.to(alloc, high)?)?.share()?;
+    let want = in_rows(alloc, updates, low, high)?;
+    assert_eq!(rt;
+        (within.len(), within.is_empty(), within.size()),
+        (want.len(), want.is_empty(), clip.size())
+    );
+    let mut cursor = within.cursor();
+    expect_rest(rt, alloc, &mut cursor, &want)?;
+    expect_seek(rt, alloc, &mut cursor, &want, &random_update(random))
+}
+
+#[test]
+fn clips_rows_of_tables(rt: HostRuntime) -> Result<(), Fail> {
+    let alloc = rt.alloc();
+    let mut random = Random::new(17);
+    for _ in 0..20 {
+        let mut updates = Vec::new(alloc);
+        let run = random_run(&rt, alloc, &mut random, 0, &mut updates)?;
+        sort(&mut updates);
+        let mut clips = Clips::new(alloc);
+        clips.add_table(tabled(alloc, Clip::whole(run.clone()?))?)?;
+        clips.add_run(Clip::whole(run).share()?)?;
+        let (runs, tables) = clips.share(alloc)?.into_parts();
+        assert_eq!(rt; (runs.len(), tables.len()), (1, 1));
+        for clip in &tables {
+            for _ in 0..20 {
+                expect_table_clip(&rt, alloc, clip, &updates, &mut random)?;
+            }
+        }
+    }
+    Ok(())
+}
+
+// Three clips of their own, the last one of a table, and what stands in them.
 fn random_version(
     rt: &impl Abort,
     alloc: Global,
@@ -135,7 +212,7 @@ fn random_version(
     add(rt, alloc, &mut clips, second, 4, 8)?;
     let third = random_clip(rt, alloc, random, 8, table)?;
     add(rt, alloc, &mut clips, third, 8, 12)?;
-    Ok(Version::new(clips))
+    Ok(Version::of(last_tabled(alloc, clips)?))
 }
 
 #[test]
@@ -146,6 +223,8 @@ fn stacks_clips(rt: HostRuntime) -> Result<(), Fail> {
     for _ in 0..300 {
         let mut table = Vec::new(alloc);
         let version = random_version(&rt, alloc, &mut random, &mut table)?;
+        sort(&mut table);
+        expect_raw(&rt, alloc, &version, &table)?;
         for _ in 0..4 {
             let query = Query {
                 low: End::Open,

@@ -1,6 +1,6 @@
 //! Copies of events, parts of replies, and numbers of versions.
 use std::test::Fail;
-use tab_history::{Act, Event, Refusal, Reply, Versions, copied};
+use tab_history::{Act, Counts, Event, Extent, Refusal, Reply, Versions, copied};
 use tab_key::{Items, Name, Part};
 use tab_mutation::Mutation;
 
@@ -36,6 +36,19 @@ fn copies_a_write(rt: HostRuntime) -> Result<(), Fail> {
 }
 
 #[test]
+fn copies_compactions(rt: HostRuntime) -> Result<(), Fail> {
+    let copy = copied(&event(Act::Compact(name(b"t")?, Extent::Partial))?)?;
+    assert!(rt;
+        matches!(&copy.act, Act::Compact(table, Extent::Partial) if table.as_bytes() == b"t".as_slice())
+    );
+    let copy = copied(&event(Act::Flush(name(b"u")?))?)?;
+    assert!(rt; matches!(&copy.act, Act::Flush(table) if table.as_bytes() == b"u".as_slice()));
+    let copy = copied(&event(Act::Status(name(b"v")?))?)?;
+    assert!(rt; matches!(&copy.act, Act::Status(table) if table.as_bytes() == b"v".as_slice()));
+    Ok(())
+}
+
+#[test]
 fn counts_versions_from_1_to_1000(rt: HostRuntime) -> Result<(), Fail> {
     assert_eq!(rt; Versions::one().get(), 1);
     for (count, is_counted) in [
@@ -64,6 +77,19 @@ fn parts_a_reply_and_its_session(rt: HostRuntime) -> Result<(), Fail> {
     assert_eq!(rt; session, None);
     let (told, session) = Reply::<u8>::Done.into_parts();
     assert!(rt; matches!(told, Reply::Done));
+    assert_eq!(rt; session, None);
+    Ok(())
+}
+
+#[test]
+fn parts_counts(rt: HostRuntime) -> Result<(), Fail> {
+    let counts = Counts {
+        tablets: 1,
+        sources: 2,
+        records: u64::MAX,
+    };
+    let (told, session) = Reply::<u8>::Counted(counts).into_parts();
+    assert!(rt; matches!(told, Reply::Counted(told) if told == counts));
     assert_eq!(rt; session, None);
     Ok(())
 }

@@ -3,7 +3,7 @@ use std::alloc::Global;
 use std::io::ErrorKind;
 use std::test::Fail;
 use tab_core::Core;
-use tab_history::{Refusal, Reply};
+use tab_history::{Counts, Refusal, Reply};
 use tab_io::memory::{Fault, PieceReader, PieceWriter};
 use tab_io::{BlockReader, BlockWriter, Output};
 use tab_key::Part;
@@ -20,7 +20,8 @@ fn printed(alloc: Global, lines: &[u8], piece: usize) -> Result<Vec<u8>, Fail> {
     Ok(Vec::from_slice(alloc, output.get_ref().bytes())?)
 }
 
-const LINES: &[u8] = b"createtable t\ninsert t r f q \\e v 5\nbogus\nscan t \\0";
+const LINES: &[u8] =
+    b"createtable t\ninsert t r f q \\e v 5\nbogus\nflush t\ncompact t full\nscan t \\0";
 
 #[test]
 fn answers_lines_wherever_they_are_cut(rt: HostRuntime) -> Result<(), Fail> {
@@ -29,7 +30,7 @@ fn answers_lines_wherever_they_are_cut(rt: HostRuntime) -> Result<(), Fail> {
         let text = printed(rt.alloc(), LINES, piece)?;
         assert_eq!(rt;
             text.as_slice(),
-            b"ok\nok\nline fault\nr f q \\e 5 v\nend\n".as_slice()
+            b"ok\nok\nline fault\nok\nok\nr f q \\e 5 v\nend\n".as_slice()
         );
     }
     Ok(())
@@ -59,6 +60,14 @@ fn writes_replies(rt: HostRuntime) -> Result<(), Fail> {
         (
             Reply::Refused(Refusal::NoSession(4_294_967_295)),
             b"refused 15 NoSession 4294967295\n".as_slice(),
+        ),
+        (
+            Reply::Counted(Counts {
+                tablets: 1,
+                sources: 20,
+                records: u64::MAX,
+            }),
+            b"tablets 1 sources 20 records 18446744073709551615\n".as_slice(),
         ),
     ] {
         let mut output = BlockWriter::new(rt.alloc(), PieceWriter::new(rt.alloc(), 1000))?;

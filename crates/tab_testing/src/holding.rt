@@ -1,0 +1,238 @@
+//! What a tablet holds, as plain data, and what freezes and compactions make of it, each rule in its own words. (Accumulo user
+//! manual: minor and major compactions)
+
+use crate::model::merged;
+use crate::update::{Update, sort};
+use std::alloc::{AllocError, Global};
+use std::mem;
+use tab_cells::Compaction;
+
+/// The updates of a run or of a table.
+#[derive(Drop)]
+struct Held {
+    is_table: bool,
+    updates: Vec<Update>,
+}
+
+impl Held {
+    fn copied(&self, alloc: Global) -> Result<Held, AllocError> {
+        Ok(Held {
+            is_table: self.is_table,
+            updates: Vec::from_slice(alloc, &self.updates)?,
+        })
+    }
+}
+
+/// Updates that aren't frozen yet, and runs and tables in the order in which they came.
+#[derive(Drop)]
+pub struct Holding {
+    active: Vec<Update>,
+    sources: Vec<Held>,
+}
+
+/// The bytes of one record of a table: 41, and its five byte strings.
+fn record_len(update: &Update) -> u64 {
+    let value = if update.is_put {
+        update.value().len()
+    } else {
+        0
+    };
+    41u64
+        .saturating_add(update.row.len() as u64)
+        .saturating_add(update.family.len() as u64)
+        .saturating_add(update.qualifier.len() as u64)
+        .saturating_add(update.label.len() as u64)
+        .saturating_add(value as u64)
+}
+
+/// The bytes of a table of these updates.
+pub fn table_len(updates: &[Update]) -> u64 {
+    let mut len = 0u64;
+    for update in updates {
+        len = len.saturating_add(record_len(update));
+    }
+    len
+}
+
+/// How many tables stand before a table of this place and of so many bytes: the smaller ones, and those of its size that came
+/// earlier.
+fn rank(sources: &[Held], place: usize, len: u64) -> usize {
+    let mut rank = 0usize;
+    for (other, held) in sources.iter().enumerate() {
+        let there = table_len(&held.updates);
+        if held.is_table && (there < len || there == len && other < place) {
+            rank = rank.saturating_add(1);
+        }
+    }
+    rank
+}
+
+/// The source at this place is one of so many smallest tables.
+fn is_among(sources: &[Held], place: usize, count: usize) -> bool {
+    match sources.get(place) {
+        None => false,
+        Some(held) => held.is_table && rank(sources, place, table_len(&held.updates)) < count,
+    }
+}
+
+/// Three times the largest of so many smallest tables is at most the sum of all of these.
+fn fit(sources: &[Held], count: usize) -> bool {
+    let mut largest = 0u64;
+    let mut sum = 0u64;
+    for (place, held) in sources.iter().enumerate() {
+        if is_among(sources, place, count) {
+            let len = table_len(&held.updates);
+            largest = largest.max(len);
+            sum = sum.saturating_add(len);
+        }
+    }
+    largest.saturating_mul(3) <= sum
+}
+
+fn count_tables(sources: &[Held]) -> usize {
+    sources.iter().filter(|held| held.is_table).count()
+}
+
+/// How many of the smallest tables a partial compaction merges: as many as fit, and none where no two do.
+fn plan(sources: &[Held]) -> usize {
+    let mut taken = 0;
+    for count in 2..count_tables(sources).saturating_add(1) {
+        if fit(sources, count) {
+            taken = count;
+        }
+    }
+    taken
+}
+
+impl Holding {
+    /// Nothing.
+    pub fn new(alloc: Global) -> Holding {
+        Holding {
+            active: Vec::new(alloc),
+            sources: Vec::new(alloc),
+        }
+    }
+
+    /// These updates more, which aren't frozen.
+    pub fn write(&mut self, updates: &[Update]) -> Result<(), AllocError> {
+        for update in updates {
+            self.active.push(*update)?;
+        }
+        Ok(())
+    }
+
+    /// A run more.
+    pub fn add_run(&mut self, updates: Vec<Update>) -> Result<(), AllocError> {
+        let held = Held {
+            is_table: false,
+            updates,
+        };
+        self.sources.push(held)?;
+        Ok(())
+    }
+
+    /// A table more.
+    pub fn add_table(&mut self, updates: Vec<Update>) -> Result<(), AllocError> {
+        let held = Held {
+            is_table: true,
+            updates,
+        };
+        self.sources.push(held)?;
+        Ok(())
+    }
+
+    /// How many runs and tables there are.
+    pub fn count_sources(&self) -> usize {
+        self.sources.len()
+    }
+
+    /// All updates, in their order.
+    pub fn updates(&self, alloc: Global) -> Result<Vec<Update>, AllocError> {
+        let mut all = Vec::from_slice(alloc, &self.active)?;
+        for held in &self.sources {
+            append(&mut all, &held.updates)?;
+        }
+        sort(&mut all);
+        Ok(all)
+    }
+
+    /// What isn't frozen becomes a run, if there is any.
+    pub fn freeze(&mut self, alloc: Global) -> Result<(), AllocError> {
+        if self.active.is_empty() {
+            return Ok(());
+        }
+        let run = mem::replace(&mut self.active, Vec::new(alloc));
+        self.add_run(run)
+    }
+
+    /// A compaction of this kind reads the source at this place, if a partial one takes so many tables.
+    fn is_read(&self, kind: Compaction, place: usize, taken: usize) -> bool {
+        match kind {
+            Compaction::Minor => self.sources.get(place).is_some_and(|held| !held.is_table),
+            Compaction::Partial => is_among(&self.sources, place, taken),
+            Compaction::Full => true,
+        }
+    }
+
+    /// What a compaction of this kind makes of the sources that it reads, where so many versions of a column are kept; nothing where
+    /// it reads none. A full one has a floor.
+    pub fn output(
+        &self,
+        alloc: Global,
+        kind: Compaction,
+        floor: i64,
+        versions: u32,
+    ) -> Result<Option<Vec<Update>>, AllocError> {
+        let taken = plan(&self.sources);
+        let mut is_any = false;
+        let mut inputs = Vec::new(alloc);
+        for (place, held) in self.sources.iter().enumerate() {
+            if self.is_read(kind, place, taken) {
+                is_any = true;
+                append(&mut inputs, &held.updates)?;
+            }
+        }
+        if !is_any {
+            return Ok(None);
+        }
+        let floor = if kind.is_full() { Some(floor) } else { None };
+        Ok(Some(merged(alloc, &inputs, floor, versions)?))
+    }
+
+    /// The sources that a compaction of this kind doesn't read.
+    fn spared(&self, alloc: Global, kind: Compaction) -> Result<Vec<Held>, AllocError> {
+        let taken = plan(&self.sources);
+        let mut spared = Vec::new(alloc);
+        for (place, held) in self.sources.iter().enumerate() {
+            if !self.is_read(kind, place, taken) {
+                spared.push(held.copied(alloc)?)?;
+            }
+        }
+        Ok(spared)
+    }
+
+    /// Freezes, and puts what the compaction makes in the place of what it reads, as the last table.
+    pub fn compact(
+        &mut self,
+        alloc: Global,
+        kind: Compaction,
+        floor: i64,
+        versions: u32,
+    ) -> Result<(), AllocError> {
+        self.freeze(alloc)?;
+        match self.output(alloc, kind, floor, versions)? {
+            None => Ok(()),
+            Some(output) => {
+                self.sources = self.spared(alloc, kind)?;
+                self.add_table(output)
+            }
+        }
+    }
+}
+
+fn append(updates: &mut Vec<Update>, more: &[Update]) -> Result<(), AllocError> {
+    for update in more {
+        updates.push(*update)?;
+    }
+    Ok(())
+}
