@@ -2,7 +2,7 @@
 # Lets each request for memory of a script fail in turn, and compares what is printed.
 # Where one fails, the program prints what it always prints, or one line is refused for memory and all others are answered
 # as if that line were not there (a long scan stands up to the batch that is refused), or it ends with status 1 before the
-# first line. Lines that drop or revoke are never refused.
+# first line. Lines that drop, revoke or count are never refused.
 # Usage: tests/allocations.sh   (from anywhere; wants a C compiler; builds the program if it isn't built)
 set -eu
 top=$(cd "$(dirname -- "${BASH_SOURCE[0]}")/.." && pwd)
@@ -59,6 +59,10 @@ delete t r f q A 4
 scan t A,B [a (z f:q,g
 scan s A,B
 scan s C
+flush t
+compact t partial
+compact s full
+status t
 insert t r f q (((A))) a-longer-value-than-before 7
 scan t A
 createuser bob
@@ -101,7 +105,7 @@ expect() { # SCRIPT
     expected[$1.$(cksum <"$work/always")]=always
     for line in $(seq "$(wc -l <"$work/$1")"); do
         # these take no memory, and are never refused for it
-        sed -n "${line}p" "$work/$1" | grep -qE '^(droptable|dropuser|revoke) ' && continue
+        sed -n "${line}p" "$work/$1" | grep -qE '^(droptable|dropuser|revoke|status) ' && continue
         head -n $((line - 1)) "$work/$1" | "$program" script >"$work/before"
         before=$(wc -c <"$work/before")
         sum=$({

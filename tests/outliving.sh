@@ -7,7 +7,7 @@ top=$(cd "$(dirname -- "${BASH_SOURCE[0]}")/.." && pwd)
 work=$(mktemp -d)
 trap 'rm -rf "$work"' EXIT
 kit=$(dirname -- "$(rt doc)")
-libraries='tab_key tab_label tab_iter tab_mem tab_version'
+libraries='tab_key tab_label tab_iter tab_version'
 [ -d "$top/crates/tab_version/out/rlib" ] || (cd "$top/crates/tab_version" && rt lib >"$work/built" 2>&1)
 
 # What the compiler is given: the libraries that are named, and where those below them lie.
@@ -26,7 +26,7 @@ compiles() { # FUNCTION
     {
         echo '#![tactic(auto)]'
         echo 'use std::alloc::Global; use tab_iter::{NoMemory, Stack}; use tab_key::Column;'
-        echo 'use tab_label::AuthSet; use tab_mem::RunCursor; use tab_version::Version;'
+        echo 'use tab_label::AuthSet; use tab_version::{ClipCursor, Version};'
         printf '%s\n' "$1"
     } >"$work/src/lib.rt"
     (cd "$work" && "$kit/bin/rattle" check --crate-name outliving src/lib.rt "${words[@]}" --jobs 1 --only '') >"$work/out" 2>&1
@@ -40,7 +40,7 @@ fail() { # WHY
 }
 
 takes='alloc: Global, columns: &'\''a [Column], auths: &'\''a AuthSet'
-gives='Result<Stack<'\''a, RunCursor<'\''a>>, NoMemory>'
+gives='Result<Stack<'\''a, ClipCursor<'\''a>>, NoMemory>'
 if compiles "pub fn lent<'a>(version: &'a Version, $takes) -> $gives { version.stack(alloc, columns, auths, 1) }"; then
     passed=$((passed + 1))
 else

@@ -17,6 +17,10 @@ mutate t r put f q \e v 1|Table.WRITE|ok
 createtable s|System.CREATE_TABLE|ok
 droptable u|System.DROP_TABLE Table.DROP_TABLE|ok
 constraints t \0|System.ALTER_TABLE Table.ALTER_TABLE|ok
+flush t|System.ALTER_TABLE Table.ALTER_TABLE Table.WRITE|ok
+compact t partial|System.ALTER_TABLE Table.ALTER_TABLE Table.WRITE|ok
+compact t full|System.ALTER_TABLE Table.ALTER_TABLE Table.WRITE|ok
+status t|System.ALTER_TABLE Table.ALTER_TABLE|tablets
 createuser eve|System.CREATE_USER|ok
 dropuser dan|System.DROP_USER|ok
 setauths dan A|System.ALTER_USER|ok
@@ -47,7 +51,9 @@ for held in none System.CREATE_TABLE System.DROP_TABLE System.ALTER_TABLE System
         *) wanted="refused 3 PermissionDenied $first" && [ "${first%.*}" = System ] || wanted="$wanted t" ;;
         esac
         [ -n "$needed" ] || wanted=end
-        if [ "$("$program" script <"$work/lines" | tail -n 1)" = "$wanted" ]; then passed=$((passed + 1)); else
+        said=$("$program" script <"$work/lines" | tail -n 1)
+        # which counts are told a history leaves open
+        if [ "$said" = "$wanted" ] || { [ "$wanted" = tablets ] && [[ $said =~ ^tablets\ [0-9]+\ sources\ [0-9]+\ records\ [0-9]+$ ]]; }; then passed=$((passed + 1)); else
             failed=$((failed + 1))
             echo "FAILED: '$line' with $held isn't told '$wanted'"
         fi

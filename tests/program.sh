@@ -137,7 +137,7 @@ name="name: 1 to 128 of a-z A-Z 0-9 _ - ."
 byte_word='a byte word: ! to ~ as they are but \\ for \, \xHH (H of 0-9 a-f) for any byte, \e for none'
 number='a whole number of 64 bits with its sign, as 7 or -7'
 versions='VERSIONS (versions=N with N from 1 to 1000)'
-commands='a command, one of as at createtable droptable createuser dropuser setauths grant revoke rights constraints insert delete mutate scan'
+commands='a command, one of as at createtable droptable createuser dropuser setauths grant revoke rights constraints insert delete mutate scan flush compact status'
 system='SYSTEM_PERMISSION (GRANT, CREATE_TABLE, DROP_TABLE, ALTER_TABLE, CREATE_USER, DROP_USER, ALTER_USER or SYSTEM)'
 bound='[ and a byte word (from this row on), ( and a byte word (behind it), or \0 for no bound'
 sixty=$(printf 'x%.0s' $(seq 60))
@@ -170,6 +170,11 @@ mutate t r add	word 4, "add": expected UPDATE (put or del, and the words behind 
 mutate t r put f q \\e v - del	word 10, "del": expected ; (between two updates) or the end of the line
 mutate t r put f q \\e ; 1 ; del f q x	word 15 is missing: expected STAMP (a timestamp, or - for none)
 scan t \\0 r	word 4, "r": expected LOW ($bound) or the end of the line
+flush t	
+compact t	word 3 is missing: expected EXTENT (partial or full)
+compact t all	word 3, "all": expected EXTENT (partial or full)
+compact t full x	word 4, "x": expected the end of the line
+status t x	word 3, "x": expected the end of the line
 scan t \\0 \\0 \\0 f:	word 6, "f:": expected COLS (FAM or FAM:QUAL, with commas between them, or \\0 for all) or the end of the line
 E
 cut -f1 table >script
