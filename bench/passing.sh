@@ -21,9 +21,12 @@ row() { # TABLE SCANS TEXT
     python3 "$lines" "$1" "$2" >"$work/scans"
     "$TABD" script <"$work/first" >"$work/first.out"
     cat "$work/first" "$work/scans" | "$TABD" script >"$work/all.out"
+    local first rest
+    first=$(stat -c %s "$work/first.out")
+    rest=$(($(stat -c %s "$work/all.out") - first))
     for _ in $(seq "$rounds"); do
-        python3 "$top/bench/store/phases.py" "$work/first" "$work/scans" "$work/first.out" "$work/all.out" "$TABD" script
-    done | awk -v scans="$2" -v text="$3" 'NR == 1 || $2 < least { least = $2 } END { printf "%-44s %12.1f us\n", text, least / scans * 1e6 }'
+        python3 "$top/bench/store/phases.py" "$work/first:$first" "$work/scans:$rest" -- "$TABD" script | tail -n 1
+    done | awk -v scans="$2" -v text="$3" 'NR == 1 || $1 < least { least = $1 } END { printf "%-44s %12.1f us\n", text, least / scans * 1e6 }'
 }
 
 row versions 500 '200,000 puts of one column'

@@ -71,12 +71,14 @@ compare() {
 
 # Both in turn, round by round: the seconds of the inserts and of the part behind.
 measure() {
-    local part who seconds
+    local part who first rest seconds
     for _ in $(seq "$rounds"); do
         for part in whole short; do
             for who in tabd rust; do
+                first=$(stat -c %s "$work/none.$who")
+                rest=$(($(stat -c %s "$work/$part.$who") - first))
                 seconds=$(run "$who" python3 "$top/bench/store/phases.py" \
-                    "$work/inserts" "$work/$part" "$work/none.$who" "$work/$part.$who")
+                    "$work/inserts:$first" "$work/$part:$rest" -- | cut -d ' ' -f 1 | paste -sd ' ')
                 echo "time $part $who $seconds" >>"$work/seen"
             done
         done

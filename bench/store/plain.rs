@@ -1,7 +1,8 @@
 //! A plain store beside which `tabd script` is measured: std's `BTreeMap` from keys to values, one for each table.
 //!
-//! It reads the lines `createtable T [time=any]`, `setauths root LIST`, `insert T ROW FAM QUAL LABEL VALUE TS` and
-//! `scan T AUTHS [LOW HIGH]` from standard input and answers each as `tabd` does; any other line is a fault.
+//! It reads the lines `createtable T [time=any]`, `setauths root LIST`, `insert T ROW FAM QUAL LABEL VALUE TS`,
+//! `scan T AUTHS [LOW HIGH]`, `flush T` and `compact T partial|full` from standard input and answers each as `tabd` does; any
+//! other line is a fault. There is nothing to flush or to compact in a map, so these two only see whether the table is there.
 //! A table shows one version of a column. Its one user is `root`, who may do everything. Answers are flushed whenever
 //! the lines that were read are all answered.
 use std::cmp::Reverse;
@@ -274,6 +275,7 @@ enum Act {
     SetAuths(Vec<Vec<u8>>),
     Insert(Vec<u8>, Key, Vec<u8>),
     Scan(Vec<u8>, Vec<Vec<u8>>, Range),
+    Compact(Vec<u8>),
 }
 
 /// The act of a line's words; none where they are a fault.
@@ -295,6 +297,7 @@ fn act(words: &[&[u8]]) -> Option<Act> {
         [b"scan", table, auths, low, high] => {
             Some(Act::Scan(name(table)?, list(auths)?, Range { low: bound(low)?, high: bound(high)? }))
         }
+        [b"flush", table] | [b"compact", table, b"partial" | b"full"] => Some(Act::Compact(name(table)?)),
         _ => None,
     }
 }
@@ -325,6 +328,8 @@ impl Store {
             }
             Some(Act::Insert(table, key, value)) => self.insert(&table, key, value, out),
             Some(Act::Scan(table, auths, range)) => self.scan(&table, auths, range, out),
+            Some(Act::Compact(table)) if self.tables.contains_key(&table) => out.write_all(b"ok\n"),
+            Some(Act::Compact(table)) => refuse(out, "2 NoTable", &table),
             None => out.write_all(b"line fault\n"),
         }
     }

@@ -3,7 +3,10 @@
 
 script.py inserts CELLS        a table, its reader, and CELLS inserts, one to a row, in random order
 script.py whole                one scan of the whole table
+script.py compaction           a flush and a full compaction
 script.py short CELLS SCANS    SCANS scans of ten neighbouring rows each
+script.py turns FROM TO        of writes and scans in turn those from FROM up to TO: a flush behind each 500th, and a partial
+                               compaction behind each 5000th; the first begins with the table and its reader
 """
 import sys
 
@@ -11,6 +14,7 @@ MASK = (1 << 64) - 1
 LABELS = ["A", "A&B", "A&(B|C)", "B|D", "D", "A&D", "(A|B)&E", "D&(A|E)"]
 LETTERS = "abcdefghijklmnopqrstuvwxyz"
 NEIGHBOURS = 10
+TURN_ROWS = 20_000
 
 
 def splitmix64(seed):
@@ -40,16 +44,23 @@ def letters(count, word):
     return text
 
 
+BEGINNING = "createtable t time=any\nsetauths root A,B\n"
+
+
+def insert(row, words):
+    word = next(words)
+    family, word = word % 4, word // 4
+    qualifier, word = word % 1000, word // 1000
+    label = LABELS[word % len(LABELS)]
+    value = letters(10, next(words)) + letters(10, next(words))
+    return f"insert t {row:010} f{family:03} q{qualifier:03} {label} {value} 1\n"
+
+
 def inserts(cells):
-    yield "createtable t time=any\nsetauths root A,B\n"
+    yield BEGINNING
     words = splitmix64(1)
     for row in shuffled(cells, words):
-        word = next(words)
-        family, word = word % 4, word // 4
-        qualifier, word = word % 1000, word // 1000
-        label = LABELS[word % len(LABELS)]
-        value = letters(10, next(words)) + letters(10, next(words))
-        yield f"insert t {row:010} f{family:03} q{qualifier:03} {label} {value} 1\n"
+        yield insert(row, words)
 
 
 def short_scans(cells, scans):
@@ -59,9 +70,28 @@ def short_scans(cells, scans):
         yield f"scan t A,B [{low:010} ({low + NEIGHBOURS:010}\n"
 
 
-def main(part, *numbers):
-    parts = {"inserts": inserts, "whole": lambda: ["scan t A,B\n"], "short": short_scans}
-    sys.stdout.writelines(parts[part](*map(int, numbers)))
+def turns(first, end):
+    if first == 0:
+        yield BEGINNING
+    words = splitmix64(3 + first)
+    for turn in range(first, end):
+        yield insert(next(words) % TURN_ROWS, words)
+        low = next(words) % (TURN_ROWS - NEIGHBOURS + 1)
+        yield f"scan t A,B [{low:010} ({low + NEIGHBOURS:010}\n"
+        if turn % 500 == 499:
+            yield "flush t\n"
+        if turn % 5000 == 4999:
+            yield "compact t partial\n"
 
 
-main(*sys.argv[1:])
+PARTS = {
+    "inserts": inserts,
+    "whole": lambda: ["scan t A,B\n"],
+    "compaction": lambda: ["flush t\n", "compact t full\n"],
+    "short": short_scans,
+    "turns": turns,
+}
+
+
+if __name__ == "__main__":
+    sys.stdout.writelines(PARTS[sys.argv[1]](*map(int, sys.argv[2:])))
