@@ -3,7 +3,7 @@
 # Usage: build.sh LOG   (tabd calls it; what the prover says goes to LOG, how far it is to standard error)
 #
 # A run of `rt` holds the crates below it for as long as it goes on, so each crate is built in a folder of its own, over links to
-# the libraries that are done, and what comes of it is then moved to its place. Whatever is left, `rt` builds afterwards.
+# the libraries that are done, and what comes of it is then moved to its place. Whatever is left, `rt` builds with the program.
 set -u
 top=$(dirname -- "$(readlink -f -- "${BASH_SOURCE[0]}")")
 log=$1
@@ -44,7 +44,7 @@ is_ready() { # CRATE
 }
 
 # Builds the crate's library in a folder of its own, and moves it to its place.
-build_library() { # CRATE NICE
+build_library() { # CRATE NICE FLAG..
     local at=$place/$1 one part
     for one in $(below "$1"); do
         mkdir -p "$at/crates/$one/out" || return 1
@@ -54,7 +54,7 @@ build_library() { # CRATE NICE
         done
         [ "$one" = "$1" ] || cp -Rl "$top/crates/$one/out/rlib" "$at/crates/$one/out/rlib" || return 1
     done
-    (cd "$at/crates/$1" && nice -n "$2" rt lib) >"$place/$1.log" 2>&1 </dev/null || return 1
+    (cd "$at/crates/$1" && nice -n "$2" rt lib "${@:3}") >"$place/$1.log" 2>&1 </dev/null || return 1
     mkdir -p "$top/crates/$1/out"
     rm -rf "$top/crates/$1/out/rlib" "$top/crates/$1/out/incremental"
     mv "$at/crates/$1/out/"* "$top/crates/$1/out/" && rm -rf "$at"
@@ -81,6 +81,17 @@ niceness() { # CRATE
     echo 0
 }
 
+# What `rt` is told beside: to a crate that nothing else can be built with, that it has all lanes to itself. `rt` by itself plans
+# for the most memory that a check could ever take, and then leaves processors idle.
+alone() { # CRATES LEFT
+    local one
+    [ "$running" -eq 1 ] || return 0
+    for one in $1; do
+        ! is_ready "$one" || return 0
+    done
+    echo --jobs "$lanes"
+}
+
 crates=$(below tabd)
 count=$(wc -w <<<"$crates")
 left= begun=0 running=0
@@ -95,8 +106,10 @@ while [ -n "$left" ] || [ "$running" -gt 0 ]; do
             begun=$((begun + 1)) running=$((running + 1))
             echo "tabd: proving $crate, $begun of $count" >&2
             nice=$(niceness "$crate")
+            flags=$(alone "${left/"$crate"/}")
             mkdir -p "$place/$crate"
-            { build_library "$crate" "$nice" || : >"$place/$crate.failed"; } &
+            # shellcheck disable=SC2086
+            { build_library "$crate" "$nice" $flags || : >"$place/$crate.failed"; } &
         else
             later="$later $crate"
         fi
@@ -113,3 +126,4 @@ while [ -n "$left" ] || [ "$running" -gt 0 ]; do
 done
 cat "$place"/*.log >>"$log" 2>/dev/null
 echo "tabd: proving tabd, $count of $count" >&2
+cd "$top/crates/tabd" && rt run --jobs "$lanes" -- --version >>"$log" 2>&1 </dev/null
