@@ -39,6 +39,8 @@ impl Table {
 
     /// A table of the records that the source has left, which it reads to its end. Each is copied once.
     ///
+    /// Each part of a record must have at most 1,048,576 bytes, as those of every accepted mutation have: a length is kept in 32 bits.
+    ///
     /// While it grows it may take twice the memory that the table keeps. After an error, which only want of memory gives, some of the
     /// records are passed.
     pub fn build<S: Source>(alloc: Global, source: &mut S) -> Result<Table, NoMemory>
