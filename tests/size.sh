@@ -47,6 +47,20 @@ printf '%s\n' 'createtable t' "insert t $row f q \\e $value 5" "insert t r f q \
 printf '%s\n' ok ok 'refused 9 TooLarge value' 'refused 9 TooLarge row' "$row f q \\e 5 $value" end >wanted
 prints 'a put of over 2 MiB, with the longest row and value'
 
+# Each part at its limit and above it: the row first, then update by update family, qualifier and label, and then the values.
+over=${value}v
+printf '%s\n' 'createtable t' "mutate t r put $value $value \\e $value - ; put $over q \\e v -" "mutate t $over put $over q \\e v -" \
+    "mutate t r put f $over \\e v - ; put $over q \\e v -" "mutate t r put f q \\e $over - ; put f q $over v -" "mutate t r put f q \\e $over -" >lines
+printf '%s\n' ok 'refused 9 TooLarge family' 'refused 9 TooLarge row' 'refused 9 TooLarge qualifier' 'refused 9 TooLarge label' 'refused 9 TooLarge value' >wanted
+prints 'each part at its limit and above it'
+
+# Row, family, qualifier and label that come to 1,048,576 bytes together, and one more.
+quarter=$(bytes 262144 x)
+printf '%s\n' 'createtable t' "setauths root $(bytes 1024 x)" 'constraints t keysize' "mutate t $quarter put $quarter $quarter $quarter 1 -" \
+    "mutate t $quarter put $quarter $quarter $quarter 1 - ; del $quarter x$quarter $quarter -" >lines
+printf '%s\n' ok ok ok ok 'refused 6 ConstraintViolation 1:1:1' >wanted
+prints 'the longest key, and one byte more'
+
 # A mutation of 1,000 updates under all constraints, one with a violation in its last update, and one update too many.
 updates() { # COUNT LAST
     awk -v count="$1" -v last="$2" 'BEGIN {

@@ -1,15 +1,15 @@
-//! Tests of what is kept and of the rules on it, by public calls.
+//! Tests of what is kept and of the rules on it, by public calls, as far as no line of a script reaches them: what lines show is
+//! tested by `tests/cases` and `tests/size.sh`.
 //!
 //! A crate of its own, since tests inside a crate have it proved twice.
 //!
 //! | File | What is tested |
 //! |---|---|
-//! | `keys` | `tab_key`: names, keys, records, ranges and their order |
-//! | `labels` | `tab_label`: tables of labels; `brute`: every short text, beside the grammar written as a search |
-//! | `mutations` | `tab_mutation`: what is kept, and shapes |
-//! | `rules` | `tab_rules`: constraints |
-//! | `policies` | `tab_policy`: names of permissions, and lives of users and tables |
-//! | `events` | `tab_history`: copies of events, parts of replies, numbers of versions |
+//! | `keys` | `tab_key`: the order of names, ranges, and what is printed |
+//! | `labels` | `tab_label`: trees and depths; `brute`: every short text, beside the grammar written as a search |
+//! | `mutations` | `tab_mutation`: the updates one after another |
+//! | `rules` | `tab_rules`: the texts of violations |
+//! | `events` | `tab_history`: copies of events |
 #![tactic(auto)]
 
 #[cfg(test)]
@@ -20,7 +20,5 @@ mod keys;
 mod labels;
 #[cfg(test)]
 mod mutations;
-#[cfg(test)]
-mod policies;
 #[cfg(test)]
 mod rules;
