@@ -44,7 +44,7 @@ is_ready() { # CRATE
 }
 
 # Builds the crate's library in a folder of its own, and moves it to its place.
-build_library() { # CRATE NICE FLAG..
+build_library() { # CRATE NICE JOBS
     local at=$place/$1 one part
     for one in $(below "$1"); do
         mkdir -p "$at/crates/$one/out" || return 1
@@ -54,7 +54,7 @@ build_library() { # CRATE NICE FLAG..
         done
         [ "$one" = "$1" ] || cp -Rl "$top/crates/$one/out/rlib" "$at/crates/$one/out/rlib" || return 1
     done
-    (cd "$at/crates/$1" && nice -n "$2" rt lib "${@:3}") >"$place/$1.log" 2>&1 </dev/null || return 1
+    (cd "$at/crates/$1" && nice -n "$2" rt lib --jobs "$3") >"$place/$1.log" 2>&1 </dev/null || return 1
     mkdir -p "$top/crates/$1/out"
     rm -rf "$top/crates/$1/out/rlib" "$top/crates/$1/out/incremental"
     mv "$at/crates/$1/out/"* "$top/crates/$1/out/" && rm -rf "$at"
@@ -81,15 +81,14 @@ niceness() { # CRATE
     echo 0
 }
 
-# What `rt` is told beside: to a crate that nothing else can be built with, that it has all lanes to itself. `rt` by itself plans
-# for the most memory that a check could ever take, and then leaves processors idle.
-alone() { # CRATES LEFT
-    local one
-    [ "$running" -eq 1 ] || return 0
+# With how many jobs a crate is proved: it gets the processors that neither a crate under way nor one that is ready takes.
+# `rt` by itself plans for the most memory that a check could ever take, and then leaves processors idle.
+spare() { # CRATES LEFT
+    local one idle=$(((cores < memory ? cores : memory) - running + 1))
     for one in $1; do
-        ! is_ready "$one" || return 0
+        ! is_ready "$one" || idle=$((idle - 1))
     done
-    echo --jobs "$lanes"
+    echo $((idle > 1 ? idle : 1))
 }
 
 crates=$(below tabd)
@@ -106,10 +105,9 @@ while [ -n "$left" ] || [ "$running" -gt 0 ]; do
             begun=$((begun + 1)) running=$((running + 1))
             echo "tabd: proving $crate, $begun of $count" >&2
             nice=$(niceness "$crate")
-            flags=$(alone "${left/"$crate"/}")
+            jobs=$(spare "$later ${left#*"$crate"}")
             mkdir -p "$place/$crate"
-            # shellcheck disable=SC2086
-            { build_library "$crate" "$nice" $flags || : >"$place/$crate.failed"; } &
+            { build_library "$crate" "$nice" "$jobs" || : >"$place/$crate.failed"; } &
         else
             later="$later $crate"
         fi
@@ -126,4 +124,4 @@ while [ -n "$left" ] || [ "$running" -gt 0 ]; do
 done
 cat "$place"/*.log >>"$log" 2>/dev/null
 echo "tabd: proving tabd, $count of $count" >&2
-cd "$top/crates/tabd" && rt run --jobs "$lanes" -- --version >>"$log" 2>&1 </dev/null
+cd "$top/crates/tabd" && rt run --jobs "$(running=1 spare '')" -- --version >>"$log" 2>&1 </dev/null
