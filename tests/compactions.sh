@@ -83,6 +83,8 @@ counts 'what was written is one run behind a scan' 'tablets 1 sources 1 records 
     'createtable t' 'insert t a f q \e v 1' 'insert t b f q \e v 1' 'scan t \0' 'status t'
 counts 'what was written since is counted' 'tablets 1 sources 1 records 2' \
     'createtable t' 'insert t a f q \e v 1' 'flush t' 'insert t b f q \e v 1' 'status t'
+counts 'a refused flush freezes nothing' 'tablets 1 sources 0 records 1' \
+    'createtable t' 'insert t a f q \e v 1' 'as eve' 'flush t' 'as root' 'status t'
 counts 'a flush drops what a newer put covers' 'tablets 1 sources 1 records 1' \
     'createtable t' 'insert t a f q \e v 1' 'insert t a f q \e w 2' 'flush t' 'status t'
 counts 'a full compaction leaves the marker of a table that takes timestamps' 'tablets 1 sources 1 records 1' \

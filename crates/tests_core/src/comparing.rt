@@ -1,6 +1,6 @@
 //! Pairs of runs that look alike to bob, who holds A and never B, and what he is told in them.
 
-use crate::steps::{auths, close, deletes, event, makes_table, next, opens, puts, text_of};
+use crate::steps::{auths, close, deletes, event, makes_table, next, opens, push, puts, text_of};
 use std::alloc::{AllocError, Global};
 use std::process::Abort;
 use std::test::Fail;
@@ -20,18 +20,21 @@ fn make_user(
     let read = Permission::OfTable(TablePermission::Read, name(b"t")?);
     let write = Permission::OfTable(TablePermission::Write, name(b"t")?);
     let held = auths(alloc, letters)?;
-    steps.push(event(b"root", 0, Act::CreateUser(user))?)?;
-    steps.push(event(b"root", 0, Act::SetAuths(user, held))?)?;
-    steps.push(event(b"root", 0, Act::Grant(user, read))?)?;
-    steps.push(event(b"root", 0, Act::Grant(user, write))?)?;
+    push(steps, event(b"root", 0, Act::CreateUser(user)))?;
+    push(steps, event(b"root", 0, Act::SetAuths(user, held)))?;
+    push(steps, event(b"root", 0, Act::Grant(user, read)))?;
+    push(steps, event(b"root", 0, Act::Grant(user, write)))?;
     Ok(())
 }
 
 // The table t of two versions; bob with A, eve and root with A and B.
 fn make_all(alloc: Global, steps: &mut Vec<Step>) -> Result<(), Fail> {
-    steps.push(makes_table(2)?)?;
+    push(steps, makes_table(2))?;
     let held = auths(alloc, b"AB")?;
-    steps.push(event(b"root", 0, Act::SetAuths(name(b"root")?, held))?)?;
+    push(
+        steps,
+        event(b"root", 0, Act::SetAuths(name(b"root")?, held)),
+    )?;
     make_user(alloc, steps, b"bob", b"A")?;
     make_user(alloc, steps, b"eve", b"AB")
 }
@@ -45,9 +48,9 @@ fn add_copies(steps: &mut Vec<Step>, more: &[Step]) -> Result<(), AllocError> {
 
 // What others write under B, before bob's first scan.
 fn add_unseen(alloc: Global, steps: &mut Vec<Step>) -> Result<(), Fail> {
-    steps.push(puts(alloc, b"root", 0, b"B", Some(6), b'y')?)?;
-    steps.push(puts(alloc, b"eve", 0, b"B", Some(7), b'z')?)?;
-    steps.push(puts(alloc, b"eve", 0, b"A&B", None, b'w')?)?;
+    push(steps, puts(alloc, b"root", 0, b"B", Some(6), b'y'))?;
+    push(steps, puts(alloc, b"eve", 0, b"B", Some(7), b'z'))?;
+    push(steps, puts(alloc, b"eve", 0, b"A&B", None, b'w'))?;
     Ok(())
 }
 
@@ -55,22 +58,46 @@ fn add_unseen(alloc: Global, steps: &mut Vec<Step>) -> Result<(), Fail> {
 fn scanned(alloc: Global, has_more: bool) -> Result<Vec<Step>, Fail> {
     let mut steps = Vec::new(alloc);
     make_all(alloc, &mut steps)?;
-    steps.push(puts(alloc, b"root", 0, b"A", Some(5), b'x')?)?;
-    steps.push(puts(alloc, b"eve", 0, b"", None, b'v')?)?;
+    push(&mut steps, puts(alloc, b"root", 0, b"A", Some(5), b'x'))?;
+    push(&mut steps, puts(alloc, b"eve", 0, b"", None, b'v'))?;
     if has_more {
         add_unseen(alloc, &mut steps)?;
     }
-    steps.push(opens(alloc, b"bob", 1, b"A")?)?;
-    steps.push(next(b"bob", 0, 1)?)?;
+    push(&mut steps, opens(alloc, b"bob", 1, b"A"))?;
+    push(&mut steps, next(b"bob", 0, 1))?;
     if has_more {
-        steps.push(deletes(alloc, b"eve", 0, b"B", Some(7))?)?;
+        push(&mut steps, deletes(alloc, b"eve", 0, b"B", Some(7)))?;
     }
-    steps.push(next(b"bob", 0, 9)?)?;
-    steps.push(opens(alloc, b"bob", 1, b"AB")?)?;
-    steps.push(opens(alloc, b"bob", 1, b"A")?)?;
-    steps.push(next(b"bob", 1, 9)?)?;
-    steps.push(next(b"bob", 2, 9)?)?;
+    push(&mut steps, next(b"bob", 0, 9))?;
+    push(&mut steps, opens(alloc, b"bob", 1, b"AB"))?;
+    push(&mut steps, opens(alloc, b"bob", 1, b"A"))?;
+    push(&mut steps, next(b"bob", 1, 9))?;
+    push(&mut steps, next(b"bob", 2, 9))?;
     Ok(steps)
+}
+
+// What the user is told in both runs.
+fn told_in(
+    alloc: Global,
+    first: &[Step],
+    second: &[Step],
+    user: &[u8],
+) -> Result<(Vec<u8>, Vec<u8>), Fail> {
+    let told = compare_runs(alloc, first, second, &name(user)?)?;
+    let text = text_of(alloc, &told.first)?;
+    Ok((text, text_of(alloc, &told.second)?))
+}
+
+// Whether he is told just that.
+fn is_told(
+    alloc: Global,
+    first: &[Step],
+    second: &[Step],
+    user: &[u8],
+    want: (&[u8], &[u8]),
+) -> Result<bool, Fail> {
+    let told = told_in(alloc, first, second, user)?;
+    Ok(told.0.as_slice() == want.0 && told.1.as_slice() == want.1)
 }
 
 #[test]
@@ -78,19 +105,10 @@ fn tells_bob_the_same(rt: HostRuntime) -> Result<(), Fail> {
     let alloc = rt.alloc();
     let first = scanned(alloc, false)?;
     let second = scanned(alloc, true)?;
-    let bob = compare_runs(alloc, &first, &second, &name(b"bob")?)?;
     let told = b"opened @0=v, A@5=x, unheld opened @0=v,A@5=x, unopened ".as_slice();
-    assert_eq!(rt; text_of(alloc, &bob.first)?.as_slice(), told);
-    assert_eq!(rt; text_of(alloc, &bob.second)?.as_slice(), told);
-    let eve = compare_runs(alloc, &first, &second, &name(b"eve")?)?;
-    assert_eq!(rt; text_of(alloc, &eve.first)?.as_slice(), b"ok ".as_slice());
-    assert_eq!(rt;
-        text_of(alloc, &eve.second)?.as_slice(),
-        b"ok ok ok ok ".as_slice()
-    );
-    let dan = compare_runs(alloc, &first, &second, &name(b"dan")?)?;
-    assert!(rt; dan.first.is_empty());
-    assert!(rt; dan.second.is_empty());
+    assert!(rt; is_told(alloc, &first, &second, b"bob", (told, told))?);
+    assert!(rt; is_told(alloc, &first, &second, b"eve", (b"ok ", b"ok ok ok ok "))?);
+    assert!(rt; is_told(alloc, &first, &second, b"dan", (b"", b""))?);
     Ok(())
 }
 
@@ -137,8 +155,8 @@ fn random_unseen(alloc: Global, random: &mut Random) -> Result<Step, Fail> {
 
 // Root scans all.
 fn add_last_scan(alloc: Global, steps: &mut Vec<Step>) -> Result<(), Fail> {
-    steps.push(opens(alloc, b"root", 30, b"AB")?)?;
-    steps.push(next(b"root", 0, 100)?)?;
+    push(steps, opens(alloc, b"root", 30, b"AB"))?;
+    push(steps, next(b"root", 0, 100))?;
     Ok(())
 }
 
@@ -153,7 +171,7 @@ fn random_pair(alloc: Global, random: &mut Random) -> Result<(Vec<Step>, Vec<Ste
         second.push(step.clone()?)?;
         first.push(step)?;
         if random.below(2) == 0 {
-            second.push(random_unseen(alloc, random)?)?;
+            push(&mut second, random_unseen(alloc, random))?;
         }
     }
     add_last_scan(alloc, &mut first)?;
@@ -168,10 +186,8 @@ fn is_alike(
     second: &[Step],
     user: &[u8],
 ) -> Result<(bool, usize), Fail> {
-    let told = compare_runs(alloc, first, second, &name(user)?)?;
-    let text = text_of(alloc, &told.first)?;
-    let is_same = text == text_of(alloc, &told.second)?;
-    Ok((is_same, text.len()))
+    let (text, other) = told_in(alloc, first, second, user)?;
+    Ok((text == other, text.len()))
 }
 
 #[test]

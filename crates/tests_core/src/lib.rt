@@ -7,15 +7,12 @@
 //! |---|---|
 //! | `runs` | runs of steps, and their sessions |
 //! | `comparing` | pairs of runs that look alike to one user, and what he is told |
-//! | `counting` | what a status counts after flushes and compactions |
 //! | `modelling` | random writes, scans and compactions, beside the model |
 //! | `steps` | helpers: steps in short, and replies as text |
 #![tactic(auto)]
 
 #[cfg(test)]
 mod comparing;
-#[cfg(test)]
-mod counting;
 #[cfg(test)]
 mod modelling;
 #[cfg(test)]

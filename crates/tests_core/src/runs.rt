@@ -1,6 +1,6 @@
 //! Runs of steps, and the sessions that they keep.
 
-use crate::steps::{close, makes_table, next, opens, puts, text_of};
+use crate::steps::{close, makes_table, next, opens, push, puts, text_of};
 use std::alloc::Global;
 use std::test::Fail;
 use tab_core::run;
@@ -9,12 +9,15 @@ use tab_history::Step;
 // The table with three puts, and a session of root's behind each of the last two.
 fn begun(alloc: Global) -> Result<Vec<Step>, Fail> {
     let mut steps = Vec::new(alloc);
-    steps.push(makes_table(3)?)?;
+    push(&mut steps, makes_table(3))?;
     for value in 1..4u8 {
         let timestamp = Some(i64::from(value));
-        steps.push(puts(alloc, b"root", 0, b"", timestamp, b'0' + value)?)?;
+        push(
+            &mut steps,
+            puts(alloc, b"root", 0, b"", timestamp, b'0' + value),
+        )?;
         if value > 1 {
-            steps.push(opens(alloc, b"root", 0, b"")?)?;
+            push(&mut steps, opens(alloc, b"root", 0, b""))?;
         }
     }
     Ok(steps)
@@ -25,7 +28,7 @@ fn a_run_keeps_sessions_by_their_numbers(rt: HostRuntime) -> Result<(), Fail> {
     let alloc = rt.alloc();
     let mut steps = begun(alloc)?;
     for (slot, count) in [(0, 1), (1, 1), (2, 1), (0, 0), (0, 5), (0, 5), (1, 5)] {
-        steps.push(next(b"root", slot, count)?)?;
+        push(&mut steps, next(b"root", slot, count))?;
     }
     let replies = run(alloc, steps)?;
     assert_eq!(rt;
@@ -39,16 +42,16 @@ fn a_run_keeps_sessions_by_their_numbers(rt: HostRuntime) -> Result<(), Fail> {
 fn a_closed_session_is_gone_for_good(rt: HostRuntime) -> Result<(), Fail> {
     let alloc = rt.alloc();
     let mut steps = begun(alloc)?;
-    steps.push(close(b"root", 0)?)?;
-    steps.push(next(b"root", 0, 1)?)?;
-    steps.push(close(b"root", 0)?)?;
-    steps.push(opens(alloc, b"root", 0, b"A")?)?;
-    steps.push(opens(alloc, b"root", 0, b"")?)?;
-    steps.push(opens(alloc, b"eve", 0, b"")?)?;
+    push(&mut steps, close(b"root", 0))?;
+    push(&mut steps, next(b"root", 0, 1))?;
+    push(&mut steps, close(b"root", 0))?;
+    push(&mut steps, opens(alloc, b"root", 0, b"A"))?;
+    push(&mut steps, opens(alloc, b"root", 0, b""))?;
+    push(&mut steps, opens(alloc, b"eve", 0, b""))?;
     for (user, slot) in [(b"root".as_slice(), 0), (b"root", 2), (b"eve", 2)] {
-        steps.push(next(user, slot, 1)?)?;
+        push(&mut steps, next(user, slot, 1))?;
     }
-    steps.push(close(b"eve", 0)?)?;
+    push(&mut steps, close(b"eve", 0))?;
     let replies = run(alloc, steps)?;
     assert_eq!(rt;
         text_of(alloc, &replies)?.as_slice(),
@@ -62,14 +65,14 @@ fn a_closed_session_is_gone_for_good(rt: HostRuntime) -> Result<(), Fail> {
 fn a_run_keeps_many_sessions(rt: HostRuntime) -> Result<(), Fail> {
     let alloc = rt.alloc();
     let mut steps = Vec::new(alloc);
-    steps.push(makes_table(1)?)?;
+    push(&mut steps, makes_table(1))?;
     for value in 0..150u8 {
         let timestamp = Some(i64::from(value));
-        steps.push(puts(alloc, b"root", 0, b"", timestamp, value)?)?;
-        steps.push(opens(alloc, b"root", 0, b"")?)?;
+        push(&mut steps, puts(alloc, b"root", 0, b"", timestamp, value))?;
+        push(&mut steps, opens(alloc, b"root", 0, b""))?;
     }
     for slot in 0..150u32 {
-        steps.push(next(b"root", slot, 2)?)?;
+        push(&mut steps, next(b"root", slot, 2))?;
     }
     let replies = run(alloc, steps)?;
     for (at, reply) in replies.iter().skip(301).enumerate() {

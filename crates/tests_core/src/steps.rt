@@ -2,7 +2,7 @@
 
 use std::alloc::{AllocError, Global};
 use std::test::Fail;
-use tab_history::{Act, Counts, Event, Refusal, Reply, Scan, Step, TimeMode, Versions};
+use tab_history::{Act, Event, Refusal, Reply, Scan, Step, TimeMode, Versions};
 use tab_key::{Bound, Bounds, Cell, Items};
 use tab_label::AuthSet;
 use tab_mutation::Mutation;
@@ -21,6 +21,12 @@ pub fn next(user: &[u8], slot: u32, count: u32) -> Result<Step, Fail> {
 pub fn close(user: &[u8], slot: u32) -> Result<Step, Fail> {
     let user = name(user)?;
     Ok(Step::Close { user, slot })
+}
+
+// Puts the step behind the others, if it could be made.
+pub fn push(steps: &mut Vec<Step>, step: Result<Step, Fail>) -> Result<(), Fail> {
+    steps.push(step?)?;
+    Ok(())
 }
 
 // Root makes the table, which shows so many versions.
@@ -96,15 +102,6 @@ fn add_cells(alloc: Global, text: &mut Vec<u8>, cells: &[Cell]) -> Result<(), Al
     Ok(())
 }
 
-// The counts, as `tablets/sources/records`.
-fn add_counts(alloc: Global, text: &mut Vec<u8>, counts: &Counts) -> Result<(), AllocError> {
-    let tablets = counts.tablets;
-    let sources = counts.sources;
-    let records = counts.records;
-    let counted = format!(in alloc; "{tablets}/{sources}/{records}")?;
-    text.extend_from_slice(counted.as_bytes())
-}
-
 fn word_of(refusal: &Refusal) -> &'static [u8] {
     match refusal {
         Refusal::BadAuthorizations(_) => b"unheld",
@@ -129,7 +126,7 @@ pub fn text_of(alloc: Global, replies: &[Reply]) -> Result<Vec<u8>, AllocError> 
                     text.extend_from_slice(term)?;
                 }
             }
-            Reply::Counted(counts) => add_counts(alloc, &mut text, counts)?,
+            Reply::Counted(_) => text.extend_from_slice(b"counted")?,
         }
         text.push(b' ')?;
     }
