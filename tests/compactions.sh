@@ -87,6 +87,10 @@ counts 'a refused flush freezes nothing' 'tablets 1 sources 0 records 1' \
     'createtable t' 'insert t a f q \e v 1' 'as eve' 'flush t' 'as root' 'status t'
 counts 'a flush drops what a newer put covers' 'tablets 1 sources 1 records 1' \
     'createtable t' 'insert t a f q \e v 1' 'insert t a f q \e w 2' 'flush t' 'status t'
+counts 'two versions are kept' 'tablets 1 sources 1 records 2' \
+    'createtable t versions=2' 'insert t a f q \e u 1' 'insert t a f q \e v 2' 'insert t a f q \e w 3' 'compact t partial' 'flush t' 'status t'
+counts 'a partial compaction of no table merges nothing' 'tablets 1 sources 1 records 3' \
+    'createtable t versions=2' 'insert t a f q \e u 1' 'insert t a f q \e v 2' 'insert t a f q \e w 3' 'compact t partial' 'status t'
 counts 'a full compaction leaves the marker of a table that takes timestamps' 'tablets 1 sources 1 records 1' \
     'createtable t' 'insert t a f q \e v 1' 'delete t a f q \e 2' 'compact t full' 'status t'
 counts 'and drops it once the clock of the server has passed it' 'tablets 1 sources 1 records 0' \
