@@ -47,8 +47,8 @@ impl<S: Source + Drop> Merging<S> {
         })
     }
 
-    // The same, unpositioned: nothing is read before a seek.
-    pub(crate) fn unpositioned(sources: Vec<S>) -> Result<Merging<S>, NoMemory>
+    /// The same, unpositioned: nothing is read before a seek. The error comes only from want of memory.
+    pub fn unpositioned(sources: Vec<S>) -> Result<Merging<S>, NoMemory>
         requires { IsDistinct (flat (map S.whole sources.items)) }
         ensures whole { IfOk result (λ m. ⟦<Merging<S> as Source>⟧.whole m ≡ sorted (flat (map S.whole sources.items))) }
         ensures unpositioned { IfOk result (λ m. ⟦<Merging<S> as Source>⟧.is_unpositioned m ≡ true) }
