@@ -70,6 +70,14 @@ impl Table {
         Entry::new(self.body.as_slice(), self.span(index))
     }
 
+    /// The row of the record at an index, counted from 0 in the order of records.
+    pub fn row(&self, index: usize) -> &[u8]
+        requires { index < length (records self.now) }
+        ensures { (u : Fields) → result.now ≡ (slice_index_or (records self.now) index u).key.row }
+    {
+        row_of(self.bytes(), self.span(index))
+    }
+
     /// The indexes of the records of a part whose rows are in bounds: these records stand together. The part goes from one index
     /// up to another, that one excluded.
     ///
@@ -111,6 +119,14 @@ fn span_of(body: &[u8], places: &[usize], index: usize) -> RecordSpan
 {
     let place = places[index];
     span_at(body, place)
+}
+
+// The row of the record that lies there in the body.
+fn row_of(body: &[u8], span: RecordSpan) -> &[u8]
+    requires { IsWithin body.now span }
+    ensures { result.now ≡ (record_in body.now span).key.row }
+{
+    &body[span.start..span.row_end]
 }
 
 impl Ordered for Table {
