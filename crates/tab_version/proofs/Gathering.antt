@@ -1,9 +1,7 @@
 -- Cursors over clips, put one behind the other.
-use Rattle.std.proofs.Common.{◌≡◌, ◌⊎◌, inl, inr, ℕ, ◌+◌, ◌<◌, List, [], ◌∷◌, ◌++◌, refl, sym, ◌∙◌, ap, subst, length, map, take, get_or, append_assoc, append-nil}
+use Rattle.std.proofs.Common.{◌≡◌, ℕ, ◌+◌, ◌<◌, List, [], ◌∷◌, ◌++◌, refl, sym, ◌∙◌, ap, subst, length, map, take, get_or, append_assoc, append-nil}
 use Rattle.std.proofs.lemmas.List.{take_more, map-append}
 use Rattle.tab_key.specs.Records.{Record}
-use Rattle.tab_key.specs.Sorted.{IsIn}
-use Rattle.tab_cells.proofs.Lists.{in_append}
 use Rattle.tab_iter.specs.Bags.{flat}
 use Rattle.tab_mem.specs.Lists.{HasShortParts}
 use Rattle.tab_mem.proofs.ShortParts.{short_both}
@@ -37,6 +35,14 @@ put_list f start before after s cs i c lt is e same old =
     ∙ (λ k. old k ++ same k ∷ [])
     ∙ append_assoc start (take i cs) (c ∷ [])
     ∙ ap (λ l. start ++ l) (ap (λ x. take i cs ++ x ∷ []) is ∙ sym (take_more cs i c lt))
+
+-- one more made of the next
+pub one_more : {S T : Type 0} (f : S → T) (before after : List T) (t : T) (cs : List S) (i : ℕ) (c : S) → i < length cs → c ≡ get_or cs i c → after ≡ before ++ t ∷ [] → t ≡ f c → before ≡ map f (take i cs) → after ≡ map f (take (i + 1) cs)
+one_more f before after t cs i c lt is e same old =
+    e
+    ∙ (λ k. old k ++ same k ∷ [])
+    ∙ sym (map-append f (take i cs) (c ∷ []))
+    ∙ ap (map f) (ap (λ x. take i cs ++ x ∷ []) is ∙ sym (take_more cs i c lt))
 
 -- the cursors over runs and those over tables
 pub gathered : {S : Type 0} (f : S → List Record) (none runs all : List S) (rs : List (List Record)) (ts : List Sorted) (qs : List (List Record)) (us : List Sorted) (s : Sources) → none ≡ [] → map f runs ≡ map f none ++ rs → map f all ≡ map f runs ++ map (λ (t : Sorted). t.records) ts → rs ≡ qs → ts ≡ us → ◌≡◌ {A = Sources} (record { runs = qs; tables = us }) s → flat (map f all) ≡ records_of s

@@ -1,7 +1,7 @@
 -- Parts of runs and of tables.
 use Rattle.std.specs.Prelude.{ℕ, ◌≤◌, List, ◌++◌, length, map}
 use Rattle.tab_key.specs.Records.{Record}
-use Rattle.tab_iter.specs.Lists.{IsRising}
+use Rattle.tab_iter.specs.Lists.{IsRising, HasI64Timestamps}
 use Rattle.tab_mem.specs.Lists.{HasShortParts}
 use Rattle.tab_version.specs.Sources.{Sorted, Sources}
 
@@ -10,6 +10,7 @@ pub record IsPart (from end : ℕ) (rs : List Record) : Type 0 where
   pub ordered : from ≤ end
   pub inside : end ≤ length rs
   pub rising : IsRising rs
+  pub timestamps : HasI64Timestamps rs
   pub short : HasShortParts rs
 
 -- the records of each source

@@ -1,4 +1,6 @@
 pub mod Clips
+pub mod InTurn
 pub mod OneOf
 pub mod Shown
 pub mod Sources
+pub mod Versions

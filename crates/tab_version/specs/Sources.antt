@@ -1,5 +1,5 @@
 -- What a tablet reads beside its active part: frozen runs and sorted tables, each cut to the tablet's rows.
-use Rattle.std.specs.Prelude.{ℕ, List, [], ◌∷◌, ◌++◌, ◌+◌, Bool, true, false, ◌&&◌, ◌==◌, cond, Option, Some, None, option_map, option_and_then, length, map, sum, bytes_eq}
+use Rattle.std.specs.Prelude.{ℕ, List, [], ◌∷◌, ◌++◌, ◌+◌, Bool, true, false, ◌&&◌, ◌==◌, cond, Option, Some, None, option_map, option_and_then, length, filter, map, sum, bytes_eq}
 use Rattle.std.specs.Ordering.{int_eq}
 use Rattle.tab_key.specs.Records.{Record}
 use Rattle.tab_key.specs.Order.{kind_rank}
@@ -40,6 +40,10 @@ built rs = record { records = rs; size = encoded_size rs }
 -- the sources with one more table, which comes last
 abbrev pub with_table : List Record → Sources → Sources
 with_table rs s = record s { tables = s.tables ++ built rs ∷ [] }
+
+-- the same sources, cut to the rows that pass: none is dropped, and a table keeps its whole size
+abbrev pub clipped : (List ℕ → Bool) → Sources → Sources
+clipped p s = record { runs = map (filter (λ (u : Record). p u.key.row)) s.runs; tables = map (λ (t : Sorted). record t { records = filter (λ (u : Record). p u.key.row) t.records }) s.tables }
 
 -- ---- equal contents
 -- the same key, kind, value, number and place

@@ -1,15 +1,18 @@
 //! Parts of shared runs and tables.
-ghost use Rattle.std.specs.Prelude.{◌≡◌, ◌==◌, IfOk, length, filter};
+ghost use Rattle.std.specs.Prelude.{◌≡◌, ◌<◌, ◌==◌, IfOk, length, filter, slice_index_or};
 ghost use Rattle.tab_key.specs.Ranges.{is_in_range};
-ghost use Rattle.tab_iter.specs.Lists.{IsRising};
+ghost use Rattle.tab_key.specs.Records.{Record as Fields};
+ghost use Rattle.tab_key.specs.KeyOf.{key_of};
+ghost use Rattle.tab_iter.specs.Lists.{IsRising, HasI64Timestamps};
 ghost use Rattle.tab_mem.specs.Lists.{HasShortParts};
+ghost use Rattle.tab_version.specs.InTurn.{reaches};
 
 use crate::Whole;
 use std::alloc::AllocError;
 use std::marker::Model;
 use std::sync::Arc;
 use tab_iter::Source;
-use tab_key::Bounds;
+use tab_key::{Bounds, Key};
 use tab_mem::{Run, RunCursor};
 use tab_table::{Cursor, Table};
 
@@ -68,6 +71,34 @@ impl<W: Whole + Drop> Part<W> {
         })
     }
 
+    /// How many records of this clip have their rows in bounds. It takes no memory, and time logarithmic in the clip.
+    pub fn count_in(&self, bounds: &Bounds) -> usize
+        ensures { result ≡ length (filter (λ u. is_in_range bounds.now u.key.row) self.now) }
+    {
+        let counted = self.whole.rows_in(self.from, self.end, bounds);
+        counted.end - counted.start
+    }
+
+    /// The row of the record at an index, counted from 0 in the order of records.
+    pub fn row(&self, index: usize) -> &[u8]
+        requires { index < length self.now }
+        ensures { (u : Fields) → result.now ≡ (slice_index_or self.now index u).key.row }
+    {
+        let _end = self.end;
+        let place = self.from + index;
+        self.whole.row(place)
+    }
+
+    // Whether a record stands at the key or behind it. Of the records only the last one is read.
+    pub(crate) fn reaches(&self, key: Key<'_>) -> bool
+        ensures { result ≡ reaches (key_of key.entry) self.now }
+    {
+        if self.is_empty() {
+            return false;
+        }
+        !self.whole.is_before(self.end - 1, key)
+    }
+
     /// The same records, shared once more.
     ///
     /// `AllocError` says that they couldn't be.
@@ -85,6 +116,7 @@ impl<W: Whole + Drop> Part<W> {
     pub fn len(&self) -> usize
         ensures len { result ≡ length self.now }
         ensures rising { IsRising self.now }
+        ensures timestamps { HasI64Timestamps self.now }
         ensures short { HasShortParts self.now }
     {
         self.end - self.from

@@ -1,14 +1,17 @@
 //! Clips of runs and of tables.
 ghost use Rattle.std.specs.Prelude.{◌≡◌, ◌++◌, ◌∷◌, [], map, IfOk, OnOk, OnErr};
+ghost use Rattle.tab_key.specs.Ranges.{is_in_range};
 ghost use Rattle.tab_iter.specs.Bags.{flat};
 ghost use Rattle.tab_mem.specs.Lists.{HasShortParts};
 ghost use Rattle.tab_version.specs.Clips.{lists_of};
-ghost use Rattle.tab_version.specs.Sources.{no_sources, records_of};
+ghost use Rattle.tab_version.specs.Sources.{no_sources, records_of, clipped};
 
+use crate::cutting::{runs_in, tables_in};
 use crate::{Clip, OneOf, TableClip};
 use std::alloc::{AllocError, Global};
 use std::marker::Model;
 use tab_iter::Source;
+use tab_key::Bounds;
 use tab_mem::RunCursor;
 use tab_table::Cursor;
 
@@ -80,6 +83,17 @@ impl Clips {
         let runs = share_runs(alloc, &self.runs)?;
         let tables = share_tables(alloc, &self.tables)?;
         Ok(Clips { runs, tables })
+    }
+
+    /// The same sources, each cut to the rows in bounds; one without a record there stays. No record is copied.
+    ///
+    /// It takes memory for a share of each source, and time logarithmic in each. `AllocError` says that memory lacked.
+    pub fn in_rows(&self, alloc: Global, bounds: &Bounds) -> Result<Clips, AllocError>
+        ensures { IfOk result (λ c. c ≡ clipped (is_in_range bounds.now) self.now) }
+    {
+        let runs = runs_in(alloc, &self.runs, bounds)?;
+        let tables = tables_in(alloc, &self.tables, bounds)?;
+        Ok(Clips::of(runs, tables))
     }
 
     /// Puts a clip of a run behind the others. `AllocError` leaves all as it was.

@@ -6,19 +6,31 @@
 //! | `clip` | the records of a shared run or table whose rows lie in bounds |
 //! | `table_clip` | the same of a table, with the table's size |
 //! | `one_of` | a source that is of one of two kinds |
-//! | `clips` | clips of runs and of tables |
-//! | `version` | the records of clips, and the stack of layers over them that a scan reads |
+//! | `clips` | clips of runs and of tables: what a tablet reads |
+//! | `cutting` | clips cut to rows |
+//! | `held` | what is asked of the records that clips hold |
+//! | `lists` | lists of records, one behind the other |
+//! | `in_turn` | the records of such lists, of which one is read at a time |
+//! | `tablets` | tablets as such lists |
+//! | `version` | the records of tablets, and the stack of layers over them that a scan reads |
 #![tactic(auto)]
 
 mod clip;
 mod clips;
+mod cutting;
+mod held;
+mod in_turn;
+mod lists;
 mod one_of;
 mod table_clip;
+mod tablets;
 mod version;
 mod whole;
 
 pub use clip::{Clip, Part};
 pub use clips::{ClipCursor, Clips};
+pub use in_turn::InTurn;
+pub use lists::Lists;
 pub use one_of::OneOf;
 pub use table_clip::TableClip;
 pub use version::{Raw, Stack, Version};

@@ -1,9 +1,12 @@
 //! Parts of shared tables, with the tables' sizes.
-ghost use Rattle.std.specs.Prelude.{◌≡◌, ◌==◌, IfOk, length, filter};
+ghost use Rattle.std.specs.Prelude.{◌≡◌, ◌<◌, ◌==◌, IfOk, length, filter, slice_index_or};
 ghost use Rattle.tab_key.specs.Ranges.{is_in_range};
-ghost use Rattle.tab_iter.specs.Lists.{IsRising};
+ghost use Rattle.tab_key.specs.Records.{Record as Fields};
+ghost use Rattle.tab_key.specs.KeyOf.{key_of};
+ghost use Rattle.tab_iter.specs.Lists.{IsRising, HasI64Timestamps};
 ghost use Rattle.tab_mem.specs.Lists.{HasShortParts};
 ghost use Rattle.tab_table.specs.Tables.{records};
+ghost use Rattle.tab_version.specs.InTurn.{reaches};
 ghost use Rattle.tab_version.specs.Sources.{built};
 
 use crate::Part;
@@ -11,7 +14,7 @@ use std::alloc::AllocError;
 use std::marker::Model;
 use std::sync::Arc;
 use tab_iter::Source;
-use tab_key::Bounds;
+use tab_key::{Bounds, Key};
 use tab_table::{Cursor, Table};
 
 /// The records of a shared table whose rows lie in bounds, and the size of the whole table, in bytes.
@@ -54,6 +57,28 @@ impl TableClip {
         })
     }
 
+    /// How many records of this clip have their rows in bounds. It takes no memory, and time logarithmic in the clip.
+    pub fn count_in(&self, bounds: &Bounds) -> usize
+        ensures { result ≡ length (filter (λ u. is_in_range bounds.now u.key.row) self.now.records) }
+    {
+        self.part.count_in(bounds)
+    }
+
+    /// The row of the record at an index, counted from 0 in the order of records.
+    pub fn row(&self, index: usize) -> &[u8]
+        requires { index < length self.now.records }
+        ensures { (u : Fields) → result.now ≡ (slice_index_or self.now.records index u).key.row }
+    {
+        self.part.row(index)
+    }
+
+    // Whether a record stands at the key or behind it.
+    pub(crate) fn reaches(&self, key: Key<'_>) -> bool
+        ensures { result ≡ reaches (key_of key.entry) self.now.records }
+    {
+        self.part.reaches(key)
+    }
+
     /// The same clip, its table shared once more.
     ///
     /// `AllocError` says that the table couldn't be.
@@ -86,6 +111,7 @@ impl TableClip {
     pub fn len(&self) -> usize
         ensures len { result ≡ length self.now.records }
         ensures rising { IsRising self.now.records }
+        ensures timestamps { HasI64Timestamps self.now.records }
         ensures short { HasShortParts self.now.records }
     {
         self.part.len()

@@ -1,66 +1,62 @@
-//! The records of clips.
+//! The records of tablets.
 ghost use Rattle.std.specs.Prelude.{◌≡◌, map, IfOk, OnOk};
 ghost use Rattle.tab_key.specs.KeyOf.{key_of};
-ghost use Rattle.tab_key.specs.Sorted.{IsDistinct, sorted};
+ghost use Rattle.tab_key.specs.Sorted.{sorted};
 ghost use Rattle.tab_key.specs.Records.{cell_of};
 ghost use Rattle.tab_cells.specs.Cells.{cells};
 ghost use Rattle.tab_iter.specs.Bags.{flat};
-ghost use Rattle.tab_iter.specs.Lists.{from_key};
+ghost use Rattle.tab_iter.specs.Lists.{IsRising, from_key};
 ghost use Rattle.tab_iter.specs.Stack.{query_of};
 ghost use Rattle.tab_mem.specs.Lists.{HasShortParts};
 ghost use Rattle.tab_version.specs.Shown.{shown};
 ghost use Rattle.tab_version.specs.Sources.{records_of};
 
-use crate::{Clip, ClipCursor, Clips};
+use crate::held::read_all;
+use crate::tablets::drop_empty;
+use crate::{ClipCursor, Clips, InTurn};
 use std::alloc::Global;
 use std::marker::Model;
 use tab_iter::{Merging, NoMemory, Source, stack_from, stack_of};
 use tab_key::{Column, Key};
 use tab_label::AuthSet;
 
-/// What a scan of a version reads: the layers over a cursor for each clip.
-pub type Stack<'a> = tab_iter::Stack<'a, ClipCursor<'a>>;
+/// What a scan of a version reads: the layers over all of its records.
+pub type Stack<'a> = tab_iter::Stack<'a, Raw<'a>>;
 
-/// All records of a version, markers and hidden ones among them: a cursor for each clip, merged.
-pub type Raw<'a> = Merging<ClipCursor<'a>>;
+/// All records of a version, markers and hidden ones among them: one tablet after another, of each a cursor for each clip, merged.
+pub type Raw<'a> = InTurn<&'a [Clips], Merging<ClipCursor<'a>>>;
 
-/// What a session reads: clips of shared runs and tables, as they stood. No two records stand at one place. A contract sees the
-/// records of all clips, one clip after another.
+/// What a session reads: the clips of tablets, as they stood. The tablets lie one behind the other, and no two records stand at one
+/// place. A contract sees the records of all clips, one clip after another.
 #[derive(Drop)]
 pub struct Version {
-    clips: Clips,
+    // without those that hold no record
+    tablets: Vec<Clips>,
 }
 
 impl Model for Version {
     ghost use Rattle.std.specs.Prelude.{List};
     ghost use Rattle.tab_key.specs.Records.{Record as Fields};
-    ghost use Rattle.tab_key.specs.Sorted.{IsDistinct};
-    ghost use Rattle.tab_version.specs.Sources.{records_of};
+    ghost use Rattle.tab_version.specs.Versions.{IsVersion, records_of_all};
 
     ghost Value = { List Fields };
 
-    ghost view = { λ v. records_of v.clips };
+    ghost view = { λ v. records_of_all v.tablets.items };
 
-    ghost invariant = { λ v. IsDistinct (records_of v.clips) };
+    ghost invariant = { λ v. IsVersion v.tablets.items };
 }
 
 impl Version {
-    /// These clips of runs together.
-    pub fn new(clips: Vec<Clip>) -> Version
-        requires { IsDistinct (flat clips.items) }
-        ensures { result ≡ flat clips.items }
+    /// The clips of these tablets, of which each record of one stands before those of the next. It takes no memory, and time linear
+    /// in the number of clips.
+    pub fn of(tablets: Vec<Clips>) -> Version
+        requires { IsRising (flat (map (λ t. sorted (records_of t)) tablets.items)) }
+        ensures { result ≡ flat (map records_of tablets.items) }
     {
-        let tables = Vec::new(*clips.allocator());
-        let all = Clips::of(clips, tables);
-        Version { clips: all }
-    }
-
-    /// The clips together.
-    pub fn of(clips: Clips) -> Version
-        requires { IsDistinct (records_of clips) }
-        ensures { result ≡ records_of clips }
-    {
-        Version { clips }
+        let mut filled = tablets;
+        drop_empty(&mut filled);
+        read_all(&filled);
+        Version { tablets: filled }
     }
 
     /// The records that a scan of all rows shows: of these columns, under these authorizations, so many versions of each column.
@@ -77,12 +73,13 @@ impl Version {
         ensures cells { IfOk result (λ s. map cell_of (⟦<Stack<'a> as Source>⟧.whole s) ≡ cells self.now versions (query_of columns.now auths.now)) }
         ensures at_start { IfOk result (λ s. ⟦<Stack<'a> as Source>⟧.rest s ≡ ⟦<Stack<'a> as Source>⟧.whole s) }
     {
-        let cursors = self.clips.cursors(alloc)?;
-        stack_of(alloc, cursors, columns, auths, versions)
+        let all = InTurn::new(alloc, self.tablets.as_slice())?;
+        let stack = stack_of(alloc, all, columns, auths, versions)?;
+        Ok(stack)
     }
 
     /// The same stack, standing at the first record shown whose key isn't before this one. Nothing before the key's column is
-    /// read.
+    /// read, and no tablet but the one that the column lies in.
     ///
     /// NoMemory comes only from want of memory.
     pub fn stack_from<'a>(
@@ -96,11 +93,12 @@ impl Version {
         ensures shown { IfOk result (λ s. ⟦<Stack<'a> as Source>⟧.whole s ≡ shown self.now versions columns.now auths.now) }
         ensures from_key { IfOk result (λ s. ⟦<Stack<'a> as Source>⟧.rest s ≡ from_key (key_of key.entry) (⟦<Stack<'a> as Source>⟧.whole s)) }
     {
-        let sources = self.clips.cursors(alloc)?;
-        stack_from(alloc, sources, columns, auths, versions, key)
+        let all = InTurn::unpositioned(alloc, self.tablets.as_slice());
+        let stack = stack_from(alloc, all, columns, auths, versions, key)?;
+        Ok(stack)
     }
 
-    /// All records, in their order.
+    /// All records, in their order. One tablet at a time is read.
     ///
     /// NoMemory comes only from want of memory. The version stays as it is; the source reads it for as long as it lives.
     pub fn raw<'a>(&'a self, alloc: Global) -> Result<Raw<'a>, NoMemory>
@@ -108,7 +106,7 @@ impl Version {
         ensures rest { IfOk result (λ s. ⟦<Raw<'a> as Source>⟧.rest s ≡ ⟦<Raw<'a> as Source>⟧.whole s) }
         ensures short { OnOk result (HasShortParts self.now) }
     {
-        let cursors = self.clips.cursors(alloc)?;
-        Merging::new(cursors)
+        let all = InTurn::new(alloc, self.tablets.as_slice())?;
+        Ok(all)
     }
 }

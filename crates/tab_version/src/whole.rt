@@ -1,11 +1,14 @@
 //! What clips are cut of.
-ghost use Rattle.std.specs.Prelude.{◌≡◌, ◌≤◌, List, length, filter};
+ghost use Rattle.std.specs.Prelude.{◌≡◌, ◌<◌, ◌≤◌, List, length, filter, slice_index_or};
+ghost use Rattle.std.specs.Ordering.{is_lt};
+ghost use Rattle.tab_key.specs.KeyOf.{key_of};
+ghost use Rattle.tab_key.specs.Order.{key_cmp};
 ghost use Rattle.tab_key.specs.Ranges.{is_in_range};
-ghost use Rattle.tab_iter.specs.Lists.{IsRising};
+ghost use Rattle.tab_iter.specs.Lists.{IsRising, HasI64Timestamps};
 ghost use Rattle.tab_mem.specs.Lists.{part, HasShortParts};
 
 use std::ops::Range;
-use tab_key::Bounds;
+use tab_key::{Bounds, Key};
 use tab_mem::Run;
 use tab_table::Table;
 
@@ -19,7 +22,18 @@ pub trait Whole {
     fn len(&self) -> usize
         ensures len { result ≡ length (listed self.now) }
         ensures rising { IsRising (listed self.now) }
+        ensures timestamps { HasI64Timestamps (listed self.now) }
         ensures short { HasShortParts (listed self.now) };
+
+    /// Whether the record at an index stands before the key.
+    fn is_before(&self, index: usize, key: Key<'_>) -> bool
+        requires { index < length (listed self.now) }
+        ensures { (u : Record) → result ≡ is_lt (key_cmp (slice_index_or (listed self.now) index u).key (key_of key.entry)) };
+
+    /// The row of the record at an index, counted from 0 in the order of records.
+    fn row(&self, index: usize) -> &[u8]
+        requires { index < length (listed self.now) }
+        ensures { (u : Record) → result.now ≡ (slice_index_or (listed self.now) index u).key.row };
 
     /// The indexes of the records of a part whose rows are in bounds: these records stand together. The part goes from one index
     /// up to another, that one excluded.
@@ -39,6 +53,14 @@ impl Whole for Run {
         Run::len(self)
     }
 
+    fn is_before(&self, index: usize, key: Key<'_>) -> bool {
+        self.get(index).key().cmp(key).is_lt()
+    }
+
+    fn row(&self, index: usize) -> &[u8] {
+        self.get(index).row()
+    }
+
     fn rows_in(&self, from: usize, end: usize, bounds: &Bounds) -> Range<usize> {
         Run::rows_in(self, from, end, bounds)
     }
@@ -51,6 +73,14 @@ impl Whole for Table {
 
     fn len(&self) -> usize {
         Table::len(self)
+    }
+
+    fn is_before(&self, index: usize, key: Key<'_>) -> bool {
+        self.get(index).as_ref().key().cmp(key).is_lt()
+    }
+
+    fn row(&self, index: usize) -> &[u8] {
+        Table::row(self, index)
     }
 
     fn rows_in(&self, from: usize, end: usize, bounds: &Bounds) -> Range<usize> {

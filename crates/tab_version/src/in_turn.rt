@@ -1,0 +1,227 @@
+//! Lists of records one after another, of which one is read at a time.
+ghost use Rattle.std.specs.Prelude.{◌≡◌, ◌+◌, ◌≤◌, ◌<◌, List, [], Bool, true, false, Option, Some, None, is_some, length, OnOk, IfOk};
+ghost use Rattle.tab_key.specs.KeyOf.{key_of};
+ghost use Rattle.tab_key.specs.Records.{Record};
+ghost use Rattle.tab_iter.specs.Bags.{flat, IsEnding};
+ghost use Rattle.tab_iter.specs.Lists.{first_of, tail, from_key};
+ghost use Rattle.tab_version.specs.InTurn.{AreInTurn, AreInTurn-prop, of_current, before, left_in};
+
+use crate::Lists;
+use std::alloc::{AllocError, Global};
+use std::mem;
+use tab_iter::{NoMemory, Source};
+use tab_key::{Key, RecordRef};
+
+/// The records of lists that lie one behind the other. It holds a source over one of them alone: an advance makes one over the next
+/// list once that is at its end, and a seek goes to the list that the key lies in.
+#[derive(Drop)]
+pub struct InTurn<L: Lists<S>, S: Source> {
+    alloc: Global,
+    lists: L,
+    // the source over the list that is read; none before the first record is
+    current: Option<S>,
+    // the index of the list behind that one
+    next: usize,
+    // there is no top until a seek succeeds
+    unpositioned: bool,
+    ghost in_turn: { AreInTurn (L.listed lists) } by { AreInTurn-prop (L.listed lists) },
+    ghost over: { of_current S.whole current ≡ before next (L.listed lists) },
+    ghost synced: { unpositioned ≡ false → IsEnding (left_in S.rest current next (L.listed lists)) (flat (L.listed lists)) },
+    ghost ended: { unpositioned ≡ false → of_current S.rest current ≡ [] → length (L.listed lists) ≤ next },
+}
+
+impl<L: Lists<S> + Drop, S: Source + Drop> InTurn<L, S> {
+    /// The records of these lists, from the first on. The error comes only from want of memory.
+    pub fn new(alloc: Global, lists: L) -> Result<InTurn<L, S>, NoMemory>
+        requires { AreInTurn (L.listed lists) }
+        ensures whole { IfOk result (λ s. ⟦<InTurn<L, S> as Source>⟧.whole s ≡ flat (L.listed lists)) }
+        ensures rest { IfOk result (λ s. ⟦<InTurn<L, S> as Source>⟧.rest s ≡ flat (L.listed lists)) }
+    {
+        let mut current = None;
+        let mut next = 0;
+        go_on(alloc, &lists, &mut current, &mut next)?;
+        Ok(InTurn {
+            alloc,
+            lists,
+            current,
+            next,
+            unpositioned: false,
+        })
+    }
+
+    /// The same, unpositioned: nothing is read before a seek. It takes no memory.
+    pub fn unpositioned(alloc: Global, lists: L) -> InTurn<L, S>
+        requires { AreInTurn (L.listed lists) }
+        ensures whole { ⟦<InTurn<L, S> as Source>⟧.whole result ≡ flat (L.listed lists) }
+        ensures unpositioned { ⟦<InTurn<L, S> as Source>⟧.is_unpositioned result ≡ true }
+    {
+        InTurn {
+            alloc,
+            lists,
+            current: None,
+            next: 0,
+            unpositioned: true,
+        }
+    }
+}
+
+impl<L: Lists<S>, S: Source + Drop> Source for InTurn<L, S> {
+    ghost use Rattle.tab_iter.specs.Positions.{unless};
+    ghost use Rattle.tab_iter.specs.SourceLaws.{end_of_ending, unless_ends, unless_empty};
+
+    ghost whole = { λ s. flat (L.listed s.lists) };
+
+    ghost rest = { λ s. unless s.unpositioned (left_in S.rest s.current s.next (L.listed s.lists)) };
+
+    ghost is_unpositioned = { λ s. s.unpositioned };
+
+    ghost whole_rises = { λ s. s.in_turn.rising };
+
+    ghost has_i64_timestamps = { λ s. s.in_turn.timestamps };
+
+    ghost rest_is_suffix = { λ s. unless_ends s.unpositioned (left_in S.rest s.current s.next (L.listed s.lists)) (flat (L.listed s.lists)) (λ e. end_of_ending (left_in S.rest s.current s.next (L.listed s.lists)) (flat (L.listed s.lists)) (s.synced e)) };
+
+    ghost unpositioned_is_empty = { λ s. unless_empty s.unpositioned (left_in S.rest s.current s.next (L.listed s.lists)) };
+
+    fn top(&self) -> Option<RecordRef<'_>> {
+        if self.unpositioned {
+            return None;
+        }
+        top_of(&self.current)
+    }
+
+    fn advance(&mut self) -> Result<(), NoMemory> {
+        if self.unpositioned {
+            return Err(AllocError);
+        }
+        self.unpositioned = true;
+        advance_in(&mut self.current)?;
+        go_on(self.alloc, &self.lists, &mut self.current, &mut self.next)?;
+        self.unpositioned = false;
+        Ok(())
+    }
+
+    fn seek(&mut self, key: Key<'_>) -> Result<(), NoMemory> {
+        self.unpositioned = true;
+        go_to(
+            self.alloc,
+            &self.lists,
+            &mut self.current,
+            &mut self.next,
+            key,
+        )?;
+        self.unpositioned = false;
+        Ok(())
+    }
+}
+
+// The first record that the source that is read has left.
+fn top_of<S: Source>(current: &Option<S>) -> Option<RecordRef<'_>>
+    ensures { result ≡ first_of (of_current S.rest current.now) }
+{
+    match current {
+        None => None,
+        Some(source) => source.top(),
+    }
+}
+
+// Drops the first record of the source that is read.
+fn advance_in<S: Source>(current: &mut Option<S>) -> Result<(), NoMemory>
+    ensures whole { of_current S.whole current.new ≡ of_current S.whole current.old }
+    ensures rest { OnOk result (of_current S.rest current.new ≡ tail (of_current S.rest current.old)) }
+{
+    match current {
+        None => Ok(()),
+        Some(source) => source.advance(),
+    }
+}
+
+// Goes to the first record of the source that is read whose key isn't before this one.
+fn seek_in<S: Source>(current: &mut Option<S>, key: Key<'_>) -> Result<(), NoMemory>
+    ensures whole { of_current S.whole current.new ≡ of_current S.whole current.old }
+    ensures rest { OnOk result (of_current S.rest current.new ≡ from_key (key_of key.entry) (of_current S.whole current.old)) }
+{
+    match current {
+        None => Ok(()),
+        Some(source) => source.seek(key),
+    }
+}
+
+// Where the source that is read has no record left, makes one over the next list, if there is one.
+fn go_on<L: Lists<S>, S: Source + Drop>(
+    alloc: Global,
+    lists: &L,
+    current: &mut Option<S>,
+    next: &mut usize,
+) -> Result<(), NoMemory>
+    requires in_turn { AreInTurn (L.listed lists.now) }
+    requires over { of_current S.whole current.old ≡ before next.old (L.listed lists.now) }
+    ensures over { of_current S.whole current.new ≡ before next.new (L.listed lists.now) }
+    ensures left { OnOk result (left_in S.rest current.new next.new (L.listed lists.now) ≡ left_in S.rest current.old next.old (L.listed lists.now)) }
+    ensures ended { OnOk result (of_current S.rest current.new ≡ [] → length (L.listed lists.now) ≤ next.new) }
+{
+    if *next >= lists.count() {
+        return Ok(());
+    }
+    if top_of(current).is_some() {
+        return Ok(());
+    }
+    let source = lists.source_at(alloc, *next)?;
+    put(current, source);
+    *next += 1;
+    Ok(())
+}
+
+// Goes to the first record of the lists whose key isn't before this one.
+fn go_to<L: Lists<S>, S: Source + Drop>(
+    alloc: Global,
+    lists: &L,
+    current: &mut Option<S>,
+    next: &mut usize,
+    key: Key<'_>,
+) -> Result<(), NoMemory>
+    requires in_turn { AreInTurn (L.listed lists.now) }
+    requires over { of_current S.whole current.old ≡ before next.old (L.listed lists.now) }
+    ensures over { of_current S.whole current.new ≡ before next.new (L.listed lists.now) }
+    ensures left { OnOk result (left_in S.rest current.new next.new (L.listed lists.now) ≡ from_key (key_of key.entry) (flat (L.listed lists.now))) }
+    ensures ended { OnOk result (of_current S.rest current.new ≡ [] → length (L.listed lists.now) ≤ next.new) }
+{
+    if lists.count() == 0 {
+        return Ok(());
+    }
+    let at = lists.find(key);
+    read_from(alloc, lists, current, next, at)?;
+    seek_in(current, key)?;
+    Ok(())
+}
+
+// Makes a source over the list with this index, unless it is the one that is read.
+fn read_from<L: Lists<S>, S: Source + Drop>(
+    alloc: Global,
+    lists: &L,
+    current: &mut Option<S>,
+    next: &mut usize,
+    at: usize,
+) -> Result<(), NoMemory>
+    requires in_turn { AreInTurn (L.listed lists.now) }
+    requires over { of_current S.whole current.old ≡ before next.old (L.listed lists.now) }
+    requires inside { at < length (L.listed lists.now) }
+    requires fits { at < usize.MAX }
+    ensures over { of_current S.whole current.new ≡ before next.new (L.listed lists.now) }
+    ensures there { OnOk result (next.new ≡ at + 1) }
+{
+    if *next == at + 1 {
+        return Ok(());
+    }
+    let source = lists.unpositioned_at(alloc, at)?;
+    put(current, source);
+    *next = at + 1;
+    Ok(())
+}
+
+// Puts the source in the place of the one that was read.
+fn put<S: Drop>(current: &mut Option<S>, source: S)
+    ensures { current.new ≡ Some source }
+{
+    let _ = mem::replace(current, Some(source));
+}

@@ -1,0 +1,63 @@
+//! Tablets as lists of records, one behind the other.
+ghost use Rattle.std.specs.Prelude.{◌≡◌, ◌≤◌, ◌==◌, true, false, not, filter, length};
+ghost use Rattle.std.specs.List.Sorted.{IsPartitionedBy, IsPartitionPoint};
+ghost use Rattle.tab_key.specs.KeyOf.{key_of};
+ghost use Rattle.tab_version.specs.InTurn.{reaches};
+ghost use Rattle.tab_version.specs.Sources.{records_of};
+
+use crate::held::Held;
+use crate::{ClipCursor, Clips, Lists};
+use std::alloc::Global;
+use tab_iter::{Merging, NoMemory};
+use tab_key::Key;
+
+/// A source over a tablet is a cursor for each of its clips, merged.
+impl<'a> Lists<Merging<ClipCursor<'a>>> for &'a [Clips] {
+    ghost use Rattle.tab_version.specs.InTurn.{in_order};
+
+    ghost listed = { λ t. in_order t.now };
+
+    fn count(&self) -> usize {
+        self.len()
+    }
+
+    fn find(&self, key: Key<'_>) -> usize {
+        let tablets: &'a [Clips] = *self;
+        let last = tablets.len() - 1;
+        count_before(&tablets[..last], key)
+    }
+
+    fn source_at(&self, alloc: Global, index: usize) -> Result<Merging<ClipCursor<'a>>, NoMemory> {
+        let tablets: &'a [Clips] = *self;
+        let cursors = tablets[index].cursors(alloc)?;
+        let source = Merging::new(cursors)?;
+        Ok(source)
+    }
+
+    fn unpositioned_at(
+        &self,
+        alloc: Global,
+        index: usize,
+    ) -> Result<Merging<ClipCursor<'a>>, NoMemory> {
+        let tablets: &'a [Clips] = *self;
+        let cursors = tablets[index].cursors(alloc)?;
+        let source = Merging::unpositioned(cursors)?;
+        Ok(source)
+    }
+}
+
+// How many of the tablets have no record at the key or behind it. They are the first ones.
+fn count_before(tablets: &[Clips], key: Key<'_>) -> usize
+    requires { IsPartitionedBy (λ t. not (reaches (key_of key) (records_of t))) tablets.now }
+    ensures within { result ≤ length tablets.now }
+    ensures parted { IsPartitionPoint (λ t. not (reaches (key_of key.entry) (records_of t)) ≡ true) (λ t. not (reaches (key_of key.entry) (records_of t)) ≡ false) tablets.now result }
+{
+    tablets.partition_point(|tablet| !tablet.reaches(key))
+}
+
+/// Drops the tablets without a record.
+pub(crate) fn drop_empty(tablets: &mut Vec<Clips>)
+    ensures { tablets.new.items ≡ filter (λ t. not (length (records_of t) == 0)) tablets.old.items }
+{
+    tablets.retain(|tablet| tablet.is_filled());
+}
