@@ -1,6 +1,6 @@
 -- The inputs of a whole compaction are found among the sources, and what they leave.
-use Rattle.std.proofs.Common.{◌≡◌, ℕ, zero, suc, ◌+◌, ◌*◌, ◌<◌, ◌≤◌, List, [], ◌∷◌, ◌++◌, Bool, true, false, cond, not, ◌&&◌, ◌==◌, refl, sym, ◌∙◌, ap, subst, length, take, drop, max, arith, append-nil}
-use Rattle.std.specs.Prelude.{ℤ, filter, map, nat_le, nat_lt, sum, Option, Some, None, option_map, option_and_then}
+use Rattle.std.proofs.Common.{◌≡◌, ℕ, zero, suc, ◌+◌, ◌*◌, ◌≤◌, List, [], ◌∷◌, ◌++◌, Bool, true, false, cond, not, ◌&&◌, ◌==◌, refl, sym, ◌∙◌, ap, subst, length, take, drop, max, arith, append-nil}
+use Rattle.std.specs.Prelude.{ℤ, filter, nat_le, nat_lt, sum, Option, Some, None, option_map, option_and_then}
 use Rattle.std.specs.List.{AllByRecursion}
 use Rattle.std.specs.Cmp.Lexicographic.{bytes_decides}
 use Rattle.std.specs.Cmp.{first_so, second_so}
@@ -16,8 +16,8 @@ use Rattle.tab_cells.specs.declared.compaction.Compaction.{Compaction}
 use Rattle.tab_cells.specs.declared.compaction.Compaction.TheVariants.{Minor, Partial, Full}
 use Rattle.tab_cells.proofs.Lists.{by_bool}
 use Rattle.tab_iter.proofs.ColumnLaws.{same_itself}
-use Rattle.tab_version.specs.Sources.{Sorted, Sources, same_record, same_lists, same_contents, same_table, without, or_else, without_runs, without_tables, left_by, count_of}
-use Rattle.tab_compact.specs.Plans.{largest, fits, plan, IsPlan}
+use Rattle.tab_version.specs.Sources.{Sorted, same_record, same_lists, same_contents, same_table, without, or_else, without_runs, without_tables, left_by, count_of}
+use Rattle.tab_compact.specs.Plans.{largest, fits, IsPlan}
 use Rattle.tab_compact.specs.Merges.{Merge, put_by_size, by_size, sizes_of, taken, inputs_of}
 use Rattle.tab_compact.proofs.Plans.{plan_is_greatest}
 use Rattle.tab_tablet.specs.Tablets.{Tablet, frozen, capture}

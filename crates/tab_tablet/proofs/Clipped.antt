@@ -1,4 +1,4 @@
--- The records of tables, table by table.
+-- The records of runs and of tables, one after another.
 use Rattle.std.proofs.Common.{◌≡◌, ℕ, ◌<◌, ◌+◌, List, [], ◌∷◌, ◌++◌, Bool, sym, ◌∙◌, ap, length, take, get_or}
 use Rattle.std.specs.Prelude.{filter, map, Contains}
 use Rattle.std.proofs.lemmas.List.{take_more, map-append}
@@ -9,6 +9,10 @@ use Rattle.tab_cells.proofs.Lists.{filter_append}
 use Rattle.tab_iter.specs.Bags.{flat}
 use Rattle.tab_version.specs.Sources.{Sorted}
 use Rattle.tab_tablet.proofs.Gathered.{flat_more}
+
+-- those of the first runs, and of the next
+pub flat_next : (runs : List (List Record)) (i : ℕ) (run : List Record) → i < length runs → run ≡ get_or runs i run → flat (take (i + 1) runs) ≡ flat (take i runs) ++ run
+flat_next runs i run lt is = ap flat (take_more runs i run lt ∙ ap (λ x. take i runs ++ x ∷ []) (sym is)) ∙ flat_more (take i runs) run
 
 -- all records that are held of some tables
 abbrev pub held_in : List Sorted → List Record

@@ -1,7 +1,8 @@
--- How many records some lists hold, up to the greatest u64.
+-- How many records some lists hold and how large some tables are, up to the greatest u64.
 use Rattle.std.proofs.Common.{◌≡◌, ℕ, ◌<◌, ◌+◌, List, [], ◌∷◌, ◌++◌, sym, ◌∙◌, ap, length, take, get_or, arith}
-use Rattle.std.specs.Prelude.{min}
-use Rattle.std.proofs.lemmas.List.{take_more, length-append}
+use Rattle.std.specs.Prelude.{map, min, sum}
+use Rattle.std.proofs.lemmas.List.{take_more, length-append, map-append}
+use Rattle.std.proofs.lemmas.List.Sums.{sum_by_push}
 use Rattle.tab_key.specs.Records.{Record}
 use Rattle.tab_iter.specs.Bags.{flat}
 use Rattle.tab_version.specs.Sources.{Sorted}
@@ -19,3 +20,10 @@ runs_next runs i run lt is = ap (λ l. length (flat l)) (take_more runs i run lt
 -- the records of the first tables, and of the next
 pub tables_next : (tables : List Sorted) (i : ℕ) (table : Sorted) → i < length tables → table ≡ get_or tables i table → length (held_in (take (i + 1) tables)) ≡ length (held_in (take i tables)) + length table.records
 tables_next tables i table lt is = ap length (held_next tables i table lt is) ∙ length-append (held_in (take i tables)) table.records
+
+-- the sizes of the first tables, and of the next
+pub sizes_next : (tables : List Sorted) (i : ℕ) (table : Sorted) → i < length tables → table ≡ get_or tables i table → sum (map (λ (t : Sorted). t.size) (take (i + 1) tables)) ≡ sum (map (λ (t : Sorted). t.size) (take i tables)) + table.size
+sizes_next tables i table lt is =
+    ap (λ l. sum (map (λ (t : Sorted). t.size) l)) (take_more tables i table lt ∙ ap (λ x. take i tables ++ x ∷ []) (sym is))
+    ∙ ap sum (map-append (λ (t : Sorted). t.size) (take i tables) (table ∷ []))
+    ∙ sum_by_push (λ x. x) (map (λ (t : Sorted). t.size) (take i tables)) table.size

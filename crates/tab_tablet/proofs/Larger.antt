@@ -1,14 +1,14 @@
 -- The tables that are larger than those that a partial compaction takes.
-use Rattle.std.proofs.Common.{◌≡◌, ℕ, ◌≤◌, ◌<◌, ◌+◌, List, [], ◌∷◌, ◌++◌, get_or, max, Bool, true, false, ◌==◌, not, refl, sym, ◌∙◌, ap, subst, length, take, arith}
-use Rattle.std.specs.Prelude.{map, filter, nat_le, nat_lt, Option, Some, None}
+use Rattle.std.proofs.Common.{◌≡◌, ℕ, ◌≤◌, ◌<◌, ◌+◌, List, [], ◌∷◌, ◌++◌, get_or, max, true, false, ◌==◌, not, refl, sym, ◌∙◌, ap, subst, length, take, arith}
+use Rattle.std.specs.Prelude.{filter, nat_le, nat_lt, Option, Some, None}
 use Rattle.std.proofs.lemmas.Bool.Decides.{nat_tests}
 use Rattle.std.proofs.lemmas.List.{length-map, length-take-le, take-map, take_more, map-append}
 use mathlib.Core.Bool.{true≢false}
 use Rattle.tab_version.specs.Sources.{Sorted}
-use Rattle.tab_compact.specs.Plans.{largest, plan, IsPlan}
+use Rattle.tab_compact.specs.Plans.{largest, IsPlan}
 use Rattle.tab_compact.specs.Merges.{by_size, sizes_of, taken}
 use Rattle.tab_compact.proofs.Plans.{plan_is_greatest}
-use Rattle.tab_tablet.specs.Spared.{plan_of, limit_of, larger_than}
+use Rattle.tab_tablet.specs.Spared.{plan_of, larger_than}
 use Rattle.tab_tablet.proofs.Captures.{largest_more}
 
 -- a test for more is the turned test for no more

@@ -7,3 +7,11 @@ pub mod Clipped
 pub mod Compacted
 pub mod Larger
 pub mod Counted
+pub mod Cut
+pub mod Rows
+pub mod Selected
+pub mod RowCounts
+pub mod Probed
+pub mod Middles
+pub mod Searching
+pub mod MiddleRow

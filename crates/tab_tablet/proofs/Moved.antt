@@ -1,16 +1,16 @@
 -- Where a tablet's records lie after a freeze, a write and a merge: freezes and writes move them, and a merge puts its output in the place
 -- of its inputs.
-use Rattle.std.proofs.Common.{◌≡◌, ◌≢◌, ◌⊎◌, inl, inr, List, [], ◌∷◌, ◌++◌, refl, sym, ◌∙◌, ap, subst, append_assoc, append-nil}
+use Rattle.std.proofs.Common.{◌≡◌, ◌≢◌, inl, inr, List, [], ◌∷◌, ◌++◌, refl, sym, ◌∙◌, ap, subst, append_assoc, append-nil}
 use Rattle.std.specs.Prelude.{map, Some}
 use Rattle.std.specs.List.{AllByRecursion}
 use Rattle.std.specs.List.Sorted.{IsPermutation}
 use Rattle.std.specs.declared.cmp.Ordering.TheVariants.{Equal}
 use Rattle.std.proofs.lemmas.List.{map-append}
-use Rattle.std.proofs.lemmas.List.Sorted.{IsPermutation-refl, IsPermutation-sym, IsPermutation-trans, IsPermutation-append_comm, IsPermutation-append_left, IsPermutation-append_right, Contains-permutation}
+use Rattle.std.proofs.lemmas.List.Sorted.{IsPermutation-refl, IsPermutation-trans, IsPermutation-append_comm, IsPermutation-append_left, IsPermutation-append_right}
 use Rattle.tab_key.specs.Records.{Record}
 use Rattle.tab_key.specs.Order.{record_cmp}
 use Rattle.tab_key.specs.Sorted.{sorted, IsDistinct, IsIn}
-use Rattle.tab_key.proofs.Rising.{in_from, in_to, all_in, in_filter, in_sorted, rising_sorted, distinct_filter}
+use Rattle.tab_key.proofs.Rising.{all_in, in_filter, in_sorted, rising_sorted, distinct_filter}
 use Rattle.tab_key.proofs.Sorting.{distinct_permuted}
 use Rattle.tab_cells.specs.Compactions.{is_full}
 use Rattle.tab_cells.specs.Merged.{survives, merged}

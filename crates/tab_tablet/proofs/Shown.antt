@@ -18,6 +18,7 @@ use Rattle.tab_iter.proofs.BagLaws.{sorted_filter}
 use Rattle.tab_iter.proofs.StackLaws.{stack_chain, stack_cells}
 use Rattle.tab_cells.proofs.Lists.{and_false, filter_seen}
 use Rattle.tab_cells.proofs.RowsInRange.{kept_seen}
+use Rattle.tab_tablet.specs.Opened.{ShowsRowsOf}
 
 -- the records in another order show the same
 cells_sorted : (us : List Record) (n : ℕ) (columns : List Column) (auths : List (List ℕ)) → IsDistinct us → cells us n (query_of columns auths) ≡ cells (sorted us) n (query_of columns auths)
@@ -56,3 +57,7 @@ cells_open us n bounds columns auths d =
     cells_sorted (filter p us) n columns auths (distinct_filter p us d)
     ∙ ap (λ l. cells l n (query_of columns auths)) (sorted_filter p us d)
     ∙ cells_part (sorted us) n bounds columns auths
+
+-- whatever is asked
+pub shows_rows : (us : List Record) (bounds : Bounds) (vs : List Record) → IsDistinct us → vs ≡ filter (λ u. is_in_range bounds u.key.row) us → ShowsRowsOf bounds (sorted us) vs
+shows_rows us bounds vs d is = λ n columns auths. ap (λ l. cells l n (query_of columns auths)) is ∙ cells_open us n bounds columns auths d

@@ -1,5 +1,5 @@
-//! How many records sources hold.
-ghost use Rattle.std.specs.Prelude.{◌≡◌, length, map, min};
+//! How many records sources hold, and how large their tables are.
+ghost use Rattle.std.specs.Prelude.{◌≡◌, length, map, min, sum};
 ghost use Rattle.tab_iter.specs.Bags.{flat};
 ghost use Rattle.tab_version.specs.Sources.{records_of};
 
@@ -30,4 +30,15 @@ fn count_in_tables(tables: &[TableClip]) -> u64
         count = count.saturating_add(table.len() as u64);
     }
     count
+}
+
+/// The sizes of the tables together, in bytes; the greatest `u64` for any number above it.
+pub(crate) fn total_size(tables: &[TableClip]) -> u64
+    ensures { result ≡ min (sum (map (λ t. t.size) tables.now)) 18446744073709551615 }
+{
+    let mut size = 0u64;
+    for table in tables {
+        size = size.saturating_add(table.size());
+    }
+    size
 }

@@ -6,18 +6,29 @@
 //!
 //! | File | What |
 //! |---|---|
-//! | `tablet` | the tablet: writes, freezes, compactions, and what a scan reads |
+//! | `tablet` | the tablet: writes, freezes, compactions, splits, and what a scan reads |
 //! | `freezing` | what was written, made a run |
 //! | `clipping` | the sources' records in range |
 //! | `compacting` | the sources after a compaction |
 //! | `sparing` | the sources that a compaction doesn't read |
-//! | `counting` | how many records there are |
+//! | `counting` | how many records there are, and the sizes of tables |
+//! | `bounding` | the rows below one row, up to it and above it |
+//! | `row_counting` | how many records have rows in bounds |
+//! | `middle` | the row in the middle of all records |
+//! | `selecting` | the row at a place in the order of records |
+//! | `probing` | the row at which a search for that cuts |
+//! | `specs/Splitting`, `SplitExamples` | splits, and worked examples |
 #![tactic(auto)]
 
+mod bounding;
 mod clipping;
 mod compacting;
 mod counting;
 mod freezing;
+mod middle;
+mod probing;
+mod row_counting;
+mod selecting;
 mod sparing;
 mod tablet;
 

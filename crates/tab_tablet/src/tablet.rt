@@ -1,27 +1,32 @@
 //! The tablet.
-ghost use Rattle.std.specs.Prelude.{◌≡◌, ◌<◌, ◌==◌, [], None, IfOk, OnOk, OnErr, Contains, length, min};
+ghost use Rattle.std.specs.Prelude.{◌≡◌, ◌<◌, ◌==◌, [], None, IfOk, OnOk, OnErr, Contains, length, filter, min};
+ghost use Rattle.std.specs.Ordering.{is_le, is_gt};
+ghost use Rattle.tab_key.specs.Bytes.{bytes_cmp};
+ghost use Rattle.tab_key.specs.Ranges.{is_in_range};
 ghost use Rattle.tab_key.specs.Records.{Record as Fields};
-ghost use Rattle.tab_key.specs.Sorted.{sorted, IsDistinct};
+ghost use Rattle.tab_key.specs.Sorted.{IsDistinct};
 ghost use Rattle.tab_mutation.specs.Shape.{shape_error};
 ghost use Rattle.tab_cells.specs.Written.{mutation_records};
-ghost use Rattle.tab_version.specs.Sources.{count_of};
-ghost use Rattle.tab_tablet.specs.Opened.{ShowsRowsOf};
+ghost use Rattle.tab_version.specs.Sources.{clipped, count_of, records_of, size_of};
 ghost use Rattle.tab_compact.specs.Merges.{captured};
 ghost use Rattle.tab_tablet.specs.Spared.{sources_after};
+ghost use Rattle.tab_tablet.specs.Splitting.{cut_to, middle_row, rows_in};
 ghost use Rattle.tab_tablet.specs.Tablets.{new_tablet, records_in, written, frozen, compacted};
 
+use crate::bounding::{rows_above, rows_up_to};
 use crate::clipping::clips_in;
 use crate::compacting::compacted;
-use crate::counting::count_records;
+use crate::counting::{count_records, total_size};
 use crate::freezing::add_frozen;
+use crate::middle::middle_row;
 use std::alloc::{AllocError, Global};
 use std::marker::Model;
 use tab_cells::Compaction;
 use tab_iter::NoMemory;
-use tab_key::Bounds;
+use tab_key::{Bounds, ByteString};
 use tab_mem::Active;
 use tab_mutation::Mutation;
-use tab_version::{Clips, Version};
+use tab_version::Clips;
 
 /// The records of a table's rows: what was written since the last freeze, and frozen runs and sorted tables. No two records stand at
 /// one place in the order of records. A contract sees all three as they are.
@@ -125,15 +130,62 @@ impl Tablet {
         Ok(Tablet { active, sources })
     }
 
-    /// What a scan of these rows reads, as it is now. What was written must be frozen.
+    /// The two tablets that a split at the row makes, the row belonging to the lower one: both share the sources of this one, cut to
+    /// their rows, and nothing of it is copied but what was written since the last freeze. This one stays as it is.
+    ///
+    /// It takes memory for that and for two shares of each source. `AllocError` says that it lacked. (Accumulo user manual: tablets,
+    /// splitting)
+    pub fn split(&self, alloc: Global, row: &ByteString) -> Result<(Tablet, Tablet), AllocError>
+        ensures lower { IfOk result (λ p. p.0 ≡ cut_to (λ r. is_le (bytes_cmp r row.now)) self.now) }
+        ensures upper { IfOk result (λ p. p.1 ≡ cut_to (λ r. is_gt (bytes_cmp r row.now)) self.now) }
+    {
+        let frozen = self.frozen(alloc)?;
+        let up_to = rows_up_to(row)?;
+        let lower = frozen.cut(alloc, &up_to)?;
+        let above = rows_above(row)?;
+        let upper = frozen.cut(alloc, &above)?;
+        Ok((lower, upper))
+    }
+
+    // The same tablet, whose active part is empty, its sources cut to the rows in bounds.
+    fn cut(&self, alloc: Global, bounds: &Bounds) -> Result<Tablet, AllocError>
+        requires { self.now.active ≡ [] }
+        ensures { IfOk result (λ t. t ≡ record (self.now) { sources = clipped (is_in_range bounds.now) self.now.sources }) }
+    {
+        let sources = self.sources.in_rows(alloc, bounds)?;
+        Ok(Tablet {
+            active: Active::new(alloc),
+            sources,
+        })
+    }
+
+    /// The parts of its sources whose rows are in bounds, without those that have no record there. What was written must be frozen.
     ///
     /// It takes memory for one clip a source; the records are shared. `AllocError` says that it lacked.
-    pub fn version(&self, alloc: Global, bounds: &Bounds) -> Result<Version, AllocError>
+    pub fn clips(&self, alloc: Global, bounds: &Bounds) -> Result<Clips, AllocError>
         requires { self.now.active ≡ [] }
-        ensures { IfOk result (λ v. ShowsRowsOf bounds.now (sorted (records_in self.now)) v) }
+        ensures { IfOk result (λ c. records_of c ≡ filter (λ u. is_in_range bounds.now u.key.row) (records_in self.now)) }
     {
-        let clips = clips_in(alloc, &self.sources, bounds)?;
-        Ok(Version::of(clips))
+        clips_in(alloc, &self.sources, bounds)
+    }
+
+    /// The row in the middle of its records: that at half of their number, rounded down, in their order, or the next lower one where
+    /// that is the greatest. None where it holds no record, or records of one row alone. What was written must be frozen.
+    ///
+    /// It copies no record: it takes memory for a share and a row of each source. Its time grows with the number of sources, and with
+    /// no more than powers of the logarithm of that of the records. `AllocError` says that memory lacked.
+    pub fn middle_row(&self, alloc: Global) -> Result<Option<ByteString>, AllocError>
+        requires { self.now.active ≡ [] }
+        ensures { IfOk result (λ row. row ≡ middle_row (rows_in self.now)) }
+    {
+        middle_row(alloc, &self.sources)
+    }
+
+    /// The bytes of its sorted tables together, each with its whole size; the greatest `u64` for any number above it.
+    pub fn size(&self) -> u64
+        ensures { result ≡ min (size_of self.now.sources) 18446744073709551615 }
+    {
+        total_size(self.sources.tables())
     }
 
     /// How many runs and sorted tables there are; the greatest `u64` for any number above it.

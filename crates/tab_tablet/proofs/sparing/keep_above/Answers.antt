@@ -1,4 +1,4 @@
-use Rattle.std.proofs.Common.{rules, ◌∙◌}
+use Rattle.std.proofs.Common.{rules}
 use Rattle.std.proofs.lemmas.Fn.{filter_same}
 use Rattle.tab_tablet.proofs.Larger.{above}
 use Rattle.tab_tablet.proofs.sparing.keep_above.Goals as goal

@@ -1,4 +1,4 @@
-use Rattle.std.proofs.Common.{◌≡◌, ◌∙◌, ap, sym, subst, rules, true, false, ◌==◌, length, not}
+use Rattle.std.proofs.Common.{◌≡◌, ◌∙◌, ap, rules, true, false, ◌==◌, length, not}
 use Rattle.std.specs.Prelude.{filter, nat_le}
 use Rattle.tab_version.specs.Sources.{Sorted}
 use Rattle.tab_tablet.proofs.Larger.{all_stay, larger_stay}

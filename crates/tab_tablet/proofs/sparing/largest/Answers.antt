@@ -1,5 +1,4 @@
-use Rattle.std.proofs.Common.{◌∙◌, ap, rules}
-use Rattle.std.specs.Prelude.{max}
+use Rattle.std.proofs.Common.{rules}
 use Rattle.tab_tablet.proofs.Larger.{largest_next}
 use Rattle.tab_tablet.proofs.sparing.largest.Goals as goal
 

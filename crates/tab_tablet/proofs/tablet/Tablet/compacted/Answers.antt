@@ -1,7 +1,7 @@
 use Rattle.std.proofs.Common.{◌≡◌, ◌∙◌, ap, sym, subst, rules, to_z, of_z, w64}
 use Rattle.std.specs.Prelude.{IfOk}
 use Rattle.tab_compact.specs.Merges.{captured}
-use Rattle.tab_tablet.specs.Tablets.{Tablet, compacted}
+use Rattle.tab_tablet.specs.Tablets.{Tablet}
 use Rattle.tab_tablet.specs.Spared.{sources_after}
 use Rattle.tab_tablet.proofs.Compacted.{compacted_is}
 use Rattle.tab_tablet.proofs.tablet.Tablet.compacted.Goals as goal

@@ -1,5 +1,4 @@
-use Rattle.std.proofs.Common.{◌≡◌, ◌∙◌, [], ◌++◌, None, ap, sym, subst, to_z, of_z, w64}
-use Rattle.tab_key.specs.Records.{Record}
+use Rattle.std.proofs.Common.{◌≡◌, ◌∙◌, [], ◌++◌, ap, sym, subst, to_z, of_z, w64}
 use Rattle.tab_key.specs.Sorted.{IsDistinct}
 use Rattle.tab_version.specs.Sources.{Sources, records_of}
 use Rattle.tab_tablet.specs.Tablets.{Tablet}
