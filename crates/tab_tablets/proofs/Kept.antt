@@ -1,0 +1,174 @@
+-- What a table's tablets keep, whatever is done to them.
+use Rattle.std.proofs.Common.{◌≡◌, ◌≢◌, ℕ, zero, suc, ◌+◌, ◌<◌, List, [], ◌∷◌, ◌++◌, Bool, true, false, cond, ◌||◌, refl, sym, ◌∙◌, ap, subst, length, arith}
+use Rattle.std.specs.Prelude.{ℤ, Option, Some, None, Result, Ok, Err, OnOk, OnErr, map, reverse, ◌==◌, nat_lt}
+use Rattle.std.specs.List.{AllByRecursion, filter_map, cons_option}
+use Rattle.std.proofs.lemmas.Bool.Decides.{nat_tests}
+use Rattle.std.proofs.lemmas.List.Folds.{list_any-append}
+use mathlib.Core.Bool.{true≢false}
+use Rattle.tab_key.specs.Records.{Record}
+use Rattle.tab_key.specs.Sorted.{IsIn}
+use Rattle.tab_mutation.specs.Mutations.{Mutation}
+use Rattle.tab_cells.specs.Written.{timed, mutation_records}
+use Rattle.tab_cells.proofs.Lists.{by_bool}
+use Rattle.tab_tablet.specs.Tablets.{Tablet, new_tablet, records_in, written}
+use Rattle.tab_tablet.specs.Splitting.{split_at}
+use Rattle.tab_tablets.specs.Places.{tablet_at, IsPlaceOf, at_place, is_end_row, is_among, moved_from, AreKept}
+use Rattle.tab_tablets.proofs.At.{one, same_length, elsewhere, longer, before, behind, low_is_frozen, high_is_frozen, none_waits_in}
+use Rattle.tab_tablets.proofs.Whole.{whole_map, whole_one, whole_split}
+use Rattle.tab_tablets.proofs.Rows.{mutation_rows, rows_map, rows_written, rows_split}
+
+-- ---- tests of places
+same_place : (a b : ℕ) → (a == b) ≡ true → a ≡ b
+same_place a b e = grind (arith, nat_tests)
+
+other_place : (a b : ℕ) → (a == b) ≡ false → a ≢ b
+other_place a b e s = grind (arith, nat_tests)
+
+itself : (k : ℕ) → (k == k) ≡ true
+itself k = grind (arith, nat_tests)
+
+or_none : (v w : Bool) → (v || w) ≡ false → (v ≡ false) × (w ≡ false)
+or_none true w e = absurd (true≢false e)
+or_none false w e = (refl, e)
+
+-- ---- at first
+idle_one : (k : ℕ) → (tablet_at (new_tablet None ∷ []) k).active ≡ []
+idle_one zero = refl
+idle_one (suc k) = refl
+
+pub kept_new : AreKept (new_tablet None ∷ []) []
+kept_new = record { whole = refl; rows = (λ u k. absurd k, λ u k. absurd k, tt); inside = tt; waiting = λ k e. idle_one k }
+
+-- ---- a write
+all_more : (P : ℕ → Type 0) (ws : List ℕ) (p : ℕ) → AllByRecursion P ws → P p → AllByRecursion P (ws ++ p ∷ [])
+all_more P [] p a b = (b, tt)
+all_more P (w ∷ ws) p a b = (a.0, all_more P ws p a.1 b)
+
+module _ (ts : List Tablet) (ws : List ℕ) (kept : AreKept ts ws) where
+  -- where something was written the place is noted
+  pub noted : (p : ℕ) → (length (tablet_at ts p).active == 0) ≡ false → is_among ws p ≡ true
+  noted p e = by_bool (is_among ws p) (λ t. t) (λ f. absurd (true≢false (ap (λ (l : List Record). length l == 0) (sym (kept.waiting p f)) ∙ e)))
+
+  module _ (row : List ℕ) (us : List Record) (own : (u : Record) → IsIn us u → u.key.row ≡ row) (p : ℕ) (place : IsPlaceOf row ts p) where
+    kept_so : (vs : List ℕ) → AllByRecursion (λ w. w < length ts) vs → is_among vs p ≡ true → ((k : ℕ) → is_among vs k ≡ false → is_among ws k ≡ false) → AreKept (at_place p (one (written us)) ts) vs
+    kept_so vs inside is all = record {
+      whole = whole_one (written us) (λ t. refl) ts p kept.whole;
+      rows = rows_written row us own ts p place kept.rows;
+      inside = subst (λ n. AllByRecursion (λ w. w < n) vs) (sym (same_length (written us) ts p)) inside;
+      waiting = λ k e. ap (λ (t : Tablet). t.active) (elsewhere (written us) ts p k (λ s. true≢false (sym is ∙ ap (is_among vs) (sym s) ∙ e))) ∙ kept.waiting k (all k e);
+    }
+
+    -- to a tablet to which something was written already
+    pub kept_again : (length (tablet_at ts p).active == 0) ≡ false → AreKept (at_place p (one (written us)) ts) ws
+    kept_again e = kept_so ws kept.inside (noted p e) (λ k f. f)
+
+    -- and to another one
+    pub kept_first : AreKept (at_place p (one (written us)) ts) (ws ++ p ∷ [])
+    kept_first = kept_so (ws ++ p ∷ []) (all_more (λ w. w < length ts) ws p kept.inside place.inside)
+        (list_any-append (λ w. w == p) ws (p ∷ []) ∙ ap (λ v. is_among ws p || (v || false)) (itself p) ∙ or_true (is_among ws p))
+        (λ k e. (or_none (is_among ws k) (is_among (p ∷ []) k) (sym (list_any-append (λ w. w == k) ws (p ∷ [])) ∙ e)).0)
+      where
+        or_true : (v : Bool) → (v || (true || false)) ≡ true
+        or_true true = refl
+        or_true false = refl
+
+  -- ---- a freeze or a compaction of all of them
+  pub kept_all : (f : Tablet → Tablet) → ((t : Tablet) → (f t).end ≡ t.end) → ((t : Tablet) (u : Record) → IsIn (records_in (f t)) u → IsIn (records_in t) u) → ((t : Tablet) → (f t).active ≡ []) → AreKept (map f ts) []
+  kept_all f ends fewer idle = record {
+    whole = whole_map f ends ts kept.whole;
+    rows = rows_map f ends fewer ts kept.rows;
+    inside = tt;
+    waiting = λ k e. none_waits_in f idle ts k;
+  }
+
+-- ---- a split
+module _ (p : ℕ) where
+  pub moved_below : (k : ℕ) → k < p → moved_from p k ≡ Some k
+  moved_below k lt = (λ i. cond (other i) None (Some (cond (over i) (k + 1) k)))
+    where
+      other : (k == p) ≡ false
+      other = grind (arith, nat_tests)
+
+      over : nat_lt p k ≡ false
+      over = grind (arith, nat_tests)
+
+  pub moved_above : (k : ℕ) → p < k → moved_from p k ≡ Some (suc k)
+  moved_above k lt = (λ i. cond (other i) None (Some (cond (over i) (more i) k)))
+    where
+      other : (k == p) ≡ false
+      other = grind (arith, nat_tests)
+
+      over : nat_lt p k ≡ true
+      over = grind (arith, nat_tests)
+
+      more : k + 1 ≡ suc k
+      more = omega arith
+
+  pub moved_none : moved_from p p ≡ None
+  moved_none = ap (λ v. cond v None (Some (cond (nat_lt p p) (p + 1) p))) (itself p)
+
+  rest_not : (o : Option ℕ) (l : List ℕ) (k : ℕ) → is_among (cons_option o l) k ≡ false → is_among l k ≡ false
+  rest_not None l k e = e
+  rest_not (Some w) l k e = (or_none (w == k) (is_among l k) e).1
+
+  -- a place that isn't among the moved ones wasn't among them
+  not_among : (ws : List ℕ) (w k : ℕ) → moved_from p w ≡ Some k → is_among (filter_map (moved_from p) ws) k ≡ false → is_among ws w ≡ false
+  not_among [] w k m e = refl
+  not_among (v ∷ ws) w k m e = by_bool (v == w)
+      (λ t. absurd (true≢false (ap (λ x. x || is_among (filter_map (moved_from p) ws) k) (sym (itself k)) ∙ ap (λ (o : Option ℕ). is_among (cons_option o (filter_map (moved_from p) ws)) k) (sym (ap (moved_from p) (same_place v w t) ∙ m)) ∙ e)))
+      (λ f. (λ i. f i || not_among ws w k m (rest_not (moved_from p v) (filter_map (moved_from p) ws) k e) i))
+
+  moved_inside : (n : ℕ) (ws : List ℕ) → AllByRecursion (λ w. w < n) ws → AllByRecursion (λ w. w < n + 1) (filter_map (moved_from p) ws)
+  moved_inside n [] a = tt
+  moved_inside n (w ∷ ws) a = go (w == p) (nat_lt p w) (moved_inside n ws a.1)
+    where
+      go : (v x : Bool) → AllByRecursion (λ w. w < n + 1) (filter_map (moved_from p) ws) → AllByRecursion (λ w. w < n + 1) (cons_option (cond v None (Some (cond x (w + 1) w))) (filter_map (moved_from p) ws))
+      go true x ih = ih
+      go false true ih = (let lt = a.0 in omega (arith, lt), ih)
+      go false false ih = (let lt = a.0 in omega (arith, lt), ih)
+
+module _ (ts : List Tablet) (ws : List ℕ) (kept : AreKept ts ws) (row : List ℕ) (p : ℕ) (place : IsPlaceOf row ts p) (new : is_end_row row (tablet_at ts p).end ≡ false) where
+  abbrev after : List Tablet
+  after = at_place p (split_at row) ts
+
+  abbrev moved : List ℕ
+  moved = filter_map (moved_from p) ws
+
+  idle_below : (k : ℕ) → k < p → is_among moved k ≡ false → (tablet_at after k).active ≡ []
+  idle_below k lt e = ap (λ (t : Tablet). t.active) (before row ts p k lt) ∙ kept.waiting k (not_among p ws k k (moved_below p k lt) e)
+
+  idle_above : (k : ℕ) → p < k → is_among moved (suc k) ≡ false → (tablet_at after (suc k)).active ≡ []
+  idle_above k lt e = ap (λ (t : Tablet). t.active) (behind row ts p k lt) ∙ kept.waiting k (not_among p ws k (suc k) (moved_above p k lt) e)
+
+  idle_from : (k : ℕ) → (k == p) ≡ false → nat_lt k p ≡ false → is_among moved k ≡ false → (tablet_at after k).active ≡ []
+  idle_from zero ne ge e = absurd (true≢false (sym (none p ne) ∙ ge))
+    where
+      none : (q : ℕ) → (0 == q) ≡ false → nat_lt 0 q ≡ true
+      none q n = grind (arith, nat_tests)
+  idle_from (suc k) ne ge e = by_bool (k == p)
+      (λ t. subst (λ j. (tablet_at after (suc j)).active ≡ []) (sym (same_place k p t)) (high_is_frozen row ts p))
+      (λ f. idle_above k (more k ne ge f) e)
+    where
+      more : (j : ℕ) → (suc j == p) ≡ false → nat_lt (suc j) p ≡ false → (j == p) ≡ false → p < j
+      more j a b c = grind (arith, nat_tests)
+
+  pub kept_split : AreKept after moved
+  kept_split = record {
+    whole = whole_split row ts p place new kept.whole;
+    rows = rows_split row ts p place kept.rows;
+    inside = subst (λ n. AllByRecursion (λ w. w < n) moved) (sym (longer row ts p place.inside)) (moved_inside p (length ts) ws kept.inside);
+    waiting = λ k e. by_bool (nat_lt k p) (λ t. idle_below k (less k t) e)
+        (λ ge. by_bool (k == p) (λ s. subst (λ j. (tablet_at after j).active ≡ []) (sym (same_place k p s)) (low_is_frozen row ts p)) (λ ne. idle_from k ne ge e));
+  }
+    where
+      less : (k : ℕ) → nat_lt k p ≡ true → k < p
+      less k t = grind (arith, nat_tests)
+
+-- ---- whether or not something went in
+pub either : {T E : Type 0} (P : List Tablet → Type 0) (r : Result T E) (a b new : List Tablet) → OnOk r (new ≡ a) → OnErr r (new ≡ b) → P a → P b → P new
+either P (Ok x) a b new ok err p q = subst P (sym ok) p
+either P (Err x) a b new ok err p q = subst P (sym err) q
+
+-- the records of a mutation are of its row
+pub own_rows : (seq : ℕ) (clock : ℤ) (m : Mutation) (u : Record) → IsIn (mutation_records seq clock m) u → u.key.row ≡ m.row
+own_rows seq clock m u k = mutation_rows seq m.row (reverse (map (timed clock) m.updates)) u k

@@ -1,0 +1,13 @@
+pub mod Orders
+pub mod EndRows
+pub mod At
+pub mod Installed
+pub mod Whole
+pub mod Rows
+pub mod Kept
+pub mod Ranges
+pub mod Middle
+pub mod Counted
+pub mod Told
+pub mod Merged
+pub mod Idle

@@ -1,0 +1,83 @@
+-- What is told of a split, test by test, and what it leaves.
+use Rattle.std.proofs.Common.{◌≡◌, ℕ, ◌<◌, ◌≤◌, ◌^◌, List, [], ◌∷◌, true, false, cond, sym, ◌∙◌, ap, subst, min, arith}
+use Rattle.std.specs.Ordering.{is_le, is_gt}
+use Rattle.tab_key.specs.Bytes.{bytes_cmp}
+use Rattle.std.specs.Prelude.{Option, Some, None, nat_lt}
+use Rattle.std.proofs.lemmas.Bool.Decides.{nat_tests}
+use Rattle.tab_version.specs.Sources.{size_of}
+use Rattle.tab_tablet.specs.Tablets.{Tablet}
+use Rattle.tab_tablet.specs.Splitting.{cut_to, lower_at, upper_at, split_at, middle_row, rows_in}
+use Rattle.tab_tablets.specs.Places.{ended, tablet_at, IsPlaceOf}
+use Rattle.tab_tablets.specs.ByRow.{at_row, tablet_of, is_end}
+use Rattle.tab_tablets.specs.Splits.{is_full, split_in, splits, split_found, halved, halves}
+use Rattle.tab_tablets.proofs.EndRows.{tablet_at_place}
+use Rattle.tab_tablets.specs.declared.split.Split.{Split}
+use Rattle.tab_tablets.specs.declared.split.Split.TheVariants.{Done, Present, Small, OneRow, Full}
+
+abbrev Told : Type 0
+Told = Split × List Tablet
+
+abbrev told : Split → List Tablet → Told
+told s ts = (s, ts)
+
+pub present : (row : List ℕ) (ts : List Tablet) → is_end row ts ≡ true → splits row ts ≡ told Present ts
+present row ts e = ap (λ v. cond {A = Told} v (Present, ts) (split_in row ts)) e
+
+pub absent : (row : List ℕ) (ts : List Tablet) → is_end row ts ≡ false → splits row ts ≡ split_in row ts
+absent row ts e = ap (λ v. cond {A = Told} v (Present, ts) (split_in row ts)) e
+
+pub full : (row : List ℕ) (ts : List Tablet) → is_full ts ≡ true → split_in row ts ≡ told Full ts
+full row ts e = ap (λ v. cond {A = Told} v (Full, ts) (Done, at_row row (split_at row) ts)) e
+
+pub done : (row : List ℕ) (ts : List Tablet) → is_full ts ≡ false → split_in row ts ≡ told Done (at_row row (split_at row) ts)
+done row ts e = ap (λ v. cond {A = Told} v (Full, ts) (Done, at_row row (split_at row) ts)) e
+
+module _ (row : List ℕ) (limit : ℕ) (ts : List Tablet) (t : Tablet) (is : tablet_of row ts ≡ Some t) where
+  pub small : nat_lt (size_of t.sources) limit ≡ true → halves row limit ts ≡ told Small ts
+  small e = ap (λ o. halved limit o ts) is ∙ ap (λ v. cond {A = Told} v (Small, ts) (split_found (middle_row (rows_in t)) ts)) e
+
+  pub large : nat_lt (size_of t.sources) limit ≡ false → halves row limit ts ≡ split_found (middle_row (rows_in t)) ts
+  large e = ap (λ o. halved limit o ts) is ∙ ap (λ v. cond {A = Told} v (Small, ts) (split_found (middle_row (rows_in t)) ts)) e
+
+  -- with a row in the middle, and without one
+  pub found : (m : List ℕ) → nat_lt (size_of t.sources) limit ≡ false → middle_row (rows_in t) ≡ Some m → halves row limit ts ≡ split_in m ts
+  found m e f = large e ∙ ap (λ o. split_found o ts) f
+
+  pub none_found : nat_lt (size_of t.sources) limit ≡ false → middle_row (rows_in t) ≡ None → halves row limit ts ≡ told OneRow ts
+  none_found e f = large e ∙ ap (λ o. split_found o ts) f
+
+-- a size that was cut off is below a limit where it was before
+pub is_small : (size limit : ℕ) → limit < 2 ^ 64 → min size 18446744073709551615 < limit → nat_lt size limit ≡ true
+is_small size limit fits lt = let h : size < limit = omega arith in grind (arith, nat_tests)
+
+pub is_large : (size limit : ℕ) → limit < 2 ^ 64 → limit ≤ min size 18446744073709551615 → nat_lt size limit ≡ false
+is_large size limit fits ge = let h : limit ≤ size = omega arith in grind (arith, nat_tests)
+
+-- ---- by what is asked of the tablet of the row
+module _ (row : List ℕ) (limit size : ℕ) (line now : List Tablet) (p : ℕ) (bare : Tablet) (same : line ≡ now) (place : IsPlaceOf row line p) (is : ended (tablet_at line p).end bare ≡ tablet_at line p) (cut : size ≡ min (size_of bare.sources) 18446744073709551615) (fits : limit < 2 ^ 64) where
+  there : tablet_of row now ≡ Some (tablet_at line p)
+  there = ap (tablet_of row) (sym same) ∙ tablet_at_place row line p place
+
+  size_is : size ≡ min (size_of (tablet_at line p).sources) 18446744073709551615
+  size_is = cut ∙ ap (λ (t : Tablet). min (size_of t.sources) 18446744073709551615) is
+
+  pub small_told : size < limit → halves row limit now ≡ told Small now
+  small_told lt = small row limit now (tablet_at line p) there (is_small (size_of (tablet_at line p).sources) limit fits (subst (λ n. n < limit) size_is lt))
+
+  module _ (ge : limit ≤ size) (asked : Tablet) (is_asked : ended (tablet_at line p).end asked ≡ tablet_at line p) where
+    is_not_small : nat_lt (size_of (tablet_at line p).sources) limit ≡ false
+    is_not_small = is_large (size_of (tablet_at line p).sources) limit fits (subst (λ n. limit ≤ n) size_is ge)
+
+    middle_is : (o : Option (List ℕ)) → o ≡ middle_row (rows_in asked) → middle_row (rows_in (tablet_at line p)) ≡ o
+    middle_is o e = ap (λ (t : Tablet). middle_row (rows_in t)) (sym is_asked) ∙ sym e
+
+    pub one_row_told : None ≡ middle_row (rows_in asked) → halves row limit now ≡ told OneRow now
+    one_row_told e = none_found row limit now (tablet_at line p) there is_not_small (middle_is None e)
+
+    pub middle_told : (m : List ℕ) → Some m ≡ middle_row (rows_in asked) → halves row limit now ≡ split_in m now
+    middle_told m e = found row limit now (tablet_at line p) there m is_not_small (middle_is (Some m) e)
+
+-- ---- the two tablets
+pub halves_are : (row : List ℕ) (t bare low up : Tablet) → ended t.end bare ≡ t → low ≡ cut_to (λ r. is_le (bytes_cmp r row)) bare → up ≡ cut_to (λ r. is_gt (bytes_cmp r row)) bare
+    → ended (Some row) low ∷ ended t.end up ∷ [] ≡ split_at row t
+halves_are row t bare low up is a b = λ i. (ap (ended (Some row)) a ∙ ap (lower_at row) is) i ∷ (ap (ended t.end) b ∙ ap (upper_at row) is) i ∷ []

@@ -1,0 +1,3 @@
+pub mod ByRow
+pub mod Splits
+pub mod Places

@@ -1,0 +1,191 @@
+//! Tablets in the order of their rows.
+ghost use Rattle.std.specs.Prelude.{◌≡◌, ◌<◌, [], ◌∷◌, None, Some, length, map, min, sum, Contains, IfOk, OnOk, OnErr};
+ghost use Rattle.std.specs.List.{AllByRecursion};
+ghost use Rattle.tab_key.specs.Records.{Record as Fields};
+ghost use Rattle.tab_mutation.specs.Shape.{shape_error};
+ghost use Rattle.tab_cells.specs.Written.{mutation_records};
+ghost use Rattle.tab_tablet.specs.Tablets.{new_tablet, records_in, written};
+ghost use Rattle.tab_version.specs.Sources.{count_of};
+ghost use Rattle.tab_tablets.specs.ByRow.{AreWhole, ends_of, records_of_all};
+ghost use Rattle.tab_tablets.specs.Places.{ended, tablet_at, IsPlaceOf, at_place, put_at, installed, is_end_row};
+ghost use Rattle.tab_tablets.specs.Splits.{is_full};
+
+use crate::counting::{count_records, count_sources};
+use crate::ends::ends_of;
+use crate::lower::Lower;
+use crate::made::Made;
+use std::alloc::{AllocError, Global};
+use std::marker::Model;
+use tab_key::ByteString;
+use tab_mutation::Mutation;
+use tab_tablet::Tablet;
+
+/// The most end rows that a table may have.
+const MOST_ENDS: usize = 4_294_967_295;
+
+/// The tablets of a table in the order of their rows, each at its place, counted from 0. A contract sees them with their end rows.
+#[derive(Drop)]
+pub(crate) struct Line {
+    lower: Vec<Lower>,
+    last: Tablet,
+}
+
+impl Model for Line {
+    ghost use Rattle.std.specs.Prelude.{List, [], ◌∷◌, ◌++◌, None};
+    ghost use Rattle.tab_tablet.specs.Tablets.{Tablet as Held};
+    ghost use Rattle.tab_tablets.specs.Places.{ended};
+
+    ghost Value = { List Held };
+
+    ghost view = { λ l. l.lower.items ++ ended None l.last ∷ [] };
+}
+
+impl Line {
+    /// One tablet, of all rows, without records. It takes no memory.
+    pub(crate) fn new(alloc: Global) -> Line
+        ensures { result ≡ new_tablet None ∷ [] }
+    {
+        Line {
+            lower: Vec::new(alloc),
+            last: Tablet::new(alloc),
+        }
+    }
+
+    /// How many tablets there are.
+    pub(crate) fn len(&self) -> usize
+        ensures { result ≡ length self.now }
+    {
+        self.lower.len() + 1
+    }
+
+    /// The place of the tablet that holds the row, found by halves.
+    pub(crate) fn place_of(&self, row: &[u8]) -> usize
+        requires { AreWhole self.now }
+        ensures { IsPlaceOf row.now self.now result }
+    {
+        self.lower.partition_point(|lower| !lower.is_up_to(row))
+    }
+
+    /// The tablet at a place.
+    pub(crate) fn tablet(&self, place: usize) -> &Tablet
+        requires { place < length self.now }
+        ensures { ended (tablet_at self.now place).end result.now ≡ tablet_at self.now place }
+    {
+        if place < self.lower.len() {
+            return self.lower[place].tablet();
+        }
+        &self.last
+    }
+
+    /// Puts another tablet in the place of one, up to the same end row.
+    pub(crate) fn put(&mut self, place: usize, tablet: Tablet)
+        requires { place < length self.old }
+        ensures { self.new ≡ put_at place tablet self.old }
+    {
+        if place < self.lower.len() {
+            self.lower[place].put(tablet);
+        } else {
+            self.last = tablet;
+        }
+    }
+
+    /// Writes a mutation, whose shape was accepted, to the tablet at a place, as `Tablet::write` does.
+    pub(crate) fn write(
+        &mut self,
+        place: usize,
+        mutation: &Mutation,
+        seq: u64,
+        clock: i64,
+    ) -> Result<(), AllocError>
+        requires inside { place < length self.old }
+        requires shape { shape_error mutation.now ≡ None }
+        requires unused { (u : Fields) → Contains (records_in (tablet_at self.old place)) u → u.seq < seq }
+        ensures ok { OnOk result (self.new ≡ at_place place (λ t. written (mutation_records seq clock mutation.now) t ∷ []) self.old) }
+        ensures err { OnErr result (self.new ≡ self.old) }
+    {
+        if place < self.lower.len() {
+            return self.lower[place].write(mutation, seq, clock);
+        }
+        self.last.write(mutation, seq, clock)
+    }
+
+    /// Puts tablets in their places that were made before. It can't fail.
+    pub(crate) fn install(&mut self, mut made: Vec<Made>)
+        requires { AllByRecursion (λ m. m.place < length self.old) made.items }
+        ensures { self.new ≡ installed made.items self.old }
+    {
+        while let Some(next) = made.pop() {
+            self.put_made(next);
+        }
+    }
+
+    // Puts one of them in its place.
+    fn put_made(&mut self, made: Made)
+        requires { made.place < length self.old }
+        ensures { self.new ≡ put_at made.place made.tablet self.old }
+    {
+        let Made { place, tablet } = made;
+        self.put(place, tablet);
+    }
+
+    /// Puts two tablets in the place of one: the lower one up to this row, the upper one up to the end row that there was.
+    ///
+    /// `AllocError` leaves all as it was.
+    pub(crate) fn divide(
+        &mut self,
+        place: usize,
+        row: ByteString,
+        lower: Tablet,
+        upper: Tablet,
+    ) -> Result<(), AllocError>
+        requires { place < length self.old }
+        ensures ok { OnOk result (self.new ≡ at_place place (λ t. ended (Some row) lower ∷ ended t.end upper ∷ []) self.old) }
+        ensures err { OnErr result (self.new ≡ self.old) }
+    {
+        self.lower.insert(place, Lower::new(row, lower))?;
+        self.put(place + 1, upper);
+        Ok(())
+    }
+
+    /// Whether the row is the end row of the tablet at a place.
+    pub(crate) fn is_end_at(&self, place: usize, row: &[u8]) -> bool
+        requires { place < length self.now }
+        ensures { result ≡ is_end_row row.now (tablet_at self.now place).end }
+    {
+        if place < self.lower.len() {
+            return self.lower[place].ends_at(row);
+        }
+        false
+    }
+
+    /// Whether there are as many end rows as a table may have.
+    pub(crate) fn is_full(&self) -> bool
+        requires { AreWhole self.now }
+        ensures { result ≡ is_full self.now }
+    {
+        self.lower.len() >= MOST_ENDS
+    }
+
+    /// The end rows, rising.
+    ///
+    /// It takes memory for a copy of each. `AllocError` says that it lacked.
+    pub(crate) fn ends(&self, alloc: Global) -> Result<Vec<ByteString>, AllocError>
+        ensures { IfOk result (λ v. v.items ≡ ends_of self.now) }
+    {
+        ends_of(alloc, &self.lower)
+    }
+
+    /// How many runs and sorted tables the tablets have; the greatest `u64` for any number above it.
+    pub(crate) fn count_sources(&self) -> u64
+        ensures { result ≡ min (sum (map (λ t. count_of t.sources) self.now)) 18446744073709551615 }
+    {
+        count_sources(&self.lower).saturating_add(self.last.count_sources())
+    }
+
+    /// How many records they hold, markers and hidden ones among them; the greatest `u64` for any number above it.
+    pub(crate) fn count_records(&self) -> u64
+        ensures { result ≡ min (length (records_of_all self.now)) 18446744073709551615 }
+    {
+        count_records(&self.lower).saturating_add(self.last.count_records())
+    }
+}

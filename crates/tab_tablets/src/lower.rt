@@ -1,0 +1,88 @@
+//! A tablet with an end row.
+ghost use Rattle.std.specs.Prelude.{◌≡◌, ◌<◌, None, Some, Contains, OnOk, OnErr};
+ghost use Rattle.tab_key.specs.Records.{Record as Fields};
+ghost use Rattle.tab_mutation.specs.Shape.{shape_error};
+ghost use Rattle.tab_cells.specs.Written.{mutation_records};
+ghost use Rattle.tab_tablet.specs.Tablets.{is_up_to, records_in, written};
+ghost use Rattle.tab_tablets.specs.Places.{ended, is_end_row};
+
+use std::alloc::AllocError;
+use std::marker::Model;
+use tab_key::ByteString;
+use tab_mutation::Mutation;
+use tab_tablet::Tablet;
+
+/// A tablet that isn't the last of its table, with the last row that it may hold. A contract sees the tablet with its end row.
+#[derive(Drop)]
+pub(crate) struct Lower {
+    end: ByteString,
+    tablet: Tablet,
+}
+
+impl Model for Lower {
+    ghost use Rattle.std.specs.Prelude.{Some};
+    ghost use Rattle.tab_tablet.specs.Tablets.{Tablet as Held};
+
+    ghost Value = { Held };
+
+    ghost view = { λ l. record (l.tablet) { end = Some l.end } };
+}
+
+impl Lower {
+    /// The tablet of the rows up to this one.
+    pub(crate) fn new(end: ByteString, tablet: Tablet) -> Lower
+        ensures { result ≡ ended (Some end) tablet }
+    {
+        Lower { end, tablet }
+    }
+
+    /// The last row that it may hold.
+    pub(crate) fn end(&self) -> &ByteString
+        ensures { self.now.end ≡ Some result.now }
+    {
+        &self.end
+    }
+
+    /// Whether the row is at or before the end row.
+    pub(crate) fn is_up_to(&self, row: &[u8]) -> bool
+        ensures { result ≡ is_up_to self.now.end row.now }
+    {
+        row.cmp(self.end.as_bytes()).is_le()
+    }
+
+    /// Whether the row is the end row.
+    pub(crate) fn ends_at(&self, row: &[u8]) -> bool
+        ensures { result ≡ is_end_row row.now self.now.end }
+    {
+        row == self.end.as_bytes()
+    }
+
+    /// The tablet itself.
+    pub(crate) fn tablet(&self) -> &Tablet
+        ensures { ended self.now.end result.now ≡ self.now }
+    {
+        &self.tablet
+    }
+
+    /// Puts another tablet in its place.
+    pub(crate) fn put(&mut self, tablet: Tablet)
+        ensures { self.new ≡ ended self.old.end tablet }
+    {
+        self.tablet = tablet;
+    }
+
+    /// Writes a mutation, whose shape was accepted, as `Tablet::write` does.
+    pub(crate) fn write(
+        &mut self,
+        mutation: &Mutation,
+        seq: u64,
+        clock: i64,
+    ) -> Result<(), AllocError>
+        requires shape { shape_error mutation.now ≡ None }
+        requires unused { (u : Fields) → Contains (records_in self.old) u → u.seq < seq }
+        ensures ok { OnOk result (self.new ≡ written (mutation_records seq clock mutation.now) self.old) }
+        ensures err { OnErr result (self.new ≡ self.old) }
+    {
+        self.tablet.write(mutation, seq, clock)
+    }
+}
