@@ -1,17 +1,17 @@
 -- What an accepted event changes has passed the event's checks.
 use Rattle.std.proofs.Common.{◌≡◌, ◌⊎◌, inl, inr, ℕ, List, [], Bool, true, false, cond, ◌&&◌, refl, sym, subst}
 use Rattle.std.specs.Prelude.{ℤ, Option, Some, None}
+use mathlib.Core.Bool.{true≢false}
 use Rattle.tab_key.specs.declared.part.Part.TheVariants.{Sessions}
-use Rattle.tab_history.specs.declared.counts.Counts.{Counts}
 use Rattle.tab_history.specs.declared.event.Act.{Act}
-use Rattle.tab_history.specs.declared.event.Act.TheVariants.{Open, Status}
+use Rattle.tab_history.specs.declared.event.Act.TheVariants.{Open, Status, AddSplit, SplitBySize, Splits}
 use Rattle.tab_history.specs.declared.event.Event.{Event as TheEvent}
 use Rattle.tab_history.specs.declared.event.Step.{Step}
 use Rattle.tab_history.specs.declared.event.Step.TheVariants.{Event}
 use Rattle.tab_history.specs.declared.reply.Refusal.{Refusal}
 use Rattle.tab_history.specs.declared.reply.Refusal.TheVariants.{NoMemory, TooLarge}
-use Rattle.tab_history.specs.declared.reply.Reply.TheVariants.{Refused, Counted}
-use Rattle.tab_history.specs.Answers.{Told, granted, told, are_used_up, numbered, event_answer, is_open, answer, changes_by}
+use Rattle.tab_history.specs.declared.reply.Reply.TheVariants.{Refused}
+use Rattle.tab_history.specs.Answers.{Told, granted, told, are_used_up, numbered, event_answer, is_open, answer, leaves_open, changes_by}
 use Rattle.tab_history.specs.Bases.{Base}
 use Rattle.tab_history.specs.Changes.{Change, changes_of}
 use Rattle.tab_history.specs.Checks.{Caller, standing, user_named, exists_in, action_of, denial, own_checks, refusal_of}
@@ -27,6 +27,14 @@ use Rattle.tab_history.proofs.LeftOpen.{of_reply}
 pub own_pass : (c : Caller) (there : Bool) (now : ℤ) (user : List ℕ) (act : Act) → refusal_of c there now user act ≡ None → first_some (own_checks c there now act) ≡ None
 unfolding refusal_of
 own_pass c there now user act e = or_else_right (denial user (decision c.policy (action_of act))) _ e
+
+-- where the reply is left open nothing changes
+open_changes : (now : ℤ) (user : List ℕ) (act : Act) → leaves_open act ≡ true → changes_of now user act ≡ []
+open_changes now user (Status t) o = refl
+open_changes now user (AddSplit t row) o = refl
+open_changes now user (SplitBySize t row limit) o = refl
+open_changes now user (Splits t) o = refl
+open_changes now user _ o = absurd (true≢false (sym o))
 
 -- what holds of no change, and of what each event changes that isn't refused
 module _ (b : Base) (j : List Change) (now : ℤ) (P : List Change → Type 0) (none : P []) where
@@ -53,9 +61,13 @@ module _ (b : Base) (j : List Change) (now : ℤ) (P : List Change → Type 0) (
       go false = of_told e (standing b j e.user) (refusal_of (standing b j e.user) (exists_in b j (user_named e.act)) now e.user e.act) (are_used_up b j e.act) (f e)
   of_answer f moves _ = none
 
-  -- counts are told of what changes nothing
-  of_counts : (step : Step) (e : TheEvent) (t : List ℕ) → step ≡ Event e → e.act ≡ Status t → (counts : Counts) → P (changes_by now step (Counted counts))
-  of_counts step e t q a counts = subst (λ s. P (changes_by now s (Counted counts))) (sym q) (subst (λ act. P (changes_of now e.user act)) (sym a) none)
+  -- nothing changes where the reply is left open
+  of_open : (step : Step) (r : Told) (e : TheEvent) → step ≡ Event e → leaves_open e.act ≡ true → P (changes_by now step r)
+  of_open step r e q o = subst (λ s. P (changes_by now s r)) (sym q) (go r)
+    where
+      go : (r : Told) → P (changes_by now (Event e) r)
+      go (Refused x) = none
+      go _ = subst P (sym (open_changes now e.user e.act o)) none
 
 -- holds of what each entry of a legal history changes
 pub of_legal : (w : World) (es own : List Entry) (step : Step) (r : Told) (P : List Change → Type 0) → P []
@@ -63,5 +75,5 @@ pub of_legal : (w : World) (es own : List Entry) (step : Step) (r : Told) (P : L
     → IsAnswer w es own step r ⊎ LacksMemory step r → P (changes_by (clock_at (clock_of w es) step) step r)
 of_legal w es own step r P none f (inl h) =
     let now = clock_at (clock_of w es) step in
-    of_reply (λ x. P (changes_by now step x)) step (answer_at w es own step) r h (of_answer w.base (journal w es) now P none f (moves_of w (user_of step) own) step) (of_counts w.base (journal w es) now P none step)
+    of_reply (λ x. P (changes_by now step x)) step (answer_at w es own step) r h (of_answer w.base (journal w es) now P none f (moves_of w (user_of step) own) step) (λ e q o m. of_open w.base (journal w es) now P none step r e q o)
 of_legal w es own step r P none f (inr e) = subst (λ x. P (changes_by (clock_at (clock_of w es) step) step x)) (sym e.1) (of_refused w.base (journal w es) (clock_at (clock_of w es) step) P none step NoMemory)

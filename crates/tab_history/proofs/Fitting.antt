@@ -10,7 +10,7 @@ use Rattle.tab_policy.specs.declared.permission.Permission.TheVariants.{OfSystem
 use Rattle.tab_history.specs.declared.event.TimeMode.{TimeMode}
 use Rattle.tab_history.specs.declared.event.TimeMode.TheVariants.{Any, Server}
 use Rattle.tab_history.specs.declared.event.Act.{Act}
-use Rattle.tab_history.specs.declared.event.Act.TheVariants.{Open, Write, CreateTable, DropTable, SetConstraints, CreateUser, DropUser, SetAuths, Grant, Revoke, Rights, Status, Flush, Compact}
+use Rattle.tab_history.specs.declared.event.Act.TheVariants.{Open, Write, CreateTable, DropTable, SetConstraints, CreateUser, DropUser, SetAuths, Grant, Revoke, Rights, Status, Flush, Compact, AddSplit, SplitBySize, Splits}
 use Rattle.tab_history.specs.declared.event.Step.{Step}
 use Rattle.tab_history.specs.declared.reply.Refusal.TheVariants.{TimestampNotAllowed, BelowHorizon}
 use Rattle.tab_key.specs.Records.{Record}
@@ -119,6 +119,9 @@ module _ (b : Base) (j : List Change) (now : ℤ) (user : List ℕ) where
   act_fits there (Status t) e = tt
   act_fits there (Flush t) e = tt
   act_fits there (Compact t extent) e = tt
+  act_fits there (AddSplit t row) e = tt
+  act_fits there (SplitBySize t row limit) e = tt
+  act_fits there (Splits t) e = tt
 
 -- and so do those of each entry of a legal history
 pub fits_legal : (w : World) (es own : List Entry) (step : Step) (r : Told) → IsAnswer w es own step r ⊎ LacksMemory step r → FitAll w.base (journal w es) (clock_at (clock_of w es) step) (changes_by (clock_at (clock_of w es) step) step r)

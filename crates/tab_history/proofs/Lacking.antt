@@ -19,7 +19,7 @@ use Rattle.tab_policy.specs.declared.decision.Denial.TheVariants as policy
 use Rattle.tab_policy.specs.declared.permission.Permission.{Permission}
 use Rattle.tab_policy.specs.declared.permission.Permission.TheVariants.{OfSystem, OfTable}
 use Rattle.tab_history.specs.declared.event.Act.{Act}
-use Rattle.tab_history.specs.declared.event.Act.TheVariants.{Open, Write, CreateTable, DropTable, SetConstraints, CreateUser, DropUser, SetAuths, Grant, Revoke, Rights as AsksRights, Status, Flush, Compact}
+use Rattle.tab_history.specs.declared.event.Act.TheVariants.{Open, Write, CreateTable, DropTable, SetConstraints, CreateUser, DropUser, SetAuths, Grant, Revoke, Rights as AsksRights, Status, Flush, Compact, AddSplit, SplitBySize, Splits}
 use Rattle.tab_history.specs.declared.event.Scan.{Scan}
 use Rattle.tab_history.specs.declared.event.Step.{Step}
 use Rattle.tab_history.specs.declared.event.Step.TheVariants.{Event, Next, Close}
@@ -30,7 +30,7 @@ use Rattle.tab_history.specs.Settings.{Settings, takes_timestamps}
 use Rattle.tab_history.specs.Bases.{Base}
 use Rattle.tab_history.specs.Changes.{Change}
 use Rattle.tab_history.specs.Checks.{Caller, standing, user_named, exists_in, action_of, denial, shape_refusal, malformed_at, malformed, stamped, outdated, violated, mutation_checks, too_many_auths, scan_checks, is_grant, right_checks, own_checks, refusal_of}
-use Rattle.tab_history.specs.Answers.{Told, granted, told, are_used_up, numbered, event_answer, is_open, next_answer, close_answer, answer}
+use Rattle.tab_history.specs.Answers.{Told, granted, told, are_used_up, numbered, event_answer, is_open, next_answer, close_answer, answer, leaves_open, MayTell}
 use Rattle.tab_history.specs.Sessions.{Move, is_full, session_in}
 use Rattle.tab_cells.specs.SessionState.{SessionState}
 use Rattle.tab_history.specs.Histories.{Entry, World, clock_of, clock_at, journal, user_of, moves_of}
@@ -146,6 +146,9 @@ of_own c there now (AsksRights t) = tt
 of_own c there now (Status t) = tt
 of_own c there now (Flush t) = tt
 of_own c there now (Compact t extent) = tt
+of_own c there now (AddSplit t row) = (unless _ _ refl, tt)
+of_own c there now (SplitBySize t row limit) = (unless _ _ refl, tt)
+of_own c there now (Splits t) = tt
 
 of_refusal : (c : Caller) (there : Bool) (now : ℤ) (user : List ℕ) (act : Act) → Speaks (refusal_of c there now user act)
 unfolding refusal_of
@@ -186,9 +189,25 @@ of_answer b j moves now (Event e) = go (is_open e.act && is_full moves)
 of_answer b j moves now (Next user slot n) = of_next (session_in moves slot) slot n
 of_answer b j moves now (Close user slot) = of_close (session_in moves slot) slot
 
+-- what may be told in the place of an answer isn't want of memory either
+of_open : (act : Act) (plain reply : Told) → tells_want plain ≡ false → leaves_open act ≡ true → MayTell act plain reply → tells_want reply ≡ false
+of_open (Status t) plain reply p o m = ap tells_want m.1
+of_open (AddSplit t row) plain reply p o (inl e) = ap tells_want e ∙ p
+of_open (AddSplit t row) plain reply p o (inr (inl e)) = ap tells_want e
+of_open (AddSplit t row) plain reply p o (inr (inr e)) = ap tells_want e
+of_open (SplitBySize t row limit) plain reply p o (inl e) = ap tells_want e ∙ p
+of_open (SplitBySize t row limit) plain reply p o (inr (inl e)) = ap tells_want e
+of_open (SplitBySize t row limit) plain reply p o (inr (inr (inl e))) = ap tells_want e
+of_open (SplitBySize t row limit) plain reply p o (inr (inr (inr e))) = ap tells_want e
+of_open (Splits t) plain reply p o m = ap tells_want m.1
+of_open _ plain reply p o m = absurd (true≢false (sym o))
+
 -- ---- histories
 one : (w : World) (es own : List Entry) (e : Entry) → IsAnswer w es own e.step e.reply ⊎ LacksMemory e.step e.reply → e.reply ≡ Refused NoMemory → may_lack e.step ≡ true
-one w es own e (inl is) lacks = absurd (true≢false (sym (ap tells_want lacks) ∙ of_reply (λ r. tells_want r ≡ false) e.step (answer_at w es own e.step) e.reply is (of_answer w.base (journal w es) (moves_of w (user_of e.step) own) (clock_at (clock_of w es) e.step) e.step) (λ f t q a counts. refl)))
+one w es own e (inl is) lacks =
+    let plain = answer_at w es own e.step in
+    let speaks : tells_want plain ≡ false = of_answer w.base (journal w es) (moves_of w (user_of e.step) own) (clock_at (clock_of w es) e.step) e.step in
+    absurd (true≢false (sym (ap tells_want lacks) ∙ of_reply (λ r. tells_want r ≡ false) e.step plain e.reply is speaks (λ f q o m. of_open f.act plain e.reply speaks o m)))
 one w es own e (inr lacks) is = lacks.0
 
 pub legal : (w : World) (es : List Entry) → Legal w es → LacksWhereItMay es

@@ -1,5 +1,5 @@
 -- The answer to each step, which answers are left open, and what the step does.
-use Rattle.std.specs.Prelude.{◌≡◌, ℕ, ℤ, List, [], ◌∷◌, Bool, true, false, ◌&&◌, cond, Option, Some, None, length, nat_le}
+use Rattle.std.specs.Prelude.{◌≡◌, ◌⊎◌, ℕ, ℤ, List, [], ◌∷◌, Bool, true, false, ◌&&◌, cond, Option, Some, None, length, nat_le}
 use Rattle.tab_key.specs.Records.{Record, Cell}
 use Rattle.tab_history.specs.Settings.{Settings}
 use Rattle.tab_history.specs.Bases.{Base}
@@ -13,14 +13,15 @@ use Rattle.tab_cells.specs.SessionState.{SessionState, batch}
 use Rattle.tab_key.specs.declared.part.Part.TheVariants.{Sessions, Numbers}
 use Rattle.tab_history.specs.declared.event.Scan.{Scan}
 use Rattle.tab_history.specs.declared.event.Act.{Act}
-use Rattle.tab_history.specs.declared.event.Act.TheVariants.{Open, Write, CreateTable, DropTable, SetConstraints, CreateUser, DropUser, SetAuths, Grant, Revoke, Rights as AsksRights, Status, Flush, Compact}
+use Rattle.tab_history.specs.declared.event.Act.TheVariants.{Open, Write, CreateTable, DropTable, SetConstraints, CreateUser, DropUser, SetAuths, Grant, Revoke, Rights as AsksRights, Status, Flush, Compact, AddSplit, SplitBySize, Splits}
 use Rattle.tab_history.specs.declared.event.Step.{Step}
 use Rattle.tab_history.specs.declared.event.Step.TheVariants.{Event, Next, Close}
 use Rattle.tab_history.specs.declared.counts.Counts.{Counts}
+use Rattle.tab_history.specs.declared.split_fault.SplitFault.TheVariants.{Present, Small, OneRow}
 use Rattle.tab_history.specs.declared.reply.Refusal.{Refusal}
-use Rattle.tab_history.specs.declared.reply.Refusal.TheVariants.{TooLarge, NoSession}
+use Rattle.tab_history.specs.declared.reply.Refusal.TheVariants.{TooLarge, NoSession, BadSplit}
 use Rattle.tab_history.specs.declared.reply.Reply.{Reply}
-use Rattle.tab_history.specs.declared.reply.Reply.TheVariants.{Done, Refused, Opened, Batch, Rights, Counted}
+use Rattle.tab_history.specs.declared.reply.Reply.TheVariants.{Done, Refused, Opened, Batch, Rights, Counted, Rows}
 
 -- a reply without the session that goes with it
 abbrev pub Told : Type 0
@@ -38,6 +39,7 @@ told_of (Opened session) = told_opened
 told_of (Batch cells) = Batch cells
 told_of (Rights rights) = Rights rights
 told_of (Counted counts) = Counted counts
+told_of (Rows rows) = Rows rows
 
 -- the session that goes with a reply
 abbrev pub session_of : {S : Type 0} → Reply S → Option S
@@ -47,6 +49,7 @@ session_of (Opened session) = Some session
 session_of (Batch cells) = None
 session_of (Rights rights) = None
 session_of (Counted counts) = None
+session_of (Rows rows) = None
 
 -- ---- answers
 -- What the caller is told of an event that isn't refused. Where that is left open (`MayTell`) Done stands here for all of it.
@@ -65,6 +68,9 @@ granted c (AsksRights t) = Rights (own_rights c t)
 granted c (Status t) = Done
 granted c (Flush t) = Done
 granted c (Compact t extent) = Done
+granted c (AddSplit t row) = Done
+granted c (SplitBySize t row limit) = Done
+granted c (Splits t) = Done
 
 -- the refusal, if there is one
 abbrev pub told : Option Refusal → Told → Told
@@ -87,6 +93,9 @@ are_used_up b j (AsksRights t) = false
 are_used_up b j (Status t) = false
 are_used_up b j (Flush t) = false
 are_used_up b j (Compact t extent) = false
+are_used_up b j (AddSplit t row) = false
+are_used_up b j (SplitBySize t row limit) = false
+are_used_up b j (Splits t) = false
 
 -- the reply to what isn't refused by its checks: where the numbers are used up it is refused for that, last of all
 abbrev pub numbered : Bool → Told → Told
@@ -135,8 +144,12 @@ leaves_open (AsksRights t) = false
 leaves_open (Status t) = true
 leaves_open (Flush t) = false
 leaves_open (Compact t extent) = false
+leaves_open (AddSplit t row) = true
+leaves_open (SplitBySize t row limit) = true
+leaves_open (Splits t) = true
 
--- What may be told of an event that isn't refused. Of a Status it is any counts; of each other act it is the one answer, here plain.
+-- What may be told of an event that no check refuses. Of a Status it is any counts, of a Splits any rows. A split may be done, or refused for
+-- where the table is split already, for what its tablet holds, or for the number of end rows. Of each other act it is the one answer, here plain.
 abbrev pub MayTell : Act → Told → Told → Type 0
 MayTell (Open scan) plain reply = reply ≡ plain
 MayTell (Write t m) plain reply = reply ≡ plain
@@ -152,6 +165,9 @@ MayTell (AsksRights t) plain reply = reply ≡ plain
 MayTell (Status t) plain reply = (counts : Counts) × (reply ≡ Counted counts)
 MayTell (Flush t) plain reply = reply ≡ plain
 MayTell (Compact t extent) plain reply = reply ≡ plain
+MayTell (AddSplit t row) plain reply = (reply ≡ plain) ⊎ (reply ≡ Refused (BadSplit Present)) ⊎ (reply ≡ Refused (TooLarge Numbers))
+MayTell (SplitBySize t row limit) plain reply = (reply ≡ plain) ⊎ (reply ≡ Refused (BadSplit Small)) ⊎ (reply ≡ Refused (BadSplit OneRow)) ⊎ (reply ≡ Refused (TooLarge Numbers))
+MayTell (Splits t) plain reply = (rows : List (List ℕ)) × (reply ≡ Rows rows)
 
 -- The reply answers the act, of which plain is the answer: it is that refusal, or what may be told in the place of what isn't one.
 abbrev pub IsEventReply : Act → Told → Told → Type 0

@@ -4,7 +4,7 @@ use Rattle.tab_label.specs.Sets.{has_longer, first_missing}
 use Rattle.tab_label.specs.Reading.{label_of}
 use Rattle.tab_key.specs.Ranges.{is_bad_range}
 use Rattle.tab_mutation.specs.Mutations.{Update, Mutation}
-use Rattle.tab_mutation.specs.Shape.{first_some, when, first_index, first_found, shape_error}
+use Rattle.tab_mutation.specs.Shape.{first_some, when, first_index, first_found, is_too_long, shape_error}
 use Rattle.tab_rules.specs.Verdict.{violations}
 use Rattle.tab_policy.specs.Decisions.{Standing, decision}
 use Rattle.tab_policy.specs.Roots.{root}
@@ -15,7 +15,7 @@ use Rattle.tab_history.specs.Readings.{has_user, held_auths, may_system, has_tab
 use Rattle.tab_mutation.specs.declared.shape_error.ShapeError.{ShapeError}
 use Rattle.tab_mutation.specs.declared.shape_error.ShapeError.TheVariants as shape
 use Rattle.tab_rules.specs.declared.violation.Violation.{Violation}
-use Rattle.tab_key.specs.declared.part.Part.TheVariants.{Columns, Authorizations}
+use Rattle.tab_key.specs.declared.part.Part.TheVariants.{Row, Columns, Authorizations}
 use Rattle.tab_policy.specs.declared.permission.SystemPermission.{SystemPermission}
 use Rattle.tab_policy.specs.declared.permission.SystemPermission.TheVariants as system
 use Rattle.tab_policy.specs.declared.permission.Permission.{Permission}
@@ -28,7 +28,7 @@ use Rattle.tab_policy.specs.Actions as action
 use Rattle.tab_policy.specs.Actions.{Action}
 use Rattle.tab_history.specs.declared.event.Scan.{Scan}
 use Rattle.tab_history.specs.declared.event.Act.{Act}
-use Rattle.tab_history.specs.declared.event.Act.TheVariants.{Open, Write, CreateTable, DropTable, SetConstraints, CreateUser, DropUser, SetAuths, Grant, Revoke, Rights, Status, Flush, Compact}
+use Rattle.tab_history.specs.declared.event.Act.TheVariants.{Open, Write, CreateTable, DropTable, SetConstraints, CreateUser, DropUser, SetAuths, Grant, Revoke, Rights, Status, Flush, Compact, AddSplit, SplitBySize, Splits}
 use Rattle.tab_history.specs.declared.reply.Refusal.{Refusal}
 use Rattle.tab_history.specs.declared.reply.Refusal.TheVariants.{UnknownUser, NoTable, PermissionDenied, BadAuthorizations, MalformedVisibility, ConstraintViolation, TimestampNotAllowed, EmptyMutation, TooLarge, TableExists, UserExists, NoUser, BadRange, RootFixed, GrantInvalid, BelowHorizon}
 
@@ -63,6 +63,9 @@ user_named (Rights t) = None
 user_named (Status t) = None
 user_named (Flush t) = None
 user_named (Compact t extent) = None
+user_named (AddSplit t row) = None
+user_named (SplitBySize t row limit) = None
+user_named (Splits t) = None
 
 -- whether that user exists, where one is named
 abbrev pub exists_in : Base → List Change → Option (List ℕ) → Bool
@@ -86,6 +89,9 @@ action_of (Rights t) = action.OnTable on.Rights t
 action_of (Status t) = action.OnTable on.Status t
 action_of (Flush t) = action.OnTable on.Flush t
 action_of (Compact t extent) = action.OnTable on.Compact t
+action_of (AddSplit t row) = action.OnTable on.AddSplit t
+action_of (SplitBySize t row limit) = action.OnTable on.SplitBySize t
+action_of (Splits t) = action.OnTable on.Splits t
 
 -- why the policy doesn't admit the user's event
 abbrev pub denial : List ℕ → Option Denial → Option Refusal
@@ -147,6 +153,10 @@ abbrev pub right_checks : Bool → List ℕ → Permission → List (Option Refu
 right_checks there n (OfSystem p) = when (is_grant p) GrantInvalid ∷ when (not there) (NoUser n) ∷ when (bytes_eq n root) RootFixed ∷ []
 right_checks there n (OfTable p t) = when (not there) (NoUser n) ∷ []
 
+-- the row of a split has a limit
+abbrev pub row_checks : List ℕ → List (Option Refusal)
+row_checks row = when (is_too_long row) (TooLarge Row) ∷ []
+
 -- the checks that are an event's own, where the clock is now; there says whether the user that it names exists
 abbrev pub own_checks : Caller → Bool → ℤ → Act → List (Option Refusal)
 own_checks c there now (Open scan) = scan_checks c.auths scan
@@ -163,6 +173,9 @@ own_checks c there now (Rights t) = []
 own_checks c there now (Status t) = []
 own_checks c there now (Flush t) = []
 own_checks c there now (Compact t extent) = []
+own_checks c there now (AddSplit t row) = row_checks row
+own_checks c there now (SplitBySize t row limit) = row_checks row
+own_checks c there now (Splits t) = []
 
 -- why the event is refused: the first failing check, the policy's before its own
 unfoldable pub refusal_of : Caller → Bool → ℤ → List ℕ → Act → Option Refusal

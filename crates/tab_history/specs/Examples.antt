@@ -1,12 +1,12 @@
 -- Worked examples, computed: lists of steps from a new core, and the replies to them that say more than that all went well. Where a
--- reply is left open, the counts of a Status, they show it with zeros.
+-- reply is left open they show one: of a Status zeros, of a Splits no rows, and a split as done.
 use Rattle.std.specs.Prelude.{◌≡◌, ℕ, ◌-◌, ℤ, pos, nat_le, length, List, [], ◌∷◌, ◌++◌, Bool, true, false, cond, Option, Some, None, codes, reverse, replicate, refl}
-use Rattle.std.proofs.Common.{subst}
+use Rattle.std.proofs.Common.{inl, inr, subst}
 use Rattle.tab_key.specs.Records.{Cell}
 use Rattle.tab_key.specs.Order.{column_cmp, key_cmp, place_cmp, newer_cmp}
 use Rattle.tab_key.specs.Kept.{same_column, hides, is_deleted, outranks, is_kept}
 use Rattle.tab_key.specs.declared.key.Kind.TheVariants.{Put, Delete}
-use Rattle.tab_key.specs.declared.part.Part.TheVariants.{Numbers}
+use Rattle.tab_key.specs.declared.part.Part.TheVariants.{Row, Numbers}
 use Rattle.tab_key.specs.declared.range.Bounds.{Bounds}
 use Rattle.tab_key.specs.declared.range.Bound.TheVariants.{Inclusive, Exclusive}
 use Rattle.tab_label.specs.Grammar.{is_term_byte}
@@ -36,14 +36,15 @@ use Rattle.tab_policy.specs.declared.permission.TablePermission.TheVariants as t
 use Rattle.tab_policy.specs.declared.sets.SystemPermissions.{SystemPermissions}
 use Rattle.tab_policy.specs.declared.sets.TablePermissions.{TablePermissions}
 use Rattle.tab_history.specs.declared.counts.Counts.{Counts}
+use Rattle.tab_history.specs.declared.split_fault.SplitFault.TheVariants.{Present, Small, OneRow}
 use Rattle.tab_history.specs.declared.event.TimeMode.TheVariants.{Any, Server}
 use Rattle.tab_history.specs.declared.event.Extent.TheVariants.{Partial, Full}
 use Rattle.tab_history.specs.declared.event.Act.{Act}
 use Rattle.tab_history.specs.declared.event.Act.TheVariants as act
 use Rattle.tab_history.specs.declared.event.Step.{Step}
 use Rattle.tab_history.specs.declared.event.Step.TheVariants.{Next, Close}
-use Rattle.tab_history.specs.declared.reply.Refusal.TheVariants.{UnknownUser, NoTable, PermissionDenied, BadAuthorizations, MalformedVisibility, ConstraintViolation, TimestampNotAllowed, EmptyMutation, TooLarge, TableExists, UserExists, NoUser, BadRange, NoSession, RootFixed, GrantInvalid, BelowHorizon}
-use Rattle.tab_history.specs.declared.reply.Reply.TheVariants.{Done, Refused, Opened, Batch, Rights, Counted}
+use Rattle.tab_history.specs.declared.reply.Refusal.TheVariants.{UnknownUser, NoTable, PermissionDenied, BadAuthorizations, MalformedVisibility, ConstraintViolation, TimestampNotAllowed, EmptyMutation, TooLarge, TableExists, UserExists, NoUser, BadRange, NoSession, RootFixed, GrantInvalid, BelowHorizon, BadSplit}
+use Rattle.tab_history.specs.declared.reply.Reply.TheVariants.{Done, Refused, Opened, Batch, Rights, Counted, Rows}
 use Rattle.tab_history.specs.ExampleWords.{t, r, f, q, v, bob, everywhere, asks, as_root, as_bob}
 
 -- whether the reply says no more than that all went well
@@ -440,6 +441,84 @@ beyond_a_compaction : replies (three_rows ++ as_root (opens everywhere []) ∷ N
     ≡ Batch (cell (codes "a") [] (pos 1) v ∷ []) ∷ Batch (cell (codes "b") [] (pos 1) v ∷ cell (codes "c") [] (pos 1) v ∷ []) ∷ []
 unfolding everything
 beyond_a_compaction = refl
+
+-- ---- splits
+-- no end rows, of which a history says nothing
+abbrev no_rows : Told
+no_rows = Rows []
+
+-- an unknown user before an unknown table, and that before a missing permission
+split_refusals : replies (as_bob (act.AddSplit t r) ∷ as_bob (act.SplitBySize t r 0) ∷ as_bob (act.Splits t) ∷ make_bob ∷ as_bob (act.AddSplit t r) ∷ as_bob (act.SplitBySize t r 0) ∷ as_bob (act.Splits t) ∷ make ∷ as_bob (act.AddSplit t r) ∷ as_bob (act.SplitBySize t r 0) ∷ as_bob (act.Splits t) ∷ [])
+    ≡ Refused (UnknownUser bob) ∷ Refused (UnknownUser bob) ∷ Refused (UnknownUser bob) ∷ Refused (NoTable t) ∷ Refused (NoTable t) ∷ Refused (NoTable t) ∷ may_not_alter ∷ may_not_alter ∷ may_not_alter ∷ []
+unfolding everything
+split_refusals = refl
+
+-- who may alter the table may split it and list its splits; who may write it may not
+split_permissions : replies (make ∷ make_bob ∷ as_root (act.Grant bob (OfTable table.Write t)) ∷ as_bob (act.AddSplit t r) ∷ as_root (act.Grant bob (OfTable table.AlterTable t)) ∷ as_bob (act.AddSplit t r) ∷ as_bob (act.SplitBySize t r 0) ∷ as_bob (act.Splits t) ∷ [])
+    ≡ may_not_alter ∷ no_rows ∷ []
+unfolding everything
+split_permissions = refl
+
+-- a row of more than 1,048,576 bytes is too large
+long_rows : (row : List ℕ) → length row ≡ 1048577 → (replies (make ∷ as_root (act.AddSplit t row) ∷ []) ≡ Refused (TooLarge Row) ∷ []) × (replies (make ∷ as_root (act.SplitBySize t row 0) ∷ []) ≡ Refused (TooLarge Row) ∷ [])
+unfolding everything
+long_rows row long = (rw long refl, rw long refl)
+
+-- one of so many isn't
+full_rows : (row : List ℕ) → length row ≡ 1048576 → (replies (make ∷ as_root (act.AddSplit t row) ∷ []) ≡ []) × (replies (make ∷ as_root (act.SplitBySize t row 0) ∷ []) ≡ [])
+unfolding everything
+full_rows row full = (rw full refl, rw full refl)
+
+-- a missing permission comes before that
+rows_denied : (row : List ℕ) → replies (make ∷ make_bob ∷ as_bob (act.AddSplit t row) ∷ as_bob (act.SplitBySize t row 0) ∷ []) ≡ may_not_alter ∷ may_not_alter ∷ []
+unfolding everything
+rows_denied row = refl
+
+-- what may be told of an act, once t is made
+abbrev MayBeTold : Act → Told → Type 0
+MayBeTold a reply = IsAnswer (world_of new_core) made_only [] (as_root a) reply
+
+-- a split is done, or the row is an end row already, or there are 2^32 - 1 of them
+added : MayBeTold (act.AddSplit t r) Done × MayBeTold (act.AddSplit t r) (Refused (BadSplit Present)) × MayBeTold (act.AddSplit t r) (Refused (TooLarge Numbers))
+unfolding everything
+added = (inl refl, inr (inl refl), inr (inr refl))
+
+-- one by size is done, or the tablet is small or has one row, or there are so many end rows
+by_size : MayBeTold (act.SplitBySize t r 9) Done × MayBeTold (act.SplitBySize t r 9) (Refused (BadSplit Small)) × MayBeTold (act.SplitBySize t r 9) (Refused (BadSplit OneRow)) × MayBeTold (act.SplitBySize t r 9) (Refused (TooLarge Numbers))
+unfolding everything
+by_size = (inl refl, inr (inl refl), inr (inr (inl refl)), inr (inr (inr refl)))
+
+-- any end rows may be told
+any_rows : (rows : List (List ℕ)) → MayBeTold (act.Splits t) (Rows rows)
+unfolding everything
+any_rows rows = (rows, refl)
+
+-- whether the reply says that a tablet is small
+abbrev SaysSmall : Told → Type 0
+SaysSmall (Refused (BadSplit Small)) = Unit {0}
+SaysSmall _ = ⊥
+
+-- a split at a row doesn't ask for that
+never_small : MayBeTold (act.AddSplit t r) (Refused (BadSplit Small)) → ⊥
+unfolding everything
+never_small (inl e) = subst SaysSmall e tt
+never_small (inr (inl e)) = subst SaysSmall e tt
+never_small (inr (inr e)) = subst SaysSmall e tt
+
+-- each may lack memory
+split_memory : (may_lack (as_root (act.AddSplit t r)) ≡ true) × (may_lack (as_root (act.SplitBySize t r 9)) ≡ true) × (may_lack (as_root (act.Splits t)) ≡ true)
+split_memory = (refl, refl, refl)
+
+-- their moments count, also where the tablets refuse them
+split_moments : clock_of (world_of new_core) (record { step = asks root (pos 7) (act.AddSplit t r); reply = Refused (BadSplit Present) } ∷ []) ≡ pos 7
+unfolding everything
+split_moments = refl
+
+-- a session reads on over a split, and a scan shows what it showed
+beyond_a_split : replies (three_rows ++ as_root (opens everywhere []) ∷ Next root 0 1 ∷ as_root (act.AddSplit t (codes "b")) ∷ Next root 0 5 ∷ scan [] 1)
+    ≡ Batch (cell (codes "a") [] (pos 1) v ∷ []) ∷ Batch (cell (codes "b") [] (pos 1) v ∷ cell (codes "c") [] (pos 1) v ∷ []) ∷ Batch (cell (codes "a") [] (pos 1) v ∷ cell (codes "b") [] (pos 1) v ∷ cell (codes "c") [] (pos 1) v ∷ []) ∷ []
+unfolding everything
+beyond_a_split = refl
 
 -- ---- what a reader can't see
 -- bob reads under A, and what stands between is written by root

@@ -4,7 +4,7 @@ use Rattle.tab_history.specs.Answers.{Told, answer, IsReply}
 use Rattle.tab_history.specs.Histories.{Entry, World, clock_of, clock_at, journal, user_of, moves_of}
 use Rattle.tab_key.specs.declared.part.Part.TheVariants.{Numbers}
 use Rattle.tab_history.specs.declared.event.Act.{Act}
-use Rattle.tab_history.specs.declared.event.Act.TheVariants.{Open, Write, CreateTable, DropTable, SetConstraints, CreateUser, DropUser, SetAuths, Grant, Revoke, Rights, Status, Flush, Compact}
+use Rattle.tab_history.specs.declared.event.Act.TheVariants.{Open, Write, CreateTable, DropTable, SetConstraints, CreateUser, DropUser, SetAuths, Grant, Revoke, Rights, Status, Flush, Compact, AddSplit, SplitBySize, Splits}
 use Rattle.tab_history.specs.declared.event.Step.{Step}
 use Rattle.tab_history.specs.declared.event.Step.TheVariants.{Event, Next, Close}
 use Rattle.tab_history.specs.declared.reply.Refusal.TheVariants.{NoMemory, TooLarge}
@@ -35,6 +35,9 @@ takes_memory (Grant n p) = true
 takes_memory (Rights t) = true
 takes_memory (Flush t) = true
 takes_memory (Compact t extent) = true
+takes_memory (AddSplit t row) = true
+takes_memory (SplitBySize t row limit) = true
+takes_memory (Splits t) = true
 
 -- whether memory may lack for the step
 abbrev pub may_lack : Step → Bool

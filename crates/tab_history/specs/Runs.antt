@@ -5,11 +5,11 @@ use Rattle.tab_history.specs.Histories.{Entry, World, world_after, steps_of}
 use Rattle.tab_history.specs.Legal.{answer_at, Legal, LegalAlone, HasMemory, LacksWhereItMay}
 use Rattle.tab_key.specs.declared.part.Part.TheVariants.{Sessions}
 use Rattle.tab_history.specs.declared.event.Act.{Act}
-use Rattle.tab_history.specs.declared.event.Act.TheVariants.{Open, Write, CreateTable, DropTable, SetConstraints, CreateUser, DropUser, SetAuths, Grant, Revoke, Rights, Status, Flush, Compact}
+use Rattle.tab_history.specs.declared.event.Act.TheVariants.{Open, Write, CreateTable, DropTable, SetConstraints, CreateUser, DropUser, SetAuths, Grant, Revoke, Rights, Status, Flush, Compact, AddSplit, SplitBySize, Splits}
 use Rattle.tab_history.specs.declared.event.Step.{Step}
 use Rattle.tab_history.specs.declared.event.Step.TheVariants.{Event, Next, Close}
 use Rattle.tab_history.specs.declared.reply.Refusal.TheVariants.{NoMemory, TooLarge, NoSession}
-use Rattle.tab_history.specs.declared.reply.Reply.TheVariants.{Refused, Counted}
+use Rattle.tab_history.specs.declared.reply.Reply.TheVariants.{Refused, Counted, Rows}
 
 -- ---- The law: each list of steps has a legal history.
 -- one of what may be told of an event that isn't refused
@@ -28,6 +28,9 @@ one_of (Rights t) plain = plain
 one_of (Status t) plain = Counted (record { tablets = 0; sources = 0; records = 0 })
 one_of (Flush t) plain = plain
 one_of (Compact t extent) plain = plain
+one_of (AddSplit t row) plain = plain
+one_of (SplitBySize t row limit) plain = plain
+one_of (Splits t) plain = Rows []
 
 -- one of the replies to a step with this answer
 abbrev pub one_reply : Step → Told → Told

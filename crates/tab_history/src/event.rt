@@ -3,7 +3,7 @@ ghost use Rattle.std.specs.Prelude.{◌≡◌, IfOk};
 
 use crate::versions::Versions;
 use std::alloc::AllocError;
-use tab_key::{Bounds, Column, Items, Name};
+use tab_key::{Bounds, ByteString, Column, Items, Name};
 use tab_label::AuthSet;
 use tab_mutation::Mutation;
 use tab_policy::Permission;
@@ -84,6 +84,18 @@ pub enum Act {
     /// Merge sorted tables of the table, in each of its tablets, and what was written since the last flush with them where it merges all.
     /// No scan is answered otherwise after it. (Accumulo user manual: major compaction)
     Compact(Name, Extent),
+    /// Split the tablet that holds the row: the row becomes the end row of the lower one of two tablets. Refused for a row of more than
+    /// 1,048,576 bytes, where the row is an end row already, and last of all where the table has 2^32 - 1 end rows. Where a table is
+    /// split is the core's own affair: a history decides the first of these alone, and allows the others. No scan is answered otherwise
+    /// after it. (Accumulo user manual: pre-splitting)
+    AddSplit(Name, ByteString),
+    /// Split the tablet that holds the row in the middle of what it holds, where the sizes of its sorted tables add up to so many bytes or
+    /// more. Refused for a row of more than 1,048,576 bytes, where they are smaller, where the tablet holds no record or records of one row
+    /// alone, and last of all where the table has 2^32 - 1 end rows. Of these too a history decides the first alone. No scan is answered
+    /// otherwise after it. (Accumulo user manual: tablets, splitting)
+    SplitBySize(Name, ByteString, u64),
+    /// Tell the end rows of the table's tablets, rising. A history allows any rows.
+    Splits(Name),
 }
 
 /// What a user asks at a moment. Events are the atomic steps of a core. The clock is the greatest moment of all events so far, refused

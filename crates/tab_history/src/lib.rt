@@ -5,6 +5,7 @@
 //! | `event` | events, and the steps of a run |
 //! | `reply` | replies and refusals |
 //! | `counts` | what a table's tablets hold, counted |
+//! | `split_fault` | why a tablet isn't split |
 //! | `versions` | how many versions of a column a table shows |
 //! | `rights` | what a user is told of his own rights |
 //! | `laws` | the laws of the definitions, each the contract of a function that does nothing |
@@ -21,6 +22,7 @@ mod event;
 mod laws;
 mod reply;
 mod rights;
+mod split_fault;
 mod versions;
 
 pub use counts::Counts;
@@ -33,4 +35,5 @@ pub use laws::{
 };
 pub use reply::{Refusal, Reply};
 pub use rights::Rights;
+pub use split_fault::SplitFault;
 pub use versions::Versions;

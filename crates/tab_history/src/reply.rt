@@ -2,6 +2,7 @@
 
 use crate::counts::Counts;
 use crate::rights::Rights;
+use crate::split_fault::SplitFault;
 use tab_key::{ByteString, Cell, Items, Name, Part};
 use tab_policy::Permission;
 use tab_rules::Violation;
@@ -26,7 +27,7 @@ pub enum Refusal {
     /// The mutation has no update.
     EmptyMutation,
     /// A part is over its limit, which [`Part`] names; `Part::Sessions` is a full list of sessions. `Part::Numbers` says, last of all
-    /// checks, that the numbers of writes, tables or users are used up.
+    /// checks, that the numbers of writes, tables, users or end rows are used up.
     TooLarge(Part),
     /// There is a table of this name already.
     TableExists(Name),
@@ -46,6 +47,8 @@ pub enum Refusal {
     GrantInvalid,
     /// The first update whose timestamp is below the table's horizon.
     BelowHorizon(u32),
+    /// The tablet isn't split, for this reason.
+    BadSplit(SplitFault),
 }
 
 /// What a step is answered; `S` is the session that an accepted Open hands out.
@@ -63,6 +66,8 @@ pub enum Reply<S = ()> {
     Rights(Rights),
     /// What a table's tablets hold.
     Counted(Counts),
+    /// The end rows of a table's tablets, rising.
+    Rows(Items<ByteString>),
 }
 
 impl<S> Reply<S> {
@@ -81,6 +86,7 @@ impl<S> Reply<S> {
             Reply::Batch(cells) => (Reply::Batch(cells), None),
             Reply::Rights(rights) => (Reply::Rights(rights), None),
             Reply::Counted(counts) => (Reply::Counted(counts), None),
+            Reply::Rows(rows) => (Reply::Rows(rows), None),
         }
     }
 }

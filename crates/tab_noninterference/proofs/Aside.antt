@@ -1,12 +1,12 @@
 -- A step of a user's own that only asks where records lie, or lays them otherwise: it changes nothing, and nothing is heard of it.
-use Rattle.std.proofs.Common.{◌≡◌, ℕ, ℤ, List, [], Bool, true, false, refl, sym}
+use Rattle.std.proofs.Common.{◌≡◌, ℕ, ℤ, List, [], true, false, refl, sym}
 use mathlib.Core.Bool.{true≢false}
 use Rattle.tab_history.specs.Bases.{Base}
 use Rattle.tab_history.specs.Changes.{Change, changes_of}
 use Rattle.tab_history.specs.Answers.{Told, leaves_open, is_open, changes_by, moves_by}
 use Rattle.tab_history.specs.Runs.{is_left_open}
 use Rattle.tab_history.specs.declared.event.Act.{Act}
-use Rattle.tab_history.specs.declared.event.Act.TheVariants.{Open, Write, CreateTable, DropTable, SetConstraints, CreateUser, DropUser, SetAuths, Grant, Revoke, Rights, Status, Flush, Compact}
+use Rattle.tab_history.specs.declared.event.Act.TheVariants.{Open, Write, CreateTable, DropTable, SetConstraints, CreateUser, DropUser, SetAuths, Grant, Revoke, Rights, Status, Flush, Compact, AddSplit, SplitBySize, Splits}
 use Rattle.tab_history.specs.declared.event.Step.{Step}
 use Rattle.tab_history.specs.declared.event.Step.TheVariants.{Event, Next, Close}
 use Rattle.tab_noninterference.specs.Views.{is_inner, is_aside}
@@ -23,6 +23,9 @@ inner_does_nothing : (act : Act) → is_inner act ≡ true → DoesNothing act
 inner_does_nothing (Status t) e = record { changes = λ now user. refl; opens = refl; uncovered = refl }
 inner_does_nothing (Flush t) e = record { changes = λ now user. refl; opens = refl; uncovered = refl }
 inner_does_nothing (Compact t extent) e = record { changes = λ now user. refl; opens = refl; uncovered = refl }
+inner_does_nothing (AddSplit t row) e = record { changes = λ now user. refl; opens = refl; uncovered = refl }
+inner_does_nothing (SplitBySize t row limit) e = record { changes = λ now user. refl; opens = refl; uncovered = refl }
+inner_does_nothing (Splits t) e = record { changes = λ now user. refl; opens = refl; uncovered = refl }
 inner_does_nothing (Open scan) e = absurd (true≢false (sym e))
 inner_does_nothing (Write t m) e = absurd (true≢false (sym e))
 inner_does_nothing (CreateTable t time n) e = absurd (true≢false (sym e))
@@ -55,6 +58,9 @@ outer_closed : (act : Act) → is_inner act ≡ false → leaves_open act ≡ fa
 outer_closed (Status t) e = absurd (true≢false e)
 outer_closed (Flush t) e = refl
 outer_closed (Compact t extent) e = refl
+outer_closed (AddSplit t row) e = absurd (true≢false e)
+outer_closed (SplitBySize t row limit) e = absurd (true≢false e)
+outer_closed (Splits t) e = absurd (true≢false e)
 outer_closed (Open scan) e = refl
 outer_closed (Write t m) e = refl
 outer_closed (CreateTable t time n) e = refl

@@ -22,7 +22,7 @@ use Rattle.tab_history.specs.Answers.{Told, told_opened, told, granted, is_open,
 use Rattle.tab_history.specs.Histories.{user_of}
 use Rattle.tab_history.specs.declared.event.Scan.{Scan}
 use Rattle.tab_history.specs.declared.event.Act.{Act}
-use Rattle.tab_history.specs.declared.event.Act.TheVariants.{Open, Write, CreateTable, DropTable, SetConstraints, CreateUser, DropUser, SetAuths, Grant, Revoke, Rights, Status, Flush, Compact}
+use Rattle.tab_history.specs.declared.event.Act.TheVariants.{Open, Write, CreateTable, DropTable, SetConstraints, CreateUser, DropUser, SetAuths, Grant, Revoke, Rights, Status, Flush, Compact, AddSplit, SplitBySize, Splits}
 use Rattle.tab_history.specs.declared.event.Step.{Step}
 use Rattle.tab_history.specs.declared.event.Step.TheVariants.{Event, Next, Close}
 use Rattle.tab_history.specs.declared.reply.Refusal.{Refusal}
@@ -185,6 +185,9 @@ module _ (held : List (List ℕ)) (b : Base) (user : List ℕ) (low : (t : List 
   event_effect m (Status t) within = plain_effect m (Status t) refl refl (λ x. refl)
   event_effect m (Flush t) within = plain_effect m (Flush t) refl refl (λ x. refl)
   event_effect m (Compact t extent) within = plain_effect m (Compact t extent) refl refl (λ x. refl)
+  event_effect m (AddSplit t row) within = plain_effect m (AddSplit t row) refl refl (λ x. refl)
+  event_effect m (SplitBySize t row limit) within = plain_effect m (SplitBySize t row limit) refl refl (λ x. refl)
+  event_effect m (Splits t) within = plain_effect m (Splits t) refl refl (λ x. refl)
 
   pub own_effect : (step : Step) → user_of step ≡ user → IsSubset (auths_given b user j) held → Same step
   unfolding ample_answer

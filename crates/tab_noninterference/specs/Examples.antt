@@ -151,10 +151,10 @@ told_beside_others : hears (beside (unseen_writes ++ unseen_events) unseen_delet
 unfolding everything
 told_beside_others = refl
 
--- ---- compactions
--- what root does to t between: a write that bob may not read, a flush, a compaction of everything, and counts
+-- ---- compactions and splits
+-- what root does to t between: a write that bob may not read, a flush, a compaction of everything, counts, two splits and the end rows
 abbrev unseen_compactions : List Step
-unseen_compactions = as_root (writes (update Put (codes "B") (codes "y") (Some (pos 6)) ∷ [])) ∷ as_root (act.Flush t) ∷ as_root (act.Compact t Full) ∷ as_root (act.Status t) ∷ []
+unseen_compactions = as_root (writes (update Put (codes "B") (codes "y") (Some (pos 6)) ∷ [])) ∷ as_root (act.Flush t) ∷ as_root (act.Compact t Full) ∷ as_root (act.Status t) ∷ as_root (act.AddSplit t r) ∷ as_root (act.SplitBySize t q 0) ∷ as_root (act.Splits t) ∷ []
 
 -- he sees nothing of it
 seen_beside_compactions : sees (beside unseen_compactions unseen_compactions) ≡ seen_beside
@@ -166,9 +166,9 @@ told_beside_compactions : hears (beside unseen_compactions unseen_compactions) �
 unfolding everything
 told_beside_compactions = refl
 
--- so it is where he asks for counts and compactions himself, admitted or not
+-- so it is where he asks for counts, compactions and splits himself, admitted or not
 abbrev his_own : List Step
-his_own = as_bob (act.Status t) ∷ as_root (act.Grant bob (OfTable table.AlterTable t)) ∷ as_bob (act.Status t) ∷ as_bob (act.Flush t) ∷ as_bob (act.Compact t Partial) ∷ []
+his_own = as_bob (act.Status t) ∷ as_bob (act.AddSplit t r) ∷ as_root (act.Grant bob (OfTable table.AlterTable t)) ∷ as_bob (act.Status t) ∷ as_bob (act.Flush t) ∷ as_bob (act.Compact t Partial) ∷ as_bob (act.AddSplit t r) ∷ as_bob (act.SplitBySize t q 0) ∷ as_bob (act.Splits t) ∷ []
 
 -- what he sees is the grant alone
 seen_his_own : (sees (make ++ his_own)).sights ≡ Changed (TableGiven bob table.AlterTable t) ∷ (sees make).sights

@@ -6,7 +6,7 @@ use Rattle.tab_history.specs.Sessions.{Move, is_full}
 use Rattle.tab_history.specs.Answers.{Told, changes_by, is_open}
 use Rattle.tab_history.specs.Histories.{Entry, World, world_of, clock_of, clock_at, journal, moves_of, is_by}
 use Rattle.tab_history.specs.declared.event.Act.{Act}
-use Rattle.tab_history.specs.declared.event.Act.TheVariants.{Open, Write, CreateTable, DropTable, SetConstraints, CreateUser, DropUser, SetAuths, Grant, Revoke, Rights, Status, Flush, Compact}
+use Rattle.tab_history.specs.declared.event.Act.TheVariants.{Open, Write, CreateTable, DropTable, SetConstraints, CreateUser, DropUser, SetAuths, Grant, Revoke, Rights, Status, Flush, Compact, AddSplit, SplitBySize, Splits}
 use Rattle.tab_history.specs.declared.event.Step.{Step}
 use Rattle.tab_history.specs.declared.event.Step.TheVariants.{Event, Next, Close}
 use Rattle.tab_noninterference.specs.Given.{auths_given}
@@ -41,6 +41,9 @@ is_inner (Rights t) = false
 is_inner (Status t) = true
 is_inner (Flush t) = true
 is_inner (Compact t extent) = true
+is_inner (AddSplit t row) = true
+is_inner (SplitBySize t row limit) = true
+is_inner (Splits t) = true
 
 -- the steps of that kind
 abbrev pub is_aside : Step → Bool
