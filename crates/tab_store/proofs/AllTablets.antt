@@ -1,24 +1,30 @@
 -- What work does to the tablets of a table leaves each of them refining the updates in its rows, and all together refining all updates.
 use Rattle.std.proofs.Common.{◌≡◌, inl, inr, ℕ, ◌+◌, List, [], ◌∷◌, ◌++◌, Bool, true, false, cond, not, refl, sym, ◌∙◌, ap, subst}
-use Rattle.std.specs.Prelude.{ℤ, int_le, map, filter, reverse, Contains, Option, Some, None}
+use Rattle.std.specs.Prelude.{ℤ, int_le, map, filter, reverse, Contains}
 use mathlib.Core.Bool.{true≢false}
 use Rattle.tab_key.specs.Records.{Record}
 use Rattle.tab_key.specs.Sorted.{IsIn}
 use Rattle.tab_key.proofs.Rising.{in_from, in_to, in_filter, distinct_filter}
 use Rattle.tab_cells.specs.Written.{TimedUpdate, timed, records_of, mutation_records}
-use Rattle.tab_cells.specs.declared.compaction.Compaction.{Compaction}
 use Rattle.tab_cells.proofs.Lists.{filter_append}
 use Rattle.tab_iter.proofs.ColumnLaws.{filter_none}
-use Rattle.tab_version.specs.Sources.{Sources, left_by}
-use Rattle.tab_compact.specs.Merges.{Merge}
-use Rattle.tab_tablet.specs.Tablets.{Tablet, is_up_to, records_in, written, frozen, capture, replaced_in, merged_by, compacted}
+use Rattle.tab_tablet.specs.Tablets.{Tablet, is_up_to, records_in, written, frozen, compacted}
+use Rattle.tab_tablet.specs.Splitting.{split_at}
 use Rattle.tab_history.specs.Held.{RefinesTable}
 use Rattle.tab_history.proofs.Holds.{holds_nothing, holds_beside}
-use Rattle.tab_store.specs.Stores.{records_of_all, at_row}
-use Rattle.tab_store.specs.Stepping.{Freezing, Writing, Compacting, Counting, Place, floor_at, lays}
-use Rattle.tab_store.specs.Keeping.{TabletRefines, is_low, is_high, EndsRise, AreWhole, TabletsRefine, TabletsHoldAll, WorkKeeps, StaysWhole}
+use Rattle.tab_tablets.specs.ByRow.{records_of_all, at_row, is_end, AreWhole}
+use Rattle.tab_tablets.specs.Places.{IsPlaceOf, at_place}
+use Rattle.tab_tablets.proofs.EndRows.{has_place, row_at_place, end_at_place}
+use Rattle.tab_tablets.proofs.Whole.{whole_map, whole_one, whole_split as split_at_place}
+use Rattle.tab_tablets.proofs.Rows.{mutation_rows}
+use Rattle.tab_tablets.proofs.Merged.{compacted_end}
+use Rattle.tab_store.specs.Stepping.{Freezing, Writing, Compacting, Counting, Splitting, Halving, Listing, floor_at, lays}
+use Rattle.tab_store.specs.Keeping.{TabletRefines, is_low, is_high, TabletsRefine, TabletsHoldAll, WorkKeeps, StaysWhole}
 use Rattle.tab_store.proofs.ByRows.{joined_refines}
 use Rattle.tab_store.proofs.OneTablet.{freezes_keep, writes_keep, compactions_keep}
+use Rattle.tab_store.proofs.SplitTablets.{all_split}
+use Rattle.tab_store.proofs.SplitCases.{after_split, after_halve}
+use Rattle.tab_store.proofs.Middles.{lies}
 
 -- ---- filters
 filter_all : (p : Record → Bool) (xs : List Record) → ((u : Record) → IsIn xs u → p u ≡ true) → filter p xs ≡ xs
@@ -43,12 +49,6 @@ all_more [] us next n floor a = a
 all_more (t ∷ ts) us next n floor a = (one_more t (filter (is_low t.end) us) next n floor a.0, all_more ts (filter (is_high t.end) us) next n floor a.1)
 
 -- ---- a write
-in_row : (next : ℕ) (row : List ℕ) (ps : List TimedUpdate) (u : Record) → IsIn (records_of next row ps) u → u.key.row ≡ row
-unfolding records_of
-in_row next row [] u h = absurd h
-in_row next row (p ∷ ps) u (inl e) = ap (λ (r : Record). r.key.row) (sym e)
-in_row next row (p ∷ ps) u (inr h) = in_row next row ps u h
-
 module _ (row : List ℕ) (ps : List TimedUpdate) (next n : ℕ) (floor : ℤ) (recent : (u : Record) → Contains (records_of next row ps) u → int_le floor u.key.timestamp ≡ true) where
   abbrev new : List Record
   new = records_of next row ps
@@ -61,7 +61,7 @@ module _ (row : List ℕ) (ps : List TimedUpdate) (next n : ℕ) (floor : ℤ) (
   )
     where
       up : (u : Record) → IsIn new u → is_up_to t.end u.key.row ≡ true
-      up u h = subst (λ r. is_up_to t.end r ≡ true) (sym (in_row next row ps u h)) e
+      up u h = subst (λ r. is_up_to t.end r ≡ true) (sym (mutation_rows next row ps u h)) e
 
       low_are : filter (is_low t.end) (new ++ us) ≡ new ++ filter (is_low t.end) us
       low_are = filter_append (is_low t.end) new us ∙ ap (λ l. l ++ filter (is_low t.end) us) (filter_all (is_low t.end) new up)
@@ -77,7 +77,7 @@ module _ (row : List ℕ) (ps : List TimedUpdate) (next n : ℕ) (floor : ℤ) (
   )
     where
       over : (u : Record) → IsIn new u → is_up_to t.end u.key.row ≡ false
-      over u h = subst (λ r. is_up_to t.end r ≡ false) (sym (in_row next row ps u h)) e
+      over u h = subst (λ r. is_up_to t.end r ≡ false) (sym (mutation_rows next row ps u h)) e
 
       low_are : filter (is_low t.end) (new ++ us) ≡ filter (is_low t.end) us
       low_are = filter_append (is_low t.end) new us ∙ ap (λ l. l ++ filter (is_low t.end) us) (filter_none (is_low t.end) new over)
@@ -99,18 +99,6 @@ module _ (row : List ℕ) (ps : List TimedUpdate) (next n : ℕ) (floor : ℤ) (
       go true e ih = here_written t (s ∷ ts) us e a.0 a.1
       go false e ih = passed t (at_row row (λ x. written new x ∷ []) (s ∷ ts)) us e a.0 ih
 
--- ---- a compaction
-compacted_end : (kind : Compaction) (floor : ℤ) (n : ℕ) (t : Tablet) → (compacted kind floor n t).end ≡ t.end
-compacted_end kind floor n t = go (capture kind floor n t)
-  where
-    by_left : (m : Merge) (o : Option Sources) → (replaced_in m o (frozen t)).end ≡ t.end
-    by_left m None = refl
-    by_left m (Some left) = refl
-
-    go : (o : Option Merge) → (merged_by o (frozen t)).end ≡ t.end
-    go None = refl
-    go (Some m) = by_left m (left_by m.inputs (frozen t).sources)
-
 -- ---- all work
 pub work_keeps : WorkKeeps
 unfolding lays
@@ -118,29 +106,27 @@ work_keeps p Freezing plain ts us w r a = all_map p.next p.settings.versions (fl
 work_keeps p (Writing m) plain ts us w r a = all_written m.row (reverse (map (timed p.now) m.updates)) p.next p.settings.versions (floor_at p) r ts us w a
 work_keeps p (Compacting kind) plain ts us w r a = all_map p.next p.settings.versions (floor_at p) (compacted kind (floor_at p) p.settings.versions) (compacted_end kind (floor_at p) p.settings.versions) (λ t vs h. compactions_keep kind t vs p.next p.settings.versions (floor_at p) h) ts us a
 work_keeps p Counting plain ts us w r a = a
+work_keeps p (Splitting row) plain ts us w r a = after_split (λ vs. TabletsRefine vs us p.next p.settings.versions (floor_at p)) ts a (λ at e. all_split at p.next p.settings.versions (floor_at p) ts us a) row
+work_keeps p (Halving row limit) plain ts us w r a = after_halve (λ vs. TabletsRefine vs us p.next p.settings.versions (floor_at p)) ts a (λ at e. all_split at p.next p.settings.versions (floor_at p) ts us a) row limit (λ t middle e k. (lies p.next p.settings.versions (floor_at p) row middle t k ts us w a e).fresh)
+work_keeps p Listing plain ts us w r a = a
 
 -- ---- each row has one tablet
-abbrev ends_of : List Tablet → List (Option (List ℕ))
-ends_of ts = map (λ (t : Tablet). t.end) ts
+-- what is done at the row's tablet leaves it so, if it does at that one's place
+whole_at : (row : List ℕ) (f : Tablet → List Tablet) (ts : List Tablet) → ((p : ℕ) → IsPlaceOf row ts p → AreWhole (at_place p f ts)) → AreWhole ts → AreWhole (at_row row f ts)
+whole_at row f ts keeps w = let k = has_place row ts w in subst AreWhole (sym (row_at_place row f ts k.0 k.1)) (keeps k.0 k.1)
 
-ends_map : (f : Tablet → Tablet) → ((t : Tablet) → (f t).end ≡ t.end) → (ts : List Tablet) → ends_of (map f ts) ≡ ends_of ts
-ends_map f ends [] = refl
-ends_map f ends (t ∷ ts) = λ i. ends t i ∷ ends_map f ends ts i
-
-ends_at_row : (row : List ℕ) (f : Tablet → Tablet) → ((t : Tablet) → (f t).end ≡ t.end) → (ts : List Tablet) → ends_of (at_row row (λ t. f t ∷ []) ts) ≡ ends_of ts
-ends_at_row row f ends [] = refl
-ends_at_row row f ends (t ∷ ts) = go (is_up_to t.end row) (ends_at_row row f ends ts)
-  where
-    go : (v : Bool) → ends_of (at_row row (λ t. f t ∷ []) ts) ≡ ends_of ts → ends_of (cond v (f t ∷ ts) (t ∷ at_row row (λ t. f t ∷ []) ts)) ≡ t.end ∷ ends_of ts
-    go true ih = ap (λ e. e ∷ ends_of ts) (ends t)
-    go false ih = ap (λ es. t.end ∷ es) ih
+whole_split : (row : List ℕ) (ts : List Tablet) → is_end row ts ≡ false → AreWhole ts → AreWhole (at_row row (split_at row) ts)
+whole_split row ts n w = whole_at row (split_at row) ts (λ p k. split_at_place row ts p k (sym (end_at_place row ts p w k) ∙ n) w) w
 
 pub stays_whole : StaysWhole
 unfolding lays
-stays_whole p Freezing plain ts w = subst EndsRise (sym (ends_map frozen (λ t. refl) ts)) w
-stays_whole p (Writing m) plain ts w = subst EndsRise (sym (ends_at_row m.row (written (mutation_records p.next p.now m)) (λ t. refl) ts)) w
-stays_whole p (Compacting kind) plain ts w = subst EndsRise (sym (ends_map (compacted kind (floor_at p) p.settings.versions) (compacted_end kind (floor_at p) p.settings.versions) ts)) w
-stays_whole p Counting plain ts w = w
+stays_whole p Freezing plain ts us w a = whole_map frozen (λ t. refl) ts w
+stays_whole p (Writing m) plain ts us w a = let new = written (mutation_records p.next p.now m) in whole_at m.row (λ t. new t ∷ []) ts (λ q k. whole_one new (λ t. refl) ts q w) w
+stays_whole p (Compacting kind) plain ts us w a = whole_map (compacted kind (floor_at p) p.settings.versions) (compacted_end kind (floor_at p) p.settings.versions) ts w
+stays_whole p Counting plain ts us w a = w
+stays_whole p (Splitting row) plain ts us w a = after_split AreWhole ts w (λ at e. whole_split at ts e w) row
+stays_whole p (Halving row limit) plain ts us w a = after_halve AreWhole ts w (λ at e. whole_split at ts e w) row limit (λ t middle e k. (lies p.next p.settings.versions (floor_at p) row middle t k ts us w a e).fresh)
+stays_whole p Listing plain ts us w a = w
 
 -- ---- so all that is held refines all updates
 pub tablets_hold_all : TabletsHoldAll

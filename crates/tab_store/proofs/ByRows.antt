@@ -1,4 +1,4 @@
--- Held records that refine the updates of some rows, and others that refine those of the other rows, refine all updates.
+-- Held records refine all updates just where those of some rows refine the updates of these rows, and the others those of the other rows.
 use Rattle.std.proofs.Common.{◌≡◌, ◌≢◌, ◌⊎◌, inl, inr, ℕ, ◌<◌, List, ◌++◌, Bool, true, false, not, ◌&&◌, refl, sym, ◌∙◌, ap}
 use Rattle.std.specs.Prelude.{ℤ, filter, bytes_eq, int_le, ◌<ℤ◌}
 use Rattle.std.specs.List.{list_any}
@@ -9,7 +9,7 @@ use Rattle.tab_key.specs.Kept.{is_put, same_column, hides, is_deleted, is_kept}
 use Rattle.tab_key.specs.Order.{record_cmp}
 use Rattle.tab_key.specs.Records.{Key, Record}
 use Rattle.tab_key.specs.Sorted.{IsDistinct, IsIn}
-use Rattle.tab_key.proofs.Rising.{in_from, in_to, in_filter, filter_in}
+use Rattle.tab_key.proofs.Rising.{in_from, in_to, in_filter, filter_in, distinct_filter}
 use Rattle.tab_key.proofs.Ties.{tied_parts}
 use Rattle.tab_cells.proofs.Lists.{by_bool, and_false, in_append, in_left, in_right, any_filter}
 use Rattle.tab_cells.proofs.SeenColumns.{kept_seen}
@@ -38,6 +38,23 @@ module _ (p : List ℕ → Bool) where
 
   kept_here : (us : List Record) (n : ℕ) (u : Record) → p u.key.row ≡ true → is_kept us n u ≡ is_kept (filter here us) n u
   kept_here us n u h = kept_seen (λ (k : Key). p k.row) apart us n u h
+
+  covered_here : (held : List Record) (m : Record) → p m.key.row ≡ true → list_any (covers m) held ≡ list_any (covers m) (filter here held)
+  covered_here held m h = any_filter here (covers m) (λ k n. rw (apart k.key m.key h n) (ap (λ r. r && int_le m.key.timestamp k.key.timestamp) (and_false (not (is_put k.kind))))) held
+
+  -- the held records of the rows that pass refine the updates of these rows
+  pub rows_refine : (held us : List Record) (next n : ℕ) (floor : ℤ) → RefinesTable held us next n floor → RefinesTable (filter here held) (filter here us) next n floor
+  rows_refine held us next n floor h = record {
+    refines = record {
+      accepted = λ u c. let k = in_filter here held u (in_from _ u c) in in_to _ u (filter_in here us u (in_from us u (h.refines.accepted u (in_to held u k.0))) k.1);
+      kept = λ u c e. let k = in_filter here us u (in_from _ u c) in in_to _ u (filter_in here held u (in_from held u (h.refines.kept u (in_to us u k.0) (kept_here us n u k.1 ∙ e))) k.1);
+      deleted = λ u c q d. let k = in_filter here held u (in_from _ u c) in sym (deleted_here held u k.1) ∙ h.refines.deleted u (in_to held u k.0) q (deleted_here us u k.1 ∙ d);
+      dropped = λ m c q f. let k = in_filter here us m (in_from _ m c) in h.refines.dropped m (in_to us m k.0) q (ap not (covered_here held m k.1) ∙ f);
+    };
+    held_once = distinct_filter here held h.held_once;
+    updates_once = distinct_filter here us h.updates_once;
+    numbered = λ u c. h.numbered u (in_to us u (in_filter here us u (in_from _ u c)).0);
+  }
 
 -- ---- tests of two lists
 any_more : (test : Record → Bool) (xs ys : List Record) → list_any test xs ≡ true → list_any test (xs ++ ys) ≡ true

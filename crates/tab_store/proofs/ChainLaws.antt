@@ -1,24 +1,22 @@
 -- A new core is a store, and chains of exact steps of a store end in one.
-use Rattle.std.proofs.Common.{◌≡◌, ◌⊎◌, inl, inr, ℕ, ◌<◌, List, [], ◌∷◌, refl, sym, ◌∙◌, ap, subst}
+use Rattle.std.proofs.Common.{◌≡◌, inl, inr, ◌<◌, List, [], ◌∷◌, refl, sym, ap, subst}
 use Rattle.std.specs.Prelude.{Contains, Option, Some, None, map}
 use Rattle.std.specs.List.Sorted.{IsStrictlySortedBy}
-use Rattle.tab_key.specs.Bytes.{bytes_cmp}
 use Rattle.tab_key.specs.Records.{Record}
 use Rattle.tab_key.specs.Sorted.{sorted, IsDistinct}
 use Rattle.tab_key.proofs.Rising.{in_from}
-use Rattle.tab_history.specs.Readings.{next_number, updates_of}
+use Rattle.tab_tablets.specs.ByRow.{records_of_all}
+use Rattle.tab_history.specs.Readings.{next_number}
 use Rattle.tab_history.specs.Answers.{Told}
 use Rattle.tab_history.specs.Histories.{Entry, World, clock_of, journal, world_of, world_after}
 use Rattle.tab_history.specs.Refinement.{Refines}
 use Rattle.tab_history.specs.Chains.{GoesRight, IsChain}
-use Rattle.tab_history.specs.Runs.{IsNoEvent}
 use Rattle.tab_history.specs.declared.event.Step.{Step}
 use Rattle.tab_history.specs.declared.event.Step.TheVariants.{Event, Next, Close}
 use Rattle.tab_history.proofs.Chains.{sound_refines_itself, chains_refine}
 use Rattle.tab_history.proofs.GoesOnLemmas.{goes_on}
 use Rattle.tab_history.proofs.Playing.{unmoved}
-use Rattle.tab_store.specs.Stores.{HeldTable, Held, base_table_of, base_of, NamesRise, table_in, tablets_found, tablets_in, records_of_all, IsNewStore}
-use Rattle.tab_store.specs.Stepping.{StepsExactly}
+use Rattle.tab_store.specs.Stores.{HeldTable, Held, base_table_of, base_of, table_in, tablets_found}
 use Rattle.tab_store.specs.Rightness.{IsStore, NewStoresAreStores, StoresAreSound}
 use Rattle.tab_store.specs.Chains.{DoesExactly, EventGoes, EntryGoes, ChainsStay, ChainsAreLegal}
 use Rattle.tab_store.proofs.Sound.{self_refines}

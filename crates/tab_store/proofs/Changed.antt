@@ -12,13 +12,15 @@ use Rattle.tab_rules.specs.declared.constraint.Constraint.{Constraint}
 use Rattle.tab_cells.specs.Written.{mutation_records}
 use Rattle.tab_cells.specs.declared.compaction.Compaction.{Compaction}
 use Rattle.tab_tablet.specs.Tablets.{Tablet, written, frozen, compacted}
-use Rattle.tab_history.specs.Settings.{Settings, made_with}
+use Rattle.tab_tablets.specs.ByRow.{at_row, records_of_all}
+use Rattle.tab_tablets.specs.Splits.{splits, halves}
+use Rattle.tab_history.specs.Settings.{made_with}
 use Rattle.tab_history.specs.Held.{floor_of}
 use Rattle.tab_history.specs.Readings.{settings_of, updates_of, table_count, constrained}
 use Rattle.tab_history.specs.Answers.{Told}
 use Rattle.tab_history.specs.declared.event.TimeMode.{TimeMode}
-use Rattle.tab_store.specs.Stores.{HeldTable, Held, base_of, base_table_of, table_in, tablets_found, tablets_in, at_row, records_of_all}
-use Rattle.tab_store.specs.Stepping.{TabletWork, Freezing, Writing, Compacting, Counting, Making, Dropping, On, lays, lays_in, laid_by}
+use Rattle.tab_store.specs.Stores.{HeldTable, Held, base_of, base_table_of, table_in, tablets_found, tablets_in}
+use Rattle.tab_store.specs.Stepping.{TabletWork, Freezing, Writing, Compacting, Counting, Splitting, Halving, Listing, Making, Dropping, On, lays, lays_in, laid_by}
 use Rattle.tab_store.specs.Keeping.{settings_in}
 use Rattle.tab_store.specs.Rightness.{IsStore}
 use Rattle.tab_store.specs.Tables.{TableState, made_table, with_tablets, with_constraints, state_of, table_at, changed_table, settings_at, tablets_of}
@@ -122,10 +124,23 @@ module _ (old new : Held) (t : List ℕ) where
     unfolding lays
     table_compacted kind = worked (Compacting kind) (λ s. with_tablets (map (compacted kind (floor_of s.settings.time now s.settings.horizon) s.settings.versions)) s) (λ x. refl) refl
 
+    pub table_split : (row : List ℕ) → Changes (with_tablets (λ ts. (splits row ts).1)) → (q : List ℕ) → tablets_in new q ≡ laid_by old now (On t (Splitting row)) plain q
+    unfolding lays
+    table_split row = worked (Splitting row) (with_tablets (λ ts. (splits row ts).1)) (λ x. refl) refl
+
+    pub table_halved : (row : List ℕ) (limit : ℕ) → Changes (with_tablets (λ ts. (halves row limit ts).1)) → (q : List ℕ) → tablets_in new q ≡ laid_by old now (On t (Halving row limit)) plain q
+    unfolding lays
+    table_halved row limit = worked (Halving row limit) (with_tablets (λ ts. (halves row limit ts).1)) (λ x. refl) refl
+
     -- counts leave them
     pub table_counted : ((q : List ℕ) → tablets_in new q ≡ tablets_in old q) → (q : List ℕ) → tablets_in new q ≡ laid_by old now (On t Counting) plain q
     unfolding lays
     table_counted same q = same q ∙ same_either (bytes_eq t q) (tablets_in old q)
+
+    -- and so does who lists their end rows
+    pub table_listed : ((q : List ℕ) → tablets_in new q ≡ tablets_in old q) → (q : List ℕ) → tablets_in new q ≡ laid_by old now (On t Listing) plain q
+    unfolding lays
+    table_listed same q = same q ∙ same_either (bytes_eq t q) (tablets_in old q)
 
   -- ---- what it is set to
   reset : (o : Option TableState) → Renews o → (q : List ℕ) → settings_of (base_of new) [] q ≡ cond (bytes_eq t q) (settings_at o) (settings_of (base_of old) [] q)

@@ -5,12 +5,13 @@ use Rattle.tab_key.specs.Records.{Record}
 use Rattle.tab_key.specs.Sorted.{sorted}
 use Rattle.tab_tablet.specs.Tablets.{Tablet}
 use Rattle.tab_tablet.proofs.Parted.{some_is}
+use Rattle.tab_tablets.specs.ByRow.{records_of_all}
 use Rattle.tab_history.specs.Settings.{Settings}
 use Rattle.tab_history.specs.Readings.{settings_of, updates_of}
 use Rattle.tab_history.specs.Held.{floor_of, RefinesTable}
 use Rattle.tab_history.specs.Answers.{Told}
 use Rattle.tab_history.proofs.Refines.{floor_later}
-use Rattle.tab_store.specs.Stores.{HeldTable, Held, base_of, table_in, tablets_found, tablets_in, records_of_all}
+use Rattle.tab_store.specs.Stores.{HeldTable, Held, base_of, table_in, tablets_found, tablets_in}
 use Rattle.tab_store.specs.Stepping.{TabletWork, Place, lays, lays_in}
 use Rattle.tab_store.specs.Keeping.{settings_in, AreSound, updates_after, next_after, IsRecent, GoesOnWell}
 use Rattle.tab_store.specs.Rightness.{IsStore}

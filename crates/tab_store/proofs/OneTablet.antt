@@ -1,5 +1,5 @@
 -- What is done to one tablet leaves it refining the updates in its rows.
-use Rattle.std.proofs.Common.{◌≡◌, ◌⊎◌, inl, inr, ℕ, ◌+◌, ◌≤◌, List, ◌++◌, Bool, true, false, cond, ◌==◌, refl, sym, subst, arith}
+use Rattle.std.proofs.Common.{◌≡◌, ◌⊎◌, inl, inr, ℕ, ◌+◌, ◌≤◌, List, ◌++◌, Bool, true, false, cond, ◌==◌, refl, sym, arith}
 use Rattle.std.specs.Prelude.{ℤ, int_le, Option, Some, None}
 use Rattle.std.specs.List.Sorted.{IsPermutation}
 use Rattle.std.specs.Cmp.{tied_itself}

@@ -2,9 +2,10 @@
 use Rattle.std.proofs.Common.{◌≡◌, ℕ, List, [], ◌∷◌, Bool, true, false, cond, refl, ◌∙◌, ap}
 use Rattle.std.specs.Prelude.{Option, Some, None, option_map, find, map, bytes_eq}
 use Rattle.tab_key.specs.Sorted.{sorted}
+use Rattle.tab_tablets.specs.ByRow.{records_of_all}
 use Rattle.tab_history.specs.Bases.{BaseTable}
 use Rattle.tab_history.specs.Readings.{base_settings, base_records, settings_of, updates_of}
-use Rattle.tab_store.specs.Stores.{HeldTable, base_table_of, table_in, tablets_found, records_of_all}
+use Rattle.tab_store.specs.Stores.{HeldTable, base_table_of, table_in, tablets_found}
 use Rattle.tab_store.specs.Keeping.{settings_in, BasesRead}
 
 found_base : (q : List ℕ) (ts : List HeldTable) → find (λ (u : BaseTable). bytes_eq u.name q) (map base_table_of ts) ≡ option_map base_table_of (find (λ (t : HeldTable). bytes_eq t.name q) ts)

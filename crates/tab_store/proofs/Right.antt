@@ -3,6 +3,7 @@ use Rattle.std.proofs.Common.{◌≡◌, ◌⊎◌, inl, inr, ℕ, ◌+◌, ◌�
 use Rattle.std.specs.Prelude.{ℤ, int_le, bytes_eq, Option, Some, None}
 use Rattle.std.specs.Int.{int_max}
 use Rattle.std.specs.Cmp.Lexicographic.{bytes_decides}
+use mathlib.Core.Bool.{true≢false}
 use Rattle.tab_key.specs.Records.{Record}
 use Rattle.tab_key.specs.Sorted.{sorted}
 use Rattle.tab_key.specs.declared.part.Part.TheVariants.{Sessions, Numbers}
@@ -16,33 +17,32 @@ use Rattle.tab_policy.specs.declared.permission.Permission.{Permission}
 use Rattle.tab_policy.specs.declared.permission.Permission.TheVariants.{OfSystem, OfTable}
 use Rattle.tab_tablet.specs.Tablets.{Tablet, new_tablet}
 use Rattle.tab_tablet.proofs.Parted.{some_is}
+use Rattle.tab_tablets.specs.ByRow.{records_of_all}
 use Rattle.tab_history.specs.Settings.{Settings, made_with}
 use Rattle.tab_history.specs.Bases.{Base}
-use Rattle.tab_history.specs.Changes.{changes_of}
 use Rattle.tab_history.specs.Readings.{constrained, settings_of, next_number, updates_of}
 use Rattle.tab_history.specs.Held.{floor_of, RefinesTable}
 use Rattle.tab_history.specs.Checks.{Caller, standing, exists_in, user_named, refusal_of}
 use Rattle.tab_history.specs.Sessions.{opened, closed, is_full}
-use Rattle.tab_history.specs.Answers.{Told, told_opened, told, are_used_up, numbered, granted, event_answer, is_open, answer, MayTell, IsReply, changes_by}
+use Rattle.tab_history.specs.Answers.{Told, told_opened, told, are_used_up, numbered, granted, event_answer, is_open, answer, leaves_open, MayTell, IsReply, changes_by}
 use Rattle.tab_history.specs.Histories.{world_of, clock_after, clock_of, journal, moves_of}
 use Rattle.tab_history.specs.Legal.{answer_at, IsAnswer, takes_memory, LacksMemory}
-use Rattle.tab_history.specs.declared.counts.Counts.{Counts}
 use Rattle.tab_history.specs.declared.event.TimeMode.{TimeMode}
 use Rattle.tab_history.specs.declared.event.Act.{Act}
-use Rattle.tab_history.specs.declared.event.Act.TheVariants.{Open, Write, CreateTable, DropTable, SetConstraints, CreateUser, DropUser, SetAuths, Grant, Revoke, Rights as AsksRights, Status, Flush, Compact}
+use Rattle.tab_history.specs.declared.event.Act.TheVariants.{Open, Write, CreateTable, DropTable, SetConstraints, CreateUser, DropUser, SetAuths, Grant, Revoke, Rights as AsksRights, Status, Flush, Compact, AddSplit, SplitBySize, Splits}
 use Rattle.tab_history.specs.declared.event.Event.{Event}
 use Rattle.tab_history.specs.declared.event.Step.{Step}
 use Rattle.tab_history.specs.declared.event.Step.TheVariants.{Event as IsEvent}
 use Rattle.tab_history.specs.declared.reply.Refusal.{Refusal}
 use Rattle.tab_history.specs.declared.reply.Refusal.TheVariants.{NoMemory, TooLarge}
-use Rattle.tab_history.specs.declared.reply.Reply.TheVariants.{Done, Refused, Rights, Counted}
+use Rattle.tab_history.specs.declared.reply.Reply.TheVariants.{Done, Refused}
 use Rattle.tab_history.proofs.GoOn.{max_left, clock_grows}
 use Rattle.tab_history.proofs.Fitting.{fits_legal}
 use Rattle.tab_history.proofs.Holds.{holds_nothing}
 use Rattle.tab_history.proofs.LeftOpen.{of_told}
 use Rattle.tab_history.proofs.Refines.{FitAll}
-use Rattle.tab_store.specs.Stores.{HeldTable, Held, base_of, table_in, tablets_found, tablets_in, records_of_all}
-use Rattle.tab_store.specs.Stepping.{TabletWork, Freezing, Writing, Compacting, Counting, Making, Dropping, On, kind_of, work_of, lays_in, told_by, laid_by, told_exactly, laid_exactly, laid_told}
+use Rattle.tab_store.specs.Stores.{HeldTable, Held, base_of, table_in, tablets_found, tablets_in}
+use Rattle.tab_store.specs.Stepping.{Freezing, Writing, Compacting, Counting, Splitting, Halving, Listing, Making, Dropping, On, kind_of, work_of, lays_in, told_by, laid_by, told_exactly, laid_told}
 use Rattle.tab_store.specs.Keeping.{settings_in, AreSound}
 use Rattle.tab_store.specs.Rightness.{IsStore, LeavesExactly, StepsAreRight, StoresStay}
 use Rattle.tab_store.proofs.Sound.{new_tables_are_sound}
@@ -105,6 +105,15 @@ module _ (old new : Held) (store : IsStore old) (user : List ℕ) (moment : ℤ)
 
   counted_right : (t : List ℕ) (plain : Told) → tablets_in new q ≡ laid_by old now (On t Counting) plain q → Plain
   counted_right t plain same = on_named t (lays_in old now Counting plain (table_in old q)).1 same (λ x. at_table old q (λ s. Both new q (updates_of b [] q) old.next s.versions (floor_of s.time now s.horizon)) (λ o e. happens old new store now (max_left old.clock moment) q o e Counting plain x tt))
+
+  split_right : (t row : List ℕ) (plain : Told) → tablets_in new q ≡ laid_by old now (On t (Splitting row)) plain q → Plain
+  split_right t row plain same = on_named t (lays_in old now (Splitting row) plain (table_in old q)).1 same (λ x. at_table old q (λ s. Both new q (updates_of b [] q) old.next s.versions (floor_of s.time now s.horizon)) (λ o e. happens old new store now (max_left old.clock moment) q o e (Splitting row) plain x tt))
+
+  halved_right : (t row : List ℕ) (limit : ℕ) (plain : Told) → tablets_in new q ≡ laid_by old now (On t (Halving row limit)) plain q → Plain
+  halved_right t row limit plain same = on_named t (lays_in old now (Halving row limit) plain (table_in old q)).1 same (λ x. at_table old q (λ s. Both new q (updates_of b [] q) old.next s.versions (floor_of s.time now s.horizon)) (λ o e. happens old new store now (max_left old.clock moment) q o e (Halving row limit) plain x tt))
+
+  listed_right : (t : List ℕ) (plain : Told) → tablets_in new q ≡ laid_by old now (On t Listing) plain q → Plain
+  listed_right t plain same = on_named t (lays_in old now Listing plain (table_in old q)).1 same (λ x. at_table old q (λ s. Both new q (updates_of b [] q) old.next s.versions (floor_of s.time now s.horizon)) (λ o e. happens old new store now (max_left old.clock moment) q o e Listing plain x tt))
 
   -- ---- act by act
   write_right : (t : List ℕ) (m : Mutation) (plain : Told) → tablets_in new q ≡ laid_by old now (On t (Writing m)) plain q → Fit (Write t m) Done → Goal (Write t m) Done
@@ -181,32 +190,51 @@ module _ (old new : Held) (store : IsStore old) (user : List ℕ) (moment : ℤ)
   granted_right c (Status t) same fits = counted_right t Done same
   granted_right c (Flush t) same fits = compacted_right t Minor Done same
   granted_right c (Compact t e) same fits = compacted_right t (kind_of e) Done same
+  granted_right c (AddSplit t row) same fits = split_right t row Done same
+  granted_right c (SplitBySize t row limit) same fits = halved_right t row limit Done same
+  granted_right c (Splits t) same fits = listed_right t Done same
 
-  -- counts may be told of what only counts
-  counts_right : (c : Caller) (t : List ℕ) (counts : Counts) → tablets_in new q ≡ laid_by old now (work_of (Status t)) (granted c (Status t)) q → Goal (Status t) (Counted counts)
-  unfolding next_number
-  counts_right c t counts same = counted_right t Done same
+  -- what is told where it is left open changes nothing that is read
+  open_right : (c : Caller) (act : Act) (r : Told) → MayTell act (granted c act) r → tablets_in new q ≡ laid_by old now (work_of act) (granted c act) q → leaves_open act ≡ true → Goal act r
+  unfolding next_number updates_of settings_of
+  open_right c (Status t) r m same o = subst (Goal (Status t)) (sym m.1) (counted_right t Done same)
+  open_right c (AddSplit t row) r (inl e) same o = subst (Goal (AddSplit t row)) (sym e) (split_right t row Done same)
+  open_right c (AddSplit t row) r (inr (inl e)) same o = subst (Goal (AddSplit t row)) (sym e) (split_right t row Done same)
+  open_right c (AddSplit t row) r (inr (inr e)) same o = subst (Goal (AddSplit t row)) (sym e) (split_right t row Done same)
+  open_right c (SplitBySize t row limit) r (inl e) same o = subst (Goal (SplitBySize t row limit)) (sym e) (halved_right t row limit Done same)
+  open_right c (SplitBySize t row limit) r (inr (inl e)) same o = subst (Goal (SplitBySize t row limit)) (sym e) (halved_right t row limit Done same)
+  open_right c (SplitBySize t row limit) r (inr (inr (inl e))) same o = subst (Goal (SplitBySize t row limit)) (sym e) (halved_right t row limit Done same)
+  open_right c (SplitBySize t row limit) r (inr (inr (inr e))) same o = subst (Goal (SplitBySize t row limit)) (sym e) (halved_right t row limit Done same)
+  open_right c (Splits t) r m same o = subst (Goal (Splits t)) (sym m.1) (listed_right t Done same)
+  open_right c act r m same o = absurd (true≢false (sym o))
 
-  -- whatever may be told of an act that isn't refused
+  -- whatever may be told of an act that no check refuses
   accepted_right : (c : Caller) (act : Act) (r : Told) → MayTell act (granted c act) r → tablets_in new q ≡ laid_by old now (work_of act) (granted c act) q → Fit act r → Goal act r
-  accepted_right c act r m same = of_told (λ z. Fit act z → Goal act z) act (granted c act) r m (granted_right c act same)
-      (λ t e counts fits. subst (λ a. Goal a (Counted counts)) (sym e) (counts_right c t counts (subst (λ a. tablets_in new q ≡ laid_by old now (work_of a) (granted c a) q) e same)))
+  accepted_right c act r m same = of_told (λ z. Fit act z → Goal act z) act (granted c act) r m (granted_right c act same) (λ o fits. open_right c act r m same o)
 
   -- ---- what was told, and so what was laid
   laid_refused : (act : Act) (r k : Refusal) → laid_told (Refused r) old now act (Refused k) q ≡ tablets_in old q
   laid_refused act NoMemory k = refl
   laid_refused act _ k = refl
 
-  exactly_plain : (c : Caller) (act : Act) → laid_exactly old now act (granted c act) q ≡ laid_by old now (work_of act) (granted c act) q
-  exactly_plain c (Open scan) = refl
-  exactly_plain c _ = refl
-
   told_plain : (c : Caller) (act : Act) → laid_told (granted c act) old now act (granted c act) q ≡ laid_by old now (work_of act) (granted c act) q
   told_plain c (Open scan) = refl
   told_plain c _ = refl
 
+  open_laid : (c : Caller) (act : Act) (r : Told) → MayTell act (granted c act) r → leaves_open act ≡ true → laid_told r old now act (granted c act) q ≡ laid_by old now (work_of act) (granted c act) q
+  open_laid c (Status t) r m o = ap (λ z. laid_told z old now (Status t) Done q) m.1
+  open_laid c (AddSplit t row) r (inl e) o = ap (λ z. laid_told z old now (AddSplit t row) Done q) e
+  open_laid c (AddSplit t row) r (inr (inl e)) o = ap (λ z. laid_told z old now (AddSplit t row) Done q) e
+  open_laid c (AddSplit t row) r (inr (inr e)) o = ap (λ z. laid_told z old now (AddSplit t row) Done q) e
+  open_laid c (SplitBySize t row limit) r (inl e) o = ap (λ z. laid_told z old now (SplitBySize t row limit) Done q) e
+  open_laid c (SplitBySize t row limit) r (inr (inl e)) o = ap (λ z. laid_told z old now (SplitBySize t row limit) Done q) e
+  open_laid c (SplitBySize t row limit) r (inr (inr (inl e))) o = ap (λ z. laid_told z old now (SplitBySize t row limit) Done q) e
+  open_laid c (SplitBySize t row limit) r (inr (inr (inr e))) o = ap (λ z. laid_told z old now (SplitBySize t row limit) Done q) e
+  open_laid c (Splits t) r m o = ap (λ z. laid_told z old now (Splits t) Done q) m.1
+  open_laid c act r m o = absurd (true≢false (sym o))
+
   was_laid : (c : Caller) (act : Act) (r : Told) → MayTell act (granted c act) r → laid_told r old now act (granted c act) q ≡ laid_by old now (work_of act) (granted c act) q
-  was_laid c act r m = of_told (λ z. laid_told z old now act (granted c act) q ≡ laid_by old now (work_of act) (granted c act) q) act (granted c act) r m (told_plain c act) (λ t e counts. exactly_plain c act)
+  was_laid c act r m = of_told (λ z. laid_told z old now act (granted c act) q ≡ laid_by old now (work_of act) (granted c act) q) act (granted c act) r m (told_plain c act) (open_laid c act r m)
 
   was_told : (c : Caller) (act : Act) → told_exactly old now act (granted c act) ≡ told_by old now (work_of act) (granted c act)
   was_told c (Open scan) = refl

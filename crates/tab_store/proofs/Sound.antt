@@ -1,5 +1,5 @@
 -- What a core keeps of a table's tablets by itself.
-use Rattle.std.proofs.Common.{◌≡◌, ◌⊎◌, inl, inr, ℕ, ◌+◌, ◌-◌, ◌<◌, ◌≤◌, List, [], ◌∷◌, ◌++◌, true, not, refl, sym, ◌∙◌, subst, arith}
+use Rattle.std.proofs.Common.{◌≡◌, ◌⊎◌, inl, inr, ℕ, ◌+◌, ◌-◌, ◌<◌, ◌≤◌, List, [], ◌∷◌, ◌++◌, true, not, refl, sym, ◌∙◌, ap, subst, arith}
 use Rattle.std.specs.Prelude.{ℤ, int_le, map, filter, reverse, Contains}
 use mathlib.Core.Bool.{true≢false}
 use Rattle.tab_mutation.specs.Mutations.{Mutation}
@@ -14,14 +14,15 @@ use Rattle.tab_cells.proofs.Written.{distinct_new, records_seq}
 use Rattle.tab_tablet.specs.Tablets.{Tablet, records_in}
 use Rattle.tab_tablet.proofs.Gathered.{permuted_sorted}
 use Rattle.tab_history.specs.Held.{RefinesTable}
-use Rattle.tab_history.specs.Answers.{Told}
 use Rattle.tab_history.proofs.Held.{any_in, not_false}
 use Rattle.tab_history.proofs.HeldWrite.{covers, column_itself, le_itself_z, deleted_by, deleted_from}
 use Rattle.tab_history.proofs.Holds.{holds_nothing}
-use Rattle.tab_store.specs.Stores.{records_of_all}
-use Rattle.tab_store.specs.Stepping.{TabletWork, Freezing, Writing, Compacting, Counting, Place, floor_at, lays}
-use Rattle.tab_store.specs.Keeping.{TabletRefines, is_low, is_high, TabletsRefine, AreWhole, AreSound, updates_after, next_after, GoesOnWell, WorkStaysSound, NewTablesAreSound, SoundLater}
+use Rattle.tab_tablets.specs.ByRow.{records_of_all, AreWhole}
+use Rattle.tab_tablets.specs.Places.{HoldOwnRows}
+use Rattle.tab_store.specs.Stepping.{TabletWork, Freezing, Writing, Compacting, Counting, Splitting, Halving, Listing, Place, floor_at, lays}
+use Rattle.tab_store.specs.Keeping.{TabletRefines, is_low, is_high, TabletsRefine, AreSound, updates_after, next_after, WorkStaysSound, NewTablesAreSound, SoundLater}
 use Rattle.tab_store.proofs.OneTablet.{permuted_refines, later_keeps}
+use Rattle.tab_store.proofs.Accepted.{own_rows}
 use Rattle.tab_store.proofs.AllTablets.{work_keeps, stays_whole, tablets_hold_all}
 
 -- ---- records refine themselves
@@ -41,15 +42,6 @@ same_refines held us next n floor f g lone once numbers = record {
   numbered = λ u c. numbers u (in_from us u c);
 }
 
--- what the tablets hold was accepted
-all_accepted : (ts : List Tablet) (us : List Record) (next n : ℕ) (floor : ℤ) → TabletsRefine ts us next n floor → (u : Record) → IsIn (records_of_all ts) u → IsIn us u
-all_accepted [] us next n floor a u h = absurd h
-all_accepted (t ∷ ts) us next n floor a u h = go (in_append (records_in t) (records_of_all ts) u h) (λ k. all_accepted ts (filter (is_high t.end) us) next n floor a.1 u k)
-  where
-    go : IsIn (records_in t) u ⊎ IsIn (records_of_all ts) u → (IsIn (records_of_all ts) u → IsIn (filter (is_high t.end) us) u) → IsIn us u
-    go (inl k) ih = (in_filter (is_low t.end) us u (in_from _ u (a.0.refines.refines.accepted u (in_to (records_in t) u k)))).0
-    go (inr k) ih = (in_filter (is_high t.end) us u (ih k)).0
-
 -- tablets that refine some updates refine what they hold
 alone : (ts : List Tablet) (us xs : List Record) (next n : ℕ) (floor : ℤ) → TabletsRefine ts us next n floor → ((u : Record) → IsIn xs u → IsIn (records_of_all ts) u) → ((u : Record) → IsIn (records_of_all ts) u → IsIn xs u) → IsDistinct xs → ((u : Record) → IsIn xs u → u.seq < next) → TabletsRefine ts xs next n floor
 alone [] us [] next n floor a f g once numbers = refl
@@ -59,31 +51,28 @@ alone (t ∷ ts) us xs next n floor a f g once numbers = (
   alone ts (filter (is_high t.end) us) (filter (is_high t.end) xs) next n floor a.1 there behind (distinct_filter (is_high t.end) xs once) (λ u h. numbers u (in_filter (is_high t.end) xs u h).0),
 )
   where
-    is_low_of : (u : Record) → IsIn (records_in t) u → is_low t.end u ≡ true
-    is_low_of u h = (in_filter (is_low t.end) us u (in_from _ u (a.0.refines.refines.accepted u (in_to (records_in t) u h)))).1
-
-    is_high_of : (u : Record) → IsIn (records_of_all ts) u → is_high t.end u ≡ true
-    is_high_of u h = (in_filter (is_high t.end) us u (all_accepted ts (filter (is_high t.end) us) next n floor a.1 u h)).1
+    own : HoldOwnRows (t ∷ ts)
+    own = own_rows (t ∷ ts) us next n floor a
 
     here : (u : Record) → IsIn (records_in t) u → IsIn (filter (is_low t.end) xs) u
-    here u h = filter_in (is_low t.end) xs u (g u (in_left (records_in t) (records_of_all ts) u h)) (is_low_of u h)
+    here u h = filter_in (is_low t.end) xs u (g u (in_left (records_in t) (records_of_all ts) u h)) (own.0 u h)
 
     back : (u : Record) → IsIn (filter (is_low t.end) xs) u → IsIn (records_in t) u
     back u h = go (in_append (records_in t) (records_of_all ts) u (f u (in_filter (is_low t.end) xs u h).0))
       where
         go : IsIn (records_in t) u ⊎ IsIn (records_of_all ts) u → IsIn (records_in t) u
         go (inl k) = k
-        go (inr k) = absurd (true≢false (sym (in_filter (is_low t.end) xs u h).1 ∙ not_false _ (is_high_of u k)))
+        go (inr k) = absurd (true≢false (sym (in_filter (is_low t.end) xs u h).1 ∙ own.1 u k))
 
     there : (u : Record) → IsIn (filter (is_high t.end) xs) u → IsIn (records_of_all ts) u
     there u h = go (in_append (records_in t) (records_of_all ts) u (f u (in_filter (is_high t.end) xs u h).0))
       where
         go : IsIn (records_in t) u ⊎ IsIn (records_of_all ts) u → IsIn (records_of_all ts) u
-        go (inl k) = absurd (true≢false (sym (is_low_of u k) ∙ not_false _ (in_filter (is_high t.end) xs u h).1))
+        go (inl k) = absurd (true≢false (sym (own.0 u k) ∙ not_false _ (in_filter (is_high t.end) xs u h).1))
         go (inr k) = k
 
     behind : (u : Record) → IsIn (records_of_all ts) u → IsIn (filter (is_high t.end) xs) u
-    behind u h = filter_in (is_high t.end) xs u (g u (in_right (records_in t) (records_of_all ts) u h)) (is_high_of u h)
+    behind u h = filter_in (is_high t.end) xs u (g u (in_right (records_in t) (records_of_all ts) u h)) (ap not (own.1 u h))
 
 -- ---- the updates after some work
 -- no two stand at one place, and their numbers are used up
@@ -106,6 +95,9 @@ fine_after p Freezing us f = f
 fine_after p (Writing m) us f = fine_written p.next p.now m us f
 fine_after p (Compacting kind) us f = f
 fine_after p Counting us f = f
+fine_after p (Splitting row) us f = f
+fine_after p (Halving row limit) us f = f
+fine_after p Listing us f = f
 
 -- ---- sound tablets
 in_all : (ts : List Tablet) (u : Record) → Contains (sorted (records_of_all ts)) u → Contains (records_of_all ts) u
@@ -132,7 +124,7 @@ work_stays_sound p work plain ts s recent =
     let a : TabletsRefine after (updates_after p work us) (next_after p work) p.settings.versions (floor_at p) = work_keeps p work plain ts us s.whole recent s.refines in
     let h : RefinesTable (records_of_all after) (updates_after p work us) (next_after p work) p.settings.versions (floor_at p) = tablets_hold_all after (updates_after p work us) (next_after p work) p.settings.versions (floor_at p) f.once f.numbers a in
     record {
-      sound = sound_from after (updates_after p work us) (next_after p work) p.settings.versions (floor_at p) (stays_whole p work plain ts s.whole) a h;
+      sound = sound_from after (updates_after p work us) (next_after p work) p.settings.versions (floor_at p) (stays_whole p work plain ts us s.whole s.refines) a h;
       refines = permuted_refines (records_of_all after) (sorted (records_of_all after)) (updates_after p work us) (next_after p work) p.settings.versions (floor_at p) (permuted_sorted (records_of_all after)) h;
     }
 

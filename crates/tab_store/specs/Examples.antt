@@ -23,12 +23,15 @@ use Rattle.tab_history.specs.Answers.{Told}
 use Rattle.tab_history.specs.declared.event.TimeMode.TheVariants.{Any, Server}
 use Rattle.tab_history.specs.declared.event.Extent.TheVariants.{Partial, Full}
 use Rattle.tab_history.specs.declared.event.Act.{Act}
-use Rattle.tab_history.specs.declared.event.Act.TheVariants.{Open, Write, Status, Flush, Compact}
+use Rattle.tab_history.specs.declared.event.Act.TheVariants.{Open, Write, Status, Flush, Compact, AddSplit, SplitBySize, Splits}
+use Rattle.tab_history.specs.declared.split_fault.SplitFault.{SplitFault}
+use Rattle.tab_history.specs.declared.split_fault.SplitFault.TheVariants.{Present, Small, OneRow}
 use Rattle.tab_history.specs.declared.reply.Refusal.{Refusal}
-use Rattle.tab_history.specs.declared.reply.Refusal.TheVariants.{NoMemory, PermissionDenied}
-use Rattle.tab_history.specs.declared.reply.Reply.TheVariants.{Done, Refused, Batch, Counted}
+use Rattle.tab_history.specs.declared.reply.Refusal.TheVariants.{NoMemory, PermissionDenied, BadSplit}
+use Rattle.tab_history.specs.declared.reply.Reply.TheVariants.{Done, Refused, Batch, Counted, Rows}
 use Rattle.tab_history.specs.ExampleWords.{t, f, q, everywhere}
-use Rattle.tab_store.specs.Stores.{Held, records_of_all}
+use Rattle.tab_tablets.specs.ByRow.{records_of_all}
+use Rattle.tab_store.specs.Stores.{Held}
 use Rattle.tab_store.specs.Stepping.{lays, told_exactly, laid_told}
 
 -- names what the examples look into
@@ -208,3 +211,49 @@ refused_freezes_nothing = refl
 lacking_freezes_nothing : on_any (one (codes "a") ∷ Do flush ∷ one (codes "b") ∷ Lacking major ∷ status ∷ Do major ∷ status ∷ []) ≡ Refused NoMemory ∷ counts 1 1 2 ∷ counts 1 1 2 ∷ []
 unfolding everything
 lacking_freezes_nothing = refl
+
+-- ---- splits
+abbrev split : List ℕ → Deed
+split row = Do (AddSplit t row)
+
+abbrev halve : List ℕ → ℕ → Deed
+halve row limit = Do (SplitBySize t row limit)
+
+abbrev ends : Deed
+ends = Do (Splits t)
+
+abbrev refused : SplitFault → Told
+refused why = Refused (BadSplit why)
+
+-- the row of a split goes to the lower tablet, and what lies behind it to the upper one
+split_keeps : on_any (one (codes "m") ∷ put (codes "m" ++ 0 ∷ []) 1 (codes "w") ∷ split (codes "m") ∷ ends ∷ Scan ∷ split (codes "m") ∷ ends ∷ status ∷ [])
+    ≡ Rows (codes "m" ∷ []) ∷ Batch (cell (codes "m") 1 (codes "v") ∷ cell (codes "m" ++ 0 ∷ []) 1 (codes "w") ∷ []) ∷ refused Present ∷ Rows (codes "m" ∷ []) ∷ counts 2 2 2 ∷ []
+unfolding everything
+split_keeps = refl
+
+-- so does what is written later
+writes_part : table_lengths (split (codes "m") ∷ one (codes "a") ∷ one (codes "m") ∷ one (codes "n") ∷ Do flush ∷ []) ≡ (2 ∷ []) ∷ (1 ∷ []) ∷ []
+unfolding everything
+writes_part = refl
+
+-- by size: in the middle of the records, if the tables are large enough and there are two rows
+by_size : on_any (one (codes "a") ∷ one (codes "b") ∷ one (codes "c") ∷ one (codes "d") ∷ Do flush ∷ halve (codes "a") 100000 ∷ halve (codes "a") 1 ∷ ends ∷ status ∷ halve (codes "a") 1 ∷ ends ∷ halve (codes "d") 1 ∷ [])
+    ≡ refused Small ∷ Rows (codes "c" ∷ []) ∷ counts 2 2 4 ∷ Rows (codes "b" ∷ codes "c" ∷ []) ∷ refused OneRow ∷ []
+unfolding everything
+by_size = refl
+
+-- a table keeps its whole size in both tablets, a tablet without tables has none, and no limit is below that
+whole_sizes : on_any (halve (codes "a") 1 ∷ halve (codes "a") 0 ∷ one (codes "a") ∷ one (codes "b") ∷ Do flush ∷ split (codes "c") ∷ halve (codes "d") 1 ∷ []) ≡ refused Small ∷ refused OneRow ∷ refused OneRow ∷ []
+unfolding everything
+whole_sizes = refl
+
+-- a split that is refused freezes nothing, and so does one for which memory lacks; one that is done freezes the tablet
+split_freezes : on_any (one (codes "a") ∷ halve (codes "a") 1 ∷ halve (codes "a") 0 ∷ Lacking (AddSplit t (codes "b")) ∷ status ∷ split (codes "b") ∷ status ∷ one (codes "a") ∷ split (codes "b") ∷ status ∷ [])
+    ≡ refused Small ∷ refused OneRow ∷ Refused NoMemory ∷ counts 1 0 1 ∷ counts 2 2 1 ∷ refused Present ∷ counts 2 2 2 ∷ []
+unfolding everything
+split_freezes = refl
+
+-- it leaves the tablets of other rows alone
+others_stay : on_any (split (codes "b") ∷ one (codes "a") ∷ one (codes "c") ∷ status ∷ split (codes "aa") ∷ status ∷ ends ∷ []) ≡ counts 2 0 2 ∷ counts 3 2 2 ∷ Rows (codes "aa" ∷ codes "b" ∷ []) ∷ []
+unfolding everything
+others_stay = refl

@@ -1,18 +1,18 @@
 -- When tablets refine the updates of their table, and that whatever is done to them leaves them so.
-use Rattle.std.specs.Prelude.{◌≡◌, ℕ, ℤ, ◌+◌, ◌<◌, List, [], ◌∷◌, ◌++◌, Bool, true, not, int_le, filter, map, Contains, Option, Some, None}
-use Rattle.std.specs.declared.cmp.Ordering.TheVariants.{Less}
-use Rattle.tab_key.specs.Bytes.{bytes_cmp}
+use Rattle.std.specs.Prelude.{◌≡◌, ℕ, ℤ, ◌+◌, ◌<◌, List, [], ◌∷◌, ◌++◌, Bool, true, false, not, int_le, filter, Contains, Option, Some, None}
 use Rattle.tab_key.specs.Records.{Record}
 use Rattle.tab_key.specs.Sorted.{sorted, IsDistinct}
 use Rattle.tab_cells.specs.Written.{TimedUpdate, records_of, mutation_records}
 use Rattle.tab_cells.specs.declared.compaction.Compaction.{Compaction}
 use Rattle.tab_tablet.specs.Tablets.{Tablet, is_up_to, new_tablet, records_in, written, frozen, compacted}
+use Rattle.tab_tablet.specs.Splitting.{lower_at, upper_at, middle_row, rows_in}
+use Rattle.tab_tablets.specs.ByRow.{AreWhole, tablet_of, records_of_all, LieApart, is_end}
 use Rattle.tab_history.specs.Settings.{Settings}
 use Rattle.tab_history.specs.Readings.{settings_of, updates_of}
 use Rattle.tab_history.specs.Held.{RefinesTable}
 use Rattle.tab_history.specs.Answers.{Told}
-use Rattle.tab_store.specs.Stores.{HeldTable, Held, base_of, table_in, tablets_in, records_of_all}
-use Rattle.tab_store.specs.Stepping.{TabletWork, Freezing, Writing, Compacting, Counting, Place, floor_at, lays}
+use Rattle.tab_store.specs.Stores.{HeldTable, Held, base_of, table_in, tablets_in}
+use Rattle.tab_store.specs.Stepping.{TabletWork, Freezing, Writing, Compacting, Counting, Splitting, Halving, Listing, Place, floor_at, lays}
 
 -- ---- one tablet
 -- what a tablet holds refines the updates in its rows
@@ -36,7 +36,6 @@ CompactionsKeep = (kind : Compaction) (t : Tablet) (us : List Record) (next n : 
 abbrev pub LaterKeeps : Type 0
 LaterKeeps = (t : Tablet) (us : List Record) (next n : ℕ) (floor higher : ℤ) → int_le floor higher ≡ true → TabletRefines t us next n floor → TabletRefines t us next n higher
 
--- ---- all tablets of a table
 -- whether a record's row is up to an end row, or above it
 abbrev pub is_low : Option (List ℕ) → Record → Bool
 is_low end u = is_up_to end u.key.row
@@ -44,26 +43,16 @@ is_low end u = is_up_to end u.key.row
 abbrev pub is_high : Option (List ℕ) → Record → Bool
 is_high end u = not (is_up_to end u.key.row)
 
+-- a split, whose two tablets refine the updates in their rows each
+abbrev pub SplitsKeep : Type 0
+SplitsKeep = (row : List ℕ) (t : Tablet) (us : List Record) (next n : ℕ) (floor : ℤ) → TabletRefines t us next n floor
+    → TabletRefines (lower_at row t) (filter (is_low (Some row)) us) next n floor × TabletRefines (upper_at row t) (filter (is_high (Some row)) us) next n floor
+
+-- ---- all tablets of a table
 -- Each tablet refines the updates in its rows: those up to its end row, and not up to the end row of one before it.
 abbrev pub TabletsRefine : List Tablet → List Record → ℕ → ℕ → ℤ → Type 0
 TabletsRefine [] us next n floor = us ≡ []
 TabletsRefine (t ∷ ts) us next n floor = TabletRefines t (filter (is_low t.end) us) next n floor × TabletsRefine ts (filter (is_high t.end) us) next n floor
-
--- one end row lies before the next one, of which there may be none
-abbrev pub EndsBefore : Option (List ℕ) → Option (List ℕ) → Type 0
-EndsBefore None next = ⊥
-EndsBefore (Some end) None = Unit {0}
-EndsBefore (Some end) (Some next) = bytes_cmp end next ≡ Less
-
--- they rise strictly, and the last alone is none
-abbrev pub EndsRise : List (Option (List ℕ)) → Type 0
-EndsRise [] = ⊥
-EndsRise (end ∷ []) = end ≡ None
-EndsRise (end ∷ next ∷ ends) = EndsBefore end next × EndsRise (next ∷ ends)
-
--- so each row has one tablet
-abbrev pub AreWhole : List Tablet → Type 0
-AreWhole ts = EndsRise (map (λ (t : Tablet). t.end) ts)
 
 -- ---- The law: so all that the table holds refines all its updates.
 abbrev pub TabletsHoldAll : Type 0
@@ -76,6 +65,9 @@ updates_after p Freezing us = us
 updates_after p (Writing m) us = mutation_records p.next p.now m ++ us
 updates_after p (Compacting kind) us = us
 updates_after p Counting us = us
+updates_after p (Splitting row) us = us
+updates_after p (Halving row limit) us = us
+updates_after p Listing us = us
 
 -- the number of the next write afterwards
 abbrev pub next_after : Place → TabletWork → ℕ
@@ -83,6 +75,9 @@ next_after p Freezing = p.next
 next_after p (Writing m) = p.next + 1
 next_after p (Compacting kind) = p.next
 next_after p Counting = p.next
+next_after p (Splitting row) = p.next
+next_after p (Halving row limit) = p.next
+next_after p Listing = p.next
 
 -- a write has no timestamp below the floor
 abbrev pub IsRecent : Place → TabletWork → Type 0
@@ -90,14 +85,17 @@ IsRecent p Freezing = Unit {0}
 IsRecent p (Writing m) = (u : Record) → Contains (mutation_records p.next p.now m) u → int_le (floor_at p) u.key.timestamp ≡ true
 IsRecent p (Compacting kind) = Unit {0}
 IsRecent p Counting = Unit {0}
+IsRecent p (Splitting row) = Unit {0}
+IsRecent p (Halving row limit) = Unit {0}
+IsRecent p Listing = Unit {0}
 
 abbrev pub WorkKeeps : Type 0
 WorkKeeps = (p : Place) (work : TabletWork) (plain : Told) (ts : List Tablet) (us : List Record) → AreWhole ts → IsRecent p work
     → TabletsRefine ts us p.next p.settings.versions (floor_at p) → TabletsRefine (lays p work plain ts).1 (updates_after p work us) (next_after p work) p.settings.versions (floor_at p)
 
--- ---- The law: and each row has one tablet still.
+-- ---- The law: and each row has one tablet still. (That the row in the middle of a tablet is no end row is known of its own rows.)
 abbrev pub StaysWhole : Type 0
-StaysWhole = (p : Place) (work : TabletWork) (plain : Told) (ts : List Tablet) → AreWhole ts → AreWhole (lays p work plain ts).1
+StaysWhole = (p : Place) (work : TabletWork) (plain : Told) (ts : List Tablet) (us : List Record) → AreWhole ts → TabletsRefine ts us p.next p.settings.versions (floor_at p) → AreWhole (lays p work plain ts).1
 
 -- ---- What a core keeps of a table's tablets by itself, whichever histories it refines.
 -- each row has one tablet; no two records stand at one place, and their numbers are used up; and the tablets refine what they hold
@@ -106,6 +104,15 @@ pub record AreSound (ts : List Tablet) (next n : ℕ) (floor : ℤ) : Type 0 whe
   pub once : IsDistinct (records_of_all ts)
   pub numbered : (u : Record) → Contains (records_of_all ts) u → u.seq < next
   pub refines : TabletsRefine ts (sorted (records_of_all ts)) next n floor
+
+-- ---- The law: then what one tablet holds lies before what the next one holds.
+abbrev pub SoundTabletsLieApart : Type 0
+SoundTabletsLieApart = (ts : List Tablet) (next n : ℕ) (floor : ℤ) → AreSound ts next n floor → LieApart ts
+
+-- ---- The law: and the row in the middle of what one of them holds lies in its own rows, and is no end row.
+abbrev pub MiddlesLieInside : Type 0
+MiddlesLieInside = (ts : List Tablet) (next n : ℕ) (floor : ℤ) (row middle : List ℕ) (t : Tablet) → AreSound ts next n floor → tablet_of row ts ≡ Some t → middle_row (rows_in t) ≡ Some middle
+    → (tablet_of middle ts ≡ Some t) × (is_end middle ts ≡ false)
 
 -- ---- The law: all work keeps it; and what the table holds then refines what it held before, with what was written.
 -- the work goes on well

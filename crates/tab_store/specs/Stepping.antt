@@ -1,6 +1,7 @@
 -- What an event does to the tablets of a core, exactly, and what it is told where histories leave that open.
 use Rattle.std.specs.Prelude.{◌≡◌, ◌⊎◌, ℕ, ℤ, List, [], ◌∷◌, true, cond, Option, Some, None, map, bytes_eq}
 use Rattle.std.specs.Int.{int_max}
+use Rattle.tab_key.specs.declared.part.Part.TheVariants.{Numbers}
 use Rattle.tab_mutation.specs.Mutations.{Mutation}
 use Rattle.tab_cells.specs.Written.{mutation_records}
 use Rattle.tab_cells.specs.declared.compaction.Compaction.{Compaction}
@@ -9,6 +10,10 @@ use Rattle.tab_version.specs.Sources.{left_by}
 use Rattle.tab_compact.specs.Merges.{Merge}
 use Rattle.tab_tablet.specs.Tablets.{Tablet, new_tablet, written, frozen, capture, compacted}
 use Rattle.tab_tablet.specs.Spared.{spared}
+use Rattle.tab_tablets.specs.ByRow.{at_row, ends_of}
+use Rattle.tab_tablets.specs.Splits.{splits, halves}
+use Rattle.tab_tablets.specs.declared.split.Split.{Split}
+use Rattle.tab_tablets.specs.declared.split.Split.TheVariants as split
 use Rattle.tab_history.specs.Settings.{Settings, made_with}
 use Rattle.tab_history.specs.Held.{floor_of}
 use Rattle.tab_history.specs.Answers.{Told, MayTell, event_answer}
@@ -19,12 +24,13 @@ use Rattle.tab_history.specs.declared.event.TimeMode.TheVariants.{Any}
 use Rattle.tab_history.specs.declared.event.Extent.{Extent}
 use Rattle.tab_history.specs.declared.event.Extent.TheVariants as extent
 use Rattle.tab_history.specs.declared.event.Act.{Act}
-use Rattle.tab_history.specs.declared.event.Act.TheVariants.{Open, Write, CreateTable, DropTable, SetConstraints, CreateUser, DropUser, SetAuths, Grant, Revoke, Rights, Status, Flush, Compact}
+use Rattle.tab_history.specs.declared.event.Act.TheVariants.{Open, Write, CreateTable, DropTable, SetConstraints, CreateUser, DropUser, SetAuths, Grant, Revoke, Rights, Status, Flush, Compact, AddSplit, SplitBySize, Splits}
 use Rattle.tab_history.specs.declared.event.Event.{Event}
 use Rattle.tab_history.specs.declared.event.Step.TheVariants.{Event as IsEvent}
-use Rattle.tab_history.specs.declared.reply.Refusal.TheVariants.{NoMemory}
-use Rattle.tab_history.specs.declared.reply.Reply.TheVariants.{Refused, Counted}
-use Rattle.tab_store.specs.Stores.{HeldTable, Held, base_of, NamesRise, table_in, tablets_found, tablets_in, at_row, counts_of}
+use Rattle.tab_history.specs.declared.split_fault.SplitFault.TheVariants as fault
+use Rattle.tab_history.specs.declared.reply.Refusal.TheVariants.{NoMemory, TooLarge, BadSplit}
+use Rattle.tab_history.specs.declared.reply.Reply.TheVariants.{Refused, Counted, Rows}
+use Rattle.tab_store.specs.Stores.{HeldTable, Held, base_of, NamesRise, table_in, tablets_found, tablets_in, counts_of}
 
 -- ---- what an act asks of the tables
 -- what is done with the tablets of a table that is there
@@ -37,6 +43,12 @@ pub data TabletWork : Type 0 where
   Compacting : Compaction → TabletWork
   -- they are counted
   Counting : TabletWork
+  -- the one that holds the row is split there
+  Splitting : List ℕ → TabletWork
+  -- the one that holds the row is split in the middle of what it holds, if its sorted tables come to the limit, in bytes
+  Halving : List ℕ → ℕ → TabletWork
+  -- their end rows are told
+  Listing : TabletWork
 
 -- what is done with tables
 pub data TableWork : Type 0 where
@@ -70,6 +82,9 @@ work_of (Rights t) = Aside
 work_of (Status t) = On t Counting
 work_of (Flush t) = On t (Compacting Minor)
 work_of (Compact t e) = On t (Compacting (kind_of e))
+work_of (AddSplit t row) = On t (Splitting row)
+work_of (SplitBySize t row limit) = On t (Halving row limit)
+work_of (Splits t) = On t Listing
 
 -- ---- what that does to the tablets of one table
 -- what an event finds beside the tablets: the settings of the table, the clock with the event's moment in it, and the number of the next write
@@ -82,12 +97,27 @@ pub record Place : Type 0 where
 abbrev pub floor_at : Place → ℤ
 floor_at p = floor_of p.settings.time p.now p.settings.horizon
 
+-- what is told of a split that ended so, where the answer of histories is this one
+abbrev pub told_split : Told → Split → Told
+told_split plain split.Done = plain
+told_split plain split.Present = Refused (BadSplit fault.Present)
+told_split plain split.Small = Refused (BadSplit fault.Small)
+told_split plain split.OneRow = Refused (BadSplit fault.OneRow)
+told_split plain split.Full = Refused (TooLarge Numbers)
+
+-- the same with the tablets that it left
+abbrev pub laid_split : Told → Split × List Tablet → Told × List Tablet
+laid_split plain s = (told_split plain s.0, s.1)
+
 -- what is told of the work, where the answer of histories is this one, and the tablets afterwards
 unfoldable pub lays : Place → TabletWork → Told → List Tablet → Told × List Tablet
 lays p Freezing plain ts = (plain, map frozen ts)
 lays p (Writing m) plain ts = (plain, at_row m.row (λ t. written (mutation_records p.next p.now m) t ∷ []) ts)
 lays p (Compacting kind) plain ts = (plain, map (compacted kind (floor_at p) p.settings.versions) ts)
 lays p Counting plain ts = (Counted (counts_of ts), ts)
+lays p (Splitting row) plain ts = laid_split plain (splits row ts)
+lays p (Halving row limit) plain ts = laid_split plain (halves row limit ts)
+lays p Listing plain ts = (Rows (ends_of ts), ts)
 
 -- ---- and to all tables
 -- what a table is set to; where there is none, no one looks at this

@@ -1,13 +1,12 @@
 -- What a core holds: tables of tablets, beside the clock, the number of the next write, and the users with their rights.
-use Rattle.std.specs.Prelude.{◌≡◌, ℕ, ℤ, pos, List, [], ◌∷◌, ◌++◌, Option, Some, None, cond, find, length, map, min, sum, bytes_eq}
+use Rattle.std.specs.Prelude.{ℕ, ℤ, List, [], Option, Some, None, find, length, map, min, sum, bytes_eq}
 use Rattle.std.specs.List.Sorted.{IsStrictlySortedBy}
 use Rattle.tab_key.specs.Bytes.{bytes_cmp}
-use Rattle.tab_key.specs.Records.{Record}
 use Rattle.tab_key.specs.Sorted.{sorted}
 use Rattle.tab_policy.specs.State.{State}
-use Rattle.tab_iter.specs.Bags.{flat}
 use Rattle.tab_version.specs.Sources.{count_of}
-use Rattle.tab_tablet.specs.Tablets.{Tablet, is_up_to, records_in}
+use Rattle.tab_tablet.specs.Tablets.{Tablet}
+use Rattle.tab_tablets.specs.ByRow.{records_of_all}
 use Rattle.tab_history.specs.Settings.{Settings}
 use Rattle.tab_history.specs.Bases.{BaseTable, Base}
 use Rattle.tab_history.specs.Refinement.{IsNewCore}
@@ -35,10 +34,6 @@ abbrev pub NamesRise : Held → Type 0
 NamesRise h = RiseByName h.tables
 
 -- ---- what histories see of it
--- all records of some tablets
-abbrev pub records_of_all : List Tablet → List Record
-records_of_all ts = flat (map records_in ts)
-
 -- a table as one rising list of all records that its tablets hold
 abbrev pub base_table_of : HeldTable → BaseTable
 base_table_of t = record { name = t.name; settings = t.settings; records = sorted (records_of_all t.tablets) }
@@ -63,11 +58,6 @@ tablets_found (Some t) = t.tablets
 
 abbrev pub tablets_in : Held → List ℕ → List Tablet
 tablets_in h q = tablets_found (table_in h q)
-
--- Of these tablets the one that holds the row, which is the first whose end isn't before it: in its place are these. (The others stay.)
-abbrev pub at_row : List ℕ → (Tablet → List Tablet) → List Tablet → List Tablet
-at_row row f [] = []
-at_row row f (t ∷ ts) = cond (is_up_to t.end row) (f t ++ ts) (t ∷ at_row row f ts)
 
 -- ---- what is told of tablets
 -- a count, as a reply tells it: the greatest u64 for any above it

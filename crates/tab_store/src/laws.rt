@@ -1,6 +1,6 @@
 //! Laws of the definitions. Each is the contract of a function that does nothing, so that it is proved.
 ghost use Rattle.tab_store.specs.Stepping.{TellsLegally, CapturesAreThere};
-ghost use Rattle.tab_store.specs.Keeping.{FreezesKeep, WritesKeep, CompactionsKeep, LaterKeeps, WorkKeeps, StaysWhole, TabletsHoldAll, WorkStaysSound, NewTablesAreSound, SoundLater, BasesRead};
+ghost use Rattle.tab_store.specs.Keeping.{FreezesKeep, WritesKeep, CompactionsKeep, SplitsKeep, LaterKeeps, WorkKeeps, StaysWhole, TabletsHoldAll, SoundTabletsLieApart, MiddlesLieInside, WorkStaysSound, NewTablesAreSound, SoundLater, BasesRead};
 ghost use Rattle.tab_store.specs.Rightness.{NewStoresAreStores, StoresAreSound, StepsAreRight, StoresStay};
 ghost use Rattle.tab_store.specs.Chains.{ChainsStay, ChainsAreLegal};
 
@@ -17,6 +17,11 @@ pub fn writes_keep()
 /// So does a whole compaction of any kind.
 pub fn compactions_keep()
     ensures { CompactionsKeep }
+{}
+
+/// So does a split, of both its tablets.
+pub fn splits_keep()
+    ensures { SplitsKeep }
 {}
 
 /// So does time that passes.
@@ -37,6 +42,16 @@ pub fn stays_whole()
 /// Where each tablet refines the updates in its rows, all that they hold refines all updates of the table.
 pub fn tablets_hold_all()
     ensures { TabletsHoldAll }
+{}
+
+/// What one tablet of a sound table holds lies before what the next one holds.
+pub fn sound_tablets_lie_apart()
+    ensures { SoundTabletsLieApart }
+{}
+
+/// The row in the middle of what one of them holds lies in its own rows, and is no end row.
+pub fn middles_lie_inside()
+    ensures { MiddlesLieInside }
 {}
 
 /// Work keeps what a core keeps of a table's tablets, and what the table holds then refines what it held before with what was written.

@@ -10,15 +10,19 @@
 //! | `specs/Chains` | chains of exact steps |
 //! | `specs/Examples` | worked examples, computed |
 //! | `specs/Tables` | tables by name, and what calls change of them |
-//! | `table` | one table: its settings, and its tablet |
+//! | `table` | one table: its settings, and its tablets |
 //! | `tables` | tables by name |
 //! | `laws` | the laws of the definitions, each the contract of a function that does nothing |
 //! | `proofs/HeldMerge` | held records still refine the updates once some of them are merged |
-//! | `proofs/ByRows`, `OneTablet`, `AllTablets` | what is done to tablets leaves them refining the updates, row by row |
+//! | `proofs/ByRows`, `OneTablet`, `AllTablets` | what is done to tablets leaves them refining the updates, row by row, and each row has one tablet still |
+//! | `proofs/CutTablet`, `SplitTablets`, `SplitCases` | a split leaves them so too |
+//! | `proofs/Accepted` | what tablets hold was accepted, and lies in their rows |
 //! | `proofs/Sound`, `OneTable` | what a core keeps of a table by itself |
+//! | `proofs/Apart` | its tablets hold what they hold one behind the other |
+//! | `proofs/Middles` | the row in the middle of one of them is no end row |
 //! | `proofs/Reading`, `Telling`, `Right` | exact steps are right ones, act by act |
 //! | `proofs/ChainLaws`, `Joining` | chains of exact steps, and two chains as one |
-//! | `proofs/Single` | a table of one tablet |
+//! | `proofs/Missing` | what is read of a table that is missing |
 //! | `proofs/Named` | tables by name, as the map has them |
 //! | `proofs/Changed` | a change of one table, as an exact step and as histories read it |
 #![tactic(auto)]
@@ -29,9 +33,9 @@ mod tables;
 
 pub use laws::{
     bases_read, captures_are_there, chains_are_legal, chains_stay, compactions_keep, freezes_keep,
-    later_keeps, new_stores_are_stores, new_tables_are_sound, sound_later, stays_whole,
-    steps_are_right, stores_are_sound, stores_stay, tablets_hold_all, tells_legally, work_keeps,
-    work_stays_sound, writes_keep,
+    later_keeps, middles_lie_inside, new_stores_are_stores, new_tables_are_sound, sound_later,
+    sound_tablets_lie_apart, splits_keep, stays_whole, steps_are_right, stores_are_sound,
+    stores_stay, tablets_hold_all, tells_legally, work_keeps, work_stays_sound, writes_keep,
 };
 pub use table::Table;
 pub use tables::Tables;

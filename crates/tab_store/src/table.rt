@@ -7,7 +7,9 @@ ghost use Rattle.tab_cells.specs.Written.{mutation_records};
 ghost use Rattle.tab_tablet.specs.Opened.{ShowsRowsOf};
 ghost use Rattle.tab_tablet.specs.Tablets.{written, frozen, compacted};
 ghost use Rattle.tab_history.specs.Held.{floor_of};
-ghost use Rattle.tab_store.specs.Stores.{at_row, records_of_all, counts_of};
+ghost use Rattle.tab_tablets.specs.ByRow.{at_row, records_of_all, LieApart, ends_of};
+ghost use Rattle.tab_tablets.specs.Splits.{splits, halves};
+ghost use Rattle.tab_store.specs.Stores.{counts_of};
 ghost use Rattle.tab_store.specs.Tables.{made_table, with_tablets, with_constraints};
 
 use std::alloc::{AllocError, Global};
@@ -15,31 +17,28 @@ use std::marker::Model;
 use tab_cells::Compaction;
 use tab_history::{Counts, TimeMode, Versions};
 use tab_iter::NoMemory;
-use tab_key::Bounds;
+use tab_key::{Bounds, ByteString, Items};
 use tab_mutation::Mutation;
 use tab_rules::ConstraintSet;
-use tab_tablet::Tablet;
+use tab_tablets::{Split, Tablets};
 use tab_version::Version;
 
-/// What a table is set to, and its tablet, which holds all of its rows.
+/// What a table is set to, and its tablets.
 #[derive(Drop)]
 pub struct Table {
     time: TimeMode,
     versions: Versions,
     constraints: ConstraintSet,
     horizon: i64,
-    tablet: Tablet,
+    tablets: Tablets,
 }
 
 impl Model for Table {
-    ghost use Rattle.std.specs.Prelude.{◌≡◌, [], ◌∷◌, None};
     ghost use Rattle.tab_store.specs.Tables.{TableState};
 
     ghost Value = { TableState };
 
-    ghost view = { λ t. record { settings = record { time = t.time; versions = t.versions; constraints = t.constraints; horizon = t.horizon }; tablets = t.tablet ∷ [] } };
-
-    ghost invariant = { λ t. t.tablet.end ≡ None };
+    ghost view = { λ t. record { settings = record { time = t.time; versions = t.versions; constraints = t.constraints; horizon = t.horizon }; tablets = t.tablets } };
 }
 
 impl Table {
@@ -52,7 +51,7 @@ impl Table {
             versions,
             constraints: ConstraintSet::none(),
             horizon: i64::MIN,
-            tablet: Tablet::new(alloc),
+            tablets: Tablets::new(alloc),
         }
     }
 
@@ -92,7 +91,7 @@ impl Table {
     }
 
     /// Writes a mutation, whose shape was accepted, to the tablet that holds its row: each update with this number and, where it
-    /// gives no timestamp, this moment. It takes time linear in the mutation.
+    /// gives no timestamp, this moment. It takes time linear in the mutation, and logarithmic in the number of tablets.
     ///
     /// `AllocError` leaves the table as it was.
     pub fn write(&mut self, mutation: &Mutation, seq: u64, now: i64) -> Result<(), AllocError>
@@ -101,25 +100,21 @@ impl Table {
         ensures ok { OnOk result (self.new ≡ with_tablets (at_row mutation.now.row (λ t. written (mutation_records seq now mutation.now) t ∷ [])) self.old) }
         ensures err { OnErr result (self.new ≡ self.old) }
     {
-        self.tablet.write(mutation, seq, now)
+        self.tablets.write(mutation, seq, now)
     }
 
     /// What a scan of these rows reads, as the table is now. Each tablet is frozen.
     ///
-    /// It takes memory for one clip a source, and where anything was written since the last freeze, for a run of that and a share
-    /// of each source. `AllocError` leaves the table as it was: no tablet is frozen either.
+    /// It takes memory for one clip a source of the tablets that hold these rows, and for each tablet to which anything was written
+    /// since its last freeze, for a run of that and a share of each of its sources. `AllocError` leaves the table as it was: no tablet
+    /// is frozen either.
     pub fn open(&mut self, alloc: Global, bounds: &Bounds) -> Result<Version, AllocError>
+        requires apart { LieApart self.old.tablets }
         ensures ok { OnOk result (self.new ≡ with_tablets (map frozen) self.old) }
         ensures answers { IfOk result (λ v. ShowsRowsOf bounds.now (sorted (records_of_all self.old.tablets)) v) }
         ensures err { OnErr result (self.new ≡ self.old) }
     {
-        if self.tablet.is_frozen() {
-            return self.tablet.version(alloc, bounds);
-        }
-        let frozen = self.tablet.frozen(alloc)?;
-        let version = frozen.version(alloc, bounds)?;
-        self.tablet = frozen;
-        Ok(version)
+        self.tablets.open(alloc, bounds)
     }
 
     /// Compacts each tablet, with the floor of this moment and as many versions as the table keeps.
@@ -130,11 +125,40 @@ impl Table {
         ensures err { OnErr result (self.new ≡ self.old) }
     {
         let floor = self.floor(now);
-        let compacted = self
-            .tablet
-            .compacted(alloc, kind, floor, self.versions.get())?;
-        self.tablet = compacted;
-        Ok(())
+        let versions = self.versions.get();
+        self.tablets.compact(alloc, kind, floor, versions)
+    }
+
+    /// Splits the tablet that holds the row, which becomes the last row of the lower one of two tablets. Nothing changes where it is an
+    /// end row already, or where the table has 4,294,967,295 end rows.
+    ///
+    /// Both tablets share the sources of the one that was split, which is frozen first; no record is copied but what was written since
+    /// its last freeze. `AllocError` leaves the table as it was. (Accumulo user manual: tablets, splitting)
+    pub fn split(&mut self, alloc: Global, row: ByteString) -> Result<Split, AllocError>
+        ensures told { IfOk result (λ told. told ≡ (splits row self.old.tablets).0) }
+        ensures ok { OnOk result (self.new ≡ with_tablets (λ ts. (splits row ts).1) self.old) }
+        ensures err { OnErr result (self.new ≡ self.old) }
+    {
+        self.tablets.split(alloc, row)
+    }
+
+    /// Splits the tablet that holds the row in the middle of what it holds, where its sorted tables come to the limit, in bytes. Where
+    /// they are smaller, where it holds no two rows, or where the table has 4,294,967,295 end rows, nothing changes.
+    ///
+    /// `AllocError` leaves the table as it was.
+    pub fn halve(&mut self, alloc: Global, row: &[u8], limit: u64) -> Result<Split, AllocError>
+        ensures told { IfOk result (λ told. told ≡ (halves row.now limit self.old.tablets).0) }
+        ensures ok { OnOk result (self.new ≡ with_tablets (λ ts. (halves row.now limit ts).1) self.old) }
+        ensures err { OnErr result (self.new ≡ self.old) }
+    {
+        self.tablets.halve(alloc, row, limit)
+    }
+
+    /// The end rows of its tablets, rising.
+    pub fn ends(&self, alloc: Global) -> Result<Items<ByteString>, AllocError>
+        ensures { IfOk result (λ ends. ends ≡ ends_of self.now.tablets) }
+    {
+        self.tablets.ends(alloc)
     }
 
     // The time below which no update is accepted any more.
@@ -153,9 +177,9 @@ impl Table {
         ensures { result ≡ counts_of self.now.tablets }
     {
         Counts {
-            tablets: 1,
-            sources: self.tablet.count_sources(),
-            records: self.tablet.count_records(),
+            tablets: self.tablets.len(),
+            sources: self.tablets.count_sources(),
+            records: self.tablets.count_records(),
         }
     }
 }

@@ -10,7 +10,9 @@ ghost use Rattle.tab_policy.specs.Entries.{at_name, changed_at};
 ghost use Rattle.tab_tablet.specs.Opened.{ShowsRowsOf};
 ghost use Rattle.tab_tablet.specs.Tablets.{written, frozen, compacted};
 ghost use Rattle.tab_history.specs.Held.{floor_of};
-ghost use Rattle.tab_store.specs.Stores.{RiseByName, at_row, records_of_all};
+ghost use Rattle.tab_tablets.specs.ByRow.{at_row, records_of_all, LieApart};
+ghost use Rattle.tab_tablets.specs.Splits.{splits, halves};
+ghost use Rattle.tab_store.specs.Stores.{RiseByName};
 ghost use Rattle.tab_store.specs.Tables.{made_table, with_tablets, with_constraints, table_at, changed_table, tablets_of};
 
 use crate::Table;
@@ -20,10 +22,11 @@ use std::marker::Model;
 use tab_cells::Compaction;
 use tab_history::{TimeMode, Versions};
 use tab_iter::NoMemory;
-use tab_key::{Bounds, Name};
+use tab_key::{Bounds, ByteString, Name};
 use tab_mutation::Mutation;
 use tab_policy::NameKey;
 use tab_rules::ConstraintSet;
+use tab_tablets::Split;
 use tab_version::Version;
 
 /// The tables that there are, in the order of their names. A contract sees them as definitions have them, with their tablets.
@@ -37,6 +40,7 @@ impl Model for Tables {
     ghost use Rattle.std.specs.Prelude.{List, map};
     ghost use Rattle.std.specs.BTreeMap.{IsOrdered};
     ghost use Rattle.tab_key.specs.Bytes.{bytes_cmp};
+    ghost use Rattle.tab_tablets.specs.ByRow.{};
     ghost use Rattle.tab_store.specs.Stores.{HeldTable};
     ghost use Rattle.tab_store.specs.Tables.{named_table};
 
@@ -140,6 +144,7 @@ impl Tables {
         name: &Name,
         bounds: &Bounds,
     ) -> Result<Version, AllocError>
+        requires apart { LieApart (tablets_of (table_at self.old name.now)) }
         ensures ok { OnOk result ((q : List ℕ) → table_at self.new q ≡ changed_table name.now (with_tablets (map frozen)) self.old q) }
         ensures answers { IfOk result (λ v. ShowsRowsOf bounds.now (sorted (records_of_all (tablets_of (table_at self.old name.now)))) v) }
         ensures count { length self.new ≡ length self.old }
@@ -166,6 +171,44 @@ impl Tables {
         ensures err { OnErr result (self.new ≡ self.old) }
     {
         compact(&mut self.by_name, alloc, name, kind, now)
+    }
+
+    /// Splits the tablet of the table that holds the row, if there is such a table. The row becomes an end row.
+    ///
+    /// `AllocError` leaves the tables as they were.
+    pub fn split(
+        &mut self,
+        alloc: Global,
+        name: &Name,
+        row: ByteString,
+    ) -> Result<Split, AllocError>
+        ensures told { IfOk result (λ told. told ≡ (splits row (tablets_of (table_at self.old name.now))).0) }
+        ensures ok { OnOk result ((q : List ℕ) → table_at self.new q ≡ changed_table name.now (with_tablets (λ ts. (splits row ts).1)) self.old q) }
+        ensures count { length self.new ≡ length self.old }
+        ensures names { RiseByName self.new }
+        ensures err { OnErr result (self.new ≡ self.old) }
+    {
+        split(&mut self.by_name, alloc, name, row)
+    }
+
+    /// Splits the tablet of the table that holds the row in the middle of what it holds, where its sorted tables come to the limit, in
+    /// bytes, if there is such a table.
+    ///
+    /// `AllocError` leaves the tables as they were.
+    pub fn halve(
+        &mut self,
+        alloc: Global,
+        name: &Name,
+        row: &[u8],
+        limit: u64,
+    ) -> Result<Split, AllocError>
+        ensures told { IfOk result (λ told. told ≡ (halves row.now limit (tablets_of (table_at self.old name.now))).0) }
+        ensures ok { OnOk result ((q : List ℕ) → table_at self.new q ≡ changed_table name.now (with_tablets (λ ts. (halves row.now limit ts).1)) self.old q) }
+        ensures count { length self.new ≡ length self.old }
+        ensures names { RiseByName self.new }
+        ensures err { OnErr result (self.new ≡ self.old) }
+    {
+        halve(&mut self.by_name, alloc, name, row, limit)
     }
 }
 
@@ -234,6 +277,7 @@ fn open(
     name: &Name,
     bounds: &Bounds,
 ) -> Result<Version, AllocError>
+    requires apart { LieApart (tablets_of (at_name name.now tables.old.entries)) }
     ensures ok { OnOk result ((q : List ℕ) → at_name q tables.new.entries ≡ changed_at name.now (with_tablets (map frozen)) tables.old.entries q) }
     ensures answers { IfOk result (λ v. ShowsRowsOf bounds.now (sorted (records_of_all (tablets_of (at_name name.now tables.old.entries)))) v) }
     ensures count { length tables.new.entries ≡ length tables.old.entries }
@@ -250,7 +294,7 @@ fn open(
 fn empty(alloc: Global) -> Version
     ensures { result ≡ [] }
 {
-    Version::new(Vec::new(alloc))
+    Version::of(Vec::new(alloc))
 }
 
 // Compacts the tablets of the table under the name, if there is one.
@@ -270,5 +314,44 @@ fn compact(
     match tables.get_mut(name) {
         Some(table) => table.compact(alloc, kind, now),
         None => Ok(()),
+    }
+}
+
+// Splits the tablet of the row, of the table under the name, if there is one.
+fn split(
+    tables: &mut BTreeMap<NameKey, Table>,
+    alloc: Global,
+    name: &Name,
+    row: ByteString,
+) -> Result<Split, AllocError>
+    ensures told { IfOk result (λ told. told ≡ (splits row (tablets_of (at_name name.now tables.old.entries))).0) }
+    ensures ok { OnOk result ((q : List ℕ) → at_name q tables.new.entries ≡ changed_at name.now (with_tablets (λ ts. (splits row ts).1)) tables.old.entries q) }
+    ensures count { length tables.new.entries ≡ length tables.old.entries }
+    ensures ordered { IsOrdered bytes_cmp tables.new }
+    ensures err { OnErr result (tables.new.entries ≡ tables.old.entries) }
+{
+    match tables.get_mut(name) {
+        Some(table) => table.split(alloc, row),
+        None => Ok(Split::Done),
+    }
+}
+
+// Splits that tablet in the middle, if it is large enough.
+fn halve(
+    tables: &mut BTreeMap<NameKey, Table>,
+    alloc: Global,
+    name: &Name,
+    row: &[u8],
+    limit: u64,
+) -> Result<Split, AllocError>
+    ensures told { IfOk result (λ told. told ≡ (halves row.now limit (tablets_of (at_name name.now tables.old.entries))).0) }
+    ensures ok { OnOk result ((q : List ℕ) → at_name q tables.new.entries ≡ changed_at name.now (with_tablets (λ ts. (halves row.now limit ts).1)) tables.old.entries q) }
+    ensures count { length tables.new.entries ≡ length tables.old.entries }
+    ensures ordered { IsOrdered bytes_cmp tables.new }
+    ensures err { OnErr result (tables.new.entries ≡ tables.old.entries) }
+{
+    match tables.get_mut(name) {
+        Some(table) => table.halve(alloc, row, limit),
+        None => Ok(Split::OneRow),
     }
 }

@@ -1,15 +1,15 @@
-use Rattle.std.proofs.Common.{◌≡◌, Some, sym, ap, ◌∙◌, subst, rules, map, refl}
+use Rattle.std.proofs.Common.{◌≡◌, Some, sym, ap, ◌∙◌, subst, rules, map}
 use Rattle.std.specs.Prelude.{IfOk, None}
 use Rattle.std.proofs.lemmas.Map.Steps.{set_value_same}
-use Rattle.std.proofs.lemmas.Result.{on_ok_weaker, on_err_weaker, IfOk-weaker}
+use Rattle.std.proofs.lemmas.Result.{on_ok_weaker, on_err_weaker}
 use Rattle.tab_key.specs.Sorted.{sorted}
 use Rattle.tab_policy.specs.Entries.{at_name}
 use Rattle.tab_policy.proofs.EntryLemmas.{changed_is}
 use Rattle.tab_tablet.specs.Opened.{ShowsRowsOf}
 use Rattle.tab_tablet.specs.Tablets.{frozen}
-use Rattle.tab_store.specs.Stores.{records_of_all}
+use Rattle.tab_tablets.specs.ByRow.{records_of_all}
 use Rattle.tab_store.specs.Tables.{tablets_of, with_tablets}
-use Rattle.tab_store.proofs.Single.{nothing_shown}
+use Rattle.tab_store.proofs.Missing.{nothing_shown}
 use Rattle.tab_store.proofs.tables.open.Goals as goal
 
 pub returns-in-Some-clause-ok : goal.returns-in-Some-clause-ok

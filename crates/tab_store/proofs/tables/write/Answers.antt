@@ -6,8 +6,8 @@ use Rattle.tab_cells.specs.Written.{mutation_records}
 use Rattle.tab_policy.specs.Entries.{at_name}
 use Rattle.tab_policy.proofs.EntryLemmas.{changed_is}
 use Rattle.tab_tablet.specs.Tablets.{written}
-use Rattle.tab_store.specs.Stores.{at_row, records_of_all}
-use Rattle.tab_store.specs.Tables.{TableState, tablets_of, with_tablets}
+use Rattle.tab_tablets.specs.ByRow.{at_row, records_of_all}
+use Rattle.tab_store.specs.Tables.{tablets_of, with_tablets}
 use Rattle.tab_store.proofs.tables.write.Goals as goal
 
 pub write-requires-clause-unused : goal.write-requires-clause-unused

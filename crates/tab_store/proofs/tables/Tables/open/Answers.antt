@@ -4,10 +4,17 @@ use Rattle.std.proofs.lemmas.Result.{on_ok_weaker, on_err_weaker}
 use Rattle.tab_key.specs.Sorted.{sorted}
 use Rattle.tab_tablet.specs.Opened.{ShowsRowsOf}
 use Rattle.tab_tablet.specs.Tablets.{frozen}
-use Rattle.tab_store.specs.Stores.{HeldTable, records_of_all}
+use Rattle.tab_tablets.specs.ByRow.{records_of_all, LieApart}
+use Rattle.tab_store.specs.Stores.{HeldTable}
 use Rattle.tab_store.specs.Tables.{named_table, with_tablets, table_at, tablets_of}
 use Rattle.tab_store.proofs.Named.{table_found, table_changed, count_kept, rises}
 use Rattle.tab_store.proofs.tables.Tables.open.Goals as goal
+
+pub open-requires : goal.open-requires
+open-requires c = record {
+  apart = subst (λ o. LieApart (tablets_of o)) (table_found c.self.inside.by_name.entries c.args.name.now)
+      (subst (λ (ts : List HeldTable). LieApart (tablets_of (table_at ts c.args.name.now))) (sym c.self.view_is) c.requires.apart);
+}
 
 pub returns-clause-ok : goal.returns-clause-ok
 returns-clause-ok c = rw (← c.self.view_is) (on_ok_weaker c.open.result (table_changed c.self.inside.by_name.entries c.open.new.tables.entries c.args.name.now (with_tablets (map frozen))) c.open.ensures.ok)

@@ -4,7 +4,8 @@ use Rattle.std.proofs.lemmas.Result.{on_ok_weaker, on_err_weaker}
 use Rattle.tab_cells.specs.Written.{mutation_records}
 use Rattle.tab_policy.specs.Entries.{at_name, changed_at}
 use Rattle.tab_tablet.specs.Tablets.{written}
-use Rattle.tab_store.specs.Stores.{HeldTable, at_row, records_of_all}
+use Rattle.tab_tablets.specs.ByRow.{at_row, records_of_all}
+use Rattle.tab_store.specs.Stores.{HeldTable}
 use Rattle.tab_store.specs.Tables.{TableState, named_table, with_tablets, table_at, tablets_of}
 use Rattle.tab_store.proofs.Named.{table_found, table_changed, count_kept, rises}
 use Rattle.tab_store.proofs.tables.Tables.write.Goals as goal
