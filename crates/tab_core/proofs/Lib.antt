@@ -7,6 +7,7 @@ pub mod OwnerLemmas
 pub mod PolicyActs
 pub mod Runs
 pub mod SlotLemmas
+pub mod Splitting
 pub mod Steps
 pub mod TableActs
 pub mod Writing

@@ -1,6 +1,7 @@
 -- Sessions that are opened, and what a caller is told of his rights.
 use Rattle.std.proofs.Common.{◌≡◌, ◌⊎◌, inl, inr, ℕ, List, [], true, refl, sym, ◌∙◌, ap, subst, length, map, Option, Some, None, Result, Ok, Err}
 use Rattle.std.specs.Prelude.{ℤ, IfOk, OnOk, OnErr}
+use Rattle.std.specs.Option.{option_map}
 use Rattle.tab_key.specs.Sorted.{sorted}
 use Rattle.tab_mutation.specs.Shape.{first_some}
 use Rattle.tab_policy.specs.declared.permission.SystemPermission.{SystemPermission}
@@ -23,9 +24,13 @@ use Rattle.tab_history.specs.Readings.{held_auths, has_system_right, has_table_r
 use Rattle.tab_history.specs.Checks.{standing, scan_checks}
 use Rattle.tab_history.specs.Answers.{told, told_opened, session_list, listed, query_of}
 use Rattle.tab_history.proofs.RightsTold.{rights_are_told}
-use Rattle.tab_store.specs.Stores.{HeldTable, Held, RiseByName, base_of, records_of_all}
+use Rattle.tab_iter.proofs.ListLaws.{rises_none}
+use Rattle.tab_tablets.specs.ByRow.{records_of_all, LieApart}
+use Rattle.tab_store.specs.Stores.{HeldTable, Held, RiseByName, base_of, table_in}
 use Rattle.tab_store.specs.Stepping.{lays, told_exactly, laid_told}
-use Rattle.tab_store.specs.Tables.{TableState, with_tablets, table_at, changed_table, settings_at, tablets_of}
+use Rattle.tab_store.specs.Tables.{TableState, with_tablets, state_of, table_at, changed_table, settings_at, tablets_of}
+use Rattle.tab_store.specs.Rightness.{IsStore}
+use Rattle.tab_store.proofs.Apart.{sound_tablets_lie_apart}
 use Rattle.tab_store.proofs.Changed.{records_read, settings_read, settings_kept, table_frozen}
 use Rattle.tab_core.specs.Holding.{versions_shown}
 use Rattle.tab_core.specs.Stepping.{Acts, ActsOnTables, own_answer, IsCore}
@@ -44,6 +49,14 @@ cells_listed ts t q = go (table_at ts t)
     go : (o : Option TableState) → cells (sorted (records_of_all (tablets_of o))) (versions_shown (settings_at o)) q ≡ listed (sorted (records_of_all (tablets_of o))) q (settings_at o)
     go None = cells_of_none 0 q
     go (Some s) = refl
+
+-- what one tablet of a table holds lies before what the next one holds
+pub tablets_apart : (h : Held) → IsStore h → (q : List ℕ) → LieApart (tablets_of (table_at h.tables q))
+tablets_apart h store q = go (table_in h q) refl
+  where
+    go : (o : Option HeldTable) → table_in h q ≡ o → LieApart (tablets_of (option_map state_of o))
+    go None e = rises_none
+    go (Some t) e = sound_tablets_lie_apart t.tablets h.next t.settings.versions _ (store.tables q t e)
 
 -- ---- a scan
 own_open : (h : Held) (now : ℤ) (user : List ℕ) (scan : Scan) (auths : List (List ℕ)) → auths_of h.policy user ≡ auths → own_answer (base_of h) now user (act.Open scan) ≡ told (first_some (scan_checks auths scan)) told_opened

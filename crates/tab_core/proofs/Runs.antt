@@ -13,7 +13,7 @@ use Rattle.tab_history.specs.declared.event.Step.TheVariants.{Event as IsEvent, 
 use Rattle.tab_history.specs.declared.reply.Refusal.{Refusal}
 use Rattle.tab_history.specs.declared.reply.Refusal.TheVariants.{NoMemory, TooLarge, NoSession}
 use Rattle.tab_history.specs.declared.reply.Reply.{Reply}
-use Rattle.tab_history.specs.declared.reply.Reply.TheVariants.{Done, Refused, Opened, Batch, Rights, Counted}
+use Rattle.tab_history.specs.declared.reply.Reply.TheVariants.{Done, Refused, Opened, Batch, Rights, Counted, Rows}
 use Rattle.tab_history.specs.Bases.{Base}
 use Rattle.tab_history.specs.Answers.{Told, told_of, session_of, answer, event_answer, IsEventReply, next_answer, close_answer, is_open, moves_by, session_list}
 use Rattle.tab_cells.specs.SessionState.{SessionState}
@@ -52,6 +52,7 @@ next_slots w j b h user slot n Done ss ss' from are = subst (λ (l : List (Optio
 next_slots w j b h user slot n (Refused r) ss ss' from are = subst (λ (l : List (Option SessionState)). SlotsAre j l) (sym from.after) are
 next_slots w j b h user slot n (Rights r) ss ss' from are = subst (λ (l : List (Option SessionState)). SlotsAre j l) (sym from.after) are
 next_slots w j b h user slot n (Counted counts) ss ss' from are = subst (λ (l : List (Option SessionState)). SlotsAre j l) (sym from.after) are
+next_slots w j b h user slot n (Rows rows) ss ss' from are = subst (λ (l : List (Option SessionState)). SlotsAre j l) (sym from.after) are
 next_slots w j b h user slot n (Opened s) ss ss' from are = subst (λ (l : List (Option SessionState)). SlotsAre j l) (sym from.after) are
 
 next_answers : (w : World) (h : List Entry) (user : List ℕ) (slot n : ℕ) (reply : Told) (ss ss' : List (Option SessionState)) → NextFrom ss slot n reply ss' → SlotsAre (moves_of w user h) ss → IsAnswer w h h (Next user slot n) reply ⊎ LacksMemory (Next user slot n) reply
@@ -83,6 +84,7 @@ close_slots w j b h user slot (Batch cells) ss ss' from are = subst (λ (l : Lis
 close_slots w j b h user slot (Refused r) ss ss' from are = subst (λ (l : List (Option SessionState)). SlotsAre j l) (sym from.after) are
 close_slots w j b h user slot (Rights r) ss ss' from are = subst (λ (l : List (Option SessionState)). SlotsAre j l) (sym from.after) are
 close_slots w j b h user slot (Counted counts) ss ss' from are = subst (λ (l : List (Option SessionState)). SlotsAre j l) (sym from.after) are
+close_slots w j b h user slot (Rows rows) ss ss' from are = subst (λ (l : List (Option SessionState)). SlotsAre j l) (sym from.after) are
 close_slots w j b h user slot (Opened s) ss ss' from are = subst (λ (l : List (Option SessionState)). SlotsAre j l) (sym from.after) are
 
 close_answers : (w : World) (h : List Entry) (user : List ℕ) (slot : ℕ) (reply : Told) (ss ss' : List (Option SessionState)) → CloseFrom ss slot reply ss' → SlotsAre (moves_of w user h) ss → IsAnswer w h h (Close user slot) reply ⊎ LacksMemory (Close user slot) reply
@@ -126,6 +128,7 @@ other_slots w j h event Done ss none_opens are = are
 other_slots w j h event (Refused r) ss none_opens are = are
 other_slots w j h event (Rights r) ss none_opens are = are
 other_slots w j h event (Counted counts) ss none_opens are = are
+other_slots w j h event (Rows rows) ss none_opens are = are
 other_slots w j h event (Opened s) ss none_opens are = subst (λ (b : Bool). SlotsAre (cond b (Opening (session_list w.base (journal w h) event.act) ∷ []) [] ++ j) ss) (sym none_opens) are
 
 other_longer : (old new : Base) (os : List Owner) (event : Event) (r : Reply SessionState) → is_open event.act ≡ false → Steps old event r new → Lengthens old os (IsEvent event) (told_of r) new os
@@ -148,6 +151,7 @@ kept_slots w j h event Done ss opens hands are = are
 kept_slots w j h event (Refused x) ss opens hands are = are
 kept_slots w j h event (Rights x) ss opens hands are = are
 kept_slots w j h event (Counted counts) ss opens hands are = are
+kept_slots w j h event (Rows rows) ss opens hands are = are
 kept_slots w j h event (Opened s) ss opens hands are =
     let list : List Cell = session_list w.base (journal w h) event.act in
     let there : SlotsAre (Opening list ∷ j) (ss ++ Some s ∷ []) = subst (λ (x : SessionState). SlotsAre (Opening list ∷ j) (ss ++ Some x ∷ [])) (sym hands) (slots_opened j ss list are) in

@@ -11,7 +11,7 @@ use Rattle.tab_history.specs.declared.event.Step.TheVariants.{Event as IsEvent}
 use Rattle.tab_history.specs.declared.reply.Refusal.{Refusal}
 use Rattle.tab_history.specs.declared.reply.Refusal.TheVariants as refusal
 use Rattle.tab_history.specs.declared.reply.Reply.{Reply}
-use Rattle.tab_history.specs.declared.reply.Reply.TheVariants.{Done, Refused, Opened, Batch, Rights, Counted}
+use Rattle.tab_history.specs.declared.reply.Reply.TheVariants.{Done, Refused, Opened, Batch, Rights, Counted, Rows}
 use Rattle.tab_history.specs.Bases.{Base, BaseTable}
 use Rattle.tab_history.specs.Changes.{Change}
 use Rattle.tab_history.specs.Readings.{has_user, user_count, held_auths, has_system_right, has_table_right, table_count, base_settings, settings_of, next_number}
@@ -67,6 +67,7 @@ refusal_moved e refusal.BadRange c = refl
 refusal_moved e refusal.RootFixed c = refl
 refusal_moved e refusal.GrantInvalid c = refl
 refusal_moved e (refusal.BelowHorizon i) c = refl
+refusal_moved e (refusal.BadSplit f) c = refl
 
 clock_moved : (e : Event) (r : Told) (c : ℤ) → clock_after (IsEvent e) r c ≡ cond (moves_clock r) (int_max c e.moment) c
 clock_moved e Done c = refl
@@ -75,6 +76,7 @@ clock_moved e (Opened u) c = refl
 clock_moved e (Batch cells) c = refl
 clock_moved e (Rights rights) c = refl
 clock_moved e (Counted counts) c = refl
+clock_moved e (Rows rows) c = refl
 
 -- ---- one step, seen from the core alone
 changes_alike : (now : ℤ) (e : Event) (r : Told) → changes_by now (IsEvent e) r ≡ changes_told now e.user e.act r
@@ -84,6 +86,7 @@ changes_alike now e (Opened u) = refl
 changes_alike now e (Batch cells) = refl
 changes_alike now e (Rights rights) = refl
 changes_alike now e (Counted counts) = refl
+changes_alike now e (Rows rows) = refl
 
 -- no session was opened in no entry
 room_alone : (w : World) (e : Event) → HasRoom w [] (IsEvent e)

@@ -15,7 +15,8 @@ use Rattle.tab_history.specs.Changes.{changes_of}
 use Rattle.tab_history.specs.Readings.{has_user, user_count, held_auths, has_system_right, has_table_right, table_count, settings_of, next_number}
 use Rattle.tab_history.specs.Checks.{standing, mutation_checks}
 use Rattle.tab_history.specs.Answers.{Told, told, numbered}
-use Rattle.tab_store.specs.Stores.{HeldTable, Held, RiseByName, base_of, at_row}
+use Rattle.tab_tablets.specs.ByRow.{at_row}
+use Rattle.tab_store.specs.Stores.{HeldTable, Held, RiseByName, base_of}
 use Rattle.tab_store.specs.Stepping.{Writing, On, lays}
 use Rattle.tab_store.specs.Tables.{TableState, with_tablets, table_at, changed_table, settings_at}
 use Rattle.tab_store.proofs.Changed.{settings_read, count_read, settings_kept, table_written}

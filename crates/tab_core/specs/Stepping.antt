@@ -15,7 +15,7 @@ use Rattle.tab_history.specs.declared.event.Step.TheVariants.{Event as IsEvent}
 use Rattle.tab_history.specs.declared.reply.Refusal.{Refusal}
 use Rattle.tab_history.specs.declared.reply.Refusal.TheVariants.{NoMemory, TooLarge, NoSession}
 use Rattle.tab_history.specs.declared.reply.Reply.{Reply}
-use Rattle.tab_history.specs.declared.reply.Reply.TheVariants.{Done, Refused, Opened, Batch, Rights, Counted}
+use Rattle.tab_history.specs.declared.reply.Reply.TheVariants.{Done, Refused, Opened, Batch, Rights, Counted, Rows}
 use Rattle.tab_history.specs.Bases.{Base}
 use Rattle.tab_history.specs.Settings.{Settings}
 use Rattle.tab_history.specs.Changes.{Change, changes_of}
@@ -40,6 +40,7 @@ HandsOut (Refused refusal) all = Unit {0}
 HandsOut (Batch cells) all = Unit {0}
 HandsOut (Rights rights) all = Unit {0}
 HandsOut (Counted counts) all = Unit {0}
+HandsOut (Rows rows) all = Unit {0}
 
 -- What an event did to a core that was old before, as every history sees it that the core refined.
 pub record Steps (old : Base) (event : Event) (reply : Reply SessionState) (new : Base) : Type 0 where

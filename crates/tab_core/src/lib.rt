@@ -9,7 +9,7 @@
 //! | `state` | the core, and its step |
 //! | `store` | what a core holds, and what an event does to it: the policy decides once, then the act is done |
 //! | `policing` | what the policy is asked, and the refusal of whom it doesn't admit |
-//! | `acts`, `users`, `granting`, `writes`, `scans`, `tablets` | what each act does |
+//! | `acts`, `users`, `granting`, `writes`, `scans`, `tablets`, `splits` | what each act does |
 //! | `checking` | the checks that are an event's own |
 //! | `reply` | replies without what they hand out |
 //! | `slots`, `running` | the sessions of one user in a run, and runs of steps |
@@ -28,6 +28,7 @@ mod reply;
 mod running;
 mod scans;
 mod slots;
+mod splits;
 mod state;
 mod store;
 mod tablets;

@@ -26,6 +26,9 @@ pub fn action_of(act: &Act) -> Action<'_>
         Act::Status(table) => Action::OnTable(TableAction::Status, table),
         Act::Flush(table) => Action::OnTable(TableAction::Flush, table),
         Act::Compact(table, _) => Action::OnTable(TableAction::Compact, table),
+        Act::AddSplit(table, _) => Action::OnTable(TableAction::AddSplit, table),
+        Act::SplitBySize(table, _, _) => Action::OnTable(TableAction::SplitBySize, table),
+        Act::Splits(table) => Action::OnTable(TableAction::Splits, table),
     }
 }
 

@@ -26,8 +26,9 @@ pub struct Owner {
 
 /// Answers the steps in order, beginning with a new core, and keeps each user's sessions.
 ///
-/// Each event is one step of that core, exactly: a Flush and a Compact lay its records otherwise, and a Status counts them as they
-/// lie. What is no event leaves the core as it was: a Next, a Close, and what is refused for want of memory or by a full list of sessions.
+/// Each event is one step of that core, exactly: a Flush, a Compact and a split lay its records otherwise, a Status counts them as they
+/// lie, and a Splits tells the end rows that there are. What is no event leaves the core as it was: a Next, a Close, and what is refused
+/// for want of memory or by a full list of sessions.
 ///
 /// The k-th session opened for a user, counted from 0, has the slot k, which closing it empties for good. Past 65,536
 /// open sessions of one user an Open is refused. Where memory lacks for a step, that step is refused and the run goes on;

@@ -2,8 +2,9 @@
 ghost use Rattle.std.specs.Prelude.{◌≡◌, ℕ, ℤ, List, map, length, IfOk, OnOk, OnErr};
 ghost use Rattle.tab_key.specs.Sorted.{sorted};
 ghost use Rattle.tab_tablet.specs.Tablets.{frozen};
+ghost use Rattle.tab_tablets.specs.ByRow.{records_of_all, LieApart};
 ghost use Rattle.tab_history.specs.Answers.{listed, query_of};
-ghost use Rattle.tab_store.specs.Stores.{RiseByName, records_of_all};
+ghost use Rattle.tab_store.specs.Stores.{RiseByName};
 ghost use Rattle.tab_store.specs.Tables.{table_at, changed_table, with_tablets, settings_at, tablets_of};
 ghost use Rattle.tab_core.specs.Holding.{versions_shown};
 ghost use Rattle.tab_core.specs.Stepping.{ActsOnTables};
@@ -23,6 +24,7 @@ pub fn open(
     authorizations: &AuthSet,
     scan: Scan,
 ) -> Reply<Session>
+    requires { LieApart (tablets_of (table_at tables.old scan.table)) }
     ensures { (now : ℤ) (next : ℕ) → ActsOnTables authorizations.now now (Act.Open scan) tables.old next result tables.new next }
 {
     if let Some(refusal) = scan_refusal(alloc, authorizations, &scan) {
@@ -33,6 +35,7 @@ pub fn open(
 
 // A session on what the scan shows of its table, on nothing where there is no such table. The table's tablets are frozen.
 fn session_on(alloc: Global, tables: &mut Tables, scan: Scan) -> Result<Session, AllocError>
+    requires { LieApart (tablets_of (table_at tables.old scan.table)) }
     ensures ok { OnOk result ((q : List ℕ) → table_at tables.new q ≡ changed_table scan.table (with_tablets (map frozen)) tables.old q) }
     ensures opened { IfOk result (λ s. s ≡ record { all = listed (sorted (records_of_all (tablets_of (table_at tables.old scan.table)))) (query_of scan) (settings_at (table_at tables.old scan.table)); given = 0 }) }
     ensures count { length tables.new ≡ length tables.old }

@@ -57,8 +57,8 @@ impl Core {
     /// The first failing check gives the refusal: the caller is unknown; a table that is named doesn't exist; a permission
     /// is missing; then the event's own checks. A refused event changes no user, cell, right or table, and freezes no tablet; it moves
     /// the clock to its moment unless it was refused for memory, when the core stands as before. Memory lacks only for acts that take
-    /// some. A session that is handed out shows the scan's answer as it is now, for good. Where records lie after a flush or a
-    /// compaction, and what a status counts, is said exactly.
+    /// some. A session that is handed out shows the scan's answer as it is now, for good. Where records lie after a flush, a compaction
+    /// or a split, which splits are refused, and what a status counts, is said exactly.
     pub fn step(&mut self, alloc: Global, event: Event) -> Reply<Session>
         ensures steps { Steps (base_of self.old) event result (base_of self.new) }
         ensures exact { LaysExactly self.old (now_at self.old event) event.act (plain_answer self.old event) (told_of result) self.new }

@@ -69,6 +69,11 @@ impl Store {
             Act::Status(table) => self.status(now, user, table),
             Act::Flush(table) => self.flush(alloc, now, user, table),
             Act::Compact(table, extent) => self.compact(alloc, now, user, table, extent),
+            Act::AddSplit(table, row) => self.add_split(alloc, now, user, table, row),
+            Act::SplitBySize(table, row, limit) => self.split_by_size(
+                alloc, now, user, table, row, limit,
+            ),
+            Act::Splits(table) => self.splits(alloc, now, user, table),
         }
     }
 }

@@ -1,5 +1,5 @@
 //! Compactions of a table's tablets, and what is told of them.
-ghost use Rattle.std.specs.Prelude.{◌≡◌, ℕ, List, map, length, OnErr, OnOk};
+ghost use Rattle.std.specs.Prelude.{◌≡◌, OnErr, OnOk};
 ghost use Rattle.tab_store.specs.Stores.{counts_of};
 ghost use Rattle.tab_store.specs.Stepping.{kind_of};
 ghost use Rattle.tab_store.specs.Tables.{table_at, tablets_of};

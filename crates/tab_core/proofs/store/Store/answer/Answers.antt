@@ -11,6 +11,7 @@ use Rattle.tab_store.proofs.Changed.{next_unused}
 use Rattle.tab_core.specs.Holding.{held}
 use Rattle.tab_core.specs.Stepping.{Acts}
 use Rattle.tab_core.proofs.Admitting.{denied, admitted, is_admitted}
+use Rattle.tab_core.proofs.Opening.{tablets_apart}
 use Rattle.tab_core.proofs.Writing.{table_there}
 use Rattle.tab_core.proofs.store.Store.answer.Goals as goal
 
@@ -34,6 +35,9 @@ write-requires-clause-unused c = next_unused (held c.args.self.now) c.requires.s
 
 pub write-requires-clause-there : goal.write-requires-clause-there
 write-requires-clause-there c = table_there (held c.args.self.now) c.args.user c.in-Write.table c.in-Write.mutation (is_admitted (held c.args.self.now) c.args.user c.args.act _ _ c.requires c.action_of.ensures c.in-Ok.ensures.decided c.in-Write.is)
+
+pub open-requires : goal.open-requires
+open-requires c = tablets_apart (held c.args.self.now) c.requires.store c.in-Open.scan.table
 
 pub returns-in-Open : goal.returns-in-Open
 returns-in-Open c =
@@ -107,3 +111,18 @@ pub returns-in-Compact : goal.returns-in-Compact
 returns-in-Compact c =
     let trip : to_z w64 (of_z w64 c.args.now) ≡ c.args.now = search rules in
     admitted (held c.args.self.now) (held c.compact.new.self) c.args.now _ c.args.user c.args.act _ _ c.compact.result c.requires c.action_of.ensures c.in-Ok.ensures.decided c.in-Compact.is trip c.compact.ensures
+
+pub returns-in-AddSplit : goal.returns-in-AddSplit
+returns-in-AddSplit c =
+    let trip : to_z w64 (of_z w64 c.args.now) ≡ c.args.now = search rules in
+    admitted (held c.args.self.now) (held c.add_split.new.self) c.args.now _ c.args.user c.args.act _ _ c.add_split.result c.requires c.action_of.ensures c.in-Ok.ensures.decided c.in-AddSplit.is trip c.add_split.ensures
+
+pub returns-in-SplitBySize : goal.returns-in-SplitBySize
+returns-in-SplitBySize c =
+    let trip : to_z w64 (of_z w64 c.args.now) ≡ c.args.now = search rules in
+    admitted (held c.args.self.now) (held c.split_by_size.new.self) c.args.now _ c.args.user c.args.act _ _ c.split_by_size.result c.requires c.action_of.ensures c.in-Ok.ensures.decided c.in-SplitBySize.is trip c.split_by_size.ensures
+
+pub returns-in-Splits : goal.returns-in-Splits
+returns-in-Splits c =
+    let trip : to_z w64 (of_z w64 c.args.now) ≡ c.args.now = search rules in
+    admitted (held c.args.self.now) (held c.args.self.now) c.args.now _ c.args.user c.args.act _ _ c.splits.result c.requires c.action_of.ensures c.in-Ok.ensures.decided c.in-Splits.is trip c.splits.ensures
