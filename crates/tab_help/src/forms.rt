@@ -21,7 +21,10 @@ pub const LINES: &str = "  as U
   scan T AUTHS [LOW HIGH [COLS]]
   flush T
   compact T EXTENT
-  status T";
+  status T
+  addsplit T ROW
+  splitsize T ROW LIMIT
+  splits T";
 
 /// The updates of a `mutate`, as the lines.
 pub const UPDATES: &str = "  put FAM QUAL LABEL VALUE STAMP
@@ -48,6 +51,7 @@ pub const KINDS: &str = "  U                  a user's name: 1 to 128 of a-z A-Z
   HIGH               [ and a byte word (up to this row), ( and a byte word (before it), or \\0 for no bound
   COLS               FAM or FAM:QUAL, with commas between them, or \\0 for all
   EXTENT             partial or full
+  LIMIT              a number of bytes: a whole number of 64 bits without a sign, as 1000
   UPDATE             put or del, and the words behind it
   ;                  between two updates";
 

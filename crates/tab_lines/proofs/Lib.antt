@@ -13,4 +13,5 @@ pub mod ListLaw
 pub mod ColumnLaw
 pub mod UpdateLaw
 pub mod PermissionLaw
+pub mod SplitLaw
 pub mod LineLaw

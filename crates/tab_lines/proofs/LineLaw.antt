@@ -18,7 +18,7 @@ use Rattle.tab_history.specs.declared.event.Extent.{Extent}
 use Rattle.tab_history.specs.declared.event.Extent.TheVariants.{Partial, Full}
 use Rattle.tab_history.specs.declared.event.TimeMode.{TimeMode}
 use Rattle.tab_history.specs.declared.event.TimeMode.TheVariants.{Any, Server}
-use Rattle.tab_history.specs.declared.event.Act.TheVariants.{CreateTable, DropTable, CreateUser, DropUser, SetAuths, Grant, Revoke, SetConstraints, Write, Rights, Status, Flush, Compact}
+use Rattle.tab_history.specs.declared.event.Act.TheVariants.{CreateTable, DropTable, CreateUser, DropUser, SetAuths, Grant, Revoke, SetConstraints, Write, Rights, Status, Flush, Compact, Splits}
 use Rattle.tab_lines.specs.declared.line.Line.{Line}
 use Rattle.tab_lines.specs.declared.line.Line.TheVariants as says
 use Rattle.tab_lines.specs.declared.command.Command.{Command}
@@ -34,7 +34,7 @@ use Rattle.tab_lines.specs.Lines.{name_alone, grant_of, settings_at, settings, c
 use Rattle.tab_lines.specs.Forms.{IsNameWord, IsNumber, IsList, IsConstraint, IsBound, IsVersions, time_name, extent_name, AreSettings, IsPermission, IsLastTimestamp, AreUpdates, AreLimits, Form, IsLine, LinesAreForms}
 use Rattle.tab_lines.specs.Forms.AreSettings.{neither as set_neither, time as set_time, versions as set_versions, both as set_both}
 use Rattle.tab_lines.specs.Forms.AreLimits.{all as limit_all, rows as limit_rows, columns as limit_columns}
-use Rattle.tab_lines.specs.Forms.Form.{blank as form_blank, asker as form_asker, at as form_at, createtable as form_createtable, droptable as form_droptable, createuser as form_createuser, dropuser as form_dropuser, setauths as form_setauths, grant as form_grant, revoke as form_revoke, rights as form_rights, constraints as form_constraints, insert as form_insert, delete as form_delete, mutate as form_mutate, scan as form_scan, flush as form_flush, compact as form_compact, status as form_status}
+use Rattle.tab_lines.specs.Forms.Form.{blank as form_blank, asker as form_asker, at as form_at, createtable as form_createtable, droptable as form_droptable, createuser as form_createuser, dropuser as form_dropuser, setauths as form_setauths, grant as form_grant, revoke as form_revoke, rights as form_rights, constraints as form_constraints, insert as form_insert, delete as form_delete, mutate as form_mutate, scan as form_scan, flush as form_flush, compact as form_compact, status as form_status, addsplit as form_addsplit, splitsize as form_splitsize, splits as form_splits}
 use Rattle.tab_lines.specs.Forms.IsLine.{comment as line_comment, words as line_words}
 use Rattle.tab_lines.proofs.WordLaw.{words_read}
 use Rattle.tab_lines.proofs.WordsLaw.{words_sound, words_complete}
@@ -42,6 +42,7 @@ use Rattle.tab_lines.proofs.NumberLaw.{numbers_read, versions_read}
 use Rattle.tab_lines.proofs.ListLaw.{names_read, lists_read, constraints_read, bounds_read}
 use Rattle.tab_lines.proofs.ColumnLaw.{columns_read}
 use Rattle.tab_lines.proofs.PermissionLaw.{on_name_alone, name_alone_complete, on_grant, grant_complete}
+use Rattle.tab_lines.proofs.SplitLaw.{addsplit_sound, addsplit_complete, splitsize_sound, splitsize_complete}
 use Rattle.tab_lines.proofs.UpdateLaw.{put_with, delete_with, on_put, put_complete, on_delete, delete_complete, last_timestamp, last_complete, updates_sound, updates_complete}
 use Rattle.tab_lines.proofs.Inverting.{Words, some_inj, bind_some, field_some, on_bind, on_map, on_field, on_read, on_ends, on_optional}
 
@@ -361,6 +362,9 @@ command_name command.Scan = codes "scan"
 command_name command.Flush = codes "flush"
 command_name command.Compact = codes "compact"
 command_name command.Status = codes "status"
+command_name command.AddSplit = codes "addsplit"
+command_name command.SplitSize = codes "splitsize"
+command_name command.Splits = codes "splits"
 
 command_sound : (word : List ℕ) (c : Command) → command_of word ≡ Some c → word ≡ command_name c
 command_sound word c is =
@@ -381,7 +385,10 @@ command_sound word c is =
     on_cond (bytes_eq word (codes "scan")) (Some command.Scan) _ c (word ≡ command_name c) e14 (λ yes e. named (codes "scan") command.Scan yes refl e) (λ no15 e15.
     on_cond (bytes_eq word (codes "flush")) (Some command.Flush) _ c (word ≡ command_name c) e15 (λ yes e. named (codes "flush") command.Flush yes refl e) (λ no16 e16.
     on_cond (bytes_eq word (codes "compact")) (Some command.Compact) _ c (word ≡ command_name c) e16 (λ yes e. named (codes "compact") command.Compact yes refl e) (λ no17 e17.
-    on_cond (bytes_eq word (codes "status")) (Some command.Status) _ c (word ≡ command_name c) e17 (λ yes e. named (codes "status") command.Status yes refl e) (λ no18 e18. absurd cc))))))))))))))))))
+    on_cond (bytes_eq word (codes "status")) (Some command.Status) _ c (word ≡ command_name c) e17 (λ yes e. named (codes "status") command.Status yes refl e) (λ no18 e18.
+    on_cond (bytes_eq word (codes "addsplit")) (Some command.AddSplit) _ c (word ≡ command_name c) e18 (λ yes e. named (codes "addsplit") command.AddSplit yes refl e) (λ no19 e19.
+    on_cond (bytes_eq word (codes "splitsize")) (Some command.SplitSize) _ c (word ≡ command_name c) e19 (λ yes e. named (codes "splitsize") command.SplitSize yes refl e) (λ no20 e20.
+    on_cond (bytes_eq word (codes "splits")) (Some command.Splits) _ c (word ≡ command_name c) e20 (λ yes e. named (codes "splits") command.Splits yes refl e) (λ no21 e21. absurd cc)))))))))))))))))))))
   where
     named : (text : List ℕ) (d : Command) → bytes_eq word text ≡ true → text ≡ command_name d → Some d ≡ Some c → word ≡ command_name c
     named text d same name e = (bytes_eq-Decides word text).0 same ∙ name ∙ ap command_name (some_inj d c e)
@@ -420,6 +427,9 @@ commanded_sound command.Scan words line is = scan_sound words line is
 commanded_sound command.Flush words line is = named_sound (codes "flush") (λ name. says.Act (Flush name)) words line form_flush is
 commanded_sound command.Compact words line is = compact_sound words line is
 commanded_sound command.Status words line is = named_sound (codes "status") (λ name. says.Act (Status name)) words line form_status is
+commanded_sound command.AddSplit words line is = addsplit_sound words line is
+commanded_sound command.SplitSize words line is = splitsize_sound words line is
+commanded_sound command.Splits words line is = named_sound (codes "splits") (λ name. says.Act (Splits name)) words line form_splits is
 
 said_sound : (words : Words) (line : Line) → said words ≡ Some line → Form words line
 said_sound [] line is = subst (λ (y : Line). Form [] y) (some_inj says.Blank line is) form_blank
@@ -448,6 +458,9 @@ said_complete words line (form_scan t a table members ws bounds columns name lis
 said_complete words line (form_flush t table name) = ap (λ (o : Option (List ℕ)). option_map (λ n. says.Act (Flush n)) o) (name_alone_complete t table name)
 said_complete words line (form_compact t table extent name) = compact_complete t table extent name
 said_complete words line (form_status t table name) = ap (λ (o : Option (List ℕ)). option_map (λ n. says.Act (Status n)) o) (name_alone_complete t table name)
+said_complete words line (form_addsplit t r table row name word) = addsplit_complete t r table row name word
+said_complete words line (form_splitsize t r l table row limit name word number) = splitsize_complete t r l table row limit name word number
+said_complete words line (form_splits t table name) = ap (λ (o : Option (List ℕ)). option_map (λ n. says.Act (Splits n)) o) (name_alone_complete t table name)
 
 line_sound : (text : List ℕ) (line : Line) → line_of text ≡ Some line → IsLine text line
 line_sound [] line is = line_words [] (words_of []) line (λ rest e. absurd cc) (words_sound (words_of []) [] refl) (said_sound (words_of []) line is)

@@ -12,8 +12,8 @@ use Rattle.std.proofs.lemmas.Slice.Eq.{bytes_eq-Decides}
 use Rattle.std.specs.Char.{is_ascii_digit}
 use Rattle.tab_history.specs.Settings.{is_version_count}
 use Rattle.tab_key.specs.declared.part.TheConstants.{MAX_VERSIONS}
-use Rattle.tab_lines.specs.Fields.{digits_on, magnitude_of, positive, negative, signed_of, given_timestamp, timestamp_or_dash, only_if, versions_word}
-use Rattle.tab_lines.specs.Forms.{AreDigits, IsNumber, IsTimestamp, IsVersions}
+use Rattle.tab_lines.specs.Fields.{digits_on, magnitude_of, unsigned_of, positive, negative, signed_of, given_timestamp, timestamp_or_dash, only_if, versions_word}
+use Rattle.tab_lines.specs.Forms.{AreDigits, IsNumber, IsUnsigned, IsTimestamp, IsVersions}
 use Rattle.tab_lines.proofs.Inverting.{ReadsExactly, some_inj, on_map, on_then}
 
 -- one more digit behind others
@@ -114,6 +114,24 @@ magnitude_complete [] n fits (zeros, e) =
     let len : 0 ≡ length (replicate zeros 48 ++ decimal n) = ap (λ (t : List ℕ). length t) e in
     absurd (omega (arith, decimal_nonempty n fits, length-append (replicate zeros 48) (decimal n)))
 magnitude_complete (c ∷ cs) n fits (zeros, e) = magnitude_some c cs ∙ ap (λ (t : List ℕ). digits_on 0 t) e ∙ zeros_read zeros (decimal n) ∙ decimal_read n fits
+
+-- ---- without a sign
+
+unsigned_sound : (word : List ℕ) (n : ℕ) → unsigned_of word ≡ Some n → IsUnsigned word n
+unsigned_sound word n is = on_then (only_if (λ m. nat_lt m (2 ^ 64))) (magnitude_of word) n (IsUnsigned word n) is (λ m read one.
+    elim (nat_lt m (2 ^ 64)) as (λ b. nat_lt m (2 ^ 64) ≡ b → cond b (Some m) None ≡ Some n → IsUnsigned word n) [
+      | true ↦ λ fits e. subst (λ (k : ℕ). IsUnsigned word k) (some_inj m n e) (magnitude_sound word m (ltb-true _ _ fits) read, ltb-true _ _ fits)
+      | false ↦ λ fits e. absurd cc
+    ] refl one)
+
+unsigned_complete : (word : List ℕ) (n : ℕ) → IsUnsigned word n → unsigned_of word ≡ Some n
+unsigned_complete word n (are, fits) =
+    ap (λ (o : Option ℕ). option_and_then (only_if (λ m. nat_lt m (2 ^ 64))) o) (magnitude_complete word n fits are)
+    ∙ ap (λ b. cond b (Some n) None) (lt-ltb n (2 ^ 64) fits)
+
+-- a number without a sign is exactly what is read of its word
+pub unsigned_read : ReadsExactly unsigned_of IsUnsigned
+unsigned_read = record { sound = unsigned_sound; complete = unsigned_complete }
 
 -- ---- with a sign
 

@@ -52,6 +52,10 @@ with_digit n c = if is_ascii_digit c then only_if (λ m. nat_lt m (2 ^ 64)) (10 
 unfoldable pub magnitude_of : List ℕ → Option ℕ
 magnitude_of digits = if length digits == 0 then None else digits_on 0 digits
 
+-- a number below 2^64
+abbrev pub unsigned_of : List ℕ → Option ℕ
+unsigned_of word = option_and_then (only_if (λ n. nat_lt n (2 ^ 64))) (magnitude_of word)
+
 -- a number that fits without a minus
 abbrev pub positive : ℕ → Option ℤ
 positive n = if nat_lt n (2 ^ 63) then Some (pos n) else None

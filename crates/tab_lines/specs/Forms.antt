@@ -20,7 +20,7 @@ use Rattle.tab_history.specs.declared.event.Extent.{Extent}
 use Rattle.tab_history.specs.declared.event.Extent.TheVariants.{Partial, Full}
 use Rattle.tab_history.specs.declared.event.TimeMode.{TimeMode}
 use Rattle.tab_history.specs.declared.event.TimeMode.TheVariants.{Any, Server}
-use Rattle.tab_history.specs.declared.event.Act.TheVariants.{CreateTable, DropTable, CreateUser, DropUser, SetAuths, Grant, Revoke, SetConstraints, Write, Rights, Status, Flush, Compact}
+use Rattle.tab_history.specs.declared.event.Act.TheVariants.{CreateTable, DropTable, CreateUser, DropUser, SetAuths, Grant, Revoke, SetConstraints, Write, Rights, Status, Flush, Compact, AddSplit, SplitBySize, Splits}
 use Rattle.tab_lines.specs.declared.line.Line.{Line}
 use Rattle.tab_lines.specs.declared.line.Line.TheVariants as line
 use Rattle.tab_lines.specs.Words.{parts_at}
@@ -41,6 +41,10 @@ AreDigits text n = (zeros : ℕ) × (text ≡ replicate zeros 48 ++ decimal n)
 abbrev pub IsNumber : List ℕ → ℤ → Type 0
 IsNumber word (pos n) = AreDigits word n × (n < 2 ^ 63)
 IsNumber word (negsuc n) = (digits : List ℕ) × (word ≡ 45 ∷ digits) × AreDigits digits (n + 1) × (n < 2 ^ 63)
+
+-- the word is a number of 64 bits without a sign
+abbrev pub IsUnsigned : List ℕ → ℕ → Type 0
+IsUnsigned word n = AreDigits word n × (n < 2 ^ 64)
 
 -- the word is the timestamp of an update among several: a number, or - for none
 abbrev pub IsTimestamp : List ℕ → Option ℤ → Type 0
@@ -164,6 +168,10 @@ pub data Form : List (List ℕ) → Line → Type 0 where
   flush : (t table : List ℕ) → IsNameWord t table → Form (codes "flush" ∷ t ∷ []) (line.Act (Flush table))
   compact : (t table : List ℕ) (extent : Extent) → IsNameWord t table → Form (codes "compact" ∷ t ∷ extent_name extent ∷ []) (line.Act (Compact table extent))
   status : (t table : List ℕ) → IsNameWord t table → Form (codes "status" ∷ t ∷ []) (line.Act (Status table))
+  addsplit : (t r table row : List ℕ) → IsNameWord t table → IsWord r row → Form (codes "addsplit" ∷ t ∷ r ∷ []) (line.Act (AddSplit table row))
+  splitsize : (t r l table row : List ℕ) (limit : ℕ) → IsNameWord t table → IsWord r row → IsUnsigned l limit
+      → Form (codes "splitsize" ∷ t ∷ r ∷ l ∷ []) (line.Act (SplitBySize table row limit))
+  splits : (t table : List ℕ) → IsNameWord t table → Form (codes "splits" ∷ t ∷ []) (line.Act (Splits table))
 
 -- there is a byte, and none is a space
 abbrev pub IsPlainWord : List ℕ → Type 0

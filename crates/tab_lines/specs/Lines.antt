@@ -9,7 +9,7 @@ use Rattle.tab_policy.specs.declared.permission.Permission.{Permission}
 use Rattle.tab_history.specs.declared.event.TimeMode.{TimeMode}
 use Rattle.tab_history.specs.declared.event.TimeMode.TheVariants.{Any}
 use Rattle.tab_rules.specs.Constraints.{constraint_set_of}
-use Rattle.tab_history.specs.declared.event.Act.TheVariants.{CreateTable, DropTable, CreateUser, DropUser, SetAuths, Grant, Revoke, SetConstraints, Write, Rights, Status, Flush, Compact}
+use Rattle.tab_history.specs.declared.event.Act.TheVariants.{CreateTable, DropTable, CreateUser, DropUser, SetAuths, Grant, Revoke, SetConstraints, Write, Rights, Status, Flush, Compact, AddSplit, SplitBySize, Splits}
 use Rattle.tab_lines.specs.declared.line.Line.{Line}
 use Rattle.tab_lines.specs.declared.line.Line.TheVariants as line
 use Rattle.tab_lines.specs.declared.command.Command.{Command}
@@ -17,7 +17,8 @@ use Rattle.tab_lines.specs.declared.command.Command.TheVariants as command
 use Rattle.tab_lines.specs.declared.updates.TimestampForm.TheVariants.{Optional}
 use Rattle.tab_lines.specs.Gives.{◌>>=◌, field, ends, optional}
 use Rattle.tab_lines.specs.Words.{words_of}
-use Rattle.tab_lines.specs.Fields.{name_of, signed_of, time_word, versions_word, extent_word, system_permission, table_permission, list_of, constraints_of, bound_of, columns_of}
+use Rattle.tab_text.specs.Reading.{bytes_of}
+use Rattle.tab_lines.specs.Fields.{name_of, unsigned_of, signed_of, time_word, versions_word, extent_word, system_permission, table_permission, list_of, constraints_of, bound_of, columns_of}
 use Rattle.tab_lines.specs.Updates.{row_of, with_updates, put_of, delete_of, updates_of}
 use Rattle.tab_mutation.specs.Mutations.{with_update}
 
@@ -133,6 +134,23 @@ compact_of words = do
   end ← ends extent.1
   Some (line.Act (Compact table.0 extent.0))
 
+-- the words behind the command of a line addsplit T ROW
+unfoldable pub addsplit_of : List (List ℕ) → Option Line
+addsplit_of words = do
+  table ← field name_of words
+  row ← field bytes_of table.1
+  end ← ends row.1
+  Some (line.Act (AddSplit table.0 row.0))
+
+-- the words behind the command of a line splitsize T ROW LIMIT
+unfoldable pub splitsize_of : List (List ℕ) → Option Line
+splitsize_of words = do
+  table ← field name_of words
+  row ← field bytes_of table.1
+  limit ← field unsigned_of row.1
+  end ← ends limit.1
+  Some (line.Act (SplitBySize table.0 row.0 limit.0))
+
 -- the words behind the command of a line at MOMENT
 unfoldable pub at_of : List (List ℕ) → Option Line
 at_of words = do
@@ -161,6 +179,9 @@ command_of word =
     else if bytes_eq word (codes "flush") then Some command.Flush
     else if bytes_eq word (codes "compact") then Some command.Compact
     else if bytes_eq word (codes "status") then Some command.Status
+    else if bytes_eq word (codes "addsplit") then Some command.AddSplit
+    else if bytes_eq word (codes "splitsize") then Some command.SplitSize
+    else if bytes_eq word (codes "splits") then Some command.Splits
     else None
 
 -- the words after the command
@@ -183,6 +204,9 @@ commanded command.Scan words = scan_of words
 commanded command.Flush words = option_map (λ table. line.Act (Flush table)) (name_alone words)
 commanded command.Compact words = compact_of words
 commanded command.Status words = option_map (λ table. line.Act (Status table)) (name_alone words)
+commanded command.AddSplit words = addsplit_of words
+commanded command.SplitSize words = splitsize_of words
+commanded command.Splits words = option_map (λ table. line.Act (Splits table)) (name_alone words)
 
 -- what the words of a line say; no words say nothing
 abbrev pub said : List (List ℕ) → Option Line

@@ -41,6 +41,12 @@ pub enum Command {
     Compact,
     /// `status`
     Status,
+    /// `addsplit`
+    AddSplit,
+    /// `splitsize`
+    SplitSize,
+    /// `splits`
+    Splits,
 }
 
 /// The command that a word is. Commands are literal: nothing in them may be escaped.
@@ -66,6 +72,9 @@ pub fn command_of(word: &[u8]) -> Option<Command>
         b"flush" => Some(Command::Flush),
         b"compact" => Some(Command::Compact),
         b"status" => Some(Command::Status),
+        b"addsplit" => Some(Command::AddSplit),
+        b"splitsize" => Some(Command::SplitSize),
+        b"splits" => Some(Command::Splits),
         _ => None,
     }
 }

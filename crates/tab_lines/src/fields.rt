@@ -5,19 +5,19 @@ ghost use Rattle.tab_lines.specs.Gives.{Gives, field, ends};
 ghost use Rattle.tab_lines.specs.Words.{words_left};
 ghost use Rattle.tab_text.specs.Reading.{bytes_of};
 ghost use Rattle.tab_lines.specs.Spelling.{bytes_spelled};
-ghost use Rattle.tab_lines.specs.Fields.{name_of, signed_of, list_of, bound_of, extent_word};
+ghost use Rattle.tab_lines.specs.Fields.{name_of, unsigned_of, signed_of, list_of, bound_of, extent_word};
 ghost use Rattle.tab_lines.specs.Lines.{name_alone};
 
 use crate::LineError;
 use crate::bounds::bound_of;
 use crate::lists::list_of;
 use crate::names::{extent_word, name_of};
-use crate::numbers::signed_of;
-use crate::spelling::{Spelled, spelling_of};
+use crate::numbers::{signed_of, unsigned_of};
+use crate::spelling::{Spelled, bytes_of, spelling_of};
 use crate::words::Words;
 use std::alloc::Global;
 use tab_history::Extent;
-use tab_key::{Bound, Name};
+use tab_key::{Bound, ByteString, Name};
 
 /// Takes a word that spells a name.
 pub fn a_name(alloc: Global, words: &mut Words) -> Result<Name, LineError>
@@ -39,6 +39,16 @@ pub fn a_word<'a>(alloc: Global, words: &mut Words<'a>) -> Result<Spelled<'a>, L
     spelling_of(alloc, word)
 }
 
+/// Takes a byte word, as a string of its own.
+pub fn a_byte_string(alloc: Global, words: &mut Words) -> Result<ByteString, LineError>
+    ensures { Gives (λ x. (x, words_left words.new)) result (field bytes_of (words_left words.old)) }
+{
+    let Some(word) = words.next() else {
+        return Err(LineError::Fault);
+    };
+    Ok(ByteString::from_vec(bytes_of(alloc, word)?))
+}
+
 /// Takes a word that lists byte strings.
 pub fn a_list(alloc: Global, words: &mut Words) -> Result<Vec<Vec<u8>>, LineError>
     ensures { Gives (λ x. (byte_lists x.items, words_left words.new)) result (field list_of (words_left words.old)) }
@@ -57,6 +67,16 @@ pub fn a_number(words: &mut Words) -> Result<i64, LineError>
         return Err(LineError::Fault);
     };
     signed_of(word)
+}
+
+/// Takes a word that spells a number without a sign.
+pub fn an_unsigned(words: &mut Words) -> Result<u64, LineError>
+    ensures { Gives (λ x. (x, words_left words.new)) result (field unsigned_of (words_left words.old)) }
+{
+    let Some(word) = words.next() else {
+        return Err(LineError::Fault);
+    };
+    unsigned_of(word)
 }
 
 /// Takes a word that spells an end of a range.

@@ -3,12 +3,14 @@ ghost use Rattle.std.specs.Prelude.{[]};
 ghost use Rattle.tab_lines.specs.Gives.{Gives, optional};
 ghost use Rattle.tab_lines.specs.Words.{words_left};
 ghost use Rattle.tab_lines.specs.Fields.{constraints_of, columns_of, versions_word};
-ghost use Rattle.tab_lines.specs.Lines.{settings, createtable_of, setauths_of, constraints_line_of, insert_of, delete_line_of, mutate_of, bounds_of, scan_of, compact_of, at_of, commanded, said, line_of};
+ghost use Rattle.tab_lines.specs.Lines.{settings, createtable_of, setauths_of, constraints_line_of, insert_of, delete_line_of, mutate_of, bounds_of, scan_of, compact_of, addsplit_of, splitsize_of, at_of, commanded, said, line_of};
 
 use crate::LineError;
 use crate::bounds::bound_of;
 use crate::command::{Command, command_of};
-use crate::fields::{a_bound, a_list, a_name, a_number, an_extent, ends, name_alone};
+use crate::fields::{
+    a_bound, a_byte_string, a_list, a_name, a_number, an_extent, an_unsigned, ends, name_alone,
+};
 use crate::lists::{columns_of, constraints_of};
 use crate::names::time_word;
 use crate::numbers::versions_word;
@@ -187,6 +189,27 @@ fn compact(alloc: Global, words: &mut Words) -> Result<Line, LineError>
     Ok(Line::Act(Act::Compact(table, extent)))
 }
 
+#[tactic(auto, unfolding(crate::specs::Lines::addsplit_of))]
+fn addsplit(alloc: Global, words: &mut Words) -> Result<Line, LineError>
+    ensures { Gives (λ x. x) result (addsplit_of (words_left words.old)) }
+{
+    let table = a_name(alloc, words)?;
+    let row = a_byte_string(alloc, words)?;
+    ends(words)?;
+    Ok(Line::Act(Act::AddSplit(table, row)))
+}
+
+#[tactic(auto, unfolding(crate::specs::Lines::splitsize_of))]
+fn splitsize(alloc: Global, words: &mut Words) -> Result<Line, LineError>
+    ensures { Gives (λ x. x) result (splitsize_of (words_left words.old)) }
+{
+    let table = a_name(alloc, words)?;
+    let row = a_byte_string(alloc, words)?;
+    let limit = an_unsigned(words)?;
+    ends(words)?;
+    Ok(Line::Act(Act::SplitBySize(table, row, limit)))
+}
+
 #[tactic(auto, unfolding(crate::specs::Lines::at_of))]
 fn at(words: &mut Words) -> Result<Line, LineError>
     ensures { Gives (λ x. x) result (at_of (words_left words.old)) }
@@ -225,6 +248,9 @@ fn commanded(alloc: Global, command: Command, words: &mut Words) -> Result<Line,
         Command::Flush => Ok(Line::Act(Act::Flush(name_alone(alloc, words)?))),
         Command::Compact => compact(alloc, words),
         Command::Status => Ok(Line::Act(Act::Status(name_alone(alloc, words)?))),
+        Command::AddSplit => addsplit(alloc, words),
+        Command::SplitSize => splitsize(alloc, words),
+        Command::Splits => Ok(Line::Act(Act::Splits(name_alone(alloc, words)?))),
     }
 }
 

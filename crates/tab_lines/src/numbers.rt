@@ -2,7 +2,7 @@
 ghost use Rattle.std.specs.Prelude.{◌≡◌, ◌<◌, ◌^◌, nat_lt};
 ghost use Rattle.std.specs.Option.{option_and_then};
 ghost use Rattle.tab_lines.specs.Gives.{Gives};
-ghost use Rattle.tab_lines.specs.Fields.{only_if, with_digit, digits_on, signed_of, given_timestamp, timestamp_or_dash, magnitude_of, positive, negative, versions_word};
+ghost use Rattle.tab_lines.specs.Fields.{only_if, with_digit, digits_on, unsigned_of, signed_of, given_timestamp, timestamp_or_dash, positive, negative, versions_word};
 
 use crate::LineError;
 use tab_history::Versions;
@@ -14,9 +14,20 @@ pub fn signed_of(word: &[u8]) -> Result<i64, LineError>
 {
     match word {
         [] => Err(LineError::Fault),
-        [b'-', digits @ ..] => negative(magnitude_of(digits)?),
-        _ => positive(magnitude_of(word)?),
+        [b'-', digits @ ..] => negative(unsigned_of(digits)?),
+        _ => positive(unsigned_of(word)?),
     }
+}
+
+/// The number without a sign that a word spells: decimal digits. Leading zeros are accepted; a number of 2^64 or more is a fault.
+#[tactic(auto, unfolding(crate::specs::Fields::magnitude_of))]
+pub fn unsigned_of(digits: &[u8]) -> Result<u64, LineError>
+    ensures { Gives (λ x. x) result (unsigned_of digits.now) }
+{
+    if digits.is_empty() {
+        return Err(LineError::Fault);
+    }
+    digits_on(digits)
 }
 
 /// The timestamp that a word spells.
@@ -47,7 +58,7 @@ pub fn versions_word(word: &[u8]) -> Result<Versions, LineError>
     if front != b"versions=".as_slice() {
         return Err(LineError::Fault);
     }
-    match Versions::new(magnitude_of(digits)?) {
+    match Versions::new(unsigned_of(digits)?) {
         Some(versions) => Ok(versions),
         None => Err(LineError::Fault),
     }
@@ -73,17 +84,6 @@ fn negative(n: u64) -> Result<i64, LineError>
     } else {
         Err(LineError::Fault)
     }
-}
-
-// The number, if it is below 2^64.
-#[tactic(auto, unfolding(crate::specs::Fields::magnitude_of))]
-fn magnitude_of(digits: &[u8]) -> Result<u64, LineError>
-    ensures { Gives (λ x. x) result (option_and_then (only_if (λ n. nat_lt n (2 ^ 64))) (magnitude_of digits.now)) }
-{
-    if digits.is_empty() {
-        return Err(LineError::Fault);
-    }
-    digits_on(digits)
 }
 
 // The number that decimal digits spell, if it is below 2^64.

@@ -9,9 +9,10 @@ use Rattle.tab_lines.specs.declared.command.Command.TheVariants as command
 use Rattle.tab_lines.specs.declared.updates.TimestampForm.TheVariants.{Optional}
 use Rattle.tab_lines.specs.Gives.{◌>>=◌, Gives, field, ends, optional}
 use Rattle.tab_lines.specs.Words.{words_of}
-use Rattle.tab_lines.specs.Fields.{name_of, signed_of, extent_word, list_of, constraints_of, columns_of}
+use Rattle.tab_lines.specs.Fields.{name_of, unsigned_of, signed_of, extent_word, list_of, constraints_of, columns_of}
 use Rattle.tab_lines.specs.Updates.{row_of, put_of, delete_of, updates_of}
-use Rattle.tab_lines.specs.Lines.{settings, createtable_of, setauths_of, constraints_line_of, insert_of, delete_line_of, mutate_of, bounds_of, scan_of, compact_of, at_of, name_alone, grant_of, command_of, commanded, said, is_comment, line_of}
+use Rattle.tab_text.specs.Reading.{bytes_of}
+use Rattle.tab_lines.specs.Lines.{settings, createtable_of, setauths_of, constraints_line_of, insert_of, delete_line_of, mutate_of, bounds_of, scan_of, compact_of, addsplit_of, splitsize_of, at_of, name_alone, grant_of, command_of, commanded, said, is_comment, line_of}
 use Rattle.tab_shell.specs.Ahead.{OpensNoSession}
 
 -- nothing is read, or what is read opens no session that stays
@@ -59,6 +60,14 @@ compact_shut : (words : List (List ℕ)) → IsShut (compact_of words)
 unfolding compact_of
 compact_shut words = after (field name_of words) _ (λ t. after (field extent_word t.1) _ (λ x. after (ends x.1) _ (λ e. refl)))
 
+addsplit_shut : (words : List (List ℕ)) → IsShut (addsplit_of words)
+unfolding addsplit_of
+addsplit_shut words = after (field name_of words) _ (λ t. after (field bytes_of t.1) _ (λ r. after (ends r.1) _ (λ e. refl)))
+
+splitsize_shut : (words : List (List ℕ)) → IsShut (splitsize_of words)
+unfolding splitsize_of
+splitsize_shut words = after (field name_of words) _ (λ t. after (field bytes_of t.1) _ (λ r. after (field unsigned_of r.1) _ (λ l. after (ends l.1) _ (λ e. refl))))
+
 at_shut : (words : List (List ℕ)) → IsShut (at_of words)
 unfolding at_of
 at_shut words = after (field signed_of words) _ (λ m. after (ends m.1) _ (λ e. tt))
@@ -81,6 +90,9 @@ commanded_shut command.Scan words = scan_shut words
 commanded_shut command.Flush words = mapped (name_alone words) _ (λ table. refl)
 commanded_shut command.Compact words = compact_shut words
 commanded_shut command.Status words = mapped (name_alone words) _ (λ table. refl)
+commanded_shut command.AddSplit words = addsplit_shut words
+commanded_shut command.SplitSize words = splitsize_shut words
+commanded_shut command.Splits words = mapped (name_alone words) _ (λ table. refl)
 commanded_shut command.At words = at_shut words
 
 said_shut : (words : List (List ℕ)) → IsShut (said words)

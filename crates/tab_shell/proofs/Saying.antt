@@ -5,7 +5,7 @@ use Rattle.tab_history.specs.declared.event.Act.{Act}
 use Rattle.tab_history.specs.declared.event.Event.{Event}
 use Rattle.tab_history.specs.declared.event.Step.TheVariants.{Event as IsEvent}
 use Rattle.tab_history.specs.declared.reply.Reply.{Reply}
-use Rattle.tab_history.specs.declared.reply.Reply.TheVariants.{Done, Refused, Opened, Batch, Rights as OwnRights, Counted}
+use Rattle.tab_history.specs.declared.reply.Reply.TheVariants.{Done, Refused, Opened, Batch, Rights as OwnRights, Counted, Rows}
 use Rattle.tab_history.specs.declared.reply.Refusal.TheVariants as refusal
 use Rattle.tab_history.specs.Answers.{Told, is_open, session_list, told_of}
 use Rattle.tab_cells.specs.SessionState.{SessionState}
@@ -93,6 +93,7 @@ act_moves w user h event (Opened u) shut =
 act_moves w user h event (Batch cells) shut = same_cond (is_by user (IsEvent event)) (moves_of w user h)
 act_moves w user h event (OwnRights rights) shut = same_cond (is_by user (IsEvent event)) (moves_of w user h)
 act_moves w user h event (Counted counts) shut = same_cond (is_by user (IsEvent event)) (moves_of w user h)
+act_moves w user h event (Rows rows) shut = same_cond (is_by user (IsEvent event)) (moves_of w user h)
 
 -- the script with another core
 abbrev pub with_core : ScriptState → Held → ScriptState

@@ -12,7 +12,7 @@ use Rattle.tab_history.specs.declared.event.Step.TheVariants.{Event as IsEvent, 
 use Rattle.tab_history.specs.declared.reply.Refusal.{Refusal}
 use Rattle.tab_history.specs.declared.reply.Refusal.TheVariants.{NoMemory, TooLarge}
 use Rattle.tab_history.specs.declared.reply.Reply.{Reply}
-use Rattle.tab_history.specs.declared.reply.Reply.TheVariants.{Done, Refused, Opened, Batch, Rights as OwnRights, Counted}
+use Rattle.tab_history.specs.declared.reply.Reply.TheVariants.{Done, Refused, Opened, Batch, Rights as OwnRights, Counted, Rows}
 use Rattle.tab_history.specs.Checks.{standing, refusal_of, exists_in, user_named}
 use Rattle.tab_history.specs.Answers.{Told, told, answer, event_answer, IsEventReply, moves_by, session_list, next_answer, close_answer, told_of}
 use Rattle.tab_cells.specs.SessionState.{SessionState, gave}
@@ -420,6 +420,7 @@ Opens (Opened u) = Unit {0}
 Opens (Batch cells) = ⊥
 Opens (OwnRights rights) = ⊥
 Opens (Counted counts) = ⊥
+Opens (Rows rows) = ⊥
 
 opens : (reply : Told) → (reply ≡ Opened tt) ⊎ ((r : Refusal) × (reply ≡ Refused r)) → Opens reply
 opens reply (inl e) = subst Opens (sym e) tt
@@ -438,6 +439,7 @@ kept_answered s core scan Done lt steps exact other = never s core scan (reply_t
 kept_answered s core scan (Batch cells) lt steps exact other = never s core scan (reply_text (Batch cells)) (λ w h refines. opens (Batch cells) (not_done w h s.asker scan (Batch cells) (legal_open s core scan (Batch cells) w h lt steps refines)))
 kept_answered s core scan (OwnRights rights) lt steps exact other = never s core scan (reply_text (OwnRights rights)) (λ w h refines. opens (OwnRights rights) (not_done w h s.asker scan (OwnRights rights) (legal_open s core scan (OwnRights rights) w h lt steps refines)))
 kept_answered s core scan (Counted counts) lt steps exact other = never s core scan (reply_text (Counted counts)) (λ w h refines. opens (Counted counts) (not_done w h s.asker scan (Counted counts) (legal_open s core scan (Counted counts) w h lt steps refines)))
+kept_answered s core scan (Rows rows) lt steps exact other = never s core scan (reply_text (Rows rows)) (λ w h refines. opens (Rows rows) (not_done w h s.asker scan (Rows rows) (legal_open s core scan (Rows rows) w h lt steps refines)))
 
 -- ---- a full list of sessions
 spent_right : (w : World) (h : List Entry) (who : Asker) (scan : Scan) → is_full (moves_of w who.user h) ≡ true → IsAnswer w h h (IsEvent (event_by who (Open scan))) (Refused (TooLarge Sessions))

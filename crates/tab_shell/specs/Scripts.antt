@@ -8,7 +8,7 @@ use Rattle.tab_history.specs.declared.event.Act.TheVariants.{Open}
 use Rattle.tab_history.specs.declared.event.Event.{Event}
 use Rattle.tab_history.specs.declared.event.Step.TheVariants.{Event as IsEvent}
 use Rattle.tab_history.specs.declared.reply.Refusal.TheVariants as refusal
-use Rattle.tab_history.specs.declared.reply.Reply.TheVariants.{Done, Refused, Opened, Batch, Rights as OwnRights, Counted}
+use Rattle.tab_history.specs.declared.reply.Reply.TheVariants.{Done, Refused, Opened, Batch, Rights as OwnRights, Counted, Rows}
 use Rattle.tab_history.specs.Answers.{Told, session_list}
 use Rattle.tab_history.specs.Sessions.{opened, closed}
 use Rattle.tab_history.specs.Histories.{Entry, World, world_of, world_after, journal, moves_of}
@@ -78,6 +78,7 @@ ScanSteps who w h event Done es text = ⊥
 ScanSteps who w h event (Batch cells) es text = ⊥
 ScanSteps who w h event (OwnRights rights) es text = ⊥
 ScanSteps who w h event (Counted counts) es text = ⊥
+ScanSteps who w h event (Rows rows) es text = ⊥
 
 -- after the history h of w the line makes these entries, the last one first, and prints this text
 abbrev pub LineSteps : Asker → World → List Entry → Line → List Entry → List ℕ → Type 0

@@ -7,9 +7,11 @@ use Rattle.tab_key.specs.declared.part.Part.{Part}
 use Rattle.tab_key.specs.declared.part.Part.TheVariants as part
 use Rattle.tab_history.specs.declared.reply.Refusal.{Refusal}
 use Rattle.tab_history.specs.declared.reply.Refusal.TheVariants as refusal
-use Rattle.tab_history.specs.declared.reply.Reply.TheVariants.{Done, Refused, Opened, Batch, Rights as OwnRights, Counted}
+use Rattle.tab_history.specs.declared.reply.Reply.TheVariants.{Done, Refused, Opened, Batch, Rights as OwnRights, Counted, Rows}
 use Rattle.tab_history.specs.declared.rights.Rights.{Rights}
 use Rattle.tab_history.specs.declared.counts.Counts.{Counts}
+use Rattle.tab_history.specs.declared.split_fault.SplitFault.{SplitFault}
+use Rattle.tab_history.specs.declared.split_fault.SplitFault.TheVariants as fault
 use Rattle.tab_history.specs.Answers.{Told}
 use Rattle.tab_lines.specs.Words.{parts_at, is_filled}
 use Rattle.tab_text.specs.Words.{word}
@@ -70,6 +72,12 @@ permission_words (OfTable p t) = table_word p ∷ word t ∷ []
 abbrev pub violation_word : Violation → List ℕ
 violation_word f = decimal (constraint_number f.constraint) ++ (58 ∷ (decimal f.code ++ (58 ∷ decimal f.update)))
 
+-- why a tablet isn't split
+abbrev pub split_word : SplitFault → List ℕ
+split_word fault.Present = codes "present"
+split_word fault.Small = codes "small"
+split_word fault.OneRow = codes "onerow"
+
 -- the number, the name and the words of a refusal
 abbrev pub refusal_words : Refusal → List (List ℕ)
 refusal_words (refusal.UnknownUser user) = codes "1" ∷ codes "UnknownUser" ∷ word user ∷ []
@@ -89,6 +97,7 @@ refusal_words (refusal.NoSession slot) = codes "15" ∷ codes "NoSession" ∷ de
 refusal_words refusal.NoMemory = codes "17" ∷ codes "NoMemory" ∷ []
 refusal_words refusal.RootFixed = codes "18" ∷ codes "RootFixed" ∷ []
 refusal_words refusal.GrantInvalid = codes "19" ∷ codes "GrantInvalid" ∷ []
+refusal_words (refusal.BadSplit f) = codes "20" ∷ codes "BadSplit" ∷ split_word f ∷ []
 refusal_words (refusal.BelowHorizon update) = codes "22" ∷ codes "BelowHorizon" ∷ decimal update ∷ []
 
 abbrev pub refusal_text : Refusal → List ℕ
@@ -117,6 +126,14 @@ rights_text r = system_text r.system ++ (table_text r.table ++ (flat_map auth_te
 abbrev pub counts_text : Counts → List ℕ
 counts_text c = line_text (codes "tablets" ∷ decimal c.tablets ∷ codes "sources" ∷ decimal c.sources ∷ codes "records" ∷ decimal c.records ∷ [])
 
+-- an end row
+abbrev pub row_text : List ℕ → List ℕ
+row_text row = line_text (word row ∷ [])
+
+-- the end rows of a table's tablets, and an end
+abbrev pub rows_text : List (List ℕ) → List ℕ
+rows_text rows = flat_map row_text rows ++ codes "end\n"
+
 -- The text of a reply. An opened session has none: the line that opened it prints its cells.
 abbrev pub reply_text : Told → List ℕ
 reply_text Done = codes "ok\n"
@@ -125,6 +142,7 @@ reply_text (Opened session) = []
 reply_text (Batch cells) = flat_map cell_text cells
 reply_text (OwnRights rights) = rights_text rights
 reply_text (Counted counts) = counts_text counts
+reply_text (Rows rows) = rows_text rows
 
 -- a line outside the grammar
 abbrev pub fault_text : List ℕ

@@ -5,9 +5,9 @@ ghost use Rattle.std.specs.Prelude.{◌≡◌, ◌++◌, [], ◌∷◌, map, cod
 ghost use Rattle.tab_io.specs.Writing.{Puts};
 ghost use Rattle.tab_text.specs.Words.{word};
 ghost use Rattle.tab_text.specs.Lines.{line_text, after_spaces, word_text};
-ghost use Rattle.tab_shell.specs.Texts.{part_name, permission_words, violation_word, refusal_text};
+ghost use Rattle.tab_shell.specs.Texts.{part_name, split_word, permission_words, violation_word, refusal_text};
 
-use tab_history::Refusal;
+use tab_history::{Refusal, SplitFault};
 use tab_io::{Output, WriteFault, put_byte, put_decimal};
 use tab_key::{Name, Part};
 use tab_policy::Permission;
@@ -34,12 +34,7 @@ pub fn put_refusal<W: Output>(output: &mut W, refusal: &Refusal) -> Result<(), W
             put_number(output, b"7", b"TimestampNotAllowed", *update)
         }
         Refusal::EmptyMutation => put_bare(output, b"8", b"EmptyMutation"),
-        Refusal::TooLarge(part) => put_named(
-            output,
-            b"9",
-            b"TooLarge",
-            Word::Text(part_name(*part)),
-        ),
+        Refusal::TooLarge(part) => put_text(output, b"9", b"TooLarge", part_name(*part)),
         Refusal::TableExists(table) => put_name(output, b"10", b"TableExists", table),
         Refusal::UserExists(user) => put_name(output, b"11", b"UserExists", user),
         Refusal::NoUser(user) => put_name(output, b"12", b"NoUser", user),
@@ -48,6 +43,7 @@ pub fn put_refusal<W: Output>(output: &mut W, refusal: &Refusal) -> Result<(), W
         Refusal::NoMemory => put_bare(output, b"17", b"NoMemory"),
         Refusal::RootFixed => put_bare(output, b"18", b"RootFixed"),
         Refusal::GrantInvalid => put_bare(output, b"19", b"GrantInvalid"),
+        Refusal::BadSplit(fault) => put_text(output, b"20", b"BadSplit", split_word(*fault)),
         Refusal::BelowHorizon(update) => put_number(output, b"22", b"BelowHorizon", *update),
     }
 }
@@ -62,6 +58,18 @@ fn put_name<'a, W: Output>(
     ensures { Puts W.Output output.old output.new (line_text (codes "refused" ∷ number.now ∷ name.now ∷ word named.now ∷ [])) result }
 {
     put_named(output, number, name, Word::Bytes(named.as_bytes()))
+}
+
+// A refusal with one word of the texts' own.
+fn put_text<'a, W: Output>(
+    output: &mut W,
+    number: &'a [u8],
+    name: &'a [u8],
+    text: &'a [u8],
+) -> Result<(), WriteFault>
+    ensures { Puts W.Output output.old output.new (line_text (codes "refused" ∷ number.now ∷ name.now ∷ text.now ∷ [])) result }
+{
+    put_named(output, number, name, Word::Text(text))
 }
 
 // A refusal with one number.
@@ -213,6 +221,16 @@ fn put_after_colon<W: Output>(output: &mut W, number: u64) -> Result<(), WriteFa
 {
     put_byte(output, b':')?;
     put_decimal(output, number)
+}
+
+fn split_word(fault: SplitFault) -> &'static [u8]
+    ensures { result.now ≡ split_word fault }
+{
+    match fault {
+        SplitFault::Present => b"present",
+        SplitFault::Small => b"small",
+        SplitFault::OneRow => b"onerow",
+    }
 }
 
 fn part_name(part: Part) -> &'static [u8]

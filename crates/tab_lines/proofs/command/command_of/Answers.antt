@@ -57,3 +57,12 @@ returns-in-compact c = found command_of c.args.word.now (codes "compact") (omega
 
 pub returns-in-status : goal.returns-in-status
 returns-in-status c = found command_of c.args.word.now (codes "status") (omega arith) (search rules)
+
+pub returns-in-addsplit : goal.returns-in-addsplit
+returns-in-addsplit c = found command_of c.args.word.now (codes "addsplit") (omega arith) (search rules)
+
+pub returns-in-splitsize : goal.returns-in-splitsize
+returns-in-splitsize c = found command_of c.args.word.now (codes "splitsize") (omega arith) (search rules)
+
+pub returns-in-splits : goal.returns-in-splits
+returns-in-splits c = found command_of c.args.word.now (codes "splits") (omega arith) (search rules)
