@@ -2,15 +2,9 @@
 
 use crate::update::Update;
 use std::alloc::{AllocError, Global};
-use std::test::Fail;
-use tab_key::{ByteString, Column, Name};
+use tab_key::{ByteString, Column};
 use tab_label::AuthSet;
 use tab_mutation::Mutation;
-
-/// The name of these bytes, which must be a name.
-pub fn name(bytes: &[u8]) -> Result<Name, Fail> {
-    Ok(Name::new(bytes).ok_or("a name")?)
-}
 
 /// The set of these authorizations.
 pub fn auths_of(alloc: Global, terms: &[&[u8]]) -> Result<AuthSet, AllocError> {

@@ -10,7 +10,7 @@
 //! | `model` | what a scan of a table shows and what a merge keeps, rule by rule |
 //! | `holding` | what a tablet holds, and what freezes and compactions make of it |
 //! | `generating` | random updates and queries |
-//! | `building` | names, authorizations, columns and mutations from literals |
+//! | `building` | authorizations, columns and mutations from literals |
 #![tactic(auto)]
 
 mod building;
@@ -21,7 +21,7 @@ mod query;
 mod random;
 mod update;
 
-pub use building::{auths_of, family, mutation_of, name, qualified};
+pub use building::{auths_of, family, mutation_of, qualified};
 pub use holding::{Holding, table_len};
 pub use model::{merged, scanned};
 pub use query::{Columns, End, Query, in_rows};

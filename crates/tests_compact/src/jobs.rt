@@ -1,9 +1,8 @@
 //! Merges of random sources, beside the model.
 
 use crate::sources::{Numbered, random_sources};
-use std::alloc::{AllocError, Global};
+use std::alloc::Global;
 use std::process::Abort;
-use std::test::Fail;
 use tab_cells::Compaction;
 use tab_compact::Job;
 use tab_table::Table;
@@ -21,18 +20,10 @@ fn expect_table(rt: &impl Abort, table: &Table, want: &[Update]) {
 }
 
 // The merge keeps these.
-fn expect_merged(
-    rt: &impl Abort,
-    alloc: Global,
-    job: Job,
-    want: &[Update],
-) -> Result<(), AllocError> {
+fn expect_merged(rt: &impl Abort, alloc: Global, job: Job, want: &[Update]) {
     match job.merge(alloc) {
-        Ok(finished) => {
-            expect_table(rt, finished.table(), want);
-            Ok(())
-        }
-        Err((_, fault)) => Err(fault),
+        Ok(finished) => expect_table(rt, finished.table(), want),
+        Err(_) => panic!(rt; "memory"),
     }
 }
 
@@ -44,56 +35,52 @@ fn compare(
     numbered: &Numbered,
     holding: &Holding,
     kind: Compaction,
-) -> Result<usize, AllocError> {
+) -> usize {
     let floor = random.below(5) as i64;
     let versions = random.below(4) as u32;
-    let job = numbered.captured(alloc, kind, floor, versions)?;
-    let want = holding.output(alloc, kind, floor, versions)?;
+    let job = numbered
+        .captured(alloc, kind, floor, versions)
+        .expect(rt, "memory");
+    let want = holding
+        .output(alloc, kind, floor, versions)
+        .expect(rt, "memory");
     assert_eq!(rt; job.is_some(), want.is_some());
     let Some(job) = job else {
-        return Ok(0);
+        return 0;
     };
     let want = want.unwrap_or(Vec::new(alloc));
-    expect_merged(rt, alloc, job, &want)?;
-    Ok(want.len())
+    expect_merged(rt, alloc, job, &want);
+    want.len()
 }
 
 // So many times some sources, at most so many, and a compaction of each kind; how many updates are kept of each.
-fn compare_all(
-    rt: &impl Abort,
-    alloc: Global,
-    kind: Compaction,
-    rounds: u64,
-    most: u64,
-) -> Result<usize, AllocError> {
+fn compare_all(rt: &impl Abort, alloc: Global, kind: Compaction, rounds: u64, most: u64) -> usize {
     let mut random = Random::new(most);
     let mut kept = 0usize;
     for round in 0..rounds {
         let count = most.saturating_sub(round % 12);
         let mut holding = Holding::new(alloc);
-        let numbered = random_sources(rt, alloc, &mut random, count, &mut holding)?;
-        let more = compare(rt, alloc, &mut random, &numbered, &holding, kind)?;
+        let numbered = random_sources(rt, alloc, &mut random, count, &mut holding);
+        let more = compare(rt, alloc, &mut random, &numbered, &holding, kind);
         kept = kept.saturating_add(more);
     }
-    Ok(kept)
+    kept
 }
 
 #[test]
-fn random_sources_are_merged(rt: HostRuntime) -> Result<(), Fail> {
+fn random_sources_are_merged(rt: HostRuntime) {
     let alloc = rt.alloc();
     for kind in [Compaction::Minor, Compaction::Partial, Compaction::Full] {
-        let kept = compare_all(&rt, alloc, kind, 240, 11)?;
+        let kept = compare_all(&rt, alloc, kind, 240, 11);
         assert!(rt; kept > 200, "{kept} updates were kept");
     }
-    Ok(())
 }
 
 #[test]
-fn sixty_four_sources_are_merged(rt: HostRuntime) -> Result<(), Fail> {
+fn sixty_four_sources_are_merged(rt: HostRuntime) {
     let alloc = rt.alloc();
     for kind in [Compaction::Minor, Compaction::Partial, Compaction::Full] {
-        let kept = compare_all(&rt, alloc, kind, 12, 64)?;
+        let kept = compare_all(&rt, alloc, kind, 12, 64);
         assert!(rt; kept > 100, "{kept} updates were kept");
     }
-    Ok(())
 }

@@ -4,7 +4,6 @@ use crate::sources::{Numbered, run_of};
 use std::alloc::{AllocError, Global};
 use std::process::Abort;
 use std::sync::Arc;
-use std::test::Fail;
 use tab_cells::Compaction;
 use tab_iter::Source;
 use tab_key::{Key, RecordRef};
@@ -28,24 +27,17 @@ fn puts(alloc: Global, row: u8, columns: u64) -> Result<Mutation, AllocError> {
 }
 
 // What is merged of so many runs, each of a row with so many columns.
-fn table_of(
-    rt: &impl Abort,
-    alloc: Global,
-    rows: u8,
-    columns: u64,
-    versions: u32,
-) -> Result<Option<Arc<Table>>, AllocError> {
+fn table_of(rt: &impl Abort, alloc: Global, rows: u8, columns: u64, versions: u32) -> Arc<Table> {
     let mut numbered = Numbered::new(alloc);
     for row in 0..rows {
-        let run = run_of(rt, alloc, &puts(alloc, row, columns)?, row)?;
-        numbered.add_run(rt, run)?;
+        let mutation = puts(alloc, row, columns).expect(rt, "memory");
+        let run = run_of(rt, alloc, &mutation, row);
+        numbered.add_run(rt, run).expect(rt, "memory");
     }
-    let Some(job) = numbered.captured(alloc, Compaction::Minor, 0, versions)? else {
-        return Ok(None);
-    };
-    match job.merge(alloc) {
-        Ok(finished) => Ok(Some(finished.into_table())),
-        Err((_, fault)) => Err(fault),
+    let job = numbered.captured(alloc, Compaction::Minor, 0, versions);
+    match job.expect(rt, "memory").expect(rt, "sources").merge(alloc) {
+        Ok(finished) => finished.into_table(),
+        Err(_) => panic!(rt; "memory"),
     }
 }
 
@@ -87,54 +79,50 @@ fn expect_first<S: Source>(rt: &impl Abort, source: &S, number: u64, count: u64)
 }
 
 // Seeks to some of so many records, and between them.
-fn expect_seeks<S: Source>(rt: &impl Abort, source: &mut S, count: u64) -> Result<(), AllocError> {
+fn expect_seeks<S: Source>(rt: &impl Abort, source: &mut S, count: u64) {
     let last = count.saturating_sub(1);
     for number in [last, 0, 1, count / 2, count / 3, last, count] {
         let next = number.saturating_add(1);
         for (timestamp, first) in [(TIME, number), (TIME + 1, number), (TIME - 1, next)] {
-            seek(source, number, timestamp)?;
+            seek(source, number, timestamp).expect(rt, "memory");
             expect_first(rt, source, first, count);
         }
     }
-    Ok(())
 }
 
 // Reads all of so many records from the first on.
-fn expect_all<S: Source>(rt: &impl Abort, source: &mut S, count: u64) -> Result<(), AllocError> {
-    seek(source, 0, i64::MAX)?;
+fn expect_all<S: Source>(rt: &impl Abort, source: &mut S, count: u64) {
+    seek(source, 0, i64::MAX).expect(rt, "memory");
     for number in 0..count {
         expect_first(rt, source, number, count);
-        source.advance()?;
+        source.advance().expect(rt, "memory");
     }
     expect_first(rt, source, count, count);
-    Ok(())
 }
 
 // The table has so many records, of 56 bytes each, and a cursor goes to them.
-fn expect_table(rt: &impl Abort, table: &Table, count: u64) -> Result<(), AllocError> {
+fn expect_table(rt: &impl Abort, table: &Table, count: u64) {
     assert_eq!(rt; (table.len() as u64, table.is_empty()), (count, count == 0));
     assert_eq!(rt; table.size(), count.saturating_mul(56));
     let mut cursor = Cursor::new(table);
-    expect_all(rt, &mut cursor, count)?;
+    expect_all(rt, &mut cursor, count);
     expect_seeks(rt, &mut cursor, count)
 }
 
 // So does one that shares it.
-fn expect_shared(rt: &impl Abort, table: Arc<Table>, count: u64) -> Result<(), AllocError> {
+fn expect_shared(rt: &impl Abort, table: Arc<Table>, count: u64) {
     let mut cursor = OwnedCursor::new(table);
-    expect_all(rt, &mut cursor, count)?;
+    expect_all(rt, &mut cursor, count);
     expect_seeks(rt, &mut cursor, count)
 }
 
 #[test]
-fn reads_back(rt: HostRuntime) -> Result<(), Fail> {
+fn reads_back(rt: HostRuntime) {
     let alloc = rt.alloc();
     let cases: [(u8, u64, u32, u64); 3] = [(1, 1, 0, 0), (1, 1, 1, 1), (100, 1000, 1, 100_000)];
     for (rows, columns, versions, count) in cases {
-        let made = table_of(&rt, alloc, rows, columns, versions)?;
-        let table = made.ok_or("a merge")?;
-        expect_table(&rt, &table, count)?;
-        expect_shared(&rt, table, count)?;
+        let table = table_of(&rt, alloc, rows, columns, versions);
+        expect_table(&rt, &table, count);
+        expect_shared(&rt, table, count);
     }
-    Ok(())
 }

@@ -119,16 +119,13 @@ fn tabled(alloc: Global, run: &Run) -> Result<TableClip, AllocError>
 
 /// A run of the mutation, whose shape must be accepted.
 #[tactic(auto, using(crate::proofs::Later::nothing_older))]
-pub fn run_of(
-    rt: &impl Abort,
-    alloc: Global,
-    mutation: &Mutation,
-    seq: u8,
-) -> Result<Arc<Run>, AllocError> {
+pub fn run_of(rt: &impl Abort, alloc: Global, mutation: &Mutation, seq: u8) -> Arc<Run> {
     assert!(rt; mutation.shape().is_none());
     let mut active = Active::new(alloc);
-    active.write(mutation, u64::from(seq), CLOCK)?;
-    active.freeze(alloc)
+    active
+        .write(mutation, u64::from(seq), CLOCK)
+        .expect(rt, "memory");
+    active.freeze(alloc).expect(rt, "memory")
 }
 
 // One source more, of a random mutation: a run or a table.
@@ -138,20 +135,23 @@ fn add_random(
     random: &mut Random,
     numbered: &mut Numbered,
     holding: &mut Holding,
-) -> Result<(), AllocError> {
+) {
     let seq = numbered.count();
     let row = random.one_of(&ROWS);
-    let mut updates = random.updates(alloc, row, seq, CLOCK)?;
+    let mut updates = random.updates(alloc, row, seq, CLOCK).expect(rt, "memory");
     if updates.is_empty() {
-        updates.push(random.update(row, seq, 0, CLOCK))?;
+        updates
+            .push(random.update(row, seq, 0, CLOCK))
+            .expect(rt, "memory");
     }
-    let run = run_of(rt, alloc, &mutation_of(alloc, row, &updates)?, seq)?;
+    let mutation = mutation_of(alloc, row, &updates).expect(rt, "memory");
+    let run = run_of(rt, alloc, &mutation, seq);
     if random.below(2) == 0 {
-        numbered.add_run(rt, run)?;
-        holding.add_run(updates)
+        numbered.add_run(rt, run).expect(rt, "memory");
+        holding.add_run(updates).expect(rt, "memory");
     } else {
-        numbered.add_table(rt, alloc, &run)?;
-        holding.add_table(updates)
+        numbered.add_table(rt, alloc, &run).expect(rt, "memory");
+        holding.add_table(updates).expect(rt, "memory");
     }
 }
 
@@ -162,10 +162,10 @@ pub fn random_sources(
     random: &mut Random,
     count: u64,
     holding: &mut Holding,
-) -> Result<Numbered, AllocError> {
+) -> Numbered {
     let mut numbered = Numbered::new(alloc);
     for _ in 0..count {
-        add_random(rt, alloc, random, &mut numbered, holding)?;
+        add_random(rt, alloc, random, &mut numbered, holding);
     }
-    Ok(numbered)
+    numbered
 }

@@ -1,43 +1,46 @@
 //! Random writes, scans, flushes and compactions through a core, beside the model of the updates that it accepted.
 
+use crate::steps::named;
 use std::alloc::Global;
 use std::process::Abort;
-use std::test::Fail;
 use tab_core::{Core, Session};
 use tab_history::{Act, Event, Extent, Reply, Scan, TimeMode, Versions};
 use tab_key::{Cell, Items};
-use tab_testing::{Query, Random, Update, auths_of, mutation_of, name, scanned};
+use tab_testing::{Query, Random, Update, auths_of, mutation_of, scanned};
 
 const ROWS: [&[u8]; 3] = [b"k", b"l", b"m"];
 
 // What root is answered.
-fn asked(core: &mut Core, alloc: Global, moment: u8, act: Act) -> Result<Reply<Session>, Fail> {
-    let user = name(b"root")?;
+fn asked(rt: &impl Abort, core: &mut Core, alloc: Global, moment: u8, act: Act) -> Reply<Session> {
+    let user = named(rt, b"root");
     let moment = i64::from(moment);
-    Ok(core.step(alloc, Event { user, moment, act }))
+    core.step(alloc, Event { user, moment, act })
 }
 
 // A core with the table `t`, which shows so many versions, and with root's authorizations A and B.
-fn prepared(alloc: Global, versions: u32) -> Result<Core, Fail> {
-    let mut core = Core::new(alloc)?;
-    let versions = Versions::new(u64::from(versions)).ok_or("1 to 1,000")?;
-    let made = Act::CreateTable(name(b"t")?, TimeMode::Any, versions);
-    let _ = asked(&mut core, alloc, 0, made)?;
-    let held = Act::SetAuths(name(b"root")?, auths_of(alloc, &[b"A", b"B"])?);
-    let _ = asked(&mut core, alloc, 0, held)?;
-    Ok(core)
+fn prepared(rt: &impl Abort, alloc: Global, versions: u32) -> Core {
+    let mut core = Core::new(alloc).expect(rt, "memory");
+    let versions = Versions::new(u64::from(versions)).expect(rt, "1 to 1,000");
+    let made = Act::CreateTable(named(rt, b"t"), TimeMode::Any, versions);
+    let _ = asked(rt, &mut core, alloc, 0, made);
+    let held = auths_of(alloc, &[b"A", b"B"]).expect(rt, "memory");
+    let held = Act::SetAuths(named(rt, b"root"), held);
+    let _ = asked(rt, &mut core, alloc, 0, held);
+    core
 }
 
 // Up to four updates of a row, one in forty under a malformed label.
-fn random_updates(alloc: Global, random: &mut Random, moment: u8) -> Result<Vec<Update>, Fail> {
+fn random_updates(rt: &impl Abort, alloc: Global, random: &mut Random, moment: u8) -> Vec<Update> {
     let row = random.one_of(&ROWS);
-    let mut updates = random.updates(alloc, row, moment, i64::from(moment))?;
+    let mut updates = random
+        .updates(alloc, row, moment, i64::from(moment))
+        .expect(rt, "memory");
     for update in updates.iter_mut() {
         if random.below(40) == 0 {
             update.label = b"(";
         }
     }
-    Ok(updates)
+    updates
 }
 
 // A core accepts a mutation of well-formed labels, unless it is empty.
@@ -53,17 +56,17 @@ fn write(
     table: &mut Vec<Update>,
     moment: u8,
     updates: &[Update],
-) -> Result<(), Fail> {
+) {
     let row = updates.first().map_or(b"k".as_slice(), |update| update.row);
-    let act = Act::Write(name(b"t")?, mutation_of(alloc, row, updates)?);
-    let is_done = matches!(asked(core, alloc, moment, act)?, Reply::Done);
+    let mutation = mutation_of(alloc, row, updates).expect(rt, "memory");
+    let act = Act::Write(named(rt, b"t"), mutation);
+    let is_done = matches!(asked(rt, core, alloc, moment, act), Reply::Done);
     assert_eq!(rt; is_done, is_acceptable(updates));
     if is_done {
         for update in updates {
-            table.push(*update)?;
+            table.push(*update).expect(rt, "memory");
         }
     }
-    Ok(())
 }
 
 // The batch is as long as was asked, or as the rest of the updates, and begins that rest; what is left then.
@@ -81,30 +84,23 @@ fn expect_batch<'a>(
 }
 
 // The session shows these updates, in batches of 1, 2 and 1,000 in turn, beginning with any of the three.
-fn expect_cells(
-    rt: &impl Abort,
-    alloc: Global,
-    mut session: Session,
-    first: u64,
-    want: &[Update],
-) -> Result<(), Fail> {
+fn expect_cells(rt: &impl Abort, alloc: Global, mut session: Session, first: u64, want: &[Update]) {
     let mut rest = want;
     for turn in 0..4u64 {
         let count = [1, 2, 1000][(first % 3 + turn) as usize % 3];
-        let batch = session.next_batch(alloc, count)?;
+        let batch = session.next_batch(alloc, count).expect(rt, "memory");
         rest = expect_batch(rt, batch.as_slice(), count, rest);
     }
     assert!(rt; rest.is_empty());
-    Ok(())
 }
 
-fn scan_of(alloc: Global, query: &Query) -> Result<Scan, Fail> {
-    Ok(Scan {
-        table: name(b"t")?,
-        bounds: query.bounds(alloc)?,
-        columns: Items::from_vec(query.columns(alloc)?),
-        authorizations: query.auths(alloc)?,
-    })
+fn scan_of(rt: &impl Abort, alloc: Global, query: &Query) -> Scan {
+    Scan {
+        table: named(rt, b"t"),
+        bounds: query.bounds(alloc).expect(rt, "memory"),
+        columns: Items::from_vec(query.columns(alloc).expect(rt, "memory")),
+        authorizations: query.auths(alloc).expect(rt, "memory"),
+    }
 }
 
 // A session of the core gives what the model shows; how many cells. A range that is backwards is refused.
@@ -115,44 +111,37 @@ fn expect_scan(
     table: &[Update],
     moment: u8,
     query: &Query,
-) -> Result<usize, Fail> {
-    let scan = scan_of(alloc, query)?;
+) -> usize {
+    let scan = scan_of(rt, alloc, query);
     let is_bad = scan.bounds.is_bad();
-    match asked(core, alloc, moment, Act::Open(scan))? {
+    match asked(rt, core, alloc, moment, Act::Open(scan)) {
         Reply::Opened(session) => {
-            let want = scanned(alloc, table, query)?;
-            expect_cells(rt, alloc, session, u64::from(moment), &want)?;
-            Ok(want.len())
+            let want = scanned(alloc, table, query).expect(rt, "memory");
+            expect_cells(rt, alloc, session, u64::from(moment), &want);
+            want.len()
         }
         _ => {
             assert!(rt; is_bad, "a scan was refused");
-            Ok(0)
+            0
         }
     }
 }
 
 // A flush or a compaction of the table. It changes nothing that is shown.
-fn compact(
-    rt: &impl Abort,
-    alloc: Global,
-    core: &mut Core,
-    moment: u8,
-    random: &mut Random,
-) -> Result<(), Fail> {
-    let table = name(b"t")?;
+fn compact(rt: &impl Abort, alloc: Global, core: &mut Core, moment: u8, random: &mut Random) {
+    let table = named(rt, b"t");
     let act = match random.below(3) {
         0 => Act::Flush(table),
         1 => Act::Compact(table, Extent::Partial),
         _ => Act::Compact(table, Extent::Full),
     };
-    assert!(rt; matches!(asked(core, alloc, moment, act)?, Reply::Done));
-    Ok(())
+    assert!(rt; matches!(asked(rt, core, alloc, moment, act), Reply::Done));
 }
 
 // Twenty-four writes, scans and compactions of a new table; how many cells were shown.
-fn play(rt: &impl Abort, alloc: Global, random: &mut Random) -> Result<usize, Fail> {
+fn play(rt: &impl Abort, alloc: Global, random: &mut Random) -> usize {
     let versions = 1 + random.below(3) as u32;
-    let mut core = prepared(alloc, versions)?;
+    let mut core = prepared(rt, alloc, versions);
     let mut table = Vec::new(alloc);
     let mut shown = 0usize;
     for moment in 0..24u8 {
@@ -162,27 +151,26 @@ fn play(rt: &impl Abort, alloc: Global, random: &mut Random) -> Result<usize, Fa
                     versions,
                     ..random.query(&ROWS)
                 };
-                let count = expect_scan(rt, alloc, &mut core, &table, moment, &query)?;
+                let count = expect_scan(rt, alloc, &mut core, &table, moment, &query);
                 shown = shown.saturating_add(count);
             }
-            2..=3 => compact(rt, alloc, &mut core, moment, random)?,
+            2..=3 => compact(rt, alloc, &mut core, moment, random),
             _ => {
-                let updates = random_updates(alloc, random, moment)?;
-                write(rt, alloc, &mut core, &mut table, moment, &updates)?;
+                let updates = random_updates(rt, alloc, random, moment);
+                write(rt, alloc, &mut core, &mut table, moment, &updates);
             }
         }
     }
-    Ok(shown)
+    shown
 }
 
 #[test]
-fn a_core_shows_what_the_model_shows(rt: HostRuntime) -> Result<(), Fail> {
+fn a_core_shows_what_the_model_shows(rt: HostRuntime) {
     let mut random = Random::new(11);
     let mut shown = 0usize;
     for _ in 0..2000 {
-        let count = play(&rt, rt.alloc(), &mut random)?;
+        let count = play(&rt, rt.alloc(), &mut random);
         shown = shown.saturating_add(count);
     }
     assert!(rt; shown > 10_000, "{shown} cells were shown");
-    Ok(())
 }

@@ -1,105 +1,116 @@
 //! Steps in short, over one table `t` with one column, and replies as text.
 
-use std::alloc::{AllocError, Global};
-use std::test::Fail;
+use std::alloc::Global;
+use std::process::Abort;
 use tab_history::{Act, Event, Refusal, Reply, Scan, Step, TimeMode, Versions};
-use tab_key::{Bound, Bounds, Cell, Items};
+use tab_key::{Bound, Bounds, Cell, Items, Name};
 use tab_label::AuthSet;
 use tab_mutation::Mutation;
-use tab_testing::name;
 
-pub fn event(user: &[u8], moment: i64, act: Act) -> Result<Step, Fail> {
-    let user = name(user)?;
-    Ok(Step::Event(Event { user, moment, act }))
+/// The name that these bytes are.
+pub fn named(rt: &impl Abort, bytes: &[u8]) -> Name {
+    Name::new(bytes).expect(rt, "a name")
 }
 
-pub fn next(user: &[u8], slot: u32, count: u32) -> Result<Step, Fail> {
-    let user = name(user)?;
-    Ok(Step::Next { user, slot, count })
+pub fn event(rt: &impl Abort, user: &[u8], moment: i64, act: Act) -> Step {
+    let user = named(rt, user);
+    Step::Event(Event { user, moment, act })
 }
 
-pub fn close(user: &[u8], slot: u32) -> Result<Step, Fail> {
-    let user = name(user)?;
-    Ok(Step::Close { user, slot })
+pub fn next(rt: &impl Abort, user: &[u8], slot: u32, count: u32) -> Step {
+    let user = named(rt, user);
+    Step::Next { user, slot, count }
 }
 
-// Puts the step behind the others, if it could be made.
-pub fn push(steps: &mut Vec<Step>, step: Result<Step, Fail>) -> Result<(), Fail> {
-    steps.push(step?)?;
-    Ok(())
+pub fn close(rt: &impl Abort, user: &[u8], slot: u32) -> Step {
+    let user = named(rt, user);
+    Step::Close { user, slot }
+}
+
+// Puts the step behind the others.
+pub fn push(rt: &impl Abort, steps: &mut Vec<Step>, step: Step) {
+    steps.push(step).expect(rt, "memory");
 }
 
 // Root makes the table, which shows so many versions.
-pub fn makes_table(versions: u64) -> Result<Step, Fail> {
-    let versions = Versions::new(versions).ok_or("1 to 1,000")?;
+pub fn makes_table(rt: &impl Abort, versions: u64) -> Step {
+    let versions = Versions::new(versions).expect(rt, "1 to 1,000");
     event(
+        rt,
         b"root",
         0,
-        Act::CreateTable(name(b"t")?, TimeMode::Any, versions),
+        Act::CreateTable(named(rt, b"t"), TimeMode::Any, versions),
     )
 }
 
 // Authorizations of one byte each.
-pub fn auths(alloc: Global, letters: &[u8]) -> Result<AuthSet, AllocError> {
+pub fn auths(rt: &impl Abort, alloc: Global, letters: &[u8]) -> AuthSet {
     let mut terms = Vec::new(alloc);
     for letter in letters {
-        terms.push(Vec::from_slice(alloc, &[*letter])?)?;
+        let term = Vec::from_slice(alloc, &[*letter]).expect(rt, "memory");
+        terms.push(term).expect(rt, "memory");
     }
-    Ok(AuthSet::new(terms))
+    AuthSet::new(terms)
 }
 
 // A scan of all of t.
-pub fn opens(alloc: Global, user: &[u8], moment: i64, letters: &[u8]) -> Result<Step, Fail> {
+pub fn opens(rt: &impl Abort, alloc: Global, user: &[u8], moment: i64, letters: &[u8]) -> Step {
     let scan = Scan {
-        table: name(b"t")?,
+        table: named(rt, b"t"),
         bounds: Bounds {
             low: Bound::Unbounded,
             high: Bound::Unbounded,
         },
         columns: Items::new(alloc),
-        authorizations: auths(alloc, letters)?,
+        authorizations: auths(rt, alloc, letters),
     };
-    event(user, moment, Act::Open(scan))
+    event(rt, user, moment, Act::Open(scan))
 }
 
 // A put of a value to the one column of t.
 pub fn puts(
+    rt: &impl Abort,
     alloc: Global,
     user: &[u8],
     moment: i64,
     label: &[u8],
     timestamp: Option<i64>,
     value: u8,
-) -> Result<Step, Fail> {
-    let mut mutation = Mutation::new(alloc, b"r")?;
-    mutation.put(b"f", b"q", label, timestamp, &[value])?;
-    event(user, moment, Act::Write(name(b"t")?, mutation))
+) -> Step {
+    let mut mutation = Mutation::new(alloc, b"r").expect(rt, "memory");
+    mutation
+        .put(b"f", b"q", label, timestamp, &[value])
+        .expect(rt, "memory");
+    event(rt, user, moment, Act::Write(named(rt, b"t"), mutation))
 }
 
 pub fn deletes(
+    rt: &impl Abort,
     alloc: Global,
     user: &[u8],
     moment: i64,
     label: &[u8],
     timestamp: Option<i64>,
-) -> Result<Step, Fail> {
-    let mut mutation = Mutation::new(alloc, b"r")?;
-    mutation.delete(b"f", b"q", label, timestamp)?;
-    event(user, moment, Act::Write(name(b"t")?, mutation))
+) -> Step {
+    let mut mutation = Mutation::new(alloc, b"r").expect(rt, "memory");
+    mutation
+        .delete(b"f", b"q", label, timestamp)
+        .expect(rt, "memory");
+    event(rt, user, moment, Act::Write(named(rt, b"t"), mutation))
 }
 
 // The cells, as `label@timestamp=value` with a comma after each.
-fn add_cells(alloc: Global, text: &mut Vec<u8>, cells: &[Cell]) -> Result<(), AllocError> {
+fn add_cells(rt: &impl Abort, alloc: Global, text: &mut Vec<u8>, cells: &[Cell]) {
     for cell in cells {
-        text.extend_from_slice(cell.label())?;
-        text.push(b'@')?;
-        let timestamp = format!(in alloc; "{}", cell.timestamp())?;
-        text.extend_from_slice(timestamp.as_bytes())?;
-        text.push(b'=')?;
-        text.extend_from_slice(cell.value())?;
-        text.push(b',')?;
+        text.extend_from_slice(cell.label()).expect(rt, "memory");
+        text.push(b'@').expect(rt, "memory");
+        let timestamp = format!(in alloc; "{}", cell.timestamp()).expect(rt, "memory");
+        text.extend_from_slice(timestamp.as_bytes())
+            .expect(rt, "memory");
+        text.push(b'=').expect(rt, "memory");
+        text.extend_from_slice(cell.value()).expect(rt, "memory");
+        text.push(b',').expect(rt, "memory");
     }
-    Ok(())
 }
 
 fn word_of(refusal: &Refusal) -> &'static [u8] {
@@ -113,22 +124,25 @@ fn word_of(refusal: &Refusal) -> &'static [u8] {
 }
 
 // The replies, with a blank after each.
-pub fn text_of(alloc: Global, replies: &[Reply]) -> Result<Vec<u8>, AllocError> {
+pub fn text_of(rt: &impl Abort, alloc: Global, replies: &[Reply]) -> Vec<u8> {
     let mut text = Vec::new(alloc);
     for reply in replies {
         match reply {
-            Reply::Done => text.extend_from_slice(b"ok")?,
-            Reply::Refused(refusal) => text.extend_from_slice(word_of(refusal))?,
-            Reply::Opened(_) => text.extend_from_slice(b"opened")?,
-            Reply::Batch(cells) => add_cells(alloc, &mut text, cells.as_slice())?,
+            Reply::Done => text.extend_from_slice(b"ok").expect(rt, "memory"),
+            Reply::Refused(refusal) => text
+                .extend_from_slice(word_of(refusal))
+                .expect(rt, "memory"),
+            Reply::Opened(_) => text.extend_from_slice(b"opened").expect(rt, "memory"),
+            Reply::Batch(cells) => add_cells(rt, alloc, &mut text, cells.as_slice()),
             Reply::Rights(rights) => {
                 for term in rights.authorizations.terms() {
-                    text.extend_from_slice(term)?;
+                    text.extend_from_slice(term).expect(rt, "memory");
                 }
             }
-            Reply::Counted(_) => text.extend_from_slice(b"counted")?,
+            Reply::Counted(_) => text.extend_from_slice(b"counted").expect(rt, "memory"),
+            Reply::Rows(_) => text.extend_from_slice(b"rows").expect(rt, "memory"),
         }
-        text.push(b' ')?;
+        text.push(b' ').expect(rt, "memory");
     }
-    Ok(text)
+    text
 }

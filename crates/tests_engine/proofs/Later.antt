@@ -1,9 +1,9 @@
 -- A run of later numbers shares no place with what was there.
-use Rattle.std.proofs.Common.{◌≡◌, ◌⊎◌, inl, inr, ℕ, zero, suc, ◌≤◌, ◌<◌, List, [], ◌∷◌, ◌++◌, refl, sym, ◌∙◌, ap, subst, length, arith, append_assoc, All, append-nil}
+use Rattle.std.proofs.Common.{◌≡◌, ◌⊎◌, inl, inr, ℕ, zero, suc, ◌≤◌, ◌<◌, Bool, List, [], ◌∷◌, ◌++◌, filter, refl, sym, ◌∙◌, ap, subst, length, arith, append_assoc, All, append-nil}
 use Rattle.std.specs.Prelude.{slice_index_or, Contains}
 use Rattle.tab_key.specs.Records.{Record}
 use Rattle.tab_key.specs.Sorted.{IsDistinct, IsIn}
-use Rattle.tab_key.proofs.Rising.{in_from, in_to}
+use Rattle.tab_key.proofs.Rising.{in_from, in_to, distinct_filter}
 use Rattle.tab_key.proofs.Ties.{ties_are_one}
 use Rattle.tab_iter.specs.Bags.{flat}
 use Rattle.tab_iter.proofs.BagLaws.{distinct_more, apart_join}
@@ -45,3 +45,7 @@ module _ (cs new : List (List Record)) (x : List Record) (from to : ℕ) where
 -- no record of an empty list has a number
 pub nothing_older : (us : List Record) (n : ℕ) → us ≡ [] → (u : Record) → Contains us u → u.seq < n
 nothing_older us n e u h = absurd (in_from [] u (subst (λ l. Contains l u) e h))
+
+-- what is read of records that stand apart stands apart
+pub distinct_read : (p : Record → Bool) (us read : List Record) → read ≡ filter p us → IsDistinct us → IsDistinct read
+distinct_read p us read e d = subst IsDistinct (sym e) (distinct_filter p us d)

@@ -1,4 +1,5 @@
 pub mod Apart
+pub mod Cuts
 pub mod Later
 pub mod Tabled
 pub mod Numbers

@@ -11,7 +11,6 @@ ghost use Rattle.tab_iter.specs.Lists.{IsRising};
 
 use std::alloc::{AllocError, Global};
 use std::process::Abort;
-use std::test::Fail;
 use tab_iter::{
     DeletingRule, FetchingRule, Filtered, ListSource, Merging, Source, VersioningRule, VisibleRule,
     is_rising, stack_of,
@@ -122,35 +121,26 @@ fn from_key(alloc: Global, want: &[u64], key: Key<'_>) -> Result<Vec<u64>, Alloc
     Ok(left)
 }
 
-// The numbers of the records that are left.
-fn numbers<S: Source>(alloc: Global, source: &mut S) -> Result<Vec<u64>, AllocError> {
-    let mut numbers = Vec::new(alloc);
-    for _ in 0..1000 {
-        let Some(record) = source.top() else {
-            return Ok(numbers);
-        };
-        numbers.push(record.seq())?;
-        source.advance().or(Err(AllocError))?;
+// The source has the records of these numbers left, and no others.
+fn expect_numbers<S: Source>(rt: &impl Abort, source: &mut S, want: &[u64]) {
+    for seq in want {
+        let number = source.top().map(|record| record.seq());
+        assert_eq!(rt; number, Some(*seq));
+        source.advance().expect(rt, "memory");
     }
-    Ok(numbers)
+    assert!(rt; source.top().is_none());
 }
 
 // Reads all of the source, and then what it has left after each seek.
-fn reads<S: Source>(
-    rt: &impl Abort,
-    alloc: Global,
-    source: &mut S,
-    want: &[u64],
-) -> Result<(), AllocError> {
-    assert_eq!(rt; numbers(alloc, source)?.as_slice(), want);
+fn reads<S: Source>(rt: &impl Abort, alloc: Global, source: &mut S, want: &[u64]) {
+    expect_numbers(rt, source, want);
     for line in &lines() {
         for key in around(line.key) {
-            source.seek(key).or(Err(AllocError))?;
-            let left = from_key(alloc, want, key)?;
-            assert_eq!(rt; numbers(alloc, source)?.as_slice(), left.as_slice());
+            source.seek(key).expect(rt, "memory");
+            let left = from_key(alloc, want, key).expect(rt, "memory");
+            expect_numbers(rt, source, &left);
         }
     }
-    Ok(())
 }
 
 fn source_of(rt: &impl Abort, records: Vec<Record>) -> ListSource
@@ -163,35 +153,33 @@ fn source_of(rt: &impl Abort, records: Vec<Record>) -> ListSource
 }
 
 #[test]
-fn lists(rt: HostRuntime) -> Result<(), Fail> {
+fn lists(rt: HostRuntime) {
     let alloc = rt.alloc();
-    let mut source = source_of(&rt, records_of(alloc, 1, 0)?);
+    let mut source = source_of(&rt, records_of(alloc, 1, 0).expect(&rt, "memory"));
     let all = [7, 6, 8, 5, 4, 10, 9, 3, 11, 12, 14, 13, 15, 16, 17];
-    reads(&rt, alloc, &mut source, &all)?;
-    let mut records = records_of(alloc, 1, 0)?;
+    reads(&rt, alloc, &mut source, &all);
+    let mut records = records_of(alloc, 1, 0).expect(&rt, "memory");
     records.reverse();
     assert!(rt; !is_rising(&records));
-    Ok(())
 }
 
 #[test]
-fn deletes(rt: HostRuntime) -> Result<(), Fail> {
+fn deletes(rt: HostRuntime) {
     let alloc = rt.alloc();
     let cases: [(bool, &[u64]); 2] = [
         (false, &[7, 10, 9, 3, 11, 12, 14, 16, 17]),
         (true, &[7, 6, 10, 9, 3, 11, 12, 14, 13, 16, 17]),
     ];
     for (keeps, want) in cases {
-        let source = source_of(&rt, records_of(alloc, 1, 0)?);
+        let source = source_of(&rt, records_of(alloc, 1, 0).expect(&rt, "memory"));
         let layer = Filtered::new(source, DeletingRule::new(alloc, keeps));
-        let mut layer = layer.or(Err(AllocError))?;
-        reads(&rt, alloc, &mut layer, want)?;
+        let mut layer = layer.expect(&rt, "memory");
+        reads(&rt, alloc, &mut layer, want);
     }
-    Ok(())
 }
 
 #[test]
-fn counts_versions(rt: HostRuntime) -> Result<(), Fail> {
+fn counts_versions(rt: HostRuntime) {
     let alloc = rt.alloc();
     let cases: [(u32, &[u64]); 3] = [
         (0, &[6, 13]),
@@ -199,38 +187,33 @@ fn counts_versions(rt: HostRuntime) -> Result<(), Fail> {
         (2, &[7, 6, 8, 10, 9, 11, 12, 14, 13, 15, 16, 17]),
     ];
     for (most, want) in cases {
-        let source = source_of(&rt, records_of(alloc, 1, 0)?);
+        let source = source_of(&rt, records_of(alloc, 1, 0).expect(&rt, "memory"));
         let layer = Filtered::new(source, VersioningRule::new(alloc, most, true));
-        let mut layer = layer.or(Err(AllocError))?;
-        reads(&rt, alloc, &mut layer, want)?;
+        let mut layer = layer.expect(&rt, "memory");
+        reads(&rt, alloc, &mut layer, want);
     }
-    Ok(())
 }
 
-fn fetches(
-    rt: &impl Abort,
-    alloc: Global,
-    columns: &[Column],
-    want: &[u64],
-) -> Result<(), AllocError> {
-    let source = source_of(rt, records_of(alloc, 1, 0)?);
+fn fetches(rt: &impl Abort, alloc: Global, columns: &[Column], want: &[u64]) {
+    let source = source_of(rt, records_of(alloc, 1, 0).expect(rt, "memory"));
     let layer = Filtered::new(source, FetchingRule::new(alloc, columns));
-    let mut layer = layer.or(Err(AllocError))?;
+    let mut layer = layer.expect(rt, "memory");
     reads(rt, alloc, &mut layer, want)
 }
 
 #[test]
-fn fetches_columns(rt: HostRuntime) -> Result<(), Fail> {
+fn fetches_columns(rt: HostRuntime) {
     let alloc = rt.alloc();
     let all = [7, 6, 8, 5, 4, 10, 9, 3, 11, 12, 14, 13, 15, 16, 17];
-    fetches(&rt, alloc, &[], &all)?;
-    let columns = [family(alloc, b"g")?, qualified(alloc, b"f", b"q")?];
-    fetches(&rt, alloc, &columns, &[12, 14, 13, 15, 16])?;
-    Ok(())
+    fetches(&rt, alloc, &[], &all);
+    let first = family(alloc, b"g").expect(&rt, "memory");
+    let second = qualified(alloc, b"f", b"q").expect(&rt, "memory");
+    let columns = [first, second];
+    fetches(&rt, alloc, &columns, &[12, 14, 13, 15, 16]);
 }
 
 #[test]
-fn sees_labels(rt: HostRuntime) -> Result<(), Fail> {
+fn sees_labels(rt: HostRuntime) {
     let alloc = rt.alloc();
     let cases: [(&[&[u8]], &[u64]); 3] = [
         (&[], &[7, 6, 8, 5, 4, 12]),
@@ -238,13 +221,12 @@ fn sees_labels(rt: HostRuntime) -> Result<(), Fail> {
         (&[b"B"], &[7, 6, 8, 5, 4, 11, 12, 16]),
     ];
     for (terms, want) in cases {
-        let auths = auths_of(alloc, terms)?;
-        let source = source_of(&rt, records_of(alloc, 1, 0)?);
+        let auths = auths_of(alloc, terms).expect(&rt, "memory");
+        let source = source_of(&rt, records_of(alloc, 1, 0).expect(&rt, "memory"));
         let layer = Filtered::new(source, VisibleRule::new(alloc, &auths));
-        let mut layer = layer.or(Err(AllocError))?;
-        reads(&rt, alloc, &mut layer, want)?;
+        let mut layer = layer.expect(&rt, "memory");
+        reads(&rt, alloc, &mut layer, want);
     }
-    Ok(())
 }
 
 // Whether no record of the list stands at the place of this one.
@@ -287,19 +269,18 @@ fn dealt(rt: &impl Abort, alloc: Global) -> Result<Vec<ListSource>, AllocError>
 }
 
 #[test]
-fn merges(rt: HostRuntime) -> Result<(), Fail> {
+fn merges(rt: HostRuntime) {
     let alloc = rt.alloc();
-    let merged = Merging::new(dealt(&rt, alloc)?);
-    let mut merged = merged.or(Err(AllocError))?;
+    let merged = Merging::new(dealt(&rt, alloc).expect(&rt, "memory"));
+    let mut merged = merged.expect(&rt, "memory");
     let all = [7, 6, 8, 5, 4, 10, 9, 3, 11, 12, 14, 13, 15, 16, 17];
-    reads(&rt, alloc, &mut merged, &all)?;
-    Ok(())
+    reads(&rt, alloc, &mut merged, &all);
 }
 
 #[test]
-fn stacks(rt: HostRuntime) -> Result<(), Fail> {
+fn stacks(rt: HostRuntime) {
     let alloc = rt.alloc();
-    let columns = [family(alloc, b"f")?];
+    let columns = [family(alloc, b"f").expect(&rt, "memory")];
     let cases: [(&[&[u8]], u32, usize, &[u64]); 4] = [
         (&[], 1, 0, &[7, 12]),
         (&[b"A"], 1, 0, &[7, 10, 12, 14, 16]),
@@ -307,11 +288,11 @@ fn stacks(rt: HostRuntime) -> Result<(), Fail> {
         (&[b"B"], 2, 1, &[7, 11, 12]),
     ];
     for (terms, versions, named, want) in cases {
-        let auths = auths_of(alloc, terms)?;
+        let auths = auths_of(alloc, terms).expect(&rt, "memory");
         let chosen = &columns[..named.min(1)];
-        let stack = stack_of(alloc, dealt(&rt, alloc)?, chosen, &auths, versions);
-        let mut stack = stack.or(Err(AllocError))?;
-        reads(&rt, alloc, &mut stack, want)?;
+        let merged = Merging::new(dealt(&rt, alloc).expect(&rt, "memory")).expect(&rt, "memory");
+        let stack = stack_of(alloc, merged, chosen, &auths, versions);
+        let mut stack = stack.expect(&rt, "memory");
+        reads(&rt, alloc, &mut stack, want);
     }
-    Ok(())
 }

@@ -7,7 +7,7 @@
 //! | `layers` | each layer and the stack of them, over a small table; `failing`: over a source that fails once; `many`: many sources merged; `merged`: what a merge keeps |
 //! | `runs` | writing, freezing, and cursors over parts of a run |
 //! | `tables` | tables of what was written, and cursors over them that borrow and that share |
-//! | `versions` | clips of runs and of tables, and the stack over several |
+//! | `versions` | clips of runs and of tables, and the stack over several; `cuts`: over many tablets |
 //! | `sessions` | batches of every size |
 //! | `tablets` | scans of what was written, beside the model; `stories`: a tablet through writes, freezes and compactions |
 //! | `writing`, `reading` | helpers: runs and versions of what is written, and what a source has left |

@@ -4,7 +4,6 @@ use crate::reading::{expect_rest, expect_seek};
 use crate::writing::{CLOCK, fill};
 use std::alloc::{AllocError, Global};
 use std::process::Abort;
-use std::test::Fail;
 use tab_mem::{Active, Run, RunCursor};
 use tab_testing::{Random, Update, in_rows, sort};
 
@@ -32,40 +31,28 @@ fn expect_seeks(
     mut cursor: RunCursor<'_>,
     updates: &[Update],
     random: &mut Random,
-) -> Result<(), AllocError> {
-    expect_rest(rt, alloc, &mut cursor, updates)?;
+) {
+    expect_rest(rt, &mut cursor, updates);
     for _ in 0..10 {
-        expect_seek(rt, alloc, &mut cursor, updates, &random_update(random))?;
+        expect_seek(rt, alloc, &mut cursor, updates, &random_update(random));
     }
-    Ok(())
 }
 
 // A part of the run, and of this some rows.
-fn expect_part(
-    rt: &impl Abort,
-    alloc: Global,
-    run: &Run,
-    updates: &[Update],
-    random: &mut Random,
-) -> Result<(), AllocError> {
+fn expect_part(rt: &impl Abort, alloc: Global, run: &Run, updates: &[Update], random: &mut Random) {
     let end = (random.below(30) as usize).min(run.len());
     let from = (random.below(30) as usize).min(end);
     let part = updates.get(from..end).unwrap_or(&[]);
-    expect_seeks(rt, alloc, RunCursor::over(run, from, end), part, random)?;
+    expect_seeks(rt, alloc, RunCursor::over(run, from, end), part, random);
     let low = random.end(&ROWS);
     let high = random.end(&ROWS);
-    let rows = run.rows_in(from, end, &low.to(alloc, high)?);
-    let want = in_rows(alloc, part, low, high)?;
-    expect_rest(
-        rt,
-        alloc,
-        &mut RunCursor::over(run, rows.start, rows.end),
-        &want,
-    )
+    let rows = run.rows_in(from, end, &low.to(alloc, high).expect(rt, "memory"));
+    let want = in_rows(alloc, part, low, high).expect(rt, "memory");
+    expect_rest(rt, &mut RunCursor::over(run, rows.start, rows.end), &want)
 }
 
 #[test]
-fn freezes_in_order(rt: HostRuntime) -> Result<(), Fail> {
+fn freezes_in_order(rt: HostRuntime) {
     let alloc = rt.alloc();
     let mut random = Random::new(7);
     let mut active = Active::new(alloc);
@@ -81,24 +68,17 @@ fn freezes_in_order(rt: HostRuntime) -> Result<(), Fail> {
             0,
             8,
             &mut table,
-        )?;
+        );
         assert_eq!(rt; active.len(), table.len());
-        let frozen = match active.freeze(alloc) {
-            Ok(run) => run,
-            Err(_) => {
-                assert_eq!(rt; active.len(), table.len());
-                active.freeze(alloc)?
-            }
-        };
+        let frozen = active.freeze(alloc).expect(&rt, "memory");
         sort(&mut table);
         assert_eq!(rt;
             (frozen.len(), frozen.is_empty()),
             (table.len(), table.is_empty())
         );
-        expect_seeks(&rt, alloc, RunCursor::new(&frozen), &table, &mut random)?;
+        expect_seeks(&rt, alloc, RunCursor::new(&frozen), &table, &mut random);
         for _ in 0..10 {
-            expect_part(&rt, alloc, &frozen, &table, &mut random)?;
+            expect_part(&rt, alloc, &frozen, &table, &mut random);
         }
     }
-    Ok(())
 }

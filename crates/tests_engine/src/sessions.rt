@@ -1,9 +1,8 @@
 //! A small table in three runs, read in batches of every size.
 
-use crate::writing::{self, add};
+use crate::writing::{self, add, of_runs};
 use std::alloc::{AllocError, Global};
 use std::process::Abort;
-use std::test::Fail;
 use tab_key::{Cell, Items};
 use tab_label::AuthSet;
 use tab_mem::Active;
@@ -84,59 +83,42 @@ fn new_lines() -> [Line; 4] {
     ]
 }
 
-fn write(
-    rt: &impl Abort,
-    alloc: Global,
-    active: &mut Active,
-    line: &Line,
-) -> Result<(), AllocError> {
-    let mut mutation = Mutation::new(alloc, line.row)?;
-    if line.is_put {
-        mutation.put(
-            line.family,
-            b"q",
-            line.label,
-            Some(line.timestamp),
-            &[line.name],
-        )?;
+fn write(rt: &impl Abort, alloc: Global, active: &mut Active, line: &Line) {
+    let mut mutation = Mutation::new(alloc, line.row).expect(rt, "memory");
+    let at = Some(line.timestamp);
+    let added = if line.is_put {
+        mutation.put(line.family, b"q", line.label, at, &[line.name])
     } else {
-        mutation.delete(line.family, b"q", line.label, Some(line.timestamp))?;
-    }
+        mutation.delete(line.family, b"q", line.label, at)
+    };
+    added.expect(rt, "memory");
     writing::write(rt, active, &mutation, u64::from(line.name))
 }
 
-fn clip_of(rt: &impl Abort, alloc: Global, lines: &[Line]) -> Result<Clip, AllocError> {
+fn clip_of(rt: &impl Abort, alloc: Global, lines: &[Line]) -> Clip {
     let mut active = Active::new(alloc);
     for line in lines {
-        write(rt, alloc, &mut active, line)?;
+        write(rt, alloc, &mut active, line);
     }
-    Ok(Clip::whole(active.freeze(alloc)?))
+    Clip::whole(active.freeze(alloc).expect(rt, "memory"))
 }
 
-fn table(rt: &impl Abort, alloc: Global) -> Result<Version, AllocError> {
+fn table(rt: &impl Abort, alloc: Global) -> Version {
     let mut clips = Vec::new(alloc);
-    let clip = clip_of(rt, alloc, &old_lines())?;
-    add(rt, alloc, &mut clips, clip, 0, 64)?;
-    let clip = clip_of(rt, alloc, &later_lines())?;
-    add(rt, alloc, &mut clips, clip, 64, 96)?;
-    let clip = clip_of(rt, alloc, &new_lines())?;
-    add(rt, alloc, &mut clips, clip, 96, 128)?;
-    Ok(Version::new(clips))
+    let clip = clip_of(rt, alloc, &old_lines());
+    add(rt, alloc, &mut clips, clip, 0, 64).expect(rt, "memory");
+    let clip = clip_of(rt, alloc, &later_lines());
+    add(rt, alloc, &mut clips, clip, 64, 96).expect(rt, "memory");
+    let clip = clip_of(rt, alloc, &new_lines());
+    add(rt, alloc, &mut clips, clip, 96, 128).expect(rt, "memory");
+    of_runs(alloc, clips).expect(rt, "memory")
 }
 
-fn whole_table(rt: &impl Abort, alloc: Global, versions: u32) -> Result<Session, AllocError> {
-    let version = table(rt, alloc)?;
+fn whole_table(rt: &impl Abort, alloc: Global, versions: u32) -> Session {
+    let version = table(rt, alloc);
     let columns = Items::new(alloc);
     let auths = AuthSet::empty(alloc);
-    Ok(Session::new(version, columns, auths, versions))
-}
-
-// The next cells. Where memory is refused, the session is asked once more, and finds all as it was.
-fn batch(alloc: Global, session: &mut Session, count: u32) -> Result<Items<Cell>, AllocError> {
-    match session.next_batch(alloc, count) {
-        Ok(cells) => Ok(cells),
-        Err(_) => session.next_batch(alloc, count),
-    }
+    Session::new(version, columns, auths, versions)
 }
 
 // The names of the cells.
@@ -148,16 +130,11 @@ fn names(alloc: Global, cells: &Items<Cell>) -> Result<Vec<u8>, AllocError> {
     Ok(names)
 }
 
-fn expect(
-    rt: &impl Abort,
-    alloc: Global,
-    session: &mut Session,
-    count: u32,
-    want: &[u8],
-) -> Result<(), AllocError> {
-    let cells = batch(alloc, session, count)?;
-    assert_eq!(rt; names(alloc, &cells)?.as_slice(), want);
-    Ok(())
+// The session's next cells have these names.
+fn expect_batch(rt: &impl Abort, alloc: Global, session: &mut Session, count: u32, want: &[u8]) {
+    let cells = session.next_batch(alloc, count).expect(rt, "memory");
+    let names = names(alloc, &cells).expect(rt, "memory");
+    assert_eq!(rt; names.as_slice(), want);
 }
 
 // The table with this many versions of a column.
@@ -169,72 +146,68 @@ const SHOWN: [(u32, &[u8]); 4] = [
 ];
 
 #[test]
-fn gives_all_at_once(rt: HostRuntime) -> Result<(), Fail> {
+fn gives_all_at_once(rt: HostRuntime) {
     let alloc = rt.alloc();
     for (versions, want) in SHOWN {
-        let mut session = whole_table(&rt, alloc, versions)?;
-        expect(&rt, alloc, &mut session, u32::MAX, want)?;
-        expect(&rt, alloc, &mut session, u32::MAX, b"")?;
+        let mut session = whole_table(&rt, alloc, versions);
+        expect_batch(&rt, alloc, &mut session, u32::MAX, want);
+        expect_batch(&rt, alloc, &mut session, u32::MAX, b"");
     }
-    Ok(())
 }
 
 #[test]
-fn gives_batches_of_each_size(rt: HostRuntime) -> Result<(), Fail> {
+fn gives_batches_of_each_size(rt: HostRuntime) {
     let alloc = rt.alloc();
     for (versions, want) in SHOWN {
         for size in 1..8 {
-            let mut session = whole_table(&rt, alloc, versions)?;
+            let mut session = whole_table(&rt, alloc, versions);
             for part in want.chunks(size) {
-                expect(&rt, alloc, &mut session, size as u32, part)?;
+                expect_batch(&rt, alloc, &mut session, size as u32, part);
             }
-            expect(&rt, alloc, &mut session, size as u32, b"")?;
+            expect_batch(&rt, alloc, &mut session, size as u32, b"");
         }
     }
-    Ok(())
 }
 
 #[test]
-fn gives_none_when_none_are_asked(rt: HostRuntime) -> Result<(), Fail> {
+fn gives_none_when_none_are_asked(rt: HostRuntime) {
     let alloc = rt.alloc();
-    let mut session = whole_table(&rt, alloc, 9)?;
+    let mut session = whole_table(&rt, alloc, 9);
     for want in [b"E", b"A", b"1", b"0", b"2", b"C"] {
-        expect(&rt, alloc, &mut session, 0, b"")?;
-        expect(&rt, alloc, &mut session, 1, want)?;
+        expect_batch(&rt, alloc, &mut session, 0, b"");
+        expect_batch(&rt, alloc, &mut session, 1, want);
     }
-    Ok(())
 }
 
 #[test]
-fn asks_for_columns_and_labels(rt: HostRuntime) -> Result<(), Fail> {
+fn asks_for_columns_and_labels(rt: HostRuntime) {
     let alloc = rt.alloc();
-    let version = table(&rt, alloc)?;
+    let version = table(&rt, alloc);
     let mut columns = Vec::new(alloc);
-    columns.push(family(alloc, b"g")?)?;
-    let auths = auths_of(alloc, &[b"x"])?;
+    let column = family(alloc, b"g").expect(&rt, "memory");
+    columns.push(column).expect(&rt, "memory");
+    let auths = auths_of(alloc, &[b"x"]).expect(&rt, "memory");
     let mut session = Session::new(version, Items::from_vec(columns), auths, 1);
-    expect(&rt, alloc, &mut session, 1, b"4")?;
-    expect(&rt, alloc, &mut session, 2, b"D")?;
-    Ok(())
+    expect_batch(&rt, alloc, &mut session, 1, b"4");
+    expect_batch(&rt, alloc, &mut session, 2, b"D");
 }
 
 #[test]
-fn shows_nothing_of_later_writes(rt: HostRuntime) -> Result<(), Fail> {
+fn shows_nothing_of_later_writes(rt: HostRuntime) {
     let alloc = rt.alloc();
     let mut active = Active::new(alloc);
-    write(&rt, alloc, &mut active, &put(b"a", b"f", b"", 1, b'0'))?;
-    write(&rt, alloc, &mut active, &put(b"c", b"f", b"", 1, b'1'))?;
+    write(&rt, alloc, &mut active, &put(b"a", b"f", b"", 1, b'0'));
+    write(&rt, alloc, &mut active, &put(b"c", b"f", b"", 1, b'1'));
     let mut clips = Vec::new(alloc);
-    let clip = Clip::whole(active.freeze(alloc)?);
-    add(&rt, alloc, &mut clips, clip, 0, 64)?;
-    let version = Version::new(clips);
+    let clip = Clip::whole(active.freeze(alloc).expect(&rt, "memory"));
+    add(&rt, alloc, &mut clips, clip, 0, 64).expect(&rt, "memory");
+    let version = of_runs(alloc, clips).expect(&rt, "memory");
     let (columns, auths) = (Items::new(alloc), AuthSet::empty(alloc));
     let mut session = Session::new(version, columns, auths, 1);
-    expect(&rt, alloc, &mut session, 1, b"0")?;
-    write(&rt, alloc, &mut active, &put(b"b", b"f", b"", 1, b'2'))?;
-    write(&rt, alloc, &mut active, &delete(b"c", b"f", 9, b'3'))?;
-    let later = active.freeze(alloc)?;
+    expect_batch(&rt, alloc, &mut session, 1, b"0");
+    write(&rt, alloc, &mut active, &put(b"b", b"f", b"", 1, b'2'));
+    write(&rt, alloc, &mut active, &delete(b"c", b"f", 9, b'3'));
+    let later = active.freeze(alloc).expect(&rt, "memory");
     assert_eq!(rt; later.len(), 2);
-    expect(&rt, alloc, &mut session, 9, b"1")?;
-    Ok(())
+    expect_batch(&rt, alloc, &mut session, 9, b"1");
 }

@@ -7,7 +7,6 @@ use crate::writing::{CLOCK, fill};
 use std::alloc::{AllocError, Global};
 use std::process::Abort;
 use std::sync::Arc;
-use std::test::Fail;
 use tab_iter::Source;
 use tab_mem::{Active, Run, RunCursor};
 use tab_table::{Cursor, OwnedCursor, Table};
@@ -35,12 +34,13 @@ fn random_table(
     random: &mut Random,
     count: u8,
     updates: &mut Vec<Update>,
-) -> Result<Arc<Table>, AllocError> {
+) -> Arc<Table> {
     let mut active = Active::new(alloc);
-    fill(rt, alloc, random, &mut active, &ROWS, 0, count, updates)?;
+    fill(rt, alloc, random, &mut active, &ROWS, 0, count, updates);
     sort(updates);
-    let run = active.freeze(alloc)?;
-    Ok(Arc::new(alloc, table_of(alloc, &run)?)?)
+    let run = active.freeze(alloc).expect(rt, "memory");
+    let table = table_of(alloc, &run).expect(rt, "memory");
+    Arc::new(alloc, table).expect(rt, "memory")
 }
 
 // The table has these records by their indexes, and their size.
@@ -65,15 +65,14 @@ fn expect_seeks<S: Source + Drop>(
     mut cursor: S,
     updates: &[Update],
     random: &mut Random,
-) -> Result<(), AllocError> {
-    expect_rest(rt, alloc, &mut cursor, updates)?;
+) {
+    expect_rest(rt, &mut cursor, updates);
     for sought in updates {
-        expect_seek(rt, alloc, &mut cursor, updates, sought)?;
+        expect_seek(rt, alloc, &mut cursor, updates, sought);
     }
     for _ in 0..10 {
-        expect_seek(rt, alloc, &mut cursor, updates, &random_update(random))?;
+        expect_seek(rt, alloc, &mut cursor, updates, &random_update(random));
     }
-    Ok(())
 }
 
 // A part of the table, and of this some rows.
@@ -83,33 +82,32 @@ fn expect_part(
     table: &Table,
     updates: &[Update],
     random: &mut Random,
-) -> Result<(), AllocError> {
+) {
     let end = (random.below(30) as usize).min(table.len());
     let from = (random.below(30) as usize).min(end);
     let part = updates.get(from..end).unwrap_or(&[]);
-    expect_seeks(rt, alloc, Cursor::over(table, from, end), part, random)?;
+    expect_seeks(rt, alloc, Cursor::over(table, from, end), part, random);
     let low = random.end(&ROWS);
     let high = random.end(&ROWS);
-    let rows = table.rows_in(from, end, &low.to(alloc, high)?);
-    let want = in_rows(alloc, part, low, high)?;
+    let rows = table.rows_in(from, end, &low.to(alloc, high).expect(rt, "memory"));
+    let want = in_rows(alloc, part, low, high).expect(rt, "memory");
     let mut cursor = Cursor::over(table, rows.start, rows.end);
-    expect_rest(rt, alloc, &mut cursor, &want)
+    expect_rest(rt, &mut cursor, &want)
 }
 
 #[test]
-fn holds_what_was_built_in(rt: HostRuntime) -> Result<(), Fail> {
+fn holds_what_was_built_in(rt: HostRuntime) {
     let alloc = rt.alloc();
     let mut random = Random::new(11);
     for _ in 0..30 {
         let mut updates = Vec::new(alloc);
-        let table = random_table(&rt, alloc, &mut random, 8, &mut updates)?;
+        let table = random_table(&rt, alloc, &mut random, 8, &mut updates);
         expect_records(&rt, &table, &updates);
-        expect_seeks(&rt, alloc, Cursor::new(&table), &updates, &mut random)?;
+        expect_seeks(&rt, alloc, Cursor::new(&table), &updates, &mut random);
         for _ in 0..5 {
-            expect_part(&rt, alloc, &table, &updates, &mut random)?;
+            expect_part(&rt, alloc, &table, &updates, &mut random);
         }
     }
-    Ok(())
 }
 
 // A cursor that shares a table which nobody else has any more.
@@ -119,21 +117,20 @@ fn left_behind(
     random: &mut Random,
     count: u8,
     updates: &mut Vec<Update>,
-) -> Result<OwnedCursor, AllocError> {
-    let table = random_table(rt, alloc, random, count, updates)?;
+) -> OwnedCursor {
+    let table = random_table(rt, alloc, random, count, updates);
     expect_records(rt, &table, updates);
-    let shared = table.clone()?;
-    Ok(OwnedCursor::new(shared))
+    let shared = table.clone().expect(rt, "memory");
+    OwnedCursor::new(shared)
 }
 
 #[test]
-fn outlives_its_table(rt: HostRuntime) -> Result<(), Fail> {
+fn outlives_its_table(rt: HostRuntime) {
     let alloc = rt.alloc();
     let mut random = Random::new(13);
     for count in 0..4u8 {
         let mut updates = Vec::new(alloc);
-        let cursor = left_behind(&rt, alloc, &mut random, count, &mut updates)?;
-        expect_seeks(&rt, alloc, cursor, &updates, &mut random)?;
+        let cursor = left_behind(&rt, alloc, &mut random, count, &mut updates);
+        expect_seeks(&rt, alloc, cursor, &updates, &mut random);
     }
-    Ok(())
 }

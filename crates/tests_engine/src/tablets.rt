@@ -1,12 +1,13 @@
 //! Scans of a tablet, beside the model.
 
 use crate::reading::expect_scan;
+use crate::writing::one_tablet;
 use std::alloc::{AllocError, Global};
 use std::process::Abort;
-use std::test::Fail;
 use tab_mutation::Mutation;
 use tab_tablet::Tablet;
 use tab_testing::{Columns, Query, Random, Update, mutation_of, scanned};
+use tab_version::Version;
 
 mod stories;
 
@@ -22,11 +23,20 @@ fn random_update(random: &mut Random) -> Update {
 
 // A tablet of one mutation, whose shape must be accepted.
 #[tactic(auto, using(crate::proofs::Later::nothing_older))]
-fn written(rt: &impl Abort, alloc: Global, mutation: &Mutation) -> Result<Tablet, AllocError> {
+fn written(rt: &impl Abort, alloc: Global, mutation: &Mutation) -> Tablet {
     assert!(rt; mutation.shape().is_none());
     let mut tablet = Tablet::new(alloc);
-    tablet.write(mutation, 0, CLOCK)?;
-    Ok(tablet)
+    tablet.write(mutation, 0, CLOCK).expect(rt, "memory");
+    tablet
+}
+
+// What a scan of the tablet reads.
+#[tactic(auto, using(crate::proofs::Later::distinct_read))]
+fn read(alloc: Global, tablet: &Tablet, query: &Query) -> Result<Version, AllocError> {
+    let frozen = tablet.frozen(alloc)?;
+    let _is_frozen = frozen.is_frozen();
+    let clips = frozen.clips(alloc, &query.bounds(alloc)?)?;
+    one_tablet(alloc, clips)
 }
 
 // A scan of the tablet shows what one of the table shows, also from some key on; how many records.
@@ -37,34 +47,36 @@ fn compare(
     tablet: &Tablet,
     table: &[Update],
     query: &Query,
-) -> Result<usize, AllocError> {
-    let frozen = tablet.frozen(alloc)?;
-    let version = frozen.version(alloc, &query.bounds(alloc)?)?;
-    let want = scanned(alloc, table, query)?;
-    expect_scan(rt, alloc, &version, query, &want, &random_update(random))?;
-    Ok(want.len())
+) -> usize {
+    let version = read(alloc, tablet, query).expect(rt, "memory");
+    let want = scanned(alloc, table, query).expect(rt, "memory");
+    expect_scan(rt, alloc, &version, query, &want, &random_update(random));
+    want.len()
 }
 
 #[test]
-fn a_tablet_shows_what_the_model_shows(rt: HostRuntime) -> Result<(), Fail> {
+fn a_tablet_shows_what_the_model_shows(rt: HostRuntime) {
     let alloc = rt.alloc();
     let mut random = Random::new(5);
     let mut shown = 0usize;
     for _ in 0..400 {
         let row = random.one_of(&ROWS);
-        let table = random.updates(alloc, row, 0, CLOCK)?;
+        let table = random.updates(alloc, row, 0, CLOCK).expect(&rt, "memory");
         if table.is_empty() {
             continue;
         }
-        let tablet = written(&rt, alloc, &mutation_of(alloc, row, &table)?)?;
+        let tablet = written(
+            &rt,
+            alloc,
+            &mutation_of(alloc, row, &table).expect(&rt, "memory"),
+        );
         for _ in 0..3 {
             let query = random.query(&ROWS);
-            let count = compare(&rt, alloc, &mut random, &tablet, &table, &query)?;
+            let count = compare(&rt, alloc, &mut random, &tablet, &table, &query);
             shown = shown.saturating_add(count);
         }
     }
     assert!(rt; shown > 100, "{shown} records were shown");
-    Ok(())
 }
 
 // A column of 40 updates, numbered from the first on; the one of the marker's moment is a marker.
@@ -92,41 +104,35 @@ fn add_column(
 }
 
 // A scan shows what one of the table shows, also from each tenth update on.
-fn compare_deep(
-    rt: &impl Abort,
-    alloc: Global,
-    table: &[Update],
-    columns: Columns,
-    versions: u32,
-) -> Result<(), AllocError> {
+fn compare_deep(rt: &impl Abort, alloc: Global, table: &[Update], columns: Columns, versions: u32) {
     let query = Query {
         columns,
         versions,
         has_a: true,
         ..Query::ALL
     };
-    let tablet = written(rt, alloc, &mutation_of(alloc, b"k", table)?)?.frozen(alloc)?;
-    let version = tablet.version(alloc, &query.bounds(alloc)?)?;
-    let want = scanned(alloc, table, &query)?;
+    let mutation = mutation_of(alloc, b"k", table).expect(rt, "memory");
+    let tablet = written(rt, alloc, &mutation).frozen(alloc);
+    let tablet = tablet.expect(rt, "memory");
+    let version = read(alloc, &tablet, &query).expect(rt, "memory");
+    let want = scanned(alloc, table, &query).expect(rt, "memory");
     for sought in table.iter().step_by(10) {
-        expect_scan(rt, alloc, &version, &query, &want, sought)?;
+        expect_scan(rt, alloc, &version, &query, &want, sought);
     }
-    Ok(())
 }
 
 #[test]
-fn deep_columns_are_passed_over(rt: HostRuntime) -> Result<(), Fail> {
+fn deep_columns_are_passed_over(rt: HostRuntime) {
     let alloc = rt.alloc();
     let mut table = Vec::new(alloc);
-    add_column(&mut table, b"p", b"", 0, 40)?;
-    add_column(&mut table, b"q", b"", 40, 13)?;
-    add_column(&mut table, b"q", b"A", 80, 26)?;
+    add_column(&mut table, b"p", b"", 0, 40).expect(&rt, "memory");
+    add_column(&mut table, b"q", b"", 40, 13).expect(&rt, "memory");
+    add_column(&mut table, b"q", b"A", 80, 26).expect(&rt, "memory");
     for versions in [1, 12] {
-        compare_deep(&rt, alloc, &table, Columns::All, versions)?;
+        compare_deep(&rt, alloc, &table, Columns::All, versions);
         for qualifier in [b"p".as_slice(), b"q", b"qq"] {
             let asked = Columns::Qualified(b"f", qualifier);
-            compare_deep(&rt, alloc, &table, asked, versions)?;
+            compare_deep(&rt, alloc, &table, asked, versions);
         }
     }
-    Ok(())
 }

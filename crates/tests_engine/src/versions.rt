@@ -3,12 +3,13 @@ ghost use Rattle.std.specs.Prelude.{◌≡◌, IfOk, map, option_to_list};
 ghost use Rattle.tab_iter.specs.Bags.{flat};
 ghost use Rattle.tab_version.specs.Sources.{records_of};
 
+mod cuts;
+
 use crate::reading::{expect_raw, expect_rest, expect_scan, expect_seek};
-use crate::writing::{CLOCK, add, fill};
+use crate::writing::{CLOCK, add, fill, one_tablet};
 use std::alloc::{AllocError, Global};
 use std::process::Abort;
 use std::sync::Arc;
-use std::test::Fail;
 use tab_mem::{Active, Run};
 use tab_table::Table;
 use tab_testing::{End, Query, Random, Update, in_rows, scanned, sort};
@@ -31,26 +32,20 @@ fn random_run(
     random: &mut Random,
     first: u8,
     table: &mut Vec<Update>,
-) -> Result<Arc<Run>, AllocError> {
+) -> Arc<Run> {
     let mut active = Active::new(alloc);
-    fill(rt, alloc, random, &mut active, &ROWS, first, 4, table)?;
-    active.freeze(alloc)
+    fill(rt, alloc, random, &mut active, &ROWS, first, 4, table);
+    active.freeze(alloc).expect(rt, "memory")
 }
 
 // The clip has these records, and no others, also from a key on.
-fn expect_clip(
-    rt: &impl Abort,
-    alloc: Global,
-    clip: &Clip,
-    want: &[Update],
-    sought: &Update,
-) -> Result<(), AllocError> {
+fn expect_clip(rt: &impl Abort, alloc: Global, clip: &Clip, want: &[Update], sought: &Update) {
     assert_eq!(rt;
         (clip.len(), clip.is_empty()),
         (want.len(), want.is_empty())
     );
     let mut cursor = clip.cursor();
-    expect_rest(rt, alloc, &mut cursor, want)?;
+    expect_rest(rt, &mut cursor, want);
     expect_seek(rt, alloc, &mut cursor, want, sought)
 }
 
@@ -62,12 +57,13 @@ fn clipped(
     updates: &[Update],
     low: End,
     random: &mut Random,
-) -> Result<(Clip, Vec<Update>), AllocError> {
+) -> (Clip, Vec<Update>) {
     let high = random.end(&EDGES);
-    let within = clip.in_rows(&low.to(alloc, high)?)?;
-    let want = in_rows(alloc, updates, low, high)?;
-    expect_clip(rt, alloc, &within, &want, &random_update(random))?;
-    Ok((within, want))
+    let bounds = low.to(alloc, high).expect(rt, "memory");
+    let within = clip.in_rows(&bounds).expect(rt, "memory");
+    let want = in_rows(alloc, updates, low, high).expect(rt, "memory");
+    expect_clip(rt, alloc, &within, &want, &random_update(random));
+    (within, want)
 }
 
 // The clip of the clip from each edge on.
@@ -77,32 +73,30 @@ fn expect_clips(
     clip: &Clip,
     updates: &[Update],
     random: &mut Random,
-) -> Result<(), AllocError> {
-    let _ = clipped(rt, alloc, clip, updates, End::Open, random)?;
+) {
+    let _ = clipped(rt, alloc, clip, updates, End::Open, random);
     for edge in EDGES {
-        let _ = clipped(rt, alloc, clip, updates, End::In(edge), random)?;
-        let _ = clipped(rt, alloc, clip, updates, End::Out(edge), random)?;
+        let _ = clipped(rt, alloc, clip, updates, End::In(edge), random);
+        let _ = clipped(rt, alloc, clip, updates, End::Out(edge), random);
     }
-    Ok(())
 }
 
 #[test]
-fn clips_rows(rt: HostRuntime) -> Result<(), Fail> {
+fn clips_rows(rt: HostRuntime) {
     let alloc = rt.alloc();
     let mut random = Random::new(3);
     for _ in 0..20 {
         let mut table = Vec::new(alloc);
-        let run = random_run(&rt, alloc, &mut random, 0, &mut table)?;
+        let run = random_run(&rt, alloc, &mut random, 0, &mut table);
         sort(&mut table);
         let whole = Clip::whole(run);
-        expect_clip(&rt, alloc, &whole, &table, &random_update(&mut random))?;
+        expect_clip(&rt, alloc, &whole, &table, &random_update(&mut random));
         for _ in 0..20 {
             let low = random.end(&EDGES);
-            let (clip, within) = clipped(&rt, alloc, &whole, &table, low, &mut random)?;
-            expect_clips(&rt, alloc, &clip, &within, &mut random)?;
+            let (clip, within) = clipped(&rt, alloc, &whole, &table, low, &mut random);
+            expect_clips(&rt, alloc, &clip, &within, &mut random);
         }
     }
-    Ok(())
 }
 
 // A clip of a new run in any range; the records in it are added to the table.
@@ -112,15 +106,16 @@ fn random_clip(
     random: &mut Random,
     first: u8,
     table: &mut Vec<Update>,
-) -> Result<Clip, AllocError> {
+) -> Clip {
     let mut written = Vec::new(alloc);
-    let whole = Clip::whole(random_run(rt, alloc, random, first, &mut written)?);
+    let whole = Clip::whole(random_run(rt, alloc, random, first, &mut written));
     let low = random.end(&EDGES);
     let high = random.end(&EDGES);
-    for update in &in_rows(alloc, &written, low, high)? {
-        table.push(*update)?;
+    for update in &in_rows(alloc, &written, low, high).expect(rt, "memory") {
+        table.push(*update).expect(rt, "memory");
     }
-    whole.in_rows(&low.to(alloc, high)?)
+    let bounds = low.to(alloc, high).expect(rt, "memory");
+    whole.in_rows(&bounds).expect(rt, "memory")
 }
 
 // The clip as one of a table of its own.
@@ -162,40 +157,45 @@ fn expect_table_clip(
     clip: &TableClip,
     updates: &[Update],
     random: &mut Random,
-) -> Result<(), AllocError> {
+) {
     let low = random.end(&EDGES);
     let high = random.end(&EDGES);
-    let within = clip.in_rows(&low.to(alloc, high)?)?.share()?;
-    let want = in_rows(alloc, updates, low, high)?;
+    let bounds = low.to(alloc, high).expect(rt, "memory");
+    let part = clip.in_rows(&bounds).expect(rt, "memory");
+    let within = part.share().expect(rt, "memory");
+    let want = in_rows(alloc, updates, low, high).expect(rt, "memory");
     assert_eq!(rt;
         (within.len(), within.is_empty(), within.size()),
         (want.len(), want.is_empty(), clip.size())
     );
     let mut cursor = within.cursor();
-    expect_rest(rt, alloc, &mut cursor, &want)?;
+    expect_rest(rt, &mut cursor, &want);
     expect_seek(rt, alloc, &mut cursor, &want, &random_update(random))
 }
 
 #[test]
-fn clips_rows_of_tables(rt: HostRuntime) -> Result<(), Fail> {
+fn clips_rows_of_tables(rt: HostRuntime) {
     let alloc = rt.alloc();
     let mut random = Random::new(17);
     for _ in 0..20 {
         let mut updates = Vec::new(alloc);
-        let run = random_run(&rt, alloc, &mut random, 0, &mut updates)?;
+        let run = random_run(&rt, alloc, &mut random, 0, &mut updates);
         sort(&mut updates);
         let mut clips = Clips::new(alloc);
-        clips.add_table(tabled(alloc, Clip::whole(run.clone()?))?)?;
-        clips.add_run(Clip::whole(run).share()?)?;
-        let (runs, tables) = clips.share(alloc)?.into_parts();
+        let of_run = Clip::whole(run);
+        let shared = of_run.share().expect(&rt, "memory");
+        let of_table = tabled(alloc, of_run).expect(&rt, "memory");
+        clips.add_table(of_table).expect(&rt, "memory");
+        clips.add_run(shared).expect(&rt, "memory");
+        let clips = clips.share(alloc).expect(&rt, "memory");
+        let (runs, tables) = clips.into_parts();
         assert_eq!(rt; (runs.len(), tables.len()), (1, 1));
         for clip in &tables {
             for _ in 0..20 {
-                expect_table_clip(&rt, alloc, clip, &updates, &mut random)?;
+                expect_table_clip(&rt, alloc, clip, &updates, &mut random);
             }
         }
     }
-    Ok(())
 }
 
 // Three clips of their own, the last one of a table, and what stands in them.
@@ -204,27 +204,28 @@ fn random_version(
     alloc: Global,
     random: &mut Random,
     table: &mut Vec<Update>,
-) -> Result<Version, AllocError> {
+) -> Version {
     let mut clips = Vec::new(alloc);
-    let first = random_clip(rt, alloc, random, 0, table)?;
-    add(rt, alloc, &mut clips, first, 0, 4)?;
-    let second = random_clip(rt, alloc, random, 4, table)?;
-    add(rt, alloc, &mut clips, second, 4, 8)?;
-    let third = random_clip(rt, alloc, random, 8, table)?;
-    add(rt, alloc, &mut clips, third, 8, 12)?;
-    Ok(Version::of(last_tabled(alloc, clips)?))
+    let first = random_clip(rt, alloc, random, 0, table);
+    add(rt, alloc, &mut clips, first, 0, 4).expect(rt, "memory");
+    let second = random_clip(rt, alloc, random, 4, table);
+    add(rt, alloc, &mut clips, second, 4, 8).expect(rt, "memory");
+    let third = random_clip(rt, alloc, random, 8, table);
+    add(rt, alloc, &mut clips, third, 8, 12).expect(rt, "memory");
+    let clips = last_tabled(alloc, clips).expect(rt, "memory");
+    one_tablet(alloc, clips).expect(rt, "memory")
 }
 
 #[test]
-fn stacks_clips(rt: HostRuntime) -> Result<(), Fail> {
+fn stacks_clips(rt: HostRuntime) {
     let alloc = rt.alloc();
     let mut random = Random::new(5);
     let mut shown = 0usize;
     for _ in 0..300 {
         let mut table = Vec::new(alloc);
-        let version = random_version(&rt, alloc, &mut random, &mut table)?;
+        let version = random_version(&rt, alloc, &mut random, &mut table);
         sort(&mut table);
-        expect_raw(&rt, alloc, &version, &table)?;
+        expect_raw(&rt, alloc, &version, &table);
         for _ in 0..4 {
             let query = Query {
                 low: End::Open,
@@ -232,11 +233,10 @@ fn stacks_clips(rt: HostRuntime) -> Result<(), Fail> {
                 ..random.query(&ROWS)
             };
             let sought = random_update(&mut random);
-            let want = scanned(alloc, &table, &query)?;
-            expect_scan(&rt, alloc, &version, &query, &want, &sought)?;
+            let want = scanned(alloc, &table, &query).expect(&rt, "memory");
+            expect_scan(&rt, alloc, &version, &query, &want, &sought);
             shown = shown.saturating_add(want.len());
         }
     }
     assert!(rt; shown > 2000, "{shown} records were shown");
-    Ok(())
 }

@@ -3,6 +3,7 @@ ghost use Rattle.std.specs.Prelude.{◌≡◌, ◌≤◌, ◌<◌, All, IfOk, On
 ghost use Rattle.tab_key.specs.Sorted.{IsDistinct};
 ghost use Rattle.tab_iter.specs.Bags.{flat};
 ghost use Rattle.tab_iter.specs.Lists.{IsRising};
+ghost use Rattle.tab_version.specs.Sources.{records_of};
 
 use std::alloc::{AllocError, Global};
 use std::process::Abort;
@@ -11,7 +12,7 @@ use tab_key::RecordRef;
 use tab_mem::Active;
 use tab_mutation::Mutation;
 use tab_testing::{Random, Update, mutation_of};
-use tab_version::Clip;
+use tab_version::{Clip, Clips, Version};
 
 /// The moment of all writes.
 pub const CLOCK: i64 = 2;
@@ -28,21 +29,11 @@ fn is_new(active: &Active, seq: u64) -> bool
     true
 }
 
-/// Writes the mutation, and once more where memory is refused: then it finds all as it was. Its shape must be accepted.
-pub fn write(
-    rt: &impl Abort,
-    active: &mut Active,
-    mutation: &Mutation,
-    seq: u64,
-) -> Result<(), AllocError> {
+/// Writes the mutation, whose shape must be accepted.
+pub fn write(rt: &impl Abort, active: &mut Active, mutation: &Mutation, seq: u64) {
     assert!(rt; is_new(active, seq));
     assert!(rt; mutation.shape().is_none());
-    let before = active.len();
-    if active.write(mutation, seq, CLOCK).is_ok() {
-        return Ok(());
-    }
-    assert_eq!(rt; active.len(), before);
-    active.write(mutation, seq, CLOCK)
+    active.write(mutation, seq, CLOCK).expect(rt, "memory");
 }
 
 /// Writes as many random mutations of the rows, numbered from here on, and adds them to the table. One without updates is left out.
@@ -55,21 +46,20 @@ pub fn fill(
     first: u8,
     count: u8,
     table: &mut Vec<Update>,
-) -> Result<(), AllocError> {
+) {
     for number in 0..count {
         let seq = first.saturating_add(number);
         let row = random.one_of(rows);
-        let updates = random.updates(alloc, row, seq, CLOCK)?;
+        let updates = random.updates(alloc, row, seq, CLOCK).expect(rt, "memory");
         if updates.is_empty() {
             continue;
         }
-        let mutation = mutation_of(alloc, row, &updates)?;
-        write(rt, active, &mutation, u64::from(seq))?;
+        let mutation = mutation_of(alloc, row, &updates).expect(rt, "memory");
+        write(rt, active, &mutation, u64::from(seq));
         for update in &updates {
-            table.push(*update)?;
+            table.push(*update).expect(rt, "memory");
         }
     }
-    Ok(())
 }
 
 // The records of the clip.
@@ -136,4 +126,22 @@ pub fn add(
     check_between(rt, alloc, &clip, from, to)?;
     clips.push(clip)?;
     Ok(())
+}
+
+/// A version of one tablet, which reads these clips.
+pub fn one_tablet(alloc: Global, clips: Clips) -> Result<Version, AllocError>
+    requires { IsDistinct (records_of clips) }
+{
+    let mut tablets = Vec::new(alloc);
+    tablets.push(clips)?;
+    Ok(Version::of(tablets))
+}
+
+/// A version of one tablet, which reads these runs.
+pub fn of_runs(alloc: Global, runs: Vec<Clip>) -> Result<Version, AllocError>
+    requires { IsDistinct (flat runs.items) }
+{
+    let tables = Vec::new(alloc);
+    let clips = Clips::of(runs, tables);
+    one_tablet(alloc, clips)
 }

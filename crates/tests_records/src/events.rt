@@ -1,27 +1,25 @@
 //! A copy of an event.
-use std::test::Fail;
+use std::process::Abort;
 use tab_history::{Act, Event, copied};
 use tab_key::Name;
 use tab_mutation::Mutation;
 
-fn name(bytes: &[u8]) -> Result<Name, Fail> {
-    Ok(Name::new(bytes).ok_or("a name")?)
-}
-
-fn event(act: Act) -> Result<Event, Fail> {
-    Ok(Event {
-        user: name(b"root")?,
-        moment: -7,
-        act,
-    })
+fn name(rt: &impl Abort, bytes: &[u8]) -> Name {
+    Name::new(bytes).expect(rt, "a name")
 }
 
 #[test]
-fn copies_a_write(rt: HostRuntime) -> Result<(), Fail> {
-    let mut mutation = Mutation::new(rt.alloc(), b"row")?;
-    mutation.put(b"f", b"q", b"a&b", Some(5), b"value")?;
-    let written = event(Act::Write(name(b"t")?, mutation))?;
-    let copy = copied(&written)?;
+fn copies_a_write(rt: HostRuntime) {
+    let mut mutation = Mutation::new(rt.alloc(), b"row").expect(&rt, "memory");
+    mutation
+        .put(b"f", b"q", b"a&b", Some(5), b"value")
+        .expect(&rt, "memory");
+    let written = Event {
+        user: name(&rt, b"root"),
+        moment: -7,
+        act: Act::Write(name(&rt, b"t"), mutation),
+    };
+    let copy = copied(&written).expect(&rt, "memory");
     assert_eq!(rt; copy.user.as_bytes(), b"root".as_slice());
     assert_eq!(rt; copy.moment, -7);
     match &copy.act {
@@ -30,7 +28,6 @@ fn copies_a_write(rt: HostRuntime) -> Result<(), Fail> {
             assert_eq!(rt; mutation.row(), b"row".as_slice());
             assert_eq!(rt; mutation.len(), 1);
         }
-        _ => return Err("a write".into()),
+        _ => panic!(rt; "a write"),
     }
-    Ok(())
 }

@@ -1,26 +1,25 @@
 //! The order of names, ranges, and what is printed for a reader of a test.
-use std::alloc::{AllocError, Global};
+use std::alloc::Global;
 use std::cmp::Ordering;
-use std::test::Fail;
+use std::process::Abort;
 use tab_key::{BadRange, Bound, ByteString, Name, Range};
 
 #[test]
-fn orders_names(rt: HostRuntime) -> Result<(), Fail> {
-    let first = Name::new(b"T").ok_or("a name")?;
-    let second = Name::new(b"t").ok_or("a name")?;
+fn orders_names(rt: HostRuntime) {
+    let first = Name::new(b"T").expect(&rt, "a name");
+    let second = Name::new(b"t").expect(&rt, "a name");
     assert!(rt; first < second && first != second && first == first);
     assert_eq!(rt; first.cmp(&second), Ordering::Less);
     assert_eq!(rt; first.partial_cmp(&second), Some(Ordering::Less));
-    Ok(())
 }
 
-fn bound(alloc: Global, inclusive: bool, row: &[u8]) -> Result<Bound, AllocError> {
-    let row = ByteString::from_slice(alloc, row)?;
-    Ok(if inclusive {
+fn bound(rt: &impl Abort, alloc: Global, inclusive: bool, row: &[u8]) -> Bound {
+    let row = ByteString::from_slice(alloc, row).expect(rt, "memory");
+    if inclusive {
         Bound::Inclusive(row)
     } else {
         Bound::Exclusive(row)
-    })
+    }
 }
 
 // Which of the rows a, ab, b lie between these, if they are the ends of a range.
@@ -36,46 +35,64 @@ fn between(low: Bound, high: Bound) -> Option<[bool; 3]> {
 }
 
 #[test]
-fn ranges_hold_rows(rt: HostRuntime) -> Result<(), Fail> {
+fn ranges_hold_rows(rt: HostRuntime) {
     let alloc = rt.alloc();
-    let all = between(bound(alloc, true, b"a")?, bound(alloc, true, b"b")?);
+    let all = between(bound(&rt, alloc, true, b"a"), bound(&rt, alloc, true, b"b"));
     assert_eq!(rt; all, Some([true, true, true]));
-    let inner = between(bound(alloc, false, b"a")?, bound(alloc, false, b"b")?);
+    let inner = between(
+        bound(&rt, alloc, false, b"a"),
+        bound(&rt, alloc, false, b"b"),
+    );
     assert_eq!(rt; inner, Some([false, true, false]));
-    let one = between(bound(alloc, true, b"a")?, bound(alloc, true, b"a")?);
+    let one = between(bound(&rt, alloc, true, b"a"), bound(&rt, alloc, true, b"a"));
     assert_eq!(rt; one, Some([true, false, false]));
     assert_eq!(rt;
         between(Bound::Unbounded, Bound::Unbounded),
         Some([true, true, true])
     );
-    Ok(())
 }
 
 #[test]
-fn bad_bounds_are_no_range(rt: HostRuntime) -> Result<(), Fail> {
+fn bad_bounds_are_no_range(rt: HostRuntime) {
     let alloc = rt.alloc();
-    let open = between(bound(alloc, true, b"a")?, bound(alloc, false, b"a")?);
+    let open = between(
+        bound(&rt, alloc, true, b"a"),
+        bound(&rt, alloc, false, b"a"),
+    );
     assert_eq!(rt; open, None);
-    let turned = between(bound(alloc, true, b"b")?, bound(alloc, true, b"ab")?);
+    let turned = between(
+        bound(&rt, alloc, true, b"b"),
+        bound(&rt, alloc, true, b"ab"),
+    );
     assert_eq!(rt; turned, None);
-    Ok(())
 }
 
 #[test]
-fn prints_for_a_reader(rt: HostRuntime) -> Result<(), Fail> {
+fn prints_for_a_reader(rt: HostRuntime) {
     let alloc = rt.alloc();
-    let bound = Bound::Inclusive(ByteString::from_slice(alloc, b"a\"")?);
+    let bound = Bound::Inclusive(ByteString::from_slice(alloc, b"a\"").expect(&rt, "memory"));
     assert_eq!(rt;
-        format!(in alloc; "{bound:?}")?.as_str(),
+        format!(in alloc; "{bound:?}")
+            .expect(&rt, "memory")
+            .as_str(),
         "Inclusive(\"a\\\"\")"
     );
-    let bytes = ByteString::from_slice(alloc, b"\xff")?;
-    assert_eq!(rt; format!(in alloc; "{bytes:?}")?.as_str(), "[255]");
-    let name = Name::new(b"t").ok_or("a name")?;
-    assert_eq!(rt; format!(in alloc; "{name:?}")?.as_str(), "\"t\"");
+    let bytes = ByteString::from_slice(alloc, b"\xff").expect(&rt, "memory");
     assert_eq!(rt;
-        format!(in alloc; "{BadRange}")?.as_str(),
+        format!(in alloc; "{bytes:?}")
+            .expect(&rt, "memory")
+            .as_str(),
+        "[255]"
+    );
+    let name = Name::new(b"t").expect(&rt, "a name");
+    assert_eq!(rt;
+        format!(in alloc; "{name:?}").expect(&rt, "memory").as_str(),
+        "\"t\""
+    );
+    assert_eq!(rt;
+        format!(in alloc; "{BadRange}")
+            .expect(&rt, "memory")
+            .as_str(),
         "the bounds leave no range"
     );
-    Ok(())
 }

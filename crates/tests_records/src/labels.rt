@@ -2,16 +2,17 @@
 mod brute;
 
 use std::alloc::{AllocError, Global};
-use std::test::Fail;
+use std::process::Abort;
 use tab_label::{AuthSet, Label, LabelFault};
 
 /// A set of these byte strings.
-fn set(rt: &impl AllocGlobal, terms: &[&[u8]]) -> Result<AuthSet, Fail> {
-    let mut list = Vec::new(rt.alloc());
+fn set(rt: &impl Abort, alloc: Global, terms: &[&[u8]]) -> AuthSet {
+    let mut list = Vec::new(alloc);
     for term in terms {
-        list.push(term.to_vec(rt.alloc())?)?;
+        let term = term.to_vec(alloc).expect(rt, "memory");
+        list.push(term).expect(rt, "memory");
     }
-    Ok(AuthSet::new(list))
+    AuthSet::new(list)
 }
 
 // A term in so many parentheses.
@@ -25,32 +26,28 @@ fn nested(alloc: Global, depth: usize) -> Result<Vec<u8>, AllocError> {
 }
 
 #[test]
-fn depths(rt: HostRuntime) -> Result<(), Fail> {
-    let text = nested(rt.alloc(), 64)?;
+fn depths(rt: HostRuntime) {
+    let text = nested(rt.alloc(), 64).expect(&rt, "memory");
     assert!(rt; Label::parse(rt.alloc(), &text).is_ok());
-    let deeper = nested(rt.alloc(), 65)?;
+    let deeper = nested(rt.alloc(), 65).expect(&rt, "memory");
     assert!(rt;
         matches!(
             Label::parse(rt.alloc(), &deeper),
             Err(LabelFault::Malformed(64))
         )
     );
-    Ok(())
 }
 
 #[test]
-fn trees(rt: HostRuntime) -> Result<(), Fail> {
-    let label = Label::parse(rt.alloc(), b"a&(b|\"c\\\"d\")")
-        .ok()
-        .ok_or("refused")?;
-    let shown = format!(in rt.alloc(); "{label:?}")?;
+fn trees(rt: HostRuntime) {
+    let label = Label::parse(rt.alloc(), b"a&(b|\"c\\\"d\")").expect(&rt, "a label");
+    let shown = format!(in rt.alloc(); "{label:?}").expect(&rt, "memory");
     assert_eq!(rt;
         shown.as_str(),
         "Only(Join(And, [Term([97]), Join(Or, [Term([98]), Term([99, 34, 100])])]))"
     );
-    let empty = Label::parse(rt.alloc(), b"").ok().ok_or("refused")?;
+    let empty = Label::parse(rt.alloc(), b"").expect(&rt, "a label");
     assert!(rt; matches!(empty, Label::Everyone));
-    let fault = format!(in rt.alloc(); "{}", LabelFault::Malformed(3))?;
+    let fault = format!(in rt.alloc(); "{}", LabelFault::Malformed(3)).expect(&rt, "memory");
     assert_eq!(rt; fault.as_str(), "malformed label at 3");
-    Ok(())
 }

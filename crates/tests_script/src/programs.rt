@@ -1,6 +1,5 @@
 //! A subcommand from its input to its output.
 use std::io::ErrorKind;
-use std::test::Fail;
 use tab_io::memory::{Fault, PieceReader, PieceWriter};
 use tab_io::{BlockReader, BlockWriter};
 use tab_prog::{ProgramFault, script};
@@ -8,31 +7,29 @@ use tab_prog::{ProgramFault, script};
 const LINES: &[u8] = b"createtable t\ninsert t r f q \\e v 5\nscan t \\0\n";
 
 #[test]
-fn answers_all_lines(rt: HostRuntime) -> Result<(), Fail> {
+fn answers_all_lines(rt: HostRuntime) {
     let alloc = rt.alloc();
-    let mut input = BlockReader::new(alloc, PieceReader::new(LINES, 10))?;
-    let mut output = BlockWriter::new(alloc, PieceWriter::new(alloc, 10))?;
+    let mut input = BlockReader::new(alloc, PieceReader::new(LINES, 10)).expect(&rt, "memory");
+    let mut output = BlockWriter::new(alloc, PieceWriter::new(alloc, 10)).expect(&rt, "memory");
     assert!(rt; script(alloc, &mut input, &mut output) == Ok(()));
     assert_eq!(rt;
         output.get_ref().bytes(),
         b"ok\nok\nr f q \\e 5 v\nend\n".as_slice()
     );
-    Ok(())
 }
 
 #[test]
-fn tells_which_side_failed(rt: HostRuntime) -> Result<(), Fail> {
+fn tells_which_side_failed(rt: HostRuntime) {
     let alloc = rt.alloc();
     let kind = ErrorKind::Other;
     let reader = PieceReader::new(LINES, 14).failing(Fault { after: 1, kind });
-    let mut input = BlockReader::new(alloc, reader)?;
-    let mut output = BlockWriter::new(alloc, PieceWriter::new(alloc, 10))?;
+    let mut input = BlockReader::new(alloc, reader).expect(&rt, "memory");
+    let mut output = BlockWriter::new(alloc, PieceWriter::new(alloc, 10)).expect(&rt, "memory");
     assert!(rt; script(alloc, &mut input, &mut output) == Err(ProgramFault::Read));
     assert_eq!(rt; output.get_ref().bytes(), b"ok\n".as_slice());
 
-    let mut input = BlockReader::new(alloc, PieceReader::new(LINES, 14))?;
+    let mut input = BlockReader::new(alloc, PieceReader::new(LINES, 14)).expect(&rt, "memory");
     let writer = PieceWriter::new(alloc, 2).failing(Fault { after: 1, kind });
-    let mut output = BlockWriter::new(alloc, writer)?;
+    let mut output = BlockWriter::new(alloc, writer).expect(&rt, "memory");
     assert!(rt; script(alloc, &mut input, &mut output) == Err(ProgramFault::Write));
-    Ok(())
 }

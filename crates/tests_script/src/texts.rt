@@ -1,16 +1,16 @@
 //! The spellings, as the format gives them, and that calls succeed.
 use std::alloc::Global;
-use std::test::Fail;
+use std::process::Abort;
 use tab_io::{BlockWriter, Output};
 use tab_key::{Cell, Key};
 use tab_text::{Escape, Word, hex_value, is_plain, laws, put_cell, put_line, put_word, step};
 
-fn output(alloc: Global) -> Result<BlockWriter<Vec<u8>>, Fail> {
-    Ok(BlockWriter::new(alloc, Vec::new(alloc))?)
+fn output(rt: &impl Abort, alloc: Global) -> BlockWriter<Vec<u8>> {
+    BlockWriter::new(alloc, Vec::new(alloc)).expect(rt, "memory")
 }
 
 #[test]
-fn spells_words(rt: HostRuntime) -> Result<(), Fail> {
+fn spells_words(rt: HostRuntime) {
     for (bytes, word) in [
         (b"".as_slice(), b"\\e".as_slice()),
         (b"abc".as_slice(), b"abc".as_slice()),
@@ -25,17 +25,16 @@ fn spells_words(rt: HostRuntime) -> Result<(), Fail> {
         ),
         (b" x\xabyz\\w".as_slice(), b"\\x20x\\xabyz\\\\w".as_slice()),
     ] {
-        let mut output = output(rt.alloc())?;
-        put_word(&mut output, bytes)?;
-        output.flush()?;
+        let mut output = output(&rt, rt.alloc());
+        put_word(&mut output, bytes).expect(&rt, "written");
+        output.flush().expect(&rt, "written");
         assert_eq!(rt; output.get_ref().as_slice(), word);
     }
-    Ok(())
 }
 
 #[test]
-fn parts_words_by_spaces(rt: HostRuntime) -> Result<(), Fail> {
-    let mut output = output(rt.alloc())?;
+fn parts_words_by_spaces(rt: HostRuntime) {
+    let mut output = output(&rt, rt.alloc());
     put_line(
         &mut output,
         &[
@@ -45,17 +44,17 @@ fn parts_words_by_spaces(rt: HostRuntime) -> Result<(), Fail> {
             Word::Bytes(b""),
             Word::Bytes(b"a b"),
         ],
-    )?;
-    put_line(&mut output, &[])?;
-    put_line(&mut output, &[Word::Text(b"ok")])?;
-    output.flush()?;
+    )
+    .expect(&rt, "memory");
+    put_line(&mut output, &[]).expect(&rt, "written");
+    put_line(&mut output, &[Word::Text(b"ok")]).expect(&rt, "written");
+    output.flush().expect(&rt, "written");
     let want = b"refused 18446744073709551615 -3 \\e a\\x20b\n\nok\n".as_slice();
     assert_eq!(rt; output.get_ref().as_slice(), want);
-    Ok(())
 }
 
 #[test]
-fn prints_cells(rt: HostRuntime) -> Result<(), Fail> {
+fn prints_cells(rt: HostRuntime) {
     let key = Key {
         row: b"r 1",
         family: b"f",
@@ -63,15 +62,14 @@ fn prints_cells(rt: HostRuntime) -> Result<(), Fail> {
         label: b"A&B",
         timestamp: -7,
     };
-    let cell = Cell::new(rt.alloc(), key, b"\x00")?;
-    let mut output = output(rt.alloc())?;
-    put_cell(&mut output, &cell)?;
-    output.flush()?;
+    let cell = Cell::new(rt.alloc(), key, b"\x00").expect(&rt, "memory");
+    let mut output = output(&rt, rt.alloc());
+    put_cell(&mut output, &cell).expect(&rt, "written");
+    output.flush().expect(&rt, "written");
     assert_eq!(rt;
         output.get_ref().as_slice(),
         b"r\\x201 f \\e A&B -7 \\x00\n".as_slice()
     );
-    Ok(())
 }
 
 #[test]

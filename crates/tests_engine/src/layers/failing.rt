@@ -6,7 +6,6 @@ ghost use Rattle.tab_iter.specs.Bags.{flat};
 use super::{dealt, reads, records_of, source_of};
 use std::alloc::{AllocError, Global};
 use std::process::Abort;
-use std::test::Fail;
 use tab_iter::{
     DeletingRule, FetchingRule, Filtered, ListSource, Merging, NoMemory, Rule, Source,
     VersioningRule, VisibleRule, stack_from, stack_of,
@@ -127,12 +126,7 @@ fn stays_unpositioned<S: Source>(rt: &impl Abort, source: &mut S) {
 }
 
 // Reads again and again, and goes on after the fault wherever it comes.
-fn recovers<S: Source>(
-    rt: &impl Abort,
-    alloc: Global,
-    source: &mut S,
-    want: &[u64],
-) -> Result<(), AllocError> {
+fn recovers<S: Source>(rt: &impl Abort, alloc: Global, source: &mut S, want: &[u64]) {
     for _ in 0..20 {
         if fails(rt, source, want) {
             stays_unpositioned(rt, source);
@@ -158,47 +152,40 @@ fn failing_table(
 }
 
 // A layer over the failing table, by a rule of the caller's.
-fn filters<R: Rule + Drop>(
-    rt: &impl Abort,
-    alloc: Global,
-    calls: u64,
-    rule: R,
-    want: &[u64],
-) -> Result<(), AllocError> {
-    match Filtered::new(failing_table(rt, alloc, calls)?, rule) {
-        Err(AllocError) => Ok(()),
-        Ok(mut layer) => recovers(rt, alloc, &mut layer, want),
+fn filters<R: Rule + Drop>(rt: &impl Abort, alloc: Global, calls: u64, rule: R, want: &[u64]) {
+    let source = failing_table(rt, alloc, calls).expect(rt, "memory");
+    if let Ok(mut layer) = Filtered::new(source, rule) {
+        recovers(rt, alloc, &mut layer, want);
     }
 }
 
 #[test]
-fn recovers_alone(rt: HostRuntime) -> Result<(), Fail> {
+fn recovers_alone(rt: HostRuntime) {
     let alloc = rt.alloc();
     let all = [7, 6, 8, 5, 4, 10, 9, 3, 11, 12, 14, 13, 15, 16, 17];
     for calls in 0..120 {
-        let mut source = failing_table(&rt, alloc, calls)?;
-        recovers(&rt, alloc, &mut source, &all)?;
+        let mut source = failing_table(&rt, alloc, calls).expect(&rt, "memory");
+        recovers(&rt, alloc, &mut source, &all);
     }
-    Ok(())
 }
 
 #[test]
-fn recovers_filtered(rt: HostRuntime) -> Result<(), Fail> {
+fn recovers_filtered(rt: HostRuntime) {
     let alloc = rt.alloc();
-    let auths = auths_of(alloc, &[b"A"])?;
-    let columns = [family(alloc, b"g")?];
+    let auths = auths_of(alloc, &[b"A"]).expect(&rt, "memory");
+    let columns = [family(alloc, b"g").expect(&rt, "memory")];
     for calls in 0..120 {
         let left = [7, 10, 9, 3, 11, 12, 14, 16, 17];
-        filters(&rt, alloc, calls, DeletingRule::new(alloc, false), &left)?;
+        filters(&rt, alloc, calls, DeletingRule::new(alloc, false), &left);
         filters(
             &rt,
             alloc,
             calls,
             FetchingRule::new(alloc, &columns),
             &[14, 13, 15, 16],
-        )?;
+        );
         let seen = [7, 6, 8, 5, 4, 10, 9, 3, 12, 14, 13, 15, 16];
-        filters(&rt, alloc, calls, VisibleRule::new(alloc, &auths), &seen)?;
+        filters(&rt, alloc, calls, VisibleRule::new(alloc, &auths), &seen);
         let newest = [7, 6, 10, 11, 12, 14, 13, 16, 17];
         filters(
             &rt,
@@ -206,9 +193,8 @@ fn recovers_filtered(rt: HostRuntime) -> Result<(), Fail> {
             calls,
             VersioningRule::new(alloc, 1, true),
             &newest,
-        )?;
+        );
     }
-    Ok(())
 }
 
 // The table dealt to three sources, one of which fails at the call behind so many others.
@@ -232,36 +218,37 @@ fn failing_parts(
 }
 
 #[test]
-fn recovers_merged(rt: HostRuntime) -> Result<(), Fail> {
+fn recovers_merged(rt: HostRuntime) {
     let alloc = rt.alloc();
     let all = [7, 6, 8, 5, 4, 10, 9, 3, 11, 12, 14, 13, 15, 16, 17];
     for calls in 0..60 {
-        let merged = Merging::new(failing_parts(&rt, alloc, calls)?);
-        let mut merged = merged.or(Err(AllocError))?;
-        recovers(&rt, alloc, &mut merged, &all)?;
+        let merged = Merging::new(failing_parts(&rt, alloc, calls).expect(&rt, "memory"));
+        let mut merged = merged.expect(&rt, "memory");
+        recovers(&rt, alloc, &mut merged, &all);
     }
-    Ok(())
 }
 
 #[test]
-fn recovers_stacked(rt: HostRuntime) -> Result<(), Fail> {
+fn recovers_stacked(rt: HostRuntime) {
     let alloc = rt.alloc();
-    let auths = auths_of(alloc, &[b"A"])?;
+    let auths = auths_of(alloc, &[b"A"]).expect(&rt, "memory");
     for calls in 0..60 {
-        let parts = failing_parts(&rt, alloc, calls)?;
-        if let Ok(mut stack) = stack_of(alloc, parts, &[], &auths, 2) {
-            recovers(&rt, alloc, &mut stack, &[7, 10, 9, 12, 14, 16])?;
+        let merged = Merging::new(failing_parts(&rt, alloc, calls).expect(&rt, "memory"));
+        let merged = merged.expect(&rt, "memory");
+        if let Ok(mut stack) = stack_of(alloc, merged, &[], &auths, 2) {
+            recovers(&rt, alloc, &mut stack, &[7, 10, 9, 12, 14, 16]);
         }
     }
-    Ok(())
 }
 
 // A stack from a key before all others begins with the first record shown.
 #[test]
-fn reads_from_a_key(rt: HostRuntime) -> Result<(), Fail> {
+fn reads_from_a_key(rt: HostRuntime) {
     let alloc = rt.alloc();
-    let auths = auths_of(alloc, &[b"A"])?;
-    let mut stack = stack_from(alloc, dealt(&rt, alloc)?, &[], &auths, 2, start())?;
-    reads(&rt, alloc, &mut stack, &[7, 10, 9, 12, 14, 16])?;
-    Ok(())
+    let auths = auths_of(alloc, &[b"A"]).expect(&rt, "memory");
+    let parts = dealt(&rt, alloc).expect(&rt, "memory");
+    let merged = Merging::unpositioned(parts).expect(&rt, "memory");
+    let stack = stack_from(alloc, merged, &[], &auths, 2, start());
+    let mut stack = stack.expect(&rt, "memory");
+    reads(&rt, alloc, &mut stack, &[7, 10, 9, 12, 14, 16]);
 }

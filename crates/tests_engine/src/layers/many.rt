@@ -4,10 +4,9 @@ ghost use Rattle.std.specs.Bool.{OnTrue};
 ghost use Rattle.tab_key.specs.Sorted.{IsDistinct};
 ghost use Rattle.tab_iter.specs.Bags.{flat};
 
-use super::{is_apart, numbers, source_of};
+use super::{expect_numbers, is_apart, source_of};
 use std::alloc::{AllocError, Global};
 use std::process::Abort;
-use std::test::Fail;
 use tab_iter::{ListSource, Merging, Source};
 use tab_key::{Key, Kind, Record};
 
@@ -109,7 +108,7 @@ fn numbers_from(alloc: Global, first: u64) -> Result<Vec<u64>, AllocError> {
 }
 
 // Reads what is left after a seek to the key of each eight records, and to one behind it.
-fn seeks<S: Source>(rt: &impl Abort, alloc: Global, source: &mut S) -> Result<(), AllocError> {
+fn seeks<S: Source>(rt: &impl Abort, alloc: Global, source: &mut S) {
     for row in 0..32u64 {
         let name = row.to_be_bytes();
         let key = key_of(&name);
@@ -118,24 +117,23 @@ fn seeks<S: Source>(rt: &impl Abort, alloc: Global, source: &mut S) -> Result<()
             ..key
         };
         for (key, first) in [(key, row * 8), (behind, row * 8 + 8)] {
-            source.seek(key).or(Err(AllocError))?;
-            let want = numbers_from(alloc, first)?;
-            assert_eq!(rt; numbers(alloc, source)?.as_slice(), want.as_slice());
+            source.seek(key).expect(rt, "memory");
+            let want = numbers_from(alloc, first).expect(rt, "memory");
+            expect_numbers(rt, source, &want);
         }
     }
-    Ok(())
 }
 
 #[test]
-fn merges_many(rt: HostRuntime) -> Result<(), Fail> {
+fn merges_many(rt: HostRuntime) {
     let alloc = rt.alloc();
     for deal in [Deal::Round, Deal::Scattered, Deal::Runs] {
-        let sources = cut(&rt, alloc, records(alloc, deal)?)?;
+        let dealt = records(alloc, deal).expect(&rt, "memory");
+        let sources = cut(&rt, alloc, dealt).expect(&rt, "memory");
         let merged = Merging::new(sources);
-        let mut merged = merged.or(Err(AllocError))?;
-        let want = numbers_from(alloc, 0)?;
-        assert_eq!(rt; numbers(alloc, &mut merged)?.as_slice(), want.as_slice());
-        seeks(&rt, alloc, &mut merged)?;
+        let mut merged = merged.expect(&rt, "memory");
+        let want = numbers_from(alloc, 0).expect(&rt, "memory");
+        expect_numbers(&rt, &mut merged, &want);
+        seeks(&rt, alloc, &mut merged);
     }
-    Ok(())
 }

@@ -1,13 +1,12 @@
 //! What a merge keeps of the table, and the first markers of columns with several.
 
-use super::{dealt, numbers, reads, source_of};
+use super::{dealt, expect_numbers, reads, source_of};
 use std::alloc::{AllocError, Global};
-use std::test::Fail;
 use tab_iter::{Filtered, FirstMarkersRule, merged_of};
 use tab_key::{Key, Kind, Record};
 
 #[test]
-fn a_merge_keeps(rt: HostRuntime) -> Result<(), Fail> {
+fn a_merge_keeps(rt: HostRuntime) {
     let alloc = rt.alloc();
     let cases: [(bool, i64, u32, &[u64]); 5] = [
         (false, 9, 1, &[7, 6, 10, 11, 12, 14, 13, 16, 17]),
@@ -17,11 +16,11 @@ fn a_merge_keeps(rt: HostRuntime) -> Result<(), Fail> {
         (true, 9, 1, &[7, 10, 11, 12, 14, 16, 17]),
     ];
     for (full, floor, versions, want) in cases {
-        let merged = merged_of(alloc, dealt(&rt, alloc)?, full, floor, versions);
-        let mut merged = merged.or(Err(AllocError))?;
-        reads(&rt, alloc, &mut merged, want)?;
+        let parts = dealt(&rt, alloc).expect(&rt, "memory");
+        let merged = merged_of(alloc, parts, full, floor, versions);
+        let mut merged = merged.expect(&rt, "memory");
+        reads(&rt, alloc, &mut merged, want);
     }
-    Ok(())
 }
 
 // Two columns with several markers each, in their order.
@@ -52,7 +51,7 @@ fn marked(alloc: Global) -> Result<Vec<Record>, AllocError> {
 }
 
 #[test]
-fn keeps_first_markers(rt: HostRuntime) -> Result<(), Fail> {
+fn keeps_first_markers(rt: HostRuntime) {
     let alloc = rt.alloc();
     let cases: [(bool, i64, &[u64]); 4] = [
         (false, 10, &[1, 3, 5, 7, 8]),
@@ -61,10 +60,9 @@ fn keeps_first_markers(rt: HostRuntime) -> Result<(), Fail> {
         (true, 10, &[3, 5, 8]),
     ];
     for (full, floor, want) in cases {
-        let source = source_of(&rt, marked(alloc)?);
+        let source = source_of(&rt, marked(alloc).expect(&rt, "memory"));
         let layer = Filtered::new(source, FirstMarkersRule::new(alloc, full, floor));
-        let mut layer = layer.or(Err(AllocError))?;
-        assert_eq!(rt; numbers(alloc, &mut layer)?.as_slice(), want);
+        let mut layer = layer.expect(&rt, "memory");
+        expect_numbers(&rt, &mut layer, want);
     }
-    Ok(())
 }

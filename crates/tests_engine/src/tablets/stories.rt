@@ -1,12 +1,11 @@
 //! A tablet through random writes, freezes and compactions, beside the model: no freeze and no compaction changes a scan.
 
-use super::{ROWS, compare};
+use super::{ROWS, compare, read};
 use crate::reading::expect_raw;
 use std::alloc::{AllocError, Global};
 use std::marker::Model;
 use std::mem;
 use std::process::Abort;
-use std::test::Fail;
 use tab_cells::Compaction;
 use tab_iter::NoMemory;
 use tab_mutation::Mutation;
@@ -104,26 +103,34 @@ fn write(
     story: &mut Story,
     plain: &mut Plain,
     floor: i64,
-) -> Result<(), AllocError> {
-    let updates = random_updates(alloc, random, story.seq, floor)?;
+) {
+    let updates = random_updates(alloc, random, story.seq, floor).expect(rt, "memory");
     if let Some(first) = updates.first() {
-        story.write(rt, &mutation_of(alloc, first.row, &updates)?)?;
-        plain.holding.write(&updates)?;
-        plain.table.extend_from_slice(&updates)?;
+        let mutation = mutation_of(alloc, first.row, &updates).expect(rt, "memory");
+        story.write(rt, &mutation).expect(rt, "memory");
+        plain.holding.write(&updates).expect(rt, "memory");
+        plain.table.extend_from_slice(&updates).expect(rt, "memory");
     }
-    Ok(())
 }
 
 fn compact(
+    rt: &impl Abort,
     alloc: Global,
     story: &mut Story,
     plain: &mut Plain,
     kind: Compaction,
     floor: i64,
     versions: u32,
-) -> Result<(), AllocError> {
-    story.compact(alloc, kind, floor, versions)?;
-    plain.holding.compact(alloc, kind, floor, versions)
+) {
+    let compacted = story.compact(alloc, kind, floor, versions);
+    compacted.expect(rt, "memory");
+    let modelled = plain.holding.compact(alloc, kind, floor, versions);
+    modelled.expect(rt, "memory");
+}
+
+fn freeze(rt: &impl Abort, alloc: Global, story: &mut Story, plain: &mut Plain) {
+    story.freeze(alloc).expect(rt, "memory");
+    plain.holding.freeze(alloc).expect(rt, "memory");
 }
 
 // A write, a freeze or a compaction.
@@ -135,33 +142,32 @@ fn step(
     plain: &mut Plain,
     floor: i64,
     versions: u32,
-) -> Result<(), AllocError> {
+) {
     match random.below(8) {
-        0 => {
-            story.freeze(alloc)?;
-            plain.holding.freeze(alloc)
-        }
-        1 => compact(alloc, story, plain, Compaction::Full, floor, versions),
-        2 => compact(alloc, story, plain, Compaction::Partial, floor, versions),
-        3 => compact(alloc, story, plain, Compaction::Minor, floor, versions),
+        0 => freeze(rt, alloc, story, plain),
+        1 => compact(rt, alloc, story, plain, Compaction::Full, floor, versions),
+        2 => compact(
+            rt,
+            alloc,
+            story,
+            plain,
+            Compaction::Partial,
+            floor,
+            versions,
+        ),
+        3 => compact(rt, alloc, story, plain, Compaction::Minor, floor, versions),
         _ => write(rt, alloc, random, story, plain, floor),
     }
 }
 
 // The tablet holds what the model of it holds, in as many sources.
-fn expect_held(
-    rt: &impl Abort,
-    alloc: Global,
-    tablet: &Tablet,
-    holding: &Holding,
-) -> Result<(), AllocError> {
-    let want = holding.updates(alloc)?;
+fn expect_held(rt: &impl Abort, alloc: Global, tablet: &Tablet, holding: &Holding) {
+    let want = holding.updates(alloc).expect(rt, "memory");
     assert_eq!(rt;
         (tablet.count_sources(), tablet.count_records()),
         (holding.count_sources() as u64, want.len() as u64)
     );
-    let frozen = tablet.frozen(alloc)?;
-    let version = frozen.version(alloc, &Query::ALL.bounds(alloc)?)?;
+    let version = read(alloc, tablet, &Query::ALL).expect(rt, "memory");
     expect_raw(rt, alloc, &version, &want)
 }
 
@@ -173,10 +179,10 @@ fn compare_scans(
     tablet: &Tablet,
     table: &[Update],
     versions: u32,
-) -> Result<usize, AllocError> {
+) -> usize {
     let mut query = random.query(&ROWS);
     query.versions = query.versions.min(versions);
-    compare(rt, alloc, random, tablet, table, &query)?;
+    compare(rt, alloc, random, tablet, table, &query);
     let all = Query {
         versions,
         has_a: true,
@@ -187,12 +193,7 @@ fn compare_scans(
 }
 
 // Thirty steps, after each of which all is as in the model; the floor rises. How many records were shown.
-fn follow(
-    rt: &impl Abort,
-    alloc: Global,
-    random: &mut Random,
-    versions: u32,
-) -> Result<usize, AllocError> {
+fn follow(rt: &impl Abort, alloc: Global, random: &mut Random, versions: u32) -> usize {
     let mut story = Story::new(alloc);
     let mut plain = Plain {
         holding: Holding::new(alloc),
@@ -201,25 +202,24 @@ fn follow(
     let mut shown = 0usize;
     for number in 0..30u8 {
         let floor = i64::from(number / 8);
-        step(rt, alloc, random, &mut story, &mut plain, floor, versions)?;
-        expect_held(rt, alloc, &story.tablet, &plain.holding)?;
-        let count = compare_scans(rt, alloc, random, &story.tablet, &plain.table, versions)?;
+        step(rt, alloc, random, &mut story, &mut plain, floor, versions);
+        expect_held(rt, alloc, &story.tablet, &plain.holding);
+        let count = compare_scans(rt, alloc, random, &story.tablet, &plain.table, versions);
         shown = shown.saturating_add(count);
     }
-    Ok(shown)
+    shown
 }
 
 #[test]
-fn no_compaction_changes_a_scan(rt: HostRuntime) -> Result<(), Fail> {
+fn no_compaction_changes_a_scan(rt: HostRuntime) {
     let alloc = rt.alloc();
     let mut random = Random::new(6);
     for versions in [1, 2, 3] {
         let mut shown = 0usize;
         for _ in 0..40 {
-            let count = follow(&rt, alloc, &mut random, versions)?;
+            let count = follow(&rt, alloc, &mut random, versions);
             shown = shown.saturating_add(count);
         }
         assert!(rt; shown > 1000, "{shown} records were shown");
     }
-    Ok(())
 }

@@ -1,8 +1,9 @@
 //! Every short text over a few bytes, against the grammar written again as a search over all ways to cut the text.
 
 use super::set;
+use std::alloc::{AllocError, Global};
 use std::process::Abort;
-use std::test::Fail;
+
 use tab_label::{Label, LabelFault, judge};
 
 static ALPHABET: [u8; 7] = *b"a&|()\"\\";
@@ -15,7 +16,7 @@ static SETS: [&[&[u8]]; 4] = [
 ];
 
 /// The value of a text between quotes.
-fn quoted(text: &[u8], members: &[&[u8]], bytes: &mut Vec<u8>) -> Result<Option<bool>, Fail> {
+fn quoted(text: &[u8], members: &[&[u8]], bytes: &mut Vec<u8>) -> Result<Option<bool>, AllocError> {
     bytes.clear();
     let mut escaping = false;
     for b in text {
@@ -55,7 +56,7 @@ fn operand(
     members: &[&[u8]],
     bytes: &mut Vec<u8>,
     fuel: u32,
-) -> Result<Option<bool>, Fail> {
+) -> Result<Option<bool>, AllocError> {
     if fuel == 0 || text.is_empty() {
         return Ok(None);
     }
@@ -77,7 +78,7 @@ fn operands(
     members: &[&[u8]],
     bytes: &mut Vec<u8>,
     fuel: u32,
-) -> Result<Option<bool>, Fail> {
+) -> Result<Option<bool>, AllocError> {
     if fuel == 0 {
         return Ok(None);
     }
@@ -109,7 +110,7 @@ fn expression(
     members: &[&[u8]],
     bytes: &mut Vec<u8>,
     fuel: u32,
-) -> Result<Option<bool>, Fail> {
+) -> Result<Option<bool>, AllocError> {
     if fuel == 0 {
         return Ok(None);
     }
@@ -125,7 +126,7 @@ fn expression(
 }
 
 /// The value of a text that is a label.
-fn value(text: &[u8], members: &[&[u8]], bytes: &mut Vec<u8>) -> Result<Option<bool>, Fail> {
+fn value(text: &[u8], members: &[&[u8]], bytes: &mut Vec<u8>) -> Result<Option<bool>, AllocError> {
     if text.is_empty() {
         return Ok(Some(true));
     }
@@ -135,7 +136,7 @@ fn value(text: &[u8], members: &[&[u8]], bytes: &mut Vec<u8>) -> Result<Option<b
 static ENDS: [&[u8]; 5] = [b"", b"a", b"\"", b"a\"", b"\"\""];
 
 /// Whether some label begins with this front: an end of the term that is open, if one is, and closing parentheses complete it.
-fn begins(front: &[u8], whole: &mut Vec<u8>, bytes: &mut Vec<u8>) -> Result<bool, Fail> {
+fn begins(front: &[u8], whole: &mut Vec<u8>, bytes: &mut Vec<u8>) -> Result<bool, AllocError> {
     let open = front.iter().filter(|b| **b == b'(').count();
     for end in ENDS {
         for closing in 0..=open {
@@ -154,7 +155,7 @@ fn begins(front: &[u8], whole: &mut Vec<u8>, bytes: &mut Vec<u8>) -> Result<bool
 }
 
 /// The length of the longest front of a text with which some label begins.
-fn longest_front(text: &[u8], whole: &mut Vec<u8>, bytes: &mut Vec<u8>) -> Result<usize, Fail> {
+fn longest_front(text: &[u8], whole: &mut Vec<u8>, bytes: &mut Vec<u8>) -> Result<usize, AllocError> {
     for cut in 0..text.len() {
         if !begins(&text[..cut + 1], whole, bytes)? {
             return Ok(cut);
@@ -164,21 +165,23 @@ fn longest_front(text: &[u8], whole: &mut Vec<u8>, bytes: &mut Vec<u8>) -> Resul
 }
 
 /// The parser and the judge say of this text what the search says, under each of the sets.
-fn agree<R: Abort + AllocGlobal>(rt: &R, text: &[u8]) -> Result<(), Fail> {
-    let mut bytes = Vec::new(rt.alloc());
-    let mut whole = Vec::new(rt.alloc());
-    let label = match Label::parse(rt.alloc(), text) {
+fn agree(rt: &impl Abort, alloc: Global, text: &[u8]) {
+    let mut bytes = Vec::new(alloc);
+    let mut whole = Vec::new(alloc);
+    let label = match Label::parse(alloc, text) {
         Ok(label) => Ok(label),
         Err(LabelFault::Malformed(at)) => Err(at),
-        Err(LabelFault::NoMemory) => return Err(Fail::from("no memory")),
+        Err(LabelFault::NoMemory) => panic!(rt; "memory"),
     };
     let mut offset = text.len();
-    if value(text, &[], &mut bytes)?.is_none() {
-        offset = longest_front(text, &mut whole, &mut bytes)?;
+    let alone = value(text, &[], &mut bytes).expect(rt, "memory");
+    if alone.is_none() {
+        offset = longest_front(text, &mut whole, &mut bytes).expect(rt, "memory");
     }
     for members in SETS {
-        let auths = set(rt, members)?;
-        let want = value(text, members, &mut bytes)?.ok_or(offset);
+        let auths = set(rt, alloc, members);
+        let found = value(text, members, &mut bytes).expect(rt, "memory");
+        let want = found.ok_or(offset);
         assert_eq!(rt;
             judge(text, &auths),
             want,
@@ -190,11 +193,10 @@ fn agree<R: Abort + AllocGlobal>(rt: &R, text: &[u8]) -> Result<(), Fail> {
         };
         assert_eq!(rt; held, want, "parsed {text:?} under {members:?}");
     }
-    Ok(())
 }
 
 #[test]
-fn short_texts(rt: HostRuntime) -> Result<(), Fail> {
+fn short_texts(rt: HostRuntime) {
     let mut text = Vec::new(rt.alloc());
     let mut texts = 1;
     for len in 0..6 {
@@ -202,14 +204,13 @@ fn short_texts(rt: HostRuntime) -> Result<(), Fail> {
             let mut rest: usize = number;
             text.clear();
             for _ in 0..len {
-                text.push(ALPHABET[rest % 7])?;
+                text.push(ALPHABET[rest % 7]).expect(&rt, "memory");
                 rest /= 7;
             }
-            agree(&rt, &text)?;
+            agree(&rt, rt.alloc(), &text);
         }
         if texts < 20_000 {
             texts *= 7;
         }
     }
-    Ok(())
 }

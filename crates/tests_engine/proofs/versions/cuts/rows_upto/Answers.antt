@@ -1,0 +1,5 @@
+use Rattle.tests_engine.proofs.Cuts.{to_end}
+use Rattle.tests_engine.proofs.versions.cuts.rows_upto.Goals as goal
+
+pub returns : goal.returns
+returns c = to_end c.args.row.now _ c.args.clips.now _ c.in_ok-end.ensures c.in_ok-part.ensures
