@@ -64,7 +64,16 @@ compact t partial
 compact s full
 status t
 insert t r f q (((A))) a-longer-value-than-before 7
+insert t b f q A v 7
 scan t A
+addsplit t m
+addsplit t m
+insert t b f q A w 8
+insert t s f q A w 8
+splits t
+splitsize t z 1
+scan t A [b \0
+splits t
 createuser bob
 setauths bob A
 grant bob READ t

@@ -25,8 +25,8 @@ compiles() { # FUNCTION
     mkdir -p "$work/src"
     {
         echo '#![tactic(auto)]'
-        echo 'use std::alloc::Global; use tab_iter::{NoMemory, Stack}; use tab_key::Column;'
-        echo 'use tab_label::AuthSet; use tab_version::{ClipCursor, Version};'
+        echo 'use std::alloc::Global; use tab_iter::NoMemory; use tab_key::Column;'
+        echo 'use tab_label::AuthSet; use tab_version::{Stack, Version};'
         printf '%s\n' "$1"
     } >"$work/src/lib.rt"
     (cd "$work" && "$kit/bin/rattle" check --crate-name outliving src/lib.rt "${words[@]}" --jobs 1 --only '') >"$work/out" 2>&1
@@ -40,7 +40,7 @@ fail() { # WHY
 }
 
 takes='alloc: Global, columns: &'\''a [Column], auths: &'\''a AuthSet'
-gives='Result<Stack<'\''a, ClipCursor<'\''a>>, NoMemory>'
+gives='Result<Stack<'\''a>, NoMemory>'
 if compiles "pub fn lent<'a>(version: &'a Version, $takes) -> $gives { version.stack(alloc, columns, auths, 1) }"; then
     passed=$((passed + 1))
 else

@@ -1,0 +1,81 @@
+#!/usr/bin/env python3
+"""What tablets cost: the inserts and scans of store.sh over one tablet and over many, and how long a split takes.
+
+Usage: bench/splits.py [CELLS [TABLETS [ROUNDS]]]   (from anywhere; builds the program if it isn't built)
+  CELLS    cells of the table; 1000000 where unsaid
+  TABLETS  tablets that it is split into before the first insert; 1000 where unsaid
+  ROUNDS   runs of each script, of which the median counts; 5 where unsaid
+  TABD     in the environment: another built program, measured in place of this folder's
+"""
+import os
+import subprocess
+import sys
+from pathlib import Path
+from statistics import median
+
+TOP = Path(__file__).resolve().parent.parent
+sys.path.insert(0, str(TOP / "bench" / "store"))
+from phases import phases
+from script import PARTS
+
+SCANS = 100_000
+SPLITS = 200
+
+
+def text(lines):
+    return "".join(lines).encode()
+
+
+def measured(command, parts, rounds):
+    """The parts' seconds, each the median of all rounds."""
+    lines = [text(part) for part in parts]
+    outputs = [len(subprocess.run(command, input=b"".join(lines[:count]), stdout=subprocess.PIPE, check=True).stdout) for count in range(len(lines) + 1)]
+    given = [(part, after - before) for part, before, after in zip(lines, outputs, outputs[1:])]
+    runs = [[numbers[0] for numbers in phases(given, command)] for _ in range(rounds)]
+    return [median(part) for part in zip(*runs)]
+
+
+def ends(cells, tablets):
+    return [f"addsplit t {cells * one // tablets:010}\n" for one in range(1, tablets)]
+
+
+def over(command, cells, tablets, rounds):
+    """Seconds of the inserts, of a whole scan and of many short ones, in a table of so many tablets."""
+    first, *inserts = PARTS["inserts"](cells)
+    parts = [[first, *ends(cells, tablets)], inserts, PARTS["whole"](), PARTS["whole"](), PARTS["short"](cells, SCANS), PARTS["compaction"](), PARTS["whole"](), PARTS["short"](cells, SCANS)]
+    return measured(command, parts, rounds)[1:]
+
+
+def compare(command, cells, tablets, rounds):
+    names = ["inserts", "the first whole scan, with its freeze", "whole scan of runs", f"{SCANS} short scans of runs", "flush and full compaction", "whole scan of sorted tables", f"{SCANS} short scans of them"]
+    print(f"{f'{cells} cells':40} {'one tablet':>12} {f'{tablets} tablets':>14} {'ratio':>8}")
+    for name, one, many in zip(names, over(command, cells, 1, rounds), over(command, cells, tablets, rounds)):
+        print(f"{name:40} {one:10.3f} s {many:12.3f} s {many / one:8.2f}")
+
+
+def one_split(command, cells, rounds):
+    """Microseconds of a split of a tablet of so many cells, which lie in one sorted table, at a row and by size."""
+    inserts = [*PARTS["inserts"](cells), *PARTS["compaction"]()]
+    at = [f"addsplit t {cells - one:010}\n" for one in range(1, SPLITS + 1)]
+    by_size = ["splitsize t \\e 1\n"]
+    row, size = measured(command, [inserts, at], rounds)[1], measured(command, [inserts, by_size], rounds)[1]
+    return row / SPLITS * 1e6, size * 1e6
+
+
+def splits(command, rounds):
+    print(f"\n{'a split of a tablet of':40} {'at a row':>12} {'by size':>14}")
+    for cells in (1_000, 30_000, 1_000_000):
+        row, size = one_split(command, cells, rounds)
+        print(f"{f'{cells} cells':40} {row:9.2f} us {size:11.2f} us")
+
+
+def main(cells=1_000_000, tablets=1_000, rounds=5):
+    program = os.environ.get("TABD")
+    if not program:
+        subprocess.run([TOP / "tabd", "--version"], stdout=subprocess.DEVNULL, check=True)
+        program = TOP / "crates/tabd/out/tabd"
+    compare([program, "script"], cells, tablets, rounds)
+    splits([program, "script"], rounds)
+
+
+main(*map(int, sys.argv[1:]))
