@@ -3,7 +3,6 @@
 use super::set;
 use std::alloc::{AllocError, Global};
 use std::process::Abort;
-
 use tab_label::{Label, LabelFault, judge};
 
 static ALPHABET: [u8; 7] = *b"a&|()\"\\";
@@ -155,7 +154,11 @@ fn begins(front: &[u8], whole: &mut Vec<u8>, bytes: &mut Vec<u8>) -> Result<bool
 }
 
 /// The length of the longest front of a text with which some label begins.
-fn longest_front(text: &[u8], whole: &mut Vec<u8>, bytes: &mut Vec<u8>) -> Result<usize, AllocError> {
+fn longest_front(
+    text: &[u8],
+    whole: &mut Vec<u8>,
+    bytes: &mut Vec<u8>,
+) -> Result<usize, AllocError> {
     for cut in 0..text.len() {
         if !begins(&text[..cut + 1], whole, bytes)? {
             return Ok(cut);
