@@ -26,30 +26,35 @@ def text(lines):
     return "".join(lines).encode()
 
 
-def measured(command, parts, rounds):
-    """The parts' seconds, each the median of all rounds."""
+def prepared(command, parts):
+    """The parts' lines, each with how many bytes it answers."""
     lines = [text(part) for part in parts]
     outputs = [len(subprocess.run(command, input=b"".join(lines[:count]), stdout=subprocess.PIPE, check=True).stdout) for count in range(len(lines) + 1)]
-    given = [(part, after - before) for part, before, after in zip(lines, outputs, outputs[1:])]
-    runs = [[numbers[0] for numbers in phases(given, command)] for _ in range(rounds)]
-    return [median(part) for part in zip(*runs)]
+    return [(part, after - before) for part, before, after in zip(lines, outputs, outputs[1:])]
+
+
+def measured(command, scripts, rounds):
+    """Of each script its parts' seconds, each the median of all rounds; in a round the scripts run one after another."""
+    given = [prepared(command, parts) for parts in scripts]
+    runs = [[[numbers[0] for numbers in phases(parts, command)] for parts in given] for _ in range(rounds)]
+    return [[median(part) for part in zip(*script)] for script in zip(*runs)]
 
 
 def ends(cells, tablets):
     return [f"addsplit t {cells * one // tablets:010}\n" for one in range(1, tablets)]
 
 
-def over(command, cells, tablets, rounds):
-    """Seconds of the inserts, of a whole scan and of many short ones, in a table of so many tablets."""
+def over(cells, tablets):
+    """The inserts, whole scans and many short ones, in a table of so many tablets."""
     first, *inserts = PARTS["inserts"](cells)
-    parts = [[first, *ends(cells, tablets)], inserts, PARTS["whole"](), PARTS["whole"](), PARTS["short"](cells, SCANS), PARTS["compaction"](), PARTS["whole"](), PARTS["short"](cells, SCANS)]
-    return measured(command, parts, rounds)[1:]
+    return [[first, *ends(cells, tablets)], inserts, PARTS["whole"](), PARTS["whole"](), PARTS["short"](cells, SCANS), PARTS["compaction"](), PARTS["whole"](), PARTS["short"](cells, SCANS)]
 
 
 def compare(command, cells, tablets, rounds):
     names = ["inserts", "the first whole scan, with its freeze", "whole scan of runs", f"{SCANS} short scans of runs", "flush and full compaction", "whole scan of sorted tables", f"{SCANS} short scans of them"]
     print(f"{f'{cells} cells':40} {'one tablet':>12} {f'{tablets} tablets':>14} {'ratio':>8}")
-    for name, one, many in zip(names, over(command, cells, 1, rounds), over(command, cells, tablets, rounds)):
+    (_, *first), (_, *second) = measured(command, [over(cells, 1), over(cells, tablets)], rounds)
+    for name, one, many in zip(names, first, second):
         print(f"{name:40} {one:10.3f} s {many:12.3f} s {many / one:8.2f}")
 
 
@@ -58,7 +63,7 @@ def one_split(command, cells, rounds):
     inserts = [*PARTS["inserts"](cells), *PARTS["compaction"]()]
     at = [f"addsplit t {cells - one:010}\n" for one in range(1, SPLITS + 1)]
     by_size = ["splitsize t \\e 1\n"]
-    row, size = measured(command, [inserts, at], rounds)[1], measured(command, [inserts, by_size], rounds)[1]
+    (_, row), (_, size) = measured(command, [[inserts, at], [inserts, by_size]], rounds)
     return row / SPLITS * 1e6, size * 1e6
 
 
