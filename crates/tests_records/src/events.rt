@@ -1,7 +1,7 @@
-//! A copy of an event.
+//! Copies of events, parts of replies, and numbers of versions.
 use std::process::Abort;
-use tab_history::{Act, Event, copied};
-use tab_key::Name;
+use tab_history::{Act, Counts, Event, Extent, Reply, Versions, copied};
+use tab_key::{ByteString, Name};
 use tab_mutation::Mutation;
 
 fn name(rt: &impl Abort, bytes: &[u8]) -> Name {
@@ -30,4 +30,117 @@ fn copies_a_write(rt: HostRuntime) {
         }
         _ => panic!(rt; "a write"),
     }
+}
+
+// The act of a copy of root's event.
+fn copy_of(rt: &impl Abort, act: Act) -> Act {
+    let user = name(rt, b"root");
+    let asked = Event {
+        user,
+        moment: -7,
+        act,
+    };
+    let Event { act, .. } = copied(&asked).expect(rt, "memory");
+    act
+}
+
+// Which work on a table the act is.
+fn kind_of(act: &Act) -> &'static str {
+    match act {
+        Act::Flush(_) => "flush",
+        Act::Compact(_, Extent::Partial) => "partial",
+        Act::Compact(_, Extent::Full) => "full",
+        Act::Status(_) => "status",
+        Act::Splits(_) => "splits",
+        _ => "something else",
+    }
+}
+
+// The table that it is done to.
+fn table_of(act: &Act) -> Option<Name> {
+    match act {
+        Act::Flush(table) => Some(*table),
+        Act::Compact(table, _) => Some(*table),
+        Act::Status(table) => Some(*table),
+        Act::Splits(table) => Some(*table),
+        _ => None,
+    }
+}
+
+// A copy of this act is that work on the table t.
+fn expect_copied(rt: &impl Abort, act: Act, want: &'static str) {
+    let copy = copy_of(rt, act);
+    assert_eq!(rt; kind_of(&copy), want);
+    let table = table_of(&copy).expect(rt, "a table");
+    assert_eq!(rt; table.as_bytes(), b"t".as_slice());
+}
+
+#[test]
+fn copies_work_on_tables(rt: HostRuntime) {
+    let table = name(&rt, b"t");
+    expect_copied(&rt, Act::Flush(table), "flush");
+    expect_copied(&rt, Act::Compact(table, Extent::Partial), "partial");
+    expect_copied(&rt, Act::Compact(table, Extent::Full), "full");
+    expect_copied(&rt, Act::Status(table), "status");
+    expect_copied(&rt, Act::Splits(table), "splits");
+}
+
+// Whether the act is a split at the row m, or one by this size.
+fn is_split(act: &Act, size: Option<u64>) -> bool {
+    match act {
+        Act::AddSplit(_, row) => row.as_bytes() == b"m".as_slice() && size.is_none(),
+        Act::SplitBySize(_, row, limit) => row.as_bytes() == b"m".as_slice()
+            && size == Some(*limit),
+        _ => false,
+    }
+}
+
+#[test]
+fn copies_splits(rt: HostRuntime) {
+    let table = name(&rt, b"t");
+    let row = ByteString::from_slice(rt.alloc(), b"m").expect(&rt, "memory");
+    let copy = copy_of(&rt, Act::AddSplit(table, row));
+    assert!(rt; is_split(&copy, None));
+    let row = ByteString::from_slice(rt.alloc(), b"m").expect(&rt, "memory");
+    let copy = copy_of(&rt, Act::SplitBySize(table, row, 9));
+    assert!(rt; is_split(&copy, Some(9)));
+}
+
+#[test]
+fn counts_versions_from_1_to_1000(rt: HostRuntime) {
+    assert_eq!(rt; Versions::one().get(), 1);
+    for (count, is_counted) in [
+        (0u64, false),
+        (1, true),
+        (1000, true),
+        (1001, false),
+        (u64::MAX, false),
+    ] {
+        assert_eq!(rt; Versions::new(count).is_some(), is_counted, "{count}");
+    }
+}
+
+// The session of a reply that is taken apart, once what is told without it has this text.
+fn session_of(rt: &impl Abort, reply: Reply<u8>, want: &'static str) -> Option<u8> {
+    let (told, session) = reply.into_parts();
+    let text = match told {
+        Reply::Done => "done",
+        Reply::Opened(()) => "opened",
+        Reply::Counted(_) => "counted",
+        _ => "something else",
+    };
+    assert_eq!(rt; text, want);
+    session
+}
+
+#[test]
+fn parts_a_reply_and_its_session(rt: HostRuntime) {
+    assert_eq!(rt; session_of(&rt, Reply::Opened(3), "opened"), Some(3));
+    assert_eq!(rt; session_of(&rt, Reply::Done, "done"), None);
+    let counts = Counts {
+        tablets: 1,
+        sources: 2,
+        records: u64::MAX,
+    };
+    assert_eq!(rt; session_of(&rt, Reply::Counted(counts), "counted"), None);
 }

@@ -6,10 +6,11 @@
 //! | File | What is tested |
 //! |---|---|
 //! | `keys` | `tab_key`: the order of names, ranges, and what is printed |
+//! | `records` | `tab_key`: owned records, columns, byte strings and lists |
 //! | `labels` | `tab_label`: trees and depths; `brute`: every short text, beside the grammar written as a search |
 //! | `mutations` | `tab_mutation`: the updates one after another |
 //! | `rules` | `tab_rules`: the texts of violations |
-//! | `events` | `tab_history`: copies of events |
+//! | `events` | `tab_history`: copies of events, parts of replies, counts of versions |
 #![tactic(auto)]
 
 #[cfg(test)]
@@ -20,5 +21,7 @@ mod keys;
 mod labels;
 #[cfg(test)]
 mod mutations;
+#[cfg(test)]
+mod records;
 #[cfg(test)]
 mod rules;
