@@ -1,11 +1,11 @@
-//! Random writes, scans, flushes and compactions through a core, beside the model of the updates that it accepted.
+//! Random writes, scans, flushes, compactions and splits through a core, beside the model of the updates that it accepted.
 
 use crate::steps::named;
 use std::alloc::Global;
 use std::process::Abort;
 use tab_core::{Core, Session};
-use tab_history::{Act, Event, Extent, Reply, Scan, TimeMode, Versions};
-use tab_key::{Cell, Items};
+use tab_history::{Act, Event, Extent, Refusal, Reply, Scan, SplitFault, TimeMode, Versions};
+use tab_key::{ByteString, Cell, Items};
 use tab_testing::{Query, Random, Update, auths_of, mutation_of, scanned};
 
 const ROWS: [&[u8]; 3] = [b"k", b"l", b"m"];
@@ -138,14 +138,26 @@ fn compact(rt: &impl Abort, alloc: Global, core: &mut Core, moment: u8, random: 
     assert!(rt; matches!(asked(rt, core, alloc, moment, act), Reply::Done));
 }
 
-// Twenty-four writes, scans and compactions of a new table; how many cells were shown.
+// A split of the table at one of the rows, at which it may be split already. It changes nothing that is shown.
+fn split(rt: &impl Abort, alloc: Global, core: &mut Core, moment: u8, random: &mut Random) {
+    let row = ByteString::from_slice(alloc, random.one_of(&ROWS)).expect(rt, "memory");
+    let reply = asked(rt, core, alloc, moment, Act::AddSplit(named(rt, b"t"), row));
+    assert!(rt;
+        matches!(
+            reply,
+            Reply::Done | Reply::Refused(Refusal::BadSplit(SplitFault::Present))
+        )
+    );
+}
+
+// Thirty writes, scans, compactions and splits of a new table; how many cells were shown.
 fn play(rt: &impl Abort, alloc: Global, random: &mut Random) -> usize {
     let versions = 1 + random.below(3) as u32;
     let mut core = prepared(rt, alloc, versions);
     let mut table = Vec::new(alloc);
     let mut shown = 0usize;
-    for moment in 0..24u8 {
-        match random.below(7) {
+    for moment in 0..30u8 {
+        match random.below(8) {
             0..=1 => {
                 let query = Query {
                     versions,
@@ -155,6 +167,7 @@ fn play(rt: &impl Abort, alloc: Global, random: &mut Random) -> usize {
                 shown = shown.saturating_add(count);
             }
             2..=3 => compact(rt, alloc, &mut core, moment, random),
+            4 => split(rt, alloc, &mut core, moment, random),
             _ => {
                 let updates = random_updates(rt, alloc, random, moment);
                 write(rt, alloc, &mut core, &mut table, moment, &updates);
