@@ -216,6 +216,27 @@ fn random_version(
     one_tablet(alloc, clips).expect(rt, "memory")
 }
 
+// A scan of all rows of the version shows what one of the table does, also from some key on; how many records.
+fn compare(
+    rt: &impl Abort,
+    alloc: Global,
+    random: &mut Random,
+    rows: &[&'static [u8]],
+    version: &Version,
+    table: &[Update],
+) -> usize {
+    let query = Query {
+        low: End::Open,
+        high: End::Open,
+        ..random.query(rows)
+    };
+    let row = random.one_of(rows);
+    let sought = random.update(row, 0, 0, CLOCK);
+    let want = scanned(alloc, table, &query).expect(rt, "memory");
+    expect_scan(rt, alloc, version, &query, &want, &sought);
+    want.len()
+}
+
 #[test]
 fn stacks_clips(rt: HostRuntime) {
     let alloc = rt.alloc();
@@ -227,15 +248,8 @@ fn stacks_clips(rt: HostRuntime) {
         sort(&mut table);
         expect_raw(&rt, alloc, &version, &table);
         for _ in 0..4 {
-            let query = Query {
-                low: End::Open,
-                high: End::Open,
-                ..random.query(&ROWS)
-            };
-            let sought = random_update(&mut random);
-            let want = scanned(alloc, &table, &query).expect(&rt, "memory");
-            expect_scan(&rt, alloc, &version, &query, &want, &sought);
-            shown = shown.saturating_add(want.len());
+            let count = compare(&rt, alloc, &mut random, &ROWS, &version, &table);
+            shown = shown.saturating_add(count);
         }
     }
     assert!(rt; shown > 2000, "{shown} records were shown");

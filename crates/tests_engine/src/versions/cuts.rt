@@ -8,14 +8,14 @@ ghost use Rattle.tab_iter.specs.Lists.{IsRising};
 ghost use Rattle.tab_version.specs.InTurn.{in_order};
 ghost use Rattle.tab_version.specs.Sources.{records_of, clipped};
 
-use super::last_tabled;
-use crate::reading::{expect_raw, expect_scan};
-use crate::writing::{CLOCK, add, fill};
+use super::{compare, last_tabled};
+use crate::reading::expect_raw;
+use crate::writing::{add, fill};
 use std::alloc::{AllocError, Global};
 use std::process::Abort;
 use tab_key::{Bound, Bounds, ByteString};
 use tab_mem::Active;
-use tab_testing::{End, Query, Random, Update, scanned, sort};
+use tab_testing::{Random, Update, sort};
 use tab_version::{Clip, Clips, Version};
 
 const ROWS: [&[u8]; 24] = [
@@ -135,16 +135,8 @@ fn reads_many_tablets(rt: HostRuntime) {
         sort(&mut table);
         expect_raw(&rt, alloc, &version, &table);
         for _ in 0..8 {
-            let query = Query {
-                low: End::Open,
-                high: End::Open,
-                ..random.query(&ROWS)
-            };
-            let row = random.one_of(&ROWS);
-            let sought = random.update(row, 0, 0, CLOCK);
-            let want = scanned(alloc, &table, &query).expect(&rt, "memory");
-            expect_scan(&rt, alloc, &version, &query, &want, &sought);
-            shown = shown.saturating_add(want.len());
+            let count = compare(&rt, alloc, &mut random, &ROWS, &version, &table);
+            shown = shown.saturating_add(count);
         }
     }
     assert!(rt; shown > 2000, "{shown} records were shown");
