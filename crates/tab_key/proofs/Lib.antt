@@ -10,3 +10,5 @@ pub mod Listing
 pub mod Ties
 pub mod Examples
 pub mod Packed
+pub mod BigEndian
+pub mod RowPrefix

@@ -11,6 +11,7 @@
 //! | `record`, `record_ref` | a record in a body of its own, and one lent from a body; their order |
 //! | `cell` | what a scan shows of a put |
 //! | `column`, `range` | what a scan asks for |
+//! | `prefix` | the beginning of a row as a number |
 //! | `laws` | the order is total, and sorting gives the one rising list |
 //!
 //! Every definition that the contracts cite stands in `specs`:
@@ -21,11 +22,13 @@
 //! | `Names`, `NameFields` | which bytes make a name, and how a name keeps them |
 //! | `Records`, `KeyOf` | keys, records and cells as contracts see them |
 //! | `RecordSpans` | the record that lies in a body of bytes |
+//! | `RowPrefix` | the first bytes of a row as a number |
 //! | `Kept` | which records are hidden, and which are kept |
 //! | `Sorted` | records in their order, computed and said without computing |
 //! | `Ranges`, `Columns` | which rows are in a range, which keys are of a column |
 //!
-//! In `proofs`, `Order`, `Ties`, `Numbers`, `Rising`, `Sorting` and `Listing` are on the order and on lists in it, `Bodies` and
+//! In `proofs`, `Order`, `Ties`, `Numbers`, `Rising`, `Sorting` and `Listing` are on the order and on lists in it, `BigEndian`
+//! and `RowPrefix` on the order of rows by their prefixes, `Bodies` and
 //! `Packed` on records in bytes, `Columns` and `Selecting` on columns, `Each` on lists, and `Examples` has worked examples.
 #![tactic(auto)]
 
@@ -37,6 +40,7 @@ mod key;
 pub mod laws;
 mod name;
 mod part;
+mod prefix;
 mod range;
 mod record;
 mod record_ref;
@@ -53,6 +57,7 @@ pub use part::{
     MAX_AUTHORIZATION_LEN, MAX_AUTHORIZATIONS, MAX_COLUMNS, MAX_LABEL_DEPTH, MAX_OPENED,
     MAX_PART_LEN, MAX_SESSIONS, MAX_UPDATES, MAX_VERSIONS, Part,
 };
+pub use prefix::row_prefix;
 pub use range::{BadRange, Bound, Bounds, Range, is_bad_range};
 pub use record::Record;
 pub use record_ref::RecordRef;

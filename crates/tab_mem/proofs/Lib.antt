@@ -1,7 +1,6 @@
 pub mod KeptFront
 pub mod ShortParts
 pub mod Written
-pub mod BigEndian
 pub mod RowPrefix
 pub mod RowOrder
 pub mod Seeking

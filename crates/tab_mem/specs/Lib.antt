@@ -1,4 +1,3 @@
-pub mod RowPrefix
 pub mod Lists
 pub mod Starts
 pub mod Cursors

@@ -11,3 +11,8 @@ pub mod Counted
 pub mod Told
 pub mod Merged
 pub mod Idle
+pub use Rattle.tab_tablet.proofs.Parted
+pub use Rattle.tab_tablet.proofs.Moved
+pub use Rattle.tab_tablet.proofs.Gathered
+pub use Rattle.tab_tablet.proofs.Captures
+pub use Rattle.tab_tablet.proofs.Cut

@@ -6,6 +6,7 @@
 //! | File | What |
 //! |---|---|
 //! | `lower` | a tablet with an end row |
+//! | `sought` | a row that is looked for |
 //! | `line` | tablets in the order of their rows, and the search among them |
 //! | `counting` | how many sources and records lower tablets have |
 //! | `ends` | the end rows of lower tablets |
@@ -28,9 +29,11 @@ mod line;
 mod lower;
 mod made;
 mod opening;
+mod sought;
 mod split;
 mod splitting;
 mod tablets;
 
 pub use split::Split;
+pub use tab_version::Version;
 pub use tablets::Tablets;

@@ -14,6 +14,7 @@ use crate::counting::{count_records, count_sources};
 use crate::ends::ends_of;
 use crate::lower::Lower;
 use crate::made::Made;
+use crate::sought::Sought;
 use std::alloc::{AllocError, Global};
 use std::marker::Model;
 use tab_key::ByteString;
@@ -63,7 +64,8 @@ impl Line {
         requires { AreWhole self.now }
         ensures { IsPlaceOf row.now self.now result }
     {
-        self.lower.partition_point(|lower| !lower.is_up_to(row))
+        let sought = Sought::new(row);
+        self.lower.partition_point(|lower| !lower.is_up_to(&sought))
     }
 
     /// The tablet at a place.
@@ -133,6 +135,7 @@ impl Line {
     /// `AllocError` leaves all as it was.
     pub(crate) fn divide(
         &mut self,
+        alloc: Global,
         place: usize,
         row: ByteString,
         lower: Tablet,
@@ -142,7 +145,8 @@ impl Line {
         ensures ok { OnOk result (self.new ≡ at_place place (λ t. ended (Some row) lower ∷ ended t.end upper ∷ []) self.old) }
         ensures err { OnErr result (self.new ≡ self.old) }
     {
-        self.lower.insert(place, Lower::new(row, lower))?;
+        let lower = Lower::new(alloc, row, lower)?;
+        self.lower.insert(place, lower)?;
         self.put(place + 1, upper);
         Ok(())
     }

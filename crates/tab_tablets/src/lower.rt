@@ -1,22 +1,26 @@
 //! A tablet with an end row.
-ghost use Rattle.std.specs.Prelude.{◌≡◌, ◌<◌, None, Some, Contains, OnOk, OnErr};
+ghost use Rattle.std.specs.Prelude.{◌≡◌, ◌<◌, None, Some, Contains, IfOk, OnOk, OnErr};
 ghost use Rattle.tab_key.specs.Records.{Record as Fields};
 ghost use Rattle.tab_mutation.specs.Shape.{shape_error};
 ghost use Rattle.tab_cells.specs.Written.{mutation_records};
 ghost use Rattle.tab_tablet.specs.Tablets.{is_up_to, records_in, written};
 ghost use Rattle.tab_tablets.specs.Places.{ended, is_end_row};
 
-use std::alloc::AllocError;
+use crate::sought::Sought;
+use std::alloc::{AllocError, Global};
 use std::marker::Model;
-use tab_key::ByteString;
+use tab_key::{ByteString, row_prefix};
 use tab_mutation::Mutation;
 use tab_tablet::Tablet;
 
-/// A tablet that isn't the last of its table, with the last row that it may hold. A contract sees the tablet with its end row.
+/// A tablet that isn't the last of its table, with the last row that it may hold. A contract sees the tablet with its end row. The
+/// tablet lies apart and the end row's prefix beside it, so that a search among end rows reads little else.
 #[derive(Drop)]
 pub(crate) struct Lower {
+    // of the end row
+    prefix: u128,
     end: ByteString,
-    tablet: Tablet,
+    tablet: Box<Tablet>,
 }
 
 impl Model for Lower {
@@ -25,15 +29,27 @@ impl Model for Lower {
 
     ghost Value = { Held };
 
-    ghost view = { λ l. record (l.tablet) { end = Some l.end } };
+    ghost use Rattle.tab_key.specs.RowPrefix.{IsRowPrefix};
+
+    ghost view = { λ l. record (l.tablet.value) { end = Some l.end } };
+
+    ghost invariant = { λ l. IsRowPrefix l.prefix l.end };
 }
 
 impl Lower {
     /// The tablet of the rows up to this one.
-    pub(crate) fn new(end: ByteString, tablet: Tablet) -> Lower
-        ensures { result ≡ ended (Some end) tablet }
+    ///
+    /// `AllocError` says that memory lacked.
+    pub(crate) fn new(alloc: Global, end: ByteString, tablet: Tablet) -> Result<Lower, AllocError>
+        ensures { IfOk result (λ l. l ≡ ended (Some end) tablet) }
     {
-        Lower { end, tablet }
+        let tablet = Box::new(alloc, tablet)?;
+        let prefix = row_prefix(end.as_bytes());
+        Ok(Lower {
+            prefix,
+            end,
+            tablet,
+        })
     }
 
     /// The last row that it may hold.
@@ -44,10 +60,10 @@ impl Lower {
     }
 
     /// Whether the row is at or before the end row.
-    pub(crate) fn is_up_to(&self, row: &[u8]) -> bool
+    pub(crate) fn is_up_to(&self, row: &Sought<'_>) -> bool
         ensures { result ≡ is_up_to self.now.end row.now }
     {
-        row.cmp(self.end.as_bytes()).is_le()
+        row.cmp(self.prefix, self.end.as_bytes()).is_le()
     }
 
     /// Whether the row is the end row.
@@ -68,7 +84,7 @@ impl Lower {
     pub(crate) fn put(&mut self, tablet: Tablet)
         ensures { self.new ≡ ended self.old.end tablet }
     {
-        self.tablet = tablet;
+        *self.tablet = tablet;
     }
 
     /// Writes a mutation, whose shape was accepted, as `Tablet::write` does.

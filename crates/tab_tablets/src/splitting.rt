@@ -78,7 +78,7 @@ impl Tablets {
     {
         let (lower, upper) = self.line.tablet(place).split(alloc, &row)?;
         let written = moved(alloc, &self.written, place, self.line.len())?;
-        self.line.divide(place, row, lower, upper)?;
+        self.line.divide(alloc, place, row, lower, upper)?;
         self.written = written;
         Ok(())
     }

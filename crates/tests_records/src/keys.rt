@@ -1,8 +1,8 @@
-//! The order of names, ranges, and what is printed for a reader of a test.
+//! The order of names, the prefixes of rows, ranges, and what is printed for a reader of a test.
 use std::alloc::Global;
 use std::cmp::Ordering;
 use std::process::Abort;
-use tab_key::{BadRange, Bound, ByteString, Name, Range};
+use tab_key::{BadRange, Bound, ByteString, Name, Range, row_prefix};
 
 #[test]
 fn orders_names(rt: HostRuntime) {
@@ -11,6 +11,18 @@ fn orders_names(rt: HostRuntime) {
     assert!(rt; first < second && first != second && first == first);
     assert_eq!(rt; first.cmp(&second), Ordering::Less);
     assert_eq!(rt; first.partial_cmp(&second), Some(Ordering::Less));
+}
+
+#[test]
+fn prefixes_order_rows(rt: HostRuntime) {
+    assert!(rt; row_prefix(b"a") < row_prefix(b"ab") && row_prefix(b"ab") < row_prefix(b"b"));
+    assert!(rt; row_prefix(b"sixteen bytes: a") < row_prefix(b"sixteen bytes: b"));
+    assert_eq!(rt;
+        row_prefix(b"sixteen bytes: a"),
+        row_prefix(b"sixteen bytes: a, and more")
+    );
+    assert_eq!(rt; row_prefix(b"a"), row_prefix(b"a\0"));
+    assert_eq!(rt; row_prefix(b""), 0);
 }
 
 fn bound(rt: &impl Abort, alloc: Global, inclusive: bool, row: &[u8]) -> Bound {

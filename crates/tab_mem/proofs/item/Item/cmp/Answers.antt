@@ -1,6 +1,6 @@
 use Rattle.std.proofs.Common.{subst, sym}
 use Rattle.tab_key.specs.Records.{Record}
-use Rattle.tab_mem.specs.RowPrefix.{IsRowPrefix}
+use Rattle.tab_key.specs.RowPrefix.{IsRowPrefix}
 use Rattle.tab_mem.proofs.RowPrefix.{prefix_decides}
 use Rattle.tab_mem.proofs.item.Item.cmp.Goals as goal
 

@@ -14,6 +14,6 @@ returns-clause-ok c =
     let lt : c.args.place < length (lower ++ last ∷ []) = subst (λ (ts : List Tablet). c.args.place < length ts) (sym c.self.view_is) c.requires in
     let le : c.args.place ≤ length lower = omega (arith, lt, length-append lower (last ∷ [])) in
     c.put.ensures
-    ∙ ap (λ (l : List Tablet). put_at (c.args.place + 1) c.args.upper (l ++ last ∷ [])) (c.in_ok-insert.ensures.items ∙ ap (insert lower c.args.place) c.new.ensures)
+    ∙ ap (λ (l : List Tablet). put_at (c.args.place + 1) c.args.upper (l ++ last ∷ [])) (c.in_ok-insert.ensures.items ∙ ap (insert lower c.args.place) c.in_ok-lower.ensures)
     ∙ divided lower last low c.args.upper c.args.place le
     ∙ ap (at_place c.args.place (λ (t : Tablet). low ∷ ended t.end c.args.upper ∷ [])) c.self.view_is

@@ -1,7 +1,7 @@
 use Rattle.std.proofs.Common.{◌∙◌, ap}
 use Rattle.std.specs.Int.{from_be_bytes, w128}
-use Rattle.tab_mem.proofs.RowPrefix.{bytes_padded}
-use Rattle.tab_mem.proofs.item.row_prefix.Goals as goal
+use Rattle.tab_key.proofs.RowPrefix.{bytes_padded}
+use Rattle.tab_key.proofs.prefix.row_prefix.Goals as goal
 
 pub returns : goal.returns
 returns c = record {

@@ -1,8 +1,8 @@
 use Rattle.std.proofs.Common.{◌≡◌, ◌∙◌, ℕ, List, ◌++◌, ap, length, take, drop, arith}
 use Rattle.std.specs.Prelude.{min, replicate}
 use Rattle.std.proofs.lemmas.List.{take_min}
-use Rattle.tab_mem.proofs.RowPrefix.{padded_take}
-use Rattle.tab_mem.proofs.item.padded.Goals as goal
+use Rattle.tab_key.proofs.RowPrefix.{padded_take}
+use Rattle.tab_key.proofs.prefix.padded.Goals as goal
 
 pub returns : goal.returns
 returns c =
