@@ -33,10 +33,12 @@ fn checked_name(bytes: &[u8]) -> Option<Name>
 pub fn time_word(word: &[u8]) -> Option<TimeMode>
     ensures { result ≡ time_word word.now }
 {
-    match word {
-        b"time=any" => Some(TimeMode::Any),
-        b"time=server" => Some(TimeMode::Server),
-        _ => None,
+    if word == b"time=any".as_slice() {
+        Some(TimeMode::Any)
+    } else if word == b"time=server".as_slice() {
+        Some(TimeMode::Server)
+    } else {
+        None
     }
 }
 
@@ -44,10 +46,12 @@ pub fn time_word(word: &[u8]) -> Option<TimeMode>
 pub fn extent_word(word: &[u8]) -> Option<Extent>
     ensures { result ≡ extent_word word.now }
 {
-    match word {
-        b"partial" => Some(Extent::Partial),
-        b"full" => Some(Extent::Full),
-        _ => None,
+    if word == b"partial".as_slice() {
+        Some(Extent::Partial)
+    } else if word == b"full".as_slice() {
+        Some(Extent::Full)
+    } else {
+        None
     }
 }
 
