@@ -2,3 +2,4 @@
 pub mod Plans
 pub mod PlanExamples
 pub mod Merges
+pub use Rattle.tab_table.specs.Sizes

@@ -3,7 +3,7 @@ use Rattle.std.proofs.Common.{◌≡◌, inl, ℕ, List, [], true, refl, sym, ap
 use Rattle.std.specs.Prelude.{ℤ, OnOk, OnErr}
 use Rattle.tab_cells.specs.declared.compaction.Compaction.{Compaction}
 use Rattle.tab_cells.specs.SessionState.{SessionState}
-use Rattle.tab_tablet.specs.Tablets.{compacted}
+use Rattle.tab_store.specs.Tablets.{compacted}
 use Rattle.tab_history.specs.declared.event.Act.{Act}
 use Rattle.tab_history.specs.declared.event.Act.TheVariants as act
 use Rattle.tab_history.specs.declared.reply.Refusal.TheVariants.{NoMemory}

@@ -12,3 +12,4 @@ pub mod Steps
 pub mod TableActs
 pub mod Writing
 pub mod Picked
+pub use Rattle.tab_store.proofs.Joining

@@ -12,7 +12,7 @@ use Rattle.tab_policy.specs.Sets.{system_contains, table_contains}
 use Rattle.tab_policy.specs.State.{auths_of, has_system, table_granted}
 use Rattle.tab_cells.specs.Cells.{Query, cells}
 use Rattle.tab_cells.specs.SessionState.{SessionState}
-use Rattle.tab_tablet.specs.Tablets.{frozen}
+use Rattle.tab_store.specs.Tablets.{frozen}
 use Rattle.tab_history.specs.declared.event.Act.TheVariants as act
 use Rattle.tab_history.specs.declared.event.Scan.{Scan}
 use Rattle.tab_history.specs.declared.reply.Refusal.{Refusal}
@@ -25,7 +25,7 @@ use Rattle.tab_history.specs.Checks.{standing, scan_checks}
 use Rattle.tab_history.specs.Answers.{told, told_opened, session_list, listed, query_of}
 use Rattle.tab_history.proofs.RightsTold.{rights_are_told}
 use Rattle.tab_iter.proofs.ListLaws.{rises_none}
-use Rattle.tab_tablets.specs.ByRow.{records_of_all, LieApart}
+use Rattle.tab_store.specs.ByRow.{records_of_all, LieApart}
 use Rattle.tab_store.specs.Stores.{HeldTable, Held, RiseByName, base_of, table_in}
 use Rattle.tab_store.specs.Stepping.{lays, told_exactly, laid_told}
 use Rattle.tab_store.specs.Tables.{TableState, with_tablets, state_of, table_at, changed_table, settings_at, tablets_of}

@@ -5,11 +5,11 @@ use Rattle.tab_key.specs.Records.{Cell}
 use Rattle.tab_key.specs.declared.part.Part.TheVariants.{Row}
 use Rattle.tab_mutation.specs.Shape.{first_some, when, is_too_long}
 use Rattle.tab_cells.specs.SessionState.{SessionState}
-use Rattle.tab_tablet.specs.Tablets.{Tablet}
-use Rattle.tab_tablets.specs.ByRow.{ends_of}
-use Rattle.tab_tablets.specs.Splits.{splits, halves}
-use Rattle.tab_tablets.specs.declared.split.Split.{Split}
-use Rattle.tab_tablets.specs.declared.split.Split.TheVariants as split
+use Rattle.tab_store.specs.Tablets.{Tablet}
+use Rattle.tab_store.specs.ByRow.{ends_of}
+use Rattle.tab_store.specs.Splits.{splits, halves}
+use Rattle.tab_store.specs.SplitType.{Split}
+use Rattle.tab_store.specs.SplitVariants as split
 use Rattle.tab_history.specs.declared.event.Act.{Act}
 use Rattle.tab_history.specs.declared.event.Act.TheVariants as act
 use Rattle.tab_history.specs.declared.reply.Refusal.TheVariants.{NoMemory, TooLarge}

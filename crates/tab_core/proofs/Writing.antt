@@ -6,7 +6,7 @@ use Rattle.tab_mutation.specs.Mutations.{Mutation}
 use Rattle.tab_mutation.specs.Shape.{first_some, when}
 use Rattle.tab_policy.specs.State.{readings, auths_of, table_exists}
 use Rattle.tab_cells.specs.Written.{mutation_records}
-use Rattle.tab_tablet.specs.Tablets.{written}
+use Rattle.tab_store.specs.Tablets.{written}
 use Rattle.tab_history.specs.declared.event.Act.TheVariants as act
 use Rattle.tab_history.specs.declared.reply.Refusal.{Refusal}
 use Rattle.tab_history.specs.declared.reply.Refusal.TheVariants.{TooLarge, NoMemory}
@@ -15,7 +15,7 @@ use Rattle.tab_history.specs.Changes.{changes_of}
 use Rattle.tab_history.specs.Readings.{has_user, user_count, held_auths, has_system_right, has_table_right, table_count, settings_of, next_number}
 use Rattle.tab_history.specs.Checks.{standing, mutation_checks}
 use Rattle.tab_history.specs.Answers.{Told, told, numbered}
-use Rattle.tab_tablets.specs.ByRow.{at_row}
+use Rattle.tab_store.specs.ByRow.{at_row}
 use Rattle.tab_store.specs.Stores.{HeldTable, Held, RiseByName, base_of}
 use Rattle.tab_store.specs.Stepping.{Writing, On, lays}
 use Rattle.tab_store.specs.Tables.{TableState, with_tablets, table_at, changed_table, settings_at}

@@ -4,3 +4,5 @@ pub mod Slots
 pub mod Stepping
 pub mod Comparing
 pub mod ComparingExamples
+pub use Rattle.tab_store.specs.Stores
+pub use Rattle.tab_store.specs.Chains

@@ -27,7 +27,8 @@ use Rattle.tab_history.specs.Legal.{IsAnswer, LegalAlone, LacksMemory, takes_mem
 use Rattle.tab_history.specs.Refinement.{ReadsAlike, Refines}
 use Rattle.tab_history.specs.Chains.{GoesRight, HasRoom}
 use Rattle.tab_store.specs.Stores.{HeldTable, Held, base_of}
-use Rattle.tab_store.specs.Stepping.{LaysExactly, entry_of as entry}
+use Rattle.tab_store.specs.Stepping.{entry_of as entry}
+pub use Rattle.tab_store.specs.Stepping.{LaysExactly, StepsExactly, now_at, plain_answer}
 use Rattle.tab_store.specs.Rightness.{IsStore}
 use Rattle.tab_core.specs.declared.store.Store.{Store}
 use Rattle.tab_core.specs.Holding.{held}

@@ -1,8 +1,8 @@
 //! Scans opened.
 ghost use Rattle.std.specs.Prelude.{◌≡◌, ℕ, ℤ, List, map, length, IfOk, OnOk, OnErr};
 ghost use Rattle.tab_key.specs.Sorted.{sorted};
-ghost use Rattle.tab_tablet.specs.Tablets.{frozen};
-ghost use Rattle.tab_tablets.specs.ByRow.{records_of_all, LieApart};
+ghost use Rattle.tab_store.specs.Tablets.{frozen};
+ghost use Rattle.tab_store.specs.ByRow.{records_of_all, LieApart};
 ghost use Rattle.tab_history.specs.Answers.{listed, query_of};
 ghost use Rattle.tab_store.specs.Stores.{RiseByName};
 ghost use Rattle.tab_store.specs.Tables.{table_at, changed_table, with_tablets, settings_at, tablets_of};

@@ -1,7 +1,7 @@
 //! Splits of a table's tablets, and the rows at which a table is split.
 ghost use Rattle.std.specs.Prelude.{◌≡◌, IfOk, OnErr};
 ghost use Rattle.tab_mutation.specs.Shape.{is_too_long};
-ghost use Rattle.tab_tablets.specs.ByRow.{ends_of};
+ghost use Rattle.tab_store.specs.ByRow.{ends_of};
 ghost use Rattle.tab_history.specs.Answers.{told_of};
 ghost use Rattle.tab_store.specs.Stepping.{told_split};
 ghost use Rattle.tab_store.specs.Tables.{table_at, tablets_of};
@@ -13,8 +13,7 @@ use crate::store::Store;
 use std::alloc::{AllocError, Global};
 use tab_history::{Act, Refusal, Reply, SplitFault};
 use tab_key::{ByteString, Items, MAX_PART_LEN, Name, Part};
-use tab_store::Tables;
-use tab_tablets::Split;
+use tab_store::{Split, Tables};
 
 impl Store {
     // A table's tablet split at this row.

@@ -2,7 +2,7 @@
 ghost use Rattle.std.specs.Prelude.{◌≡◌, ◌<◌, ◌⊎◌, Some, None, true, is_some, Contains};
 ghost use Rattle.tab_key.specs.Records.{Record};
 ghost use Rattle.tab_mutation.specs.Shape.{first_some, shape_error};
-ghost use Rattle.tab_tablets.specs.ByRow.{records_of_all};
+ghost use Rattle.tab_store.specs.ByRow.{records_of_all};
 ghost use Rattle.tab_store.specs.Tables.{table_at, settings_at, tablets_of};
 ghost use Rattle.tab_core.specs.Stepping.{ActsOnTables, write_checks};
 

@@ -3,7 +3,7 @@ use Rattle.std.specs.Prelude.{◌≡◌, Result, Ok, Err}
 use Rattle.tab_history.specs.Bases.{new_core}
 use Rattle.tab_history.specs.Histories.{world_of}
 use Rattle.tab_history.specs.Refinement.{Refines}
-use Rattle.tab_store.specs.Stores.{Held, base_of, IsNewStore}
+use Rattle.tab_core.specs.Stores.{Held, base_of, IsNewStore}
 use Rattle.tab_io.specs.declared.reading.Input.{Ghosts as InputGhosts}
 use Rattle.tab_io.specs.declared.writing.Output.{Ghosts}
 use Rattle.tab_prog.specs.declared.scripting.ProgramFault.{ProgramFault}

@@ -5,8 +5,8 @@ use Rattle.std.specs.Io.KnownBytes.{Keeps}
 use Rattle.std.proofs.lemmas.List.{append-nil}
 use Rattle.tab_history.specs.Histories.{Entry, World}
 use Rattle.tab_history.specs.Legal.{Legal}
-use Rattle.tab_store.specs.Chains.{EntryGoes}
-use Rattle.tab_store.proofs.Joining.{chain_join}
+use Rattle.tab_core.specs.Chains.{EntryGoes}
+use Rattle.tab_core.proofs.Joining.{chain_join}
 use Rattle.tab_io.specs.Streams.{IsEnd, Fills}
 use Rattle.tab_io.specs.Writing.{HasPut, HasPutPart, WriteFailed}
 use Rattle.tab_io.specs.declared.writing.Output.{Ghosts}

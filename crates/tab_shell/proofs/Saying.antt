@@ -12,9 +12,9 @@ use Rattle.tab_cells.specs.SessionState.{SessionState}
 use Rattle.tab_history.specs.Sessions.{Opening, opened, closed}
 use Rattle.tab_history.specs.Histories.{Entry, World, is_by, journal, moves_of}
 use Rattle.tab_history.specs.Chains.{IsChain}
-use Rattle.tab_store.specs.Stores.{Held, base_of}
-use Rattle.tab_store.specs.Stepping.{StepsExactly}
-use Rattle.tab_store.specs.Chains.{EntryGoes}
+use Rattle.tab_core.specs.Stores.{Held, base_of}
+use Rattle.tab_core.specs.Stepping.{StepsExactly}
+use Rattle.tab_core.specs.Chains.{EntryGoes}
 use Rattle.tab_core.specs.Stepping.{Steps}
 use Rattle.tab_io.specs.Writing.{HasPut, Puts}
 use Rattle.tab_io.specs.declared.writing.Output.{Ghosts}

@@ -23,9 +23,9 @@ use Rattle.tab_history.specs.Refinement.{Refines}
 use Rattle.tab_history.specs.Chains.{IsChain}
 use Rattle.tab_history.proofs.LeftOpen.{closed_reply}
 use Rattle.tab_history.proofs.Playing.{unmoved}
-use Rattle.tab_store.specs.Stores.{Held, base_of}
-use Rattle.tab_store.specs.Stepping.{StepsExactly}
-use Rattle.tab_store.specs.Chains.{EntryGoes}
+use Rattle.tab_core.specs.Stores.{Held, base_of}
+use Rattle.tab_core.specs.Stepping.{StepsExactly}
+use Rattle.tab_core.specs.Chains.{EntryGoes}
 use Rattle.tab_core.specs.Stepping.{Steps}
 use Rattle.tab_lines.specs.declared.line.Line.TheVariants as line
 use Rattle.tab_shell.specs.Texts.{reply_text, refusal_text}

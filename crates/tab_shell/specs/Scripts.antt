@@ -15,8 +15,8 @@ use Rattle.tab_history.specs.Histories.{Entry, World, world_of, world_after, jou
 use Rattle.tab_history.specs.Legal.{Legal}
 use Rattle.tab_history.specs.Refinement.{Refines}
 use Rattle.tab_history.specs.Chains.{IsChain}
-use Rattle.tab_store.specs.Stores.{Held, base_of}
-use Rattle.tab_store.specs.Chains.{EntryGoes}
+use Rattle.tab_core.specs.Stores.{Held, base_of}
+use Rattle.tab_core.specs.Chains.{EntryGoes}
 use Rattle.tab_lines.specs.declared.line.Line.{Line}
 use Rattle.tab_lines.specs.declared.line.Line.TheVariants as line
 use Rattle.tab_lines.specs.declared.line_error.LineError.{LineError}

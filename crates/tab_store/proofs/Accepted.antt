@@ -5,7 +5,7 @@ use Rattle.tab_key.specs.Records.{Record}
 use Rattle.tab_key.specs.Sorted.{IsIn}
 use Rattle.tab_key.proofs.Rising.{in_from, in_to, in_filter}
 use Rattle.tab_cells.proofs.Lists.{in_append}
-use Rattle.tab_tablet.specs.Tablets.{Tablet, records_in}
+use Rattle.tab_tablets.specs.Tablets.{Tablet, records_in}
 use Rattle.tab_tablets.specs.ByRow.{records_of_all}
 use Rattle.tab_tablets.specs.Places.{HoldOwnRows}
 use Rattle.tab_history.proofs.Held.{not_false}

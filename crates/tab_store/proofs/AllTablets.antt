@@ -8,8 +8,8 @@ use Rattle.tab_key.proofs.Rising.{in_from, in_to, in_filter, distinct_filter}
 use Rattle.tab_cells.specs.Written.{TimedUpdate, timed, records_of, mutation_records}
 use Rattle.tab_cells.proofs.Lists.{filter_append}
 use Rattle.tab_iter.proofs.ColumnLaws.{filter_none}
-use Rattle.tab_tablet.specs.Tablets.{Tablet, is_up_to, records_in, written, frozen, compacted}
-use Rattle.tab_tablet.specs.Splitting.{split_at}
+use Rattle.tab_tablets.specs.Tablets.{Tablet, is_up_to, records_in, written, frozen, compacted}
+use Rattle.tab_tablets.specs.Splitting.{split_at}
 use Rattle.tab_history.specs.Held.{RefinesTable}
 use Rattle.tab_history.proofs.Holds.{holds_nothing, holds_beside}
 use Rattle.tab_tablets.specs.ByRow.{records_of_all, at_row, is_end, AreWhole}

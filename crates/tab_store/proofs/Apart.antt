@@ -13,7 +13,7 @@ use Rattle.tab_cells.proofs.Lists.{in_append, in_left, in_right}
 use Rattle.tab_iter.specs.Bags.{flat}
 use Rattle.tab_iter.specs.Lists.{IsRising}
 use Rattle.tab_iter.proofs.ListLaws.{rises_none, rises_more, first_less, later_rises}
-use Rattle.tab_tablet.specs.Tablets.{Tablet, is_up_to, records_in}
+use Rattle.tab_tablets.specs.Tablets.{Tablet, is_up_to, records_in}
 use Rattle.tab_tablets.specs.ByRow.{records_of_all, LieApart}
 use Rattle.tab_tablets.proofs.Orders.{up_to_below, above}
 use Rattle.tab_store.specs.Keeping.{is_high, TabletsRefine, SoundTabletsLieApart}

@@ -11,7 +11,7 @@ use Rattle.tab_mutation.specs.Mutations.{Mutation}
 use Rattle.tab_rules.specs.declared.constraint.Constraint.{Constraint}
 use Rattle.tab_cells.specs.Written.{mutation_records}
 use Rattle.tab_cells.specs.declared.compaction.Compaction.{Compaction}
-use Rattle.tab_tablet.specs.Tablets.{Tablet, written, frozen, compacted}
+use Rattle.tab_tablets.specs.Tablets.{Tablet, written, frozen, compacted}
 use Rattle.tab_tablets.specs.ByRow.{at_row, records_of_all}
 use Rattle.tab_tablets.specs.Splits.{splits, halves}
 use Rattle.tab_history.specs.Settings.{made_with}

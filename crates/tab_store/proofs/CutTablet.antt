@@ -6,10 +6,10 @@ use Rattle.std.specs.declared.cmp.Ordering.{Ordering}
 use Rattle.std.specs.declared.cmp.Ordering.TheVariants.{Less, Equal, Greater}
 use Rattle.tab_key.specs.Bytes.{bytes_cmp}
 use Rattle.tab_key.specs.Records.{Record}
-use Rattle.tab_version.specs.Sources.{records_of, clipped}
-use Rattle.tab_tablet.specs.Tablets.{Tablet, frozen}
-use Rattle.tab_tablet.specs.Splitting.{upper_at}
-use Rattle.tab_tablet.proofs.Cut.{clipped_records}
+use Rattle.tab_tablets.specs.Sources.{records_of, clipped}
+use Rattle.tab_tablets.specs.Tablets.{Tablet, frozen}
+use Rattle.tab_tablets.specs.Splitting.{upper_at}
+use Rattle.tab_tablets.proofs.Cut.{clipped_records}
 use Rattle.tab_history.specs.Held.{RefinesTable}
 use Rattle.tab_store.specs.Keeping.{TabletRefines, is_high, SplitsKeep}
 use Rattle.tab_store.proofs.ByRows.{here, rows_refine}

@@ -3,9 +3,9 @@ use Rattle.std.proofs.Common.{◌≡◌, ℕ, zero, suc, ◌<◌, List, [], ◌�
 use Rattle.std.specs.Prelude.{ℤ, filter, Some}
 use Rattle.tab_key.specs.Records.{Record}
 use Rattle.tab_key.specs.Sorted.{sorted, IsDistinct, IsIn}
-use Rattle.tab_tablet.specs.Tablets.{Tablet, records_in}
-use Rattle.tab_tablet.specs.Splitting.{middle_row, rows_in}
-use Rattle.tab_tablet.proofs.Parted.{some_is}
+use Rattle.tab_tablets.specs.Tablets.{Tablet, records_in}
+use Rattle.tab_tablets.specs.Splitting.{middle_row, rows_in}
+use Rattle.tab_tablets.proofs.Parted.{some_is}
 use Rattle.tab_tablets.specs.ByRow.{AreWhole, tablet_of, records_of_all, is_end}
 use Rattle.tab_tablets.specs.Places.{tablet_at}
 use Rattle.tab_tablets.proofs.EndRows.{has_place, tablet_at_place, end_at_place}

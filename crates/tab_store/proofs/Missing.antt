@@ -4,7 +4,7 @@ use Rattle.tab_key.specs.Records.{Record}
 use Rattle.tab_key.specs.declared.range.Bounds.{Bounds}
 use Rattle.tab_cells.specs.Cells.{Query, cells}
 use Rattle.tab_iter.specs.Stack.{query_of}
-use Rattle.tab_tablet.specs.Opened.{ShowsRowsOf}
+use Rattle.tab_tablets.specs.Opened.{ShowsRowsOf}
 
 -- no records show nothing, whatever is asked
 no_cells : (n : ℕ) (q : Query) → cells [] n q ≡ []

@@ -3,8 +3,8 @@ use Rattle.std.proofs.Common.{◌≡◌, ℕ, ◌≤◌, List, [], true, refl, s
 use Rattle.std.specs.Prelude.{ℤ, int_le, Option, Some, None}
 use Rattle.tab_key.specs.Records.{Record}
 use Rattle.tab_key.specs.Sorted.{sorted}
-use Rattle.tab_tablet.specs.Tablets.{Tablet}
-use Rattle.tab_tablet.proofs.Parted.{some_is}
+use Rattle.tab_tablets.specs.Tablets.{Tablet}
+use Rattle.tab_tablets.proofs.Parted.{some_is}
 use Rattle.tab_tablets.specs.ByRow.{records_of_all}
 use Rattle.tab_history.specs.Settings.{Settings}
 use Rattle.tab_history.specs.Readings.{settings_of, updates_of}

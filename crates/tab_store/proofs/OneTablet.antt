@@ -16,10 +16,10 @@ use Rattle.tab_cells.specs.Merged.{merged}
 use Rattle.tab_cells.specs.declared.compaction.Compaction.{Compaction}
 use Rattle.tab_cells.specs.declared.compaction.Compaction.TheVariants.{Minor, Partial, Full}
 use Rattle.tab_cells.proofs.Lists.{in_right}
-use Rattle.tab_version.specs.Sources.{Sources, records_of, count_of, left_by}
-use Rattle.tab_compact.specs.Merges.{Merge, output, inputs_of}
-use Rattle.tab_tablet.specs.Tablets.{Tablet, records_in, written, frozen, replaced, replaced_in, merged_by}
-use Rattle.tab_tablet.proofs.Moved.{distinct_left, distinct_apart, frozen_permuted, written_moved, output_beside, beside, replaced_permuted, parted}
+use Rattle.tab_tablets.specs.Sources.{Sources, records_of, count_of, left_by}
+use Rattle.tab_tablets.specs.Merges.{Merge, output, inputs_of}
+use Rattle.tab_tablets.specs.Tablets.{Tablet, records_in, written, frozen, replaced, replaced_in, merged_by}
+use Rattle.tab_tablets.proofs.Moved.{distinct_left, distinct_apart, frozen_permuted, written_moved, output_beside, beside, replaced_permuted, parted}
 use Rattle.tab_history.specs.Held.{RefinesTable}
 use Rattle.tab_history.proofs.HeldWrite.{le_itself_z}
 use Rattle.tab_history.proofs.Holds.{holds_members, holds_higher, holds_written}

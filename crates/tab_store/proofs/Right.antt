@@ -15,8 +15,8 @@ use Rattle.tab_mutation.specs.Mutations.{Mutation}
 use Rattle.tab_rules.specs.declared.constraint.Constraint.{Constraint}
 use Rattle.tab_policy.specs.declared.permission.Permission.{Permission}
 use Rattle.tab_policy.specs.declared.permission.Permission.TheVariants.{OfSystem, OfTable}
-use Rattle.tab_tablet.specs.Tablets.{Tablet, new_tablet}
-use Rattle.tab_tablet.proofs.Parted.{some_is}
+use Rattle.tab_tablets.specs.Tablets.{Tablet, new_tablet}
+use Rattle.tab_tablets.proofs.Parted.{some_is}
 use Rattle.tab_tablets.specs.ByRow.{records_of_all}
 use Rattle.tab_history.specs.Settings.{Settings, made_with}
 use Rattle.tab_history.specs.Bases.{Base}

@@ -11,8 +11,8 @@ use Rattle.tab_key.proofs.Sorting.{distinct_permuted}
 use Rattle.tab_cells.specs.Written.{timed, mutation_records}
 use Rattle.tab_cells.proofs.Lists.{in_append, in_left, in_right}
 use Rattle.tab_cells.proofs.Written.{distinct_new, records_seq}
-use Rattle.tab_tablet.specs.Tablets.{Tablet, records_in}
-use Rattle.tab_tablet.proofs.Gathered.{permuted_sorted}
+use Rattle.tab_tablets.specs.Tablets.{Tablet, records_in}
+use Rattle.tab_tablets.proofs.Gathered.{permuted_sorted}
 use Rattle.tab_history.specs.Held.{RefinesTable}
 use Rattle.tab_history.proofs.Held.{any_in, not_false}
 use Rattle.tab_history.proofs.HeldWrite.{covers, column_itself, le_itself_z, deleted_by, deleted_from}

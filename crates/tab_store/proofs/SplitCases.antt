@@ -2,9 +2,9 @@
 use Rattle.std.proofs.Common.{◌≡◌, ◌⊎◌, inl, inr, ℕ, List, Bool, true, false, cond, refl}
 use Rattle.std.specs.Prelude.{Option, Some, None, nat_lt}
 use Rattle.tab_key.specs.declared.part.Part.TheVariants.{Numbers}
-use Rattle.tab_version.specs.Sources.{size_of}
-use Rattle.tab_tablet.specs.Tablets.{Tablet}
-use Rattle.tab_tablet.specs.Splitting.{split_at, middle_row, rows_in}
+use Rattle.tab_tablets.specs.Sources.{size_of}
+use Rattle.tab_tablets.specs.Tablets.{Tablet}
+use Rattle.tab_tablets.specs.Splitting.{split_at, middle_row, rows_in}
 use Rattle.tab_tablets.specs.ByRow.{at_row, tablet_of, is_end}
 use Rattle.tab_tablets.specs.Splits.{is_full, split_in, splits, split_found, halved, halves}
 use Rattle.tab_tablets.specs.declared.split.Split.{Split}

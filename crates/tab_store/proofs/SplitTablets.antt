@@ -4,8 +4,8 @@ use Rattle.std.specs.Prelude.{ℤ, filter, Some}
 use mathlib.Core.Bool.{true≢false}
 use Rattle.tab_key.specs.Records.{Record}
 use Rattle.tab_cells.proofs.Lists.{by_bool, and_false, filter_seen}
-use Rattle.tab_tablet.specs.Tablets.{Tablet, is_up_to}
-use Rattle.tab_tablet.specs.Splitting.{lower_at, upper_at, split_at}
+use Rattle.tab_tablets.specs.Tablets.{Tablet, is_up_to}
+use Rattle.tab_tablets.specs.Splitting.{lower_at, upper_at, split_at}
 use Rattle.tab_tablets.specs.ByRow.{at_row}
 use Rattle.tab_tablets.proofs.EndRows.{lower_up}
 use Rattle.tab_tablets.proofs.Rows.{beyond}

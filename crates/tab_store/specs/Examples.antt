@@ -13,10 +13,10 @@ use Rattle.tab_policy.specs.declared.permission.TablePermission.TheVariants as t
 use Rattle.tab_cells.specs.Written.{records_of}
 use Rattle.tab_cells.specs.Cells.{matches, cells}
 use Rattle.tab_cells.specs.Merged.{is_first_marker, survives, merged}
-use Rattle.tab_table.specs.Sizes.{encoded_size}
-use Rattle.tab_version.specs.Sources.{Sorted, same_record, same_contents}
-use Rattle.tab_compact.specs.Plans.{plan}
-use Rattle.tab_tablet.specs.Tablets.{Tablet, new_tablet}
+use Rattle.tab_tablets.specs.Sizes.{encoded_size}
+use Rattle.tab_tablets.specs.Sources.{Sorted, same_record, same_contents}
+use Rattle.tab_tablets.specs.Plans.{plan}
+use Rattle.tab_tablets.specs.Tablets.{Tablet, new_tablet}
 use Rattle.tab_history.specs.Settings.{Settings, made_with}
 use Rattle.tab_history.specs.Bases.{new_policy}
 use Rattle.tab_history.specs.Answers.{Told}

@@ -4,8 +4,8 @@ use Rattle.tab_key.specs.Records.{Record}
 use Rattle.tab_key.specs.Sorted.{sorted, IsDistinct}
 use Rattle.tab_cells.specs.Written.{TimedUpdate, records_of, mutation_records}
 use Rattle.tab_cells.specs.declared.compaction.Compaction.{Compaction}
-use Rattle.tab_tablet.specs.Tablets.{Tablet, is_up_to, new_tablet, records_in, written, frozen, compacted}
-use Rattle.tab_tablet.specs.Splitting.{lower_at, upper_at, middle_row, rows_in}
+use Rattle.tab_tablets.specs.Tablets.{Tablet, is_up_to, new_tablet, records_in, written, frozen, compacted}
+use Rattle.tab_tablets.specs.Splitting.{lower_at, upper_at, middle_row, rows_in}
 use Rattle.tab_tablets.specs.ByRow.{AreWhole, tablet_of, records_of_all, LieApart, is_end}
 use Rattle.tab_history.specs.Settings.{Settings}
 use Rattle.tab_history.specs.Readings.{settings_of, updates_of}

@@ -5,3 +5,8 @@ pub mod Rightness
 pub mod Chains
 pub mod Examples
 pub mod Tables
+pub use Rattle.tab_tablets.specs.ByRow
+pub use Rattle.tab_tablets.specs.Splits
+pub use Rattle.tab_tablets.specs.Tablets
+pub use Rattle.tab_tablets.specs.declared.split.Split as SplitType
+pub use Rattle.tab_tablets.specs.declared.split.Split.TheVariants as SplitVariants

@@ -6,10 +6,10 @@ use Rattle.tab_mutation.specs.Mutations.{Mutation}
 use Rattle.tab_cells.specs.Written.{mutation_records}
 use Rattle.tab_cells.specs.declared.compaction.Compaction.{Compaction}
 use Rattle.tab_cells.specs.declared.compaction.Compaction.TheVariants.{Minor, Partial, Full}
-use Rattle.tab_version.specs.Sources.{left_by}
-use Rattle.tab_compact.specs.Merges.{Merge}
-use Rattle.tab_tablet.specs.Tablets.{Tablet, new_tablet, written, frozen, capture, compacted}
-use Rattle.tab_tablet.specs.Spared.{spared}
+use Rattle.tab_tablets.specs.Sources.{left_by}
+use Rattle.tab_tablets.specs.Merges.{Merge}
+use Rattle.tab_tablets.specs.Tablets.{Tablet, new_tablet, written, frozen, capture, compacted}
+use Rattle.tab_tablets.specs.Spared.{spared}
 use Rattle.tab_tablets.specs.ByRow.{at_row, ends_of}
 use Rattle.tab_tablets.specs.Splits.{splits, halves}
 use Rattle.tab_tablets.specs.declared.split.Split.{Split}

@@ -4,8 +4,8 @@ use Rattle.std.specs.List.Sorted.{IsStrictlySortedBy}
 use Rattle.tab_key.specs.Bytes.{bytes_cmp}
 use Rattle.tab_key.specs.Sorted.{sorted}
 use Rattle.tab_policy.specs.State.{State}
-use Rattle.tab_version.specs.Sources.{count_of}
-use Rattle.tab_tablet.specs.Tablets.{Tablet}
+use Rattle.tab_tablets.specs.Sources.{count_of}
+use Rattle.tab_tablets.specs.Tablets.{Tablet}
 use Rattle.tab_tablets.specs.ByRow.{records_of_all}
 use Rattle.tab_history.specs.Settings.{Settings}
 use Rattle.tab_history.specs.Bases.{BaseTable, Base}

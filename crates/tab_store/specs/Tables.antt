@@ -2,7 +2,7 @@
 use Rattle.std.specs.Prelude.{ℕ, List, [], ◌∷◌, Option, Some, None, cond, find, bytes_eq}
 use Rattle.std.specs.Option.{option_map}
 use Rattle.tab_rules.specs.declared.constraint.Constraint.{Constraint}
-use Rattle.tab_tablet.specs.Tablets.{Tablet, new_tablet}
+use Rattle.tab_tablets.specs.Tablets.{Tablet, new_tablet}
 use Rattle.tab_history.specs.Settings.{Settings, made_with}
 use Rattle.tab_history.specs.declared.event.TimeMode.{TimeMode}
 use Rattle.tab_store.specs.Stores.{HeldTable}

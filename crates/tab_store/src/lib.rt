@@ -37,5 +37,6 @@ pub use laws::{
     sound_tablets_lie_apart, splits_keep, stays_whole, steps_are_right, stores_are_sound,
     stores_stay, tablets_hold_all, tells_legally, work_keeps, work_stays_sound, writes_keep,
 };
+pub use tab_tablets::Split;
 pub use table::Table;
 pub use tables::Tables;

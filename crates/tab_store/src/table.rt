@@ -4,8 +4,8 @@ ghost use Rattle.tab_key.specs.Records.{Record as Fields};
 ghost use Rattle.tab_key.specs.Sorted.{sorted};
 ghost use Rattle.tab_mutation.specs.Shape.{shape_error};
 ghost use Rattle.tab_cells.specs.Written.{mutation_records};
-ghost use Rattle.tab_tablet.specs.Opened.{ShowsRowsOf};
-ghost use Rattle.tab_tablet.specs.Tablets.{written, frozen, compacted};
+ghost use Rattle.tab_tablets.specs.Opened.{ShowsRowsOf};
+ghost use Rattle.tab_tablets.specs.Tablets.{written, frozen, compacted};
 ghost use Rattle.tab_history.specs.Held.{floor_of};
 ghost use Rattle.tab_tablets.specs.ByRow.{at_row, records_of_all, LieApart, ends_of};
 ghost use Rattle.tab_tablets.specs.Splits.{splits, halves};
@@ -20,8 +20,7 @@ use tab_iter::NoMemory;
 use tab_key::{Bounds, ByteString, Items};
 use tab_mutation::Mutation;
 use tab_rules::ConstraintSet;
-use tab_tablets::{Split, Tablets};
-use tab_version::Version;
+use tab_tablets::{Split, Tablets, Version};
 
 /// What a table is set to, and its tablets.
 #[derive(Drop)]

@@ -7,8 +7,8 @@ ghost use Rattle.tab_key.specs.Sorted.{sorted};
 ghost use Rattle.tab_mutation.specs.Shape.{shape_error};
 ghost use Rattle.tab_cells.specs.Written.{mutation_records};
 ghost use Rattle.tab_policy.specs.Entries.{at_name, changed_at};
-ghost use Rattle.tab_tablet.specs.Opened.{ShowsRowsOf};
-ghost use Rattle.tab_tablet.specs.Tablets.{written, frozen, compacted};
+ghost use Rattle.tab_tablets.specs.Opened.{ShowsRowsOf};
+ghost use Rattle.tab_tablets.specs.Tablets.{written, frozen, compacted};
 ghost use Rattle.tab_history.specs.Held.{floor_of};
 ghost use Rattle.tab_tablets.specs.ByRow.{at_row, records_of_all, LieApart};
 ghost use Rattle.tab_tablets.specs.Splits.{splits, halves};
@@ -26,8 +26,7 @@ use tab_key::{Bounds, ByteString, Name};
 use tab_mutation::Mutation;
 use tab_policy::NameKey;
 use tab_rules::ConstraintSet;
-use tab_tablets::Split;
-use tab_version::Version;
+use tab_tablets::{Split, Version};
 
 /// The tables that there are, in the order of their names. A contract sees them as definitions have them, with their tablets.
 #[derive(Drop)]

@@ -1,11 +1,10 @@
 -- The records of a tablet, wherever they lie.
-use Rattle.std.proofs.Common.{◌≡◌, ℕ, ◌<◌, List, [], ◌∷◌, ◌++◌, Bool, true, false, cond, sym, ◌∙◌, ap, subst, append_assoc, ◌+◌, length, take, get_or, append-nil}
+use Rattle.std.proofs.Common.{◌≡◌, ℕ, ◌<◌, List, [], ◌∷◌, ◌++◌, Bool, sym, ◌∙◌, ap, subst, append_assoc, ◌+◌, length, take, get_or, append-nil}
 use Rattle.std.specs.Prelude.{filter, Contains, Result, Ok, Err, ⊤, OnOk, OnErr}
 use Rattle.std.specs.List.Sorted.{IsPermutation}
-use Rattle.std.proofs.lemmas.List.Sorted.{IsPermutation-refl, IsPermutation-sym, IsPermutation-trans, IsPermutation-middle, IsPermutation-cons, IsPermutation-append_comm, IsPermutation-append_left, IsPermutation-append_right, Contains-permutation}
-use Rattle.tab_key.specs.Order.{stands_before}
+use Rattle.std.proofs.lemmas.List.Sorted.{IsPermutation-sym, IsPermutation-trans, IsPermutation-append_comm, IsPermutation-append_left, IsPermutation-append_right, Contains-permutation}
 use Rattle.tab_key.specs.Records.{Record}
-use Rattle.tab_key.specs.Sorted.{inserted, sorted, IsDistinct}
+use Rattle.tab_key.specs.Sorted.{sorted, IsDistinct}
 use Rattle.tab_key.proofs.Rising.{in_from, in_to, in_sorted, sorted_in, rising_sorted, same_rising}
 use Rattle.tab_key.proofs.Sorting.{distinct_permuted}
 use Rattle.tab_cells.specs.Written.{TimedUpdate, records_of}
@@ -14,20 +13,9 @@ use Rattle.tab_cells.proofs.Lists.{filter_append}
 use Rattle.std.proofs.lemmas.List.{take_more}
 use Rattle.tab_cells.proofs.Written.{distinct_new}
 use Rattle.tab_cells.proofs.Rising.{contains_first, sorted_contains}
+pub use Rattle.tab_version.proofs.InOrder.{permuted_sorted}
 
 -- ---- sorting
-permuted_inserted : (x : Record) (xs : List Record) → IsPermutation (x ∷ xs) (inserted x xs)
-permuted_inserted x [] = IsPermutation-refl (x ∷ [])
-permuted_inserted x (y ∷ ys) = go (stands_before x y) (permuted_inserted x ys)
-  where
-    go : (v : Bool) → IsPermutation (x ∷ ys) (inserted x ys) → IsPermutation (x ∷ y ∷ ys) (cond v (x ∷ y ∷ ys) (y ∷ inserted x ys))
-    go true ih = IsPermutation-refl (x ∷ y ∷ ys)
-    go false ih = IsPermutation-trans (x ∷ y ∷ ys) (y ∷ x ∷ ys) (y ∷ inserted x ys) (IsPermutation-middle (x ∷ []) y ys) (IsPermutation-cons y (x ∷ ys) (inserted x ys) ih)
-
-pub permuted_sorted : (xs : List Record) → IsPermutation xs (sorted xs)
-permuted_sorted [] = IsPermutation-refl []
-permuted_sorted (x ∷ xs) = IsPermutation-trans (x ∷ xs) (x ∷ sorted xs) (inserted x (sorted xs)) (IsPermutation-cons x xs (sorted xs) (permuted_sorted xs)) (permuted_inserted x (sorted xs))
-
 -- the same records in another order are sorted to one list
 sorted_once : (xs ys : List Record) → IsDistinct xs → IsPermutation xs ys → sorted xs ≡ sorted ys
 sorted_once xs ys d p =

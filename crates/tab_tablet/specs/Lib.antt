@@ -4,3 +4,6 @@ pub mod Splitting
 pub mod Selecting
 pub mod Spared
 pub mod SplitExamples
+pub use Rattle.tab_compact.specs.Merges
+pub use Rattle.tab_compact.specs.Plans
+pub use Rattle.tab_compact.specs.Sizes

@@ -2,7 +2,7 @@ use Rattle.std.proofs.Common.{ap, ◌∙◌}
 use Rattle.tab_key.specs.Sorted.{sorted}
 use Rattle.tab_cells.specs.Cells.{cells}
 use Rattle.tab_history.specs.Answers.{query_of}
-use Rattle.tab_tablets.specs.ByRow.{records_of_all}
+use Rattle.tab_store.specs.ByRow.{records_of_all}
 use Rattle.tab_store.specs.Tables.{table_at, tablets_of}
 use Rattle.tab_core.proofs.Opening.{cells_listed}
 use Rattle.tab_core.proofs.scans.session_on.Goals as goal

@@ -1,4 +1,4 @@
-use Rattle.tab_tablet.proofs.Captures.{captures_leave}
+use Rattle.tab_tablets.proofs.Captures.{captures_leave}
 use Rattle.tab_store.proofs.laws.captures_are_there.Goals as goal
 
 pub returns : goal.returns

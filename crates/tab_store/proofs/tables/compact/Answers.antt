@@ -4,7 +4,7 @@ use Rattle.std.proofs.lemmas.Map.Steps.{set_value_same}
 use Rattle.std.proofs.lemmas.Result.{on_ok_weaker, on_err_weaker}
 use Rattle.tab_policy.specs.Entries.{at_name}
 use Rattle.tab_policy.proofs.EntryLemmas.{changed_is}
-use Rattle.tab_tablet.specs.Tablets.{compacted}
+use Rattle.tab_tablets.specs.Tablets.{compacted}
 use Rattle.tab_history.specs.Held.{floor_of}
 use Rattle.tab_store.specs.Tables.{TableState, with_tablets}
 use Rattle.tab_store.proofs.tables.compact.Goals as goal

@@ -5,8 +5,8 @@ use Rattle.std.proofs.lemmas.Result.{on_ok_weaker, on_err_weaker}
 use Rattle.tab_key.specs.Sorted.{sorted}
 use Rattle.tab_policy.specs.Entries.{at_name}
 use Rattle.tab_policy.proofs.EntryLemmas.{changed_is}
-use Rattle.tab_tablet.specs.Opened.{ShowsRowsOf}
-use Rattle.tab_tablet.specs.Tablets.{frozen}
+use Rattle.tab_tablets.specs.Opened.{ShowsRowsOf}
+use Rattle.tab_tablets.specs.Tablets.{frozen}
 use Rattle.tab_tablets.specs.ByRow.{records_of_all}
 use Rattle.tab_store.specs.Tables.{tablets_of, with_tablets}
 use Rattle.tab_store.proofs.Missing.{nothing_shown}

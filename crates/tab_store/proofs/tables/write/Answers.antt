@@ -5,7 +5,7 @@ use Rattle.std.proofs.lemmas.Result.{on_ok_weaker, on_err_weaker}
 use Rattle.tab_cells.specs.Written.{mutation_records}
 use Rattle.tab_policy.specs.Entries.{at_name}
 use Rattle.tab_policy.proofs.EntryLemmas.{changed_is}
-use Rattle.tab_tablet.specs.Tablets.{written}
+use Rattle.tab_tablets.specs.Tablets.{written}
 use Rattle.tab_tablets.specs.ByRow.{at_row, records_of_all}
 use Rattle.tab_store.specs.Tables.{tablets_of, with_tablets}
 use Rattle.tab_store.proofs.tables.write.Goals as goal

@@ -1,6 +1,6 @@
 use Rattle.std.proofs.Common.{◌≡◌, true, false, refl, rules}
 use Rattle.tab_mutation.specs.Shape.{is_too_long}
-use Rattle.tab_tablets.specs.Splits.{splits}
+use Rattle.tab_store.specs.Splits.{splits}
 use Rattle.tab_history.specs.declared.event.Act.TheVariants as act
 use Rattle.tab_store.specs.Stepping.{Splitting}
 use Rattle.tab_core.specs.Holding.{held}

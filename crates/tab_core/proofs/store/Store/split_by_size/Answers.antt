@@ -1,7 +1,7 @@
 use Rattle.std.proofs.Common.{◌≡◌, List, ℕ, true, false, refl, rules, subst}
 use Rattle.std.specs.Prelude.{IfOk}
 use Rattle.tab_mutation.specs.Shape.{is_too_long}
-use Rattle.tab_tablets.specs.Splits.{halves}
+use Rattle.tab_store.specs.Splits.{halves}
 use Rattle.tab_history.specs.declared.event.Act.TheVariants as act
 use Rattle.tab_store.specs.Stepping.{Halving}
 use Rattle.tab_core.specs.Holding.{held}

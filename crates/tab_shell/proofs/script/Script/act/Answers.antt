@@ -1,8 +1,8 @@
 use Rattle.std.proofs.Common.{◌≡◌, ℕ, List, Ok, sym, ap, ◌∙◌, subst}
 use Rattle.tab_history.specs.Answers.{Told, told_of}
 use Rattle.tab_history.specs.declared.event.Event.{Event}
-use Rattle.tab_store.specs.Stores.{Held, base_of}
-use Rattle.tab_store.specs.Stepping.{StepsExactly}
+use Rattle.tab_core.specs.Stores.{Held, base_of}
+use Rattle.tab_core.specs.Stepping.{StepsExactly}
 use Rattle.tab_core.specs.Stepping.{Steps}
 use Rattle.tab_core.proofs.Runs.{did_exactly}
 use Rattle.tab_io.specs.Writing.{Puts}

@@ -5,8 +5,8 @@ use Rattle.tab_history.specs.declared.event.Act.TheVariants.{Open}
 use Rattle.tab_history.specs.declared.event.Event.{Event}
 use Rattle.tab_history.specs.declared.reply.Reply.{Reply}
 use Rattle.tab_history.specs.declared.reply.Reply.TheVariants.{Opened}
-use Rattle.tab_store.specs.Stores.{Held, base_of}
-use Rattle.tab_store.specs.Stepping.{StepsExactly}
+use Rattle.tab_core.specs.Stores.{Held, base_of}
+use Rattle.tab_core.specs.Stepping.{StepsExactly}
 use Rattle.tab_core.specs.Stepping.{Steps}
 use Rattle.tab_core.proofs.Runs.{did_exactly}
 use Rattle.tab_lines.specs.declared.line.Line.TheVariants as line

@@ -2,7 +2,7 @@ use Rattle.std.proofs.Common.{◌≡◌, ℕ, List, ap, ◌∙◌, subst, rules,
 use Rattle.std.specs.Prelude.{map, OnOk}
 use Rattle.std.proofs.lemmas.Result.{on_ok_weaker, on_err_weaker}
 use Rattle.tab_policy.specs.Entries.{at_name, changed_at}
-use Rattle.tab_tablet.specs.Tablets.{compacted}
+use Rattle.tab_tablets.specs.Tablets.{compacted}
 use Rattle.tab_history.specs.Held.{floor_of}
 use Rattle.tab_store.specs.Tables.{TableState, named_table, with_tablets}
 use Rattle.tab_store.proofs.Named.{table_changed, count_kept, rises}

@@ -2,8 +2,8 @@ use Rattle.std.proofs.Common.{List, ap, sym, ◌∙◌, subst}
 use Rattle.std.specs.Prelude.{map, IfOk}
 use Rattle.std.proofs.lemmas.Result.{on_ok_weaker, on_err_weaker}
 use Rattle.tab_key.specs.Sorted.{sorted}
-use Rattle.tab_tablet.specs.Opened.{ShowsRowsOf}
-use Rattle.tab_tablet.specs.Tablets.{frozen}
+use Rattle.tab_tablets.specs.Opened.{ShowsRowsOf}
+use Rattle.tab_tablets.specs.Tablets.{frozen}
 use Rattle.tab_tablets.specs.ByRow.{records_of_all, LieApart}
 use Rattle.tab_store.specs.Stores.{HeldTable}
 use Rattle.tab_store.specs.Tables.{named_table, with_tablets, table_at, tablets_of}

@@ -3,7 +3,7 @@ use Rattle.std.specs.Prelude.{map, Contains, OnOk}
 use Rattle.std.proofs.lemmas.Result.{on_ok_weaker, on_err_weaker}
 use Rattle.tab_cells.specs.Written.{mutation_records}
 use Rattle.tab_policy.specs.Entries.{at_name, changed_at}
-use Rattle.tab_tablet.specs.Tablets.{written}
+use Rattle.tab_tablets.specs.Tablets.{written}
 use Rattle.tab_tablets.specs.ByRow.{at_row, records_of_all}
 use Rattle.tab_store.specs.Stores.{HeldTable}
 use Rattle.tab_store.specs.Tables.{TableState, named_table, with_tablets, table_at, tablets_of}
