@@ -38,7 +38,7 @@ permuted_inserted x (y ∷ ys) = go (stands_before x y) (permuted_inserted x ys)
     go true ih = IsPermutation-refl (x ∷ y ∷ ys)
     go false ih = IsPermutation-trans (x ∷ y ∷ ys) (y ∷ x ∷ ys) (y ∷ inserted x ys) (IsPermutation-middle (x ∷ []) y ys) (IsPermutation-cons y (x ∷ ys) (inserted x ys) ih)
 
-permuted_sorted : (xs : List Record) → IsPermutation xs (sorted xs)
+pub permuted_sorted : (xs : List Record) → IsPermutation xs (sorted xs)
 permuted_sorted [] = IsPermutation-refl []
 permuted_sorted (x ∷ xs) = IsPermutation-trans (x ∷ xs) (x ∷ sorted xs) (inserted x (sorted xs)) (IsPermutation-cons x xs (sorted xs) (permuted_sorted xs)) (permuted_inserted x (sorted xs))
 
