@@ -1,0 +1,193 @@
+"""Sees that wrong bodies are refused, many in one check. crates/NAME/must-fail/mutants.md lists those of a crate, one
+function each. Mutants of different functions are applied to one copy of the crate, and the prover is asked for these
+functions: each must be left unproved, and for what it ensures, not for a name that a proof no longer finds. What a copy
+of many doesn't show is tried alone."""
+import concurrent.futures
+import glob
+import os
+import re
+import shutil
+import subprocess
+import sys
+import tempfile
+import time
+
+TOP = os.path.dirname(os.path.dirname(os.path.abspath(__file__)))
+KIT = os.path.dirname(subprocess.run(["rt", "doc"], capture_output=True, text=True, check=True).stdout.strip())
+# An error of a proof that no longer finds a name: it says nothing of the contract.
+NAMES = re.compile(r"has no field|is not in scope|has no `|was not admitted")
+
+
+class Mutant:
+    """A wrong body: the function that must be refused, and the texts of one file that it replaces."""
+
+    def __init__(self, crate, name):
+        self.crate, self.name, self.function, self.file, self.pairs = crate, name, None, None, []
+
+    def spans(self, text):
+        """Returns where the texts that it replaces stand in the file's, and what comes there."""
+        for old, _ in self.pairs:
+            if text.count(old) != 1:
+                raise ValueError(f"{self}: the text is there {text.count(old)} times: {old}")
+        return [(text.index(old), text.index(old) + len(old), new) for old, new in self.pairs]
+
+    def __str__(self):
+        return f"{self.crate}/{self.name}"
+
+
+def folder(crate):
+    return f"{TOP}/crates/{crate}"
+
+
+def read(path):
+    with open(path, encoding="utf-8") as file:
+        return file.read()
+
+
+def dependencies():
+    """Returns what each crate names in crates.txt."""
+    rows = [line.partition(":") for line in read(f"{TOP}/crates.txt").splitlines() if ":" in line and line[0] != "#"]
+    return {name: named.split() for name, _, named in rows}
+
+
+def mutants_of(crate):
+    """Returns the mutants that the crate lists."""
+    found, old = [], None
+    path = f"{folder(crate)}/must-fail/mutants.md"
+    for line in read(path).splitlines() if os.path.exists(path) else []:
+        word, _, rest = line.strip().partition(": ") if line.startswith("    ") else line.partition(" ")
+        if word == "##":
+            found.append(Mutant(crate, rest))
+        elif word == "in":
+            found[-1].function = rest
+        elif word == "file":
+            found[-1].file = rest
+        elif word == "old":
+            old = line[len("    old: "):]
+        elif word == "new":
+            found[-1].pairs.append((old, line[len("    new: "):]))
+    return found
+
+
+def batches_of(mutants):
+    """Parts mutants into batches in which each function stands once."""
+    batches = []
+    for mutant in mutants:
+        fits = next((it for it in batches if all(other.function != mutant.function for other in it)), None)
+        if fits is None:
+            batches.append([mutant])
+        else:
+            fits.append(mutant)
+    return batches
+
+
+def words_of(crate, named):
+    """Returns the command that checks the crate over the libraries that are built."""
+    words = [f"{KIT}/bin/rattle", "check", "--crate-name", crate, "src/lib.rt", "--jobs", "1"]
+    words += ["--antt-project", f"{KIT}/rattle/logic/antt-project.json", "--logic-built", f"{KIT}/logic_built"]
+    for name in ["std", *named]:
+        built = f"{folder(name)}/out/rlib/{name}.rlib"
+        words += ["--extern", f"{name}={built if os.path.isdir(folder(name)) else f'{KIT}/rlibs/{name}.rlib'}"]
+    words += ["-L", f"dependency={KIT}/rlibs"]
+    for name in sorted(os.listdir(f"{TOP}/crates")):
+        if os.path.isdir(f"{folder(name)}/out/rlib"):
+            words += ["-L", f"dependency={folder(name)}/out/rlib"]
+    return words
+
+
+def check(batch, named, kept):
+    """Returns what the prover says of a copy of the crate with these mutants in it. What is the same in the next copy it keeps."""
+    crate = batch[0].crate
+    with tempfile.TemporaryDirectory() as room:
+        for part in ("src", "specs", "proofs"):
+            if os.path.isdir(f"{folder(crate)}/{part}"):
+                shutil.copytree(f"{folder(crate)}/{part}", f"{room}/{part}")
+        for path in {it.file for it in batch}:
+            text = read(f"{room}/{path}")
+            # from the last to the first, so that each stands where it stood
+            for start, end, new in sorted((it for mutant in batch if mutant.file == path for it in mutant.spans(text)), reverse=True):
+                text = text[:start] + new + text[end:]
+            with open(f"{room}/{path}", "w", encoding="utf-8") as file:
+                file.write(text)
+        words = [*words_of(crate, named), "--incremental", kept]
+        for mutant in batch:
+            words += ["--only", mutant.function]
+        ran = subprocess.run(words, cwd=room, stdin=subprocess.DEVNULL, stdout=subprocess.PIPE, stderr=subprocess.STDOUT,
+                             text=True, errors="replace", check=False)
+        return ran.stdout
+
+
+def refusal(mutant, said):
+    """Returns for what the mutant's function was refused, or None."""
+    verdict = re.search(rf"^fn {re.escape(mutant.crate)}::({re.escape(mutant.function)}): (.*)$", said, re.M)
+    if not verdict:
+        return None
+    if verdict[2].startswith("no proof: expected answers"):
+        return verdict[2].partition("; ")[2]
+    # (the folder of a function's proofs may have a + in front)
+    proofs = "/".join(rf"\+?{re.escape(it)}" for it in verdict[1].split("::"))
+    errors = re.findall(rf"^\./proofs/{proofs}/\S+ error: (.*)$", said, re.M)
+    return next((it for it in errors if not NAMES.search(it)), None)
+
+
+def tried(batch, named, kept):
+    """Returns of each mutant for what it was refused. One that a check of many doesn't show is tried alone."""
+    said = check(batch, named, kept)
+    found = {it: refusal(it, said) for it in batch}
+    missed = [it for it in batch if not found[it]]
+    if len(batch) == 1 or len(missed) == len(batch):
+        if missed:
+            print("\n".join(said.splitlines()[-40:]), flush=True)
+        return found
+    for mutant in missed:
+        found |= tried([mutant], named, kept)
+    return found
+
+
+def tried_all(mutants, named, log):
+    """Returns of each of a crate's mutants for what it was refused."""
+    found = {}
+    if log:
+        await_proved(mutants[0].crate, log)
+    with tempfile.TemporaryDirectory() as kept:
+        for batch in batches_of(mutants):
+            found |= tried(batch, named, kept)
+    return found
+
+
+def weight(mutants):
+    """Returns about how long the crate's mutants take: by how much there is to load and to check, and by how many they are."""
+    lines = sum(read(path).count("\n") for part in ("src", "proofs") for path in glob.glob(f"{folder(mutants[0].crate)}/{part}/**/*.*t*", recursive=True))
+    return lines + 200 * len(mutants)
+
+
+def await_proved(crate, log):
+    """Waits until the output of rt ci says that the crate is proved, or ends."""
+    said = f"rt: {crate} proved"
+    while True:
+        lines = read(log).splitlines()
+        if said in lines or lines and re.fullmatch(r"\d+ passed, \d+ failed", lines[-1]):
+            return
+        time.sleep(5)
+
+
+def main(crates, log):
+    named = dependencies()
+    listed = [it for it in map(mutants_of, crates or named) if it]
+    if not log:
+        # those that take longest first
+        listed.sort(key=weight, reverse=True)
+    passed = failed = 0
+    with concurrent.futures.ThreadPoolExecutor(len(os.sched_getaffinity(0))) as pool:
+        for found in pool.map(lambda mutants: tried_all(mutants, named[mutants[0].crate], log), listed):
+            for mutant, why in found.items():
+                print(f"{mutant}: {'refused: ' + why[:120] if why else 'NOT REFUSED for what it ensures'}")
+                passed, failed = passed + bool(why), failed + (not why)
+    print(f"{passed} passed, {failed} failed")
+    return 1 if failed else 0
+
+
+if __name__ == "__main__":
+    words = sys.argv[1:]
+    behind = words[:1] == ["--behind"]
+    sys.exit(main(words[2:] if behind else words, words[1] if behind else None))
