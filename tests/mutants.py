@@ -4,6 +4,7 @@ functions: each must be left unproved, and for what it ensures, not for a name t
 of many doesn't show is tried alone."""
 import concurrent.futures
 import glob
+import math
 import os
 import re
 import shutil
@@ -14,6 +15,8 @@ import time
 
 TOP = os.path.dirname(os.path.dirname(os.path.abspath(__file__)))
 KIT = os.path.dirname(subprocess.run(["rt", "doc"], capture_output=True, text=True, check=True).stdout.strip())
+# How many mutants of a crate are tried by one worker at most, so that those of a large crate go side by side.
+MOST = 12
 # An error of a proof that no longer finds a name: it says nothing of the contract.
 NAMES = re.compile(r"has no field|is not in scope|has no `|was not admitted")
 
@@ -144,8 +147,14 @@ def tried(batch, named, kept):
     return found
 
 
+def parts_of(mutants):
+    """Parts mutants into as few parts as MOST allows, of about the same size."""
+    size = math.ceil(len(mutants) / max(1, math.ceil(len(mutants) / MOST)))
+    return [mutants[at:at + size] for at in range(0, len(mutants), size)] if mutants else []
+
+
 def tried_all(mutants, named, log):
-    """Returns of each of a crate's mutants for what it was refused."""
+    """Returns of each of some mutants of a crate for what it was refused."""
     found = {}
     if log:
         await_proved(mutants[0].crate, log)
@@ -156,7 +165,7 @@ def tried_all(mutants, named, log):
 
 
 def weight(mutants):
-    """Returns about how long the crate's mutants take: by how much there is to load and to check, and by how many they are."""
+    """Returns about how long mutants of a crate take: by how much there is to load and to check, and by how many they are."""
     lines = sum(read(path).count("\n") for part in ("src", "proofs") for path in glob.glob(f"{folder(mutants[0].crate)}/{part}/**/*.*t*", recursive=True))
     return lines + 200 * len(mutants)
 
@@ -173,7 +182,7 @@ def await_proved(crate, log):
 
 def main(crates, log):
     named = dependencies()
-    listed = [it for it in map(mutants_of, crates or named) if it]
+    listed = [part for crate in crates or named for part in parts_of(mutants_of(crate))]
     if not log:
         # those that take longest first
         listed.sort(key=weight, reverse=True)
