@@ -153,11 +153,9 @@ def parts_of(mutants):
     return [mutants[at:at + size] for at in range(0, len(mutants), size)] if mutants else []
 
 
-def tried_all(mutants, named, log):
+def tried_all(mutants, named):
     """Returns of each of some mutants of a crate for what it was refused."""
     found = {}
-    if log:
-        await_proved(mutants[0].crate, log)
     with tempfile.TemporaryDirectory() as kept:
         for batch in batches_of(mutants):
             found |= tried(batch, named, kept)
@@ -170,26 +168,29 @@ def weight(mutants):
     return lines + 200 * len(mutants)
 
 
-def await_proved(crate, log):
-    """Waits until the output of rt ci says that the crate is proved, or ends."""
-    said = f"rt: {crate} proved"
-    while True:
-        lines = read(log).splitlines()
-        if said in lines or lines and re.fullmatch(r"\d+ passed, \d+ failed", lines[-1]):
-            return
-        time.sleep(5)
+def are_ready(parts, log):
+    """Returns those of the parts that can be tried: all, or those whose crate is proved by the output of rt ci that grows there."""
+    lines = read(log).splitlines() if log else []
+    if not log or lines and re.fullmatch(r"\d+ passed, \d+ failed", lines[-1]):
+        return parts
+    return [it for it in parts if f"rt: {it[0].crate} proved" in lines]
 
 
 def main(crates, log):
     named = dependencies()
-    listed = [part for crate in crates or named for part in parts_of(mutants_of(crate))]
-    if not log:
-        # those that take longest first
-        listed.sort(key=weight, reverse=True)
+    left = [part for crate in crates or named for part in parts_of(mutants_of(crate))]
+    # those that take longest first
+    left.sort(key=weight, reverse=True)
     passed = failed = 0
     with concurrent.futures.ThreadPoolExecutor(len(os.sched_getaffinity(0))) as pool:
-        for found in pool.map(lambda mutants: tried_all(mutants, named[mutants[0].crate], log), listed):
-            for mutant, why in found.items():
+        begun = []
+        while left:
+            ready = are_ready(left, log)
+            begun += [pool.submit(tried_all, part, named[part[0].crate]) for part in ready]
+            left = [it for it in left if it not in ready]
+            time.sleep(5 if left else 0)
+        for one in begun:
+            for mutant, why in one.result().items():
                 print(f"{mutant}: {'refused: ' + why[:120] if why else 'NOT REFUSED for what it ensures'}")
                 passed, failed = passed + bool(why), failed + (not why)
     print(f"{passed} passed, {failed} failed")
