@@ -42,6 +42,10 @@ def folder(crate):
     return f"{TOP}/crates/{crate}"
 
 
+def library(crate):
+    return f"{folder(crate)}/out/rlib/{crate}.rlib"
+
+
 def read(path):
     with open(path, encoding="utf-8") as file:
         return file.read()
@@ -89,8 +93,7 @@ def words_of(crate, named):
     words = [f"{KIT}/bin/rattle", "check", "--crate-name", crate, "src/lib.rt", "--jobs", "1"]
     words += ["--antt-project", f"{KIT}/rattle/logic/antt-project.json", "--logic-built", f"{KIT}/logic_built"]
     for name in ["std", *named]:
-        built = f"{folder(name)}/out/rlib/{name}.rlib"
-        words += ["--extern", f"{name}={built if os.path.isdir(folder(name)) else f'{KIT}/rlibs/{name}.rlib'}"]
+        words += ["--extern", f"{name}={library(name) if os.path.isdir(folder(name)) else f'{KIT}/rlibs/{name}.rlib'}"]
     words += ["-L", f"dependency={KIT}/rlibs"]
     for name in sorted(os.listdir(f"{TOP}/crates")):
         if os.path.isdir(f"{folder(name)}/out/rlib"):
@@ -179,6 +182,9 @@ def are_ready(parts, log):
 def main(crates, log):
     named = dependencies()
     left = [part for crate in crates or named for part in parts_of(mutants_of(crate))]
+    lacking = {it for part in left for it in named[part[0].crate] if os.path.isdir(folder(it)) and not os.path.isdir(library(it))}
+    if lacking and not log:
+        sys.exit(f"mutants: {', '.join(sorted(lacking))}: not built yet (./tabd builds them)")
     # those that take longest first
     left.sort(key=weight, reverse=True)
     passed = failed = 0
