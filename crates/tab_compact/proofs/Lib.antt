@@ -2,4 +2,3 @@
 pub mod Plans
 pub mod Inputs
 pub mod BySize
-pub mod ShortParts

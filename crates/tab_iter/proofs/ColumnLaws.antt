@@ -19,7 +19,7 @@ use Rattle.tab_key.specs.declared.key.Kind.TheVariants.{Delete, Put}
 use Rattle.tab_key.specs.Sorted.{IsIn}
 use Rattle.tab_key.proofs.Ties.{same_column-cmp}
 use Rattle.tab_cells.proofs.Lists.{by_bool}
-use Rattle.tab_iter.specs.Lists.{IsRising, IsEnd, BeginsColumn}
+use Rattle.tab_iter.specs.Lists.{latest, IsRising, IsEnd, BeginsColumn}
 use Rattle.tab_key.specs.Kept.{is_put, same_column, hides, is_deleted}
 use Rattle.tab_cells.specs.Merged.{is_first_marker}
 use Rattle.tab_iter.specs.Layers.{is_left, is_newer, is_among, is_needed}
@@ -126,23 +126,25 @@ or_false true = refl
 or_false false = refl
 
 -- a column remembered before reaches the later record through the one between
-reaches : (column : Option Record) (r u : Record) → is_upto column r.key → record_cmp r u ≡ Less → is_of column u.key ≡ true → same_column r.key u.key ≡ true
+reaches : (column : Option Key) (r u : Record) → is_upto column r.key → record_cmp r u ≡ Less → is_of column u.key ≡ true → same_column r.key u.key ≡ true
 reaches None r u a e h = absurd (true≢false (sym h))
-reaches (Some c) r u a e h = between c.key r.key u.key a (column_upto r u e) h
+reaches (Some c) r u a e h = between c r.key u.key a (column_upto r u e) h
 
 -- no record from a record on stands before it
 from_first : (r : Record) (rs : List Record) → IsRising (r ∷ rs) → (x : Record) → (r ≡ x) ⊎ IsIn rs x → is_lt (record_cmp x r) ≡ false
 from_first r rs up x (inl e) = subst (λ (y : Record). is_lt (record_cmp y r) ≡ false) e (ap is_lt (tied_itself record_cmp_total r))
 from_first r rs up x (inr h) = rw (record_cmp_total.antisymm x r, first_less r rs up x h) refl
 
-pub column_of_copy : (copy : Record) (key : Key) → copy.key ≡ key → IsColumnOf (Some copy) key
-column_of_copy copy key e = record { same = λ k. ap (λ j. same_column j k) e; upto = λ k u. ap (λ j. is_gt (column_cmp j k)) e ∙ u }
+-- a column with the parts of the key
+pub column_of_parts : (column parts key : Key) → column ≡ record parts { timestamp = latest } → parts ≡ key → IsColumnOf (Some column) key
+unfolding same_column column_cmp
+column_of_parts column parts key e same = subst (λ k. IsColumnOf (Some column) k) same (subst (λ c. IsColumnOf (Some c) parts) (sym e) (record { same = λ k. refl; upto = λ k u. u }))
 
-pub column_of_same : (column : Option Record) (key : Key) → is_of column key ≡ true → IsColumnOf column key
+pub column_of_same : (column : Option Key) (key : Key) → is_of column key ≡ true → IsColumnOf column key
 column_of_same None key e = absurd (true≢false (sym e))
 column_of_same (Some c) key e = record {
-  same = λ k. same_congr c.key key k e;
-  upto = λ k u. ap is_gt (column_cmp_total.congr c.key key k (same_equal c.key key e)) ∙ u;
+  same = λ k. same_congr c key k e;
+  upto = λ k u. ap is_gt (column_cmp_total.congr c key k (same_equal c key e)) ∙ u;
 }
 
 -- what a put tells of none, and a marker of those of its column behind it, and of no later column's
@@ -160,13 +162,13 @@ module _ (tells : Record → Record → Bool) (is : IsTold tells) where
     ahead = λ u h. tt;
   }
 
-  pub passes_put : (column : Option Record) (w : List Record) (r : Record) (rs : List Record) → is_put r.kind ≡ true → KnowsTold tells column w (r ∷ rs) → KnowsTold tells column w rs
+  pub passes_put : (column : Option Key) (w : List Record) (r : Record) (rs : List Record) → is_put r.kind ≡ true → KnowsTold tells column w (r ∷ rs) → KnowsTold tells column w rs
   passes_put column w r rs p t = record {
     told = λ u h. t.told u (inr h) ∙ ap (λ v. is_of column u.key || (v || list_any (λ m. tells m u) rs)) (is.put r u p);
     ahead = λ u h. t.ahead u (inr h);
   }
 
-  pub passes_marker : (column after : Option Record) (w : List Record) (r : Record) (rs : List Record) → IsRising w → IsEnd (r ∷ rs) w → is_put r.kind ≡ false → IsColumnOf after r.key → KnowsTold tells column w (r ∷ rs) → KnowsTold tells after w rs
+  pub passes_marker : (column after : Option Key) (w : List Record) (r : Record) (rs : List Record) → IsRising w → IsEnd (r ∷ rs) w → is_put r.kind ≡ false → IsColumnOf after r.key → KnowsTold tells column w (r ∷ rs) → KnowsTold tells after w rs
   passes_marker column after w r rs up end p now t = record {
     told = λ u h.
         let less = first_less r rs (rising_end (r ∷ rs) w end up) u h in
@@ -196,7 +198,7 @@ hiding = record { put = put_spares; other = other_spares; after = hides_after }
 none_from : (r : Record) (rs : List Record) → IsRising (r ∷ rs) → is_put r.kind ≡ true → list_any (λ m. hides m r) (r ∷ rs) ≡ false
 none_from r rs up p = ap (λ v. v || list_any (λ m. hides m r) rs) (put_spares r r p) ∙ any_none (λ m. hides m r) rs (λ x h. later_spares r x (first_less r rs up x h) p)
 
-pub put_left : (keeps : Bool) (column : Option Record) (w : List Record) (r : Record) (rs : List Record) → IsRising w → IsEnd (r ∷ rs) w → is_put r.kind ≡ true → KnowsDeleted column w (r ∷ rs) → not (is_of column r.key) ≡ is_left keeps w r
+pub put_left : (keeps : Bool) (column : Option Key) (w : List Record) (r : Record) (rs : List Record) → IsRising w → IsEnd (r ∷ rs) w → is_put r.kind ≡ true → KnowsDeleted column w (r ∷ rs) → not (is_of column r.key) ≡ is_left keeps w r
 unfolding is_left is_deleted
 put_left keeps column w r rs up end p t =
     let e : list_any (λ m. hides m r) w ≡ is_of column r.key = t.told r (inl refl) ∙ ap (λ v. is_of column r.key || v) (none_from r rs (rising_end (r ∷ rs) w end up) p) ∙ or_false (is_of column r.key) in
@@ -242,7 +244,7 @@ pub put_needed : (full : Bool) (floor : ℤ) (w : List Record) (r : Record) → 
 unfolding is_needed
 put_needed full floor w r p = rw p refl
 
-pub marker_needed : (full : Bool) (floor : ℤ) (column : Option Record) (w : List Record) (r : Record) (rs : List Record) → IsRising w → IsEnd (r ∷ rs) w → is_put r.kind ≡ false → KnowsLed column w (r ∷ rs)
+pub marker_needed : (full : Bool) (floor : ℤ) (column : Option Key) (w : List Record) (r : Record) (rs : List Record) → IsRising w → IsEnd (r ∷ rs) w → is_put r.kind ≡ false → KnowsLed column w (r ∷ rs)
     → (not (is_of column r.key) && not (full && int_lt r.key.timestamp floor)) ≡ is_needed full floor w r
 unfolding is_needed is_first_marker
 marker_needed full floor column w r rs up end p t =
@@ -295,7 +297,7 @@ starts_count n left w rs b = record {
 below_from : (n a l : ℕ) → n - a ≡ l - 0 → nat_lt 0 l ≡ nat_lt a n
 below_from n a l e = grind (arith, nat_tests)
 
-pub put_among : (keeps : Bool) (n left : ℕ) (column : Option Record) (w : List Record) (r : Record) (rs : List Record) → IsRising w → IsEnd (r ∷ rs) w → is_put r.kind ≡ true → KnowsCount n column left w (r ∷ rs) → nat_lt 0 (left_of n column left r.key) ≡ is_among keeps n w r
+pub put_among : (keeps : Bool) (n left : ℕ) (column : Option Key) (w : List Record) (r : Record) (rs : List Record) → IsRising w → IsEnd (r ∷ rs) w → is_put r.kind ≡ true → KnowsCount n column left w (r ∷ rs) → nat_lt 0 (left_of n column left r.key) ≡ is_among keeps n w r
 unfolding is_among
 put_among keeps n left column w r rs up end p t =
     rw p (below_from n (length (filter (is_newer r) w)) (left_of n column left r.key) (t.counted r (inl refl) ∙ ap (λ l. left_of n column left r.key - length l) (none_newer r rs (rising_end (r ∷ rs) w end up))))
@@ -304,7 +306,7 @@ pub marker_among : (keeps : Bool) (n : ℕ) (w : List Record) (r : Record) → i
 unfolding is_among
 marker_among keeps n w r p = rw p refl
 
-pub counts_marker : (n left : ℕ) (column : Option Record) (w : List Record) (r : Record) (rs : List Record) → IsRising w → IsEnd (r ∷ rs) w → is_put r.kind ≡ false → KnowsCount n column left w (r ∷ rs) → KnowsCount n column left w rs
+pub counts_marker : (n left : ℕ) (column : Option Key) (w : List Record) (r : Record) (rs : List Record) → IsRising w → IsEnd (r ∷ rs) w → is_put r.kind ≡ false → KnowsCount n column left w (r ∷ rs) → KnowsCount n column left w rs
 counts_marker n left column w r rs up end p t = record {
   counted = λ u h. t.counted u (inr h) ∙ ap (λ v. left_of n column left u.key - length (cond v (r ∷ filter (is_newer u) rs) (filter (is_newer u) rs))) (newer_no u r p);
   ahead = λ u h. t.ahead u (inr h);
@@ -313,7 +315,7 @@ counts_marker n left column w r rs up end p t = record {
 one_less : (l : ℕ) (r : Record) (xs : List Record) → l - length (r ∷ xs) ≡ (l - 1) - length xs
 one_less l r xs = omega arith
 
-pub counts_put : (n left : ℕ) (column after : Option Record) (w : List Record) (r : Record) (rs : List Record) → IsRising w → IsEnd (r ∷ rs) w → is_put r.kind ≡ true → IsColumnOf after r.key → KnowsCount n column left w (r ∷ rs) → KnowsCount n after (left_of n column left r.key - 1) w rs
+pub counts_put : (n left : ℕ) (column after : Option Key) (w : List Record) (r : Record) (rs : List Record) → IsRising w → IsEnd (r ∷ rs) w → is_put r.kind ≡ true → IsColumnOf after r.key → KnowsCount n column left w (r ∷ rs) → KnowsCount n after (left_of n column left r.key - 1) w rs
 counts_put n left column after w r rs up end p now t = record {
   counted = λ u h. t.counted u (inr h) ∙ by_bool (same_column r.key u.key) (here u h) (beyond u h);
   ahead = λ u h. now.upto u.key (column_upto r u (less u h));
@@ -322,12 +324,12 @@ counts_put n left column after w r rs up end p now t = record {
     less : (u : Record) → IsIn rs u → record_cmp r u ≡ Less
     less = first_less r rs (rising_end (r ∷ rs) w end up)
 
-    is_of_same : (column : Option Record) (u : Record) → is_upto column r.key → IsIn rs u → same_column r.key u.key ≡ true → is_of column u.key ≡ is_of column r.key
+    is_of_same : (column : Option Key) (u : Record) → is_upto column r.key → IsIn rs u → same_column r.key u.key ≡ true → is_of column u.key ≡ is_of column r.key
     is_of_same None u a h s = refl
-    is_of_same (Some c) u a h s = by_bool (same_column c.key r.key)
-        (λ e. same_congr c.key r.key u.key e ∙ s ∙ sym e)
-        (λ e. by_bool (same_column c.key u.key)
-        (λ f. absurd (true≢false (sym (same_back r.key c.key (same_congr r.key u.key c.key s ∙ same_back c.key u.key f)) ∙ e)))
+    is_of_same (Some c) u a h s = by_bool (same_column c r.key)
+        (λ e. same_congr c r.key u.key e ∙ s ∙ sym e)
+        (λ e. by_bool (same_column c u.key)
+        (λ f. absurd (true≢false (sym (same_back r.key c (same_congr r.key u.key c s ∙ same_back c u.key f)) ∙ e)))
         (λ f. f ∙ sym e))
 
     here : (u : Record) → IsIn rs u → same_column r.key u.key ≡ true → left_of n column left u.key - length (filter (is_newer u) (r ∷ rs)) ≡ left_of n after (left_of n column left r.key - 1) u.key - length (filter (is_newer u) rs)

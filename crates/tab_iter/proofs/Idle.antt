@@ -4,7 +4,7 @@ use Rattle.std.specs.Prelude.{Option, filter, nat_lt}
 use Rattle.std.specs.declared.cmp.Ordering.TheVariants.{Less}
 use Rattle.std.proofs.lemmas.Bool.Decides.{nat_tests}
 use Rattle.tab_key.specs.Order.{column_cmp}
-use Rattle.tab_key.specs.Records.{Record}
+use Rattle.tab_key.specs.Records.{Key, Record}
 use Rattle.tab_key.specs.Kept.{is_put, is_deleted}
 use Rattle.tab_key.specs.Sorted.{IsIn}
 use Rattle.tab_iter.specs.Lists.{IsRising, IsEnd}
@@ -14,7 +14,7 @@ use Rattle.tab_iter.proofs.ListLaws.{first_less, column_upto, rising_end}
 use Rattle.tab_iter.proofs.NextColumns.{next_between}
 
 -- what stands behind a record and before the column next after its own is of its column
-module _ (column : Option Record) (w : List Record) (held : Record) (rs : List Record) (up : IsRising w) (end : IsEnd (held ∷ rs) w) (of : is_of column held.key ≡ true) where
+module _ (column : Option Key) (w : List Record) (held : Record) (rs : List Record) (up : IsRising w) (end : IsEnd (held ∷ rs) w) (of : is_of column held.key ≡ true) where
   still : (u : Record) → IsIn rs u → column_cmp u.key (next_of column) ≡ Less → is_of column u.key ≡ true
   still u h e = next_between column held.key u.key of (column_upto held u (first_less held rs (rising_end (held ∷ rs) w end up) u h)) e
 

@@ -73,10 +73,10 @@ column_between a u g e = equal_same a u (go (prefix_cmp a u) refl g e)
     go Greater s g e = absurd (true≢false g)
 
 -- the column next after the one that is remembered
-pub next_ahead : (column : Option Record) (held : Key) → is_of column held ≡ true → column_cmp held (next_of column) ≡ Less
+pub next_ahead : (column : Option Key) (held : Key) → is_of column held ≡ true → column_cmp held (next_of column) ≡ Less
 next_ahead None held s = absurd (true≢false (sym s))
-next_ahead (Some c) held s = sym (column_cmp_total.congr c.key held (next_column c.key) (same_equal c.key held s)) ∙ column_ahead c.key
+next_ahead (Some c) held s = sym (column_cmp_total.congr c held (next_column c) (same_equal c held s)) ∙ column_ahead c
 
-pub next_between : (column : Option Record) (held u : Key) → is_of column held ≡ true → is_gt (column_cmp held u) ≡ false → column_cmp u (next_of column) ≡ Less → is_of column u ≡ true
+pub next_between : (column : Option Key) (held u : Key) → is_of column held ≡ true → is_gt (column_cmp held u) ≡ false → column_cmp u (next_of column) ≡ Less → is_of column u ≡ true
 next_between None held u s g e = absurd (true≢false (sym s))
-next_between (Some c) held u s g e = column_between c.key u (ap is_gt (column_cmp_total.congr c.key held u (same_equal c.key held s)) ∙ g) e
+next_between (Some c) held u s g e = column_between c u (ap is_gt (column_cmp_total.congr c held u (same_equal c held s)) ∙ g) e

@@ -1,16 +1,32 @@
 -- A remembered column in a body of bytes.
-use Rattle.std.specs.Prelude.{◌≡◌, ℕ, List, [], ◌∷◌, Option, Some, None}
+use Rattle.std.specs.Prelude.{◌≡◌, ℕ, ◌≤◌, List, [], ◌∷◌, Option, Some, None, drop}
 use Rattle.std.specs.List.{slice_range}
-use Rattle.tab_key.specs.Records.{Record}
-use Rattle.tab_key.specs.RecordSpans.{record_in, IsWithin}
-use Rattle.tab_key.specs.declared.record_span.RecordSpan.{RecordSpan}
+use Rattle.tab_key.specs.Records.{Key}
+use Rattle.tab_iter.specs.Lists.{latest}
+use Rattle.tab_iter.specs.declared.last_column.ColumnEnds.{ColumnEnds}
 
--- a record of the column, if there is one
-abbrev pub column_in : List ℕ → Option RecordSpan → Option Record
+-- the column whose parts lie one after another from the beginning of the body
+abbrev pub parts_in : List ℕ → ColumnEnds → Key
+parts_in body e = record {
+  row = slice_range body 0 e.row;
+  family = slice_range body e.row e.family;
+  qualifier = slice_range body e.family e.qualifier;
+  label = slice_range body e.qualifier e.label;
+  timestamp = latest;
+}
+
+-- .. if there is one
+abbrev pub column_in : List ℕ → Option ColumnEnds → Option Key
 column_in body None = None
-column_in body (Some p) = Some (record_in body p)
+column_in body (Some e) = Some (parts_in body e)
 
--- its parts lie in the body, and its value is the zero byte that makes the next column's label
-abbrev pub IsPlaced : List ℕ → Option RecordSpan → Type 0
+-- the parts lie in the body, and behind them stands just the zero byte that makes the next column's label
+pub record AreEnds (body : List ℕ) (e : ColumnEnds) : Type 0 where
+  pub row : e.row ≤ e.family
+  pub family : e.family ≤ e.qualifier
+  pub qualifier : e.qualifier ≤ e.label
+  pub behind : drop e.label body ≡ 0 ∷ []
+
+abbrev pub IsPlaced : List ℕ → Option ColumnEnds → Type 0
 IsPlaced body None = Unit {0}
-IsPlaced body (Some p) = IsWithin body p × (slice_range body p.label_end p.end ≡ 0 ∷ [])
+IsPlaced body (Some e) = AreEnds body e

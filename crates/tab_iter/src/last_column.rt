@@ -1,35 +1,49 @@
 //! One remembered column.
-ghost use Rattle.std.specs.Prelude.{◌≡◌, None, Some, IfOk, OnOk};
+ghost use Rattle.std.specs.Prelude.{◌≡◌, ◌++◌, ◌∷◌, [], None, Some, IfOk, OnOk};
 ghost use Rattle.tab_key.specs.KeyOf.{key_of};
-ghost use Rattle.tab_key.specs.RecordSpans.{record_in};
+ghost use Rattle.tab_key.specs.Kept.{same_column};
 ghost use Rattle.tab_iter.specs.Columns.{is_of, next_column, next_of, IsColumnOf};
-ghost use Rattle.tab_iter.specs.LastColumn.{IsPlaced};
+ghost use Rattle.tab_iter.specs.LastColumn.{parts_in, column_in, IsPlaced, AreEnds};
+ghost use Rattle.tab_iter.specs.Lists.{latest};
 
 use crate::NoMemory;
 use crate::rule::nowhere;
-use std::alloc::Global;
+use std::alloc::{AllocError, Global};
 use std::marker::Model;
-use tab_key::{Key, RecordRef, RecordSpan, append};
+use tab_key::{Key, RecordRef};
+
+/// Where the parts of a column end that lie one after another from the beginning of a body.
+#[derive(Clone, Copy)]
+pub struct ColumnEnds {
+    /// Where the row ends.
+    pub row: usize,
+    /// Where the column family ends.
+    pub family: usize,
+    /// Where the column qualifier ends.
+    pub qualifier: usize,
+    /// Where the label ends.
+    pub label: usize,
+}
 
 /// A column, or none. The columns remembered one after another take the same memory.
 #[derive(Drop)]
 pub struct LastColumn {
     // the column's parts, and a zero byte behind its label: with that it is the next column
     body: Vec<u8>,
-    place: Option<RecordSpan>,
+    ends: Option<ColumnEnds>,
 }
 
 impl Model for LastColumn {
     ghost use Rattle.std.specs.Prelude.{Option};
-    ghost use Rattle.tab_key.specs.Records.{Record as Fields};
+    ghost use Rattle.tab_key.specs.Records.{Key as Fields};
 
     ghost Value = { Option Fields };
 
     ghost use Rattle.tab_iter.specs.LastColumn.{column_in, IsPlaced};
 
-    ghost view = { λ c. column_in c.body.items c.place };
+    ghost view = { λ c. column_in c.body.items c.ends };
 
-    ghost invariant = { λ c. IsPlaced c.body.items c.place };
+    ghost invariant = { λ c. IsPlaced c.body.items c.ends };
 }
 
 impl LastColumn {
@@ -39,7 +53,7 @@ impl LastColumn {
     {
         LastColumn {
             body: Vec::new(alloc),
-            place: None,
+            ends: None,
         }
     }
 
@@ -47,9 +61,9 @@ impl LastColumn {
     pub fn is_of(&self, next: &RecordRef<'_>) -> bool
         ensures { result ≡ is_of self.now next.now.key }
     {
-        match &self.place {
+        match &self.ends {
             None => false,
-            Some(place) => RecordRef::at(self.body.as_slice(), place).same_column(next),
+            Some(ends) => is_column(column_at(self.body.as_slice(), ends), next),
         }
     }
 
@@ -57,9 +71,9 @@ impl LastColumn {
     pub fn next(&self) -> Key<'_>
         ensures { key_of result ≡ next_of self.now }
     {
-        match &self.place {
+        match &self.ends {
             None => nowhere(),
-            Some(place) => next_at(self.body.as_slice(), place),
+            Some(ends) => next_at(self.body.as_slice(), ends),
         }
     }
 
@@ -67,10 +81,10 @@ impl LastColumn {
     pub fn forget(&mut self)
         ensures { self.new ≡ None }
     {
-        self.place = None;
+        self.ends = None;
     }
 
-    /// Makes this the column of the record, and answers whether it was. It copies the record's key only where it wasn't.
+    /// Makes this the column of the record, and answers whether it was. It copies the record's column only where it wasn't.
     pub fn remember(&mut self, next: &RecordRef<'_>) -> Result<bool, NoMemory>
         ensures same { IfOk result (λ b. b ≡ is_of self.old next.now.key) }
         ensures column { OnOk result (IsColumnOf self.new next.now.key) }
@@ -78,22 +92,70 @@ impl LastColumn {
         if self.is_of(next) {
             return Ok(true);
         }
-        self.place = None;
+        self.ends = None;
         self.body.clear();
-        let place = append(&mut self.body, next.key(), next.kind(), b"\0", 0, 0)?;
-        self.place = Some(place);
+        let ends = put_column(&mut self.body, next.key())?;
+        self.ends = Some(ends);
         Ok(false)
     }
 }
 
-// The column after that of the record that lies there, whose value is the zero byte.
-fn next_at<'a>(body: &'a [u8], place: &'a RecordSpan) -> Key<'a>
-    requires { IsPlaced body.now (Some place.now) }
-    ensures { key_of result ≡ next_column (record_in body.now place.now).key }
+// Puts the parts of the key's column into an empty body, and a zero byte behind them.
+fn put_column(body: &mut Vec<u8>, key: Key<'_>) -> Result<ColumnEnds, AllocError>
+    requires { body.old.items ≡ [] }
+    ensures placed { IfOk result (λ e. AreEnds body.new.items e) }
+    ensures column { IfOk result (λ e. parts_in body.new.items e ≡ record (key_of key.entry) { timestamp = latest }) }
+{
+    body.extend_from_slice(key.row)?;
+    let row = body.len();
+    body.extend_from_slice(key.family)?;
+    let family = body.len();
+    body.extend_from_slice(key.qualifier)?;
+    let qualifier = body.len();
+    body.extend_from_slice(key.label)?;
+    let label = body.len();
+    body.push(0)?;
+    Ok(ColumnEnds {
+        row,
+        family,
+        qualifier,
+        label,
+    })
+}
+
+// The column that lies there.
+fn column_at<'a>(body: &'a [u8], ends: &ColumnEnds) -> Key<'a>
+    requires { AreEnds body.now ends.now }
+    ensures { key_of result ≡ parts_in body.now ends.now }
 {
     Key {
-        label: &body[place.qualifier_end..place.end],
+        row: &body[0..ends.row],
+        family: &body[ends.row..ends.family],
+        qualifier: &body[ends.family..ends.qualifier],
+        label: &body[ends.qualifier..ends.label],
         timestamp: i64::MAX,
-        ..RecordRef::at(body, place).key()
     }
+}
+
+// The column after the one that lies there.
+fn next_at<'a>(body: &'a [u8], ends: &ColumnEnds) -> Key<'a>
+    requires { AreEnds body.now ends.now }
+    ensures { key_of result ≡ next_column (parts_in body.now ends.now) }
+{
+    Key {
+        label: &body[ends.qualifier..],
+        timestamp: i64::MAX,
+        ..column_at(body, ends)
+    }
+}
+
+// Whether the record is of the key's column.
+#[tactic(auto, unfolding(tab_key::specs::Kept::same_column))]
+fn is_column(key: Key<'_>, next: &RecordRef<'_>) -> bool
+    ensures { result ≡ same_column (key_of key.entry) next.now.key }
+{
+    key.row == next.row()
+        && key.family == next.family()
+        && key.qualifier == next.qualifier()
+        && key.label == next.label()
 }

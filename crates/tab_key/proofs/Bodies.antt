@@ -71,21 +71,6 @@ same_record old new p front w =
       idx = p.idx;
     }
 
-record_within : (old new : List ℕ) (p : RecordSpan) → take (length old) new ≡ old → IsWithin old p → IsWithin new p
-record_within old new p front w =
-    let longer : length old ≤ length new = no_shorter old new front in
-    record { row = w.row; family = w.family; qualifier = w.qualifier; label = w.label; value = w.value; whole = omega (arith, w.whole) }
-
-pub same_records : (old new : List ℕ) (ps : List RecordSpan) → take (length old) new ≡ old → AllByRecursion (IsWithin old) ps → map (record_in new) ps ≡ map (record_in old) ps
-same_records = all_same IsWithin record_in same_record record_within
-
--- one more record: in the grown body all lie within, and the records are those from before and the new one
-pub pushed_within : (old new : List ℕ) (ps now : List RecordSpan) (p : RecordSpan) → now ≡ ps ++ p ∷ [] → take (length old) new ≡ old → AllByRecursion (IsWithin old) ps → IsWithin new p → AllByRecursion (IsWithin new) now
-pushed_within = all_pushed IsWithin record_in same_record record_within
-
-pub pushed_records : (old new : List ℕ) (ps now : List RecordSpan) (p : RecordSpan) (r : Record) → now ≡ ps ++ p ∷ [] → take (length old) new ≡ old → AllByRecursion (IsWithin old) ps → record_in new p ≡ r → map (record_in new) now ≡ map (record_in old) ps ++ r ∷ []
-pushed_records = reads_pushed IsWithin record_in same_record record_within
-
 -- what holds holds on an error
 pub at_err : {T E : Type 0} (r : Result T E) {P : Type 0} → P → OnErr r P
 at_err (Ok x) p = tt

@@ -12,3 +12,8 @@ pub mod Examples
 pub mod Packed
 pub mod BigEndian
 pub mod RowPrefix
+pub mod Slices
+pub mod Encoded
+pub mod Placed
+pub mod Windows
+pub mod Sequence

@@ -4,6 +4,7 @@ pub mod NameFields
 pub mod Records
 pub mod KeyOf
 pub mod RecordSpans
+pub mod Encoding
 pub mod RowPrefix
 pub mod Order
 pub mod Kept

@@ -1,5 +1,7 @@
 //! What a scan shows of a put.
-ghost use Rattle.std.specs.Prelude.{◌≡◌, IfOk};
+ghost use Rattle.std.specs.Prelude.{◌≡◌, IfOk, Some, None, cond};
+ghost use Rattle.tab_key.specs.Encoding.{is_short};
+ghost use Rattle.tab_key.specs.declared.key.Kind.TheVariants.{Put};
 ghost use Rattle.tab_key.specs.KeyOf.{key_of};
 ghost use Rattle.tab_key.specs.Records.{cell_of};
 
@@ -24,13 +26,14 @@ impl Model for Cell {
 }
 
 impl Cell {
-    /// A copy of the parts, in one piece of memory.
-    pub fn new(alloc: Global, key: Key<'_>, value: &[u8]) -> Result<Cell, AllocError>
-        ensures { IfOk result (λ c. c ≡ record { key = key_of key.entry; value = value.now }) }
+    /// A copy of the parts, in one piece of memory. None says that one of them has over [`crate::MAX_PART_LEN`] bytes.
+    pub fn new(alloc: Global, key: Key<'_>, value: &[u8]) -> Result<Option<Cell>, AllocError>
+        ensures { IfOk result (λ c. c ≡ cond (is_short (record { key = key_of key.entry; kind = Put; value = value.now; seq = 0; idx = 0 })) (Some (record { key = key_of key.entry; value = value.now })) None) }
     {
-        Ok(Cell {
-            record: Record::new(alloc, key, Kind::Put, value, 0, 0)?,
-        })
+        match Record::new(alloc, key, Kind::Put, value, 0, 0)? {
+            Some(record) => Ok(Some(Cell { record })),
+            None => Ok(None),
+        }
     }
 
     /// The cell that the record shows, copied in one piece of memory.

@@ -7,7 +7,7 @@
 //! | `name` | names of users and tables |
 //! | `part` | parts of an event that have a limit, and the limits |
 //! | `key` | a key, lent, and the order of keys |
-//! | `record_span` | where the parts of a record lie in a body of bytes, and how a record is appended to one |
+//! | `encoding`, `record_span` | how a record lies in a body of bytes: how it is put there, and where its parts are |
 //! | `record`, `record_ref` | a record in a body of its own, and one lent from a body; their order |
 //! | `cell` | what a scan shows of a put |
 //! | `column`, `range` | what a scan asks for |
@@ -21,7 +21,7 @@
 //! | `Bytes`, `Order` | the order of byte strings, keys and records |
 //! | `Names`, `NameFields` | which bytes make a name, and how a name keeps them |
 //! | `Records`, `KeyOf` | keys, records and cells as contracts see them |
-//! | `RecordSpans` | the record that lies in a body of bytes |
+//! | `Encoding`, `RecordSpans` | the record that lies in a body of bytes |
 //! | `RowPrefix` | the first bytes of a row as a number |
 //! | `Kept` | which records are hidden, and which are kept |
 //! | `Sorted` | records in their order, computed and said without computing |
@@ -35,6 +35,7 @@
 mod byte_string;
 mod cell;
 mod column;
+mod encoding;
 mod items;
 mod key;
 pub mod laws;
@@ -50,15 +51,15 @@ mod spelled;
 pub use byte_string::ByteString;
 pub use cell::Cell;
 pub use column::{Column, is_selected};
+pub use encoding::{append, append_copy, end_of};
 pub use items::Items;
 pub use key::{Key, Kind};
 pub use name::{MAX_NAME_LEN, Name};
 pub use part::{
     MAX_AUTHORIZATION_LEN, MAX_AUTHORIZATIONS, MAX_COLUMNS, MAX_LABEL_DEPTH, MAX_OPENED,
-    MAX_PART_LEN, MAX_SESSIONS, MAX_UPDATES, MAX_VERSIONS, Part,
+    MAX_PART_LEN, MAX_RANGES, MAX_SESSIONS, MAX_UPDATES, MAX_VERSIONS, Part,
 };
 pub use prefix::row_prefix;
 pub use range::{BadRange, Bound, Bounds, Range, is_bad_range};
 pub use record::Record;
 pub use record_ref::RecordRef;
-pub use record_span::{RecordSpan, append, append_copy};

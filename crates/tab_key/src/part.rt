@@ -19,7 +19,7 @@ pub enum Part {
     Columns,
     /// A set of authorizations: at most [`MAX_AUTHORIZATIONS`], each of at most [`MAX_AUTHORIZATION_LEN`] bytes.
     Authorizations,
-    /// The ranges of one request.
+    /// The ranges of one request: at most [`MAX_RANGES`].
     Ranges,
     /// Sessions of one user: at most [`MAX_SESSIONS`] open at once, [`MAX_OPENED`] opened in all.
     Sessions,
@@ -35,6 +35,9 @@ pub const MAX_PART_LEN: usize = 1_048_576;
 
 /// The most columns that a scan names.
 pub const MAX_COLUMNS: usize = 1_000;
+
+/// The most ranges of one request.
+pub const MAX_RANGES: usize = 1_000;
 
 /// The most different authorizations in a set.
 pub const MAX_AUTHORIZATIONS: usize = 1_024;

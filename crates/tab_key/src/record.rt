@@ -1,22 +1,22 @@
 //! Records, packed.
-ghost use Rattle.std.specs.Prelude.{◌≡◌, IfOk};
+ghost use Rattle.std.specs.Prelude.{◌≡◌, [], IfOk, Some, None, cond};
 ghost use Rattle.tab_key.specs.Order.{record_cmp};
 ghost use Rattle.tab_key.specs.Kept.{same_column};
 ghost use Rattle.tab_key.specs.KeyOf.{key_of};
+ghost use Rattle.tab_key.specs.Encoding.{is_short};
 
-use crate::record_span::{append, append_copy, byte_count};
-use crate::{Key, Kind, RecordRef, RecordSpan};
+use crate::encoding::{append, append_copy, are_short, byte_count};
+use crate::{Key, Kind, RecordRef};
 use std::alloc::{AllocError, Global};
 use std::cmp::Ordering;
 use std::marker::Model;
 
 /// A put or a delete marker, with the number of its mutation and its place in it.
 ///
-/// Row, family, qualifier, label and value lie in one body, one after another. Its parts are read through [`Record::as_ref`].
+/// It lies in a body of its own, as `append` puts it there. Its parts are read through [`Record::as_ref`].
 #[derive(Drop)]
 pub struct Record {
     body: Vec<u8>,
-    span: RecordSpan,
 }
 
 impl Model for Record {
@@ -24,15 +24,15 @@ impl Model for Record {
 
     ghost Value = { Fields };
 
-    ghost use Rattle.tab_key.specs.RecordSpans.{record_in, IsWithin};
+    ghost use Rattle.tab_key.specs.Encoding.{record_at, IsAt};
 
-    ghost view = { λ r. record_in r.body.items r.span };
+    ghost view = { λ r. record_at r.body.items 0 };
 
-    ghost invariant = { λ r. IsWithin r.body.items r.span };
+    ghost invariant = { λ r. IsAt r.body.items 0 };
 }
 
 impl Record {
-    /// A copy of the parts, in one piece of memory.
+    /// A copy of the parts, in one piece of memory. None says that one of them has over [`MAX_PART_LEN`] bytes.
     pub fn new(
         alloc: Global,
         key: Key<'_>,
@@ -40,28 +40,48 @@ impl Record {
         value: &[u8],
         seq: u64,
         idx: u32,
-    ) -> Result<Record, AllocError>
-        ensures { IfOk result (λ r. r ≡ record { key = key_of key.entry; kind = kind; value = value.now; seq = seq; idx = idx }) }
+    ) -> Result<Option<Record>, AllocError>
+        ensures { IfOk result (λ r. r ≡ cond (is_short (record { key = key_of key.entry; kind = kind; value = value.now; seq = seq; idx = idx })) (Some (record { key = key_of key.entry; kind = kind; value = value.now; seq = seq; idx = idx })) None) }
     {
+        if !are_short(key, value) {
+            return Ok(None);
+        }
         let mut body = Vec::with_capacity(alloc, byte_count(key, value))?;
-        let span = append(&mut body, key, kind, value, seq, idx)?;
-        Ok(Record { body, span })
+        append(&mut body, key, kind, value, seq, idx)?;
+        Ok(Some(Record { body }))
     }
 
     /// A copy of the record, in one piece of memory.
     pub fn of(alloc: Global, source: &RecordRef<'_>) -> Result<Record, AllocError>
         ensures { IfOk result (λ r. r ≡ source.now) }
     {
-        let mut body = Vec::with_capacity(alloc, source.packed().len())?;
-        let span = append_copy(&mut body, source)?;
-        Ok(Record { body, span })
+        let mut body = Vec::with_capacity(alloc, source.encoded().len())?;
+        append_copy(&mut body, source)?;
+        Ok(Record { body })
+    }
+
+    /// A copy of the record without its value.
+    pub fn without_value(alloc: Global, source: &RecordRef<'_>) -> Result<Record, AllocError>
+        ensures { IfOk result (λ r. r ≡ record (source.now) { value = [] }) }
+    {
+        let bytes = source.encoded().len() - source.value().len();
+        let mut body = Vec::with_capacity(alloc, bytes)?;
+        append(
+            &mut body,
+            source.key(),
+            source.kind(),
+            b"",
+            source.seq(),
+            source.idx(),
+        )?;
+        Ok(Record { body })
     }
 
     /// The record, lent.
     pub fn as_ref(&self) -> RecordRef<'_>
         ensures { result ≡ self.now }
     {
-        RecordRef::at(self.body.as_slice(), &self.span)
+        RecordRef::at(self.body.as_slice(), 0)
     }
 
     /// The order of records.
@@ -85,7 +105,6 @@ impl Clone for Record {
     fn clone(&self) -> Result<Record, AllocError> {
         Ok(Record {
             body: self.body.clone()?,
-            span: self.span,
         })
     }
 }

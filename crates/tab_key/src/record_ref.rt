@@ -1,19 +1,21 @@
 //! A record that someone else holds.
-ghost use Rattle.std.specs.Prelude.{◌≡◌, ◌++◌};
+ghost use Rattle.std.specs.Prelude.{◌≡◌, ◌++◌, length};
 ghost use Rattle.tab_key.specs.Order.{place_cmp, newer_cmp, record_cmp};
 ghost use Rattle.tab_key.specs.Kept.{same_column, hides};
 ghost use Rattle.tab_key.specs.KeyOf.{key_of};
-ghost use Rattle.tab_key.specs.RecordSpans.{record_in, IsWithin, packed};
+ghost use Rattle.tab_key.specs.Encoding.{record_at, record_size, IsAt};
 
-use crate::{Key, Kind, RecordSpan};
+use crate::encoding::{bytes_of, span_of};
+use crate::{Key, Kind};
 use std::cmp::Ordering;
 use std::marker::Model;
 
-/// A record, lent: its parts lie in a body that holds others too.
+/// A record, lent: its head and its parts lie in a body that holds others too, and are read where they lie.
 #[derive(Drop)]
 pub struct RecordRef<'a> {
     body: &'a [u8],
-    span: &'a RecordSpan,
+    // where its head begins
+    place: usize,
 }
 
 impl<'a> Model for RecordRef<'a> {
@@ -21,20 +23,20 @@ impl<'a> Model for RecordRef<'a> {
 
     ghost Value = { Fields };
 
-    ghost use Rattle.tab_key.specs.RecordSpans.{record_in, IsWithin};
+    ghost use Rattle.tab_key.specs.Encoding.{record_at, IsAt};
 
-    ghost view = { λ r. record_in r.body.now r.span.now };
+    ghost view = { λ r. record_at r.body.now r.place };
 
-    ghost invariant = { λ r. IsWithin r.body.now r.span.now };
+    ghost invariant = { λ r. IsAt r.body.now r.place };
 }
 
 impl<'a> RecordRef<'a> {
-    /// The record whose parts lie there in the body. The span has to lie within the body, as `append` leaves it.
-    pub fn at(body: &'a [u8], span: &'a RecordSpan) -> RecordRef<'a>
-        requires { IsWithin body.now span.now }
-        ensures { result ≡ record_in body.now span.now }
+    /// The record whose head begins at this place in the body. It has to lie in the body whole, as `append` leaves it.
+    pub fn at(body: &'a [u8], place: usize) -> RecordRef<'a>
+        requires { IsAt body.now place }
+        ensures { result ≡ record_at body.now place }
     {
-        RecordRef { body, span }
+        RecordRef { body, place }
     }
 
     /// The same record, lent once more.
@@ -43,7 +45,7 @@ impl<'a> RecordRef<'a> {
     {
         RecordRef {
             body: self.body,
-            span: self.span,
+            place: self.place,
         }
     }
 
@@ -51,63 +53,68 @@ impl<'a> RecordRef<'a> {
     pub fn row(&self) -> &'a [u8]
         ensures { result.now ≡ self.now.key.row }
     {
-        &self.body[self.span.start..self.span.row_end]
+        let span = span_of(self.body, self.place);
+        &self.body[span.start..span.row_end]
     }
 
     /// The column family.
     pub fn family(&self) -> &'a [u8]
         ensures { result.now ≡ self.now.key.family }
     {
-        &self.body[self.span.row_end..self.span.family_end]
+        let span = span_of(self.body, self.place);
+        &self.body[span.row_end..span.family_end]
     }
 
     /// The column qualifier.
     pub fn qualifier(&self) -> &'a [u8]
         ensures { result.now ≡ self.now.key.qualifier }
     {
-        &self.body[self.span.family_end..self.span.qualifier_end]
+        let span = span_of(self.body, self.place);
+        &self.body[span.family_end..span.qualifier_end]
     }
 
     /// The label, which Accumulo calls column visibility.
     pub fn label(&self) -> &'a [u8]
         ensures { result.now ≡ self.now.key.label }
     {
-        &self.body[self.span.qualifier_end..self.span.label_end]
+        let span = span_of(self.body, self.place);
+        &self.body[span.qualifier_end..span.label_end]
     }
 
     /// The value; a marker has none.
     pub fn value(&self) -> &'a [u8]
         ensures { result.now ≡ self.now.value }
     {
-        &self.body[self.span.label_end..self.span.end]
+        let span = span_of(self.body, self.place);
+        &self.body[span.label_end..span.end]
     }
 
     /// The timestamp.
     pub fn timestamp(&self) -> i64
         ensures { result ≡ self.now.key.timestamp }
     {
-        self.span.timestamp
+        span_of(self.body, self.place).timestamp
     }
 
     /// Whether it is a put or a delete marker.
     pub fn kind(&self) -> Kind
         ensures { result ≡ self.now.kind }
     {
-        self.span.kind
+        span_of(self.body, self.place).kind
     }
 
     /// The number of its mutation.
     pub fn seq(&self) -> u64
         ensures { result ≡ self.now.seq }
     {
-        self.span.seq
+        span_of(self.body, self.place).seq
     }
 
     /// Its place in its mutation.
     pub fn idx(&self) -> u32
         ensures { result ≡ self.now.idx }
     {
-        self.span.idx
+        span_of(self.body, self.place).idx
     }
 
     /// The key, lent for as long as the record is.
@@ -154,12 +161,13 @@ impl<'a> RecordRef<'a> {
         }
     }
 
-    // The parts in one piece.
-    #[tactic(auto, using(crate::proofs::Columns::five_parts))]
-    pub(crate) fn packed(&self) -> &'a [u8]
-        ensures { result.now ≡ packed self.now }
+    // Its head and its parts, in one piece.
+    pub(crate) fn encoded(&self) -> &'a [u8]
+        ensures at { IsAt result.now 0 }
+        ensures record { record_at result.now 0 ≡ self.now }
+        ensures size { length result.now ≡ record_size self.now }
     {
-        &self.body[self.span.start..self.span.end]
+        bytes_of(self.body, self.place)
     }
 
     // Row, family, qualifier and label in one piece.
@@ -167,7 +175,8 @@ impl<'a> RecordRef<'a> {
     fn column(&self) -> &'a [u8]
         ensures { result.now ≡ self.now.key.row ++ self.now.key.family ++ self.now.key.qualifier ++ self.now.key.label }
     {
-        &self.body[self.span.start..self.span.label_end]
+        let span = span_of(self.body, self.place);
+        &self.body[span.start..span.label_end]
     }
 
     /// Whether the records are of one column: the same row, family, qualifier and label, byte for byte.

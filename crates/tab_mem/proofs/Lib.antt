@@ -6,3 +6,4 @@ pub mod RowOrder
 pub mod Seeking
 pub mod Parts
 pub mod Cursors
+pub mod Filled

@@ -11,8 +11,7 @@ use Rattle.tab_cells.specs.Written.{TimedUpdate, timed, record_of, records_of}
 use Rattle.tab_cells.proofs.Lists.{in_append}
 use Rattle.tab_cells.proofs.Written.{distinct_new, records_more}
 use Rattle.tab_iter.specs.Lists.{latest, HasI64Timestamps}
-use Rattle.tab_mem.specs.Lists.{IsActive, IsRun, HasShortParts}
-use Rattle.tab_mem.proofs.ShortParts.{short_both}
+use Rattle.tab_mem.specs.Lists.{IsActive, IsRun}
 
 -- ---- timestamps
 timestamps_first : (r : Record) (rs : List Record) → int_le r.key.timestamp latest ≡ true → HasI64Timestamps rs → HasI64Timestamps (r ∷ rs)
@@ -41,10 +40,10 @@ distinct_behind seq row ps us below d = distinct_permuted (records_of seq row ps
 
 -- .. after a write, whether it went in or not
 pub active_after : {E : Type 0} (seq : ℕ) (row : List ℕ) (ps : List TimedUpdate) (us vs : List Record) (r : Result ⊤ E) → ((u : Record) → Contains us u → u.seq < seq) → IsActive us
-    → OnOk r (vs ≡ us ++ records_of seq row ps) → OnOk r (HasI64Timestamps (records_of seq row ps)) → HasShortParts (records_of seq row ps) → OnErr r (vs ≡ us) → IsActive vs
-active_after seq row ps us vs (Ok x) below a ok t s err = subst IsActive (sym ok) (record { distinct = distinct_behind seq row ps us below a.distinct; timestamps = timestamps_both us (records_of seq row ps) a.timestamps t; short = short_both us (records_of seq row ps) a.short s })
-active_after seq row ps us vs (Err e) below a ok t s err = subst IsActive (sym err) a
+    → OnOk r (vs ≡ us ++ records_of seq row ps) → OnOk r (HasI64Timestamps (records_of seq row ps)) → OnErr r (vs ≡ us) → IsActive vs
+active_after seq row ps us vs (Ok x) below a ok t err = subst IsActive (sym ok) (record { distinct = distinct_behind seq row ps us below a.distinct; timestamps = timestamps_both us (records_of seq row ps) a.timestamps t })
+active_after seq row ps us vs (Err e) below a ok t err = subst IsActive (sym err) a
 
 -- .. and its records in their order
 pub active_sorted : (us : List Record) → IsActive us → IsRun (sorted us)
-active_sorted us a = record { rising = rising_sorted us a.distinct; timestamps = λ u h. a.timestamps u (in_sorted us u h); short = λ u h. a.short u (in_sorted us u h) }
+active_sorted us a = record { rising = rising_sorted us a.distinct; timestamps = λ u h. a.timestamps u (in_sorted us u h) }

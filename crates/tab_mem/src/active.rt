@@ -1,18 +1,16 @@
 //! What is written to a table, until it is frozen.
 ghost use Rattle.std.specs.Prelude.{◌≡◌, ◌<◌, ◌++◌, ◌==◌, [], None, length, IfOk, OnOk, OnErr, Contains};
-ghost use Rattle.std.specs.List.{slice_index_or};
 ghost use Rattle.tab_key.specs.Records.{Record as Fields};
 ghost use Rattle.tab_key.specs.Sorted.{IsDistinct, sorted};
 ghost use Rattle.tab_mutation.specs.Shape.{shape_error};
 ghost use Rattle.tab_cells.specs.Written.{mutation_records};
 
 use crate::Run;
-use crate::packed::Packed;
 use crate::sorting::sorted_copy;
+use crate::unsorted::Unsorted;
 use std::alloc::{AllocError, Global};
 use std::marker::Model;
 use std::sync::Arc;
-use tab_key::RecordRef;
 use tab_mutation::Mutation;
 
 /// The records that were written since the last freeze, in the order in which they were written. A contract sees their list.
@@ -20,7 +18,7 @@ use tab_mutation::Mutation;
 /// No two stand at one place in the order of records.
 #[derive(Drop)]
 pub struct Active {
-    records: Packed,
+    records: Unsorted,
 }
 
 impl Model for Active {
@@ -41,7 +39,7 @@ impl Active {
         ensures { result ≡ [] }
     {
         Active {
-            records: Packed::new(alloc),
+            records: Unsorted::new(alloc),
         }
     }
 
@@ -58,14 +56,6 @@ impl Active {
         ensures { result ≡ (length self.now == 0) }
     {
         self.records.is_empty()
-    }
-
-    /// The record at an index, counted from 0 in the order in which they were written.
-    pub fn get(&self, index: usize) -> RecordRef<'_>
-        requires { index < length self.now }
-        ensures { result ≡ slice_index_or self.now index result }
-    {
-        self.records.get(index)
     }
 
     /// Adds the updates of a mutation, whose shape was accepted: each with this number, its place in the mutation counted from 0,
@@ -101,7 +91,7 @@ impl Active {
         ensures err { OnErr result (self.new ≡ self.old) }
     {
         let run = self.to_run(alloc)?;
-        self.records = Packed::new(alloc);
+        self.records = Unsorted::new(alloc);
         Ok(run)
     }
 }

@@ -1,13 +1,13 @@
 //! The records of an accepted mutation, put behind others.
 ghost use Rattle.std.specs.Prelude.{◌≡◌, ◌++◌, ◌<◌, ◌^◌, true, int_le, length, map, take, unwrap_or, None, IfOk, OnOk};
-ghost use Rattle.std.specs.List.{AllByRecursion};
-ghost use Rattle.tab_key.specs.RecordSpans.{record_in, IsWithin};
+ghost use Rattle.tab_key.specs.Encoding.{span_at, record_at, records_at, places_from, IsAt, IsShort};
 ghost use Rattle.tab_mutation.specs.Shape.{shape_error};
 ghost use Rattle.tab_cells.specs.Written.{timed, record_of, mutation_records};
 ghost use Rattle.tab_iter.specs.Lists.{latest, HasI64Timestamps};
+ghost use Rattle.tab_mem.specs.Lists.{IsFilled};
 
 use std::alloc::AllocError;
-use tab_key::{Key, RecordSpan, append};
+use tab_key::{Key, append};
 use tab_mutation::{Mutation, UpdateRef};
 
 /// Puts the record of an update at the end of the body, with the number of its mutation, its place there and, where it
@@ -19,10 +19,13 @@ fn append_one(
     seq: u64,
     idx: u32,
     clock: i64,
-) -> Result<RecordSpan, AllocError>
-    ensures within { IfOk result (λ p. IsWithin body.new.items p) }
+) -> Result<usize, AllocError>
+    requires { IsShort (record_of seq row.now idx (timed clock update.now)) }
+    ensures within { IfOk result (λ p. IsAt body.new.items p) }
     ensures front { take (length body.old.items) body.new.items ≡ body.old.items }
-    ensures record { IfOk result (λ p. record_in body.new.items p ≡ record_of seq row.now idx (timed clock update.now)) }
+    ensures place { IfOk result (λ p. p ≡ length body.old.items) }
+    ensures record { IfOk result (λ p. record_at body.new.items p ≡ record_of seq row.now idx (timed clock update.now)) }
+    ensures end { IfOk result (λ p. (span_at body.new.items p).end ≡ length body.new.items) }
     ensures timestamp { int_le (timed clock update.now).timestamp latest ≡ true }
 {
     let key = Key {
@@ -35,30 +38,29 @@ fn append_one(
     append(body, key, update.kind(), update.value(), seq, idx)
 }
 
-/// Puts the records of a mutation at the end, the last update's first. What was there before stays in front, also after an
-/// error; then some records may stand behind it.
+/// Puts the records of a mutation behind so many that the body holds, the last update's first, and says how many there are then. What
+/// was there before stays in front, also after an error; then some records may stand behind it.
 #[tactic(auto, using(tab_mutation::proofs::Shapes::shaped_few))]
 pub(crate) fn append_all(
     body: &mut Vec<u8>,
-    places: &mut Vec<RecordSpan>,
+    mut count: usize,
     mutation: &Mutation,
     seq: u64,
     clock: i64,
-) -> Result<(), AllocError>
-    requires within { AllByRecursion (IsWithin body.old.items) places.old.items }
+) -> Result<usize, AllocError>
+    requires filled { IsFilled body.old.items count }
     requires shape { shape_error mutation.now ≡ None }
     ensures bytes { take (length body.old.items) body.new.items ≡ body.old.items }
-    ensures places { take (length places.old.items) places.new.items ≡ places.old.items }
-    ensures within { OnOk result (AllByRecursion (IsWithin body.new.items) places.new.items) }
+    ensures filled { IfOk result (λ n. IsFilled body.new.items n) }
     ensures timestamps { OnOk result (HasI64Timestamps (mutation_records seq clock mutation.now)) }
-    ensures records { OnOk result (map (record_in body.new.items) places.new.items ≡ map (record_in body.old.items) places.old.items ++ mutation_records seq clock mutation.now) }
+    ensures records { IfOk result (λ n. records_at body.new.items (places_from body.new.items 0 n) ≡ records_at body.old.items (places_from body.old.items 0 count) ++ mutation_records seq clock mutation.now) }
 {
     let mut index = mutation.len();
     while index > 0 {
         index -= 1;
         let update = mutation.update(index);
-        let place = append_one(body, mutation.row(), &update, seq, index as u32, clock)?;
-        places.push(place)?;
+        append_one(body, mutation.row(), &update, seq, index as u32, clock)?;
+        count += 1;
     }
-    Ok(())
+    Ok(count)
 }

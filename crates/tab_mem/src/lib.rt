@@ -6,8 +6,10 @@
 //! | File | What |
 //! |---|---|
 //! | `active` | what is written, until it is frozen |
-//! | `packed` | records in one body of bytes |
+//! | `unsorted` | records as they were written, one after another in one body |
 //! | `appending` | the records of an accepted mutation, put behind others |
+//! | `lending` | records that lie one after another, lent |
+//! | `packed` | records in their places in one body |
 //! | `item`, `sorting` | what a freeze sorts, and the sort |
 //! | `run` | a frozen run |
 //! | `ordered`, `start`, `searching` | records by their index, where a search in them goes, and the searches |
@@ -18,12 +20,14 @@ mod active;
 mod appending;
 mod cursor;
 mod item;
+mod lending;
 mod ordered;
 mod packed;
 mod run;
 mod searching;
 mod sorting;
 mod start;
+mod unsorted;
 
 pub use active::Active;
 pub use cursor::RunCursor;

@@ -1,50 +1,36 @@
-//! Records in one body of bytes.
-ghost use Rattle.std.specs.Prelude.{◌≡◌, ◌<◌, ◌++◌, ◌∷◌, ◌==◌, [], None, IfOk, OnOk, OnErr, length};
+//! Records in their places in one body of bytes.
+ghost use Rattle.std.specs.Prelude.{◌≡◌, ◌<◌, ◌++◌, ◌∷◌, ◌==◌, [], IfOk, OnOk, OnErr, length};
 ghost use Rattle.std.specs.List.{slice_index_or};
-ghost use Rattle.tab_mutation.specs.Shape.{shape_error};
-ghost use Rattle.tab_cells.specs.Written.{mutation_records};
-ghost use Rattle.tab_iter.specs.Lists.{HasI64Timestamps};
+ghost use Rattle.tab_mem.specs.Lists.{HasShortParts};
 
-use crate::appending::append_all;
 use crate::{Ordered, Start};
 use std::alloc::{AllocError, Global};
 use std::marker::Model;
-use tab_key::{RecordRef, RecordSpan, append_copy};
-use tab_mutation::Mutation;
+use tab_key::{RecordRef, append_copy};
 
-/// Records, one after another. Their parts lie in one body, and each record has its place there.
+/// Records, one after another in one body. A record takes there what `tab_key` puts, and 8 bytes for its place.
 #[derive(Drop)]
 pub(crate) struct Packed {
     body: Vec<u8>,
-    places: Vec<RecordSpan>,
+    // where the records' heads begin
+    places: Vec<usize>,
 }
 
 impl Model for Packed {
-    ghost use Rattle.std.specs.Prelude.{List, map};
-    ghost use Rattle.std.specs.List.{AllByRecursion};
+    ghost use Rattle.std.specs.Prelude.{List};
     ghost use Rattle.tab_key.specs.Records.{Record as Fields};
 
     ghost Value = { List Fields };
 
-    ghost use Rattle.tab_key.specs.RecordSpans.{record_in, IsWithin};
+    ghost use Rattle.tab_key.specs.Encoding.{records_at, AreAt};
 
-    ghost view = { λ p. map (record_in p.body.items) p.places.items };
+    ghost view = { λ p. records_at p.body.items p.places.items };
 
-    ghost invariant = { λ p. AllByRecursion (IsWithin p.body.items) p.places.items };
+    ghost invariant = { λ p. AreAt p.body.items p.places.items };
 }
 
 impl Packed {
-    /// No records. It takes no memory.
-    pub(crate) fn new(alloc: Global) -> Packed
-        ensures { result ≡ [] }
-    {
-        Packed {
-            body: Vec::new(alloc),
-            places: Vec::new(alloc),
-        }
-    }
-
-    /// No records, with memory for this many of them and for this many bytes of their parts.
+    /// No records, with memory for this many of them in this many bytes.
     pub(crate) fn with_capacity(
         alloc: Global,
         records: usize,
@@ -60,7 +46,8 @@ impl Packed {
 
     /// How many records there are.
     pub(crate) fn len(&self) -> usize
-        ensures { result ≡ length self.now }
+        ensures len { result ≡ length self.now }
+        ensures short { HasShortParts self.now }
     {
         self.places.len()
     }
@@ -72,17 +59,12 @@ impl Packed {
         self.places.is_empty()
     }
 
-    /// How many bytes the parts of all records have.
-    pub(crate) fn byte_len(&self) -> usize {
-        self.body.len()
-    }
-
     /// The record at an index.
     pub(crate) fn get(&self, index: usize) -> RecordRef<'_>
         requires { index < length self.now }
         ensures { result ≡ slice_index_or self.now index result }
     {
-        RecordRef::at(self.body.as_slice(), &self.places[index])
+        RecordRef::at(self.body.as_slice(), self.places[index])
     }
 
     /// Puts a copy of the record at the end. `AllocError` leaves the records as they were.
@@ -91,30 +73,14 @@ impl Packed {
         ensures err { OnErr result (self.new ≡ self.old) }
     {
         self.places.reserve(1)?;
-        let place = append_copy(&mut self.body, source)?;
-        self.places.push_reserved(place);
-        Ok(())
-    }
-
-    /// Puts the records of an accepted mutation at the end. `AllocError` leaves the records as they were.
-    pub(crate) fn write(
-        &mut self,
-        mutation: &Mutation,
-        seq: u64,
-        clock: i64,
-    ) -> Result<(), AllocError>
-        requires { shape_error mutation.now ≡ None }
-        ensures ok { OnOk result (self.new ≡ self.old ++ mutation_records seq clock mutation.now) }
-        ensures timestamps { OnOk result (HasI64Timestamps (mutation_records seq clock mutation.now)) }
-        ensures err { OnErr result (self.new ≡ self.old) }
-    {
         let bytes = self.body.len();
-        let records = self.places.len();
-        match append_all(&mut self.body, &mut self.places, mutation, seq, clock) {
-            Ok(()) => Ok(()),
+        match append_copy(&mut self.body, source) {
+            Ok(place) => {
+                self.places.push_reserved(place);
+                Ok(())
+            }
             Err(fault) => {
                 self.body.truncate(bytes);
-                self.places.truncate(records);
                 Err(fault)
             }
         }

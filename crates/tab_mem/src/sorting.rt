@@ -4,25 +4,15 @@ ghost use Rattle.tab_key.specs.Sorted.{IsDistinct, sorted};
 
 use crate::item::Item;
 use crate::packed::Packed;
+use crate::unsorted::Unsorted;
 use std::alloc::{AllocError, Global};
 
-/// The records, lent, as they lie.
-fn items_of(alloc: Global, records: &Packed) -> Result<Vec<Item<'_>>, AllocError>
-    ensures { IfOk result (λ v. v.items ≡ records.now) }
-{
-    let mut items = Vec::with_capacity(alloc, records.len())?;
-    for index in 0..records.len() {
-        items.push(Item::new(records.get(index)))?;
-    }
-    Ok(items)
-}
-
 /// The records, lent, in their order.
-fn in_order(alloc: Global, records: &Packed) -> Result<Vec<Item<'_>>, AllocError>
+fn in_order(alloc: Global, records: &Unsorted) -> Result<Vec<Item<'_>>, AllocError>
     requires { IsDistinct records.now }
     ensures { IfOk result (λ v. v.items ≡ sorted records.now) }
 {
-    let mut items = items_of(alloc, records)?;
+    let mut items = records.items(alloc)?;
     items.sort_unstable_by(|a, b| a.cmp(b));
     Ok(items)
 }
@@ -41,7 +31,7 @@ fn copied(alloc: Global, items: &[Item<'_>], bytes: usize) -> Result<Packed, All
 /// Copies of the records in their order, one after another in one body of the same size.
 ///
 /// It takes memory for the copies and, until it returns, for 48 bytes a record.
-pub(crate) fn sorted_copy(alloc: Global, records: &Packed) -> Result<Packed, AllocError>
+pub(crate) fn sorted_copy(alloc: Global, records: &Unsorted) -> Result<Packed, AllocError>
     requires { IsDistinct records.now }
     ensures { IfOk result (λ p. p ≡ sorted records.now) }
 {

@@ -1,4 +1,2 @@
-pub mod Slices
-pub mod Encoded
 pub mod Grown
 pub mod Standing

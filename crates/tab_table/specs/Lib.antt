@@ -1,3 +1,2 @@
 pub mod Sizes
-pub mod Encoding
 pub mod Tables

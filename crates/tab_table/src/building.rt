@@ -1,14 +1,13 @@
 //! Tables built of what a source has left.
 ghost use Rattle.std.specs.Prelude.{◌≡◌, IfOk, length};
-ghost use Rattle.tab_mem.specs.Lists.{HasShortParts};
-ghost use Rattle.tab_table.specs.Encoding.{records_at, AreWithin};
+ghost use Rattle.tab_key.specs.Encoding.{records_at, AreAt};
 ghost use Rattle.tab_table.specs.Sizes.{encoded_size};
 
 use crate::Table;
-use crate::encoding::append;
 use bytes::Bytes;
 use std::alloc::{AllocError, Global};
 use tab_iter::{NoMemory, Source};
+use tab_key::append_copy;
 
 // Records, one after another, and where their heads begin.
 #[derive(Drop)]
@@ -19,15 +18,14 @@ struct Gathered {
 
 // Copies of the records that the source has left.
 fn gather<S: Source>(alloc: Global, source: &mut S) -> Result<Gathered, NoMemory>
-    requires { HasShortParts (S.rest source.old) }
     ensures records { IfOk result (λ g. records_at g.body.items g.places.items ≡ S.rest source.old) }
-    ensures within { IfOk result (λ g. AreWithin g.body.items g.places.items) }
+    ensures within { IfOk result (λ g. AreAt g.body.items g.places.items) }
     ensures size { IfOk result (λ g. length g.body.items ≡ encoded_size (records_at g.body.items g.places.items)) }
 {
     let mut body = Vec::new(alloc);
     let mut places = Vec::new(alloc);
     while let Some(next) = source.top() {
-        let place = append(&mut body, &next)?;
+        let place = append_copy(&mut body, &next)?;
         places.push(place)?;
         source.advance()?;
     }
@@ -39,12 +37,9 @@ impl Table {
 
     /// A table of the records that the source has left, which it reads to its end. Each is copied once.
     ///
-    /// Each part of a record must have at most 1,048,576 bytes, as those of every accepted mutation have: a length is kept in 32 bits.
-    ///
     /// While it grows it may take twice the memory that the table keeps. After an error, which only want of memory gives, some of the
     /// records are passed.
     pub fn build<S: Source>(alloc: Global, source: &mut S) -> Result<Table, NoMemory>
-        requires { HasShortParts (S.rest source.old) }
         ensures { IfOk result (λ t. records t ≡ S.rest source.old) }
     {
         let Gathered {

@@ -1,14 +1,12 @@
 //! A part of a table that is gone over.
-ghost use Rattle.std.specs.Prelude.{◌≡◌, ◌≤◌, ◌<◌, List, [], Bool, true, false, ◌-◌, drop, length};
-ghost use Rattle.std.specs.List.{slice_index_or};
-ghost use Rattle.tab_key.specs.RecordSpans.{record_in, IsWithin};
+ghost use Rattle.std.specs.Prelude.{◌≡◌, ◌≤◌, List, [], Bool, true, false, ◌-◌, drop, length};
 ghost use Rattle.tab_mem.specs.Lists.{part};
-ghost use Rattle.tab_table.specs.Encoding.{records_at, IsWithin-prop_if};
+ghost use Rattle.tab_key.specs.Encoding.{records_at};
 
 use crate::Table;
 use std::sync::Arc;
 use tab_iter::{NoMemory, Source};
-use tab_key::{Key, Kind, RecordRef, RecordSpan};
+use tab_key::{Key, RecordRef};
 use tab_mem::{Start, first_near};
 
 /// Whoever has a table: who borrows it, or who shares it.
@@ -40,21 +38,15 @@ impl Tabled for Arc<Table> {
 
 /// The records of a table from one index up to another, and a place among them: a source of `tab_iter`. A contract sees all of
 /// these records, and those that are left.
-///
-/// It keeps what the head of its first record left says, so that this record is lent without a copy.
 #[derive(Drop)]
 pub struct TableCursor<T: Tabled> {
     table: T,
     from: usize,
     at: usize,
     end: usize,
-    // where the first record left lies, if there is one
-    span: RecordSpan,
     ghost ordered: { from ≤ at },
     ghost upto: { at ≤ end },
     ghost inside: { end ≤ length (records_at (T.table table).body (T.table table).places.items) },
-    ghost within: { at < end → IsWithin (T.table table).body span } by { IsWithin-prop_if (T.table table).body span },
-    ghost lent: { at < end → record_in (T.table table).body span ≡ slice_index_or (records_at (T.table table).body (T.table table).places.items) at (record_in (T.table table).body span) },
 }
 
 /// A cursor that borrows its table.
@@ -62,29 +54,6 @@ pub type Cursor<'a> = TableCursor<&'a Table>;
 
 /// A cursor that shares its table, and so outlives whoever made it.
 pub type OwnedCursor = TableCursor<Arc<Table>>;
-
-// Where the record at an index lies, if the part goes that far.
-fn span_before(table: &Table, at: usize, end: usize) -> RecordSpan
-    requires { end ≤ length (records_at table.now.body table.now.places.items) }
-    ensures within { at < end → IsWithin table.now.body result }
-    ensures lent { at < end → record_in table.now.body result ≡ slice_index_or (records_at table.now.body table.now.places.items) at (record_in table.now.body result) }
-{
-    if at < end {
-        return table.span(at);
-    }
-    RecordSpan {
-        start: 0,
-        row_end: 0,
-        family_end: 0,
-        qualifier_end: 0,
-        label_end: 0,
-        end: 0,
-        timestamp: 0,
-        seq: 0,
-        idx: 0,
-        kind: Kind::Put,
-    }
-}
 
 impl<T: Tabled + Drop> TableCursor<T> {
     ghost use Rattle.tab_table.specs.Tables.{records};
@@ -105,13 +74,11 @@ impl<T: Tabled + Drop> TableCursor<T> {
         ensures whole { ⟦<TableCursor<T> as Source>⟧.whole result ≡ part from end (records (T.table table)) }
         ensures rest { ⟦<TableCursor<T> as Source>⟧.rest result ≡ part from end (records (T.table table)) }
     {
-        let span = span_before(table.table(), from, end);
         TableCursor {
             table,
             from,
             at: from,
             end,
-            span,
         }
     }
 }
@@ -138,7 +105,7 @@ impl<T: Tabled> Source for TableCursor<T> {
 
     fn top(&self) -> Option<RecordRef<'_>> {
         if self.at < self.end {
-            Some(RecordRef::at(self.table.table().bytes(), &self.span))
+            Some(self.table.table().get(self.at))
         } else {
             None
         }
@@ -146,10 +113,7 @@ impl<T: Tabled> Source for TableCursor<T> {
 
     fn advance(&mut self) -> Result<(), NoMemory> {
         if self.at < self.end {
-            let at = self.at + 1;
-            let span = span_before(self.table.table(), at, self.end);
-            self.at = at;
-            self.span = span;
+            self.at += 1;
         }
         Ok(())
     }
@@ -157,10 +121,7 @@ impl<T: Tabled> Source for TableCursor<T> {
     #[tactic(auto, unfolding(tab_mem::specs::Starts::from_start))]
     fn seek(&mut self, key: Key<'_>) -> Result<(), NoMemory> {
         let start = Start::AtKey(key);
-        let at = first_near(self.table.table(), self.from, self.at, self.end, start);
-        let span = span_before(self.table.table(), at, self.end);
-        self.at = at;
-        self.span = span;
+        self.at = first_near(self.table.table(), self.from, self.at, self.end, start);
         Ok(())
     }
 }

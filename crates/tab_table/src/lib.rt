@@ -2,8 +2,6 @@
 //!
 //! | File | What |
 //! |---|---|
-//! | `encoding` | how a record lies in a table's body |
-//! | `entry` | a record, lent from a body |
 //! | `table` | a sorted table |
 //! | `building` | a table built of what a source has left |
 //! | `cursor` | a part of a table that is gone over, as a source of `tab_iter`; it borrows its table or shares it |
@@ -11,10 +9,7 @@
 
 mod building;
 mod cursor;
-mod encoding;
-mod entry;
 mod table;
 
 pub use cursor::{Cursor, OwnedCursor, TableCursor, Tabled};
-pub use entry::Entry;
 pub use table::Table;

@@ -2,21 +2,18 @@
 ghost use Rattle.std.specs.Prelude.{◌≡◌, ◌<◌, ◌≤◌, ◌==◌, length, filter};
 ghost use Rattle.std.specs.List.{slice_index_or};
 ghost use Rattle.std.proofs.lemmas.Map.Keys.{IsStrictlySortedBy-prop};
+ghost use Rattle.tab_key.specs.Encoding.{records_at, AreAt, AreAt-prop};
 ghost use Rattle.tab_key.specs.Order.{record_cmp};
 ghost use Rattle.tab_key.specs.Ranges.{is_in_range};
 ghost use Rattle.tab_key.specs.Records.{Record as Fields};
-ghost use Rattle.tab_key.specs.RecordSpans.{record_in, IsWithin};
 ghost use Rattle.tab_iter.specs.Lists.{IsRising, HasI64Timestamps};
 ghost use Rattle.tab_iter.specs.Propositions.{HasI64Timestamps-prop};
 ghost use Rattle.tab_mem.specs.Lists.{part, HasShortParts};
-ghost use Rattle.tab_table.specs.Encoding.{records_at, AreWithin, AreWithin-prop, HasShortParts-prop};
 ghost use Rattle.tab_table.specs.Sizes.{encoded_size};
 
-use crate::Entry;
-use crate::encoding::span_at;
 use bytes::Bytes;
 use std::ops::Range;
-use tab_key::{Bounds, RecordSpan};
+use tab_key::{Bounds, RecordRef};
 use tab_mem::{Ordered, Start, rows_in};
 
 /// Records that no longer change, in their order. A contract sees their list by `records`.
@@ -28,10 +25,9 @@ pub struct Table {
     pub(crate) body: Bytes,
     // where the records' heads begin
     pub(crate) places: Vec<usize>,
-    ghost within: { AreWithin body places.items } by { AreWithin-prop body places.items },
+    ghost within: { AreAt body places.items } by { AreAt-prop body places.items },
     ghost rising: { IsRising (records_at body places.items) } by { IsStrictlySortedBy-prop record_cmp (records_at body places.items) },
     ghost timestamps: { HasI64Timestamps (records_at body places.items) } by { HasI64Timestamps-prop (records_at body places.items) },
-    ghost short: { HasShortParts (records_at body places.items) } by { HasShortParts-prop (records_at body places.items) },
     ghost sized: { length body ≡ encoded_size (records_at body places.items) },
 }
 
@@ -63,11 +59,11 @@ impl Table {
     }
 
     /// The record at an index, counted from 0 in the order of records.
-    pub fn get(&self, index: usize) -> Entry<'_>
+    pub fn get(&self, index: usize) -> RecordRef<'_>
         requires { index < length (records self.now) }
         ensures { (u : Fields) → result ≡ slice_index_or (records self.now) index u }
     {
-        Entry::new(self.body.as_slice(), self.span(index))
+        record_of(self.body.as_slice(), self.places.as_slice(), index)
     }
 
     /// The row of the record at an index, counted from 0 in the order of records.
@@ -75,7 +71,7 @@ impl Table {
         requires { index < length (records self.now) }
         ensures { (u : Fields) → result.now ≡ (slice_index_or (records self.now) index u).key.row }
     {
-        row_of(self.bytes(), self.span(index))
+        self.get(index).row()
     }
 
     /// The indexes of the records of a part whose rows are in bounds: these records stand together. The part goes from one index
@@ -92,41 +88,15 @@ impl Table {
     {
         rows_in(self, from, end, bounds)
     }
-
-    // The body.
-    pub(crate) fn bytes(&self) -> &[u8]
-        ensures { result.now ≡ self.now.body }
-    {
-        self.body.as_slice()
-    }
-
-    // Where the record at an index lies in the body.
-    pub(crate) fn span(&self, index: usize) -> RecordSpan
-        requires { index < length (records self.now) }
-        ensures within { IsWithin self.now.body result }
-        ensures found { (u : Fields) → record_in self.now.body result ≡ slice_index_or (records self.now) index u }
-    {
-        span_of(self.body.as_slice(), self.places.as_slice(), index)
-    }
 }
 
-// Where the record lies in the body whose head begins at the place with this index.
-fn span_of(body: &[u8], places: &[usize], index: usize) -> RecordSpan
-    requires places { AreWithin body.now places.now }
+// The record in the body whose head begins at the place with this index.
+fn record_of<'a>(body: &'a [u8], places: &[usize], index: usize) -> RecordRef<'a>
+    requires places { AreAt body.now places.now }
     requires inside { index < length (records_at body.now places.now) }
-    ensures within { IsWithin body.now result }
-    ensures found { (u : Fields) → record_in body.now result ≡ slice_index_or (records_at body.now places.now) index u }
+    ensures { (u : Fields) → result ≡ slice_index_or (records_at body.now places.now) index u }
 {
-    let place = places[index];
-    span_at(body, place)
-}
-
-// The row of the record that lies there in the body.
-fn row_of(body: &[u8], span: RecordSpan) -> &[u8]
-    requires { IsWithin body.now span }
-    ensures { result.now ≡ (record_in body.now span).key.row }
-{
-    &body[span.start..span.row_end]
+    RecordRef::at(body, places[index])
 }
 
 impl Ordered for Table {
@@ -135,6 +105,6 @@ impl Ordered for Table {
     ghost listed = { λ t. records t };
 
     fn precedes(&self, index: usize, start: Start<'_>) -> bool {
-        start.is_after(&self.get(index).as_ref())
+        start.is_after(&self.get(index))
     }
 }

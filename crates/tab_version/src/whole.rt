@@ -76,7 +76,7 @@ impl Whole for Table {
     }
 
     fn is_before(&self, index: usize, key: Key<'_>) -> bool {
-        self.get(index).as_ref().key().cmp(key).is_lt()
+        self.get(index).key().cmp(key).is_lt()
     }
 
     fn row(&self, index: usize) -> &[u8] {

@@ -1,13 +1,13 @@
 -- What was copied, and what is left.
 use Rattle.std.proofs.Common.{◌≡◌, ◌++◌, length}
-use Rattle.tab_table.specs.Encoding.{records_at, AreWithin}
+use Rattle.tab_key.specs.Encoding.{records_at, AreAt}
 use Rattle.tab_table.specs.Sizes.{encoded_size}
 use Rattle.tab_table.proofs.building.gather.Given as goal
 
 abbrev pub invariant-loop-next : goal.invariant-loop-next
 invariant-loop-next g l = record {
   copied : records_at l.body.items l.places.items ++ g.S.Source.rest l.source ≡ g.S.Source.rest l.initial.source;
-  within : AreWithin l.body.items l.places.items;
+  within : AreAt l.body.items l.places.items;
   size : length l.body.items ≡ encoded_size (records_at l.body.items l.places.items);
 }
 

@@ -1,9 +1,8 @@
-use Rattle.std.proofs.Common.{sym, subst, w64, to_z, of_z}
+use Rattle.std.proofs.Common.{sym, subst}
 use Rattle.std.specs.Prelude.{Contains, ◌<◌}
-use Rattle.tab_mem.proofs.ShortParts.{mutation_short}
 use Rattle.tab_mem.proofs.Written.{active_after}
 use Rattle.tab_mem.proofs.active.Active.write.Goals as goal
 
 pub invariant_of-self : goal.invariant_of-self
 invariant_of-self c =
-    active_after c.args.seq c.args.mutation.now.row _ c.self.inside.records c.write.new.self c.write.result (subst (λ us. (u : _) → Contains us u → u.seq < c.args.seq) (sym c.self.view_is) c.requires.unused) c.self.invariant c.write.ensures.ok c.write.ensures.timestamps (mutation_short c.args.seq (to_z w64 (of_z w64 c.args.clock)) c.args.mutation.now c.requires.shape) c.write.ensures.err
+    active_after c.args.seq c.args.mutation.now.row _ c.self.inside.records c.write.new.self c.write.result (subst (λ us. (u : _) → Contains us u → u.seq < c.args.seq) (sym c.self.view_is) c.requires.unused) c.self.invariant c.write.ensures.ok c.write.ensures.timestamps c.write.ensures.err

@@ -9,4 +9,4 @@ pub returns-clause-rest : goal.returns-clause-rest
 unfolding from_start
 returns-clause-rest g c =
     let self = c.args.self.now in
-    sought (records (g.T.Tabled.table self.table)) (records c.table.result.now) self.from c.first_near-at.result self.end (key_of c.args.key) (ap records c.table.ensures) c.first_near-at.ensures.low c.first_near-at.ensures.found
+    sought (records (g.T.Tabled.table self.table)) (records c.table.result.now) self.from c.first_near-self.result self.end (key_of c.args.key) (ap records c.table.ensures) c.first_near-self.ensures.low c.first_near-self.ensures.found

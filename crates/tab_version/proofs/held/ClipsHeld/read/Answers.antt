@@ -3,7 +3,7 @@ use Rattle.std.proofs.Common.{◌≡◌, true}
 use Rattle.std.specs.Prelude.{int_le}
 use Rattle.tab_key.specs.Records.{Record}
 use Rattle.tab_iter.specs.Lists.{latest}
-use Rattle.tab_mem.specs.Lists.{IsShort}
+use Rattle.tab_key.specs.Encoding.{IsShort}
 use Rattle.tab_version.proofs.HeldLaws.{each_of}
 use Rattle.tab_version.proofs.held.ClipsHeld.read.Goals as goal
 

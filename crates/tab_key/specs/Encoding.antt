@@ -1,20 +1,19 @@
--- How a record lies in the body of a sorted table.
+-- How a record lies in a body of bytes that holds others too.
 --
 -- A head of 41 bytes, and then row, family, qualifier, label and value in one piece. The head has, the most significant byte first: the
 -- five lengths, 4 bytes each; the timestamp, 8 bytes; the kind, 1 byte, which is 0 for a marker; the number of the mutation, 8 bytes; and
 -- the place in it, 4 bytes.
-use Rattle.std.specs.Prelude.{ℕ, ◌≡◌, ◌≤◌, ◌<◌, ◌^◌, ◌+◌, List, [], ◌∷◌, ◌++◌, length, map, zero, suc, FitsSigned}
+use Rattle.std.specs.Prelude.{ℕ, ℤ, ◌≡◌, ◌≤◌, ◌<◌, ◌^◌, ◌+◌, List, [], ◌∷◌, ◌++◌, length, map, zero, suc, Bool, nat_le, ◌&&◌, FitsSigned}
 use Rattle.std.specs.List.{AllByRecursion, AllByRecursion-prop, slice_range, slice_index}
 use Rattle.std.specs.Coded.{le_prop}
 use Rattle.std.specs.Int.{w32, w64, to_be_bytes, from_be_bytes, cast_signed, cast_unsigned}
-use mathlib.Core.HLevel.{Π_prop}
 use Rattle.tab_key.specs.Order.{kind_rank}
 use Rattle.tab_key.specs.Records as view
 use Rattle.tab_key.specs.RecordSpans.{record_in, IsWithin, packed}
 use Rattle.tab_key.specs.declared.key.Kind.{Kind}
 use Rattle.tab_key.specs.declared.key.Kind.TheVariants.{Delete, Put}
+use Rattle.tab_key.specs.declared.part.TheConstants.{MAX_PART_LEN}
 use Rattle.tab_key.specs.declared.record_span.RecordSpan.{RecordSpan}
-use Rattle.tab_mem.specs.Lists.{IsShort, HasShortParts}
 
 -- ---- reading
 -- the number that four bytes spell, from the place on
@@ -30,7 +29,7 @@ abbrev pub kind_of : ℕ → Kind
 kind_of zero = Delete
 kind_of (suc n) = Put
 
--- where the record lies whose head begins at a place, and what its head says
+-- where the parts of the record lie whose head begins at a place, and what its head says
 unfoldable pub span_at : List ℕ → ℕ → RecordSpan
 span_at body p =
     let start = p + 41 in
@@ -55,13 +54,40 @@ span_at body p =
 abbrev pub record_at : List ℕ → ℕ → view.Record
 record_at body p = record_in body (span_at body p)
 
+-- none of a record's five byte strings is longer than a mutation may have it, 1,048,576 bytes
+pub record IsShort (u : view.Record) : Type 0 where
+  pub row : length u.key.row ≤ MAX_PART_LEN
+  pub family : length u.key.family ≤ MAX_PART_LEN
+  pub qualifier : length u.key.qualifier ≤ MAX_PART_LEN
+  pub label : length u.key.label ≤ MAX_PART_LEN
+  pub value : length u.value ≤ MAX_PART_LEN
+
+-- whether that is so
+abbrev pub is_short : view.Record → Bool
+is_short u = nat_le (length u.key.row) MAX_PART_LEN && nat_le (length u.key.family) MAX_PART_LEN && nat_le (length u.key.qualifier) MAX_PART_LEN && nat_le (length u.key.label) MAX_PART_LEN && nat_le (length u.value) MAX_PART_LEN
+
+-- it lies in the body whole, and is short
+pub record IsAt (body : List ℕ) (p : ℕ) : Type 0 where
+  pub within : IsWithin body (span_at body p)
+  pub short : IsShort (record_at body p)
+
 -- the records whose heads begin at these places
 abbrev pub records_at : List ℕ → List ℕ → List view.Record
 records_at body places = map (record_at body) places
 
 -- each of them lies in the body
-abbrev pub AreWithin : List ℕ → List ℕ → Type 0
-AreWithin body places = AllByRecursion (λ p. IsWithin body (span_at body p)) places
+abbrev pub AreAt : List ℕ → List ℕ → Type 0
+AreAt body places = AllByRecursion (IsAt body) places
+
+-- where so many records begin that lie one after another from a place on
+abbrev pub places_from : List ℕ → ℕ → ℕ → List ℕ
+places_from body p zero = []
+places_from body p (suc n) = p ∷ places_from body (span_at body p).end n
+
+-- where the last of them ends
+abbrev pub end_from : List ℕ → ℕ → ℕ → ℕ
+end_from body p zero = p
+end_from body p (suc n) = end_from body (span_at body p).end n
 
 -- ---- writing
 -- a number in four bytes, and in eight
@@ -83,25 +109,26 @@ numbers r = eight_bytes (cast_unsigned w64 r.key.timestamp) ++ (kind_rank r.kind
 abbrev pub encoded : view.Record → List ℕ
 encoded r = lengths r ++ numbers r ++ packed r
 
--- what isn't bytes of a record has its place in the head
-pub record FitsNumbers (r : view.Record) : Type 0 where
-  pub timestamp : FitsSigned w64 r.key.timestamp
-  pub bits : cast_unsigned w64 r.key.timestamp < 2 ^ 64
-  pub seq : r.seq < 2 ^ 64
-  pub idx : r.idx < 2 ^ 32
+-- how many these are: 41 for the head, and then the five byte strings
+abbrev pub record_size : view.Record → ℕ
+record_size r = 41 + length r.key.row + length r.key.family + length r.key.qualifier + length r.key.label + length r.value
 
--- ---- each of these facts has one proof
+-- what isn't bytes of a record has its place in the head
+pub record FitsNumbers (timestamp : ℤ) (seq idx : ℕ) : Type 0 where
+  pub signed : FitsSigned w64 timestamp
+  pub bits : cast_unsigned w64 timestamp < 2 ^ 64
+  pub seq_bits : seq < 2 ^ 64
+  pub idx_bits : idx < 2 ^ 32
+
+-- ---- these facts have one proof each
 IsWithin-prop : (body : List ℕ) (p : RecordSpan) (a b : IsWithin body p) → a ≡ b
 IsWithin-prop body p a b = λ i. record { row = le_prop a.row b.row i; family = le_prop a.family b.family i; qualifier = le_prop a.qualifier b.qualifier i; label = le_prop a.label b.label i; value = le_prop a.value b.value i; whole = le_prop a.whole b.whole i }
-
-pub IsWithin-prop_if : {P : Type 0} (body : List ℕ) (p : RecordSpan) (a b : P → IsWithin body p) → a ≡ b
-IsWithin-prop_if body p = Π_prop λ _. IsWithin-prop body p
-
-pub AreWithin-prop : (body places : List ℕ) (a b : AreWithin body places) → a ≡ b
-AreWithin-prop body places = AllByRecursion-prop _ (λ p. IsWithin-prop body (span_at body p)) places
 
 IsShort-prop : (u : view.Record) (a b : IsShort u) → a ≡ b
 IsShort-prop u a b = λ i. record { row = le_prop a.row b.row i; family = le_prop a.family b.family i; qualifier = le_prop a.qualifier b.qualifier i; label = le_prop a.label b.label i; value = le_prop a.value b.value i }
 
-pub HasShortParts-prop : (rs : List view.Record) (a b : HasShortParts rs) → a ≡ b
-HasShortParts-prop rs = Π_prop λ u. Π_prop λ _. IsShort-prop u
+IsAt-prop : (body : List ℕ) (p : ℕ) (a b : IsAt body p) → a ≡ b
+IsAt-prop body p a b = λ i. record { within = IsWithin-prop body (span_at body p) a.within b.within i; short = IsShort-prop (record_at body p) a.short b.short i }
+
+pub AreAt-prop : (body places : List ℕ) (a b : AreAt body places) → a ≡ b
+AreAt-prop body places = AllByRecursion-prop _ (IsAt-prop body) places

@@ -1,19 +1,17 @@
 -- A record that was put into a body is read again.
-use Rattle.std.proofs.Common.{◌≡◌, ℕ, ◌+◌, ◌<◌, ◌≤◌, ◌^◌, List, [], ◌∷◌, ◌++◌, refl, sym, ◌∙◌, ap, length, arith, append_assoc, length-append}
+use Rattle.std.proofs.Common.{◌≡◌, ℕ, ◌+◌, ◌<◌, ◌≤◌, ◌^◌, List, [], ◌∷◌, ◌++◌, refl, sym, subst, ◌∙◌, ap, length, arith, append_assoc, length-append}
 use Rattle.std.specs.List.{slice_range, slice_index}
 use Rattle.std.specs.Int.{w32, w64, from_be_bytes, cast_signed, cast_unsigned}
 use Rattle.std.proofs.lemmas.Nat.{from_be_bytes-to_be_bytes_4, from_be_bytes-to_be_bytes_8}
 use Rattle.std.proofs.lemmas.Int.{to_z-of_z}
 use Rattle.tab_key.specs.Order.{kind_rank}
 use Rattle.tab_key.specs.Records.{Record}
-use Rattle.tab_key.specs.RecordSpans.{IsWithin, packed}
+use Rattle.tab_key.specs.RecordSpans.{packed}
 use Rattle.tab_key.specs.declared.key.Kind.{Kind}
 use Rattle.tab_key.specs.declared.key.Kind.TheVariants.{Delete, Put}
 use Rattle.tab_key.proofs.Packed.{LaysOut, laid_within, laid_record, length-packed}
-use Rattle.tab_mem.specs.Lists.{IsShort}
-use Rattle.tab_table.specs.Encoding.{length_at, number_at, kind_of, span_at, record_at, four_bytes, eight_bytes, lengths, numbers, encoded, FitsNumbers}
-use Rattle.tab_table.specs.Sizes.{record_size}
-use Rattle.tab_table.proofs.Slices.{first_length, second_length, third_length, fourth_length, fifth_length, time_there, kind_there, seq_there, idx_there, head_long}
+use Rattle.tab_key.specs.Encoding.{length_at, number_at, kind_of, span_at, record_at, IsAt, four_bytes, eight_bytes, lengths, numbers, encoded, record_size, IsShort, FitsNumbers}
+use Rattle.tab_key.proofs.Slices.{first_length, second_length, third_length, fourth_length, fifth_length, time_there, kind_there, seq_there, idx_there, head_long}
 
 four_long : (n : ℕ) → length (four_bytes n) ≡ 4
 unfolding four_bytes
@@ -35,7 +33,7 @@ kind_read : (k : Kind) → kind_of (kind_rank k) ≡ k
 kind_read Delete = refl
 kind_read Put = refl
 
-module _ (old body : List ℕ) (r : Record) (is : body ≡ old ++ encoded r) (short : IsShort r) (fits : FitsNumbers r) where
+module _ (old body : List ℕ) (r : Record) (is : body ≡ old ++ encoded r) (short : IsShort r) (fits : FitsNumbers r.key.timestamp r.seq r.idx) where
   abbrev a : List ℕ
   a = four_bytes (length r.key.row)
 
@@ -86,10 +84,10 @@ module _ (old body : List ℕ) (r : Record) (is : body ≡ old ++ encoded r) (sh
   kind_says = ap kind_of (kind_there old a b c d e t (kind_rank r.kind) s i (packed r) body is (four_long _) (four_long _) (four_long _) (four_long _) (four_long _) (eight_long _) (eight_long _) (four_long _)) ∙ kind_read r.kind
 
   seq_says : number_at body (at + 29) ≡ r.seq
-  seq_says = number_read body (at + 29) r.seq (seq_there old a b c d e t (kind_rank r.kind) s i (packed r) body is (four_long _) (four_long _) (four_long _) (four_long _) (four_long _) (eight_long _) (eight_long _) (four_long _)) fits.seq
+  seq_says = number_read body (at + 29) r.seq (seq_there old a b c d e t (kind_rank r.kind) s i (packed r) body is (four_long _) (four_long _) (four_long _) (four_long _) (four_long _) (eight_long _) (eight_long _) (four_long _)) fits.seq_bits
 
   idx_says : length_at body (at + 37) ≡ r.idx
-  idx_says = length_read body (at + 37) r.idx (idx_there old a b c d e t (kind_rank r.kind) s i (packed r) body is (four_long _) (four_long _) (four_long _) (four_long _) (four_long _) (eight_long _) (eight_long _) (four_long _)) fits.idx
+  idx_says = length_read body (at + 37) r.idx (idx_there old a b c d e t (kind_rank r.kind) s i (packed r) body is (four_long _) (four_long _) (four_long _) (four_long _) (four_long _) (eight_long _) (eight_long _) (four_long _)) fits.idx_bits
 
   head_there : length (old ++ (lengths r ++ numbers r)) ≡ at + 41
   head_there = head_long old a b c d e t (kind_rank r.kind) s i (packed r) body is (four_long _) (four_long _) (four_long _) (four_long _) (four_long _) (eight_long _) (eight_long _) (four_long _)
@@ -104,17 +102,23 @@ module _ (old body : List ℕ) (r : Record) (is : body ≡ old ++ encoded r) (sh
     qualifier = omega (arith, qualifier_says);
     label = omega (arith, label_says);
     value = omega (arith, value_says);
-    timestamp = ap (cast_signed w64) time_says ∙ to_z-of_z w64 r.key.timestamp fits.timestamp;
+    timestamp = ap (cast_signed w64) time_says ∙ to_z-of_z w64 r.key.timestamp fits.signed;
     kind = kind_says;
     seq = seq_says;
     idx = idx_says;
   }
 
-  pub encoded_within : IsWithin body (span_at body at)
-  encoded_within = laid_within (old ++ (lengths r ++ numbers r)) r body (span_at body at) laid
-
   pub encoded_record : record_at body at ≡ r
   encoded_record = laid_record (old ++ (lengths r ++ numbers r)) r body (span_at body at) laid
+
+  pub encoded_at : IsAt body at
+  encoded_at = record { within = laid_within (old ++ (lengths r ++ numbers r)) r body (span_at body at) laid; short = subst IsShort (sym encoded_record) short }
+
+  -- it ends where the body ends
+  pub encoded_end : (span_at body at).end ≡ length body
+  encoded_end =
+      let whole = ap length is ∙ ap length (sym (append_assoc old (lengths r ++ numbers r) (packed r))) ∙ length-append (old ++ (lengths r ++ numbers r)) (packed r) in
+      omega (arith, whole, laid.start, laid.row, laid.family, laid.qualifier, laid.label, laid.value, length-packed r)
 
   pub encoded_length : length body ≡ length old + record_size r
   encoded_length =

@@ -1,0 +1,253 @@
+//! How a record lies in a body of bytes: a head of 41 bytes, and then its five byte strings in one piece.
+ghost use Rattle.std.specs.Prelude.{◌≡◌, ◌≤◌, ◌+◌, ◌++◌, ◌∷◌, [], IfOk, OnOk, length, nat_le, ◌&&◌, take};
+ghost use Rattle.std.specs.Int.{w64, cast_unsigned};
+ghost use Rattle.tab_key.specs.Encoding.{length_at, number_at, kind_of, span_at, record_at, record_size, IsAt, IsShort, FitsNumbers, four_bytes, eight_bytes, encoded};
+ghost use Rattle.tab_key.specs.KeyOf.{key_of};
+ghost use Rattle.tab_key.specs.Order.{kind_rank};
+ghost use Rattle.tab_key.specs.RecordSpans.{record_in, IsWithin};
+ghost use Rattle.tab_key.specs.declared.part.TheConstants.{MAX_PART_LEN};
+
+use crate::record_span::RecordSpan;
+use crate::{Key, Kind, MAX_PART_LEN, RecordRef};
+use bytes::Buf;
+use std::alloc::AllocError;
+
+// How many bytes a record has before its row.
+const HEAD_LEN: usize = 41;
+
+// How many bytes a record takes in a body, as a room to ask for at once.
+pub(crate) fn byte_count(key: Key<'_>, value: &[u8]) -> usize {
+    HEAD_LEN
+        .saturating_add(key.row.len())
+        .saturating_add(key.family.len())
+        .saturating_add(key.qualifier.len())
+        .saturating_add(key.label.len())
+        .saturating_add(value.len())
+}
+
+/// Whether each part has at most `MAX_PART_LEN` bytes.
+pub(crate) fn are_short(key: Key<'_>, value: &[u8]) -> bool
+    ensures { result ≡ (nat_le (length key.entry.row.now) MAX_PART_LEN && nat_le (length key.entry.family.now) MAX_PART_LEN && nat_le (length key.entry.qualifier.now) MAX_PART_LEN && nat_le (length key.entry.label.now) MAX_PART_LEN && nat_le (length value.now) MAX_PART_LEN) }
+{
+    key.row.len() <= MAX_PART_LEN
+        && key.family.len() <= MAX_PART_LEN
+        && key.qualifier.len() <= MAX_PART_LEN
+        && key.label.len() <= MAX_PART_LEN
+        && value.len() <= MAX_PART_LEN
+}
+
+// Puts the number at the end, in four bytes.
+#[tactic(auto, unfolding(crate::specs::Encoding::four_bytes))]
+fn put_four(body: &mut Vec<u8>, number: u32) -> Result<(), AllocError>
+    ensures ok { OnOk result (body.new.items ≡ body.old.items ++ four_bytes number) }
+    ensures front { take (length body.old.items) body.new.items ≡ body.old.items }
+{
+    body.extend_from_slice(&number.to_be_bytes())
+}
+
+// Puts the number at the end, in eight bytes.
+#[tactic(auto, unfolding(crate::specs::Encoding::eight_bytes))]
+fn put_eight(body: &mut Vec<u8>, number: u64) -> Result<(), AllocError>
+    ensures ok { OnOk result (body.new.items ≡ body.old.items ++ eight_bytes number) }
+    ensures front { take (length body.old.items) body.new.items ≡ body.old.items }
+{
+    body.extend_from_slice(&number.to_be_bytes())
+}
+
+// Puts the length of the part at the end.
+fn put_length(body: &mut Vec<u8>, part: &[u8]) -> Result<(), AllocError>
+    requires { length part.now ≤ MAX_PART_LEN }
+    ensures ok { OnOk result (body.new.items ≡ body.old.items ++ four_bytes (length part.now)) }
+    ensures front { take (length body.old.items) body.new.items ≡ body.old.items }
+{
+    put_four(body, part.len() as u32)
+}
+
+// Puts the five lengths at the end.
+fn put_lengths(body: &mut Vec<u8>, key: Key<'_>, value: &[u8]) -> Result<(), AllocError>
+    requires row { length key.row.now ≤ MAX_PART_LEN }
+    requires family { length key.family.now ≤ MAX_PART_LEN }
+    requires qualifier { length key.qualifier.now ≤ MAX_PART_LEN }
+    requires label { length key.label.now ≤ MAX_PART_LEN }
+    requires value { length value.now ≤ MAX_PART_LEN }
+    ensures ok { OnOk result (body.new.items ≡ body.old.items ++ (four_bytes (length key.entry.row.now) ++ four_bytes (length key.entry.family.now) ++ four_bytes (length key.entry.qualifier.now) ++ four_bytes (length key.entry.label.now) ++ four_bytes (length value.now))) }
+    ensures front { take (length body.old.items) body.new.items ≡ body.old.items }
+{
+    put_length(body, key.row)?;
+    put_length(body, key.family)?;
+    put_length(body, key.qualifier)?;
+    put_length(body, key.label)?;
+    put_length(body, value)
+}
+
+// Puts what isn't bytes of a record at the end.
+fn put_numbers(
+    body: &mut Vec<u8>,
+    timestamp: i64,
+    kind: Kind,
+    seq: u64,
+    idx: u32,
+) -> Result<(), AllocError>
+    ensures ok { OnOk result (body.new.items ≡ body.old.items ++ (eight_bytes (cast_unsigned w64 timestamp) ++ (kind_rank kind ∷ []) ++ eight_bytes seq ++ four_bytes idx)) }
+    ensures fits { FitsNumbers timestamp seq idx }
+    ensures front { take (length body.old.items) body.new.items ≡ body.old.items }
+{
+    let bits = timestamp.cast_unsigned();
+    put_eight(body, bits)?;
+    body.push(kind.rank())?;
+    put_eight(body, seq)?;
+    put_four(body, idx)
+}
+
+// Puts the five byte strings at the end.
+fn put_parts(body: &mut Vec<u8>, key: Key<'_>, value: &[u8]) -> Result<(), AllocError>
+    ensures ok { OnOk result (body.new.items ≡ body.old.items ++ (key.entry.row.now ++ key.entry.family.now ++ key.entry.qualifier.now ++ key.entry.label.now ++ value.now)) }
+    ensures front { take (length body.old.items) body.new.items ≡ body.old.items }
+{
+    body.extend_from_slice(key.row)?;
+    body.extend_from_slice(key.family)?;
+    body.extend_from_slice(key.qualifier)?;
+    body.extend_from_slice(key.label)?;
+    body.extend_from_slice(value)
+}
+
+// Puts a record at the end.
+fn put_record(
+    body: &mut Vec<u8>,
+    key: Key<'_>,
+    kind: Kind,
+    value: &[u8],
+    seq: u64,
+    idx: u32,
+) -> Result<(), AllocError>
+    requires { IsShort (record { key = key_of key; kind = kind; value = value.now; seq = seq; idx = idx }) }
+    ensures ok { OnOk result (body.new.items ≡ body.old.items ++ encoded (record { key = key_of key.entry; kind = kind; value = value.now; seq = seq; idx = idx })) }
+    ensures fits { OnOk result (FitsNumbers key.entry.timestamp seq idx) }
+    ensures front { take (length body.old.items) body.new.items ≡ body.old.items }
+{
+    put_lengths(body, key, value)?;
+    put_numbers(body, key.timestamp, kind, seq, idx)?;
+    put_parts(body, key, value)
+}
+
+/// Puts a record at the end of the body, and says where its head begins. Each part may have at most 1,048,576 bytes.
+///
+/// What the body held before stays as it was. After an error, which only want of memory gives, it may hold more bytes at its end.
+pub fn append(
+    body: &mut Vec<u8>,
+    key: Key<'_>,
+    kind: Kind,
+    value: &[u8],
+    seq: u64,
+    idx: u32,
+) -> Result<usize, AllocError>
+    requires { IsShort (record { key = key_of key; kind = kind; value = value.now; seq = seq; idx = idx }) }
+    ensures place { IfOk result (λ p. p ≡ length body.old.items) }
+    ensures within { IfOk result (λ p. IsAt body.new.items p) }
+    ensures front { take (length body.old.items) body.new.items ≡ body.old.items }
+    ensures record { IfOk result (λ p. record_at body.new.items p ≡ record { key = key_of key.entry; kind = kind; value = value.now; seq = seq; idx = idx }) }
+    ensures end { IfOk result (λ p. (span_at body.new.items p).end ≡ length body.new.items) }
+{
+    let place = body.len();
+    put_record(body, key, kind, value, seq, idx)?;
+    Ok(place)
+}
+
+/// Puts a copy of the record at the end of the body, in one piece, and says where its head begins.
+///
+/// After an error, which only want of memory gives, the body may hold more bytes at its end.
+pub fn append_copy(body: &mut Vec<u8>, source: &RecordRef<'_>) -> Result<usize, AllocError>
+    ensures place { IfOk result (λ p. p ≡ length body.old.items) }
+    ensures within { IfOk result (λ p. IsAt body.new.items p) }
+    ensures front { take (length body.old.items) body.new.items ≡ body.old.items }
+    ensures copy { IfOk result (λ p. record_at body.new.items p ≡ source.now) }
+    ensures size { OnOk result (length body.new.items ≡ length body.old.items + record_size source.now) }
+{
+    let place = body.len();
+    body.extend_from_slice(source.encoded())?;
+    Ok(place)
+}
+
+// The number that the four bytes at a place spell.
+#[tactic(auto, unfolding(crate::specs::Encoding::length_at))]
+fn length_at(body: &[u8], place: usize) -> u32
+    requires { place + 4 ≤ length body.now }
+    ensures { result ≡ length_at body.now place }
+{
+    let mut bytes = &body[place..place + 4];
+    bytes.get_u32()
+}
+
+// The number that the eight bytes at a place spell.
+#[tactic(auto, unfolding(crate::specs::Encoding::number_at))]
+fn number_at(body: &[u8], place: usize) -> u64
+    requires { place + 8 ≤ length body.now }
+    ensures { result ≡ number_at body.now place }
+{
+    let mut bytes = &body[place..place + 8];
+    bytes.get_u64()
+}
+
+// The kind that a byte stands for.
+fn kind_of(byte: u8) -> Kind
+    ensures { result ≡ kind_of byte }
+{
+    match byte {
+        0 => Kind::Delete,
+        _ => Kind::Put,
+    }
+}
+
+/// Where the parts of the record lie whose head begins at a place, and what the head says.
+#[tactic(auto, unfolding(crate::specs::Encoding::span_at))]
+fn span_at(body: &[u8], place: usize) -> RecordSpan
+    requires head { place + 41 ≤ length body.now }
+    requires whole { (span_at body.now place).end ≤ length body.now }
+    ensures { result ≡ span_at body.now place }
+{
+    let start = place + HEAD_LEN;
+    let row_end = start + length_at(body, place) as usize;
+    let family_end = row_end + length_at(body, place + 4) as usize;
+    let qualifier_end = family_end + length_at(body, place + 8) as usize;
+    let label_end = qualifier_end + length_at(body, place + 12) as usize;
+    RecordSpan {
+        start,
+        row_end,
+        family_end,
+        qualifier_end,
+        label_end,
+        end: label_end + length_at(body, place + 16) as usize,
+        timestamp: number_at(body, place + 20).cast_signed(),
+        seq: number_at(body, place + 29),
+        idx: length_at(body, place + 37),
+        kind: kind_of(body[place + 28]),
+    }
+}
+
+/// Where the parts of the record lie that lies in the body at a place.
+pub(crate) fn span_of(body: &[u8], place: usize) -> RecordSpan
+    requires { IsAt body.now place }
+    ensures within { IsWithin body.now result }
+    ensures is { record_in body.now result ≡ record_at body.now place }
+{
+    span_at(body, place)
+}
+
+/// Where the record ends that lies in the body at a place.
+pub fn end_of(body: &[u8], place: usize) -> usize
+    requires { IsAt body.now place }
+    ensures { result ≡ (span_at body.now place).end }
+{
+    span_at(body, place).end
+}
+
+/// The bytes of the record that lies in the body at a place: its head and its parts.
+pub(crate) fn bytes_of(body: &[u8], place: usize) -> &[u8]
+    requires { IsAt body.now place }
+    ensures at { IsAt result.now 0 }
+    ensures record { record_at result.now 0 ≡ record_at body.now place }
+    ensures size { length result.now ≡ record_size (record_at body.now place) }
+{
+    let end = end_of(body, place);
+    &body[place..end]
+}
