@@ -7,7 +7,7 @@
 //! |---|---|
 //! | `specs/Written` | the records of an accepted mutation |
 //! | `specs/Cells` | a query, and the cells that a scan of records shows |
-//! | `specs/SessionState` | how far an open session has come, and its next batch |
+//! | `specs/SessionState` | how far an open session has come, its next batch, and what it has in ranges of rows |
 //! | `specs/Merged`, `MergedExamples` | what a merge of records keeps, and worked examples |
 //! | `compaction`, `specs/Compactions` | the kinds of compactions |
 //! | `laws` | that a scan has one answer |

@@ -1,24 +1,28 @@
 -- The owners of sessions, and slots, as lists.
-use Rattle.std.proofs.Common.{ℕ, zero, suc, ◌≡◌, ◌≢◌, ◌+◌, ◌<◌, ◌≤◌, Bool, true, false, cond, not, List, [], ◌∷◌, ◌++◌, length, get_or, refl, sym, ap, ◌∙◌, subst, arith, Option, Some, None, inl, inr}
-use Rattle.std.specs.Prelude.{bytes_eq, option_map, slice_set}
-use Rattle.std.proofs.lemmas.List.Sums.{prefix_len-le-length}
+use Rattle.std.proofs.Common.{ℕ, zero, suc, ◌≡◌, ◌≢◌, ◌<◌, ◌≤◌, Bool, true, false, cond, List, [], ◌∷◌, length, get_or, refl, sym, ap, ◌∙◌, subst, arith, Option, Some, None, inl, inr}
+use Rattle.std.specs.Prelude.{bytes_eq, is_some, option_map, slice_set}
+use mathlib.Core.Bool.{true≢false}
+use Rattle.std.specs.Ordering.{is_eq}
 use Rattle.std.proofs.lemmas.Slice.Eq.{bytes_eq-Decides}
+use Rattle.tab_key.specs.Bytes.{bytes_cmp}
 use Rattle.tab_key.specs.Records.{Cell}
+use Rattle.tab_key.specs.declared.range.Bounds.{Bounds}
+use Rattle.tab_policy.specs.Entries.{at_name}
+use Rattle.tab_policy.proofs.NameLemmas.{same_name}
 use Rattle.tab_history.specs.declared.reply.Refusal.TheVariants.{NoMemory, NoSession}
 use Rattle.tab_history.specs.declared.reply.Reply.TheVariants.{Done, Refused, Batch}
-use Rattle.tab_history.specs.Answers.{next_answer, close_answer}
+use Rattle.tab_history.specs.Answers.{Told, next_answer, many_answer, close_answer}
 use Rattle.tab_cells.specs.SessionState.{SessionState, gave, batch}
-use Rattle.tab_core.specs.Slots.{slot_at, changed_at, NextFrom, CloseFrom}
-use Rattle.tab_core.specs.Owners.{slots_of, owner_place, LeavesOthers}
-use Rattle.tab_core.specs.declared.running.Owner.{Owner}
+use Rattle.tab_core.specs.Slots.{slot_at, changed_at, NextFrom, ManyFrom, CloseFrom}
+use Rattle.tab_core.specs.Owners.{Owners, slots_in, slots_of, LeavesOthers}
 
 -- ---- slots
-slot_past : (ss : List (Option SessionState)) (at : ℕ) → length ss ≤ at → slot_at ss at ≡ None
+pub slot_past : (ss : List (Option SessionState)) (at : ℕ) → length ss ≤ at → slot_at ss at ≡ None
 slot_past [] at le = refl
 slot_past (s ∷ ss) zero le = absurd (omega arith)
 slot_past (s ∷ ss) (suc at) le = slot_past ss at (omega arith)
 
-slot_found : (ss : List (Option SessionState)) (at : ℕ) (s : Option SessionState) → at < length ss → s ≡ get_or ss at s → slot_at ss at ≡ s
+pub slot_found : (ss : List (Option SessionState)) (at : ℕ) (s : Option SessionState) → at < length ss → s ≡ get_or ss at s → slot_at ss at ≡ s
 slot_found [] at s lt is = absurd (omega arith)
 slot_found (x ∷ ss) zero s lt is = sym is
 slot_found (x ∷ ss) (suc at) s lt is = slot_found ss at s (omega arith) is
@@ -33,24 +37,10 @@ set_changed [] at f lt = absurd (omega arith)
 set_changed (x ∷ ss) zero f lt = refl
 set_changed (x ∷ ss) (suc at) f lt = ap (λ l. x ∷ l) (set_changed ss at f (omega arith))
 
-set_twice : (ss : List (Option SessionState)) (at : ℕ) (a b : Option SessionState) → at < length ss → slice_set (slice_set ss at a) at b ≡ slice_set ss at b
+pub set_twice : (ss : List (Option SessionState)) (at : ℕ) (a b : Option SessionState) → at < length ss → slice_set (slice_set ss at a) at b ≡ slice_set ss at b
 set_twice [] at a b lt = absurd (omega arith)
 set_twice (x ∷ ss) zero a b lt = refl
 set_twice (x ∷ ss) (suc at) a b lt = ap (λ l. x ∷ l) (set_twice ss at a b (omega arith))
-
-set_last : (slots : List (Option SessionState)) (a b : Option SessionState) → slice_set (slots ++ a ∷ []) (length slots) b ≡ slots ++ b ∷ []
-set_last [] a b = refl
-set_last (x ∷ slots) a b = ap (λ l. x ∷ l) (set_last slots a b)
-
-length_more : (slots : List (Option SessionState)) (a : Option SessionState) → length (slots ++ a ∷ []) ≡ suc (length slots)
-length_more [] a = refl
-length_more (x ∷ slots) a = ap suc (length_more slots a)
-
-pub filled : (ss slots : List (Option SessionState)) (last : ℕ) (put : Option SessionState) (held : SessionState) → ss ≡ slots ++ None ∷ [] → last + 1 ≡ length ss → put ≡ Some held → slice_set ss last put ≡ slots ++ Some held ∷ []
-filled ss slots last put held is end put_is =
-    let n : length ss ≡ suc (length slots) = ap length is ∙ length_more slots None in
-    let at : last ≡ length slots = omega (arith, n, end) in
-    (λ i. slice_set (is i) (at i) (put_is i)) ∙ set_last slots None (Some held)
 
 pub next_past : (ss : List (Option SessionState)) (at n : ℕ) → length ss ≤ at → NextFrom ss at n (Refused (NoSession at)) ss
 next_past ss at n le = record { answers = inl (ap (λ (s : Option SessionState). next_answer s at n) (sym (slot_past ss at le))); after = refl }
@@ -67,15 +57,26 @@ next_none ss at n s put lt is none put_is =
     let found : slot_at ss at ≡ None = slot_found ss at s lt is ∙ none in
     record { answers = inl (ap (λ (x : Option SessionState). next_answer x at n) (sym found)); after = put_back ss at None put lt found put_is }
 
-pub close_none : (ss : List (Option SessionState)) (at : ℕ) (s put : Option SessionState) → at < length ss → s ≡ get_or ss at s → s ≡ None → put ≡ None → CloseFrom ss at (Refused (NoSession at)) (slice_set ss at put)
-close_none ss at s put lt is none put_is =
-    let found : slot_at ss at ≡ None = slot_found ss at s lt is ∙ none in
-    record { answers = ap (λ (x : Option SessionState). close_answer x at) (sym found); after = put_back ss at None put lt found put_is }
-
 pub close_done : (ss : List (Option SessionState)) (at : ℕ) (s put : Option SessionState) (held : SessionState) → at < length ss → s ≡ get_or ss at s → s ≡ Some held → put ≡ None → CloseFrom ss at Done (slice_set ss at put)
 close_done ss at s put held lt is some put_is =
     let found : slot_at ss at ≡ Some held = slot_found ss at s lt is ∙ some in
     record { answers = ap (λ (x : Option SessionState). close_answer x at) (sym found); after = ap (slice_set ss at) put_is ∙ set_changed ss at (λ x. None) lt }
+
+-- the place is empty
+pub close_empty : (ss : List (Option SessionState)) (at : ℕ) (s : Option SessionState) → at < length ss → s ≡ get_or ss at s → is_some s ≡ false → CloseFrom ss at (Refused (NoSession at)) ss
+close_empty ss at s lt is empty = record { answers = ap (λ (x : Option SessionState). close_answer x at) (sym (slot_found ss at s lt is ∙ none s empty)); after = refl }
+  where
+    none : (o : Option SessionState) → is_some o ≡ false → o ≡ None
+    none None e = refl
+    none (Some held) e = absurd (true≢false e)
+
+-- it holds a session
+pub close_full : (ss : List (Option SessionState)) (at : ℕ) (s put : Option SessionState) → at < length ss → s ≡ get_or ss at s → is_some s ≡ true → put ≡ None → CloseFrom ss at Done (slice_set ss at put)
+close_full ss at s put lt is full put_is = go s refl
+  where
+    go : (o : Option SessionState) → s ≡ o → CloseFrom ss at Done (slice_set ss at put)
+    go None e = absurd (true≢false (sym full ∙ ap is_some e))
+    go (Some held) e = close_done ss at s put held lt is e put_is
 
 pub next_batch : (ss : List (Option SessionState)) (at n : ℕ) (s put put' : Option SessionState) (held after : SessionState) (cells : List Cell) → at < length ss → s ≡ get_or ss at s → s ≡ Some held
     → cells ≡ batch held n → after ≡ gave (length (batch held n)) held → put' ≡ Some after → NextFrom ss at n (Batch cells) (slice_set (slice_set ss at put) at put')
@@ -95,97 +96,47 @@ next_refused ss at n s put put' held after lt is some same put_is =
     record { answers = inr refl; after = set_twice ss at put put' lt ∙ put_back ss at (Some held) put' lt found (put_is ∙ ap Some same) }
 
 -- ---- owners
-pub place_within : (os : List Owner) (user : List ℕ) (at : ℕ) → at ≡ owner_place os user → at ≢ length os → at < length os
-place_within os user at is other = omega (arith, prefix_len-le-length (λ (o : Owner). not (bytes_eq o.user user)) os)
+-- the slots under the user's name are his
+pub own_found : (os : Owners) (user : List ℕ) (slots : List (Option SessionState)) → at_name user os ≡ Some slots → slots_of os user ≡ slots
+own_found os user slots had = ap slots_in had
 
-pub nowhere : (os : List Owner) (user : List ℕ) → owner_place os user ≡ length os → slots_of os user ≡ []
-nowhere [] user is = refl
-nowhere (o ∷ os) user is =
-    elim (bytes_eq o.user user) as (λ b. cond (not b) (1 + owner_place os user) 0 ≡ suc (length os) → cond b o.sessions (slots_of os user) ≡ []) [
-      | true ↦ λ (e : 0 ≡ suc (length os)). absurd (omega arith)
-      | false ↦ λ (e : 1 + owner_place os user ≡ suc (length os)). nowhere os user (omega arith)
-    ] is
+-- what stands under each name once these slots stand under the user's
+abbrev pub Puts : List ℕ → List (Option SessionState) → Owners → Owners → Type 0
+Puts user slots old new = (q : List ℕ) → at_name q new ≡ cond (is_eq (bytes_cmp user q)) (Some slots) (at_name q old)
 
-pub found_at : (os : List Owner) (user : List ℕ) (at : ℕ) (o : Owner) → at ≡ owner_place os user → at < length os → o ≡ get_or os at o → slots_of os user ≡ o.sessions
-found_at [] user at o is lt found = absurd (omega arith)
-found_at (x ∷ os) user at o is lt found =
-    elim (bytes_eq x.user user) as (λ b. at ≡ cond (not b) (1 + owner_place os user) 0 → cond b x.sessions (slots_of os user) ≡ o.sessions) [
-      | true ↦ λ (e : at ≡ 0). let same : o ≡ x = subst (λ (i : ℕ). o ≡ get_or (x ∷ os) i o) e found in ap (λ (y : Owner). y.sessions) (sym same)
-      | false ↦ λ (e : at ≡ 1 + owner_place os user).
-          let one : at ≡ suc (owner_place os user) = omega arith in
-          found_at os user (owner_place os user) o refl (omega arith) (subst (λ (i : ℕ). o ≡ get_or (x ∷ os) i o) one found)
-    ] is
+-- then they are his
+pub own_put : (user : List ℕ) (slots : List (Option SessionState)) (old new : Owners) → Puts user slots old new → slots_of new user ≡ slots
+own_put user slots old new puts = ap slots_in (puts user ∙ ap (λ b. cond b (Some slots) (at_name user old)) (same_name user user ∙ (bytes_eq-Decides user user).1 refl))
 
-pub user_at : (os : List Owner) (user : List ℕ) (at : ℕ) (o : Owner) → at ≡ owner_place os user → at < length os → o ≡ get_or os at o → bytes_eq o.user user ≡ true
-user_at [] user at o is lt found = absurd (omega arith)
-user_at (x ∷ os) user at o is lt found =
-    elim (bytes_eq x.user user) as (λ b. bytes_eq x.user user ≡ b → at ≡ cond (not b) (1 + owner_place os user) 0 → bytes_eq o.user user ≡ true) [
-      | true ↦ λ (here : bytes_eq x.user user ≡ true) (e : at ≡ 0). let same : o ≡ x = subst (λ (i : ℕ). o ≡ get_or (x ∷ os) i o) e found in ap (λ (y : Owner). bytes_eq y.user user) same ∙ here
-      | false ↦ λ (here : bytes_eq x.user user ≡ false) (e : at ≡ 1 + owner_place os user).
-          let one : at ≡ suc (owner_place os user) = omega arith in
-          user_at os user (owner_place os user) o refl (omega arith) (subst (λ (i : ℕ). o ≡ get_or (x ∷ os) i o) one found)
-    ] refl is
+-- and the others have theirs
+pub others_left : (user : List ℕ) (slots : List (Option SessionState)) (old new : Owners) → Puts user slots old new → LeavesOthers user old new
+others_left user slots old new puts other away = ap slots_in (puts other ∙ ap (λ b. cond b (Some slots) (at_name other old)) (same_name user other ∙ away))
 
--- the slots of the user whose owner was changed
-pub set_own : (os : List Owner) (user : List ℕ) (at : ℕ) (changed : Owner) → at ≡ owner_place os user → at < length os → bytes_eq changed.user user ≡ true → slots_of (slice_set os at changed) user ≡ changed.sessions
-set_own [] user at changed is lt here = absurd (omega arith)
-set_own (x ∷ os) user at changed is lt here =
-    elim (bytes_eq x.user user) as (λ b. bytes_eq x.user user ≡ b → at ≡ cond (not b) (1 + owner_place os user) 0 → slots_of (slice_set (x ∷ os) at changed) user ≡ changed.sessions) [
-      | true ↦ λ (at_x : bytes_eq x.user user ≡ true) (e : at ≡ 0). rw (e, here) refl
-      | false ↦ λ (at_x : bytes_eq x.user user ≡ false) (e : at ≡ 1 + owner_place os user).
-          let one : at ≡ suc (owner_place os user) = omega arith in
-          let later = set_own os user (owner_place os user) changed refl (omega arith) here in
-          rw (one, at_x) later
-    ] refl is
+-- a step of his session is one of what stands under his name
+pub next_own : (old new : Owners) (user : List ℕ) (slot n : ℕ) (reply : Told) (before after : List (Option SessionState)) → at_name user old ≡ Some before → Puts user after old new → NextFrom before slot n reply after → NextFrom (slots_of old user) slot n reply (slots_of new user)
+next_own old new user slot n reply before after had puts from =
+    subst (λ (ss : List (Option SessionState)). NextFrom ss slot n reply (slots_of new user)) (sym (own_found old user before had))
+    (subst (λ (ss : List (Option SessionState)). NextFrom before slot n reply ss) (sym (own_put user after old new puts)) from)
 
--- the slots of the others
-set_others : (os : List Owner) (user : List ℕ) (at : ℕ) (changed : Owner) → at ≡ owner_place os user → at < length os → (other : List ℕ) → ((x : Owner) → bytes_eq x.user user ≡ true → bytes_eq x.user other ≡ false) → bytes_eq changed.user other ≡ false
-    → slots_of (slice_set os at changed) other ≡ slots_of os other
-set_others [] user at changed is lt other apart away = absurd (omega arith)
-set_others (x ∷ os) user at changed is lt other apart away =
-    elim (bytes_eq x.user user) as (λ b. bytes_eq x.user user ≡ b → at ≡ cond (not b) (1 + owner_place os user) 0 → slots_of (slice_set (x ∷ os) at changed) other ≡ slots_of (x ∷ os) other) [
-      | true ↦ λ (at_x : bytes_eq x.user user ≡ true) (e : at ≡ 0). rw (e, away, apart x at_x) refl
-      | false ↦ λ (at_x : bytes_eq x.user user ≡ false) (e : at ≡ 1 + owner_place os user).
-          let one : at ≡ suc (owner_place os user) = omega arith in
-          let later = set_others os user (owner_place os user) changed refl (omega arith) other apart away in
-          rw one (ap (λ l. cond (bytes_eq x.user other) x.sessions l) later)
-    ] refl is
+pub close_own : (old new : Owners) (user : List ℕ) (slot : ℕ) (reply : Told) (before after : List (Option SessionState)) → at_name user old ≡ Some before → Puts user after old new → CloseFrom before slot reply after → CloseFrom (slots_of old user) slot reply (slots_of new user)
+close_own old new user slot reply before after had puts from =
+    subst (λ (ss : List (Option SessionState)). CloseFrom ss slot reply (slots_of new user)) (sym (own_found old user before had))
+    (subst (λ (ss : List (Option SessionState)). CloseFrom before slot reply ss) (sym (own_put user after old new puts)) from)
 
-pub leaves_others : (os : List Owner) (user : List ℕ) (at : ℕ) (changed : Owner) → at ≡ owner_place os user → at < length os → bytes_eq changed.user user ≡ true → LeavesOthers user os (slice_set os at changed)
-leaves_others os user at changed is lt here other away = set_others os user at changed is lt other apart (apart changed here)
+-- a user who comes without sessions had none
+pub none_more : (user : List ℕ) (old new : Owners) → at_name user old ≡ None → Puts user [] old new → (u : List ℕ) → slots_of new u ≡ slots_of old u
+none_more user old new none puts u = go (bytes_eq user u) refl
   where
-    apart : (x : Owner) → bytes_eq x.user user ≡ true → bytes_eq x.user other ≡ false
-    apart x same = ap (λ (n : List ℕ). bytes_eq n other) ((bytes_eq-Decides x.user user).0 same) ∙ away
-
-pub stays : (os : List Owner) (user : List ℕ) → LeavesOthers user os os
-stays os user other away = refl
-
--- an owner is added
-pub added_place : (os more : List Owner) (user : List ℕ) (o : Owner) → owner_place os user ≡ length os → bytes_eq o.user user ≡ true → more ≡ os ++ o ∷ [] → owner_place more user ≡ length os
-added_place os more user o is here grown = ap (λ l. owner_place l user) grown ∙ go os is
-  where
-    go : (l : List Owner) → owner_place l user ≡ length l → owner_place (l ++ o ∷ []) user ≡ length l
-    go [] e = ap (λ b. cond (not b) 1 0) here
-    go (x ∷ l) e =
-        elim (bytes_eq x.user user) as (λ b. cond (not b) (1 + owner_place l user) 0 ≡ suc (length l) → cond (not b) (1 + owner_place (l ++ o ∷ []) user) 0 ≡ suc (length l)) [
-          | true ↦ λ (f : 0 ≡ suc (length l)). absurd (omega arith)
-          | false ↦ λ (f : 1 + owner_place l user ≡ suc (length l)). let ih = go l (omega arith) in omega (arith, ih)
-        ] e
-
-pub added_slots : (os more : List Owner) (o : Owner) → o.sessions ≡ [] → more ≡ os ++ o ∷ [] → (u : List ℕ) → slots_of more u ≡ slots_of os u
-added_slots os more o empty grown u = ap (λ l. slots_of l u) grown ∙ go os
-  where
-    none : (b : Bool) → cond b o.sessions [] ≡ []
-    none true = empty
-    none false = refl
-
-    go : (l : List Owner) → slots_of (l ++ o ∷ []) u ≡ slots_of l u
-    go [] = none (bytes_eq o.user u)
-    go (x ∷ l) = ap (λ s. cond (bytes_eq x.user u) x.sessions s) (go l)
+    go : (b : Bool) → bytes_eq user u ≡ b → slots_of new u ≡ slots_of old u
+    go true same = ap slots_in (puts u ∙ ap (λ v. cond v (Some []) (at_name u old)) (same_name user u ∙ same)) ∙ sym (ap slots_in (ap (λ n. at_name n old) (sym ((bytes_eq-Decides user u).0 same)) ∙ none))
+    go false away = others_left user [] old new puts u away
 
 -- no session, where there is no owner
-pub next_nowhere : (os : List Owner) (user : List ℕ) (slot n : ℕ) → owner_place os user ≡ length os → NextFrom (slots_of os user) slot n (Refused (NoSession slot)) (slots_of os user)
-next_nowhere os user slot n is = subst (λ (ss : List (Option SessionState)). NextFrom ss slot n (Refused (NoSession slot)) ss) (sym (nowhere os user is)) (record { answers = inl refl; after = refl })
+pub next_nowhere : (os : Owners) (user : List ℕ) (slot n : ℕ) → at_name user os ≡ None → NextFrom (slots_of os user) slot n (Refused (NoSession slot)) (slots_of os user)
+next_nowhere os user slot n is = subst (λ (ss : List (Option SessionState)). NextFrom ss slot n (Refused (NoSession slot)) ss) (sym (ap slots_in is)) (record { answers = inl refl; after = refl })
 
-pub close_nowhere : (os : List Owner) (user : List ℕ) (slot : ℕ) → owner_place os user ≡ length os → CloseFrom (slots_of os user) slot (Refused (NoSession slot)) (slots_of os user)
-close_nowhere os user slot is = subst (λ (ss : List (Option SessionState)). CloseFrom ss slot (Refused (NoSession slot)) ss) (sym (nowhere os user is)) (record { answers = refl; after = refl })
+pub many_nowhere : (os : Owners) (user : List ℕ) (slot : ℕ) (ranges : List Bounds) → at_name user os ≡ None → ManyFrom (slots_of os user) slot ranges (Refused (NoSession slot))
+many_nowhere os user slot ranges is = inl (ap (λ (ss : List (Option SessionState)). many_answer (slot_at ss slot) slot ranges) (sym (ap slots_in is)))
+
+pub close_nowhere : (os : Owners) (user : List ℕ) (slot : ℕ) → at_name user os ≡ None → CloseFrom (slots_of os user) slot (Refused (NoSession slot)) (slots_of os user)
+close_nowhere os user slot is = subst (λ (ss : List (Option SessionState)). CloseFrom ss slot (Refused (NoSession slot)) ss) (sym (ap slots_in is)) (record { answers = refl; after = refl })

@@ -4,18 +4,19 @@ use Rattle.std.specs.Prelude.{reverse, bytes_eq}
 use Rattle.std.proofs.lemmas.List.{reverse-append}
 use Rattle.std.proofs.lemmas.Slice.Eq.{bytes_eq-Decides}
 use Rattle.tab_key.specs.Records.{Cell}
+use Rattle.tab_key.specs.declared.range.Bounds.{Bounds}
 use Rattle.tab_key.specs.declared.part.Part.TheVariants.{Sessions}
 use Rattle.tab_history.specs.declared.event.Act.{Act}
 use Rattle.tab_history.specs.declared.event.Act.TheVariants.{Open}
 use Rattle.tab_history.specs.declared.event.Event.{Event}
 use Rattle.tab_history.specs.declared.event.Step.{Step}
-use Rattle.tab_history.specs.declared.event.Step.TheVariants.{Event as IsEvent, Next, Close}
+use Rattle.tab_history.specs.declared.event.Step.TheVariants.{Event as IsEvent, Next, Many, Close}
 use Rattle.tab_history.specs.declared.reply.Refusal.{Refusal}
 use Rattle.tab_history.specs.declared.reply.Refusal.TheVariants.{NoMemory, TooLarge, NoSession}
 use Rattle.tab_history.specs.declared.reply.Reply.{Reply}
-use Rattle.tab_history.specs.declared.reply.Reply.TheVariants.{Done, Refused, Opened, Batch, Rights, Counted, Rows}
+use Rattle.tab_history.specs.declared.reply.Reply.TheVariants.{Done, Refused, Opened, Batch, Ranges, Rights, Counted, Rows}
 use Rattle.tab_history.specs.Bases.{Base}
-use Rattle.tab_history.specs.Answers.{Told, told_of, session_of, answer, event_answer, IsEventReply, next_answer, close_answer, is_open, moves_by, session_list}
+use Rattle.tab_history.specs.Answers.{Told, told_of, session_of, answer, event_answer, IsEventReply, next_answer, many_answer, close_answer, is_open, moves_by, session_list}
 use Rattle.tab_cells.specs.SessionState.{SessionState}
 use Rattle.tab_history.specs.Sessions.{Move, Opening, Taking, Closing, is_full}
 use Rattle.tab_history.specs.Histories.{Entry, World, world_of, world_after, clock_of, clock_at, journal, user_of, moves_of}
@@ -26,13 +27,12 @@ use Rattle.tab_history.proofs.Playing.{unmoved}
 use Rattle.tab_store.specs.Stores.{Held, base_of}
 use Rattle.tab_store.specs.Stepping.{LaysExactly, now_at, plain_answer, StepsExactly}
 use Rattle.tab_core.specs.Stepping.{Steps, HandsOut}
-use Rattle.tab_core.specs.Slots.{slot_at, are_full, NextFrom, CloseFrom, SlotsAre, entries_of, history_of}
-use Rattle.tab_core.specs.Owners.{slots_of, LeavesOthers, OwnersRefine, Lengthens, RunsOn, kept_with, OpensIn}
-use Rattle.tab_core.specs.declared.running.Owner.{Owner}
+use Rattle.tab_core.specs.Slots.{slot_at, are_full, NextFrom, ManyFrom, CloseFrom, SlotsAre, entries_of, history_of}
+use Rattle.tab_core.specs.Owners.{Owners, slots_of, LeavesOthers, OwnersRefine, Lengthens, RunsOn, kept_with, OpensIn}
 use Rattle.tab_core.proofs.SlotLemmas.{slots_none, slots_opened, slots_taken, slots_closed, full_alike}
 
 -- ---- whose slots they are
-own_more : (w : World) (h : List Entry) (step : Step) (reply : Told) (os os' : List Owner) → SlotsAre (moves_by w.base (journal w h) step reply ++ moves_of w (user_of step) h) (slots_of os' (user_of step)) → LeavesOthers (user_of step) os os' → OwnersRefine os w h
+own_more : (w : World) (h : List Entry) (step : Step) (reply : Told) (os os' : Owners) → SlotsAre (moves_by w.base (journal w h) step reply ++ moves_of w (user_of step) h) (slots_of os' (user_of step)) → LeavesOthers (user_of step) os os' → OwnersRefine os w h
     → OwnersRefine os' w (record { step = step; reply = reply } ∷ h)
 unfolding moves_of
 own_more w h step reply os os' own others stand u = go (bytes_eq (user_of step) u) refl
@@ -50,6 +50,7 @@ next_slots : (w : World) (j : List Move) (b : Base) (h : List Entry) (user : Lis
 next_slots w j b h user slot n (Batch cells) ss ss' from are = subst (λ (l : List (Option SessionState)). SlotsAre (Taking slot (length cells) ∷ j) l) (sym from.after) (slots_taken j ss slot (length cells) are)
 next_slots w j b h user slot n Done ss ss' from are = subst (λ (l : List (Option SessionState)). SlotsAre j l) (sym from.after) are
 next_slots w j b h user slot n (Refused r) ss ss' from are = subst (λ (l : List (Option SessionState)). SlotsAre j l) (sym from.after) are
+next_slots w j b h user slot n (Ranges ranges) ss ss' from are = subst (λ (l : List (Option SessionState)). SlotsAre j l) (sym from.after) are
 next_slots w j b h user slot n (Rights r) ss ss' from are = subst (λ (l : List (Option SessionState)). SlotsAre j l) (sym from.after) are
 next_slots w j b h user slot n (Counted counts) ss ss' from are = subst (λ (l : List (Option SessionState)). SlotsAre j l) (sym from.after) are
 next_slots w j b h user slot n (Rows rows) ss ss' from are = subst (λ (l : List (Option SessionState)). SlotsAre j l) (sym from.after) are
@@ -63,15 +64,31 @@ next_answers w h user slot n reply ss ss' from are = go from.answers
     go (inl is) = inl (is ∙ ap (λ (s : Option SessionState). next_answer s slot n) (sym (are.sessions slot)))
     go (inr is) = inr (refl, is)
 
-next_longer : (core : Base) (os os' : List Owner) (user : List ℕ) (slot n : ℕ) (reply : Told) → NextFrom (slots_of os user) slot n reply (slots_of os' user) → LeavesOthers user os os' → Lengthens core os (Next user slot n) reply core os'
+next_longer : (core : Base) (os os' : Owners) (user : List ℕ) (slot n : ℕ) (reply : Told) → NextFrom (slots_of os user) slot n reply (slots_of os' user) → LeavesOthers user os os' → Lengthens core os (Next user slot n) reply core os'
 next_longer core os os' user slot n reply from others w h refines stand legal = (
   still w h core (Next user slot n) reply tt refines,
   own_more w h (Next user slot n) reply os os' (next_slots w (moves_of w user h) w.base h user slot n reply (slots_of os user) (slots_of os' user) from (stand user)) others stand,
   (legal, next_answers w h user slot n reply (slots_of os user) (slots_of os' user) from (stand user)),
 )
 
-pub runs_next : (core : Held) (os os' : List Owner) (user : List ℕ) (slot n : ℕ) (reply : Told) → NextFrom (slots_of os user) slot n reply (slots_of os' user) → LeavesOthers user os os' → RunsOn core os (Next user slot n) reply core os'
+pub runs_next : (core : Held) (os os' : Owners) (user : List ℕ) (slot n : ℕ) (reply : Told) → NextFrom (slots_of os user) slot n reply (slots_of os' user) → LeavesOthers user os os' → RunsOn core os (Next user slot n) reply core os'
 runs_next core os os' user slot n reply from others = record { histories = next_longer (base_of core) os os' user slot n reply from others; exact = inr (tt, refl) }
+
+-- ---- a Many
+many_answers : (w : World) (h : List Entry) (user : List ℕ) (slot : ℕ) (ranges : List Bounds) (reply : Told) (ss : List (Option SessionState)) → ManyFrom ss slot ranges reply → SlotsAre (moves_of w user h) ss → IsAnswer w h h (Many user slot ranges) reply ⊎ LacksMemory (Many user slot ranges) reply
+unfolding answer
+many_answers w h user slot ranges reply ss (inl is) are = inl (is ∙ ap (λ (s : Option SessionState). many_answer s slot ranges) (sym (are.sessions slot)))
+many_answers w h user slot ranges reply ss (inr is) are = inr (refl, is)
+
+many_longer : (core : Base) (os : Owners) (user : List ℕ) (slot : ℕ) (ranges : List Bounds) (reply : Told) → ManyFrom (slots_of os user) slot ranges reply → Lengthens core os (Many user slot ranges) reply core os
+many_longer core os user slot ranges reply from w h refines stand legal = (
+  still w h core (Many user slot ranges) reply tt refines,
+  own_more w h (Many user slot ranges) reply os os (stand user) (λ u other. refl) stand,
+  (legal, many_answers w h user slot ranges reply (slots_of os user) from (stand user)),
+)
+
+pub runs_many : (core : Held) (os : Owners) (user : List ℕ) (slot : ℕ) (ranges : List Bounds) (reply : Told) → ManyFrom (slots_of os user) slot ranges reply → RunsOn core os (Many user slot ranges) reply core os
+runs_many core os user slot ranges reply from = record { histories = many_longer (base_of core) os user slot ranges reply from; exact = inr (tt, refl) }
 
 -- ---- a Close
 close_slots : (w : World) (j : List Move) (b : Base) (h : List Entry) (user : List ℕ) (slot : ℕ) (reply : Told) (ss ss' : List (Option SessionState)) → CloseFrom ss slot reply ss' → SlotsAre j ss → SlotsAre (moves_by b (journal w h) (Close user slot) reply ++ j) ss'
@@ -82,6 +99,7 @@ close_slots w j b h user slot Done ss ss' from are = go (slot_at ss slot) refl
     go (Some held) some = subst (λ (l : List (Option SessionState)). SlotsAre (Closing slot ∷ j) l) (sym from.after) (slots_closed j ss slot held some are)
 close_slots w j b h user slot (Batch cells) ss ss' from are = subst (λ (l : List (Option SessionState)). SlotsAre j l) (sym from.after) are
 close_slots w j b h user slot (Refused r) ss ss' from are = subst (λ (l : List (Option SessionState)). SlotsAre j l) (sym from.after) are
+close_slots w j b h user slot (Ranges ranges) ss ss' from are = subst (λ (l : List (Option SessionState)). SlotsAre j l) (sym from.after) are
 close_slots w j b h user slot (Rights r) ss ss' from are = subst (λ (l : List (Option SessionState)). SlotsAre j l) (sym from.after) are
 close_slots w j b h user slot (Counted counts) ss ss' from are = subst (λ (l : List (Option SessionState)). SlotsAre j l) (sym from.after) are
 close_slots w j b h user slot (Rows rows) ss ss' from are = subst (λ (l : List (Option SessionState)). SlotsAre j l) (sym from.after) are
@@ -91,14 +109,14 @@ close_answers : (w : World) (h : List Entry) (user : List ℕ) (slot : ℕ) (rep
 unfolding answer
 close_answers w h user slot reply ss ss' from are = inl (from.answers ∙ ap (λ (s : Option SessionState). close_answer s slot) (sym (are.sessions slot)))
 
-close_longer : (core : Base) (os os' : List Owner) (user : List ℕ) (slot : ℕ) (reply : Told) → CloseFrom (slots_of os user) slot reply (slots_of os' user) → LeavesOthers user os os' → Lengthens core os (Close user slot) reply core os'
+close_longer : (core : Base) (os os' : Owners) (user : List ℕ) (slot : ℕ) (reply : Told) → CloseFrom (slots_of os user) slot reply (slots_of os' user) → LeavesOthers user os os' → Lengthens core os (Close user slot) reply core os'
 close_longer core os os' user slot reply from others w h refines stand legal = (
   still w h core (Close user slot) reply tt refines,
   own_more w h (Close user slot) reply os os' (close_slots w (moves_of w user h) w.base h user slot reply (slots_of os user) (slots_of os' user) from (stand user)) others stand,
   (legal, close_answers w h user slot reply (slots_of os user) (slots_of os' user) from (stand user)),
 )
 
-pub runs_close : (core : Held) (os os' : List Owner) (user : List ℕ) (slot : ℕ) (reply : Told) → CloseFrom (slots_of os user) slot reply (slots_of os' user) → LeavesOthers user os os' → RunsOn core os (Close user slot) reply core os'
+pub runs_close : (core : Held) (os os' : Owners) (user : List ℕ) (slot : ℕ) (reply : Told) → CloseFrom (slots_of os user) slot reply (slots_of os' user) → LeavesOthers user os os' → RunsOn core os (Close user slot) reply core os'
 runs_close core os os' user slot reply from others = record { histories = close_longer (base_of core) os os' user slot reply from others; exact = inr (tt, refl) }
 
 -- ---- an event
@@ -107,14 +125,14 @@ pub open_takes : (act : Act) → is_open act ≡ true → takes_memory act ≡ t
 open_takes (Open scan) e = refl
 open_takes _ e = absurd (cc)
 
-nowhere_longer : (core : Base) (os os' : List Owner) (event : Event) → takes_memory event.act ≡ true → ((u : List ℕ) → slots_of os' u ≡ slots_of os u) → Lengthens core os (IsEvent event) (Refused NoMemory) core os'
+nowhere_longer : (core : Base) (os os' : Owners) (event : Event) → takes_memory event.act ≡ true → ((u : List ℕ) → slots_of os' u ≡ slots_of os u) → Lengthens core os (IsEvent event) (Refused NoMemory) core os'
 nowhere_longer core os os' event takes same w h refines stand legal = (
   still w h core (IsEvent event) (Refused NoMemory) tt refines,
   own_more w h (IsEvent event) (Refused NoMemory) os os' (subst (λ (l : List (Option SessionState)). SlotsAre (moves_of w event.user h) l) (sym (same event.user)) (stand event.user)) (λ u away. same u) stand,
   (legal, inr (takes, refl)),
 )
 
-pub runs_nowhere : (core : Held) (os os' : List Owner) (event : Event) → takes_memory event.act ≡ true → ((u : List ℕ) → slots_of os' u ≡ slots_of os u) → RunsOn core os (IsEvent event) (Refused NoMemory) core os'
+pub runs_nowhere : (core : Held) (os os' : Owners) (event : Event) → takes_memory event.act ≡ true → ((u : List ℕ) → slots_of os' u ≡ slots_of os u) → RunsOn core os (IsEvent event) (Refused NoMemory) core os'
 runs_nowhere core os os' event takes same = record { histories = nowhere_longer (base_of core) os os' event takes same; exact = inr (tt, refl) }
 
 -- what the core answered, it did exactly
@@ -126,19 +144,20 @@ other_slots : (w : World) (j : List Move) (h : List Entry) (event : Event) (repl
 other_slots w j h event (Batch cells) ss none_opens are = are
 other_slots w j h event Done ss none_opens are = are
 other_slots w j h event (Refused r) ss none_opens are = are
+other_slots w j h event (Ranges ranges) ss none_opens are = are
 other_slots w j h event (Rights r) ss none_opens are = are
 other_slots w j h event (Counted counts) ss none_opens are = are
 other_slots w j h event (Rows rows) ss none_opens are = are
 other_slots w j h event (Opened s) ss none_opens are = subst (λ (b : Bool). SlotsAre (cond b (Opening (session_list w.base (journal w h) event.act) ∷ []) [] ++ j) ss) (sym none_opens) are
 
-other_longer : (old new : Base) (os : List Owner) (event : Event) (r : Reply SessionState) → is_open event.act ≡ false → Steps old event r new → Lengthens old os (IsEvent event) (told_of r) new os
+other_longer : (old new : Base) (os : Owners) (event : Event) (r : Reply SessionState) → is_open event.act ≡ false → Steps old event r new → Lengthens old os (IsEvent event) (told_of r) new os
 other_longer old new os event r none_opens steps w h refines stand legal = (
   steps.refines w h refines,
   own_more w h (IsEvent event) (told_of r) os os (other_slots w (moves_of w event.user h) h event (told_of r) (slots_of os event.user) none_opens (stand event.user)) (λ u away. refl) stand,
   (legal, steps.answers w h refines h (λ opens. absurd (cc (sym none_opens ∙ opens)))),
 )
 
-pub runs_other : (old new : Held) (os : List Owner) (event : Event) (r : Reply SessionState) (reply : Told) → is_open event.act ≡ false → Steps (base_of old) event r (base_of new) → StepsExactly old event (told_of r) new → reply ≡ told_of r → RunsOn old os (IsEvent event) reply new os
+pub runs_other : (old new : Held) (os : Owners) (event : Event) (r : Reply SessionState) (reply : Told) → is_open event.act ≡ false → Steps (base_of old) event r (base_of new) → StepsExactly old event (told_of r) new → reply ≡ told_of r → RunsOn old os (IsEvent event) reply new os
 runs_other old new os event r reply none_opens steps exact is =
     let there : RunsOn old os (IsEvent event) (told_of r) new os = record { histories = other_longer (base_of old) (base_of new) os event r none_opens steps; exact = inl exact } in
     subst (λ (x : Told). RunsOn old os (IsEvent event) x new os) (sym is) there
@@ -149,6 +168,7 @@ kept_slots : (w : World) (j : List Move) (h : List Entry) (event : Event) (r : R
 kept_slots w j h event (Batch cells) ss opens hands are = are
 kept_slots w j h event Done ss opens hands are = are
 kept_slots w j h event (Refused x) ss opens hands are = are
+kept_slots w j h event (Ranges ranges) ss opens hands are = are
 kept_slots w j h event (Rights x) ss opens hands are = are
 kept_slots w j h event (Counted counts) ss opens hands are = are
 kept_slots w j h event (Rows rows) ss opens hands are = are
@@ -163,7 +183,7 @@ full_answer w h event opens full =
     subst (λ (x : Told). IsEventReply event.act x (Refused (TooLarge Sessions))) (sym ((λ i. cond (opens i && full i) (Refused (TooLarge Sessions)) (event_answer w.base (journal w h) (clock_at (clock_of w h) (IsEvent event)) event.user event.act)))) refl
 
 -- where the slots are full, where memory lacked, and where the core answered
-open_stays : (core : Base) (os os' : List Owner) (event : Event) (x : Refusal) → is_open event.act ≡ true → IsNoEvent (IsEvent event) (Refused x) → ((u : List ℕ) → slots_of os' u ≡ slots_of os u)
+open_stays : (core : Base) (os os' : Owners) (event : Event) (x : Refusal) → is_open event.act ≡ true → IsNoEvent (IsEvent event) (Refused x) → ((u : List ℕ) → slots_of os' u ≡ slots_of os u)
     → ((w : World) (h : List Entry) → OwnersRefine os w h → IsAnswer w h h (IsEvent event) (Refused x) ⊎ LacksMemory (IsEvent event) (Refused x)) → Lengthens core os (IsEvent event) (Refused x) core os'
 open_stays core os os' event x opens none_opens same answers w h refines stand legal = (
   still w h core (IsEvent event) (Refused x) none_opens refines,
@@ -171,7 +191,7 @@ open_stays core os os' event x opens none_opens same answers w h refines stand l
   (legal, answers w h stand),
 )
 
-open_answered : (old new : Base) (os os' : List Owner) (event : Event) (r : Reply SessionState) → is_open event.act ≡ true → are_full (slots_of os event.user) ≡ false → Steps old event r new → slots_of os' event.user ≡ kept_with (slots_of os event.user) (session_of r)
+open_answered : (old new : Base) (os os' : Owners) (event : Event) (r : Reply SessionState) → is_open event.act ≡ true → are_full (slots_of os event.user) ≡ false → Steps old event r new → slots_of os' event.user ≡ kept_with (slots_of os event.user) (session_of r)
     → LeavesOthers event.user os os' → Lengthens old os (IsEvent event) (told_of r) new os'
 open_answered old new os os' event r opens room steps slots others w h refines stand legal =
     let ss : List (Option SessionState) = slots_of os event.user in
@@ -182,17 +202,17 @@ open_answered old new os os' event r opens room steps slots others w h refines s
     )
 
 -- of the same slots for all, as of an owner who was added with none
-moved_on : (core new : Base) (os mid os' : List Owner) (step : Step) (reply : Told) → ((u : List ℕ) → slots_of mid u ≡ slots_of os u) → Lengthens core mid step reply new os' → Lengthens core os step reply new os'
+moved_on : (core new : Base) (os mid os' : Owners) (step : Step) (reply : Told) → ((u : List ℕ) → slots_of mid u ≡ slots_of os u) → Lengthens core mid step reply new os' → Lengthens core os step reply new os'
 moved_on core new os mid os' step reply same longer w h refines stand legal = longer w h refines (λ u. subst (λ (l : List (Option SessionState)). SlotsAre (moves_of w u h) l) (sym (same u)) (stand u)) legal
 
-same_slots : (mid os' : List Owner) (user : List ℕ) (slots' : List (Option SessionState)) → slots_of os' user ≡ slots' → slots' ≡ slots_of mid user → LeavesOthers user mid os' → (u : List ℕ) → slots_of os' u ≡ slots_of mid u
+same_slots : (mid os' : Owners) (user : List ℕ) (slots' : List (Option SessionState)) → slots_of os' user ≡ slots' → slots' ≡ slots_of mid user → LeavesOthers user mid os' → (u : List ℕ) → slots_of os' u ≡ slots_of mid u
 same_slots mid os' user slots' now same others u = go (bytes_eq user u) refl
   where
     go : (b : Bool) → bytes_eq user u ≡ b → slots_of os' u ≡ slots_of mid u
     go true is = subst (λ (n : List ℕ). slots_of os' n ≡ slots_of mid n) ((bytes_eq-Decides user u).0 is) (now ∙ same)
     go false away = others u away
 
-pub runs_open : (old new : Held) (os mid os' : List Owner) (event : Event) (reply : Told) (slots slots' : List (Option SessionState)) → is_open event.act ≡ true → ((u : List ℕ) → slots_of mid u ≡ slots_of os u)
+pub runs_open : (old new : Held) (os mid os' : Owners) (event : Event) (reply : Told) (slots slots' : List (Option SessionState)) → is_open event.act ≡ true → ((u : List ℕ) → slots_of mid u ≡ slots_of os u)
     → slots_of mid event.user ≡ slots → slots_of os' event.user ≡ slots' → LeavesOthers event.user mid os' → OpensIn old slots event reply new slots' → RunsOn old os (IsEvent event) reply new os'
 runs_open old new os mid os' event reply slots slots' opens same was now others (inl full) =
     let b : Base = base_of old in

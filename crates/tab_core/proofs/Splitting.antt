@@ -14,7 +14,7 @@ use Rattle.tab_history.specs.declared.event.Act.{Act}
 use Rattle.tab_history.specs.declared.event.Act.TheVariants as act
 use Rattle.tab_history.specs.declared.reply.Refusal.TheVariants.{NoMemory, TooLarge}
 use Rattle.tab_history.specs.declared.reply.Reply.{Reply}
-use Rattle.tab_history.specs.declared.reply.Reply.TheVariants.{Done, Refused, Opened, Batch, Rights, Counted, Rows}
+use Rattle.tab_history.specs.declared.reply.Reply.TheVariants.{Done, Refused, Opened, Batch, Ranges, Rights, Counted, Rows}
 use Rattle.tab_history.specs.Answers.{told, told_of}
 use Rattle.tab_history.specs.Checks.{standing, exists_in, user_named, row_checks, own_checks}
 use Rattle.tab_history.specs.Changes.{changes_of}
@@ -38,6 +38,7 @@ none_handed (Opened u) split.Full all e = absurd (cc)
 none_handed Done s all e = tt
 none_handed (Refused r) s all e = tt
 none_handed (Batch cells) s all e = tt
+none_handed (Ranges ranges) s all e = tt
 none_handed (Rights rights) s all e = tt
 none_handed (Counted counts) s all e = tt
 none_handed (Rows rows) s all e = tt

@@ -11,7 +11,7 @@ use Rattle.tab_history.specs.declared.event.Step.TheVariants.{Event as IsEvent}
 use Rattle.tab_history.specs.declared.reply.Refusal.{Refusal}
 use Rattle.tab_history.specs.declared.reply.Refusal.TheVariants as refusal
 use Rattle.tab_history.specs.declared.reply.Reply.{Reply}
-use Rattle.tab_history.specs.declared.reply.Reply.TheVariants.{Done, Refused, Opened, Batch, Rights, Counted, Rows}
+use Rattle.tab_history.specs.declared.reply.Reply.TheVariants.{Done, Refused, Opened, Batch, Ranges, Rights, Counted, Rows}
 use Rattle.tab_history.specs.Bases.{Base, BaseTable}
 use Rattle.tab_history.specs.Changes.{Change}
 use Rattle.tab_history.specs.Readings.{has_user, user_count, held_auths, has_system_right, has_table_right, table_count, base_settings, settings_of, next_number}
@@ -74,6 +74,7 @@ clock_moved e Done c = refl
 clock_moved e (Refused x) c = refusal_moved e x c
 clock_moved e (Opened u) c = refl
 clock_moved e (Batch cells) c = refl
+clock_moved e (Ranges ranges) c = refl
 clock_moved e (Rights rights) c = refl
 clock_moved e (Counted counts) c = refl
 clock_moved e (Rows rows) c = refl
@@ -84,6 +85,7 @@ changes_alike now e Done = refl
 changes_alike now e (Refused x) = refl
 changes_alike now e (Opened u) = refl
 changes_alike now e (Batch cells) = refl
+changes_alike now e (Ranges ranges) = refl
 changes_alike now e (Rights rights) = refl
 changes_alike now e (Counted counts) = refl
 changes_alike now e (Rows rows) = refl

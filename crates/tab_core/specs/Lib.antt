@@ -6,3 +6,4 @@ pub mod Comparing
 pub mod ComparingExamples
 pub use Rattle.tab_store.specs.Stores
 pub use Rattle.tab_store.specs.Chains
+pub use Rattle.tab_mutation.specs.Shape

@@ -1,6 +1,6 @@
 -- The sessions that a run keeps for its users, and what each step does to them.
-use Rattle.std.specs.Prelude.{ℕ, ◌≡◌, ◌⊎◌, true, false, not, List, [], ◌∷◌, ◌++◌, Option, Some, None, bytes_eq, cond}
-use Rattle.std.specs.List.{prefix_len}
+use Rattle.std.specs.Prelude.{ℕ, ◌≡◌, ◌⊎◌, true, false, List, [], ◌∷◌, ◌++◌, Option, Some, None, bytes_eq}
+use Rattle.tab_policy.specs.Entries.{at_name}
 use Rattle.tab_key.specs.declared.part.Part.TheVariants.{Sessions}
 use Rattle.tab_history.specs.declared.event.Event.{Event}
 use Rattle.tab_history.specs.declared.event.Step.{Step}
@@ -18,32 +18,35 @@ use Rattle.tab_store.specs.Stepping.{StepsExactly}
 use Rattle.tab_store.specs.Chains.{EntryGoes}
 use Rattle.tab_core.specs.Slots.{SlotsAre, are_full}
 use Rattle.tab_core.specs.Stepping.{Steps}
-use Rattle.tab_core.specs.declared.running.Owner.{Owner}
+
+-- users, each with the slots of his sessions
+abbrev pub Owners : Type 0
+Owners = List (List ℕ × List (Option SessionState))
+
+-- the slots that were found, none where there was nothing
+abbrev pub slots_in : Option (List (Option SessionState)) → List (Option SessionState)
+slots_in None = []
+slots_in (Some slots) = slots
 
 -- the slots of this user
-abbrev pub slots_of : List Owner → List ℕ → List (Option SessionState)
-slots_of [] user = []
-slots_of (o ∷ os) user = cond (bytes_eq o.user user) o.sessions (slots_of os user)
-
--- the place of this user among the owners, or their number
-abbrev pub owner_place : List Owner → List ℕ → ℕ
-owner_place os user = prefix_len (λ (o : Owner). not (bytes_eq o.user user)) os
+abbrev pub slots_of : Owners → List ℕ → List (Option SessionState)
+slots_of os user = slots_in (at_name user os)
 
 -- all other users have the slots that they had
-abbrev pub LeavesOthers : List ℕ → List Owner → List Owner → Type 0
+abbrev pub LeavesOthers : List ℕ → Owners → Owners → Type 0
 LeavesOthers user old new = (other : List ℕ) → bytes_eq user other ≡ false → slots_of new other ≡ slots_of old other
 
 -- each user's slots are those of the history
-abbrev pub OwnersRefine : List Owner → World → List Entry → Type 0
+abbrev pub OwnersRefine : Owners → World → List Entry → Type 0
 OwnersRefine os w h = (user : List ℕ) → SlotsAre (moves_of w user h) (slots_of os user)
 
 -- Whatever legal history core and slots refined, they refine the one with this entry, which is legal.
-abbrev pub Lengthens : Base → List Owner → Step → Told → Base → List Owner → Type 0
+abbrev pub Lengthens : Base → Owners → Step → Told → Base → Owners → Type 0
 Lengthens old os step reply new os' = (w : World) (h : List Entry) → Refines (world_of old) (world_after w h) → OwnersRefine os w h → Legal w h
     → let longer : List Entry = record { step = step; reply = reply } ∷ h in Refines (world_of new) (world_after w longer) × OwnersRefine os' w longer × Legal w longer
 
 -- A step of a run: histories go on by it, and so does the core, exactly.
-pub record RunsOn (old : Held) (os : List Owner) (step : Step) (reply : Told) (new : Held) (os' : List Owner) : Type 0 where
+pub record RunsOn (old : Held) (os : Owners) (step : Step) (reply : Told) (new : Held) (os' : Owners) : Type 0 where
   -- each legal history that core and slots refined
   pub histories : Lengthens (base_of old) os step reply (base_of new) os'
   -- an event is an exact step, and what is none leaves the core as it was

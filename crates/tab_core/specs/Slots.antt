@@ -1,9 +1,10 @@
 -- The sessions that a run keeps for its users.
 use Rattle.std.specs.Prelude.{ℕ, zero, suc, ◌≡◌, ◌+◌, Bool, List, [], ◌∷◌, Option, None, option_map, ◌⊎◌, length, is_some, count_by, nat_le, ◌||◌, reverse}
+use Rattle.tab_key.specs.declared.range.Bounds.{Bounds}
 use Rattle.tab_history.specs.declared.event.Step.{Step}
 use Rattle.tab_history.specs.declared.reply.Refusal.TheVariants.{NoMemory}
 use Rattle.tab_history.specs.declared.reply.Reply.TheVariants.{Done, Refused, Batch}
-use Rattle.tab_history.specs.Answers.{Told, next_answer, close_answer}
+use Rattle.tab_history.specs.Answers.{Told, next_answer, many_answer, close_answer}
 use Rattle.tab_cells.specs.SessionState.{SessionState, gave}
 use Rattle.tab_history.specs.Sessions.{Move, opened, closed, session_in}
 use Rattle.tab_history.specs.Histories.{Entry}
@@ -34,6 +35,10 @@ after_close slots k _ = slots
 pub record NextFrom (old : List (Option SessionState)) (k count : ℕ) (reply : Told) (new : List (Option SessionState)) : Type 0 where
   pub answers : (reply ≡ next_answer (slot_at old k) k count) ⊎ (reply ≡ Refused NoMemory)
   pub after : new ≡ after_next old k reply
+
+-- a Many is answered from its slot, or memory lacked; the slots stay as they are
+abbrev pub ManyFrom : List (Option SessionState) → ℕ → List Bounds → Told → Type 0
+ManyFrom slots k ranges reply = (reply ≡ many_answer (slot_at slots k) k ranges) ⊎ (reply ≡ Refused NoMemory)
 
 -- a Close is answered from its slot
 pub record CloseFrom (old : List (Option SessionState)) (k : ℕ) (reply : Told) (new : List (Option SessionState)) : Type 0 where

@@ -15,7 +15,7 @@ use Rattle.tab_history.specs.declared.event.Step.TheVariants.{Event as IsEvent}
 use Rattle.tab_history.specs.declared.reply.Refusal.{Refusal}
 use Rattle.tab_history.specs.declared.reply.Refusal.TheVariants.{NoMemory, TooLarge, NoSession}
 use Rattle.tab_history.specs.declared.reply.Reply.{Reply}
-use Rattle.tab_history.specs.declared.reply.Reply.TheVariants.{Done, Refused, Opened, Batch, Rights, Counted, Rows}
+use Rattle.tab_history.specs.declared.reply.Reply.TheVariants.{Done, Refused, Opened, Batch, Ranges, Rights, Counted, Rows}
 use Rattle.tab_history.specs.Bases.{Base}
 use Rattle.tab_history.specs.Settings.{Settings}
 use Rattle.tab_history.specs.Changes.{Change, changes_of}
@@ -39,6 +39,7 @@ HandsOut (Opened session) all = session ≡ record { all = all; given = 0 }
 HandsOut Done all = Unit {0}
 HandsOut (Refused refusal) all = Unit {0}
 HandsOut (Batch cells) all = Unit {0}
+HandsOut (Ranges ranges) all = Unit {0}
 HandsOut (Rights rights) all = Unit {0}
 HandsOut (Counted counts) all = Unit {0}
 HandsOut (Rows rows) all = Unit {0}

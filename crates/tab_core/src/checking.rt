@@ -1,14 +1,14 @@
-//! The checks that are an event's own.
+//! The checks that are an event's own, and those of a request for ranges.
 ghost use Rattle.std.specs.Prelude.{◌≡◌, ◌<◌, ◌≤◌, ◌⊎◌, ◌^◌, ℕ, Some, None, true, false, length, IsSome};
 ghost use Rattle.tab_mutation.specs.Shape.{first_some, shape_error};
 ghost use Rattle.tab_label.specs.Reading.{label_of};
-ghost use Rattle.tab_history.specs.Checks.{malformed_at, malformed, stamped, outdated, violated, mutation_checks, scan_checks, too_many_auths, shape_refusal, right_checks};
+ghost use Rattle.tab_history.specs.Checks.{malformed_at, malformed, stamped, outdated, violated, mutation_checks, scan_checks, too_many_auths, shape_refusal, right_checks, many_checks, has_bad_range};
 
 use std::alloc::{AllocError, Global};
 use tab_history::{Refusal, Scan, TimeMode};
 use tab_key::{
-    ByteString, Items, MAX_AUTHORIZATION_LEN, MAX_AUTHORIZATIONS, MAX_COLUMNS, Name, Part,
-    is_bad_range,
+    Bounds, ByteString, Items, MAX_AUTHORIZATION_LEN, MAX_AUTHORIZATIONS, MAX_COLUMNS, MAX_RANGES,
+    Name, Part, is_bad_range,
 };
 use tab_label::{AuthSet, judge};
 use tab_mutation::{Mutation, ShapeError, UpdateRef};
@@ -148,6 +148,26 @@ pub fn scan_refusal(alloc: Global, held: &AuthSet, scan: &Scan) -> Option<Refusa
             Err(AllocError) => Some(Refusal::NoMemory),
         },
     }
+}
+
+/// Why a request for the ranges is refused.
+pub fn ranges_refusal(ranges: &[Bounds]) -> Option<Refusal>
+    ensures { result ≡ first_some (many_checks ranges.now) }
+{
+    if ranges.len() > MAX_RANGES {
+        return Some(Refusal::TooLarge(Part::Ranges));
+    }
+    if has_bad_range(ranges) {
+        return Some(Refusal::BadRange);
+    }
+    None
+}
+
+// Whether some of the bounds leave no range.
+fn has_bad_range(ranges: &[Bounds]) -> bool
+    ensures { result ≡ has_bad_range ranges.now }
+{
+    ranges.iter().any(|rows| rows.is_bad())
 }
 
 /// Why granting the permission to the user, or revoking it from him, is refused; `known` says whether he exists.

@@ -68,6 +68,11 @@ fn copy_of(step: &Step) -> Result<Step, AllocError>
             slot: *slot,
             count: *count,
         }),
+        Step::Many { user, slot, ranges } => Ok(Step::Many {
+            user: *user,
+            slot: *slot,
+            ranges: ranges.clone()?,
+        }),
         Step::Close { user, slot } => Ok(Step::Close {
             user: *user,
             slot: *slot,
@@ -112,6 +117,7 @@ fn asker(step: &Step) -> &Name
     match step {
         Step::Event(event) => &event.user,
         Step::Next { user, .. } => user,
+        Step::Many { user, .. } => user,
         Step::Close { user, .. } => user,
     }
 }

@@ -10,7 +10,7 @@
 //! | `store` | what a core holds, and what an event does to it: the policy decides once, then the act is done |
 //! | `policing` | what the policy is asked, and the refusal of whom it doesn't admit |
 //! | `acts`, `users`, `granting`, `writes`, `scans`, `tablets`, `splits` | what each act does |
-//! | `checking` | the checks that are an event's own |
+//! | `checking` | the checks that are an event's own, and those of a request for ranges |
 //! | `reply` | replies without what they hand out |
 //! | `slots`, `running` | the sessions of one user in a run, and runs of steps |
 //! | `comparing` | two runs compared by what one user is told in them |
@@ -38,5 +38,6 @@ mod writes;
 pub use comparing::{Compared, compare_runs};
 pub use reply::told;
 pub use running::run;
+pub use slots::Slots;
 pub use state::Core;
 pub use tab_session::Session;

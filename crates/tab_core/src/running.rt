@@ -1,38 +1,35 @@
 //! Runs of steps.
-ghost use Rattle.std.specs.Prelude.{◌≡◌, ◌<◌, ◌≤◌, true, List, ℕ, IfOk, OnOk, OnErr, bytes_eq, length};
+ghost use Rattle.std.specs.Prelude.{◌≡◌, true, List, ℕ, IfOk, OnOk, is_some, length};
+ghost use Rattle.tab_policy.specs.Entries.{at_name};
 ghost use Rattle.tab_history.specs.Bases.{new_core};
 ghost use Rattle.tab_history.specs.Histories.{world_of};
 ghost use Rattle.tab_history.specs.Legal.{Legal, LacksWhereItMay};
 ghost use Rattle.tab_history.specs.Answers.{is_open};
 ghost use Rattle.tab_store.specs.Chains.{IsExactRun};
-ghost use Rattle.tab_core.specs.Slots.{history_of, NextFrom, CloseFrom};
-ghost use Rattle.tab_core.specs.Owners.{RunsOn, LeavesOthers, OpensIn, slots_of, owner_place};
+ghost use Rattle.tab_core.specs.Slots.{history_of, NextFrom, ManyFrom, CloseFrom};
+ghost use Rattle.tab_core.specs.Owners.{RunsOn, LeavesOthers, slots_of};
 
 use crate::reply::told;
 use crate::slots::Slots;
 use crate::state::Core;
 use std::alloc::{AllocError, Global};
+use std::collections::BTreeMap;
 use tab_history::{Act, Event, Refusal, Reply, Step};
-use tab_key::{Name, Part};
+use tab_key::{Bounds, Items, Name};
+use tab_policy::NameKey;
 
-/// A user and the sessions that a run keeps for him.
-#[derive(Drop)]
-pub struct Owner {
-    /// Whose sessions.
-    pub user: Name,
-    /// By their numbers.
-    pub sessions: Slots,
-}
+// The sessions that a run keeps for each user, by his name.
+type Owners = BTreeMap<NameKey, Slots>;
 
 /// Answers the steps in order, beginning with a new core, and keeps each user's sessions.
 ///
 /// Each event is one step of that core, exactly: a Flush, a Compact and a split lay its records otherwise, a Status counts them as they
-/// lie, and a Splits tells the end rows that there are. What is no event leaves the core as it was: a Next, a Close, and what is refused
-/// for want of memory or by a full list of sessions.
+/// lie, and a Splits tells the end rows that there are. What is no event leaves the core as it was: a Next, a Many, a Close, and what is
+/// refused for want of memory or by a full list of sessions.
 ///
 /// The k-th session opened for a user, counted from 0, has the slot k, which closing it empties for good. Past 65,536
 /// open sessions of one user an Open is refused. Where memory lacks for a step, that step is refused and the run goes on;
-/// it can lack only for a Next, and for an event that takes some. An error means that there was none for the list of replies,
+/// it can lack only for a Next, a Many, and for an event that takes some. An error means that there was none for the list of replies,
 /// or for the core itself.
 pub fn run(alloc: Global, steps: Vec<Step>) -> Result<Vec<Reply>, AllocError>
     ensures length { IfOk result (λ replies. length replies.items ≡ length steps.items) }
@@ -41,7 +38,7 @@ pub fn run(alloc: Global, steps: Vec<Step>) -> Result<Vec<Reply>, AllocError>
     ensures exact { IfOk result (λ replies. IsExactRun (history_of steps.items replies.items)) }
 {
     let mut core = Core::new(alloc)?;
-    let mut owners = Vec::new(alloc);
+    let mut owners = BTreeMap::new(alloc);
     let mut replies = Vec::new(alloc);
     for step in steps {
         replies.reserve(1)?;
@@ -52,36 +49,20 @@ pub fn run(alloc: Global, steps: Vec<Step>) -> Result<Vec<Reply>, AllocError>
 }
 
 // One step.
-fn run_step(alloc: Global, core: &mut Core, owners: &mut Vec<Owner>, step: Step) -> Reply
-    ensures { RunsOn core.old owners.old.items step result core.new owners.new.items }
+fn run_step(alloc: Global, core: &mut Core, owners: &mut Owners, step: Step) -> Reply
+    ensures { RunsOn core.old owners.old.entries step result core.new owners.new.entries }
 {
     match step {
         Step::Event(event) => run_event(alloc, core, owners, event),
         Step::Next { user, slot, count } => run_next(alloc, owners, &user, slot, count),
+        Step::Many { user, slot, ranges } => run_many(alloc, owners, &user, slot, ranges),
         Step::Close { user, slot } => run_close(owners, &user, slot),
     }
 }
 
-// The place of the user's sessions among the owners, or their number where there are none.
-fn place_of(owners: &[Owner], user: &Name) -> usize
-    ensures { result ≡ owner_place owners.now user.now }
-{
-    owners
-        .iter()
-        .take_while(|owner| !is_of(owner, user))
-        .count()
-}
-
-// Whether the sessions are this user's.
-fn is_of(owner: &Owner, user: &Name) -> bool
-    ensures { result ≡ bytes_eq owner.now.user user.now }
-{
-    owner.user.as_bytes() == user.as_bytes()
-}
-
 // An event. An Open past the limit of sessions is refused, and doesn't happen.
-fn run_event(alloc: Global, core: &mut Core, owners: &mut Vec<Owner>, event: Event) -> Reply
-    ensures { RunsOn core.old owners.old.items (Step.Event event) result core.new owners.new.items }
+fn run_event(alloc: Global, core: &mut Core, owners: &mut Owners, event: Event) -> Reply
+    ensures { RunsOn core.old owners.old.entries (Step.Event event) result core.new owners.new.entries }
 {
     if opens(&event.act) {
         run_open(alloc, core, owners, event)
@@ -98,68 +79,68 @@ fn opens(act: &Act) -> bool
 }
 
 // An Open, whose session is kept in its user's next slot.
-fn run_open(alloc: Global, core: &mut Core, owners: &mut Vec<Owner>, event: Event) -> Reply
+fn run_open(alloc: Global, core: &mut Core, owners: &mut Owners, event: Event) -> Reply
     requires { is_open event.act ≡ true }
-    ensures { RunsOn core.old owners.old.items (Step.Event event) result core.new owners.new.items }
+    ensures { RunsOn core.old owners.old.entries (Step.Event event) result core.new owners.new.entries }
 {
-    match owner_for(alloc, owners, event.user) {
-        Ok(at) => open_in(alloc, core, &mut owners[at].sessions, event),
-        Err(AllocError) => Reply::Refused(Refusal::NoMemory),
-    }
-}
-
-// The place of the user among the owners. Where he isn't there, he comes with no session.
-fn owner_for(alloc: Global, owners: &mut Vec<Owner>, user: Name) -> Result<usize, AllocError>
-    ensures place { IfOk result (λ at. at ≡ owner_place owners.new.items user) }
-    ensures bound { IfOk result (λ at. at < length owners.new.items) }
-    ensures slots { (other : List ℕ) → slots_of owners.new.items other ≡ slots_of owners.old.items other }
-{
-    let at = place_of(owners, &user);
-    if at == owners.len() {
-        owners.push(Owner {
-            user,
-            sessions: Slots::new(alloc),
-        })?;
-    }
-    Ok(at)
-}
-
-// The same with the sessions of the event's user.
-#[tactic(auto, using(crate::proofs::Runs::did_exactly))]
-fn open_in(alloc: Global, core: &mut Core, sessions: &mut Slots, event: Event) -> Reply
-    ensures { OpensIn core.old sessions.old event result core.new sessions.new }
-{
-    if sessions.are_full() {
-        return Reply::Refused(Refusal::TooLarge(Part::Sessions));
-    }
-    if sessions.grow().is_err() {
+    if make_owner(alloc, owners, &event.user).is_err() {
         return Reply::Refused(Refusal::NoMemory);
     }
-    let (reply, session) = core.step(alloc, event).into_parts();
-    sessions.settle(session);
-    reply
+    match owners.get_mut(&event.user) {
+        Some(slots) => slots.open(alloc, core, event),
+        // he is among the owners by now
+        None => Reply::Refused(Refusal::NoMemory),
+    }
+}
+
+// Makes the user an owner. Where he isn't one, he comes with no session.
+fn make_owner(alloc: Global, owners: &mut Owners, user: &Name) -> Result<(), AllocError>
+    ensures slots { (other : List ℕ) → slots_of owners.new.entries other ≡ slots_of owners.old.entries other }
+    ensures there { OnOk result (is_some (at_name user.now owners.new.entries) ≡ true) }
+{
+    if owners.get(user).is_some() {
+        return Ok(());
+    }
+    let key = NameKey::new(alloc, user)?;
+    owners.insert(key, Slots::new(alloc))?;
+    Ok(())
 }
 
 // The next cells of a session.
-fn run_next(alloc: Global, owners: &mut Vec<Owner>, user: &Name, slot: u32, count: u32) -> Reply
-    ensures own { NextFrom (slots_of owners.old.items user.now) slot count result (slots_of owners.new.items user.now) }
-    ensures others { LeavesOthers user.now owners.old.items owners.new.items }
+fn run_next(alloc: Global, owners: &mut Owners, user: &Name, slot: u32, count: u32) -> Reply
+    ensures own { NextFrom (slots_of owners.old.entries user.now) slot count result (slots_of owners.new.entries user.now) }
+    ensures others { LeavesOthers user.now owners.old.entries owners.new.entries }
 {
-    let at = place_of(owners, user);
-    if at == owners.len() {
-        return Reply::Refused(Refusal::NoSession(slot));
+    match owners.get_mut(user) {
+        Some(slots) => slots.next(alloc, slot, count),
+        None => Reply::Refused(Refusal::NoSession(slot)),
     }
-    owners[at].sessions.next(alloc, slot, count)
+}
+
+// What a session shows in ranges of rows.
+fn run_many(alloc: Global, owners: &Owners, user: &Name, slot: u32, ranges: Items<Bounds>) -> Reply
+    ensures { ManyFrom (slots_of owners.now.entries user.now) slot ranges result }
+{
+    many_of(alloc, owners, user, slot, ranges.as_slice())
+}
+
+// The same of ranges that are lent.
+fn many_of(alloc: Global, owners: &Owners, user: &Name, slot: u32, ranges: &[Bounds]) -> Reply
+    ensures { ManyFrom (slots_of owners.now.entries user.now) slot ranges.now result }
+{
+    match owners.get(user) {
+        Some(slots) => slots.many(alloc, slot, ranges),
+        None => Reply::Refused(Refusal::NoSession(slot)),
+    }
 }
 
 // The end of a session.
-fn run_close(owners: &mut Vec<Owner>, user: &Name, slot: u32) -> Reply
-    ensures own { CloseFrom (slots_of owners.old.items user.now) slot result (slots_of owners.new.items user.now) }
-    ensures others { LeavesOthers user.now owners.old.items owners.new.items }
+fn run_close(owners: &mut Owners, user: &Name, slot: u32) -> Reply
+    ensures own { CloseFrom (slots_of owners.old.entries user.now) slot result (slots_of owners.new.entries user.now) }
+    ensures others { LeavesOthers user.now owners.old.entries owners.new.entries }
 {
-    let at = place_of(owners, user);
-    if at == owners.len() {
-        return Reply::Refused(Refusal::NoSession(slot));
+    match owners.get_mut(user) {
+        Some(slots) => slots.close(slot),
+        None => Reply::Refused(Refusal::NoSession(slot)),
     }
-    owners[at].sessions.close(slot)
 }

@@ -1,29 +1,39 @@
-//! The sessions of one user in a run, each in the slot that is its number.
-ghost use Rattle.std.specs.Prelude.{◌≡◌, ◌<◌, ◌++◌, ◌∷◌, ℕ, List, [], Option, Some, None, OnOk, OnErr, length, count_by, is_some};
-ghost use Rattle.tab_cells.specs.SessionState.{SessionState};
-ghost use Rattle.tab_core.specs.Slots.{slot_at, are_full, NextFrom, CloseFrom};
-ghost use Rattle.tab_core.specs.Owners.{kept_with};
+//! The sessions of one user in a run or a script, each in the slot that is its number.
+ghost use Rattle.std.specs.Prelude.{◌≡◌, ◌⊎◌, ◌<◌, [], length, count_by, is_some, option_copied, vec_len, vec_capacity};
+ghost use Rattle.tab_key.specs.declared.part.TheConstants.{MAX_SESSIONS};
+ghost use Rattle.tab_history.specs.Answers.{ranges_told};
+ghost use Rattle.tab_core.specs.Slots.{slot_at, are_full, NextFrom, ManyFrom, CloseFrom};
+ghost use Rattle.tab_core.specs.Owners.{kept_with, OpensIn};
 
 use crate::Session;
+use crate::checking::ranges_refusal;
+use crate::state::Core;
 use std::alloc::{AllocError, Global};
 use std::marker::Model;
 use std::mem;
-use tab_history::{Refusal, Reply};
-use tab_key::{MAX_OPENED, MAX_SESSIONS};
+use tab_history::{Event, Refusal, Reply};
+use tab_key::{Bounds, MAX_OPENED, MAX_SESSIONS, Part};
 
-/// One user's sessions by their numbers; none where it was closed.
+/// One user's sessions by their numbers; none where it was closed. A number is given out once.
+///
+/// A session is found by its number in constant time, and whether there is room for another one is known without a count.
 #[derive(Drop)]
 pub struct Slots {
+    // by number
     slots: Vec<Option<Session>>,
+    // how many of them hold a session
+    open: usize,
 }
 
 impl Model for Slots {
-    ghost use Rattle.std.specs.Prelude.{List, Option};
+    ghost use Rattle.std.specs.Prelude.{◌≡◌, List, Option, count_by, is_some};
     ghost use Rattle.tab_cells.specs.SessionState.{SessionState};
 
     ghost Value = { List (Option SessionState) };
 
     ghost view = { λ s. s.slots.items };
+
+    ghost invariant = { λ s. s.open ≡ count_by is_some s.slots.items };
 }
 
 impl Slots {
@@ -33,56 +43,45 @@ impl Slots {
     {
         Slots {
             slots: Vec::new(alloc),
+            open: 0,
         }
     }
 
-    /// Whether no session can be opened any more.
-    pub fn are_full(&self) -> bool
+    // Whether no session can be opened any more.
+    fn are_full(&self) -> bool
         ensures { result ≡ are_full self.now }
     {
         self.count_open() >= MAX_SESSIONS || self.slots.len() as u64 >= MAX_OPENED
     }
 
-    // How many sessions are open.
-    fn count_open(&self) -> usize
+    /// How many sessions are open.
+    pub fn count_open(&self) -> usize
         ensures { result ≡ count_by is_some self.now }
     {
-        count_full(&self.slots)
+        self.open
     }
 
-    /// Adds an empty slot, before the session is there.
-    pub fn grow(&mut self) -> Result<(), AllocError>
-        ensures ok { OnOk result (self.new ≡ self.old ++ None ∷ []) }
-        ensures err { OnErr result (self.new ≡ self.old) }
+    /// How many numbers were given out.
+    pub fn numbers_given(&self) -> usize
+        ensures { result ≡ length self.now }
     {
-        self.slots.push(None)?;
-        Ok(())
+        self.slots.len()
     }
 
-    /// Keeps the session in the slot added last, or takes that slot away where there is none.
-    pub fn settle(&mut self, session: Option<Session>)
-        ensures { (slots : List (Option SessionState)) → self.old ≡ slots ++ None ∷ [] → self.new ≡ kept_with slots session }
+    /// The core answers the Open, and a session that it hands out is kept in the next slot. Where no session can be opened any more the
+    /// event doesn't happen, and neither where there is no memory for the slot.
+    pub fn open(&mut self, alloc: Global, core: &mut Core, event: Event) -> Reply
+        ensures { OpensIn core.old self.old event result core.new self.new }
     {
-        match session {
-            Some(session) => self.fill(session),
-            None => self.shrink(),
+        if self.are_full() {
+            return Reply::Refused(Refusal::TooLarge(Part::Sessions));
         }
-    }
-
-    // Puts the session into the slot added last.
-    fn fill(&mut self, session: Session)
-        ensures { (slots : List (Option SessionState)) → self.old ≡ slots ++ None ∷ [] → self.new ≡ slots ++ Some session ∷ [] }
-    {
-        if let Some(last) = self.slots.len().checked_sub(1) {
-            put(&mut self.slots[last], Some(session));
+        if self.slots.reserve(1).is_err() {
+            return Reply::Refused(Refusal::NoMemory);
         }
-    }
-
-    // Takes the slot away that was added last.
-    fn shrink(&mut self)
-        ensures { (slots : List (Option SessionState)) → self.old ≡ slots ++ None ∷ [] → self.new ≡ slots }
-    {
-        let _ = self.slots.pop();
+        let (reply, session) = core.step(alloc, event).into_parts();
+        keep(&mut self.slots, &mut self.open, session);
+        reply
     }
 
     /// The next cells of the session in the slot.
@@ -106,6 +105,27 @@ impl Slots {
         }
     }
 
+    /// The whole answer of the session in the slot, in each of the ranges.
+    pub fn many(&self, alloc: Global, slot: u32, ranges: &[Bounds]) -> Reply
+        ensures { ManyFrom self.now slot ranges.now result }
+    {
+        match self.get(slot) {
+            None => Reply::Refused(Refusal::NoSession(slot)),
+            Some(session) => in_ranges(alloc, session, ranges),
+        }
+    }
+
+    // The session in the slot.
+    fn get(&self, slot: u32) -> Option<&Session>
+        ensures { option_copied result ≡ slot_at self.now slot }
+    {
+        let at = slot as usize;
+        if at >= self.slots.len() {
+            return None;
+        }
+        self.slots[at].as_ref()
+    }
+
     /// Closes the session in the slot.
     pub fn close(&mut self, slot: u32) -> Reply
         ensures { CloseFrom self.old slot result self.new }
@@ -114,18 +134,39 @@ impl Slots {
         if at >= self.slots.len() {
             return Reply::Refused(Refusal::NoSession(slot));
         }
-        match mem::replace(&mut self.slots[at], None) {
-            Some(_) => Reply::Done,
-            None => Reply::Refused(Refusal::NoSession(slot)),
+        if self.slots[at].is_none() {
+            return Reply::Refused(Refusal::NoSession(slot));
         }
+        put(&mut self.slots[at], None);
+        self.open -= 1;
+        Reply::Done
     }
 }
 
-// How many of the places hold something.
-fn count_full<T>(places: &[Option<T>]) -> usize
-    ensures { result ≡ count_by is_some places.now }
+// Keeps the session in a new slot, if there is one. There is room for the slot.
+fn keep(slots: &mut Vec<Option<Session>>, open: &mut usize, session: Option<Session>)
+    requires room { vec_len slots.old < vec_capacity slots.old }
+    requires few { open.old < MAX_SESSIONS }
+    ensures slots { slots.new.items ≡ kept_with slots.old.items session }
+    ensures counted { open.old ≡ count_by is_some slots.old.items → open.new ≡ count_by is_some slots.new.items }
 {
-    places.iter().filter(|place| place.is_some()).count()
+    if let Some(session) = session {
+        slots.push_reserved(Some(session));
+        *open += 1;
+    }
+}
+
+// The session's whole answer in each of the ranges, or what is wrong with these.
+fn in_ranges(alloc: Global, session: &Session, ranges: &[Bounds]) -> Reply
+    ensures { (result ≡ ranges_told session.now ranges.now) ⊎ (result ≡ Reply.Refused Refusal.NoMemory) }
+{
+    if let Some(refusal) = ranges_refusal(ranges) {
+        return Reply::Refused(refusal);
+    }
+    match session.scan_many(alloc, ranges) {
+        Ok(cells) => Reply::Ranges(cells),
+        Err(AllocError) => Reply::Refused(Refusal::NoMemory),
+    }
 }
 
 // Puts the value into the place, and drops what stood there.

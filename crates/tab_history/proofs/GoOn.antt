@@ -8,7 +8,7 @@ use Rattle.tab_history.specs.declared.event.Act.{Act}
 use Rattle.tab_history.specs.declared.event.Act.TheVariants.{Open, Write, CreateTable, CreateUser}
 use Rattle.tab_history.specs.declared.event.Event.{Event as TheEvent}
 use Rattle.tab_history.specs.declared.event.Step.{Step}
-use Rattle.tab_history.specs.declared.event.Step.TheVariants.{Event, Next, Close}
+use Rattle.tab_history.specs.declared.event.Step.TheVariants.{Event, Next, Many, Close}
 use Rattle.tab_history.specs.declared.reply.Refusal.TheVariants.{NoMemory, TooLarge, NoSession}
 use Rattle.tab_history.specs.declared.reply.Reply.TheVariants.{Done, Refused, Opened, Batch}
 use Rattle.tab_history.specs.Answers.{Told, granted, told, are_used_up, numbered, event_answer, is_open, answer, IsReply, query_of, listed, session_list, changes_by, moves_by}
@@ -100,6 +100,7 @@ module _ (v w : World) (h : Refines v w) where
   moves_same (Event e) _ = refl
   moves_same (Next user slot n) (Batch cells) = refl
   moves_same (Next user slot n) _ = refl
+  moves_same (Many user slot ranges) _ = refl
   moves_same (Close user slot) Done = refl
   moves_same (Close user slot) _ = refl
 

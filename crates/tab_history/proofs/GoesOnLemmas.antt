@@ -3,7 +3,7 @@ use Rattle.std.proofs.Common.{◌≡◌, ◌⊎◌, inl, inr, List, [], ◌∷�
 use Rattle.std.specs.Prelude.{ℤ}
 use Rattle.tab_key.specs.declared.part.Part.TheVariants.{Sessions}
 use Rattle.tab_history.specs.declared.event.Step.{Step}
-use Rattle.tab_history.specs.declared.event.Step.TheVariants.{Event, Next, Close}
+use Rattle.tab_history.specs.declared.event.Step.TheVariants.{Event, Next, Many, Close}
 use Rattle.tab_history.specs.declared.reply.Refusal.TheVariants.{TooLarge}
 use Rattle.tab_history.specs.declared.reply.Reply.TheVariants.{Refused}
 use Rattle.tab_history.specs.Answers.{Told, event_answer, is_open, answer, IsReply}
@@ -26,6 +26,7 @@ room_answer b j now (Event e) w own room = go (is_open e.act) room
     go true room = ap (λ v. cond v (Refused (TooLarge Sessions)) (event_answer b j now e.user e.act)) (sym (room refl))
     go false room = refl
 room_answer b j now (Next user slot n) w own room = absurd room
+room_answer b j now (Many user slot ranges) w own room = absurd room
 room_answer b j now (Close user slot) w own room = absurd room
 
 room_too : (w : World) (h own : List Entry) (step : Step) (r : Told) → HasRoom w own step → IsAnswer w h [] step r ⊎ LacksMemory step r → IsAnswer w h own step r ⊎ LacksMemory step r

@@ -3,6 +3,7 @@ use Rattle.std.proofs.Common.{◌≡◌, ◌⊎◌, inl, inr, ℕ, ◌+◌, List
 use Rattle.std.specs.Prelude.{ℤ, bytes_eq, nat_lt, length, is_some, Option, Some, None, Result, Ok, Err, option_map}
 use mathlib.Core.Bool.{true≢false}
 use Rattle.tab_key.specs.Ranges.{is_bad_range}
+use Rattle.tab_key.specs.declared.range.Bounds.{Bounds}
 use Rattle.tab_key.specs.declared.part.Part.TheVariants.{Columns, Authorizations, Sessions}
 use Rattle.tab_label.specs.Sets.{first_missing}
 use Rattle.tab_label.specs.Reading.{label_of}
@@ -22,15 +23,15 @@ use Rattle.tab_history.specs.declared.event.Act.{Act}
 use Rattle.tab_history.specs.declared.event.Act.TheVariants.{Open, Write, CreateTable, DropTable, SetConstraints, CreateUser, DropUser, SetAuths, Grant, Revoke, Rights as AsksRights, Status, Flush, Compact, AddSplit, SplitBySize, Splits}
 use Rattle.tab_history.specs.declared.event.Scan.{Scan}
 use Rattle.tab_history.specs.declared.event.Step.{Step}
-use Rattle.tab_history.specs.declared.event.Step.TheVariants.{Event, Next, Close}
+use Rattle.tab_history.specs.declared.event.Step.TheVariants.{Event, Next, Many, Close}
 use Rattle.tab_history.specs.declared.reply.Refusal.{Refusal}
 use Rattle.tab_history.specs.declared.reply.Refusal.TheVariants.{NoMemory, TooLarge, TableExists, UserExists, NoUser, BadAuthorizations, BadRange, TimestampNotAllowed, BelowHorizon, RootFixed, GrantInvalid}
 use Rattle.tab_history.specs.declared.reply.Reply.TheVariants.{Refused}
 use Rattle.tab_history.specs.Settings.{Settings, takes_timestamps}
 use Rattle.tab_history.specs.Bases.{Base}
 use Rattle.tab_history.specs.Changes.{Change}
-use Rattle.tab_history.specs.Checks.{Caller, standing, user_named, exists_in, action_of, denial, shape_refusal, malformed_at, malformed, stamped, outdated, violated, mutation_checks, too_many_auths, scan_checks, is_grant, right_checks, own_checks, refusal_of}
-use Rattle.tab_history.specs.Answers.{Told, granted, told, are_used_up, numbered, event_answer, is_open, next_answer, close_answer, answer, leaves_open, MayTell}
+use Rattle.tab_history.specs.Checks.{Caller, standing, user_named, exists_in, action_of, denial, shape_refusal, malformed_at, malformed, stamped, outdated, violated, mutation_checks, too_many_auths, scan_checks, is_grant, right_checks, own_checks, refusal_of, many_checks}
+use Rattle.tab_history.specs.Answers.{Told, granted, told, are_used_up, numbered, event_answer, is_open, next_answer, many_answer, close_answer, answer, leaves_open, MayTell}
 use Rattle.tab_history.specs.Sessions.{Move, is_full, session_in}
 use Rattle.tab_cells.specs.SessionState.{SessionState}
 use Rattle.tab_history.specs.Histories.{Entry, World, clock_of, clock_at, journal, user_of, moves_of}
@@ -175,6 +176,10 @@ of_next : (o : Option SessionState) (slot n : ℕ) → tells_want (next_answer o
 of_next None slot n = refl
 of_next (Some held) slot n = refl
 
+of_many : (o : Option SessionState) (slot : ℕ) (ranges : List Bounds) → tells_want (many_answer o slot ranges) ≡ false
+of_many None slot ranges = refl
+of_many (Some held) slot ranges = of_told (first_some (many_checks ranges)) _ (first (many_checks ranges) (unless _ _ refl, (unless _ _ refl, tt))) refl
+
 of_close : (o : Option SessionState) (slot : ℕ) → tells_want (close_answer o slot) ≡ false
 of_close None slot = refl
 of_close (Some held) slot = refl
@@ -187,6 +192,7 @@ of_answer b j moves now (Event e) = go (is_open e.act && is_full moves)
     go true = refl
     go false = of_told (refusal_of (standing b j e.user) (exists_in b j (user_named e.act)) now e.user e.act) _ (of_refusal (standing b j e.user) (exists_in b j (user_named e.act)) now e.user e.act) (of_numbered (are_used_up b j e.act) (standing b j e.user) e.act)
 of_answer b j moves now (Next user slot n) = of_next (session_in moves slot) slot n
+of_answer b j moves now (Many user slot ranges) = of_many (session_in moves slot) slot ranges
 of_answer b j moves now (Close user slot) = of_close (session_in moves slot) slot
 
 -- what may be told in the place of an answer isn't want of memory either

@@ -5,7 +5,7 @@ use Rattle.tab_history.specs.declared.event.Act.{Act}
 use Rattle.tab_history.specs.declared.event.Act.TheVariants.{Open, Write, CreateTable, DropTable, SetConstraints, CreateUser, DropUser, SetAuths, Grant, Revoke, Rights, Status, Flush, Compact, AddSplit, SplitBySize, Splits}
 use Rattle.tab_history.specs.declared.event.Event.{Event as TheEvent}
 use Rattle.tab_history.specs.declared.event.Step.{Step}
-use Rattle.tab_history.specs.declared.event.Step.TheVariants.{Event, Next, Close}
+use Rattle.tab_history.specs.declared.event.Step.TheVariants.{Event, Next, Many, Close}
 use Rattle.tab_history.specs.declared.reply.Reply.TheVariants.{Refused}
 use Rattle.tab_history.specs.Answers.{Told, leaves_open, MayTell, IsEventReply, IsReply}
 use Rattle.tab_history.specs.Runs.{is_left_open, one_of, one_reply}
@@ -42,6 +42,7 @@ of_event P act plain reply h p f = of_told P act plain reply h p (λ o. f o h)
 pub of_reply : (P : Told → Type 0) (step : Step) (plain reply : Told) → IsReply step plain reply → P plain → ((e : TheEvent) → step ≡ Event e → leaves_open e.act ≡ true → MayTell e.act plain reply → P reply) → P reply
 of_reply P (Event e) plain reply h p f = of_event P e.act plain reply h p (f e refl)
 of_reply P (Next user slot n) plain reply h p f = subst P (sym h) p
+of_reply P (Many user slot ranges) plain reply h p f = subst P (sym h) p
 of_reply P (Close user slot) plain reply h p f = subst P (sym h) p
 
 pub closed_reply : (step : Step) (plain reply : Told) → is_left_open step ≡ false → IsReply step plain reply → reply ≡ plain
@@ -73,6 +74,7 @@ plain_event act plain n = closed_tells act plain n
 pub plain_reply : (step : Step) (plain : Told) → is_left_open step ≡ false → IsReply step plain plain
 plain_reply (Event e) plain n = plain_event e.act plain n
 plain_reply (Next user slot k) plain n = refl
+plain_reply (Many user slot ranges) plain n = refl
 plain_reply (Close user slot) plain n = refl
 
 -- ---- a reply that may be told
@@ -99,4 +101,5 @@ pub one_is_reply : (step : Step) (plain : Told) → IsReply step plain (one_repl
 one_is_reply (Event e) (Refused r) = refl
 one_is_reply (Event e) plain = one_is_told e.act plain
 one_is_reply (Next user slot n) plain = refl
+one_is_reply (Many user slot ranges) plain = refl
 one_is_reply (Close user slot) plain = refl

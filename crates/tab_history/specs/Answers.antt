@@ -6,22 +6,24 @@ use Rattle.tab_history.specs.Bases.{Base}
 use Rattle.tab_history.specs.Changes.{Change, changes_of}
 use Rattle.tab_history.specs.Readings.{user_count, table_count, settings_of, next_number, updates_of}
 use Rattle.tab_cells.specs.Cells.{Query, cells}
-use Rattle.tab_history.specs.Checks.{Caller, standing, refusal_of, user_named, exists_in}
+use Rattle.tab_history.specs.Checks.{Caller, standing, refusal_of, many_checks, user_named, exists_in}
+use Rattle.tab_mutation.specs.Shape.{first_some}
 use Rattle.tab_history.specs.OwnRights.{own_rights}
 use Rattle.tab_history.specs.Sessions.{Move, Opening, Taking, Closing, is_full, session_in}
-use Rattle.tab_cells.specs.SessionState.{SessionState, batch}
+use Rattle.tab_cells.specs.SessionState.{SessionState, batch, in_ranges}
 use Rattle.tab_key.specs.declared.part.Part.TheVariants.{Sessions, Numbers}
+use Rattle.tab_key.specs.declared.range.Bounds.{Bounds}
 use Rattle.tab_history.specs.declared.event.Scan.{Scan}
 use Rattle.tab_history.specs.declared.event.Act.{Act}
 use Rattle.tab_history.specs.declared.event.Act.TheVariants.{Open, Write, CreateTable, DropTable, SetConstraints, CreateUser, DropUser, SetAuths, Grant, Revoke, Rights as AsksRights, Status, Flush, Compact, AddSplit, SplitBySize, Splits}
 use Rattle.tab_history.specs.declared.event.Step.{Step}
-use Rattle.tab_history.specs.declared.event.Step.TheVariants.{Event, Next, Close}
+use Rattle.tab_history.specs.declared.event.Step.TheVariants.{Event, Next, Many, Close}
 use Rattle.tab_history.specs.declared.counts.Counts.{Counts}
 use Rattle.tab_history.specs.declared.split_fault.SplitFault.TheVariants.{Present, Small, OneRow}
 use Rattle.tab_history.specs.declared.reply.Refusal.{Refusal}
 use Rattle.tab_history.specs.declared.reply.Refusal.TheVariants.{TooLarge, NoSession, BadSplit}
 use Rattle.tab_history.specs.declared.reply.Reply.{Reply}
-use Rattle.tab_history.specs.declared.reply.Reply.TheVariants.{Done, Refused, Opened, Batch, Rights, Counted, Rows}
+use Rattle.tab_history.specs.declared.reply.Reply.TheVariants.{Done, Refused, Opened, Batch, Ranges, Rights, Counted, Rows}
 
 -- a reply without the session that goes with it
 abbrev pub Told : Type 0
@@ -37,6 +39,7 @@ told_of Done = Done
 told_of (Refused refusal) = Refused refusal
 told_of (Opened session) = told_opened
 told_of (Batch cells) = Batch cells
+told_of (Ranges ranges) = Ranges ranges
 told_of (Rights rights) = Rights rights
 told_of (Counted counts) = Counted counts
 told_of (Rows rows) = Rows rows
@@ -47,6 +50,7 @@ session_of Done = None
 session_of (Refused refusal) = None
 session_of (Opened session) = Some session
 session_of (Batch cells) = None
+session_of (Ranges ranges) = None
 session_of (Rights rights) = None
 session_of (Counted counts) = None
 session_of (Rows rows) = None
@@ -115,6 +119,15 @@ abbrev pub next_answer : Option SessionState → ℕ → ℕ → Told
 next_answer None slot n = Refused (NoSession slot)
 next_answer (Some held) slot n = Batch (batch held n)
 
+-- what is wrong with the ranges, or else the session's whole answer in each of them, whatever was given of it
+abbrev pub ranges_told : SessionState → List Bounds → Told
+ranges_told held ranges = told (first_some (many_checks ranges)) (Ranges (in_ranges held ranges))
+
+-- the same of the session in the slot; that there is none is told first
+abbrev pub many_answer : Option SessionState → ℕ → List Bounds → Told
+many_answer None slot ranges = Refused (NoSession slot)
+many_answer (Some held) slot ranges = ranges_told held ranges
+
 -- a session in the slot can be closed
 abbrev pub close_answer : Option SessionState → ℕ → Told
 close_answer None slot = Refused (NoSession slot)
@@ -125,6 +138,7 @@ close_answer (Some held) slot = Done
 unfoldable pub answer : Base → List Change → List Move → ℤ → Step → Told
 answer b j moves now (Event e) = cond (is_open e.act && is_full moves) (Refused (TooLarge Sessions)) (event_answer b j now e.user e.act)
 answer b j moves now (Next user slot n) = next_answer (session_in moves slot) slot n
+answer b j moves now (Many user slot ranges) = many_answer (session_in moves slot) slot ranges
 answer b j moves now (Close user slot) = close_answer (session_in moves slot) slot
 
 -- ---- open answers: no history tells where records lie, and so neither what is told of that
@@ -178,6 +192,7 @@ IsEventReply act plain reply = MayTell act plain reply
 abbrev pub IsReply : Step → Told → Told → Type 0
 IsReply (Event e) plain reply = IsEventReply e.act plain reply
 IsReply (Next user slot n) plain reply = reply ≡ plain
+IsReply (Many user slot ranges) plain reply = reply ≡ plain
 IsReply (Close user slot) plain reply = reply ≡ plain
 
 -- ---- what a step does

@@ -8,7 +8,7 @@ use Rattle.tab_history.specs.Legal.{IsAnswer, LacksMemory, LegalAlone}
 use Rattle.tab_history.specs.Refinement.{Refines, IsSound, IsAlike}
 use Rattle.tab_history.specs.declared.event.Act.{Act}
 use Rattle.tab_history.specs.declared.event.Step.{Step}
-use Rattle.tab_history.specs.declared.event.Step.TheVariants.{Event, Next, Close}
+use Rattle.tab_history.specs.declared.event.Step.TheVariants.{Event, Next, Many, Close}
 
 -- ---- one step of a core, seen from the core alone
 -- the entry is legal on what the core holds, and the next core refines that entry on it
@@ -26,6 +26,7 @@ RightStep = (before : Base) (e : Entry) (after : Base) → IsSound (world_of bef
 abbrev pub HasRoom : World → List Entry → Step → Type 0
 HasRoom w own (Event e) = is_open e.act ≡ true → is_full (moves_of w e.user own) ≡ false
 HasRoom w own (Next user slot n) = ⊥
+HasRoom w own (Many user slot ranges) = ⊥
 HasRoom w own (Close user slot) = ⊥
 
 -- what the step means after the entries h of w, for which the core stood before

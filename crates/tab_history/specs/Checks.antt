@@ -1,5 +1,6 @@
--- Why an event is refused: its checks, in their order.
+-- Why an event is refused, or a request for ranges: the checks, in their order.
 use Rattle.std.specs.Prelude.{ℕ, ℤ, List, [], ◌∷◌, Bool, true, false, not, ◌||◌, nat_lt, int_lt, bytes_eq, Option, Some, None, Result, Ok, Err, is_some, length, unwrap_or, cond, option_map}
+use Rattle.std.specs.List.{list_any}
 use Rattle.tab_label.specs.Sets.{has_longer, first_missing}
 use Rattle.tab_label.specs.Reading.{label_of}
 use Rattle.tab_key.specs.Ranges.{is_bad_range}
@@ -15,7 +16,8 @@ use Rattle.tab_history.specs.Readings.{has_user, held_auths, may_system, has_tab
 use Rattle.tab_mutation.specs.declared.shape_error.ShapeError.{ShapeError}
 use Rattle.tab_mutation.specs.declared.shape_error.ShapeError.TheVariants as shape
 use Rattle.tab_rules.specs.declared.violation.Violation.{Violation}
-use Rattle.tab_key.specs.declared.part.Part.TheVariants.{Row, Columns, Authorizations}
+use Rattle.tab_key.specs.declared.part.Part.TheVariants.{Row, Columns, Authorizations, Ranges}
+use Rattle.tab_key.specs.declared.range.Bounds.{Bounds}
 use Rattle.tab_policy.specs.declared.permission.SystemPermission.{SystemPermission}
 use Rattle.tab_policy.specs.declared.permission.SystemPermission.TheVariants as system
 use Rattle.tab_policy.specs.declared.permission.Permission.{Permission}
@@ -180,3 +182,12 @@ own_checks c there now (Splits t) = []
 -- why the event is refused: the first failing check, the policy's before its own
 unfoldable pub refusal_of : Caller → Bool → ℤ → List ℕ → Act → Option Refusal
 refusal_of c there now user act = first_some (denial user (decision c.policy (action_of act)) ∷ own_checks c there now act)
+
+-- ---- the checks of a request for ranges
+-- one of these bounds leaves no range
+abbrev pub has_bad_range : List Bounds → Bool
+has_bad_range ranges = list_any (λ (b : Bounds). is_bad_range b.low b.high) ranges
+
+-- over 1,000 ranges; a range that is none
+abbrev pub many_checks : List Bounds → List (Option Refusal)
+many_checks ranges = when (nat_lt 1000 (length ranges)) (TooLarge Ranges) ∷ when (has_bad_range ranges) BadRange ∷ []

@@ -6,9 +6,9 @@ use Rattle.tab_key.specs.Records.{Cell}
 use Rattle.tab_key.specs.Order.{column_cmp, key_cmp, place_cmp, newer_cmp}
 use Rattle.tab_key.specs.Kept.{same_column, hides, is_deleted, outranks, is_kept}
 use Rattle.tab_key.specs.declared.key.Kind.TheVariants.{Put, Delete}
-use Rattle.tab_key.specs.declared.part.Part.TheVariants.{Row, Numbers}
+use Rattle.tab_key.specs.declared.part.Part.TheVariants.{Row, Numbers, Ranges as RangesPart}
 use Rattle.tab_key.specs.declared.range.Bounds.{Bounds}
-use Rattle.tab_key.specs.declared.range.Bound.TheVariants.{Inclusive, Exclusive}
+use Rattle.tab_key.specs.declared.range.Bound.TheVariants.{Unbounded, Inclusive, Exclusive}
 use Rattle.tab_label.specs.Grammar.{is_term_byte}
 use Rattle.tab_label.specs.Machine.{step, ending}
 use Rattle.tab_label.specs.Reading.{reads_on, label_of}
@@ -42,9 +42,9 @@ use Rattle.tab_history.specs.declared.event.Extent.TheVariants.{Partial, Full}
 use Rattle.tab_history.specs.declared.event.Act.{Act}
 use Rattle.tab_history.specs.declared.event.Act.TheVariants as act
 use Rattle.tab_history.specs.declared.event.Step.{Step}
-use Rattle.tab_history.specs.declared.event.Step.TheVariants.{Next, Close}
+use Rattle.tab_history.specs.declared.event.Step.TheVariants.{Next, Many, Close}
 use Rattle.tab_history.specs.declared.reply.Refusal.TheVariants.{UnknownUser, NoTable, PermissionDenied, BadAuthorizations, MalformedVisibility, ConstraintViolation, TimestampNotAllowed, EmptyMutation, TooLarge, TableExists, UserExists, NoUser, BadRange, NoSession, RootFixed, GrantInvalid, BelowHorizon, BadSplit}
-use Rattle.tab_history.specs.declared.reply.Reply.TheVariants.{Done, Refused, Opened, Batch, Rights, Counted, Rows}
+use Rattle.tab_history.specs.declared.reply.Reply.TheVariants.{Done, Refused, Opened, Batch, Ranges, Rights, Counted, Rows}
 use Rattle.tab_history.specs.ExampleWords.{t, r, f, q, v, bob, everywhere, asks, as_root, as_bob}
 
 -- whether the reply says no more than that all went well
@@ -250,6 +250,55 @@ closing = refl
 ranges : replies (three_rows ++ as_root (opens (record { low = Exclusive (codes "a"); high = Inclusive (codes "b") }) []) ∷ Next root 0 9 ∷ as_root (opens (record { low = Exclusive (codes "b"); high = Inclusive (codes "b") }) []) ∷ []) ≡ Batch (cell (codes "b") [] (pos 1) v ∷ []) ∷ Refused BadRange ∷ []
 unfolding everything
 ranges = refl
+
+-- ---- the answer of a session in ranges
+-- the cells of the three rows, of which a cell of one
+abbrev of_row : List ℕ → Cell
+of_row row = cell row [] (pos 1) v
+
+-- the row a alone
+abbrev only_a : Bounds
+only_a = record { low = Inclusive (codes "a"); high = Inclusive (codes "a") }
+
+-- the rows behind a
+abbrev behind_a : Bounds
+behind_a = record { low = Exclusive (codes "a"); high = Unbounded }
+
+-- the rows from x on, where there is none
+abbrev from_x : Bounds
+from_x = record { low = Inclusive (codes "x"); high = Unbounded }
+
+-- no range: b is above a
+abbrev falling : Bounds
+falling = record { low = Inclusive (codes "b"); high = Inclusive (codes "a") }
+
+-- each range has its cells, whatever batches were taken before; an empty request has no range, and the session goes on where it was
+in_each_range : replies (three_rows ++ as_root (opens everywhere []) ∷ Next root 0 2 ∷ Many root 0 (only_a ∷ behind_a ∷ from_x ∷ []) ∷ Many root 0 [] ∷ Next root 0 9 ∷ [])
+    ≡ Batch (of_row (codes "a") ∷ of_row (codes "b") ∷ []) ∷ Ranges ((of_row (codes "a") ∷ []) ∷ (of_row (codes "b") ∷ of_row (codes "c") ∷ []) ∷ [] ∷ []) ∷ Ranges [] ∷ Batch (of_row (codes "c") ∷ []) ∷ []
+unfolding everything
+in_each_range = refl
+
+-- Ranges come in the order in which they were asked for, and may meet. The session's own rows bound them all, and it answers as it opened.
+in_its_own_rows : replies (three_rows ++ as_root (opens behind_a []) ∷ as_root (writes (codes "b") (del [] (Some (pos 1)) ∷ [])) ∷ Many root 0 (from_x ∷ everywhere ∷ everywhere ∷ only_a ∷ []) ∷ [])
+    ≡ Ranges ([] ∷ (of_row (codes "b") ∷ of_row (codes "c") ∷ []) ∷ (of_row (codes "b") ∷ of_row (codes "c") ∷ []) ∷ [] ∷ []) ∷ []
+unfolding everything
+in_its_own_rows = refl
+
+-- of several faults the first check's is told: the session, then the number of ranges, then what is no range
+refused_ranges : replies (make ∷ Many root 0 (falling ∷ []) ∷ as_root (opens everywhere []) ∷ Many root 0 (replicate 1001 falling) ∷ Many root 0 (replicate 1001 everywhere) ∷ Many root 0 (everywhere ∷ falling ∷ []) ∷ Many root 0 (replicate 3 everywhere) ∷ Many bob 0 [] ∷ Close root 0 ∷ Many root 0 [] ∷ [])
+    ≡ Refused (NoSession 0) ∷ Refused (TooLarge RangesPart) ∷ Refused (TooLarge RangesPart) ∷ Refused BadRange ∷ Ranges ([] ∷ [] ∷ [] ∷ []) ∷ Refused (NoSession 0) ∷ Refused (NoSession 0) ∷ []
+unfolding everything
+refused_ranges = refl
+
+-- a thousand ranges are answered
+thousand_ranges : replies (make ∷ as_root (opens everywhere []) ∷ Many root 0 (replicate 1000 everywhere) ∷ []) ≡ Ranges (replicate 1000 []) ∷ []
+unfolding everything
+thousand_ranges = refl
+
+-- it is no event: the clock stays
+no_moment : replies (as_root (act.CreateTable t Server 1) ∷ as_root (opens everywhere []) ∷ Many root 0 (falling ∷ []) ∷ as_root (writes r (put [] v None ∷ [])) ∷ scan [] 1) ≡ Refused BadRange ∷ Batch (cell r [] (pos 0) v ∷ []) ∷ []
+unfolding everything
+no_moment = refl
 
 -- ---- refusals
 -- a constraint refuses the whole mutation

@@ -7,7 +7,7 @@ use Rattle.tab_history.specs.Sessions.{Move}
 use Rattle.tab_history.specs.Answers.{Told, changes_by, moves_by}
 use Rattle.tab_key.specs.declared.part.Part.TheVariants.{Sessions}
 use Rattle.tab_history.specs.declared.event.Step.{Step}
-use Rattle.tab_history.specs.declared.event.Step.TheVariants.{Event, Next, Close}
+use Rattle.tab_history.specs.declared.event.Step.TheVariants.{Event, Next, Many, Close}
 use Rattle.tab_history.specs.declared.reply.Refusal.TheVariants.{NoMemory, TooLarge, NoSession}
 use Rattle.tab_history.specs.declared.reply.Reply.TheVariants.{Refused}
 
@@ -60,6 +60,7 @@ world_after w es = record { base = w.base; changes = journal w es; clock = clock
 abbrev pub user_of : Step → List ℕ
 user_of (Event e) = e.user
 user_of (Next user slot n) = user
+user_of (Many user slot ranges) = user
 user_of (Close user slot) = user
 
 -- whether the step is the user's

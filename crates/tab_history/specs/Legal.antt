@@ -6,7 +6,7 @@ use Rattle.tab_key.specs.declared.part.Part.TheVariants.{Numbers}
 use Rattle.tab_history.specs.declared.event.Act.{Act}
 use Rattle.tab_history.specs.declared.event.Act.TheVariants.{Open, Write, CreateTable, DropTable, SetConstraints, CreateUser, DropUser, SetAuths, Grant, Revoke, Rights, Status, Flush, Compact, AddSplit, SplitBySize, Splits}
 use Rattle.tab_history.specs.declared.event.Step.{Step}
-use Rattle.tab_history.specs.declared.event.Step.TheVariants.{Event, Next, Close}
+use Rattle.tab_history.specs.declared.event.Step.TheVariants.{Event, Next, Many, Close}
 use Rattle.tab_history.specs.declared.reply.Refusal.TheVariants.{NoMemory, TooLarge}
 use Rattle.tab_history.specs.declared.reply.Reply.TheVariants.{Refused}
 
@@ -43,6 +43,7 @@ takes_memory (Splits t) = true
 abbrev pub may_lack : Step → Bool
 may_lack (Event e) = takes_memory e.act
 may_lack (Next user slot n) = true
+may_lack (Many user slot ranges) = true
 may_lack (Close user slot) = false
 
 -- memory lacked for a step that takes some

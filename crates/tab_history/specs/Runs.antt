@@ -7,7 +7,7 @@ use Rattle.tab_key.specs.declared.part.Part.TheVariants.{Sessions}
 use Rattle.tab_history.specs.declared.event.Act.{Act}
 use Rattle.tab_history.specs.declared.event.Act.TheVariants.{Open, Write, CreateTable, DropTable, SetConstraints, CreateUser, DropUser, SetAuths, Grant, Revoke, Rights, Status, Flush, Compact, AddSplit, SplitBySize, Splits}
 use Rattle.tab_history.specs.declared.event.Step.{Step}
-use Rattle.tab_history.specs.declared.event.Step.TheVariants.{Event, Next, Close}
+use Rattle.tab_history.specs.declared.event.Step.TheVariants.{Event, Next, Many, Close}
 use Rattle.tab_history.specs.declared.reply.Refusal.TheVariants.{NoMemory, TooLarge, NoSession}
 use Rattle.tab_history.specs.declared.reply.Reply.TheVariants.{Refused, Counted, Rows}
 
@@ -37,6 +37,7 @@ abbrev pub one_reply : Step → Told → Told
 one_reply (Event e) (Refused r) = Refused r
 one_reply (Event e) plain = one_of e.act plain
 one_reply (Next user slot n) plain = plain
+one_reply (Many user slot ranges) plain = plain
 one_reply (Close user slot) plain = plain
 
 -- one of the replies to a step after these entries, in one run
@@ -57,6 +58,7 @@ EveryRunIsAnswered = (w : World) (steps : List Step) → (es : List Entry) × Le
 abbrev pub is_left_open : Step → Bool
 is_left_open (Event e) = leaves_open e.act
 is_left_open (Next user slot n) = false
+is_left_open (Many user slot ranges) = false
 is_left_open (Close user slot) = false
 
 -- the step of an entry, and its reply where that is left open
@@ -80,6 +82,7 @@ IsNoEvent (Event e) (Refused (TooLarge Sessions)) = Unit {0}
 IsNoEvent (Event e) (Refused (NoSession slot)) = Unit {0}
 IsNoEvent (Event e) reply = ⊥
 IsNoEvent (Next user slot n) reply = Unit {0}
+IsNoEvent (Many user slot ranges) reply = Unit {0}
 IsNoEvent (Close user slot) reply = Unit {0}
 
 -- users, rights, tables and the clock stay as they were

@@ -124,6 +124,16 @@ pub enum Step {
         /// How many cells are asked for.
         count: u32,
     },
+    /// The whole answer of the session in the user's slot in each of these ranges, whatever batches were taken of it; it stays as it is.
+    /// Refused where the slot holds none, then for more than 1,000 ranges, then where one of them is bad.
+    Many {
+        /// Whose session.
+        user: Name,
+        /// The number of sessions opened for the user before this one.
+        slot: u32,
+        /// The ranges of rows, not checked yet, in any order. They may meet.
+        ranges: Items<Bounds>,
+    },
     /// The session in the user's slot is closed. Refused where the slot holds none.
     Close {
         /// Whose session.

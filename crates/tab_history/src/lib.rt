@@ -11,8 +11,8 @@
 //! | `laws` | the laws of the definitions, each the contract of a function that does nothing |
 //!
 //! The definitions stand in `specs`, in this order of reading: `Settings`, `Bases`, `Changes`, `Readings` (what there is after some
-//! changes), `Cells` (what a scan shows), `Checks` (why an event is refused), `OwnRights` (what a user is told of his rights),
-//! `Sessions`, `Answers` (the answer to each step, and which are left open), `Histories`, `Lives` (what a creation begins with), `Legal` (which histories are),
+//! changes), `Cells` (what a scan shows), `Checks` (why an event is refused, or a request for ranges),
+//! `OwnRights` (what a user is told of his rights), `Sessions`, `Answers` (the answer to each step, and which are left open), `Histories`, `Lives` (what a creation begins with), `Legal` (which histories are),
 //! `Rooted` (root stays), `Held` and `Refinement` (which cores refine which histories), `Chains`, `Runs`. `Examples` computes
 //! examples. The definitions of records, labels, mutations, constraints and permissions stand in the crates below.
 #![tactic(auto)]

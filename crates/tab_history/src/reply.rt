@@ -62,6 +62,8 @@ pub enum Reply<S = ()> {
     Opened(S),
     /// The next cells of a session.
     Batch(Items<Cell>),
+    /// A session's cells in each of the ranges asked for, in their order.
+    Ranges(Items<Items<Cell>>),
     /// What the caller may do and holds.
     Rights(Rights),
     /// What a table's tablets hold.
@@ -84,6 +86,7 @@ impl<S> Reply<S> {
             Reply::Refused(refusal) => (Reply::Refused(refusal), None),
             Reply::Opened(session) => (Reply::Opened(()), Some(session)),
             Reply::Batch(cells) => (Reply::Batch(cells), None),
+            Reply::Ranges(ranges) => (Reply::Ranges(ranges), None),
             Reply::Rights(rights) => (Reply::Rights(rights), None),
             Reply::Counted(counts) => (Reply::Counted(counts), None),
             Reply::Rows(rows) => (Reply::Rows(rows), None),

@@ -6,11 +6,11 @@ use Rattle.tab_history.specs.Bases.{Base}
 use Rattle.tab_history.specs.Changes.{Change}
 use Rattle.tab_history.specs.Checks.{standing, refusal_of, user_named, exists_in}
 use Rattle.tab_history.specs.Sessions.{Move, is_full, session_in}
-use Rattle.tab_history.specs.Answers.{Told, told, granted, are_used_up, numbered, event_answer, is_open, next_answer, close_answer, answer}
+use Rattle.tab_history.specs.Answers.{Told, told, granted, are_used_up, numbered, event_answer, is_open, next_answer, many_answer, close_answer, answer}
 use Rattle.tab_history.specs.Legal.{IsExhausted}
 use Rattle.tab_history.specs.declared.event.Act.{Act}
 use Rattle.tab_history.specs.declared.event.Step.{Step}
-use Rattle.tab_history.specs.declared.event.Step.TheVariants.{Event, Next, Close}
+use Rattle.tab_history.specs.declared.event.Step.TheVariants.{Event, Next, Many, Close}
 use Rattle.tab_history.specs.declared.reply.Refusal.{Refusal}
 use Rattle.tab_history.specs.declared.reply.Refusal.TheVariants.{TooLarge}
 use Rattle.tab_history.specs.declared.reply.Reply.TheVariants.{Refused}
@@ -23,6 +23,7 @@ ample_event b j now user act = told (refusal_of (standing b j user) (exists_in b
 unfoldable pub ample_answer : Base → List Change → List Move → ℤ → Step → Told
 ample_answer b j moves now (Event e) = cond (is_open e.act && is_full moves) (Refused (TooLarge Sessions)) (ample_event b j now e.user e.act)
 ample_answer b j moves now (Next user slot n) = next_answer (session_in moves slot) slot n
+ample_answer b j moves now (Many user slot ranges) = many_answer (session_in moves slot) slot ranges
 ample_answer b j moves now (Close user slot) = close_answer (session_in moves slot) slot
 
 not_numbered : (o : Option Refusal) (used_up : Bool) (reply : Told) → (IsExhausted (told o (numbered used_up reply)) → ⊥) → told o (numbered used_up reply) ≡ told o reply
@@ -40,4 +41,5 @@ is_ample b j moves now (Event e) n = go (is_open e.act && is_full moves) n
     go true n = refl
     go false n = not_numbered (refusal_of (standing b j e.user) (exists_in b j (user_named e.act)) now e.user e.act) (are_used_up b j e.act) (granted (standing b j e.user) e.act) n
 is_ample b j moves now (Next user slot k) n = refl
+is_ample b j moves now (Many user slot ranges) n = refl
 is_ample b j moves now (Close user slot) n = refl

@@ -8,7 +8,7 @@ use Rattle.tab_history.specs.Runs.{is_left_open}
 use Rattle.tab_history.specs.declared.event.Act.{Act}
 use Rattle.tab_history.specs.declared.event.Act.TheVariants.{Open, Write, CreateTable, DropTable, SetConstraints, CreateUser, DropUser, SetAuths, Grant, Revoke, Rights, Status, Flush, Compact, AddSplit, SplitBySize, Splits}
 use Rattle.tab_history.specs.declared.event.Step.{Step}
-use Rattle.tab_history.specs.declared.event.Step.TheVariants.{Event, Next, Close}
+use Rattle.tab_history.specs.declared.event.Step.TheVariants.{Event, Next, Many, Close}
 use Rattle.tab_noninterference.specs.Views.{is_inner, is_aside}
 use Rattle.tab_noninterference.specs.Hearing.{is_covered_act, heard_of}
 use Rattle.tab_noninterference.proofs.Effects.{no_changes, no_moves}
@@ -41,16 +41,19 @@ inner_does_nothing (Rights t) e = absurd (true≢false (sym e))
 pub aside_changes : (now : ℤ) (step : Step) (r : Told) → is_aside step ≡ true → changes_by now step r ≡ []
 aside_changes now (Event e) r a = no_changes now e.user e.moment e.act r ((inner_does_nothing e.act a).changes now e.user)
 aside_changes now (Next u slot n) r a = absurd (true≢false (sym a))
+aside_changes now (Many u slot ranges) r a = absurd (true≢false (sym a))
 aside_changes now (Close u slot) r a = absurd (true≢false (sym a))
 
 pub aside_moves : (b : Base) (j : List Change) (step : Step) (r : Told) → is_aside step ≡ true → moves_by b j step r ≡ []
 aside_moves b j (Event e) r a = no_moves b j e.user e.moment e.act r (inner_does_nothing e.act a).opens
 aside_moves b j (Next u slot n) r a = absurd (true≢false (sym a))
+aside_moves b j (Many u slot ranges) r a = absurd (true≢false (sym a))
 aside_moves b j (Close u slot) r a = absurd (true≢false (sym a))
 
 pub aside_heard : (b : Base) (j : List Change) (step : Step) (r : Told) → is_aside step ≡ true → heard_of b j step r ≡ []
 aside_heard b j (Event e) r a = rw (inner_does_nothing e.act a).uncovered refl
 aside_heard b j (Next u slot n) r a = absurd (true≢false (sym a))
+aside_heard b j (Many u slot ranges) r a = absurd (true≢false (sym a))
 aside_heard b j (Close u slot) r a = refl
 
 -- what is told of the other steps isn't left open
@@ -76,4 +79,5 @@ outer_closed (Rights t) e = refl
 pub outside_closed : (step : Step) → is_aside step ≡ false → is_left_open step ≡ false
 outside_closed (Event e) a = outer_closed e.act a
 outside_closed (Next u slot n) a = refl
+outside_closed (Many u slot ranges) a = refl
 outside_closed (Close u slot) a = refl

@@ -24,7 +24,7 @@ use Rattle.tab_history.specs.declared.event.Scan.{Scan}
 use Rattle.tab_history.specs.declared.event.Act.{Act}
 use Rattle.tab_history.specs.declared.event.Act.TheVariants.{Open, Write, CreateTable, DropTable, SetConstraints, CreateUser, DropUser, SetAuths, Grant, Revoke, Rights, Status, Flush, Compact, AddSplit, SplitBySize, Splits}
 use Rattle.tab_history.specs.declared.event.Step.{Step}
-use Rattle.tab_history.specs.declared.event.Step.TheVariants.{Event, Next, Close}
+use Rattle.tab_history.specs.declared.event.Step.TheVariants.{Event, Next, Many, Close}
 use Rattle.tab_history.specs.declared.reply.Refusal.{Refusal}
 use Rattle.tab_history.specs.declared.reply.Refusal.TheVariants.{BadAuthorizations, TooLarge, BadRange}
 use Rattle.tab_history.specs.declared.reply.Reply.TheVariants.{Done, Refused, Opened, Batch}
@@ -193,4 +193,5 @@ module _ (held : List (List ℕ)) (b : Base) (user : List ℕ) (low : (t : List 
   unfolding ample_answer
   own_effect (Event e) u within = subst (λ y. Same (asks y e.moment e.act)) (sym u) (event_effect e.moment e.act within)
   own_effect (Next x slot n) u within = record { changes = refl; moves = next_moves c b his j x slot n _; heard = refl }
+  own_effect (Many x slot ranges) u within = record { changes = refl; moves = refl; heard = refl }
   own_effect (Close x slot) u within = record { changes = refl; moves = close_moves c b his j x slot _; heard = refl }

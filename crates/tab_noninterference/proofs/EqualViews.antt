@@ -14,7 +14,7 @@ use Rattle.tab_history.specs.Legal.{answer_at, IsAnswer, Legal, IsAmple, IsExhau
 use Rattle.tab_history.specs.declared.event.Act.{Act}
 use Rattle.tab_history.specs.declared.event.Act.TheVariants.{Open, Write, CreateTable, DropTable, SetConstraints, CreateUser, DropUser, SetAuths, Grant, Revoke, Rights, Status, Flush, Compact, AddSplit, SplitBySize, Splits}
 use Rattle.tab_history.specs.declared.event.Step.{Step}
-use Rattle.tab_history.specs.declared.event.Step.TheVariants.{Event, Next, Close}
+use Rattle.tab_history.specs.declared.event.Step.TheVariants.{Event, Next, Many, Close}
 use Rattle.tab_history.specs.declared.reply.Refusal.TheVariants.{TooLarge}
 use Rattle.tab_history.specs.declared.reply.Reply.TheVariants.{Refused}
 use Rattle.tab_noninterference.proofs.Ample.{is_ample, ample_event, ample_answer}
@@ -48,6 +48,7 @@ clock_irrelevant b j moves clock (Event e) = go (is_open e.act && is_full moves)
     go true = refl
     go false = refl
 clock_irrelevant b j moves clock (Next u slot n) = refl
+clock_irrelevant b j moves clock (Many u slot ranges) = refl
 clock_irrelevant b j moves clock (Close u slot) = refl
 
 -- and neither do the changes
@@ -73,6 +74,7 @@ event_changes_irrelevant moves clock u m (Splits t) r = refl
 changes_irrelevant : (moves : List Move) (clock : ℤ) (step : Step) (r : Told) → changes_by (shown_clock moves clock step) step r ≡ changes_by (clock_at clock step) step r
 changes_irrelevant moves clock (Event e) r = event_changes_irrelevant moves clock e.user e.moment e.act r
 changes_irrelevant moves clock (Next u slot n) r = refl
+changes_irrelevant moves clock (Many u slot ranges) r = refl
 changes_irrelevant moves clock (Close u slot) r = refl
 
 module _ (b : Base) (clock : ℤ) (held : List (List ℕ)) (user : List ℕ) (low : (t : List ℕ) → NumbersBelow b.next (base_records (base_table b t))) where

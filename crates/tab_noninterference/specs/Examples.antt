@@ -5,7 +5,8 @@ use Rattle.tab_key.specs.Order.{column_cmp, key_cmp, place_cmp, newer_cmp}
 use Rattle.tab_key.specs.Kept.{same_column, hides, is_deleted, outranks, is_kept}
 use Rattle.tab_key.specs.declared.key.Kind.{Kind}
 use Rattle.tab_key.specs.declared.key.Kind.TheVariants.{Put, Delete}
-use Rattle.tab_key.specs.declared.range.Bound.TheVariants.{Unbounded}
+use Rattle.tab_key.specs.declared.range.Bound.TheVariants.{Unbounded, Exclusive}
+use Rattle.tab_key.specs.declared.range.Bounds.{Bounds}
 use Rattle.tab_label.specs.Grammar.{is_term_byte}
 use Rattle.tab_label.specs.Machine.{step, ending}
 use Rattle.tab_label.specs.Reading.{reads_on, label_of}
@@ -32,9 +33,9 @@ use Rattle.tab_history.specs.declared.event.Extent.TheVariants.{Partial, Full}
 use Rattle.tab_history.specs.declared.event.Act.{Act}
 use Rattle.tab_history.specs.declared.event.Act.TheVariants as act
 use Rattle.tab_history.specs.declared.event.Step.{Step}
-use Rattle.tab_history.specs.declared.event.Step.TheVariants.{Next}
+use Rattle.tab_history.specs.declared.event.Step.TheVariants.{Next, Many}
 use Rattle.tab_history.specs.declared.reply.Refusal.TheVariants.{PermissionDenied}
-use Rattle.tab_history.specs.declared.reply.Reply.TheVariants.{Refused, Batch, Rights}
+use Rattle.tab_history.specs.declared.reply.Reply.TheVariants.{Refused, Batch, Ranges, Rights}
 use Rattle.tab_history.specs.ExampleWords.{t, r, f, q, bob, eve, asks, as_root, as_bob}
 use Rattle.tab_noninterference.specs.Given.{auths_given}
 use Rattle.tab_noninterference.specs.Views.{Asked, Changed, sights, View, view}
@@ -91,10 +92,15 @@ abbrev opened_on : List Cell → Heard
 opened_on list = record { reply = told_opened; list = list }
 
 -- ---- two worlds
--- a history in which others take some steps before bob's first scan, and some between its two batches; then he scans again
+-- all rows, and those behind r
+abbrev two_ranges : List Bounds
+two_ranges = record { low = Unbounded; high = Unbounded } ∷ record { low = Exclusive r; high = Unbounded } ∷ []
+
+-- A history in which others take some steps before bob's first scan, and some between its two batches; then he asks it for two ranges, and
+-- scans again.
 abbrev beside : List Step → List Step → List Step
 beside before between =
-    make ++ as_root (writes (update Put (codes "A") (codes "x") (Some (pos 5)) ∷ [])) ∷ before ++ as_bob opens ∷ Next bob 0 1 ∷ between ++ Next bob 0 1 ∷ as_bob opens ∷ Next bob 1 9 ∷ as_bob (act.Rights t) ∷ as_bob (writes []) ∷ []
+    make ++ as_root (writes (update Put (codes "A") (codes "x") (Some (pos 5)) ∷ [])) ∷ before ++ as_bob opens ∷ Next bob 0 1 ∷ between ++ Next bob 0 1 ∷ Many bob 0 two_ranges ∷ as_bob opens ∷ Next bob 1 9 ∷ as_bob (act.Rights t) ∷ as_bob (writes []) ∷ []
 
 -- what he is told in it, the newest reply first: he has no permission to write
 abbrev told_beside : List Heard
@@ -107,6 +113,7 @@ told_beside =
     }))
     ∷ said (Batch (cell (codes "A") (pos 5) (codes "x") ∷ []))
     ∷ opened_on (cell (codes "A") (pos 5) (codes "x") ∷ [])
+    ∷ said (Ranges ((cell (codes "A") (pos 5) (codes "x") ∷ []) ∷ [] ∷ []))
     ∷ said (Batch [])
     ∷ said (Batch (cell (codes "A") (pos 5) (codes "x") ∷ []))
     ∷ opened_on (cell (codes "A") (pos 5) (codes "x") ∷ [])
@@ -128,7 +135,7 @@ unseen_events = as_root (act.CreateUser eve) ∷ as_root (act.Grant eve (OfTable
 abbrev seen_beside : View
 seen_beside = record {
   held = codes "A" ∷ [];
-  sights = Asked (as_bob (writes [])) (Some (pos 0)) ∷ Asked (as_bob (act.Rights t)) (Some (pos 0)) ∷ Asked (Next bob 1 9) None ∷ Asked (as_bob opens) (Some (pos 0)) ∷ Asked (Next bob 0 1) None ∷ Asked (Next bob 0 1) None ∷ Asked (as_bob opens) (Some (pos 0))
+  sights = Asked (as_bob (writes [])) (Some (pos 0)) ∷ Asked (as_bob (act.Rights t)) (Some (pos 0)) ∷ Asked (Next bob 1 9) None ∷ Asked (as_bob opens) (Some (pos 0)) ∷ Asked (Many bob 0 two_ranges) None ∷ Asked (Next bob 0 1) None ∷ Asked (Next bob 0 1) None ∷ Asked (as_bob opens) (Some (pos 0))
       ∷ Changed (Written t r (settled Put (codes "A") (codes "x") (pos 5) ∷ []))
       ∷ Changed (TableGiven bob table.Read t) ∷ Changed (AuthsSet bob (codes "A" ∷ [])) ∷ Changed (UserMade bob) ∷ Changed (TableMade t Any 1) ∷ [];
 }

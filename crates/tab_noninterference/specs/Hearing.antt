@@ -8,7 +8,7 @@ use Rattle.tab_history.specs.Histories.{Entry, World, journal, is_by}
 use Rattle.tab_history.specs.declared.event.Act.{Act}
 use Rattle.tab_history.specs.declared.event.Act.TheVariants.{Open, Write, CreateTable, DropTable, SetConstraints, CreateUser, DropUser, SetAuths, Grant, Revoke, Rights, Status, Flush, Compact, AddSplit, SplitBySize, Splits}
 use Rattle.tab_history.specs.declared.event.Step.{Step}
-use Rattle.tab_history.specs.declared.event.Step.TheVariants.{Event, Next, Close}
+use Rattle.tab_history.specs.declared.event.Step.TheVariants.{Event, Next, Many, Close}
 use Rattle.tab_history.specs.declared.reply.Reply.TheVariants.{Opened}
 
 -- a reply, with the whole answer of the session that it opens
@@ -36,10 +36,11 @@ is_covered_act (AddSplit t row) = false
 is_covered_act (SplitBySize t row limit) = false
 is_covered_act (Splits t) = false
 
--- the steps of that kind: these events, and batches
+-- the steps of that kind: these events, batches, and what is asked for in ranges
 abbrev pub is_covered : Step → Bool
 is_covered (Event e) = is_covered_act e.act
 is_covered (Next user slot n) = true
+is_covered (Many user slot ranges) = true
 is_covered (Close user slot) = false
 
 -- the whole answer of the session that a step opens, after these changes

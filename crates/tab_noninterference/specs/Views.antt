@@ -8,7 +8,7 @@ use Rattle.tab_history.specs.Histories.{Entry, World, world_of, clock_of, clock_
 use Rattle.tab_history.specs.declared.event.Act.{Act}
 use Rattle.tab_history.specs.declared.event.Act.TheVariants.{Open, Write, CreateTable, DropTable, SetConstraints, CreateUser, DropUser, SetAuths, Grant, Revoke, Rights, Status, Flush, Compact, AddSplit, SplitBySize, Splits}
 use Rattle.tab_history.specs.declared.event.Step.{Step}
-use Rattle.tab_history.specs.declared.event.Step.TheVariants.{Event, Next, Close}
+use Rattle.tab_history.specs.declared.event.Step.TheVariants.{Event, Next, Many, Close}
 use Rattle.tab_noninterference.specs.Given.{auths_given}
 use Rattle.tab_noninterference.specs.Concerns.{visible}
 
@@ -23,6 +23,7 @@ pub data Sight : Type 0 where
 abbrev pub clock_shown : List Move → ℤ → Step → Option ℤ
 clock_shown moves now (Event e) = cond (is_open e.act && is_full moves) None (Some now)
 clock_shown moves now (Next user slot n) = None
+clock_shown moves now (Many user slot ranges) = None
 clock_shown moves now (Close user slot) = None
 
 -- whether the event only asks where records lie, or lays them otherwise: it changes nothing that a history reads but the clock
@@ -49,6 +50,7 @@ is_inner (Splits t) = true
 abbrev pub is_aside : Step → Bool
 is_aside (Event e) = is_inner e.act
 is_aside (Next user slot n) = false
+is_aside (Many user slot ranges) = false
 is_aside (Close user slot) = false
 
 -- what he sees of a step of his own: the step, without its reply, and nothing of one that is aside

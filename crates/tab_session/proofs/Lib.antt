@@ -1,3 +1,4 @@
 pub mod Marks
 pub mod Taken
 pub mod Batches
+pub mod InRange

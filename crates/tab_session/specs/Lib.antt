@@ -1,1 +1,2 @@
 pub mod Bookmarks
+pub mod LowEnds

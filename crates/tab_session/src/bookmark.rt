@@ -25,14 +25,7 @@ impl Bookmark {
         match source.top() {
             None => Ok(None),
             Some(next) => {
-                let record = Record::new(
-                    alloc,
-                    next.key(),
-                    next.kind(),
-                    b"",
-                    next.seq(),
-                    next.idx(),
-                )?;
+                let record = Record::without_value(alloc, &next)?;
                 Ok(Some(Bookmark::At(record)))
             }
         }

@@ -1,7 +1,8 @@
 //! Open scans: what they show, and how far they have come.
 //!
 //! A session holds no cells. It owns the version of the table that it was opened on, and reads each batch from it anew: it goes to
-//! the record at which the last batch ended, and takes the cells from there on.
+//! the record at which the last batch ended, and takes the cells from there on. Ranges of rows are read in the same way, each from its
+//! low end on.
 //!
 //! | File | What |
 //! |---|---|
@@ -9,9 +10,11 @@
 //! | `snapshot_scan` | what a session reads: a version, and what is asked of it |
 //! | `bookmark` | where a session goes on |
 //! | `taking` | the cells of a batch |
+//! | `rows` | the cells of a range of rows |
 #![tactic(auto)]
 
 mod bookmark;
+mod rows;
 mod session;
 mod snapshot_scan;
 mod taking;

@@ -1,14 +1,14 @@
 //! An open scan.
 ghost use Rattle.std.specs.Prelude.{◌≡◌, length, IfOk, OnOk, OnErr};
 ghost use Rattle.tab_cells.specs.Cells.{cells};
-ghost use Rattle.tab_cells.specs.SessionState.{batch, gave};
+ghost use Rattle.tab_cells.specs.SessionState.{batch, gave, in_ranges};
 ghost use Rattle.tab_iter.specs.Stack.{query_of};
 
 use crate::bookmark::Bookmark;
 use crate::snapshot_scan::SnapshotScan;
 use std::alloc::{AllocError, Global};
 use std::marker::Model;
-use tab_key::{Cell, Column, Items};
+use tab_key::{Bounds, Cell, Column, Items};
 use tab_label::AuthSet;
 use tab_version::Version;
 
@@ -61,5 +61,24 @@ impl Session {
         let batch = self.scan.read(alloc, from, count)?;
         self.next = batch.next;
         Ok(Items::from_vec(batch.cells))
+    }
+
+    /// The whole answer in each of these ranges of rows, in their order, whatever batches were taken. The session stays as it is.
+    ///
+    /// A range is read from its low end to the first row above its high one. A range that is none has no cell. The error comes only
+    /// from want of memory.
+    pub fn scan_many(
+        &self,
+        alloc: Global,
+        ranges: &[Bounds],
+    ) -> Result<Items<Items<Cell>>, AllocError>
+        ensures { IfOk result (λ cells. cells ≡ in_ranges self.now ranges.now) }
+    {
+        let mut answers = Vec::new(alloc);
+        for rows in ranges {
+            answers.reserve(1)?;
+            answers.push_reserved(self.scan.read_rows(alloc, rows)?);
+        }
+        Ok(Items::from_vec(answers))
     }
 }

@@ -1,15 +1,20 @@
 //! What a session reads: a version of a table, and what a scan asks of it.
 ghost use Rattle.std.specs.Prelude.{◌≡◌, map, take, drop, IfOk};
+ghost use Rattle.tab_key.specs.KeyOf.{key_of};
 ghost use Rattle.tab_key.specs.Records.{cell_of};
+ghost use Rattle.tab_cells.specs.SessionState.{cells_within};
+ghost use Rattle.tab_iter.specs.Lists.{from_key};
 ghost use Rattle.tab_session.specs.Bookmarks.{from_mark, ahead_of};
+ghost use Rattle.tab_session.specs.LowEnds.{from_low};
 ghost use Rattle.tab_version.specs.Shown.{shown};
 
 use crate::bookmark::{Bookmark, pass_before};
+use crate::rows::{row_after, row_start, take_rows};
 use crate::taking::take;
 use std::alloc::Global;
 use std::marker::Model;
 use tab_iter::{NoMemory, Source};
-use tab_key::{Cell, Column, Items};
+use tab_key::{Bound, Bounds, Cell, Column, Items, Key};
 use tab_label::AuthSet;
 use tab_version::{Stack, Version};
 
@@ -68,25 +73,57 @@ impl SnapshotScan {
         Ok(Batch { cells, next })
     }
 
+    /// The cells of the records with a row in the range. What is read begins at its low end, and ends with the first row above its
+    /// high one.
+    pub(crate) fn read_rows(&self, alloc: Global, rows: &Bounds) -> Result<Items<Cell>, NoMemory>
+        ensures { IfOk result (λ cells. cells ≡ cells_within rows.now (map cell_of self.now)) }
+    {
+        let mut source = self.source_at(alloc, &rows.low)?;
+        let cells = take_rows(alloc, &mut source, rows)?;
+        Ok(Items::from_vec(cells))
+    }
+
     // The records from the bookmark on. Nothing before its column is read.
     fn source<'a>(&'a self, alloc: Global, from: &Bookmark) -> Result<Stack<'a>, NoMemory>
         ensures whole { IfOk result (λ s. ⟦<Stack<'a> as Source>⟧.whole s ≡ self.now) }
         ensures rest { IfOk result (λ s. ⟦<Stack<'a> as Source>⟧.rest s ≡ from_mark from.now self.now) }
     {
-        let columns = self.columns.as_slice();
         match from {
-            Bookmark::Beginning => {
-                self.version
-                    .stack(alloc, columns, &self.auths, self.versions)
-            }
+            Bookmark::Beginning => self.source_at(alloc, &Bound::Unbounded),
             Bookmark::At(first) => {
-                let key = first.as_ref().key();
-                let mut source = self
-                    .version
-                    .stack_from(alloc, columns, &self.auths, self.versions, key)?;
+                let mut source = self.source_from(alloc, first.as_ref().key())?;
                 pass_before(&mut source, first)?;
                 Ok(source)
             }
         }
+    }
+
+    // The records with rows from the low end on. Nothing before the first of these rows is read.
+    fn source_at<'a>(&'a self, alloc: Global, low: &Bound) -> Result<Stack<'a>, NoMemory>
+        ensures whole { IfOk result (λ s. ⟦<Stack<'a> as Source>⟧.whole s ≡ self.now) }
+        ensures rest { IfOk result (λ s. ⟦<Stack<'a> as Source>⟧.rest s ≡ from_low low.now self.now) }
+    {
+        match low {
+            Bound::Unbounded => {
+                let columns = self.columns.as_slice();
+                self.version
+                    .stack(alloc, columns, &self.auths, self.versions)
+            }
+            Bound::Inclusive(row) => self.source_from(alloc, row_start(row.as_bytes())),
+            Bound::Exclusive(row) => {
+                let next = row_after(alloc, row.as_bytes())?;
+                self.source_from(alloc, row_start(&next))
+            }
+        }
+    }
+
+    // The records from the key on. Nothing before its column is read.
+    fn source_from<'a>(&'a self, alloc: Global, key: Key<'_>) -> Result<Stack<'a>, NoMemory>
+        ensures whole { IfOk result (λ s. ⟦<Stack<'a> as Source>⟧.whole s ≡ self.now) }
+        ensures rest { IfOk result (λ s. ⟦<Stack<'a> as Source>⟧.rest s ≡ from_key (key_of key.entry) self.now) }
+    {
+        let columns = self.columns.as_slice();
+        self.version
+            .stack_from(alloc, columns, &self.auths, self.versions, key)
     }
 }

@@ -12,7 +12,7 @@ use Rattle.tab_history.specs.Histories.{Entry, World, clock_of, journal, world_o
 use Rattle.tab_history.specs.Refinement.{Refines}
 use Rattle.tab_history.specs.Chains.{GoesRight, IsChain}
 use Rattle.tab_history.specs.declared.event.Step.{Step}
-use Rattle.tab_history.specs.declared.event.Step.TheVariants.{Event, Next, Close}
+use Rattle.tab_history.specs.declared.event.Step.TheVariants.{Event, Next, Many, Close}
 use Rattle.tab_history.proofs.Chains.{sound_refines_itself, chains_refine}
 use Rattle.tab_history.proofs.GoesOnLemmas.{goes_on}
 use Rattle.tab_history.proofs.Playing.{unmoved}
@@ -50,6 +50,7 @@ module _ (w : World) (es : List Entry) (before last : Held) where
   goes_exactly (Event event) r x store refines =
       (stores_stay before last event r store (record { exact = x.exact; reads = x.right.refines.reads }), (goes_on w es (base_of before) (record { step = Event event; reply = r }) (base_of last) refines x.right).refines)
   goes_exactly (Next user slot n) r x store refines = absurd x
+  goes_exactly (Many user slot ranges) r x store refines = absurd x
   goes_exactly (Close user slot) r x store refines = absurd x
 
   goes : (e : Entry) → EntryGoes before e last → IsStore before → Refines (world_of (base_of before)) (world_after w es) → Ends e
@@ -67,6 +68,7 @@ chains_stay first last (e ∷ es) store chain =
 right_step : (before last : Held) (step : Step) (r : Told) → DoesExactly before step r last → GoesRight (base_of before) (record { step = step; reply = r }) (base_of last)
 right_step before last (Event event) r x = x.right
 right_step before last (Next user slot n) r x = absurd x
+right_step before last (Many user slot ranges) r x = absurd x
 right_step before last (Close user slot) r x = absurd x
 
 right_chain : (first last : Held) (es : List Entry) → IsChain EventGoes first es last → IsChain GoesRight (base_of first) es (base_of last)

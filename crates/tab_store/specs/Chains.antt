@@ -7,7 +7,7 @@ use Rattle.tab_history.specs.Refinement.{Refines}
 use Rattle.tab_history.specs.Chains.{IsChain}
 use Rattle.tab_history.specs.Runs.{IsNoEvent}
 use Rattle.tab_history.specs.declared.event.Step.{Step}
-use Rattle.tab_history.specs.declared.event.Step.TheVariants.{Event, Next, Close}
+use Rattle.tab_history.specs.declared.event.Step.TheVariants.{Event, Next, Many, Close}
 use Rattle.tab_store.specs.Stores.{Held, base_of, IsNewStore}
 use Rattle.tab_store.specs.Stepping.{StepsExactly}
 use Rattle.tab_store.specs.Rightness.{IsStore}
@@ -16,6 +16,7 @@ use Rattle.tab_store.specs.Rightness.{IsStore}
 abbrev pub DoesExactly : Held → Step → Told → Held → Type 0
 DoesExactly before (Event event) told after = StepsExactly before event told after
 DoesExactly before (Next user slot n) told after = ⊥
+DoesExactly before (Many user slot ranges) told after = ⊥
 DoesExactly before (Close user slot) told after = ⊥
 
 -- the same of an entry

@@ -12,8 +12,7 @@ use Rattle.tab_history.proofs.Lacking.{legal}
 use Rattle.tab_store.specs.Stores.{Held, base_of}
 use Rattle.tab_store.specs.Chains.{EntryGoes, IsExactRun}
 use Rattle.tab_core.specs.Slots.{history_of}
-use Rattle.tab_core.specs.Owners.{OwnersRefine}
-use Rattle.tab_core.specs.declared.running.Owner.{Owner}
+use Rattle.tab_core.specs.Owners.{Owners, OwnersRefine}
 use Rattle.tab_core.proofs.Runs.{history_push, owners_none, after_none}
 use Rattle.tab_core.proofs.running.run.Goals as goal
 
@@ -21,7 +20,7 @@ pub loop-step-init : goal.loop-step-init
 loop-step-init c = record {
   count = search rules;
   refines = subst (λ (w : World). Refines (world_of (base_of c.in_ok-core.core)) w) (sym (after_none (world_of new_core))) c.in_ok-core.ensures.refines;
-  owners = let none : c.new-owners.result.items ≡ [] = search rules in subst (λ (os : List Owner). OwnersRefine os (world_of new_core) []) (sym none) (owners_none (world_of new_core));
+  owners = let none : c.new-owners.result.entries ≡ [] = search rules in subst (λ (os : Owners). OwnersRefine os (world_of new_core) []) (sym none) (owners_none (world_of new_core));
   legal = tt;
   exact = (c.in_ok-core.core, c.in_ok-core.ensures.new, refl);
 }
@@ -38,7 +37,7 @@ loop-step-preserved c =
     record {
       count = length_push c.loop-step.yielded step ∙ ap (λ n. n + 1) c.loop-step.invariant.count ∙ sym (length_push c.loop-step.replies.items c.run_step-reply.result) ∙ ap length (sym grown);
       refines = subst (λ (h : List Entry). Refines (world_of (base_of c.run_step-reply.new.core)) (world_after (world_of new_core) h)) (sym more) after.0;
-      owners = subst (λ (h : List Entry). OwnersRefine c.run_step-reply.new.owners.items (world_of new_core) h) (sym more) after.1;
+      owners = subst (λ (h : List Entry). OwnersRefine c.run_step-reply.new.owners.entries (world_of new_core) h) (sym more) after.1;
       legal = subst (λ (h : List Entry). Legal (world_of new_core) h) (sym more) after.2;
       exact = (first, c.loop-step.invariant.exact.1, subst (λ (h : List Entry). IsChain EntryGoes first h c.run_step-reply.new.core) (sym more) (c.loop-step.core, c.loop-step.invariant.exact.2, c.run_step-reply.ensures.exact));
     }

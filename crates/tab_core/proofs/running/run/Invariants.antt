@@ -15,7 +15,7 @@ abbrev pub invariant-loop-step : goal.invariant-loop-step
 invariant-loop-step l = record {
   count : length l.yielded ≡ length l.replies.items;
   refines : Refines (world_of (base_of l.core)) (world_after (world_of new_core) (history_of l.yielded l.replies.items));
-  owners : OwnersRefine l.owners.items (world_of new_core) (history_of l.yielded l.replies.items);
+  owners : OwnersRefine l.owners.entries (world_of new_core) (history_of l.yielded l.replies.items);
   legal : Legal (world_of new_core) (history_of l.yielded l.replies.items);
   exact : (first : Held) × IsNewStore first × IsChain EntryGoes first (history_of l.yielded l.replies.items) l.core;
 }

@@ -8,4 +8,4 @@ pub returns-else-opens : goal.returns-else-opens
 returns-else-opens c =
     let shut : is_open c.args.event.act ≡ false = search rules in
     let exact : StepsExactly c.args.core.now c.args.event (told_of c.step.result) c.step.new.self = did_exactly c.args.core.now c.step.new.self c.args.event c.step.result c.step.ensures.steps c.step.ensures.exact in
-    runs_other c.args.core.now c.step.new.self c.args.owners.now.items c.args.event c.step.result c.told.result shut c.step.ensures.steps exact c.told.ensures
+    runs_other c.args.core.now c.step.new.self c.args.owners.now.entries c.args.event c.step.result c.told.result shut c.step.ensures.steps exact c.told.ensures

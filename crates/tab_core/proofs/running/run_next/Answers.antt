@@ -1,35 +1,25 @@
-use Rattle.std.proofs.Common.{◌≡◌, ◌<◌, true, List, length, Option, rules, sym, subst}
-use Rattle.std.specs.Prelude.{bytes_eq, slice_set}
-use Rattle.tab_cells.specs.SessionState.{SessionState}
+use Rattle.std.proofs.Common.{◌≡◌, None, Some, rules, sym, subst}
+use Rattle.tab_policy.specs.Entries.{at_name}
+use Rattle.tab_history.specs.declared.reply.Refusal.TheVariants.{NoSession}
+use Rattle.tab_history.specs.declared.reply.Reply.TheVariants.{Refused}
 use Rattle.tab_core.specs.Slots.{NextFrom}
-use Rattle.tab_core.specs.Owners.{owner_place, slots_of}
-use Rattle.tab_core.specs.declared.running.Owner.{Owner}
-use Rattle.tab_core.proofs.OwnerLemmas.{place_within, next_nowhere, found_at, user_at, set_own, leaves_others}
+use Rattle.tab_core.specs.Owners.{Owners, slots_of}
+use Rattle.tab_core.proofs.OwnerLemmas.{next_own, others_left, next_nowhere}
 use Rattle.tab_core.proofs.running.run_next.Goals as goal
 
-pub returns-then-at-len-clause-own : goal.returns-then-at-len-clause-own
-returns-then-at-len-clause-own c =
-    let at : owner_place c.args.owners.now.items c.args.user.now ≡ length c.args.owners.now.items = search rules in
-    next_nowhere c.args.owners.now.items c.args.user.now c.args.slot c.args.count at
+pub returns-in-None-clause-own : goal.returns-in-None-clause-own
+returns-in-None-clause-own c =
+    let none : at_name c.args.user.now c.args.owners.now.entries ≡ None = search rules in
+    let same : c.get_mut.follows.lender-at-none.entries ≡ c.args.owners.now.entries = search rules in
+    subst (λ (os : Owners). NextFrom (slots_of c.args.owners.now.entries c.args.user.now) c.args.slot c.args.count (Refused (NoSession c.args.slot)) (slots_of os c.args.user.now)) (sym same) (next_nowhere c.args.owners.now.entries c.args.user.now c.args.slot c.args.count none)
 
-pub index_mut-requires : goal.index_mut-requires
-index_mut-requires c = let lt : c.place_of-at.result < length c.args.owners.now.items = place_within c.args.owners.now.items c.args.user.now c.place_of-at.result (search rules) (search rules) in search rules
+pub returns-in-Some-clause-own : goal.returns-in-Some-clause-own
+returns-in-Some-clause-own c =
+    let had : at_name c.args.user.now c.args.owners.now.entries ≡ Some c.in-Some.slots.now = search rules in
+    let after = (c.get_mut.follows.holds c.next.new.self).3 (search rules) in
+    next_own c.args.owners.now.entries _ c.args.user.now c.args.slot c.args.count c.next.result c.in-Some.slots.now c.next.new.self had after.0 c.next.ensures
 
-pub returns-clause-own : goal.returns-clause-own
-returns-clause-own c =
-    let os : List Owner = c.args.owners.now.items in
-    let at : c.place_of-at.result ≡ owner_place os c.args.user.now = search rules in
-    let lt : c.place_of-at.result < length os = place_within os c.args.user.now c.place_of-at.result at (search rules) in
-    let changed : Owner = record { user = c.index_mut.result.now.user; sessions = c.next.new.self } in
-    let here : bytes_eq c.index_mut.result.now.user c.args.user.now ≡ true = user_at os c.args.user.now c.place_of-at.result c.index_mut.result.now at lt c.index_mut.ensures.value in
-    let was : slots_of os c.args.user.now ≡ c.index_mut.result.now.sessions = found_at os c.args.user.now c.place_of-at.result c.index_mut.result.now at lt c.index_mut.ensures.value in
-    let now : slots_of (slice_set os c.place_of-at.result changed) c.args.user.now ≡ c.next.new.self = set_own os c.args.user.now c.place_of-at.result changed at lt here in
-    subst (λ (ss : List (Option SessionState)). NextFrom ss c.args.slot c.args.count c.next.result (slots_of (slice_set os c.place_of-at.result changed) c.args.user.now)) (sym was) (subst (λ (ss : List (Option SessionState)). NextFrom c.index_mut.result.now.sessions c.args.slot c.args.count c.next.result ss) (sym now) c.next.ensures)
-
-pub returns-clause-others : goal.returns-clause-others
-returns-clause-others c =
-    let os : List Owner = c.args.owners.now.items in
-    let at : c.place_of-at.result ≡ owner_place os c.args.user.now = search rules in
-    let lt : c.place_of-at.result < length os = place_within os c.args.user.now c.place_of-at.result at (search rules) in
-    let here : bytes_eq c.index_mut.result.now.user c.args.user.now ≡ true = user_at os c.args.user.now c.place_of-at.result c.index_mut.result.now at lt c.index_mut.ensures.value in
-    leaves_others os c.args.user.now c.place_of-at.result _ at lt here
+pub returns-in-Some-clause-others : goal.returns-in-Some-clause-others
+returns-in-Some-clause-others c =
+    let after = (c.get_mut.follows.holds c.next.new.self).3 (search rules) in
+    others_left c.args.user.now c.next.new.self c.args.owners.now.entries _ after.0

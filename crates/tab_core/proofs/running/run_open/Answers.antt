@@ -1,21 +1,22 @@
-use Rattle.std.proofs.Common.{◌≡◌, ◌<◌, true, List, length}
-use Rattle.std.specs.Prelude.{bytes_eq, slice_set}
-use Rattle.tab_core.specs.Owners.{owner_place}
-use Rattle.tab_core.specs.declared.running.Owner.{Owner}
-use Rattle.tab_core.proofs.OwnerLemmas.{found_at, user_at, set_own, leaves_others}
+use Rattle.std.proofs.Common.{◌≡◌, ◌∙◌, Some, ap, rules}
+use Rattle.tab_policy.specs.Entries.{at_name}
+use Rattle.tab_core.specs.Owners.{Owners, slots_of}
+use Rattle.tab_core.proofs.OwnerLemmas.{own_found, own_put, others_left}
 use Rattle.tab_core.proofs.Runs.{open_takes, runs_nowhere, runs_open}
 use Rattle.tab_core.proofs.running.run_open.Goals as goal
 
-pub returns-in-Ok : goal.returns-in-Ok
-returns-in-Ok c =
-    let os : List Owner = c.owner_for.new.owners.items in
-    let o : Owner = c.index_mut.result.now in
-    let at : c.in-Ok.at ≡ owner_place os c.args.event.user = c.in-Ok.ensures.place in
-    let lt : c.in-Ok.at < length os = c.in-Ok.ensures.bound in
-    let changed : Owner = record { user = o.user; sessions = c.open_in.new.sessions } in
-    let here : bytes_eq o.user c.args.event.user ≡ true = user_at os c.args.event.user c.in-Ok.at o at lt c.index_mut.ensures.value in
-    runs_open c.args.core.now c.open_in.new.core c.args.owners.now.items os (slice_set os c.in-Ok.at changed) c.args.event c.open_in.result o.sessions c.open_in.new.sessions c.requires c.owner_for.ensures.slots
-    (found_at os c.args.event.user c.in-Ok.at o at lt c.index_mut.ensures.value) (set_own os c.args.event.user c.in-Ok.at changed at lt here) (leaves_others os c.args.event.user c.in-Ok.at changed at lt here) c.open_in.ensures
+pub returns-then-is_err : goal.returns-then-is_err
+returns-then-is_err c = runs_nowhere c.args.core.now c.args.owners.now.entries c.make_owner.new.owners.entries c.args.event (open_takes c.args.event.act c.requires) c.make_owner.ensures.slots
 
-pub returns-in-Err : goal.returns-in-Err
-returns-in-Err c = runs_nowhere c.args.core.now c.args.owners.now.items c.owner_for.new.owners.items c.args.event (open_takes c.args.event.act c.requires) c.owner_for.ensures.slots
+pub returns-in-None : goal.returns-in-None
+returns-in-None c =
+    let same : c.get_mut.follows.lender-at-none.entries ≡ c.make_owner.new.owners.entries = search rules in
+    runs_nowhere c.args.core.now c.args.owners.now.entries c.get_mut.follows.lender-at-none.entries c.args.event (open_takes c.args.event.act c.requires) (λ u. ap (λ (os : Owners). slots_of os u) same ∙ c.make_owner.ensures.slots u)
+
+pub returns-in-Some : goal.returns-in-Some
+returns-in-Some c =
+    let mid : Owners = c.make_owner.new.owners.entries in
+    let had : at_name c.args.event.user mid ≡ Some c.in-Some.slots.now = search rules in
+    let after = (c.get_mut.follows.holds c.open.new.self).3 (search rules) in
+    runs_open c.args.core.now c.open.new.core c.args.owners.now.entries mid _ c.args.event c.open.result c.in-Some.slots.now c.open.new.self c.requires c.make_owner.ensures.slots
+    (own_found mid c.args.event.user c.in-Some.slots.now had) (own_put c.args.event.user c.open.new.self mid _ after.0) (others_left c.args.event.user c.open.new.self mid _ after.0) c.open.ensures

@@ -1,15 +1,11 @@
 use Rattle.std.proofs.Common.{◌∙◌, sym, ap}
 use Rattle.tab_key.specs.KeyOf.{key_of}
-use Rattle.tab_iter.specs.Lists.{from_key}
-use Rattle.tab_version.specs.Shown.{shown}
 use Rattle.tab_session.specs.Bookmarks.{from_mark}
 use Rattle.tab_session.proofs.Marks.{sought}
 use Rattle.tab_session.proofs.snapshot_scan.SnapshotScan.source.Goals as goal
 
 pub returns-in_ok-pass_before-in-At-clause-rest : goal.returns-in_ok-pass_before-in-At-clause-rest
 returns-in_ok-pass_before-in-At-clause-rest c =
-    let scan = c.self.inside in
-    let whole = c.in_ok-source-in-At.ensures.shown ∙ ap (λ columns. shown scan.version scan.versions columns scan.auths) c.as_slice-columns.ensures ∙ c.self.view_is in
     c.in_ok-pass_before-in-At.ensures.rest
-    ∙ sought c.in-At.first (key_of c.key-key.result) c.args.self.now _ (c.key-key.ensures ∙ ap (λ r. r.key) c.as_ref.ensures) (c.in_ok-source-in-At.ensures.from_key ∙ ap (from_key (key_of c.key-key.result)) whole)
+    ∙ sought c.in-At.first (key_of c.key.result) c.args.self.now _ (c.key.ensures ∙ ap (λ r. r.key) c.as_ref.ensures) c.in_ok-source-in-At.ensures.rest
     ∙ ap (λ b. from_mark b c.args.self.now) (sym c.in-At.is)
