@@ -137,8 +137,10 @@ name="name: 1 to 128 of a-z A-Z 0-9 _ - ."
 byte_word='a byte word: ! to ~ as they are but \\ for \, \xHH (H of 0-9 a-f) for any byte, \e for none'
 number='a whole number of 64 bits with its sign, as 7 or -7'
 versions='VERSIONS (versions=N with N from 1 to 1000)'
-commands='a command, one of as at createtable droptable createuser dropuser setauths grant revoke rights constraints insert delete mutate scan flush compact status addsplit splitsize splits'
+commands='a command, one of as at createtable droptable createuser dropuser setauths grant revoke rights constraints insert delete mutate scan open next many close flush compact status addsplit splitsize splits'
 system='SYSTEM_PERMISSION (GRANT, CREATE_TABLE, DROP_TABLE, ALTER_TABLE, CREATE_USER, DROP_USER, ALTER_USER or SYSTEM)'
+high='[ and a byte word (up to this row), ( and a byte word (before it), or \0 for no bound'
+session='SESSION (the number that an open gave: a whole number of 32 bits without a sign, as 0)'
 bound='[ and a byte word (from this row on), ( and a byte word (behind it), or \0 for no bound'
 sixty=$(printf 'x%.0s' $(seq 60))
 cat >table <<E
@@ -170,6 +172,14 @@ mutate t r add	word 4, "add": expected UPDATE (put or del, and the words behind 
 mutate t r put f q \\e v - del	word 10, "del": expected ; (between two updates) or the end of the line
 mutate t r put f q \\e ; 1 ; del f q x	word 15 is missing: expected STAMP (a timestamp, or - for none)
 scan t \\0 r	word 4, "r": expected LOW ($bound) or the end of the line
+open t	word 3 is missing: expected AUTHS (byte words with commas between them, or \\0 for none)
+next 0	word 3 is missing: expected COUNT (how many cells: a whole number of 32 bits without a sign, as 100)
+next -1 1	word 2, "-1": expected $session
+many 0	
+many 0 [a	word 4 is missing: expected HIGH ($high)
+many 0 [a [b x	word 5, "x": expected LOW ($bound) or the end of the line
+close 4294967296	word 2, "4294967296": expected $session
+close 4294967295	
 flush t	
 compact t	word 3 is missing: expected EXTENT (partial or full)
 compact t all	word 3, "all": expected EXTENT (partial or full)

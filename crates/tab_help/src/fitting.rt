@@ -141,18 +141,39 @@ fn fit_updates<'a>(alloc: Global, start: Rest<'a>) -> Result<(), Stop<'a>> {
     Ok(())
 }
 
+// Takes words of these kinds again and again, to the end of the line. Each time takes words, so they end.
+fn fit_repeated<'a>(alloc: Global, kinds: &'a str, start: Rest<'a>) -> Result<(), Stop<'a>> {
+    let mut rest = start;
+    for _ in 0..u64::MAX {
+        if fit_end(rest, None).is_ok() {
+            return Ok(());
+        }
+        rest = fit_words(alloc, kinds, rest)?;
+    }
+    Ok(())
+}
+
+// Takes updates, or no word at all.
+fn fit_any_updates<'a>(alloc: Global, start: Rest<'a>) -> Result<(), Stop<'a>> {
+    if fit_end(start, None).is_ok() {
+        return Ok(());
+    }
+    fit_updates(alloc, start)
+}
+
 // Sees whether the words behind the command fit a form.
 fn fit_form<'a>(alloc: Global, kinds: &'a str, words: Words<'a>) -> Result<(), Stop<'a>> {
     let start = Rest { words, place: 2 };
-    let Some((front, _)) = kinds.split_once(" [UPDATE") else {
-        let rest = fit_words(alloc, kinds, start)?;
-        return fit_end(rest, None);
-    };
-    let rest = fit_words(alloc, front, start)?;
-    if fit_end(rest, None).is_ok() {
-        return Ok(());
+    if let Some((front, _)) = kinds.split_once(" [UPDATE") {
+        let rest = fit_words(alloc, front, start)?;
+        return fit_any_updates(alloc, rest);
     }
-    fit_updates(alloc, rest)
+    if let Some((front, _)) = kinds.split_once(" [LOW HIGH]..") {
+        let rest = fit_words(alloc, front, start)?;
+        return fit_repeated(alloc, "[LOW HIGH]", rest);
+    }
+    let rest = fit_words(alloc, kinds, start)?;
+    fit_end(rest, None)
 }
 
 /// The furthest word of a line to which its words fit a form of its command, if they fit none to the end. A command that has no

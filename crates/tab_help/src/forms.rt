@@ -1,6 +1,7 @@
 //! The forms of a script's lines, and the kinds of their words: the table that `--help` prints, and that explanations cite.
 
-/// The lines, a form in each row: the command and the kinds of the words behind it. What stands in brackets may be missing.
+/// The lines, a form in each row: the command and the kinds of the words behind it. What stands in brackets may be missing, and what
+/// stands before `..` may come again and again.
 pub const LINES: &str = "  as U
   at MOMENT
   createtable T [TIME [VERSIONS]]
@@ -19,6 +20,10 @@ pub const LINES: &str = "  as U
   delete T ROW FAM QUAL LABEL [TS]
   mutate T ROW [UPDATE [; UPDATE]..]
   scan T AUTHS [LOW HIGH [COLS]]
+  open T AUTHS [LOW HIGH [COLS]]
+  next SESSION COUNT
+  many SESSION [LOW HIGH]..
+  close SESSION
   flush T
   compact T EXTENT
   status T
@@ -50,6 +55,8 @@ pub const KINDS: &str = "  U                  a user's name: 1 to 128 of a-z A-Z
   LOW                [ and a byte word (from this row on), ( and a byte word (behind it), or \\0 for no bound
   HIGH               [ and a byte word (up to this row), ( and a byte word (before it), or \\0 for no bound
   COLS               FAM or FAM:QUAL, with commas between them, or \\0 for all
+  SESSION            the number that an open gave: a whole number of 32 bits without a sign, as 0
+  COUNT              how many cells: a whole number of 32 bits without a sign, as 100
   EXTENT             partial or full
   LIMIT              a number of bytes: a whole number of 64 bits without a sign, as 1000
   UPDATE             put or del, and the words behind it

@@ -17,6 +17,7 @@ fn frame(kind: &str) -> (&'static [u8], &'static [u8]) {
         b"TABLE_PERMISSION" => (b"grant u ", b" t"),
         b"LOW" | b"HIGH" => (b"scan t \\0 ", b" \\0"),
         b"COLS" => (b"scan t \\0 \\0 \\0 ", b""),
+        b"SESSION" | b"COUNT" => (b"close ", b""),
         b"EXTENT" => (b"compact t ", b""),
         b"LIMIT" => (b"splitsize t r ", b""),
         _ => (b"insert t ", b" f q \\e v"),

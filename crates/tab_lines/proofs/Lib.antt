@@ -13,5 +13,7 @@ pub mod ListLaw
 pub mod ColumnLaw
 pub mod UpdateLaw
 pub mod PermissionLaw
+pub mod RangeLemmas
+pub mod SessionLaw
 pub mod SplitLaw
 pub mod LineLaw

@@ -19,6 +19,7 @@ use Rattle.tab_history.specs.declared.event.Extent.TheVariants.{Partial, Full}
 use Rattle.tab_history.specs.declared.event.TimeMode.{TimeMode}
 use Rattle.tab_history.specs.declared.event.TimeMode.TheVariants.{Any, Server}
 use Rattle.tab_history.specs.declared.event.Act.TheVariants.{CreateTable, DropTable, CreateUser, DropUser, SetAuths, Grant, Revoke, SetConstraints, Write, Rights, Status, Flush, Compact, Splits}
+use Rattle.tab_history.specs.declared.event.Scan.{Scan}
 use Rattle.tab_lines.specs.declared.line.Line.{Line}
 use Rattle.tab_lines.specs.declared.line.Line.TheVariants as says
 use Rattle.tab_lines.specs.declared.command.Command.{Command}
@@ -30,11 +31,12 @@ use Rattle.tab_text.specs.Words.{IsWord}
 use Rattle.tab_text.specs.Reading.{bytes_of}
 use Rattle.tab_lines.specs.Fields.{name_of, signed_of, time_word, extent_word, versions_word, list_of, constraints_of, bound_of, columns_of}
 use Rattle.tab_lines.specs.Updates.{row_of, with_updates, put_of, delete_of, updates_of}
-use Rattle.tab_lines.specs.Lines.{name_alone, grant_of, settings_at, settings, createtable_of, setauths_of, constraints_line_of, insert_of, delete_line_of, mutate_of, bounds_of, scan_of, compact_of, at_of, command_of, commanded, said, is_comment, line_of}
-use Rattle.tab_lines.specs.Forms.{IsNameWord, IsNumber, IsList, IsConstraint, IsBound, IsVersions, time_name, extent_name, AreSettings, IsPermission, IsLastTimestamp, AreUpdates, AreLimits, Form, IsLine, LinesAreForms}
+use Rattle.tab_lines.specs.Lines.{name_alone, grant_of, settings_at, settings, createtable_of, setauths_of, constraints_line_of, insert_of, delete_line_of, mutate_of, bounds_of, scan_words, compact_of, at_of, command_of, commanded, said, is_comment, line_of}
+use Rattle.tab_lines.specs.Forms.{IsNameWord, IsNumber, IsList, IsConstraint, IsBound, IsVersions, time_name, extent_name, AreSettings, IsPermission, IsLastTimestamp, AreUpdates, AreLimits, IsScan, Form, IsLine, LinesAreForms}
 use Rattle.tab_lines.specs.Forms.AreSettings.{neither as set_neither, time as set_time, versions as set_versions, both as set_both}
 use Rattle.tab_lines.specs.Forms.AreLimits.{all as limit_all, rows as limit_rows, columns as limit_columns}
-use Rattle.tab_lines.specs.Forms.Form.{blank as form_blank, asker as form_asker, at as form_at, createtable as form_createtable, droptable as form_droptable, createuser as form_createuser, dropuser as form_dropuser, setauths as form_setauths, grant as form_grant, revoke as form_revoke, rights as form_rights, constraints as form_constraints, insert as form_insert, delete as form_delete, mutate as form_mutate, scan as form_scan, flush as form_flush, compact as form_compact, status as form_status, addsplit as form_addsplit, splitsize as form_splitsize, splits as form_splits}
+use Rattle.tab_lines.specs.Forms.IsScan.{asks as scan_asks}
+use Rattle.tab_lines.specs.Forms.Form.{blank as form_blank, asker as form_asker, at as form_at, createtable as form_createtable, droptable as form_droptable, createuser as form_createuser, dropuser as form_dropuser, setauths as form_setauths, grant as form_grant, revoke as form_revoke, rights as form_rights, constraints as form_constraints, insert as form_insert, delete as form_delete, mutate as form_mutate, scan as form_scan, opened as form_opened, next as form_next, many as form_many, close as form_close, flush as form_flush, compact as form_compact, status as form_status, addsplit as form_addsplit, splitsize as form_splitsize, splits as form_splits}
 use Rattle.tab_lines.specs.Forms.IsLine.{comment as line_comment, words as line_words}
 use Rattle.tab_lines.proofs.WordLaw.{words_read}
 use Rattle.tab_lines.proofs.WordsLaw.{words_sound, words_complete}
@@ -42,6 +44,7 @@ use Rattle.tab_lines.proofs.NumberLaw.{numbers_read, versions_read}
 use Rattle.tab_lines.proofs.ListLaw.{names_read, lists_read, constraints_read, bounds_read}
 use Rattle.tab_lines.proofs.ColumnLaw.{columns_read}
 use Rattle.tab_lines.proofs.PermissionLaw.{on_name_alone, name_alone_complete, on_grant, grant_complete}
+use Rattle.tab_lines.proofs.SessionLaw.{next_sound, next_complete, many_sound, many_complete, close_sound, close_complete}
 use Rattle.tab_lines.proofs.SplitLaw.{addsplit_sound, addsplit_complete, splitsize_sound, splitsize_complete}
 use Rattle.tab_lines.proofs.UpdateLaw.{put_with, delete_with, on_put, put_complete, on_delete, delete_complete, last_timestamp, last_complete, updates_sound, updates_complete}
 use Rattle.tab_lines.proofs.Inverting.{Words, some_inj, bind_some, field_some, on_bind, on_map, on_field, on_read, on_ends, on_optional}
@@ -243,16 +246,16 @@ mutate_sound words line is =
     subst (λ (y : Line). Form (codes "mutate" ∷ t ∷ r ∷ ws2) y) said
     (form_mutate t r table h.0 ws2 us (names_read.sound t table e1) h.1 (updates_sound ws2 us e3)))))
 
-scan_sound : (words : Words) (line : Line) → scan_of words ≡ Some line → Form (codes "scan" ∷ words) line
-unfolding scan_of
-scan_sound words line is =
-    on_field name_of words _ line (λ ws. Form (codes "scan" ∷ ws) line) is (λ t ws1 table e1 f1.
-    on_field list_of ws1 _ line (λ ws. Form (codes "scan" ∷ t ∷ ws) line) f1 (λ a ws2 members e2 f2.
-    on_bind (bounds_of ws2) _ line (Form (codes "scan" ∷ t ∷ a ∷ ws2) line) f2 (λ b e3 f3.
-    on_bind (optional [] columns_of b.1) _ line (Form (codes "scan" ∷ t ∷ a ∷ ws2) line) f3 (λ c e4 f4.
-    on_bind (ends c.1) _ line (Form (codes "scan" ∷ t ∷ a ∷ ws2) line) f4 (λ end e5 f5.
-    subst (λ (y : Line). Form (codes "scan" ∷ t ∷ a ∷ ws2) y) (some_inj _ line f5)
-    (form_scan t a table members ws2 b.0 c.0 (names_read.sound t table e1) (lists_read.sound a members e2) (limits_sound ws2 b c e3 e4 (ends_none c.1 end e5))))))))
+scan_sound : (words : Words) (scan : Scan) → scan_words words ≡ Some scan → IsScan words scan
+unfolding scan_words
+scan_sound words scan is =
+    on_field name_of words _ scan (λ ws. IsScan ws scan) is (λ t ws1 table e1 f1.
+    on_field list_of ws1 _ scan (λ ws. IsScan (t ∷ ws) scan) f1 (λ a ws2 members e2 f2.
+    on_bind (bounds_of ws2) _ scan (IsScan (t ∷ a ∷ ws2) scan) f2 (λ b e3 f3.
+    on_bind (optional [] columns_of b.1) _ scan (IsScan (t ∷ a ∷ ws2) scan) f3 (λ c e4 f4.
+    on_bind (ends c.1) _ scan (IsScan (t ∷ a ∷ ws2) scan) f4 (λ end e5 f5.
+    subst (λ (y : Scan). IsScan (t ∷ a ∷ ws2) y) (some_inj _ scan f5)
+    (scan_asks t a table members ws2 b.0 c.0 (names_read.sound t table e1) (lists_read.sound a members e2) (limits_sound ws2 b c e3 e4 (ends_none c.1 end e5))))))))
 
 at_sound : (words : Words) (line : Line) → at_of words ≡ Some line → Form (codes "at" ∷ words) line
 unfolding at_of
@@ -311,8 +314,8 @@ mutate_complete t r table row words updates name w0 are =
     (bind_some (updates_of words) updates _ _ (updates_complete words updates are) refl))
 
 scan_complete : (t a table : List ℕ) (members : List (List ℕ)) (words : Words) (bounds : Bounds) (columns : List Column) → IsNameWord t table → IsList IsWord a members → AreLimits words bounds columns
-    → scan_of (t ∷ a ∷ words) ≡ Some (says.Scan (record { table = table; bounds = bounds; columns = columns; authorizations = set_of members }))
-unfolding scan_of
+    → scan_words (t ∷ a ∷ words) ≡ Some (record { table = table; bounds = bounds; columns = columns; authorizations = set_of members })
+unfolding scan_words
 scan_complete t a table members words bounds columns name list are =
     let h = limits_complete words bounds columns are in
     bind_some (field name_of (t ∷ a ∷ words)) (table, a ∷ words) _ _ (field_some name_of t (a ∷ words) table (names_read.complete t table name))
@@ -359,6 +362,10 @@ command_name command.Insert = codes "insert"
 command_name command.Delete = codes "delete"
 command_name command.Mutate = codes "mutate"
 command_name command.Scan = codes "scan"
+command_name command.Open = codes "open"
+command_name command.Next = codes "next"
+command_name command.Many = codes "many"
+command_name command.Close = codes "close"
 command_name command.Flush = codes "flush"
 command_name command.Compact = codes "compact"
 command_name command.Status = codes "status"
@@ -383,12 +390,16 @@ command_sound word c is =
     on_cond (bytes_eq word (codes "delete")) (Some command.Delete) _ c (word ≡ command_name c) e12 (λ yes e. named (codes "delete") command.Delete yes refl e) (λ no13 e13.
     on_cond (bytes_eq word (codes "mutate")) (Some command.Mutate) _ c (word ≡ command_name c) e13 (λ yes e. named (codes "mutate") command.Mutate yes refl e) (λ no14 e14.
     on_cond (bytes_eq word (codes "scan")) (Some command.Scan) _ c (word ≡ command_name c) e14 (λ yes e. named (codes "scan") command.Scan yes refl e) (λ no15 e15.
-    on_cond (bytes_eq word (codes "flush")) (Some command.Flush) _ c (word ≡ command_name c) e15 (λ yes e. named (codes "flush") command.Flush yes refl e) (λ no16 e16.
-    on_cond (bytes_eq word (codes "compact")) (Some command.Compact) _ c (word ≡ command_name c) e16 (λ yes e. named (codes "compact") command.Compact yes refl e) (λ no17 e17.
-    on_cond (bytes_eq word (codes "status")) (Some command.Status) _ c (word ≡ command_name c) e17 (λ yes e. named (codes "status") command.Status yes refl e) (λ no18 e18.
-    on_cond (bytes_eq word (codes "addsplit")) (Some command.AddSplit) _ c (word ≡ command_name c) e18 (λ yes e. named (codes "addsplit") command.AddSplit yes refl e) (λ no19 e19.
-    on_cond (bytes_eq word (codes "splitsize")) (Some command.SplitSize) _ c (word ≡ command_name c) e19 (λ yes e. named (codes "splitsize") command.SplitSize yes refl e) (λ no20 e20.
-    on_cond (bytes_eq word (codes "splits")) (Some command.Splits) _ c (word ≡ command_name c) e20 (λ yes e. named (codes "splits") command.Splits yes refl e) (λ no21 e21. absurd cc)))))))))))))))))))))
+    on_cond (bytes_eq word (codes "open")) (Some command.Open) _ c (word ≡ command_name c) e15 (λ yes e. named (codes "open") command.Open yes refl e) (λ no16 e16.
+    on_cond (bytes_eq word (codes "next")) (Some command.Next) _ c (word ≡ command_name c) e16 (λ yes e. named (codes "next") command.Next yes refl e) (λ no17 e17.
+    on_cond (bytes_eq word (codes "many")) (Some command.Many) _ c (word ≡ command_name c) e17 (λ yes e. named (codes "many") command.Many yes refl e) (λ no18 e18.
+    on_cond (bytes_eq word (codes "close")) (Some command.Close) _ c (word ≡ command_name c) e18 (λ yes e. named (codes "close") command.Close yes refl e) (λ no19 e19.
+    on_cond (bytes_eq word (codes "flush")) (Some command.Flush) _ c (word ≡ command_name c) e19 (λ yes e. named (codes "flush") command.Flush yes refl e) (λ no20 e20.
+    on_cond (bytes_eq word (codes "compact")) (Some command.Compact) _ c (word ≡ command_name c) e20 (λ yes e. named (codes "compact") command.Compact yes refl e) (λ no21 e21.
+    on_cond (bytes_eq word (codes "status")) (Some command.Status) _ c (word ≡ command_name c) e21 (λ yes e. named (codes "status") command.Status yes refl e) (λ no22 e22.
+    on_cond (bytes_eq word (codes "addsplit")) (Some command.AddSplit) _ c (word ≡ command_name c) e22 (λ yes e. named (codes "addsplit") command.AddSplit yes refl e) (λ no23 e23.
+    on_cond (bytes_eq word (codes "splitsize")) (Some command.SplitSize) _ c (word ≡ command_name c) e23 (λ yes e. named (codes "splitsize") command.SplitSize yes refl e) (λ no24 e24.
+    on_cond (bytes_eq word (codes "splits")) (Some command.Splits) _ c (word ≡ command_name c) e24 (λ yes e. named (codes "splits") command.Splits yes refl e) (λ no25 e25. absurd cc)))))))))))))))))))))))))
   where
     named : (text : List ℕ) (d : Command) → bytes_eq word text ≡ true → text ≡ command_name d → Some d ≡ Some c → word ≡ command_name c
     named text d same name e = (bytes_eq-Decides word text).0 same ∙ name ∙ ap command_name (some_inj d c e)
@@ -399,6 +410,15 @@ named_sound : (text : List ℕ) (said : List ℕ → Line) (words : Words) (line
 named_sound text said words line form is =
     on_map said (name_alone words) line (Form (text ∷ words) line) is (λ name read e.
     subst (λ (y : Line). Form (text ∷ words) y) e (on_name_alone words name (λ ws. Form (text ∷ ws) (said name)) read (λ w named. form w name named)))
+
+-- a line of a command and what a scan asks
+asked_sound : (text : List ℕ) (said : Scan → Line) (words : Words) (line : Line) → ((ws : Words) (scan : Scan) → IsScan ws scan → Form (text ∷ ws) (said scan))
+    → option_map said (scan_words words) ≡ Some line → Form (text ∷ words) line
+asked_sound text said words line form is =
+    on_map said (scan_words words) line (Form (text ∷ words) line) is (λ scan read e. subst (λ (y : Line). Form (text ∷ words) y) e (form words scan (scan_sound words scan read)))
+
+asked_complete : (words : Words) (scan : Scan) → IsScan words scan → scan_words words ≡ Some scan
+asked_complete words scan (scan_asks t a table members ws bounds columns name list are) = scan_complete t a table members ws bounds columns name list are
 
 -- a line of a command, a user and a permission
 grant_sound : (text : List ℕ) (said : List ℕ × Permission → Line) (words : Words) (line : Line)
@@ -423,7 +443,11 @@ commanded_sound command.Constraints words line is = constraints_sound words line
 commanded_sound command.Insert words line is = insert_sound words line is
 commanded_sound command.Delete words line is = delete_sound words line is
 commanded_sound command.Mutate words line is = mutate_sound words line is
-commanded_sound command.Scan words line is = scan_sound words line is
+commanded_sound command.Scan words line is = asked_sound (codes "scan") (λ scan. says.Scan scan) words line form_scan is
+commanded_sound command.Open words line is = asked_sound (codes "open") (λ scan. says.Open scan) words line form_opened is
+commanded_sound command.Next words line is = next_sound words line is
+commanded_sound command.Many words line is = many_sound words line is
+commanded_sound command.Close words line is = close_sound words line is
 commanded_sound command.Flush words line is = named_sound (codes "flush") (λ name. says.Act (Flush name)) words line form_flush is
 commanded_sound command.Compact words line is = compact_sound words line is
 commanded_sound command.Status words line is = named_sound (codes "status") (λ name. says.Act (Status name)) words line form_status is
@@ -454,7 +478,11 @@ said_complete words line (form_insert t r f q l v table row family qualifier lab
 said_complete words line (form_delete t r f q l table row family qualifier label ws timestamp name w0 w1 w2 w3 time) =
     delete_line_complete t r f q l table row family qualifier label ws timestamp name w0 w1 w2 w3 time
 said_complete words line (form_mutate t r table row ws updates name w0 are) = mutate_complete t r table row ws updates name w0 are
-said_complete words line (form_scan t a table members ws bounds columns name list are) = scan_complete t a table members ws bounds columns name list are
+said_complete words line (form_scan ws scan is) = ap (λ (o : Option Scan). option_map (λ s. says.Scan s) o) (asked_complete ws scan is)
+said_complete words line (form_opened ws scan is) = ap (λ (o : Option Scan). option_map (λ s. says.Open s) o) (asked_complete ws scan is)
+said_complete words line (form_next k n session count s c) = next_complete k n session count s c
+said_complete words line (form_many k ws session ranges s are) = many_complete k ws session ranges s are
+said_complete words line (form_close k session s) = close_complete k session s
 said_complete words line (form_flush t table name) = ap (λ (o : Option (List ℕ)). option_map (λ n. says.Act (Flush n)) o) (name_alone_complete t table name)
 said_complete words line (form_compact t table extent name) = compact_complete t table extent name
 said_complete words line (form_status t table name) = ap (λ (o : Option (List ℕ)). option_map (λ n. says.Act (Status n)) o) (name_alone_complete t table name)

@@ -12,8 +12,8 @@ use Rattle.std.proofs.lemmas.Slice.Eq.{bytes_eq-Decides}
 use Rattle.std.specs.Char.{is_ascii_digit}
 use Rattle.tab_history.specs.Settings.{is_version_count}
 use Rattle.tab_key.specs.declared.part.TheConstants.{MAX_VERSIONS}
-use Rattle.tab_lines.specs.Fields.{digits_on, magnitude_of, unsigned_of, positive, negative, signed_of, given_timestamp, timestamp_or_dash, only_if, versions_word}
-use Rattle.tab_lines.specs.Forms.{AreDigits, IsNumber, IsUnsigned, IsTimestamp, IsVersions}
+use Rattle.tab_lines.specs.Fields.{digits_on, magnitude_of, unsigned_of, small_of, positive, negative, signed_of, given_timestamp, timestamp_or_dash, only_if, versions_word}
+use Rattle.tab_lines.specs.Forms.{AreDigits, IsNumber, IsUnsigned, IsSmall, IsTimestamp, IsVersions}
 use Rattle.tab_lines.proofs.Inverting.{ReadsExactly, some_inj, on_map, on_then}
 
 -- one more digit behind others
@@ -132,6 +132,23 @@ unsigned_complete word n (are, fits) =
 -- a number without a sign is exactly what is read of its word
 pub unsigned_read : ReadsExactly unsigned_of IsUnsigned
 unsigned_read = record { sound = unsigned_sound; complete = unsigned_complete }
+
+-- ---- of 32 bits
+small_sound : (word : List ℕ) (n : ℕ) → small_of word ≡ Some n → IsSmall word n
+small_sound word n is = on_then (only_if (λ m. nat_lt m (2 ^ 32))) (unsigned_of word) n (IsSmall word n) is (λ m read one.
+    elim (nat_lt m (2 ^ 32)) as (λ b. nat_lt m (2 ^ 32) ≡ b → cond b (Some m) None ≡ Some n → IsSmall word n) [
+      | true ↦ λ fits e. subst (λ (k : ℕ). IsSmall word k) (some_inj m n e) ((unsigned_sound word m read).0, ltb-true _ _ fits)
+      | false ↦ λ fits e. absurd cc
+    ] refl one)
+
+small_complete : (word : List ℕ) (n : ℕ) → IsSmall word n → small_of word ≡ Some n
+small_complete word n (are, fits) =
+    ap (λ (o : Option ℕ). option_and_then (only_if (λ m. nat_lt m (2 ^ 32))) o) (unsigned_complete word n (are, omega (arith, fits)))
+    ∙ ap (λ b. cond b (Some n) None) (lt-ltb n (2 ^ 32) fits)
+
+-- such a number is exactly what is read of its word
+pub small_read : ReadsExactly small_of IsSmall
+small_read = record { sound = small_sound; complete = small_complete }
 
 -- ---- with a sign
 

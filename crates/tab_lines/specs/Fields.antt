@@ -56,6 +56,10 @@ magnitude_of digits = if length digits == 0 then None else digits_on 0 digits
 abbrev pub unsigned_of : List ℕ → Option ℕ
 unsigned_of word = option_and_then (only_if (λ n. nat_lt n (2 ^ 64))) (magnitude_of word)
 
+-- a number below 2^32
+abbrev pub small_of : List ℕ → Option ℕ
+small_of word = option_and_then (only_if (λ n. nat_lt n (2 ^ 32))) (unsigned_of word)
+
 -- a number that fits without a minus
 abbrev pub positive : ℕ → Option ℤ
 positive n = if nat_lt n (2 ^ 63) then Some (pos n) else None

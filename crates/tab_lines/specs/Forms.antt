@@ -21,6 +21,7 @@ use Rattle.tab_history.specs.declared.event.Extent.TheVariants.{Partial, Full}
 use Rattle.tab_history.specs.declared.event.TimeMode.{TimeMode}
 use Rattle.tab_history.specs.declared.event.TimeMode.TheVariants.{Any, Server}
 use Rattle.tab_history.specs.declared.event.Act.TheVariants.{CreateTable, DropTable, CreateUser, DropUser, SetAuths, Grant, Revoke, SetConstraints, Write, Rights, Status, Flush, Compact, AddSplit, SplitBySize, Splits}
+use Rattle.tab_history.specs.declared.event.Scan.{Scan}
 use Rattle.tab_lines.specs.declared.line.Line.{Line}
 use Rattle.tab_lines.specs.declared.line.Line.TheVariants as line
 use Rattle.tab_lines.specs.Words.{parts_at}
@@ -45,6 +46,10 @@ IsNumber word (negsuc n) = (digits : List ℕ) × (word ≡ 45 ∷ digits) × Ar
 -- the word is a number of 64 bits without a sign
 abbrev pub IsUnsigned : List ℕ → ℕ → Type 0
 IsUnsigned word n = AreDigits word n × (n < 2 ^ 64)
+
+-- the word is a number of 32 bits without a sign
+abbrev pub IsSmall : List ℕ → ℕ → Type 0
+IsSmall word n = AreDigits word n × (n < 2 ^ 32)
 
 -- the word is the timestamp of an update among several: a number, or - for none
 abbrev pub IsTimestamp : List ℕ → Option ℤ → Type 0
@@ -131,6 +136,18 @@ pub data AreLimits : List (List ℕ) → Bounds → List Column → Type 0 where
   columns : (l h c : List ℕ) (low high : Bound) (columns : List Column) → IsBound l low → IsBound h high → IsList IsColumn c columns
       → AreLimits (l ∷ h ∷ c ∷ []) (record { low = low; high = high }) columns
 
+-- the words behind scan or open: a table, authorizations and limits
+pub data IsScan : List (List ℕ) → Scan → Type 0 where
+  asks : (t a table : List ℕ) (members : List (List ℕ)) (words : List (List ℕ)) (bounds : Bounds) (columns : List Column)
+      → IsNameWord t table → IsList IsWord a members → AreLimits words bounds columns
+      → IsScan (t ∷ a ∷ words) (record { table = table; bounds = bounds; columns = columns; authorizations = set_of members })
+
+-- pairs of ends, each pair a range
+pub data AreRanges : List (List ℕ) → List Bounds → Type 0 where
+  none : AreRanges [] []
+  pair : (l h : List ℕ) (words : List (List ℕ)) (low high : Bound) (ranges : List Bounds) → IsBound l low → IsBound h high → AreRanges words ranges
+      → AreRanges (l ∷ h ∷ words) (record { low = low; high = high } ∷ ranges)
+
 -- ---- lines
 
 -- the words are a line that says this
@@ -162,9 +179,12 @@ pub data Form : List (List ℕ) → Line → Type 0 where
       (line.Act (Write table (record { row = row; updates = delete_update family qualifier label timestamp ∷ [] })))
   mutate : (t r table row : List ℕ) (words : List (List ℕ)) (updates : List Update) → IsNameWord t table → IsWord r row → AreUpdates words updates
       → Form (codes "mutate" ∷ t ∷ r ∷ words) (line.Act (Write table (record { row = row; updates = updates })))
-  scan : (t a table : List ℕ) (members : List (List ℕ)) (words : List (List ℕ)) (bounds : Bounds) (columns : List Column)
-      → IsNameWord t table → IsList IsWord a members → AreLimits words bounds columns
-      → Form (codes "scan" ∷ t ∷ a ∷ words) (line.Scan (record { table = table; bounds = bounds; columns = columns; authorizations = set_of members }))
+  scan : (words : List (List ℕ)) (scan : Scan) → IsScan words scan → Form (codes "scan" ∷ words) (line.Scan scan)
+  opened : (words : List (List ℕ)) (scan : Scan) → IsScan words scan → Form (codes "open" ∷ words) (line.Open scan)
+  next : (k n : List ℕ) (session count : ℕ) → IsSmall k session → IsSmall n count → Form (codes "next" ∷ k ∷ n ∷ []) (line.Next session count)
+  many : (k : List ℕ) (words : List (List ℕ)) (session : ℕ) (ranges : List Bounds) → IsSmall k session → AreRanges words ranges
+      → Form (codes "many" ∷ k ∷ words) (line.Many session ranges)
+  close : (k : List ℕ) (session : ℕ) → IsSmall k session → Form (codes "close" ∷ k ∷ []) (line.Close session)
   flush : (t table : List ℕ) → IsNameWord t table → Form (codes "flush" ∷ t ∷ []) (line.Act (Flush table))
   compact : (t table : List ℕ) (extent : Extent) → IsNameWord t table → Form (codes "compact" ∷ t ∷ extent_name extent ∷ []) (line.Act (Compact table extent))
   status : (t table : List ℕ) → IsNameWord t table → Form (codes "status" ∷ t ∷ []) (line.Act (Status table))
@@ -181,8 +201,8 @@ IsPlainWord word = (word ≢ []) × (list_all (λ b. not (b == 32)) word ≡ tru
 abbrev pub AreWords : List ℕ → List (List ℕ) → Type 0
 AreWords text [] = (before : ℕ) × (text ≡ replicate before 32)
 AreWords text (word ∷ []) = (before : ℕ) × (behind : ℕ) × (text ≡ replicate before 32 ++ (word ++ replicate behind 32)) × IsPlainWord word
-AreWords text (word ∷ next ∷ words) =
-    (before : ℕ) × (rest : List ℕ) × (text ≡ replicate before 32 ++ (word ++ 32 ∷ rest)) × IsPlainWord word × AreWords rest (next ∷ words)
+AreWords text (word ∷ second ∷ words) =
+    (before : ℕ) × (rest : List ℕ) × (text ≡ replicate before 32 ++ (word ++ 32 ∷ rest)) × IsPlainWord word × AreWords rest (second ∷ words)
 
 -- the text is a line that says this: a comment, or words that say it
 pub data IsLine : List ℕ → Line → Type 0 where

@@ -1,6 +1,6 @@
 -- What a line says.
 use Rattle.std.specs.Prelude.{ℕ, ◌==◌, Bool, false, List, [], ◌∷◌, codes, Option, Some, None, if◌then◌else◌}
-use Rattle.std.specs.Option.{option_map}
+use Rattle.std.specs.Option.{option_map, option_and_then}
 use Rattle.std.specs.Str.{bytes_eq}
 use Rattle.tab_key.specs.declared.range.Bounds.{Bounds}
 use Rattle.tab_key.specs.declared.range.Bound.TheVariants.{Unbounded}
@@ -10,6 +10,7 @@ use Rattle.tab_history.specs.declared.event.TimeMode.{TimeMode}
 use Rattle.tab_history.specs.declared.event.TimeMode.TheVariants.{Any}
 use Rattle.tab_rules.specs.Constraints.{constraint_set_of}
 use Rattle.tab_history.specs.declared.event.Act.TheVariants.{CreateTable, DropTable, CreateUser, DropUser, SetAuths, Grant, Revoke, SetConstraints, Write, Rights, Status, Flush, Compact, AddSplit, SplitBySize, Splits}
+use Rattle.tab_history.specs.declared.event.Scan.{Scan}
 use Rattle.tab_lines.specs.declared.line.Line.{Line}
 use Rattle.tab_lines.specs.declared.line.Line.TheVariants as line
 use Rattle.tab_lines.specs.declared.command.Command.{Command}
@@ -18,7 +19,7 @@ use Rattle.tab_lines.specs.declared.updates.TimestampForm.TheVariants.{Optional}
 use Rattle.tab_lines.specs.Gives.{◌>>=◌, field, ends, optional}
 use Rattle.tab_lines.specs.Words.{words_of}
 use Rattle.tab_text.specs.Reading.{bytes_of}
-use Rattle.tab_lines.specs.Fields.{name_of, unsigned_of, signed_of, time_word, versions_word, extent_word, system_permission, table_permission, list_of, constraints_of, bound_of, columns_of}
+use Rattle.tab_lines.specs.Fields.{name_of, unsigned_of, small_of, signed_of, time_word, versions_word, extent_word, system_permission, table_permission, list_of, constraints_of, bound_of, columns_of}
 use Rattle.tab_lines.specs.Updates.{row_of, with_updates, put_of, delete_of, updates_of}
 use Rattle.tab_mutation.specs.Mutations.{with_update}
 
@@ -116,15 +117,43 @@ bounds_of (word ∷ words) = do
   high ← field bound_of low.1
   Some (record { low = low.0; high = high.0 }, high.1)
 
--- the words behind the command of a line scan T AUTHS [LOW HIGH [COLS]]
-unfoldable pub scan_of : List (List ℕ) → Option Line
-scan_of words = do
+-- what the words behind the command of a line scan T AUTHS [LOW HIGH [COLS]] ask, or of a line open with the same words
+unfoldable pub scan_words : List (List ℕ) → Option Scan
+scan_words words = do
   table ← field name_of words
   auths ← field list_of table.1
   bounds ← bounds_of auths.1
   columns ← optional [] columns_of bounds.1
   end ← ends columns.1
-  Some (line.Scan (record { table = table.0; bounds = bounds.0; columns = columns.0; authorizations = set_of auths.0 }))
+  Some (record { table = table.0; bounds = bounds.0; columns = columns.0; authorizations = set_of auths.0 })
+
+-- the words behind the command of a line next K N
+unfoldable pub next_of : List (List ℕ) → Option Line
+next_of words = do
+  session ← field small_of words
+  count ← field small_of session.1
+  end ← ends count.1
+  Some (line.Next session.0 count.0)
+
+-- pairs of bounds
+abbrev pub ranges_of : List (List ℕ) → Option (List Bounds)
+ranges_of [] = Some []
+ranges_of (low ∷ []) = None
+ranges_of (low ∷ high ∷ words) = option_and_then (λ l. option_and_then (λ h. option_map (λ ranges. record { low = l; high = h } ∷ ranges) (ranges_of words)) (bound_of high)) (bound_of low)
+
+-- the words behind the command of a line many K and pairs LOW HIGH
+unfoldable pub many_of : List (List ℕ) → Option Line
+many_of words = do
+  session ← field small_of words
+  ranges ← ranges_of session.1
+  Some (line.Many session.0 ranges)
+
+-- the words behind the command of a line close K
+unfoldable pub close_of : List (List ℕ) → Option Line
+close_of words = do
+  session ← field small_of words
+  end ← ends session.1
+  Some (line.Close session.0)
 
 -- the words behind the command of a line compact T partial or compact T full
 unfoldable pub compact_of : List (List ℕ) → Option Line
@@ -176,6 +205,10 @@ command_of word =
     else if bytes_eq word (codes "delete") then Some command.Delete
     else if bytes_eq word (codes "mutate") then Some command.Mutate
     else if bytes_eq word (codes "scan") then Some command.Scan
+    else if bytes_eq word (codes "open") then Some command.Open
+    else if bytes_eq word (codes "next") then Some command.Next
+    else if bytes_eq word (codes "many") then Some command.Many
+    else if bytes_eq word (codes "close") then Some command.Close
     else if bytes_eq word (codes "flush") then Some command.Flush
     else if bytes_eq word (codes "compact") then Some command.Compact
     else if bytes_eq word (codes "status") then Some command.Status
@@ -200,7 +233,11 @@ commanded command.Constraints words = constraints_line_of words
 commanded command.Insert words = insert_of words
 commanded command.Delete words = delete_line_of words
 commanded command.Mutate words = mutate_of words
-commanded command.Scan words = scan_of words
+commanded command.Scan words = option_map (λ scan. line.Scan scan) (scan_words words)
+commanded command.Open words = option_map (λ scan. line.Open scan) (scan_words words)
+commanded command.Next words = next_of words
+commanded command.Many words = many_of words
+commanded command.Close words = close_of words
 commanded command.Flush words = option_map (λ table. line.Act (Flush table)) (name_alone words)
 commanded command.Compact words = compact_of words
 commanded command.Status words = option_map (λ table. line.Act (Status table)) (name_alone words)

@@ -35,6 +35,14 @@ pub enum Command {
     Mutate,
     /// `scan`
     Scan,
+    /// `open`
+    Open,
+    /// `next`
+    Next,
+    /// `many`
+    Many,
+    /// `close`
+    Close,
     /// `flush`
     Flush,
     /// `compact`
@@ -69,6 +77,10 @@ pub fn command_of(word: &[u8]) -> Option<Command>
         b"delete" => Some(Command::Delete),
         b"mutate" => Some(Command::Mutate),
         b"scan" => Some(Command::Scan),
+        b"open" => Some(Command::Open),
+        b"next" => Some(Command::Next),
+        b"many" => Some(Command::Many),
+        b"close" => Some(Command::Close),
         b"flush" => Some(Command::Flush),
         b"compact" => Some(Command::Compact),
         b"status" => Some(Command::Status),

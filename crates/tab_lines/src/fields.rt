@@ -5,14 +5,14 @@ ghost use Rattle.tab_lines.specs.Gives.{Gives, field, ends};
 ghost use Rattle.tab_lines.specs.Words.{words_left};
 ghost use Rattle.tab_text.specs.Reading.{bytes_of};
 ghost use Rattle.tab_lines.specs.Spelling.{bytes_spelled};
-ghost use Rattle.tab_lines.specs.Fields.{name_of, unsigned_of, signed_of, list_of, bound_of, extent_word};
+ghost use Rattle.tab_lines.specs.Fields.{name_of, unsigned_of, small_of, signed_of, list_of, bound_of, extent_word};
 ghost use Rattle.tab_lines.specs.Lines.{name_alone};
 
 use crate::LineError;
 use crate::bounds::bound_of;
 use crate::lists::list_of;
 use crate::names::{extent_word, name_of};
-use crate::numbers::{signed_of, unsigned_of};
+use crate::numbers::{signed_of, small_of, unsigned_of};
 use crate::spelling::{Spelled, bytes_of, spelling_of};
 use crate::words::Words;
 use std::alloc::Global;
@@ -77,6 +77,16 @@ pub fn an_unsigned(words: &mut Words) -> Result<u64, LineError>
         return Err(LineError::Fault);
     };
     unsigned_of(word)
+}
+
+/// Takes a word that spells a number below 2^32 without a sign.
+pub fn a_small(words: &mut Words) -> Result<u32, LineError>
+    ensures { Gives (λ x. (x, words_left words.new)) result (field small_of (words_left words.old)) }
+{
+    let Some(word) = words.next() else {
+        return Err(LineError::Fault);
+    };
+    small_of(word)
 }
 
 /// Takes a word that spells an end of a range.

@@ -20,6 +20,10 @@
 //! | `delete T ROW FAM QUAL LABEL [TS]` | a mutation of one delete |
 //! | `mutate T ROW`, updates parted by the word `;` | a mutation of `put FAM QUAL LABEL VALUE TS` and `del FAM QUAL LABEL TS`, TS a number or `-` for none |
 //! | `scan T AUTHS [LOW HIGH [COLS]]` | a whole scan |
+//! | `open T AUTHS [LOW HIGH [COLS]]` | open a session, which is kept |
+//! | `next K N` | the next N cells of the session that has the number K |
+//! | `many K` and pairs `LOW HIGH` | the whole answer of that session in each of these ranges |
+//! | `close K` | close that session |
 //! | `flush T` | a minor compaction of each of a table's tablets |
 //! | `compact T partial\|full` | a major compaction of each of them, of some of their sorted tables or of all that they hold |
 //! | `status T` | count a table's tablets, and what they hold |
@@ -31,7 +35,7 @@
 //! of users and tables, rows and the other parts are byte words (crate `tab_text`). P is the name of a permission as
 //! crate `tab_policy` has it: of a system permission where it is the last word, else of a table permission. The forms of updates have fixed lengths and are read by place, so a value may be
 //! the word `;`. A number is decimal digits, leading zeros are accepted, a minus stands before a negative one alone, and
-//! what an i64 can't hold is a fault. N is 1 to 1,000, LIMIT has no minus and is below 2^64. A list is byte words between commas, or the word `\0` for none;
+//! what an i64 can't hold is a fault. The N of versions is 1 to 1,000, K and the N of `next` have no minus and are below 2^32, LIMIT has no minus and is below 2^64. A list is byte words between commas, or the word `\0` for none;
 //! each member has at least one byte of text. A bound is `\0` for none, or a byte word behind `[` (in the range) or `(`
 //! (not in it). A column is a family, or a family and a qualifier with the first colon between them. Commas and colons
 //! part a word before its escapes are undone.

@@ -3,13 +3,14 @@ ghost use Rattle.std.specs.Prelude.{[]};
 ghost use Rattle.tab_lines.specs.Gives.{Gives, optional};
 ghost use Rattle.tab_lines.specs.Words.{words_left};
 ghost use Rattle.tab_lines.specs.Fields.{constraints_of, columns_of, versions_word};
-ghost use Rattle.tab_lines.specs.Lines.{settings, createtable_of, setauths_of, constraints_line_of, insert_of, delete_line_of, mutate_of, bounds_of, scan_of, compact_of, addsplit_of, splitsize_of, at_of, commanded, said, line_of};
+ghost use Rattle.tab_lines.specs.Lines.{settings, createtable_of, setauths_of, constraints_line_of, insert_of, delete_line_of, mutate_of, bounds_of, scan_words, next_of, ranges_of, many_of, close_of, compact_of, addsplit_of, splitsize_of, at_of, commanded, said, line_of};
 
 use crate::LineError;
 use crate::bounds::bound_of;
 use crate::command::{Command, command_of};
 use crate::fields::{
-    a_bound, a_byte_string, a_list, a_name, a_number, an_extent, an_unsigned, ends, name_alone,
+    a_bound, a_byte_string, a_list, a_name, a_number, a_small, an_extent, an_unsigned, ends,
+    name_alone,
 };
 use crate::lists::{columns_of, constraints_of};
 use crate::names::time_word;
@@ -36,6 +37,14 @@ pub enum Line {
     Act(Act),
     /// A whole scan: its session is opened, read to its end and closed.
     Scan(Scan),
+    /// A session is opened and kept.
+    Open(Scan),
+    /// The next batch of the session that has this number, of so many cells.
+    Next(u32, u32),
+    /// The whole answer of the session that has this number, in each of these ranges.
+    Many(u32, Items<Bounds>),
+    /// The session that has this number is closed.
+    Close(u32),
 }
 
 // Takes the number of versions, 1 where no word is left.
@@ -161,9 +170,10 @@ fn any_columns(alloc: Global, words: &mut Words) -> Result<Items<Column>, LineEr
     Ok(Items::from_vec(columns_of(alloc, word)?))
 }
 
-#[tactic(auto, unfolding(crate::specs::Lines::scan_of))]
-fn scan(alloc: Global, words: &mut Words) -> Result<Line, LineError>
-    ensures { Gives (λ x. x) result (scan_of (words_left words.old)) }
+// Takes all that is left: what a scan asks.
+#[tactic(auto, unfolding(crate::specs::Lines::scan_words))]
+fn scan(alloc: Global, words: &mut Words) -> Result<Scan, LineError>
+    ensures { Gives (λ x. x) result (scan_words (words_left words.old)) }
 {
     let table = a_name(alloc, words)?;
     let members = a_list(alloc, words)?;
@@ -171,12 +181,53 @@ fn scan(alloc: Global, words: &mut Words) -> Result<Line, LineError>
     let columns = any_columns(alloc, words)?;
     ends(words)?;
     let authorizations = AuthSet::new(members);
-    Ok(Line::Scan(Scan {
+    Ok(Scan {
         table,
         bounds,
         columns,
         authorizations,
-    }))
+    })
+}
+
+#[tactic(auto, unfolding(crate::specs::Lines::next_of))]
+fn next(words: &mut Words) -> Result<Line, LineError>
+    ensures { Gives (λ x. x) result (next_of (words_left words.old)) }
+{
+    let session = a_small(words)?;
+    let count = a_small(words)?;
+    ends(words)?;
+    Ok(Line::Next(session, count))
+}
+
+// Takes all that is left: pairs of bounds.
+fn ranges(alloc: Global, words: &mut Words) -> Result<Vec<Bounds>, LineError>
+    ensures { Gives (λ x. x.items) result (ranges_of (words_left words.old)) }
+{
+    let mut ranges = Vec::new(alloc);
+    while let Some(word) = words.next() {
+        let low = bound_of(alloc, word)?;
+        let high = a_bound(alloc, words)?;
+        ranges.push(Bounds { low, high })?;
+    }
+    Ok(ranges)
+}
+
+#[tactic(auto, unfolding(crate::specs::Lines::many_of))]
+fn many(alloc: Global, words: &mut Words) -> Result<Line, LineError>
+    ensures { Gives (λ x. x) result (many_of (words_left words.old)) }
+{
+    let session = a_small(words)?;
+    let ranges = ranges(alloc, words)?;
+    Ok(Line::Many(session, Items::from_vec(ranges)))
+}
+
+#[tactic(auto, unfolding(crate::specs::Lines::close_of))]
+fn close(words: &mut Words) -> Result<Line, LineError>
+    ensures { Gives (λ x. x) result (close_of (words_left words.old)) }
+{
+    let session = a_small(words)?;
+    ends(words)?;
+    Ok(Line::Close(session))
 }
 
 #[tactic(auto, unfolding(crate::specs::Lines::compact_of))]
@@ -244,7 +295,11 @@ fn commanded(alloc: Global, command: Command, words: &mut Words) -> Result<Line,
         Command::Insert => insert(alloc, words),
         Command::Delete => delete(alloc, words),
         Command::Mutate => mutate(alloc, words),
-        Command::Scan => scan(alloc, words),
+        Command::Scan => Ok(Line::Scan(scan(alloc, words)?)),
+        Command::Open => Ok(Line::Open(scan(alloc, words)?)),
+        Command::Next => next(words),
+        Command::Many => many(alloc, words),
+        Command::Close => close(words),
         Command::Flush => Ok(Line::Act(Act::Flush(name_alone(alloc, words)?))),
         Command::Compact => compact(alloc, words),
         Command::Status => Ok(Line::Act(Act::Status(name_alone(alloc, words)?))),

@@ -2,7 +2,7 @@
 ghost use Rattle.std.specs.Prelude.{◌≡◌, ◌<◌, ◌^◌, nat_lt};
 ghost use Rattle.std.specs.Option.{option_and_then};
 ghost use Rattle.tab_lines.specs.Gives.{Gives};
-ghost use Rattle.tab_lines.specs.Fields.{only_if, with_digit, digits_on, unsigned_of, signed_of, given_timestamp, timestamp_or_dash, positive, negative, versions_word};
+ghost use Rattle.tab_lines.specs.Fields.{only_if, with_digit, digits_on, unsigned_of, small_of, signed_of, given_timestamp, timestamp_or_dash, positive, negative, versions_word};
 
 use crate::LineError;
 use tab_history::Versions;
@@ -28,6 +28,18 @@ pub fn unsigned_of(digits: &[u8]) -> Result<u64, LineError>
         return Err(LineError::Fault);
     }
     digits_on(digits)
+}
+
+/// The number below 2^32 that a word spells without a sign. A greater one is a fault.
+pub fn small_of(word: &[u8]) -> Result<u32, LineError>
+    ensures { Gives (λ x. x) result (small_of word.now) }
+{
+    let n = unsigned_of(word)?;
+    if n < 1 << 32 {
+        Ok(n as u32)
+    } else {
+        Err(LineError::Fault)
+    }
 }
 
 /// The timestamp that a word spells.

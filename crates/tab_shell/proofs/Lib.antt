@@ -4,6 +4,10 @@ pub mod ProgressLemmas
 pub mod Reading
 pub mod Saying
 pub mod Batching
+pub mod Keeping
+pub mod KeptLemmas
 pub mod Scanning
+pub mod OwnSteps
+pub mod Opening
 pub mod Ending
 pub mod Spelling

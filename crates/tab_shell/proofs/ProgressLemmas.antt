@@ -15,24 +15,27 @@ use Rattle.tab_lines.specs.declared.line.Line.{Line}
 use Rattle.tab_lines.specs.declared.line_error.LineError.{LineError}
 use Rattle.tab_shell.specs.declared.pending.Pending.{Pending}
 use Rattle.tab_shell.specs.Texts.{lines_of}
-use Rattle.tab_shell.specs.Scripts.{Asker, ScriptState, ScriptRefines, asker_after, ScriptAnswersLine, LinesAnswered, ScriptAnswersLines, IsInside}
+use Rattle.tab_shell.specs.Sessions.{Numbers}
+use Rattle.tab_shell.specs.Scripts.{Asker, ScriptState, ScriptRefines, asker_after, numbers_after, ScriptAnswersLine, LinesAnswered, ScriptAnswersLines, IsInside}
 use Rattle.tab_shell.specs.Ahead.{Pends, ReadsLine, Ahead, AtEnd, TakesLine, TakesOn}
 use Rattle.tab_shell.specs.Progress.{AnswersWhole, HasAnswered, HasAnsweredPart, HasEnded}
 use Rattle.tab_shell.proofs.Taking.{lines_cut, lines_none, lines_join, ends_both}
 
 -- lines, and then more lines
-lines_both : (who mid last : Asker) (w : World) (h : List Entry) (ls ms : List (List ℕ)) (es fs : List Entry) (t u : List ℕ) → LinesAnswered who w h ls es t mid → LinesAnswered mid w (es ++ h) ms fs u last → LinesAnswered who w h (ls ++ ms) (fs ++ es) (t ++ u) last
-lines_both who mid last w h [] ms es fs t u a b =
-    let here : LinesAnswered who w (es ++ h) ms fs u last = subst (λ (x : Asker). LinesAnswered x w (es ++ h) ms fs u last) a.2 b in
-    let one : LinesAnswered who w h ms fs u last = subst (λ (e : List Entry). LinesAnswered who w (e ++ h) ms fs u last) a.0 here in
+lines_both : (who mid last : Asker) (n m after : Numbers) (w : World) (h : List Entry) (ls ms : List (List ℕ)) (es fs : List Entry) (t u : List ℕ) → LinesAnswered who n w h ls es t mid m → LinesAnswered mid m w (es ++ h) ms fs u last after
+    → LinesAnswered who n w h (ls ++ ms) (fs ++ es) (t ++ u) last after
+lines_both who mid last n m after w h [] ms es fs t u a b =
+    let asked : LinesAnswered who m w (es ++ h) ms fs u last after = subst (λ (x : Asker). LinesAnswered x m w (es ++ h) ms fs u last after) a.2 b in
+    let here : LinesAnswered who n w (es ++ h) ms fs u last after = subst (λ (x : Numbers). LinesAnswered who x w (es ++ h) ms fs u last after) a.3 asked in
+    let one : LinesAnswered who n w h ms fs u last after = subst (λ (e : List Entry). LinesAnswered who n w (e ++ h) ms fs u last after) a.0 here in
     let ends : fs ++ es ≡ fs = ap (λ (e : List Entry). fs ++ e) a.0 ∙ append-nil fs in
     let texts : t ++ u ≡ u = ap (λ (x : List ℕ). x ++ u) a.1 in
-    subst (λ (x : List ℕ). LinesAnswered who w h ms (fs ++ es) x last) (sym texts) (subst (λ (e : List Entry). LinesAnswered who w h ms e u last) (sym ends) one)
-lines_both who mid last w h (l ∷ ls) ms es fs t u a b =
+    subst (λ (x : List ℕ). LinesAnswered who n w h ms (fs ++ es) x last after) (sym texts) (subst (λ (e : List Entry). LinesAnswered who n w h ms e u last after) (sym ends) one)
+lines_both who mid last n m after w h (l ∷ ls) ms es fs t u a b =
     let said : Result Line LineError = a.0 in
     let first : List Entry = a.1 in
     let more : List Entry = a.2 in
-    let rest : LinesAnswered mid w (more ++ (first ++ h)) ms fs u last = subst (λ (e : List Entry). LinesAnswered mid w e ms fs u last) (ap (λ (e : List Entry). e ++ h) a.8 ∙ append_assoc more first h) b in (
+    let rest : LinesAnswered mid m w (more ++ (first ++ h)) ms fs u last after = subst (λ (e : List Entry). LinesAnswered mid m w e ms fs u last after) (ap (λ (e : List Entry). e ++ h) a.8 ∙ append_assoc more first h) b in (
       said,
       first,
       fs ++ more,
@@ -40,33 +43,34 @@ lines_both who mid last w h (l ∷ ls) ms es fs t u a b =
       a.4 ++ u,
       a.5,
       a.6,
-      lines_both (asker_after who said) mid last w (first ++ h) ls ms more fs a.4 u a.7 rest,
+      lines_both (asker_after who said) mid last (numbers_after who n w h said first) m after w (first ++ h) ls ms more fs a.4 u a.7 rest,
       ap (λ (e : List Entry). fs ++ e) a.8 ∙ sym (append_assoc fs more first),
       ap (λ (x : List ℕ). x ++ u) a.9 ∙ append_assoc a.3 a.4 u,
     )
 
 pub ran_none : (s : ScriptState) → ScriptAnswersLines s [] [] s
-ran_none s w h refines legal = ([], (refl, refl, refl), record { legal = legal; exact = refl; refines = refines })
+ran_none s w h numbers refines legal = ([], numbers, (refl, refl, refl, refl), record { legal = legal; exact = refl; refines = refines })
 
 pub ran_both : (a b c : ScriptState) (ls ms : List (List ℕ)) (t u : List ℕ) → ScriptAnswersLines a ls t b → ScriptAnswersLines b ms u c → ScriptAnswersLines a (ls ++ ms) (t ++ u) c
-ran_both a b c ls ms t u f g w h refines legal =
-    let x = f w h refines legal in
-    let y = g w (x.0 ++ h) x.2.refines x.2.legal in
+ran_both a b c ls ms t u f g w h numbers refines legal =
+    let x = f w h numbers refines legal in
+    let y = g w (x.0 ++ h) x.1 x.3.refines x.3.legal in
     let es : (y.0 ++ x.0) ++ h ≡ y.0 ++ (x.0 ++ h) = append_assoc y.0 x.0 h in (
       y.0 ++ x.0,
-      lines_both a.asker b.asker c.asker w h ls ms x.0 y.0 t u x.1 y.1,
+      y.1,
+      lines_both a.asker b.asker c.asker numbers x.1 y.1 w h ls ms x.0 y.0 t u x.2 y.2,
       record {
-        legal = subst (λ (e : List Entry). Legal w e) (sym es) y.2.legal;
-        exact = chain_join EntryGoes a.core b.core c.core x.0 y.0 x.2.exact y.2.exact;
-        refines = subst (λ (e : List Entry). ScriptRefines c w e) (sym es) y.2.refines;
+        legal = subst (λ (e : List Entry). Legal w e) (sym es) y.3.legal;
+        exact = chain_join EntryGoes a.core b.core c.core x.0 y.0 x.3.exact y.3.exact;
+        refines = subst (λ (e : List Entry). ScriptRefines c y.1 w e) (sym es) y.3.refines;
       },
     )
 
 -- one line
 pub ran_line : (a b : ScriptState) (said : Result Line LineError) (line : List ℕ) (text : List ℕ) → ReadsLine said line → ScriptAnswersLine a said text b → ScriptAnswersLines a (line ∷ []) text b
-ran_line a b said line text says answered w h refines legal =
-    let x = answered.extends w h refines legal in
-    (x.0, (said, x.0, [], text, [], says, x.1, (refl, refl, answered.asker), refl, sym (append-nil text)), x.2)
+ran_line a b said line text says answered w h numbers refines legal =
+    let x = answered.extends w h numbers refines legal in
+    (x.0, numbers_after a.asker numbers w h said x.0, (said, x.0, [], text, [], says, x.1, (refl, refl, answered.asker, refl), refl, sym (append-nil text)), x.2)
 
 -- ---- of some bytes
 -- no line yet

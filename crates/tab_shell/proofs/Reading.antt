@@ -1,4 +1,4 @@
--- No line asks for a session that stays open.
+-- No line is a bare act that opens a session.
 use Rattle.std.proofs.Common.{ℕ, true, false, cond, List, [], ◌∷◌, refl, subst, Option, Some, None, Result, Ok, Err}
 use Rattle.std.specs.Prelude.{Result, option_map}
 use Rattle.tab_lines.specs.declared.line.Line.{Line}
@@ -7,15 +7,15 @@ use Rattle.tab_lines.specs.declared.line_error.LineError.{LineError}
 use Rattle.tab_lines.specs.declared.command.Command.{Command}
 use Rattle.tab_lines.specs.declared.command.Command.TheVariants as command
 use Rattle.tab_lines.specs.declared.updates.TimestampForm.TheVariants.{Optional}
-use Rattle.tab_lines.specs.Gives.{◌>>=◌, Gives, field, ends, optional}
+use Rattle.tab_lines.specs.Gives.{◌>>=◌, Gives, field, ends}
 use Rattle.tab_lines.specs.Words.{words_of}
-use Rattle.tab_lines.specs.Fields.{name_of, unsigned_of, signed_of, extent_word, list_of, constraints_of, columns_of}
+use Rattle.tab_lines.specs.Fields.{name_of, unsigned_of, small_of, signed_of, extent_word, list_of, constraints_of}
 use Rattle.tab_lines.specs.Updates.{row_of, put_of, delete_of, updates_of}
 use Rattle.tab_text.specs.Reading.{bytes_of}
-use Rattle.tab_lines.specs.Lines.{settings, createtable_of, setauths_of, constraints_line_of, insert_of, delete_line_of, mutate_of, bounds_of, scan_of, compact_of, addsplit_of, splitsize_of, at_of, name_alone, grant_of, command_of, commanded, said, is_comment, line_of}
+use Rattle.tab_lines.specs.Lines.{settings, createtable_of, setauths_of, constraints_line_of, insert_of, delete_line_of, mutate_of, scan_words, next_of, ranges_of, many_of, close_of, compact_of, addsplit_of, splitsize_of, at_of, name_alone, grant_of, command_of, commanded, said, is_comment, line_of}
 use Rattle.tab_shell.specs.Ahead.{OpensNoSession}
 
--- nothing is read, or what is read opens no session that stays
+-- nothing is read, or what is read is no bare act that opens a session
 abbrev IsShut : Option Line → Type 0
 IsShut None = Unit {0}
 IsShut (Some l) = OpensNoSession (Ok l)
@@ -52,9 +52,17 @@ mutate_shut : (words : List (List ℕ)) → IsShut (mutate_of words)
 unfolding mutate_of
 mutate_shut words = after (field name_of words) _ (λ t. after (field row_of t.1) _ (λ m. after (updates_of m.1) _ (λ u. refl)))
 
-scan_shut : (words : List (List ℕ)) → IsShut (scan_of words)
-unfolding scan_of
-scan_shut words = after (field name_of words) _ (λ t. after (field list_of t.1) _ (λ a. after (bounds_of a.1) _ (λ b. after (optional [] columns_of b.1) _ (λ c. after (ends c.1) _ (λ e. tt)))))
+next_shut : (words : List (List ℕ)) → IsShut (next_of words)
+unfolding next_of
+next_shut words = after (field small_of words) _ (λ k. after (field small_of k.1) _ (λ n. after (ends n.1) _ (λ e. tt)))
+
+many_shut : (words : List (List ℕ)) → IsShut (many_of words)
+unfolding many_of
+many_shut words = after (field small_of words) _ (λ k. after (ranges_of k.1) _ (λ rs. tt))
+
+close_shut : (words : List (List ℕ)) → IsShut (close_of words)
+unfolding close_of
+close_shut words = after (field small_of words) _ (λ k. after (ends k.1) _ (λ e. tt))
 
 compact_shut : (words : List (List ℕ)) → IsShut (compact_of words)
 unfolding compact_of
@@ -86,7 +94,11 @@ commanded_shut command.Constraints words = constraints_shut words
 commanded_shut command.Insert words = insert_shut words
 commanded_shut command.Delete words = delete_shut words
 commanded_shut command.Mutate words = mutate_shut words
-commanded_shut command.Scan words = scan_shut words
+commanded_shut command.Scan words = mapped (scan_words words) _ (λ scan. tt)
+commanded_shut command.Open words = mapped (scan_words words) _ (λ scan. tt)
+commanded_shut command.Next words = next_shut words
+commanded_shut command.Many words = many_shut words
+commanded_shut command.Close words = close_shut words
 commanded_shut command.Flush words = mapped (name_alone words) _ (λ table. refl)
 commanded_shut command.Compact words = compact_shut words
 commanded_shut command.Status words = mapped (name_alone words) _ (λ table. refl)
@@ -106,6 +118,6 @@ shut : (said : Result Line LineError) (o : Option Line) → IsShut o → Gives (
 shut (Ok l) o h is = subst IsShut is h
 shut (Err e) o h is = tt
 
--- what a line says opens no session that stays
+-- what a line says is no bare act that opens a session
 pub line_opens_none : (said : Result Line LineError) (text : List ℕ) → Gives (λ x. x) said (line_of text) → OpensNoSession said
 line_opens_none said text is = shut said (line_of text) (line_shut text) is

@@ -1,8 +1,8 @@
 -- A scan: a session is opened, read to its end and closed.
-use Rattle.std.proofs.Common.{ℕ, zero, suc, ◌≡◌, ◌+◌, ◌-◌, ◌*◌, ◌/◌, ◌<◌, ◌≤◌, ◌==◌, Bool, true, false, cond, ◌||◌, ◌&&◌, ◌⊎◌, inl, inr, List, [], ◌∷◌, ◌++◌, length, drop, refl, sym, ap, ◌∙◌, subst, arith, append_assoc, length-take, length-drop, Option, Some, None, Result, Ok}
-use Rattle.std.specs.Prelude.{nat_le, bytes_eq, option_map}
+use Rattle.std.proofs.Common.{ℕ, zero, suc, ◌≡◌, ◌+◌, ◌*◌, ◌/◌, ◌≤◌, ◌==◌, Bool, true, false, cond, ◌&&◌, ◌⊎◌, inl, inr, List, [], ◌∷◌, ◌++◌, length, drop, refl, sym, ap, ◌∙◌, subst, arith, append_assoc, length-take, length-drop, Option, Some, None, Result, Ok}
+use Rattle.std.specs.Prelude.{bytes_eq, option_map}
 use Rattle.std.proofs.lemmas.Slice.Eq.{bytes_eq-Decides}
-use Rattle.std.proofs.lemmas.Bool.{eq-eqb, lt-leb}
+use Rattle.std.proofs.lemmas.Bool.{eq-eqb}
 use Rattle.tab_key.specs.Records.{Cell}
 use Rattle.tab_key.specs.declared.part.Part.TheVariants.{Sessions}
 use Rattle.tab_history.specs.declared.event.Scan.{Scan}
@@ -12,7 +12,7 @@ use Rattle.tab_history.specs.declared.event.Step.TheVariants.{Event as IsEvent, 
 use Rattle.tab_history.specs.declared.reply.Refusal.{Refusal}
 use Rattle.tab_history.specs.declared.reply.Refusal.TheVariants.{NoMemory, TooLarge}
 use Rattle.tab_history.specs.declared.reply.Reply.{Reply}
-use Rattle.tab_history.specs.declared.reply.Reply.TheVariants.{Done, Refused, Opened, Batch, Rights as OwnRights, Counted, Rows}
+use Rattle.tab_history.specs.declared.reply.Reply.TheVariants.{Done, Refused, Opened, Batch, Ranges, Rights as OwnRights, Counted, Rows}
 use Rattle.tab_history.specs.Checks.{standing, refusal_of, exists_in, user_named}
 use Rattle.tab_history.specs.Answers.{Told, told, answer, event_answer, IsEventReply, moves_by, session_list, next_answer, close_answer, told_of}
 use Rattle.tab_cells.specs.SessionState.{SessionState, gave}
@@ -31,20 +31,21 @@ use Rattle.tab_lines.specs.declared.line.Line.TheVariants as line
 use Rattle.tab_shell.specs.Texts.{reply_text, refusal_text}
 use Rattle.tab_shell.specs.Batches.{left_of}
 use Rattle.tab_shell.specs.Readings.{ReadingEnd, AllRead, Lacking, CanEnd, IsReadingText, reading_text, reading_steps, batch_at, batches}
-use Rattle.tab_shell.specs.Counts.{count_of}
+use Rattle.tab_shell.specs.Sessions.{Kept, Keeping, Numbers, kept_of, is_spent, KeptAre, KeepsFor}
+use Rattle.tab_shell.proofs.Keeping.{kept_scanned, spent_alike, differ}
 use Rattle.tab_shell.proofs.Saying.{same_cond, one_step}
 use Rattle.tab_lines.specs.declared.line.Line.{Line}
 use Rattle.tab_lines.specs.declared.line_error.LineError.{LineError}
-use Rattle.tab_shell.specs.Scripts.{Asker, ScriptState, ScriptRefines, ScanSteps, ScriptAnswersLine, event_by, entry}
+use Rattle.tab_shell.specs.Scripts.{Asker, ScriptState, ScriptRefines, ScanSteps, ScriptAnswersLine, numbers_after, event_by, entry}
 
-bytes_self : (x : List ℕ) → bytes_eq x x ≡ true
+pub bytes_self : (x : List ℕ) → bytes_eq x x ≡ true
 bytes_self x = (bytes_eq-Decides x x).1 refl
 
 -- ---- the moves of one user's steps
 by_self : (user : List ℕ) (xs ys : List Move) → cond (bytes_eq user user) xs ys ≡ xs
 by_self user xs ys = ap (λ (t : Bool). cond t xs ys) (bytes_self user)
 
-open_moves : (w : World) (who : Asker) (h : List Entry) (scan : Scan) (u : Unit {0})
+pub open_moves : (w : World) (who : Asker) (h : List Entry) (scan : Scan) (u : Unit {0})
     → moves_of w who.user (entry (event_by who (Open scan)) (Opened u) ∷ h) ≡ Opening (session_list w.base (journal w h) (Open scan)) ∷ moves_of w who.user h
 unfolding moves_of
 open_moves w who h scan u = by_self who.user (Opening (session_list w.base (journal w h) (Open scan)) ∷ moves_of w who.user h) (moves_of w who.user h)
@@ -62,7 +63,7 @@ unfolding moves_of
 close_moves w user es slot = by_self user (Closing slot ∷ moves_of w user es) (moves_of w user es)
 
 -- ---- the moves of another user
-other_moves : (w : World) (user : List ℕ) (e : Entry) (es : List Entry) → is_by user e.step ≡ false → moves_of w user (e ∷ es) ≡ moves_of w user es
+pub other_moves : (w : World) (user : List ℕ) (e : Entry) (es : List Entry) → is_by user e.step ≡ false → moves_of w user (e ∷ es) ≡ moves_of w user es
 unfolding moves_of
 other_moves w user e es not = ap (λ (t : Bool). cond t (moves_by w.base (journal w es) e.step e.reply ++ moves_of w user es) (moves_of w user es)) not
 
@@ -100,6 +101,18 @@ closing_opened ms slot = refl
 closing_closed : (ms : List Move) (slot : ℕ) → closed (Closing slot ∷ ms) ≡ closed ms + 1
 unfolding closed
 closing_closed ms slot = refl
+
+taking_apart : (ms : List Move) (slot n s : ℕ) → (slot == s) ≡ false → session_in (Taking slot n ∷ ms) s ≡ session_in ms s
+unfolding session_in
+taking_apart ms slot n s away = ap (λ (t : Bool). cond t (option_map (gave n) (session_in ms s)) (session_in ms s)) away
+
+closing_apart : (ms : List Move) (slot s : ℕ) → (slot == s) ≡ false → session_in (Closing slot ∷ ms) s ≡ session_in ms s
+unfolding session_in
+closing_apart ms slot s away = ap (λ (t : Bool). cond t None (session_in ms s)) away
+
+opening_apart : (ms : List Move) (all : List Cell) (s : ℕ) → (opened ms == s) ≡ false → session_in (Opening all ∷ ms) s ≡ session_in ms s
+unfolding session_in
+opening_apart ms all s away = ap (λ (t : Bool). cond t (Some (record { all = all; given = 0 })) (session_in ms s)) away
 
 -- ---- the batches of a session
 module _ (w : World) (user : List ℕ) (slot : ℕ) (all : List Cell) where
@@ -160,6 +173,13 @@ module _ (w : World) (user : List ℕ) (slot : ℕ) (all : List Cell) where
   batches_others other zero es not = refl
   batches_others other (suc k) es not = other_moves w other (taken k) (batches user slot all k ++ es) not ∙ batches_others other k es not
 
+  -- and no other slot is touched
+  batches_apart : (s : ℕ) → (slot == s) ≡ false → (k : ℕ) (es : List Entry) → session_in (moves_of w user (batches user slot all k ++ es)) s ≡ session_in (moves_of w user es) s
+  batches_apart s away zero es = refl
+  batches_apart s away (suc k) es =
+      let before : List Entry = batches user slot all k ++ es in
+      ap (λ ms. session_in ms s) (next_moves w user before slot (batch_at all k)) ∙ taking_apart (moves_of w user before) slot (length (batch_at all k)) s away ∙ batches_apart s away k es
+
   -- the whole session, and its close
   read_legal : (es : List Entry) → Legal w es → Gave es 0 → Legal w (reading_steps user slot all AllRead ++ es)
   read_legal es legal g =
@@ -182,6 +202,11 @@ module _ (w : World) (user : List ℕ) (slot : ℕ) (all : List Cell) where
   read_others : (other : List ℕ) (es : List Entry) → bytes_eq user other ≡ false → moves_of w other (reading_steps user slot all AllRead ++ es) ≡ moves_of w other es
   read_others other es not =
       other_moves w other (record { step = Close user slot; reply = Done }) (batches user slot all (suc (length all / 1000)) ++ es) not ∙ batches_others other (suc (length all / 1000)) es not
+
+  read_apart : (s : ℕ) → (slot == s) ≡ false → (es : List Entry) → session_in (moves_of w user (reading_steps user slot all AllRead ++ es)) s ≡ session_in (moves_of w user es) s
+  read_apart s away es =
+      let before : List Entry = batches user slot all (suc (length all / 1000)) ++ es in
+      ap (λ ms. session_in ms s) (close_moves w user before slot) ∙ closing_apart (moves_of w user before) slot s away ∙ batches_apart s away (suc (length all / 1000)) es
 
   read_unmoved : (es : List Entry) → world_after w (reading_steps user slot all AllRead ++ es) ≡ world_after w es
   read_unmoved es = unmoved w (batches user slot all (suc (length all / 1000)) ++ es) (record { step = Close user slot; reply = Done }) tt ∙ batches_unmoved (suc (length all / 1000)) es
@@ -222,6 +247,11 @@ module _ (w : World) (user : List ℕ) (slot : ℕ) (all : List Cell) where
       let before : List Entry = batches user slot all k ++ es in
       other_moves w other (record { step = Close user slot; reply = Done }) (lacked ∷ before) not ∙ lacked_moves other before ∙ batches_others other k es not
 
+  part_apart : (s : ℕ) → (slot == s) ≡ false → (k : ℕ) (es : List Entry) → session_in (moves_of w user (reading_steps user slot all (Lacking k) ++ es)) s ≡ session_in (moves_of w user es) s
+  part_apart s away k es =
+      let before : List Entry = batches user slot all k ++ es in
+      ap (λ ms. session_in ms s) (close_moves w user (lacked ∷ before) slot) ∙ closing_apart (moves_of w user (lacked ∷ before)) slot s away ∙ ap (λ ms. session_in ms s) (lacked_moves user before) ∙ batches_apart s away k es
+
   part_unmoved : (k : ℕ) (es : List Entry) → world_after w (reading_steps user slot all (Lacking k) ++ es) ≡ world_after w es
   part_unmoved k es =
       let before : List Entry = batches user slot all k ++ es in
@@ -236,45 +266,36 @@ module _ (w : World) (user : List ℕ) (slot : ℕ) (all : List Cell) where
     opened : (es : List Entry) → opened (moves_of w user (out ++ es)) ≡ opened (moves_of w user es)
     closed : (es : List Entry) → closed (moves_of w user (out ++ es)) ≡ closed (moves_of w user es) + 1
     others : (other : List ℕ) (es : List Entry) → bytes_eq user other ≡ false → moves_of w other (out ++ es) ≡ moves_of w other es
+    apart : (s : ℕ) → (slot == s) ≡ false → (es : List Entry) → session_in (moves_of w user (out ++ es)) s ≡ session_in (moves_of w user es) s
     unmoved : (es : List Entry) → world_after w (out ++ es) ≡ world_after w es
     exact : (first last : Held) (es : List Entry) → IsChain EntryGoes first es last → IsChain EntryGoes first (out ++ es) last
 
   reads_whole : Reads (reading_steps user slot all AllRead)
-  reads_whole = record { legal = read_legal; opened = read_opened; closed = read_closed; others = read_others; unmoved = read_unmoved; exact = read_exact }
+  reads_whole = record { legal = read_legal; opened = read_opened; closed = read_closed; others = read_others; apart = read_apart; unmoved = read_unmoved; exact = read_exact }
 
   reads_part : (k : ℕ) → 1000 * k ≤ length all → Reads (reading_steps user slot all (Lacking k))
-  reads_part k fits = record { legal = λ es. part_legal k es fits; opened = part_opened k; closed = part_closed k; others = λ other. part_others other k; unmoved = part_unmoved k; exact = part_exact k }
+  reads_part k fits = record { legal = λ es. part_legal k es fits; opened = part_opened k; closed = part_closed k; others = λ other. part_others other k; apart = λ s away. part_apart s away k; unmoved = part_unmoved k; exact = part_exact k }
 
   reads_to : (end : ReadingEnd) → CanEnd all end → Reads (reading_steps user slot all end)
   reads_to AllRead fits = reads_whole
   reads_to (Lacking k) fits = reads_part k fits
 
 -- ---- the Open
--- where fewer were opened than may be, and as many closed, there is room
-has_room : (ms : List Move) (n : ℕ) → opened ms ≡ n → closed ms ≡ n → n < 4294967295 → is_full ms ≡ false
-has_room ms n o c lt =
-    let none : opened ms - closed ms ≡ 0 = omega (arith, o, c) in
-    let few : nat_le 4294967295 (opened ms) ≡ false = lt-leb 4294967295 (opened ms) (omega (arith, o)) in
-    ap (λ k. nat_le 65536 k || nat_le 4294967295 (opened ms)) none ∙ few
+-- the script with another core, and this kept for its users
+abbrev pub with_sessions : ScriptState → Held → Keeping → ScriptState
+with_sessions s core kept = record { core = core; asker = s.asker; kept = kept }
 
-is_spent : (ms : List Move) → opened ms ≡ 4294967295 → is_full ms ≡ true
-is_spent ms o = ap (λ n. nat_le 65536 (n - closed ms) || nat_le 4294967295 n) o ∙ or_true (nat_le 65536 (4294967295 - closed ms))
-  where
-    or_true : (b : Bool) → b || true ≡ true
-    or_true true = refl
-    or_true false = refl
+-- what is kept for the asker
+abbrev pub own_kept : ScriptState → Kept
+own_kept s = kept_of s.kept s.asker.user
 
--- the script with another core, and these counts of sessions
-abbrev pub with_sessions : ScriptState → Held → List (List ℕ × ℕ) → ScriptState
-with_sessions s core counts = record { core = core; asker = s.asker; opened = counts }
+-- the script has room for a session as histories have
+room_alike : (s : ScriptState) (w : World) (h : List Entry) (numbers : Numbers) → ScriptRefines s numbers w h → is_full (moves_of w s.asker.user h) ≡ is_spent (own_kept s)
+room_alike s w h numbers refines = spent_alike (moves_of w s.asker.user h) (numbers s.asker.user) (own_kept s) (refines.sessions s.asker.user)
 
--- how many sessions the asker opened
-abbrev pub asked : ScriptState → ℕ
-asked s = count_of s.opened s.asker.user
-
-legal_open : (s : ScriptState) (core : Held) (scan : Scan) (reply : Reply SessionState) (w : World) (h : List Entry) → asked s < 4294967295 → Steps (base_of s.core) (event_by s.asker (Open scan)) reply (base_of core) → ScriptRefines s w h
-    → IsAnswer w h h (IsEvent (event_by s.asker (Open scan))) (told_of reply) ⊎ LacksMemory (IsEvent (event_by s.asker (Open scan))) (told_of reply)
-legal_open s core scan reply w h lt steps refines = steps.answers w h refines.core h (λ yes. has_room (moves_of w s.asker.user h) (asked s) (refines.opened s.asker.user) (refines.closed s.asker.user) lt)
+pub legal_open : (s : ScriptState) (core : Held) (scan : Scan) (reply : Reply SessionState) (w : World) (h : List Entry) (numbers : Numbers) → is_spent (own_kept s) ≡ false → Steps (base_of s.core) (event_by s.asker (Open scan)) reply (base_of core)
+    → ScriptRefines s numbers w h → IsAnswer w h h (IsEvent (event_by s.asker (Open scan))) (told_of reply) ⊎ LacksMemory (IsEvent (event_by s.asker (Open scan))) (told_of reply)
+legal_open s core scan reply w h numbers room steps refines = steps.answers w h refines.core h (λ yes. room_alike s w h numbers refines ∙ room)
 
 -- the session's cells are those that are defined
 scanned_text : (session : SessionState) (all : List Cell) (text : List ℕ) → session ≡ record { all = all; given = 0 } → IsReadingText (left_of session) text → IsReadingText all text
@@ -290,20 +311,21 @@ opened_scans who w h scan all end text is fits t = (
   ap (λ (xs : List Cell). reading_steps who.user (opened (moves_of w who.user h)) xs end ++ entry (event_by who (Open scan)) (Opened tt) ∷ []) is,
 )
 
--- ---- one more session is counted
--- a number that rises by one for the user alone
-rises : (user : List ℕ) (after before : List ℕ → ℕ) → after user ≡ before user + 1 → ((other : List ℕ) → bytes_eq user other ≡ false → after other ≡ before other)
-    → (n : List ℕ) → after n ≡ cond (bytes_eq user n) (before n + 1) (before n)
-rises user after before own others n = go (bytes_eq user n) refl
+-- ---- what is kept for all users, where one of them moved
+pub kept_by_user : (w : World) (user : List ℕ) (h later : List Entry) (numbers after : Numbers) (old new : Keeping) (kept : Kept) → KeepsFor user kept old new
+    → ((n : List ℕ) → bytes_eq user n ≡ false → moves_of w n later ≡ moves_of w n h) → ((n : List ℕ) → bytes_eq user n ≡ false → after n ≡ numbers n)
+    → KeptAre (moves_of w user later) (after user) kept → ((n : List ℕ) → KeptAre (moves_of w n h) (numbers n) (kept_of old n)) → (n : List ℕ) → KeptAre (moves_of w n later) (after n) (kept_of new n)
+kept_by_user w user h later numbers after old new kept keeps others same own all n = go (bytes_eq user n) refl
   where
-    go : (b : Bool) → bytes_eq user n ≡ b → after n ≡ cond b (before n + 1) (before n)
-    go true same = subst (λ (m : List ℕ). after m ≡ before m + 1) ((bytes_eq-Decides user n).0 same) own
-    go false not = others n not
+    mine : kept_of new user ≡ kept
+    mine = keeps user ∙ ap (λ (b : Bool). cond b kept (kept_of old user)) (bytes_self user)
 
--- counts that rise as the moves do
-counts_rise : (user : List ℕ) (after : List ℕ → ℕ) (before : List ℕ → ℕ) (old new : List (List ℕ × ℕ)) → ((n : List ℕ) → after n ≡ cond (bytes_eq user n) (before n + 1) (before n))
-    → ((n : List ℕ) → before n ≡ count_of old n) → ((n : List ℕ) → count_of new n ≡ cond (bytes_eq user n) (count_of old n + 1) (count_of old n)) → (n : List ℕ) → after n ≡ count_of new n
-counts_rise user after before old new risen same raised n = risen n ∙ ap (λ (k : ℕ). cond (bytes_eq user n) (k + 1) k) (same n) ∙ sym (raised n)
+    go : (b : Bool) → bytes_eq user n ≡ b → KeptAre (moves_of w n later) (after n) (kept_of new n)
+    go true is = subst (λ (m : List ℕ). KeptAre (moves_of w m later) (after m) (kept_of new m)) ((bytes_eq-Decides user n).0 is) (subst (λ (k : Kept). KeptAre (moves_of w user later) (after user) k) (sym mine) own)
+    go false away =
+        let k : kept_of new n ≡ kept_of old n = keeps n ∙ ap (λ (b : Bool). cond b kept (kept_of old n)) away in
+        subst (λ (x : Kept). KeptAre (moves_of w n later) (after n) x) (sym k)
+        (subst (λ (x : List ℕ). KeptAre (moves_of w n later) x (kept_of old n)) (sym (same n away)) (subst (λ (ms : List Move). KeptAre ms (numbers n) (kept_of old n)) (sym (others n away)) (all n)))
 
 -- the moves of an opened session that was read out
 module _ (w : World) (who : Asker) (h : List Entry) (scan : Scan) (out : List Entry) where
@@ -322,23 +344,24 @@ module _ (w : World) (who : Asker) (h : List Entry) (scan : Scan) (out : List En
   others_unmoved : ReadsIt → (other : List ℕ) → bytes_eq who.user other ≡ false → moves_of w other scanned ≡ moves_of w other h
   others_unmoved reads other not = reads.others other begins not ∙ other_moves w other (entry (event_by who (Open scan)) (Opened tt)) h not
 
-  scan_opened : ReadsIt → (n : List ℕ) → opened (moves_of w n scanned) ≡ cond (bytes_eq who.user n) (opened (moves_of w n h) + 1) (opened (moves_of w n h))
-  scan_opened reads = rises who.user (λ n. opened (moves_of w n scanned)) (λ n. opened (moves_of w n h))
-      (reads.opened begins ∙ ap opened (open_moves w who h scan tt) ∙ opening_opened (moves_of w who.user h) all_cells)
-      (λ other not. ap opened (others_unmoved reads other not))
+  scan_kept : ReadsIt → (slots : List ℕ) (kept : Kept) → KeptAre (moves_of w who.user h) slots kept → KeptAre (moves_of w who.user scanned) slots (record kept { scanned = kept.scanned + 1 })
+  scan_kept reads slots kept are =
+      let before : List Move = moves_of w who.user h in
+      let moved : moves_of w who.user begins ≡ Opening all_cells ∷ before = open_moves w who h scan tt in
+      kept_scanned before (moves_of w who.user scanned) slots kept are
+      (reads.opened begins ∙ ap opened moved ∙ opening_opened before all_cells)
+      (reads.closed begins ∙ ap (λ n. n + 1) (ap closed moved ∙ opening_closed before all_cells))
+      (λ s other.
+      let away : (opened before == s) ≡ false = differ (opened before) s (λ is. other (sym is)) in
+      reads.apart s away begins ∙ ap (λ ms. session_in ms s) moved ∙ opening_apart before all_cells s away)
 
-  scan_closed : ReadsIt → (n : List ℕ) → closed (moves_of w n scanned) ≡ cond (bytes_eq who.user n) (closed (moves_of w n h) + 1) (closed (moves_of w n h))
-  scan_closed reads = rises who.user (λ n. closed (moves_of w n scanned)) (λ n. closed (moves_of w n h))
-      (reads.closed begins ∙ ap (λ n. n + 1) (ap closed (open_moves w who h scan tt) ∙ opening_closed (moves_of w who.user h) all_cells))
-      (λ other not. ap closed (others_unmoved reads other not))
-
-pub scan_answered : (s : ScriptState) (core : Held) (counts : List (List ℕ × ℕ)) (scan : Scan) (session : SessionState) (text : List ℕ) → asked s < 4294967295 → Steps (base_of s.core) (event_by s.asker (Open scan)) (Opened session) (base_of core)
+pub scan_answered : (s : ScriptState) (core : Held) (kept : Keeping) (scan : Scan) (session : SessionState) (text : List ℕ) → is_spent (own_kept s) ≡ false → Steps (base_of s.core) (event_by s.asker (Open scan)) (Opened session) (base_of core)
     → StepsExactly s.core (event_by s.asker (Open scan)) (Opened tt) core
-    → ((n : List ℕ) → count_of counts n ≡ cond (bytes_eq s.asker.user n) (count_of s.opened n + 1) (count_of s.opened n))
-    → IsReadingText (left_of session) text → ScriptAnswersLine s (Ok (line.Scan scan)) text (with_sessions s core counts)
-scan_answered s core counts scan session text lt steps exact raised rest = record {
+    → KeepsFor s.asker.user (record (own_kept s) { scanned = (own_kept s).scanned + 1 }) s.kept kept
+    → IsReadingText (left_of session) text → ScriptAnswersLine s (Ok (line.Scan scan)) text (with_sessions s core kept)
+scan_answered s core kept scan session text room steps exact keeps rest = record {
   asker = refl;
-  extends = λ w h refines legal.
+  extends = λ w h numbers refines legal.
       let user : List ℕ = s.asker.user in
       let e : Entry = entry (event_by s.asker (Open scan)) (Opened tt) in
       let all : List Cell = session_list w.base (journal w h) (Open scan) in
@@ -348,22 +371,22 @@ scan_answered s core counts scan session text lt steps exact raised rest = recor
       let out : List Entry = reading_steps user slot all read.0 in
       let reads : Reads w user slot all out = reads_to w user slot all read.0 read.1 in
       let moved : moves_of w user first ≡ Opening all ∷ moves_of w user h = open_moves w s.asker h scan tt in
-      let begun : Legal w first = (legal, legal_open s core scan (Opened session) w h lt steps refines) in
+      let begun : Legal w first = (legal, legal_open s core scan (Opened session) w h numbers room steps refines) in
       let held : session_in (moves_of w user first) slot ≡ Some (record { all = all; given = 0 }) = ap (λ ms. session_in ms slot) moved ∙ session_opened (moves_of w user h) all in
       let whole : (out ++ e ∷ []) ++ h ≡ out ++ first = append_assoc out (e ∷ []) h in
       let after : Refines (world_of (base_of core)) (world_after w (out ++ first)) = subst (λ (v : World). Refines (world_of (base_of core)) v) (sym (reads.unmoved first)) (steps.refines w h refines.core) in
-      let new : ScriptState = with_sessions s core counts in
-      let stood : ScriptRefines new w (out ++ first) = record {
+      let new : ScriptState = with_sessions s core kept in
+      let own : KeptAre (moves_of w user (out ++ first)) (numbers user) (record (own_kept s) { scanned = (own_kept s).scanned + 1 }) = scan_kept w s.asker h scan out reads (numbers user) (own_kept s) (refines.sessions user) in
+      let stood : ScriptRefines new numbers w (out ++ first) = record {
         core = after;
-        opened = counts_rise user (λ n. opened (moves_of w n (out ++ first))) (λ n. opened (moves_of w n h)) s.opened counts (scan_opened w s.asker h scan out reads) refines.opened raised;
-        closed = counts_rise user (λ n. closed (moves_of w n (out ++ first))) (λ n. closed (moves_of w n h)) s.opened counts (scan_closed w s.asker h scan out reads) refines.closed raised;
+        sessions = kept_by_user w user h (out ++ first) numbers numbers s.kept kept (record (own_kept s) { scanned = (own_kept s).scanned + 1 }) keeps (others_unmoved w s.asker h scan out reads) (λ n away. refl) own refines.sessions;
       } in (
         out ++ e ∷ [],
         (Opened tt, opened_scans s.asker w h scan all read.0 text refl read.1 read.2),
         record {
           legal = subst (λ (es : List Entry). Legal w es) (sym whole) (reads.legal first begun held);
           exact = reads.exact s.core core (e ∷ []) (one_step s.core core (event_by s.asker (Open scan)) (Opened tt) exact);
-          refines = subst (λ (es : List Entry). ScriptRefines new w es) (sym whole) stood;
+          refines = subst (λ (es : List Entry). ScriptRefines new numbers w es) (sym whole) stood;
         },
       );
 }
@@ -391,23 +414,23 @@ not_done w h who scan reply (inl is) =
 abbrev with_new_core : ScriptState → Held → ScriptState
 with_new_core s core = record s { core = core }
 
-refused_stands : (s : ScriptState) (core : Held) (scan : Scan) (r : Refusal) (w : World) (h : List Entry) → Refines (world_of (base_of core)) (world_after w (entry (event_by s.asker (Open scan)) (Refused r) ∷ h)) → ScriptRefines s w h
-    → ScriptRefines (with_new_core s core) w (entry (event_by s.asker (Open scan)) (Refused r) ∷ h)
-refused_stands s core scan r w h after refines =
+pub refused_stands : (s : ScriptState) (core : Held) (scan : Scan) (r : Refusal) (w : World) (h : List Entry) (numbers : Numbers) → Refines (world_of (base_of core)) (world_after w (entry (event_by s.asker (Open scan)) (Refused r) ∷ h)) → ScriptRefines s numbers w h
+    → ScriptRefines (with_new_core s core) numbers w (entry (event_by s.asker (Open scan)) (Refused r) ∷ h)
+refused_stands s core scan r w h numbers after refines =
     let moves = λ (n : List ℕ). refused_moves w n s.asker h scan r in
-    record { core = after; opened = λ n. ap opened (moves n) ∙ refines.opened n; closed = λ n. ap closed (moves n) ∙ refines.closed n }
+    record { core = after; sessions = λ n. subst (λ (ms : List Move). KeptAre ms (numbers n) (kept_of s.kept n)) (sym (moves n)) (refines.sessions n) }
 
-refused_answered : (s : ScriptState) (core : Held) (scan : Scan) (r : Refusal) → asked s < 4294967295 → Steps (base_of s.core) (event_by s.asker (Open scan)) (Refused r) (base_of core) → StepsExactly s.core (event_by s.asker (Open scan)) (Refused r) core
+refused_answered : (s : ScriptState) (core : Held) (scan : Scan) (r : Refusal) → is_spent (own_kept s) ≡ false → Steps (base_of s.core) (event_by s.asker (Open scan)) (Refused r) (base_of core) → StepsExactly s.core (event_by s.asker (Open scan)) (Refused r) core
     → ScriptAnswersLine s (Ok (line.Scan scan)) (refusal_text r) (with_new_core s core)
-refused_answered s core scan r lt steps exact = record {
+refused_answered s core scan r room steps exact = record {
   asker = refl;
-  extends = λ w h refines legal. (
+  extends = λ w h numbers refines legal. (
     entry (event_by s.asker (Open scan)) (Refused r) ∷ [],
     (Refused r, (refl, refl)),
     record {
-      legal = (legal, legal_open s core scan (Refused r) w h lt steps refines);
+      legal = (legal, legal_open s core scan (Refused r) w h numbers room steps refines);
       exact = one_step s.core core (event_by s.asker (Open scan)) (Refused r) exact;
-      refines = refused_stands s core scan r w h (steps.refines w h refines.core) refines;
+      refines = refused_stands s core scan r w h numbers (steps.refines w h refines.core) refines;
     },
   );
 }
@@ -418,6 +441,7 @@ Opens Done = ⊥
 Opens (Refused r) = Unit {0}
 Opens (Opened u) = Unit {0}
 Opens (Batch cells) = ⊥
+Opens (Ranges ranges) = ⊥
 Opens (OwnRights rights) = ⊥
 Opens (Counted counts) = ⊥
 Opens (Rows rows) = ⊥
@@ -427,19 +451,20 @@ opens reply (inl e) = subst Opens (sym e) tt
 opens reply (inr e) = subst Opens (sym e.1) tt
 
 -- what refines no history answers each line
-never : (s : ScriptState) (core : Held) (scan : Scan) (text : List ℕ) → ((w : World) (h : List Entry) → ScriptRefines s w h → ⊥) → ScriptAnswersLine s (Ok (line.Scan scan)) text (with_new_core s core)
-never s core scan text nowhere = record { asker = refl; extends = λ w h refines legal. absurd (nowhere w h refines) }
+never : (s : ScriptState) (core : Held) (scan : Scan) (text : List ℕ) → ((w : World) (h : List Entry) (numbers : Numbers) → ScriptRefines s numbers w h → ⊥) → ScriptAnswersLine s (Ok (line.Scan scan)) text (with_new_core s core)
+never s core scan text nowhere = record { asker = refl; extends = λ w h numbers refines legal. absurd (nowhere w h numbers refines) }
 
 -- each reply but an opened session
-pub kept_answered : (s : ScriptState) (core : Held) (scan : Scan) (reply : Reply SessionState) → asked s < 4294967295 → Steps (base_of s.core) (event_by s.asker (Open scan)) reply (base_of core) → StepsExactly s.core (event_by s.asker (Open scan)) (told_of reply) core → ((session : SessionState) → reply ≡ Opened session → ⊥)
+pub kept_answered : (s : ScriptState) (core : Held) (scan : Scan) (reply : Reply SessionState) → is_spent (own_kept s) ≡ false → Steps (base_of s.core) (event_by s.asker (Open scan)) reply (base_of core) → StepsExactly s.core (event_by s.asker (Open scan)) (told_of reply) core → ((session : SessionState) → reply ≡ Opened session → ⊥)
     → ScriptAnswersLine s (Ok (line.Scan scan)) (reply_text (told_of reply)) (with_new_core s core)
 kept_answered s core scan (Refused r) lt steps exact other = refused_answered s core scan r lt steps exact
 kept_answered s core scan (Opened session) lt steps exact other = absurd (other session refl)
-kept_answered s core scan Done lt steps exact other = never s core scan (reply_text Done) (λ w h refines. opens Done (not_done w h s.asker scan Done (legal_open s core scan Done w h lt steps refines)))
-kept_answered s core scan (Batch cells) lt steps exact other = never s core scan (reply_text (Batch cells)) (λ w h refines. opens (Batch cells) (not_done w h s.asker scan (Batch cells) (legal_open s core scan (Batch cells) w h lt steps refines)))
-kept_answered s core scan (OwnRights rights) lt steps exact other = never s core scan (reply_text (OwnRights rights)) (λ w h refines. opens (OwnRights rights) (not_done w h s.asker scan (OwnRights rights) (legal_open s core scan (OwnRights rights) w h lt steps refines)))
-kept_answered s core scan (Counted counts) lt steps exact other = never s core scan (reply_text (Counted counts)) (λ w h refines. opens (Counted counts) (not_done w h s.asker scan (Counted counts) (legal_open s core scan (Counted counts) w h lt steps refines)))
-kept_answered s core scan (Rows rows) lt steps exact other = never s core scan (reply_text (Rows rows)) (λ w h refines. opens (Rows rows) (not_done w h s.asker scan (Rows rows) (legal_open s core scan (Rows rows) w h lt steps refines)))
+kept_answered s core scan Done lt steps exact other = never s core scan (reply_text Done) (λ w h numbers refines. opens Done (not_done w h s.asker scan Done (legal_open s core scan Done w h numbers lt steps refines)))
+kept_answered s core scan (Batch cells) lt steps exact other = never s core scan (reply_text (Batch cells)) (λ w h numbers refines. opens (Batch cells) (not_done w h s.asker scan (Batch cells) (legal_open s core scan (Batch cells) w h numbers lt steps refines)))
+kept_answered s core scan (Ranges ranges) lt steps exact other = never s core scan (reply_text (Ranges ranges)) (λ w h numbers refines. opens (Ranges ranges) (not_done w h s.asker scan (Ranges ranges) (legal_open s core scan (Ranges ranges) w h numbers lt steps refines)))
+kept_answered s core scan (OwnRights rights) lt steps exact other = never s core scan (reply_text (OwnRights rights)) (λ w h numbers refines. opens (OwnRights rights) (not_done w h s.asker scan (OwnRights rights) (legal_open s core scan (OwnRights rights) w h numbers lt steps refines)))
+kept_answered s core scan (Counted counts) lt steps exact other = never s core scan (reply_text (Counted counts)) (λ w h numbers refines. opens (Counted counts) (not_done w h s.asker scan (Counted counts) (legal_open s core scan (Counted counts) w h numbers lt steps refines)))
+kept_answered s core scan (Rows rows) lt steps exact other = never s core scan (reply_text (Rows rows)) (λ w h numbers refines. opens (Rows rows) (not_done w h s.asker scan (Rows rows) (legal_open s core scan (Rows rows) w h numbers lt steps refines)))
 
 -- ---- a full list of sessions
 spent_right : (w : World) (h : List Entry) (who : Asker) (scan : Scan) → is_full (moves_of w who.user h) ≡ true → IsAnswer w h h (IsEvent (event_by who (Open scan))) (Refused (TooLarge Sessions))
@@ -449,27 +474,43 @@ spent_right w h who scan full =
     subst (λ (x : Told). IsEventReply (Open scan) x (Refused (TooLarge Sessions)))
     (sym (ap (λ (b : Bool). cond (true && b) (Refused (TooLarge Sessions)) (event_answer w.base (journal w h) (clock_at (clock_of w h) (IsEvent event)) who.user (Open scan))) full)) refl
 
-pub spent_answered : (s : ScriptState) (scan : Scan) → asked s ≡ 4294967295 → ScriptAnswersLine s (Ok (line.Scan scan)) (refusal_text (TooLarge Sessions)) s
+pub spent_answered : (s : ScriptState) (scan : Scan) → is_spent (own_kept s) ≡ true → ScriptAnswersLine s (Ok (line.Scan scan)) (refusal_text (TooLarge Sessions)) s
 spent_answered s scan spent = record {
   asker = refl;
-  extends = λ w h refines legal.
+  extends = λ w h numbers refines legal.
       let e : Entry = entry (event_by s.asker (Open scan)) (Refused (TooLarge Sessions)) in
       let after : Refines (world_of (base_of s.core)) (world_after w (e ∷ h)) = subst (λ (v : World). Refines (world_of (base_of s.core)) v) (sym (unmoved w h e tt)) refines.core in (
         e ∷ [],
         (Refused (TooLarge Sessions), (refl, refl)),
         record {
-          legal = (legal, inl (spent_right w h s.asker scan (is_spent (moves_of w s.asker.user h) (refines.opened s.asker.user ∙ spent))));
+          legal = (legal, inl (spent_right w h s.asker scan (room_alike s w h numbers refines ∙ spent)));
           exact = (s.core, refl, inr (tt, refl));
-          refines = refused_stands s s.core scan (TooLarge Sessions) w h after refines;
+          refines = refused_stands s s.core scan (TooLarge Sessions) w h numbers after refines;
         },
       );
 }
 
--- ---- no memory to count a session
+pub spent_opens : (s : ScriptState) (scan : Scan) → is_spent (own_kept s) ≡ true → ScriptAnswersLine s (Ok (line.Open scan)) (refusal_text (TooLarge Sessions)) s
+spent_opens s scan spent = record {
+  asker = refl;
+  extends = λ w h numbers refines legal.
+      let e : Entry = entry (event_by s.asker (Open scan)) (Refused (TooLarge Sessions)) in
+      let after : Refines (world_of (base_of s.core)) (world_after w (e ∷ h)) = subst (λ (v : World). Refines (world_of (base_of s.core)) v) (sym (unmoved w h e tt)) refines.core in (
+        e ∷ [],
+        (Refused (TooLarge Sessions), refl, refl),
+        record {
+          legal = (legal, inl (spent_right w h s.asker scan (room_alike s w h numbers refines ∙ spent)));
+          exact = (s.core, refl, inr (tt, refl));
+          refines = refused_stands s s.core scan (TooLarge Sessions) w h numbers after refines;
+        },
+      );
+}
+
+-- ---- no memory to keep a session
 pub starved_answered : (s : ScriptState) (scan : Scan) → ScriptAnswersLine s (Ok (line.Scan scan)) (refusal_text NoMemory) s
 starved_answered s scan = record {
   asker = refl;
-  extends = λ w h refines legal.
+  extends = λ w h numbers refines legal.
       let e : Entry = entry (event_by s.asker (Open scan)) (Refused NoMemory) in
       let after : Refines (world_of (base_of s.core)) (world_after w (e ∷ h)) = subst (λ (v : World). Refines (world_of (base_of s.core)) v) (sym (unmoved w h e tt)) refines.core in (
         e ∷ [],
@@ -477,31 +518,50 @@ starved_answered s scan = record {
         record {
           legal = (legal, inr (refl, refl));
           exact = (s.core, refl, inr (tt, refl));
-          refines = refused_stands s s.core scan NoMemory w h after refines;
+          refines = refused_stands s s.core scan NoMemory w h numbers after refines;
         },
       );
 }
 
--- ---- the same counts kept otherwise
--- the script with these counts
-abbrev pub with_counts : ScriptState → List (List ℕ × ℕ) → ScriptState
-with_counts s counts = record s { opened = counts }
+pub starved_opens : (s : ScriptState) (scan : Scan) → ScriptAnswersLine s (Ok (line.Open scan)) (refusal_text NoMemory) s
+starved_opens s scan = record {
+  asker = refl;
+  extends = λ w h numbers refines legal.
+      let e : Entry = entry (event_by s.asker (Open scan)) (Refused NoMemory) in
+      let after : Refines (world_of (base_of s.core)) (world_after w (e ∷ h)) = subst (λ (v : World). Refines (world_of (base_of s.core)) v) (sym (unmoved w h e tt)) refines.core in (
+        e ∷ [],
+        (Refused NoMemory, refl, refl),
+        record {
+          legal = (legal, inr (refl, refl));
+          exact = (s.core, refl, inr (tt, refl));
+          refines = refused_stands s s.core scan NoMemory w h numbers after refines;
+        },
+      );
+}
 
-pub recounted : (s : ScriptState) (counts : List (List ℕ × ℕ)) (said : Result Line LineError) (text : List ℕ) (new : ScriptState) → ((n : List ℕ) → count_of counts n ≡ count_of s.opened n)
-    → ScriptAnswersLine (with_counts s counts) said text new → ScriptAnswersLine s said text new
-recounted s counts said text new same answered = record {
+-- ---- the same kept otherwise
+-- the script with this kept for its users
+abbrev pub with_kept : ScriptState → Keeping → ScriptState
+with_kept s kept = record s { kept = kept }
+
+-- a script that reads the same refines the same
+rekept : (s : ScriptState) (kept : Keeping) (numbers : Numbers) (w : World) (h : List Entry) → ((n : List ℕ) → kept_of kept n ≡ kept_of s.kept n) → ScriptRefines s numbers w h → ScriptRefines (with_kept s kept) numbers w h
+rekept s kept numbers w h same refines = record { core = refines.core; sessions = λ n. subst (λ (k : Kept). KeptAre (moves_of w n h) (numbers n) k) (sym (same n)) (refines.sessions n) }
+
+pub recounted : (s : ScriptState) (kept : Keeping) (said : Result Line LineError) (text : List ℕ) (new : ScriptState) → ((n : List ℕ) → kept_of kept n ≡ kept_of s.kept n)
+    → ScriptAnswersLine (with_kept s kept) said text new → ScriptAnswersLine s said text new
+recounted s kept said text new same answered = record {
   asker = answered.asker;
-  extends = λ w h refines legal.
-      let x = answered.extends w h (record { core = refines.core; opened = λ n. refines.opened n ∙ sym (same n); closed = λ n. refines.closed n ∙ sym (same n) }) legal in
+  extends = λ w h numbers refines legal.
+      let x = answered.extends w h numbers (rekept s kept numbers w h same refines) legal in
       (x.0, x.1, record { legal = x.2.legal; exact = x.2.exact; refines = x.2.refines });
 }
 
-pub kept_counts : (s : ScriptState) (counts : List (List ℕ × ℕ)) (said : Result Line LineError) (text : List ℕ) → ((n : List ℕ) → count_of counts n ≡ count_of s.opened n)
-    → ScriptAnswersLine s said text s → ScriptAnswersLine s said text (with_counts s counts)
-kept_counts s counts said text same answered = record {
+pub kept_counts : (s : ScriptState) (kept : Keeping) (said : Result Line LineError) (text : List ℕ) → ((n : List ℕ) → kept_of kept n ≡ kept_of s.kept n)
+    → ScriptAnswersLine s said text s → ScriptAnswersLine s said text (with_kept s kept)
+kept_counts s kept said text same answered = record {
   asker = answered.asker;
-  extends = λ w h refines legal.
-      let x = answered.extends w h refines legal in
-      let left = x.2.refines in
-      (x.0, x.1, record { legal = x.2.legal; exact = x.2.exact; refines = record { core = left.core; opened = λ n. left.opened n ∙ sym (same n); closed = λ n. left.closed n ∙ sym (same n) } });
+  extends = λ w h numbers refines legal.
+      let x = answered.extends w h numbers refines legal in
+      (x.0, x.1, record { legal = x.2.legal; exact = x.2.exact; refines = rekept s kept (numbers_after s.asker numbers w h said x.0) w (x.0 ++ h) same x.2.refines });
 }

@@ -45,11 +45,15 @@ TakesLine r p said r' p' = (todo : List ℕ) → Ahead r p todo
 abbrev pub TakesOn : Option (List ℕ) → Pending → Option (List ℕ) → Pending → Type 0
 TakesOn r p r' p' = (todo : List ℕ) → Ahead r p todo → Ahead r' p' todo
 
--- what was read isn't an act that opens a session and keeps it
+-- what was read isn't a bare act that opens a session
 abbrev pub OpensNoSession : Result Line LineError → Type 0
 OpensNoSession (Ok line.Blank) = Unit {0}
 OpensNoSession (Ok (line.As user)) = Unit {0}
 OpensNoSession (Ok (line.At moment)) = Unit {0}
 OpensNoSession (Ok (line.Act act)) = is_open act ≡ false
 OpensNoSession (Ok (line.Scan scan)) = Unit {0}
+OpensNoSession (Ok (line.Open scan)) = Unit {0}
+OpensNoSession (Ok (line.Next number count)) = Unit {0}
+OpensNoSession (Ok (line.Many number ranges)) = Unit {0}
+OpensNoSession (Ok (line.Close number)) = Unit {0}
 OpensNoSession (Err stop) = Unit {0}

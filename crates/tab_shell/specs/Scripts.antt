@@ -6,11 +6,12 @@ use Rattle.tab_policy.specs.Roots.{root}
 use Rattle.tab_history.specs.declared.event.Act.{Act}
 use Rattle.tab_history.specs.declared.event.Act.TheVariants.{Open}
 use Rattle.tab_history.specs.declared.event.Event.{Event}
-use Rattle.tab_history.specs.declared.event.Step.TheVariants.{Event as IsEvent}
+use Rattle.tab_history.specs.declared.event.Step.{Step}
+use Rattle.tab_history.specs.declared.event.Step.TheVariants.{Event as IsEvent, Next, Many, Close}
 use Rattle.tab_history.specs.declared.reply.Refusal.TheVariants as refusal
-use Rattle.tab_history.specs.declared.reply.Reply.TheVariants.{Done, Refused, Opened, Batch, Rights as OwnRights, Counted, Rows}
+use Rattle.tab_history.specs.declared.reply.Reply.TheVariants.{Done, Refused, Opened, Batch, Ranges, Rights as OwnRights, Counted, Rows}
 use Rattle.tab_history.specs.Answers.{Told, session_list}
-use Rattle.tab_history.specs.Sessions.{opened, closed}
+use Rattle.tab_history.specs.Sessions.{opened}
 use Rattle.tab_history.specs.Histories.{Entry, World, world_of, world_after, journal, moves_of}
 use Rattle.tab_history.specs.Legal.{Legal}
 use Rattle.tab_history.specs.Refinement.{Refines}
@@ -23,8 +24,8 @@ use Rattle.tab_lines.specs.declared.line_error.LineError.{LineError}
 use Rattle.tab_lines.specs.declared.line_error.LineError.TheVariants as line_error
 use Rattle.tab_lines.specs.Gives.{Gives}
 use Rattle.tab_lines.specs.Lines.{line_of}
-use Rattle.tab_shell.specs.Counts.{count_of}
-use Rattle.tab_shell.specs.Texts.{reply_text, refusal_text, fault_text}
+use Rattle.tab_shell.specs.Sessions.{Keeping, Numbers, kept_of, with_number, slot_named, KeptAre}
+use Rattle.tab_shell.specs.Texts.{reply_text, opened_text, next_text, renumbered, refusal_text, fault_text}
 use Rattle.tab_shell.specs.Readings.{ReadingEnd, CanEnd, reading_text, reading_steps}
 
 -- ---- what a script holds between lines
@@ -33,30 +34,29 @@ pub record Asker : Type 0 where
   pub user : List ℕ
   pub moment : ℤ
 
--- the core, who asks, and how many sessions its lines opened for each user, and closed
+-- the core, who asks, and the sessions that are kept for each user
 pub record ScriptState : Type 0 where
   pub core : Held
   pub asker : Asker
-  pub opened : List (List ℕ × ℕ)
+  pub kept : Keeping
 
 -- a script over this core: root asks at moment 0, and no session was opened
 abbrev pub new_script : Held → ScriptState
-new_script core = record { core = core; asker = record { user = root; moment = pos 0 }; opened = [] }
+new_script core = record { core = core; asker = record { user = root; moment = pos 0 }; kept = [] }
 
--- The script refines the history h of w: its core does, and h opened and closed as many sessions of each user as the script did.
-pub record ScriptRefines (s : ScriptState) (w : World) (h : List Entry) : Type 0 where
+-- The script refines the history h of w: its core does, and for each user it keeps the sessions of h, under numbers that stand for these slots.
+pub record ScriptRefines (s : ScriptState) (numbers : Numbers) (w : World) (h : List Entry) : Type 0 where
   pub core : Refines (world_of (base_of s.core)) (world_after w h)
-  pub opened : (user : List ℕ) → opened (moves_of w user h) ≡ count_of s.opened user
-  pub closed : (user : List ℕ) → closed (moves_of w user h) ≡ count_of s.opened user
+  pub sessions : (user : List ℕ) → KeptAre (moves_of w user h) (numbers user) (kept_of s.kept user)
 
--- From the history h of w, which it refined, the script went on by these entries.
-pub record ScriptGoes (old : ScriptState) (w : World) (h es : List Entry) (new : ScriptState) : Type 0 where
+-- From the history h of w, which it refined, the script went on by these entries, and its numbers stand for these slots now.
+pub record ScriptGoes (old : ScriptState) (w : World) (h es : List Entry) (numbers : Numbers) (new : ScriptState) : Type 0 where
   -- they make the history longer, legally
   pub legal : Legal w (es ++ h)
   -- their events are a chain of exact steps, from the core before to the core left
   pub exact : IsChain EntryGoes old.core es new.core
   -- the script left refines the longer history
-  pub refines : ScriptRefines new w (es ++ h)
+  pub refines : ScriptRefines new numbers w (es ++ h)
 
 -- ---- the steps of one line
 -- what he asks
@@ -76,23 +76,50 @@ ScanSteps who w h event (Opened session) es text =
     × (es ≡ reading_steps who.user (opened (moves_of w who.user h)) all end ++ entry event (Opened session) ∷ [])
 ScanSteps who w h event Done es text = ⊥
 ScanSteps who w h event (Batch cells) es text = ⊥
+ScanSteps who w h event (Ranges ranges) es text = ⊥
 ScanSteps who w h event (OwnRights rights) es text = ⊥
 ScanSteps who w h event (Counted counts) es text = ⊥
 ScanSteps who w h event (Rows rows) es text = ⊥
 
--- after the history h of w the line makes these entries, the last one first, and prints this text
-abbrev pub LineSteps : Asker → World → List Entry → Line → List Entry → List ℕ → Type 0
-LineSteps who w h line.Blank es text = (es ≡ []) × (text ≡ [])
-LineSteps who w h (line.As user) es text = (es ≡ []) × (text ≡ [])
-LineSteps who w h (line.At moment) es text = (es ≡ []) × (text ≡ [])
-LineSteps who w h (line.Act act) es text = (reply : Told) × (es ≡ entry (event_by who act) reply ∷ []) × (text ≡ reply_text reply)
-LineSteps who w h (line.Scan scan) es text = (reply : Told) × ScanSteps who w h (event_by who (Open scan)) reply es text
+-- the slot that a number of the asker's stands for
+abbrev pub slot_of : Asker → Numbers → World → List Entry → ℕ → ℕ
+slot_of who numbers w h number = slot_named (moves_of w who.user h) (numbers who.user) number
+
+-- a step of a session, and what was answered
+abbrev pub own_entry : Step → Told → Entry
+own_entry step reply = record { step = step; reply = reply }
+
+-- after the history h of w, in which numbers stand for these slots, the line makes these entries, the last one first, and prints this text
+abbrev pub LineSteps : Asker → Numbers → World → List Entry → Line → List Entry → List ℕ → Type 0
+LineSteps who numbers w h line.Blank es text = (es ≡ []) × (text ≡ [])
+LineSteps who numbers w h (line.As user) es text = (es ≡ []) × (text ≡ [])
+LineSteps who numbers w h (line.At moment) es text = (es ≡ []) × (text ≡ [])
+LineSteps who numbers w h (line.Act act) es text = (reply : Told) × (es ≡ entry (event_by who act) reply ∷ []) × (text ≡ reply_text reply)
+LineSteps who numbers w h (line.Scan scan) es text = (reply : Told) × ScanSteps who w h (event_by who (Open scan)) reply es text
+LineSteps who numbers w h (line.Open scan) es text =
+    (reply : Told) × (es ≡ entry (event_by who (Open scan)) reply ∷ []) × (text ≡ opened_text (length (numbers who.user)) reply)
+LineSteps who numbers w h (line.Next number count) es text =
+    (reply : Told) × (es ≡ own_entry (Next who.user (slot_of who numbers w h number) count) reply ∷ []) × (text ≡ next_text count (renumbered number reply))
+LineSteps who numbers w h (line.Many number ranges) es text =
+    (reply : Told) × (es ≡ own_entry (Many who.user (slot_of who numbers w h number) ranges) reply ∷ []) × (text ≡ reply_text (renumbered number reply))
+LineSteps who numbers w h (line.Close number) es text =
+    (reply : Told) × (es ≡ own_entry (Close who.user (slot_of who numbers w h number)) reply ∷ []) × (text ≡ reply_text (renumbered number reply))
 
 -- the same for what was read of a line: a fault is no step, nor is a line for which memory lacked
-abbrev pub LineAnswered : Asker → World → List Entry → Result Line LineError → List Entry → List ℕ → Type 0
-LineAnswered who w h (Ok line) es text = LineSteps who w h line es text
-LineAnswered who w h (Err line_error.Fault) es text = (es ≡ []) × (text ≡ fault_text)
-LineAnswered who w h (Err line_error.NoMemory) es text = (es ≡ []) × (text ≡ refusal_text refusal.NoMemory)
+abbrev pub LineAnswered : Asker → Numbers → World → List Entry → Result Line LineError → List Entry → List ℕ → Type 0
+LineAnswered who numbers w h (Ok line) es text = LineSteps who numbers w h line es text
+LineAnswered who numbers w h (Err line_error.Fault) es text = (es ≡ []) × (text ≡ fault_text)
+LineAnswered who numbers w h (Err line_error.NoMemory) es text = (es ≡ []) × (text ≡ refusal_text refusal.NoMemory)
+
+-- the slot of a session that was opened is that of the user's next number
+abbrev pub numbers_told : Numbers → List ℕ → ℕ → Told → Numbers
+numbers_told numbers user slot (Opened session) = with_number numbers user slot
+numbers_told numbers user slot reply = numbers
+
+-- what numbers stand for after the line: an open line gives one, where its session was opened
+abbrev pub numbers_after : Asker → Numbers → World → List Entry → Result Line LineError → List Entry → Numbers
+numbers_after who numbers w h (Ok (line.Open scan)) (e ∷ es) = numbers_told numbers who.user (opened (moves_of w who.user h)) e.reply
+numbers_after who numbers w h said es = numbers
 
 -- who asks after the line
 abbrev pub asker_after : Asker → Result Line LineError → Asker
@@ -101,25 +128,31 @@ asker_after who (Ok (line.At moment)) = record who { moment = moment }
 asker_after who (Ok line.Blank) = who
 asker_after who (Ok (line.Act act)) = who
 asker_after who (Ok (line.Scan scan)) = who
+asker_after who (Ok (line.Open scan)) = who
+asker_after who (Ok (line.Next number count)) = who
+asker_after who (Ok (line.Many number ranges)) = who
+asker_after who (Ok (line.Close number)) = who
 asker_after who (Err error) = who
 
 -- from each legal history that the script refined it went on by the entries of this line
 pub record ScriptAnswersLine (old : ScriptState) (said : Result Line LineError) (text : List ℕ) (new : ScriptState) : Type 0 where
   pub asker : new.asker ≡ asker_after old.asker said
-  pub extends : (w : World) (h : List Entry) → ScriptRefines old w h → Legal w h → (es : List Entry) × LineAnswered old.asker w h said es text × ScriptGoes old w h es new
+  pub extends : (w : World) (h : List Entry) (numbers : Numbers) → ScriptRefines old numbers w h → Legal w h
+      → (es : List Entry) × LineAnswered old.asker numbers w h said es text × ScriptGoes old w h es (numbers_after old.asker numbers w h said es) new
 
 -- ---- many lines
--- the entries of lines, the last one first, their texts in order, and who asks afterwards
-abbrev pub LinesAnswered : Asker → World → List Entry → List (List ℕ) → List Entry → List ℕ → Asker → Type 0
-LinesAnswered who w h [] es text last = (es ≡ []) × (text ≡ []) × (last ≡ who)
-LinesAnswered who w h (line ∷ lines) es text last =
+-- the entries of lines, the last one first, their texts in order, and who asks and what numbers stand for afterwards
+abbrev pub LinesAnswered : Asker → Numbers → World → List Entry → List (List ℕ) → List Entry → List ℕ → Asker → Numbers → Type 0
+LinesAnswered who numbers w h [] es text last after = (es ≡ []) × (text ≡ []) × (last ≡ who) × (after ≡ numbers)
+LinesAnswered who numbers w h (line ∷ lines) es text last after =
     (said : Result Line LineError) × (first : List Entry) × (more : List Entry) × (t : List ℕ) × (u : List ℕ)
-    × Gives (λ x. x) said (line_of line) × LineAnswered who w h said first t × LinesAnswered (asker_after who said) w (first ++ h) lines more u last × (es ≡ more ++ first) × (text ≡ t ++ u)
+    × Gives (λ x. x) said (line_of line) × LineAnswered who numbers w h said first t
+    × LinesAnswered (asker_after who said) (numbers_after who numbers w h said first) w (first ++ h) lines more u last after × (es ≡ more ++ first) × (text ≡ t ++ u)
 
 -- from each legal history that the script refined it went on by the entries of these lines
 abbrev pub ScriptAnswersLines : ScriptState → List (List ℕ) → List ℕ → ScriptState → Type 0
-ScriptAnswersLines old lines text new = (w : World) (h : List Entry) → ScriptRefines old w h → Legal w h
-    → (es : List Entry) × LinesAnswered old.asker w h lines es text new.asker × ScriptGoes old w h es new
+ScriptAnswersLines old lines text new = (w : World) (h : List Entry) (numbers : Numbers) → ScriptRefines old numbers w h → Legal w h
+    → (es : List Entry) × (after : Numbers) × LinesAnswered old.asker numbers w h lines es text new.asker after × ScriptGoes old w h es after new
 
 -- ---- what is read
 -- no line feed

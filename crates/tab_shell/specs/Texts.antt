@@ -1,5 +1,5 @@
 -- The lines of a text, and the texts of replies.
-use Rattle.std.specs.Prelude.{ℕ, ◌≡◌, ◌⊎◌, Bool, cond, List, [], ◌∷◌, ◌++◌, map, codes, if◌then◌else◌}
+use Rattle.std.specs.Prelude.{ℕ, ◌≡◌, ◌==◌, ◌⊎◌, Bool, cond, List, [], ◌∷◌, ◌++◌, length, map, codes, if◌then◌else◌}
 use Rattle.std.specs.List.{flat_map}
 use Rattle.std.specs.Fmt.{decimal}
 use Rattle.tab_key.specs.Records.{Cell}
@@ -7,7 +7,7 @@ use Rattle.tab_key.specs.declared.part.Part.{Part}
 use Rattle.tab_key.specs.declared.part.Part.TheVariants as part
 use Rattle.tab_history.specs.declared.reply.Refusal.{Refusal}
 use Rattle.tab_history.specs.declared.reply.Refusal.TheVariants as refusal
-use Rattle.tab_history.specs.declared.reply.Reply.TheVariants.{Done, Refused, Opened, Batch, Rights as OwnRights, Counted, Rows}
+use Rattle.tab_history.specs.declared.reply.Reply.TheVariants.{Done, Refused, Opened, Batch, Ranges, Rights as OwnRights, Counted, Rows}
 use Rattle.tab_history.specs.declared.rights.Rights.{Rights}
 use Rattle.tab_history.specs.declared.counts.Counts.{Counts}
 use Rattle.tab_history.specs.declared.split_fault.SplitFault.{SplitFault}
@@ -134,15 +134,43 @@ row_text row = line_text (word row ∷ [])
 abbrev pub rows_text : List (List ℕ) → List ℕ
 rows_text rows = flat_map row_text rows ++ codes "end\n"
 
--- The text of a reply. An opened session has none: the line that opened it prints its cells.
+-- the cells in a range, and a line behind them
+abbrev pub range_text : List Cell → List ℕ
+range_text cells = flat_map cell_text cells ++ codes "range\n"
+
+-- The text of a reply. An opened session has none: the line that opened it says what is printed of it. Nor does a batch say whether more comes.
 abbrev pub reply_text : Told → List ℕ
 reply_text Done = codes "ok\n"
 reply_text (Refused r) = refusal_text r
 reply_text (Opened session) = []
 reply_text (Batch cells) = flat_map cell_text cells
+reply_text (Ranges ranges) = flat_map range_text ranges
 reply_text (OwnRights rights) = rights_text rights
 reply_text (Counted counts) = counts_text counts
 reply_text (Rows rows) = rows_text rows
+
+-- the number of a session that was opened and kept
+abbrev pub session_text : ℕ → List ℕ
+session_text number = line_text (codes "session" ∷ decimal number ∷ [])
+
+-- the reply to a line that opens a session, which gets this number
+abbrev pub opened_text : ℕ → Told → List ℕ
+opened_text number (Opened session) = session_text number
+opened_text number reply = reply_text reply
+
+-- whether more may come behind a batch
+abbrev pub mark_text : Bool → List ℕ
+mark_text more = cond more (codes "more\n") (codes "end\n")
+
+-- the reply to a line that asks for so many cells: more may come behind a batch that has as many
+abbrev pub next_text : ℕ → Told → List ℕ
+next_text count (Batch cells) = flat_map cell_text cells ++ mark_text (length cells == count)
+next_text count reply = reply_text reply
+
+-- The reply as a line with this number says it: a session that isn't there is named by the number, not by its slot.
+abbrev pub renumbered : ℕ → Told → Told
+renumbered number (Refused (refusal.NoSession slot)) = Refused (refusal.NoSession number)
+renumbered number reply = reply
 
 -- a line outside the grammar
 abbrev pub fault_text : List ℕ

@@ -1,26 +1,26 @@
 //! Scripts: a core that answers lines.
-ghost use Rattle.std.specs.Prelude.{◌≡◌, ◌<◌, [], true, false, is_some, IfErr, OnOk};
+ghost use Rattle.std.specs.Prelude.{◌≡◌, [], true, false, is_some, IfErr, OnOk};
 ghost use Rattle.tab_history.specs.Answers.{told_of, is_open};
 ghost use Rattle.tab_io.specs.Streams.{FailsByFault};
 ghost use Rattle.tab_io.specs.Writing.{Puts};
 ghost use Rattle.tab_shell.specs.Texts.{reply_text};
 ghost use Rattle.tab_policy.specs.Roots.{root};
 ghost use Rattle.tab_policy.specs.Entries.{at_name};
-ghost use Rattle.tab_shell.specs.Counts.{count_of};
+ghost use Rattle.tab_shell.specs.Sessions.{kept_of, is_spent};
 ghost use Rattle.tab_shell.specs.Scripts.{event_by, new_script};
 ghost use Rattle.tab_shell.specs.Ahead.{OpensNoSession};
 ghost use Rattle.tab_shell.specs.Progress.{PrintsAnswer, AnswersFront, HasEnded, StopsAhead, FailedSide, RunsScript};
 
 use crate::batches::put_session;
-use crate::counts::Counts;
 use crate::pending::{Pending, take_line};
-use crate::reply::write_reply;
-use std::alloc::{AllocError, Global};
+use crate::reply::{put_next, put_opened, write_reply};
+use crate::sessions::Sessions;
+use std::alloc::Global;
 use std::marker::Model;
 use tab_core::{Core, Session, told};
 use tab_history::{Act, Event, Refusal, Reply, Scan};
 use tab_io::{Input, Output, WriteFault};
-use tab_key::{Name, Part};
+use tab_key::{Bounds, Items, Name, Part};
 use tab_lines::{Line, LineError};
 
 /// How a run of a script ended.
@@ -42,17 +42,18 @@ pub enum ScriptFault {
     Write,
 }
 
-/// A core, who asks it, and how many sessions its lines have opened for each user.
+/// A core, who asks it, and the sessions that its lines opened for each user.
 ///
 /// Lines are asked by one user at one moment, `root` at 0 until a line says otherwise. A line may name a user who isn't there:
-/// what he then asks is refused.
+/// what he then asks is refused. Each user's open lines number their sessions from 0; a closed number isn't given again. A scan's
+/// session has no number.
 #[derive(Drop)]
 pub struct Script {
     alloc: Global,
     core: Core,
     user: Name,
     moment: i64,
-    opened: Counts,
+    sessions: Sessions,
 }
 
 impl Model for Script {
@@ -60,7 +61,7 @@ impl Model for Script {
 
     ghost Value = { ScriptState };
 
-    ghost view = { λ s. record { core = s.core; asker = record { user = s.user; moment = s.moment }; opened = s.opened } };
+    ghost view = { λ s. record { core = s.core; asker = record { user = s.user; moment = s.moment }; kept = s.sessions } };
 }
 
 // `root`, the user that is there from the first.
@@ -88,7 +89,7 @@ impl Script {
             core,
             user: root_name(),
             moment: 0,
-            opened: Counts::new(alloc),
+            sessions: Sessions::new(alloc),
         }
     }
 
@@ -126,6 +127,10 @@ impl Script {
             Line::At(moment) => self.sets_moment(moment, output),
             Line::Act(act) => self.act(act, output),
             Line::Scan(scan) => self.scan(scan, output),
+            Line::Open(scan) => self.open(scan, output),
+            Line::Next(number, count) => self.next(number, count, output),
+            Line::Many(number, ranges) => self.many(number, ranges, output),
+            Line::Close(number) => self.close(number, output),
         }
     }
 
@@ -189,27 +194,84 @@ impl Script {
     fn scan<W: Output>(&mut self, scan: Scan, output: &mut W) -> Result<(), WriteFault>
         ensures { PrintsAnswer W.Output self.old (Ok (Line.Scan scan)) self.new output.old output.new result }
     {
-        match self.opened.ready(self.user) {
-            Ok(u32::MAX) => write_reply(output, &Reply::Refused(Refusal::TooLarge(Part::Sessions))),
-            Ok(_) => self.open(scan, output),
-            Err(AllocError) => write_reply(output, &Reply::Refused(Refusal::NoMemory)),
+        if self.sessions.ready(self.alloc, &self.user).is_err() {
+            return write_reply(output, &Reply::Refused(Refusal::NoMemory));
         }
+        if self.sessions.is_spent(&self.user) {
+            return write_reply(output, &Reply::Refused(Refusal::TooLarge(Part::Sessions)));
+        }
+        self.read_all(scan, output)
     }
 
-    // The same where one more session can be counted. Its session is read to the end, or until memory lacks, and dropped.
-    fn open<W: Output>(&mut self, scan: Scan, output: &mut W) -> Result<(), WriteFault>
-        requires there { is_some (at_name self.old.asker.user self.old.opened) ≡ true }
-        requires few { count_of self.old.opened self.old.asker.user < u32.MAX }
+    // The same where one more session can be opened. It is read to the end, or until memory lacks, and dropped.
+    fn read_all<W: Output>(&mut self, scan: Scan, output: &mut W) -> Result<(), WriteFault>
+        requires there { is_some (at_name self.old.asker.user self.old.kept) ≡ true }
+        requires few { is_spent (kept_of self.old.kept self.old.asker.user) ≡ false }
         ensures { PrintsAnswer W.Output self.old (Ok (Line.Scan scan)) self.new output.old output.new result }
     {
         let event = self.event(Act::Open(scan));
         match self.core.step(self.alloc, event) {
             Reply::Opened(session) => {
-                self.opened.raise(&self.user);
+                self.sessions.count_scan(&self.user);
                 put_session(self.alloc, session, output)
             }
             reply => write_told(output, reply),
         }
+    }
+
+    // Opens a session and keeps it.
+    fn open<W: Output>(&mut self, scan: Scan, output: &mut W) -> Result<(), WriteFault>
+        ensures { PrintsAnswer W.Output self.old (Ok (Line.Open scan)) self.new output.old output.new result }
+    {
+        if self.sessions.ready(self.alloc, &self.user).is_err() {
+            return write_reply(output, &Reply::Refused(Refusal::NoMemory));
+        }
+        if self.sessions.is_spent(&self.user) {
+            return write_reply(output, &Reply::Refused(Refusal::TooLarge(Part::Sessions)));
+        }
+        self.keep(scan, output)
+    }
+
+    // The same where one more session can be opened.
+    fn keep<W: Output>(&mut self, scan: Scan, output: &mut W) -> Result<(), WriteFault>
+        requires there { is_some (at_name self.old.asker.user self.old.kept) ≡ true }
+        requires few { is_spent (kept_of self.old.kept self.old.asker.user) ≡ false }
+        ensures { PrintsAnswer W.Output self.old (Ok (Line.Open scan)) self.new output.old output.new result }
+    {
+        let event = self.event(Act::Open(scan));
+        let number = self.sessions.numbers_given(&self.user);
+        let reply = self
+            .sessions
+            .open(self.alloc, &mut self.core, &self.user, event);
+        put_opened(output, number, &reply)
+    }
+
+    fn next<W: Output>(&mut self, number: u32, count: u32, output: &mut W) -> Result<(), WriteFault>
+        ensures { PrintsAnswer W.Output self.old (Ok (Line.Next number count)) self.new output.old output.new result }
+    {
+        let reply = self.sessions.next(self.alloc, &self.user, number, count);
+        put_next(output, count, &reply)
+    }
+
+    fn many<W: Output>(
+        &mut self,
+        number: u32,
+        ranges: Items<Bounds>,
+        output: &mut W,
+    ) -> Result<(), WriteFault>
+        ensures { PrintsAnswer W.Output self.old (Ok (Line.Many number ranges)) self.new output.old output.new result }
+    {
+        let reply = self
+            .sessions
+            .many(self.alloc, &self.user, number, ranges.as_slice());
+        write_reply(output, &reply)
+    }
+
+    fn close<W: Output>(&mut self, number: u32, output: &mut W) -> Result<(), WriteFault>
+        ensures { PrintsAnswer W.Output self.old (Ok (Line.Close number)) self.new output.old output.new result }
+    {
+        let reply = self.sessions.close(&self.user, number);
+        write_reply(output, &reply)
     }
 
     // Answers the lines that the front has.

@@ -49,6 +49,18 @@ returns-in-mutate c = found command_of c.args.word.now (codes "mutate") (omega a
 pub returns-in-scan : goal.returns-in-scan
 returns-in-scan c = found command_of c.args.word.now (codes "scan") (omega arith) (search rules)
 
+pub returns-in-open : goal.returns-in-open
+returns-in-open c = found command_of c.args.word.now (codes "open") (omega arith) (search rules)
+
+pub returns-in-next : goal.returns-in-next
+returns-in-next c = found command_of c.args.word.now (codes "next") (omega arith) (search rules)
+
+pub returns-in-many : goal.returns-in-many
+returns-in-many c = found command_of c.args.word.now (codes "many") (omega arith) (search rules)
+
+pub returns-in-close : goal.returns-in-close
+returns-in-close c = found command_of c.args.word.now (codes "close") (omega arith) (search rules)
+
 pub returns-in-flush : goal.returns-in-flush
 returns-in-flush c = found command_of c.args.word.now (codes "flush") (omega arith) (search rules)
 

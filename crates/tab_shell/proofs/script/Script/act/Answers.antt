@@ -15,7 +15,7 @@ use Rattle.tab_shell.proofs.script.Script.act.Goals as goal
 
 pub returns : goal.returns
 returns g c =
-    let v : ScriptState = record { core = c.self.inside.core; asker = record { user = c.self.inside.user; moment = c.self.inside.moment }; opened = c.self.inside.opened } in
+    let v : ScriptState = record { core = c.self.inside.core; asker = record { user = c.self.inside.user; moment = c.self.inside.moment }; kept = c.self.inside.sessions } in
     let new : Held = c.step.new.self in
     let is : c.event-event.result ≡ event_by v.asker c.args.act = c.event-event.ensures ∙ ap (λ (s : ScriptState). event_by s.asker c.args.act) (sym c.self.view_is) in
     let steps : Steps (base_of v.core) (event_by v.asker c.args.act) c.step.result (base_of new) = subst (λ (e : Event). Steps (base_of v.core) e c.step.result (base_of new)) is c.step.ensures.steps in

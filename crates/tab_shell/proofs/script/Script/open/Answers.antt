@@ -1,48 +1,36 @@
-use Rattle.std.proofs.Common.{◌≡◌, ◌<◌, ℕ, List, Ok, sym, ap, ◌∙◌, subst}
-use Rattle.tab_cells.specs.SessionState.{SessionState}
-use Rattle.tab_history.specs.Answers.{told_of}
-use Rattle.tab_history.specs.declared.event.Act.TheVariants.{Open}
-use Rattle.tab_history.specs.declared.event.Event.{Event}
-use Rattle.tab_history.specs.declared.reply.Reply.{Reply}
-use Rattle.tab_history.specs.declared.reply.Reply.TheVariants.{Opened}
-use Rattle.tab_core.specs.Stores.{Held, base_of}
-use Rattle.tab_core.specs.Stepping.{StepsExactly}
-use Rattle.tab_core.specs.Stepping.{Steps}
-use Rattle.tab_core.proofs.Runs.{did_exactly}
+use Rattle.std.proofs.Common.{◌≡◌, ℕ, List, Ok, true, sym, ap, ◌∙◌, subst, rules}
+use Rattle.tab_key.specs.declared.part.Part.TheVariants.{Sessions}
+use Rattle.tab_history.specs.declared.reply.Refusal.TheVariants.{TooLarge, NoMemory}
 use Rattle.tab_lines.specs.declared.line.Line.TheVariants as line
-use Rattle.tab_shell.specs.Texts.{reply_text}
-use Rattle.tab_shell.specs.Scripts.{ScriptState, ScriptAnswersLine, event_by}
+use Rattle.tab_shell.specs.Texts.{refusal_text}
+use Rattle.tab_shell.specs.Sessions.{Keeping, is_spent}
+use Rattle.tab_shell.specs.Scripts.{ScriptState, ScriptAnswersLine}
 use Rattle.tab_shell.specs.Progress.{PrintsAnswer}
-use Rattle.tab_shell.proofs.Scanning.{asked, with_sessions, scan_answered, kept_answered}
+use Rattle.tab_shell.proofs.Scanning.{own_kept, with_kept, spent_opens, starved_opens, kept_counts, recounted}
 use Rattle.tab_shell.proofs.script.Script.open.Goals as goal
 
-pub returns-in-Opened : goal.returns-in-Opened
-returns-in-Opened g c =
-    let v : ScriptState = record { core = c.self.inside.core; asker = record { user = c.self.inside.user; moment = c.self.inside.moment }; opened = c.self.inside.opened } in
-    let new : Held = c.step.new.self in
-    let lt : asked v < 4294967295 = subst (λ (s : ScriptState). asked s < 4294967295) (sym c.self.view_is) c.requires.few in
-    let is : c.event-event.result ≡ event_by v.asker (Open c.args.scan) = c.event-event.ensures ∙ ap (λ (s : ScriptState). event_by s.asker (Open c.args.scan)) (sym c.self.view_is) in
-    let steps : Steps (base_of v.core) (event_by v.asker (Open c.args.scan)) c.step.result (base_of new) = subst (λ (e : Event). Steps (base_of v.core) e c.step.result (base_of new)) is c.step.ensures.steps in
-    let exact : StepsExactly v.core (event_by v.asker (Open c.args.scan)) (told_of c.step.result) new =
-    subst (λ (e : Event). StepsExactly v.core e (told_of c.step.result) new) is (did_exactly v.core new c.event-event.result c.step.result c.step.ensures.steps c.step.ensures.exact) in
-    let session : SessionState = c.in-Opened.session in
-    let opening : Steps (base_of v.core) (event_by v.asker (Open c.args.scan)) (Opened session) (base_of new) = subst (λ (r : Reply SessionState). Steps (base_of v.core) (event_by v.asker (Open c.args.scan)) r (base_of new)) c.in-Opened.is steps in
-    let opening_exact : StepsExactly v.core (event_by v.asker (Open c.args.scan)) (told_of (Opened session)) new = subst (λ (r : Reply SessionState). StepsExactly v.core (event_by v.asker (Open c.args.scan)) (told_of r) new) c.in-Opened.is exact in
-    let puts = c.put_session.ensures in
-    let counts : List (List ℕ × ℕ) = c.raise.new.self in
-    let answered : ScriptAnswersLine v (Ok (line.Scan c.args.scan)) puts.0 (with_sessions v new counts) = scan_answered v new counts c.args.scan session puts.0 lt opening opening_exact c.raise.ensures puts.1 in
-    subst (λ (s : ScriptState). PrintsAnswer g.W.Output s (Ok (line.Scan c.args.scan)) (with_sessions v new counts) c.args.output.now c.put_session.new.output c.put_session.result) c.self.view_is (puts.0, answered, puts.2)
+pub returns-then-is_err : goal.returns-then-is_err
+returns-then-is_err g c =
+    let v : ScriptState = record { core = c.self.inside.core; asker = record { user = c.self.inside.user; moment = c.self.inside.moment }; kept = c.self.inside.sessions } in
+    let kept : Keeping = c.ready.new.self in
+    let text : List ℕ = refusal_text NoMemory in
+    let answered : ScriptAnswersLine v (Ok (line.Open c.args.scan)) text (with_kept v kept) = kept_counts v kept (Ok (line.Open c.args.scan)) text c.ready.ensures.same (starved_opens v c.args.scan) in
+    subst (λ (s : ScriptState). PrintsAnswer g.W.Output s (Ok (line.Open c.args.scan)) (with_kept v kept) c.args.output.now c.write_reply.new.output c.write_reply.result) c.self.view_is (text, answered, c.write_reply.ensures)
 
-pub returns-in_default : goal.returns-in_default
-returns-in_default g c =
-    let v : ScriptState = record { core = c.self.inside.core; asker = record { user = c.self.inside.user; moment = c.self.inside.moment }; opened = c.self.inside.opened } in
-    let new : Held = c.step.new.self in
-    let lt : asked v < 4294967295 = subst (λ (s : ScriptState). asked s < 4294967295) (sym c.self.view_is) c.requires.few in
-    let is : c.event-event.result ≡ event_by v.asker (Open c.args.scan) = c.event-event.ensures ∙ ap (λ (s : ScriptState). event_by s.asker (Open c.args.scan)) (sym c.self.view_is) in
-    let steps : Steps (base_of v.core) (event_by v.asker (Open c.args.scan)) c.step.result (base_of new) = subst (λ (e : Event). Steps (base_of v.core) e c.step.result (base_of new)) is c.step.ensures.steps in
-    let exact : StepsExactly v.core (event_by v.asker (Open c.args.scan)) (told_of c.step.result) new =
-    subst (λ (e : Event). StepsExactly v.core e (told_of c.step.result) new) is (did_exactly v.core new c.event-event.result c.step.result c.step.ensures.steps c.step.ensures.exact) in
-    let reply : Reply SessionState = c.step.result in
-    let text : List ℕ = reply_text (told_of reply) in
-    let answered : ScriptAnswersLine v (Ok (line.Scan c.args.scan)) text (with_sessions v new v.opened) = kept_answered v new c.args.scan reply lt steps exact c.in_default.not-Opened in
-    subst (λ (s : ScriptState). PrintsAnswer g.W.Output s (Ok (line.Scan c.args.scan)) (with_sessions v new v.opened) c.args.output.now c.write_told.new.output c.write_told.result) c.self.view_is (text, answered, c.write_told.ensures)
+pub returns-then-is_spent : goal.returns-then-is_spent
+returns-then-is_spent g c =
+    let v : ScriptState = record { core = c.self.inside.core; asker = record { user = c.self.inside.user; moment = c.self.inside.moment }; kept = c.self.inside.sessions } in
+    let kept : Keeping = c.ready.new.self in
+    let text : List ℕ = refusal_text (TooLarge Sessions) in
+    let yes : c.is_spent.result ≡ true = search rules in
+    let spent : is_spent (own_kept v) ≡ true = ap is_spent (sym (c.ready.ensures.same v.asker.user)) ∙ sym c.is_spent.ensures ∙ yes in
+    let answered : ScriptAnswersLine v (Ok (line.Open c.args.scan)) text (with_kept v kept) = kept_counts v kept (Ok (line.Open c.args.scan)) text c.ready.ensures.same (spent_opens v c.args.scan spent) in
+    subst (λ (s : ScriptState). PrintsAnswer g.W.Output s (Ok (line.Open c.args.scan)) (with_kept v kept) c.args.output.now c.write_reply-then-is_spent.new.output c.write_reply-then-is_spent.result) c.self.view_is (text, answered, c.write_reply-then-is_spent.ensures)
+
+pub returns : goal.returns
+returns g c =
+    let v : ScriptState = record { core = c.self.inside.core; asker = record { user = c.self.inside.user; moment = c.self.inside.moment }; kept = c.self.inside.sessions } in
+    let kept : Keeping = c.ready.new.self in
+    let prints = c.keep.ensures in
+    let answered : ScriptAnswersLine v (Ok (line.Open c.args.scan)) prints.0 c.keep.new.self = recounted v kept (Ok (line.Open c.args.scan)) prints.0 c.keep.new.self c.ready.ensures.same prints.1 in
+    subst (λ (s : ScriptState). PrintsAnswer g.W.Output s (Ok (line.Open c.args.scan)) c.keep.new.self c.args.output.now c.keep.new.output c.keep.result) c.self.view_is (prints.0, answered, prints.2)

@@ -1,29 +1,36 @@
-use Rattle.std.proofs.Common.{◌≡◌, ℕ, List, Ok, sym, ◌∙◌, subst, rules}
+use Rattle.std.proofs.Common.{◌≡◌, ℕ, List, Ok, true, sym, ap, ◌∙◌, subst, rules}
 use Rattle.tab_key.specs.declared.part.Part.TheVariants.{Sessions}
 use Rattle.tab_history.specs.declared.reply.Refusal.TheVariants.{TooLarge, NoMemory}
 use Rattle.tab_lines.specs.declared.line.Line.TheVariants as line
 use Rattle.tab_shell.specs.Texts.{refusal_text}
+use Rattle.tab_shell.specs.Sessions.{Keeping, is_spent}
 use Rattle.tab_shell.specs.Scripts.{ScriptState, ScriptAnswersLine}
 use Rattle.tab_shell.specs.Progress.{PrintsAnswer}
-use Rattle.tab_shell.proofs.Scanning.{asked, with_counts, spent_answered, starved_answered, kept_counts}
+use Rattle.tab_shell.proofs.Scanning.{own_kept, with_kept, spent_answered, starved_answered, kept_counts, recounted}
 use Rattle.tab_shell.proofs.script.Script.scan.Goals as goal
 
-pub returns-in-Ok-eq4294967295 : goal.returns-in-Ok-eq4294967295
-returns-in-Ok-eq4294967295 g c =
-    let v : ScriptState = record { core = c.self.inside.core; asker = record { user = c.self.inside.user; moment = c.self.inside.moment }; opened = c.self.inside.opened } in
-    let same = c.in-Ok-eq4294967295.ensures.counts in
-    let count : asked v ≡ c.in-Ok-eq4294967295.field-0 = sym c.in-Ok-eq4294967295.ensures.value in
-    let greatest : c.in-Ok-eq4294967295.field-0 ≡ 4294967295 = search rules in
-    let text : List ℕ = refusal_text (TooLarge Sessions) in
-    let counts : List (List ℕ × ℕ) = c.ready.new.self in
-    let answered : ScriptAnswersLine v (Ok (line.Scan c.args.scan)) text (with_counts v counts) = kept_counts v counts (Ok (line.Scan c.args.scan)) text same (spent_answered v c.args.scan (count ∙ greatest)) in
-    subst (λ (s : ScriptState). PrintsAnswer g.W.Output s (Ok (line.Scan c.args.scan)) (with_counts v counts) c.args.output.now c.write_reply.new.output c.write_reply.result) c.self.view_is (text, answered, c.write_reply.ensures)
-
-pub returns-in-Err : goal.returns-in-Err
-returns-in-Err g c =
-    let v : ScriptState = record { core = c.self.inside.core; asker = record { user = c.self.inside.user; moment = c.self.inside.moment }; opened = c.self.inside.opened } in
-    let kept : c.ready.new.self ≡ c.self.inside.opened = c.in-Err.ensures.err in
+pub returns-then-is_err : goal.returns-then-is_err
+returns-then-is_err g c =
+    let v : ScriptState = record { core = c.self.inside.core; asker = record { user = c.self.inside.user; moment = c.self.inside.moment }; kept = c.self.inside.sessions } in
+    let kept : Keeping = c.ready.new.self in
     let text : List ℕ = refusal_text NoMemory in
-    let counts : List (List ℕ × ℕ) = c.ready.new.self in
-    let answered : ScriptAnswersLine v (Ok (line.Scan c.args.scan)) text (with_counts v counts) = subst (λ (counts : List (List ℕ × ℕ)). ScriptAnswersLine v (Ok (line.Scan c.args.scan)) text (with_counts v counts)) (sym kept) (starved_answered v c.args.scan) in
-    subst (λ (s : ScriptState). PrintsAnswer g.W.Output s (Ok (line.Scan c.args.scan)) (with_counts v counts) c.args.output.now c.write_reply-in-Err.new.output c.write_reply-in-Err.result) c.self.view_is (text, answered, c.write_reply-in-Err.ensures)
+    let answered : ScriptAnswersLine v (Ok (line.Scan c.args.scan)) text (with_kept v kept) = kept_counts v kept (Ok (line.Scan c.args.scan)) text c.ready.ensures.same (starved_answered v c.args.scan) in
+    subst (λ (s : ScriptState). PrintsAnswer g.W.Output s (Ok (line.Scan c.args.scan)) (with_kept v kept) c.args.output.now c.write_reply.new.output c.write_reply.result) c.self.view_is (text, answered, c.write_reply.ensures)
+
+pub returns-then-is_spent : goal.returns-then-is_spent
+returns-then-is_spent g c =
+    let v : ScriptState = record { core = c.self.inside.core; asker = record { user = c.self.inside.user; moment = c.self.inside.moment }; kept = c.self.inside.sessions } in
+    let kept : Keeping = c.ready.new.self in
+    let text : List ℕ = refusal_text (TooLarge Sessions) in
+    let yes : c.is_spent.result ≡ true = search rules in
+    let spent : is_spent (own_kept v) ≡ true = ap is_spent (sym (c.ready.ensures.same v.asker.user)) ∙ sym c.is_spent.ensures ∙ yes in
+    let answered : ScriptAnswersLine v (Ok (line.Scan c.args.scan)) text (with_kept v kept) = kept_counts v kept (Ok (line.Scan c.args.scan)) text c.ready.ensures.same (spent_answered v c.args.scan spent) in
+    subst (λ (s : ScriptState). PrintsAnswer g.W.Output s (Ok (line.Scan c.args.scan)) (with_kept v kept) c.args.output.now c.write_reply-then-is_spent.new.output c.write_reply-then-is_spent.result) c.self.view_is (text, answered, c.write_reply-then-is_spent.ensures)
+
+pub returns : goal.returns
+returns g c =
+    let v : ScriptState = record { core = c.self.inside.core; asker = record { user = c.self.inside.user; moment = c.self.inside.moment }; kept = c.self.inside.sessions } in
+    let kept : Keeping = c.ready.new.self in
+    let prints = c.read_all.ensures in
+    let answered : ScriptAnswersLine v (Ok (line.Scan c.args.scan)) prints.0 c.read_all.new.self = recounted v kept (Ok (line.Scan c.args.scan)) prints.0 c.read_all.new.self c.ready.ensures.same prints.1 in
+    subst (λ (s : ScriptState). PrintsAnswer g.W.Output s (Ok (line.Scan c.args.scan)) c.read_all.new.self c.args.output.now c.read_all.new.output c.read_all.result) c.self.view_is (prints.0, answered, prints.2)

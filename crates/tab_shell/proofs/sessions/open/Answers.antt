@@ -1,0 +1,13 @@
+use Rattle.std.proofs.Common.{◌≡◌, Some, sym, ap, ◌∙◌, rules}
+use Rattle.tab_policy.specs.Entries.{at_name}
+use Rattle.tab_shell.specs.Sessions.{Keeping, kept_in, kept_of}
+use Rattle.tab_shell.proofs.KeptLemmas.{open_kept}
+use Rattle.tab_shell.proofs.sessions.open.Goals as goal
+
+pub returns-in-Some : goal.returns-in-Some
+returns-in-Some c =
+    let old : Keeping = c.args.by_user.now.entries in
+    let had : at_name c.args.user.now old ≡ Some c.in-Some.kept.now = search rules in
+    let is : kept_of old c.args.user.now ≡ record { numbered = c.kept.inside.numbered; scanned = c.kept.inside.scanned } = ap kept_in had ∙ sym c.kept.view_is in
+    let after = (c.get_mut.follows.holds (record { numbered = c.open.new.self; scanned = c.kept.inside.scanned })).3 (search rules) in
+    open_kept c.args.core.now c.open.new.core old _ c.args.user.now c.args.event c.open.result c.kept.inside.numbered c.open.new.self c.kept.inside.scanned is c.open.ensures after.0
