@@ -14,7 +14,7 @@ fn expect_table(rt: &impl Abort, table: &Table, want: &[Update]) {
     for index in 0..table.len() {
         let entry = table.get(index);
         if let Some(update) = want.get(index) {
-            assert!(rt; update.is_record(&entry.as_ref()));
+            assert!(rt; update.is_record(&entry));
         }
     }
 }

@@ -1,7 +1,7 @@
 //! Pairs of runs that look alike to bob, who holds A and never B, and what he is told in them.
 
 use crate::steps::{
-    auths, close, deletes, event, makes_table, named, next, opens, push, puts, text_of,
+    auths, close, deletes, event, makes_table, many, named, next, opens, push, puts, text_of,
 };
 use std::alloc::Global;
 use std::process::Abort;
@@ -69,6 +69,7 @@ fn scanned(rt: &impl Abort, alloc: Global, has_more: bool) -> Vec<Step> {
         push(rt, &mut steps, deletes(rt, alloc, b"eve", 0, b"B", Some(7)));
     }
     push(rt, &mut steps, next(rt, b"bob", 0, 9));
+    push(rt, &mut steps, many(rt, alloc, b"bob", 0, &[b"", b"s"]));
     push(rt, &mut steps, opens(rt, alloc, b"bob", 1, b"AB"));
     push(rt, &mut steps, opens(rt, alloc, b"bob", 1, b"A"));
     push(rt, &mut steps, next(rt, b"bob", 1, 9));
@@ -108,7 +109,7 @@ fn tells_bob_the_same(rt: HostRuntime) {
     let alloc = rt.alloc();
     let first = scanned(&rt, alloc, false);
     let second = scanned(&rt, alloc, true);
-    let told = b"opened @0=v, A@5=x, unheld opened @0=v,A@5=x, unopened ".as_slice();
+    let told = b"opened @0=v, A@5=x, @0=v,A@5=x,|| unheld opened @0=v,A@5=x, unopened ".as_slice();
     assert!(rt; is_told(&rt, alloc, &first, &second, b"bob", (told, told)));
     assert!(rt;
         is_told(
@@ -138,7 +139,8 @@ fn random_step(rt: &impl Abort, alloc: Global, random: &mut Random, moment: i64)
     let slot = random.below(4) as u32;
     let count = 1 + random.below(3) as u32;
     let label: &[u8] = if random.below(2) == 0 { b"" } else { b"A" };
-    match random.below(12) {
+    match random.below(13) {
+        12 => many(rt, alloc, b"bob", slot, &[b"a", b"r", b"s"]),
         0..=1 => opens(rt, alloc, b"bob", moment, label),
         2 => opens(rt, alloc, b"bob", moment, b"AB"),
         3..=5 => next(rt, b"bob", slot, count),

@@ -1,10 +1,11 @@
 //! Runs of steps, and the sessions that they keep.
 
-use crate::steps::{close, makes_table, next, opens, push, puts, text_of};
+use crate::steps::{close, makes_table, many, named, next, opens, push, puts, text_of};
 use std::alloc::Global;
 use std::process::Abort;
 use tab_core::run;
 use tab_history::Step;
+use tab_key::{Bound, Bounds, ByteString, Items};
 
 // The table with three puts, and a session of root's behind each of the last two.
 fn begun(rt: &impl Abort, alloc: Global) -> Vec<Step> {
@@ -86,4 +87,83 @@ fn a_run_keeps_many_sessions(rt: HostRuntime) {
             "session {at}"
         );
     }
+}
+
+#[test]
+fn a_run_answers_in_ranges(rt: HostRuntime) {
+    let alloc = rt.alloc();
+    let mut steps = begun(&rt, alloc);
+    push(&rt, &mut steps, next(&rt, b"root", 1, 2));
+    push(
+        &rt,
+        &mut steps,
+        many(&rt, alloc, b"root", 1, &[b"r", b"s", b""]),
+    );
+    push(&rt, &mut steps, many(&rt, alloc, b"root", 0, &[b"r"]));
+    push(&rt, &mut steps, many(&rt, alloc, b"root", 0, &[]));
+    push(&rt, &mut steps, next(&rt, b"root", 1, 2));
+    let replies = run(alloc, steps).expect(&rt, "memory");
+    assert_eq!(rt;
+        text_of(&rt, alloc, &replies).as_slice(),
+        b"ok ok ok opened ok opened @3=3,@2=2, @3=3,@2=2,@1=1,||@3=3,@2=2,@1=1,| @2=2,@1=1,|  @1=1, ".as_slice()
+    );
+}
+
+// So many ranges without a row in session 0, each none if they are bad.
+fn ranges_of(rt: &impl Abort, alloc: Global, count: usize, is_bad: bool) -> Step {
+    let mut ranges = Vec::new(alloc);
+    for _ in 0..count {
+        let low = Bound::Inclusive(ByteString::from_slice(alloc, b"x").expect(rt, "memory"));
+        let high = if is_bad {
+            Bound::Exclusive(ByteString::from_slice(alloc, b"x").expect(rt, "memory"))
+        } else {
+            Bound::Unbounded
+        };
+        ranges.push(Bounds { low, high }).expect(rt, "memory");
+    }
+    let (user, slot) = (named(rt, b"root"), 0);
+    let ranges = Items::from_vec(ranges);
+    Step::Many { user, slot, ranges }
+}
+
+#[test]
+fn ranges_are_refused_in_their_order(rt: HostRuntime) {
+    let alloc = rt.alloc();
+    let mut steps = Vec::new(alloc);
+    push(&rt, &mut steps, makes_table(&rt, 1));
+    push(&rt, &mut steps, ranges_of(&rt, alloc, 1001, true));
+    push(&rt, &mut steps, opens(&rt, alloc, b"root", 0, b""));
+    for (count, is_bad) in [(1001, true), (1001, false), (1000, true), (1, true)] {
+        push(&rt, &mut steps, ranges_of(&rt, alloc, count, is_bad));
+    }
+    push(&rt, &mut steps, ranges_of(&rt, alloc, 2, false));
+    push(&rt, &mut steps, close(&rt, b"root", 0));
+    push(&rt, &mut steps, ranges_of(&rt, alloc, 1, false));
+    let replies = run(alloc, steps).expect(&rt, "memory");
+    assert_eq!(rt;
+        text_of(&rt, alloc, &replies).as_slice(),
+        b"ok unopened opened toolarge toolarge badrange badrange || ok unopened ".as_slice()
+    );
+}
+
+// As many sessions as may be open; one more is refused, and where one was closed there is room for one, under a number of its own.
+#[test]
+fn a_run_keeps_as_many_sessions_as_may_be_open(rt: HostRuntime) {
+    let alloc = rt.alloc();
+    let mut steps = Vec::new(alloc);
+    push(&rt, &mut steps, makes_table(&rt, 1));
+    for _ in 0..65_537u32 {
+        push(&rt, &mut steps, opens(&rt, alloc, b"root", 0, b""));
+    }
+    push(&rt, &mut steps, close(&rt, b"root", 0));
+    push(&rt, &mut steps, opens(&rt, alloc, b"root", 0, b""));
+    for slot in [0, 65_536, 65_537] {
+        push(&rt, &mut steps, next(&rt, b"root", slot, 1));
+    }
+    let replies = run(alloc, steps).expect(&rt, "memory");
+    let last = replies.get(65_536..).expect(&rt, "a reply to each step");
+    assert_eq!(rt;
+        text_of(&rt, alloc, last).as_slice(),
+        b"opened toolarge ok opened unopened  unopened ".as_slice()
+    );
 }

@@ -3,7 +3,7 @@
 use std::alloc::Global;
 use std::process::Abort;
 use tab_history::{Act, Event, Refusal, Reply, Scan, Step, TimeMode, Versions};
-use tab_key::{Bound, Bounds, Cell, Items, Name};
+use tab_key::{Bound, Bounds, ByteString, Cell, Items, Name};
 use tab_label::AuthSet;
 use tab_mutation::Mutation;
 
@@ -20,6 +20,19 @@ pub fn event(rt: &impl Abort, user: &[u8], moment: i64, act: Act) -> Step {
 pub fn next(rt: &impl Abort, user: &[u8], slot: u32, count: u32) -> Step {
     let user = named(rt, user);
     Step::Next { user, slot, count }
+}
+
+// The session's cells with a row from each of these on.
+pub fn many(rt: &impl Abort, alloc: Global, user: &[u8], slot: u32, lows: &[&[u8]]) -> Step {
+    let user = named(rt, user);
+    let mut ranges = Vec::new(alloc);
+    for low in lows {
+        let row = ByteString::from_slice(alloc, low).expect(rt, "memory");
+        let (low, high) = (Bound::Inclusive(row), Bound::Unbounded);
+        ranges.push(Bounds { low, high }).expect(rt, "memory");
+    }
+    let ranges = Items::from_vec(ranges);
+    Step::Many { user, slot, ranges }
 }
 
 pub fn close(rt: &impl Abort, user: &[u8], slot: u32) -> Step {
@@ -117,6 +130,8 @@ fn word_of(refusal: &Refusal) -> &'static [u8] {
     match refusal {
         Refusal::BadAuthorizations(_) => b"unheld",
         Refusal::NoSession(_) => b"unopened",
+        Refusal::TooLarge(_) => b"toolarge",
+        Refusal::BadRange => b"badrange",
         Refusal::PermissionDenied(_) => b"denied",
         Refusal::UnknownUser(_) => b"unknown",
         _ => b"refused",
@@ -134,6 +149,12 @@ pub fn text_of(rt: &impl Abort, alloc: Global, replies: &[Reply]) -> Vec<u8> {
                 .expect(rt, "memory"),
             Reply::Opened(_) => text.extend_from_slice(b"opened").expect(rt, "memory"),
             Reply::Batch(cells) => add_cells(rt, alloc, &mut text, cells.as_slice()),
+            Reply::Ranges(ranges) => {
+                for cells in ranges.as_slice() {
+                    add_cells(rt, alloc, &mut text, cells.as_slice());
+                    text.push(b'|').expect(rt, "memory");
+                }
+            }
             Reply::Rights(rights) => {
                 for term in rights.authorizations.terms() {
                     text.extend_from_slice(term).expect(rt, "memory");

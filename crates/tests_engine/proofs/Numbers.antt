@@ -1,5 +1,5 @@
--- The numbers of the records that a tablet holds.
-use Rattle.std.proofs.Common.{◌≡◌, ◌⊎◌, inl, inr, ℕ, ◌+◌, ◌<◌, List, ◌++◌, sym, subst, arith}
+-- The numbers of the records that a tablet holds, or that were written.
+use Rattle.std.proofs.Common.{◌≡◌, ◌⊎◌, inl, inr, ℕ, ◌+◌, ◌<◌, ◌≤◌, List, ◌++◌, sym, subst, arith}
 use Rattle.std.specs.Prelude.{ℤ, Contains}
 use Rattle.std.specs.List.Sorted.{IsPermutation}
 use Rattle.std.proofs.lemmas.List.Sorted.{IsPermutation-sym, Contains-permutation}
@@ -25,6 +25,14 @@ written_below seq clock m t new e below u k = go (in_append (mutation_records se
     go : IsIn (mutation_records seq clock m) u ⊎ IsIn (records_in t) u → u.seq < seq + 1
     go (inl h) = all_in (λ r. r.seq < seq + 1) (mutation_records seq clock m) (records_below seq m.row _) u h
     go (inr h) = let lt : u.seq < seq = below u (in_to (records_in t) u h) in omega (arith, lt)
+
+-- all records have numbers below the next, which a mutation gets that is written behind them
+pub appended_below : (us new : List Record) (next seq : ℕ) (clock : ℤ) (m : Mutation) → new ≡ us ++ mutation_records seq clock m → next ≤ seq → ((u : Record) → Contains us u → u.seq < next) → (u : Record) → Contains new u → u.seq < seq + 1
+appended_below us new next seq clock m e le below u k = go (in_append us (mutation_records seq clock m) u (in_from _ u (subst (λ l. Contains l u) e k)))
+  where
+    go : IsIn us u ⊎ IsIn (mutation_records seq clock m) u → u.seq < seq + 1
+    go (inl h) = let lt : u.seq < next = below u (in_to us u h) in omega (arith, lt, le)
+    go (inr h) = all_in (λ r. r.seq < seq + 1) (mutation_records seq clock m) (records_below seq m.row _) u h
 
 pub frozen_below : (t new : Tablet) (seq : ℕ) → new ≡ frozen t → AreBelow t seq → AreBelow new seq
 frozen_below t new seq e below u k = below u (in_to (records_in t) u (frozen_in t u (in_from _ u (subst (λ x. Contains (records_in x) u) e k))))

@@ -74,7 +74,9 @@ fn records_of(alloc: Global, parts: u64, part: u64) -> Result<Vec<Record>, Alloc
     for line in &lines() {
         if line.seq.checked_rem(parts) == Some(part) {
             let record = Record::new(alloc, line.key, line.kind, b"v", line.seq, 0)?;
-            records.push(record)?;
+            if let Some(record) = record {
+                records.push(record)?;
+            }
         }
     }
     Ok(records)

@@ -1,10 +1,10 @@
 //! Random mutations, written and frozen, beside the order of updates.
 
 use crate::reading::{expect_rest, expect_seek};
-use crate::writing::{CLOCK, fill};
+use crate::writing::{CLOCK, Writer, fill};
 use std::alloc::{AllocError, Global};
 use std::process::Abort;
-use tab_mem::{Active, Run, RunCursor};
+use tab_mem::{Run, RunCursor};
 use tab_testing::{Random, Update, in_rows, sort};
 
 // Rows in the order of their bytes, some alike in their first 16.
@@ -55,22 +55,22 @@ fn expect_part(rt: &impl Abort, alloc: Global, run: &Run, updates: &[Update], ra
 fn freezes_in_order(rt: HostRuntime) {
     let alloc = rt.alloc();
     let mut random = Random::new(7);
-    let mut active = Active::new(alloc);
+    let mut writer = Writer::new(alloc);
     for _ in 0..50 {
-        assert!(rt; active.is_empty());
+        assert!(rt; writer.is_empty());
         let mut table = Vec::new(alloc);
         fill(
             &rt,
             alloc,
             &mut random,
-            &mut active,
+            &mut writer,
             &ROWS,
             0,
             8,
             &mut table,
         );
-        assert_eq!(rt; active.len(), table.len());
-        let frozen = active.freeze(alloc).expect(&rt, "memory");
+        assert_eq!(rt; writer.len(), table.len());
+        let frozen = writer.freeze(&rt, alloc);
         sort(&mut table);
         assert_eq!(rt;
             (frozen.len(), frozen.is_empty()),

@@ -1,11 +1,10 @@
-//! A small table in three runs, read in batches of every size.
+//! A small table in three runs, read in batches of every size and in ranges of rows.
 
-use crate::writing::{self, add, of_runs};
+use crate::writing::{Writer, add, of_runs};
 use std::alloc::{AllocError, Global};
 use std::process::Abort;
-use tab_key::{Cell, Items};
+use tab_key::{Bound, Bounds, ByteString, Cell, Items};
 use tab_label::AuthSet;
-use tab_mem::Active;
 use tab_mutation::Mutation;
 use tab_session::Session;
 use tab_testing::{auths_of, family};
@@ -83,7 +82,7 @@ fn new_lines() -> [Line; 4] {
     ]
 }
 
-fn write(rt: &impl Abort, alloc: Global, active: &mut Active, line: &Line) {
+fn write(rt: &impl Abort, alloc: Global, writer: &mut Writer, line: &Line) {
     let mut mutation = Mutation::new(alloc, line.row).expect(rt, "memory");
     let at = Some(line.timestamp);
     let added = if line.is_put {
@@ -92,15 +91,15 @@ fn write(rt: &impl Abort, alloc: Global, active: &mut Active, line: &Line) {
         mutation.delete(line.family, b"q", line.label, at)
     };
     added.expect(rt, "memory");
-    writing::write(rt, active, &mutation, u64::from(line.name))
+    writer.write(rt, &mutation, u64::from(line.name))
 }
 
 fn clip_of(rt: &impl Abort, alloc: Global, lines: &[Line]) -> Clip {
-    let mut active = Active::new(alloc);
+    let mut writer = Writer::new(alloc);
     for line in lines {
-        write(rt, alloc, &mut active, line);
+        write(rt, alloc, &mut writer, line);
     }
-    Clip::whole(active.freeze(alloc).expect(rt, "memory"))
+    Clip::whole(writer.freeze(rt, alloc))
 }
 
 fn table(rt: &impl Abort, alloc: Global) -> Version {
@@ -195,19 +194,87 @@ fn asks_for_columns_and_labels(rt: HostRuntime) {
 #[test]
 fn shows_nothing_of_later_writes(rt: HostRuntime) {
     let alloc = rt.alloc();
-    let mut active = Active::new(alloc);
-    write(&rt, alloc, &mut active, &put(b"a", b"f", b"", 1, b'0'));
-    write(&rt, alloc, &mut active, &put(b"c", b"f", b"", 1, b'1'));
+    let mut writer = Writer::new(alloc);
+    write(&rt, alloc, &mut writer, &put(b"a", b"f", b"", 1, b'0'));
+    write(&rt, alloc, &mut writer, &put(b"c", b"f", b"", 1, b'1'));
     let mut clips = Vec::new(alloc);
-    let clip = Clip::whole(active.freeze(alloc).expect(&rt, "memory"));
+    let clip = Clip::whole(writer.freeze(&rt, alloc));
     add(&rt, alloc, &mut clips, clip, 0, 64).expect(&rt, "memory");
     let version = of_runs(alloc, clips).expect(&rt, "memory");
     let (columns, auths) = (Items::new(alloc), AuthSet::empty(alloc));
     let mut session = Session::new(version, columns, auths, 1);
     expect_batch(&rt, alloc, &mut session, 1, b"0");
-    write(&rt, alloc, &mut active, &put(b"b", b"f", b"", 1, b'2'));
-    write(&rt, alloc, &mut active, &delete(b"c", b"f", 9, b'3'));
-    let later = active.freeze(alloc).expect(&rt, "memory");
+    write(&rt, alloc, &mut writer, &put(b"b", b"f", b"", 1, b'2'));
+    write(&rt, alloc, &mut writer, &delete(b"c", b"f", 9, b'3'));
+    let later = writer.freeze(&rt, alloc);
     assert_eq!(rt; later.len(), 2);
     expect_batch(&rt, alloc, &mut session, 9, b"1");
+}
+
+// An end of a range: none, or a row that is in the range or isn't.
+#[derive(Clone, Copy)]
+enum End {
+    Open,
+    In(&'static [u8]),
+    Out(&'static [u8]),
+}
+
+fn bound(rt: &impl Abort, alloc: Global, end: End) -> Bound {
+    let string = |row: &[u8]| ByteString::from_slice(alloc, row).expect(rt, "memory");
+    match end {
+        End::Open => Bound::Unbounded,
+        End::In(row) => Bound::Inclusive(string(row)),
+        End::Out(row) => Bound::Exclusive(string(row)),
+    }
+}
+
+// Ranges, and what is shown of their rows where all versions are.
+const RANGES: [(End, End, &[u8]); 10] = [
+    (End::Open, End::Open, b"EA102CcbaDd5"),
+    (End::Open, End::In(b"b"), b"EA102C"),
+    (End::Open, End::Out(b"b"), b"EA102"),
+    (End::In(b"b"), End::Open, b"CcbaDd5"),
+    (End::Out(b"b"), End::Open, b"cbaDd5"),
+    (End::In(b"c"), End::In(b"c"), b"cbaD"),
+    (End::Out(b"a"), End::Out(b"d"), b"CcbaD"),
+    (End::In(b"bb"), End::Out(b"c"), b""),
+    (End::In(b"e"), End::Open, b""),
+    (End::In(b"d"), End::In(b"a"), b""),
+];
+
+// The answers in these ranges, one behind the other, are what stands beside them.
+fn expect_ranges(rt: &impl Abort, alloc: Global, session: &Session, picked: &[usize]) {
+    let mut ranges = Vec::new(alloc);
+    for at in picked {
+        let (low, high, _) = RANGES[*at % RANGES.len()];
+        let (low, high) = (bound(rt, alloc, low), bound(rt, alloc, high));
+        ranges.push(Bounds { low, high }).expect(rt, "memory");
+    }
+    let answers = session.scan_many(alloc, &ranges).expect(rt, "memory");
+    assert_eq!(rt; answers.as_slice().len(), picked.len());
+    for (at, cells) in picked.iter().zip(answers.as_slice()) {
+        let names = names(alloc, cells).expect(rt, "memory");
+        assert_eq!(rt; names.as_slice(), RANGES[*at % RANGES.len()].2);
+    }
+}
+
+#[test]
+fn gives_the_whole_answer_in_each_range(rt: HostRuntime) {
+    let alloc = rt.alloc();
+    let session = whole_table(&rt, alloc, 9);
+    expect_ranges(&rt, alloc, &session, &[]);
+    expect_ranges(&rt, alloc, &session, &[0, 1, 2, 3, 4, 5, 6, 7, 8, 9]);
+    expect_ranges(&rt, alloc, &session, &[9, 5, 5, 0, 2, 5]);
+}
+
+#[test]
+fn gives_ranges_whatever_batches_were_taken(rt: HostRuntime) {
+    let alloc = rt.alloc();
+    let mut session = whole_table(&rt, alloc, 9);
+    for part in b"EA102CcbaDd5".chunks(5) {
+        expect_ranges(&rt, alloc, &session, &[0, 5]);
+        expect_batch(&rt, alloc, &mut session, 5, part);
+    }
+    expect_ranges(&rt, alloc, &session, &[5, 0]);
+    expect_batch(&rt, alloc, &mut session, 5, b"");
 }

@@ -3,12 +3,12 @@ ghost use Rattle.std.specs.Prelude.{◌≡◌, IfOk};
 ghost use Rattle.tab_table.specs.Tables.{records};
 
 use crate::reading::{expect_rest, expect_seek};
-use crate::writing::{CLOCK, fill};
+use crate::writing::{CLOCK, Writer, fill};
 use std::alloc::{AllocError, Global};
 use std::process::Abort;
 use std::sync::Arc;
 use tab_iter::Source;
-use tab_mem::{Active, Run, RunCursor};
+use tab_mem::{Run, RunCursor};
 use tab_table::{Cursor, OwnedCursor, Table};
 use tab_testing::{Random, Update, in_rows, sort, table_len};
 
@@ -35,10 +35,10 @@ fn random_table(
     count: u8,
     updates: &mut Vec<Update>,
 ) -> Arc<Table> {
-    let mut active = Active::new(alloc);
-    fill(rt, alloc, random, &mut active, &ROWS, 0, count, updates);
+    let mut writer = Writer::new(alloc);
+    fill(rt, alloc, random, &mut writer, &ROWS, 0, count, updates);
     sort(updates);
-    let run = active.freeze(alloc).expect(rt, "memory");
+    let run = writer.freeze(rt, alloc);
     let table = table_of(alloc, &run).expect(rt, "memory");
     Arc::new(alloc, table).expect(rt, "memory")
 }
@@ -53,7 +53,7 @@ fn expect_records(rt: &impl Abort, table: &Table, updates: &[Update]) {
     for index in 0..table.len() {
         let entry = table.get(index);
         if let Some(update) = updates.get(index) {
-            assert!(rt; update.is_record(&entry.as_ref()));
+            assert!(rt; update.is_record(&entry));
         }
     }
 }

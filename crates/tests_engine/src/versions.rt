@@ -6,11 +6,11 @@ ghost use Rattle.tab_version.specs.Sources.{records_of};
 mod cuts;
 
 use crate::reading::{expect_raw, expect_rest, expect_scan, expect_seek};
-use crate::writing::{CLOCK, add, fill, one_tablet};
+use crate::writing::{CLOCK, Writer, add, fill, one_tablet};
 use std::alloc::{AllocError, Global};
 use std::process::Abort;
 use std::sync::Arc;
-use tab_mem::{Active, Run};
+use tab_mem::Run;
 use tab_table::Table;
 use tab_testing::{End, Query, Random, Update, in_rows, scanned, sort};
 use tab_version::{Clip, Clips, TableClip, Version};
@@ -33,9 +33,9 @@ fn random_run(
     first: u8,
     table: &mut Vec<Update>,
 ) -> Arc<Run> {
-    let mut active = Active::new(alloc);
-    fill(rt, alloc, random, &mut active, &ROWS, first, 4, table);
-    active.freeze(alloc).expect(rt, "memory")
+    let mut writer = Writer::new(alloc);
+    fill(rt, alloc, random, &mut writer, &ROWS, first, 4, table);
+    writer.freeze(rt, alloc)
 }
 
 // The clip has these records, and no others, also from a key on.

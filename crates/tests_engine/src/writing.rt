@@ -6,10 +6,12 @@ ghost use Rattle.tab_iter.specs.Lists.{IsRising};
 ghost use Rattle.tab_version.specs.Sources.{records_of};
 
 use std::alloc::{AllocError, Global};
+use std::marker::Model;
 use std::process::Abort;
+use std::sync::Arc;
 use tab_iter::Source;
 use tab_key::RecordRef;
-use tab_mem::Active;
+use tab_mem::{Active, Run};
 use tab_mutation::Mutation;
 use tab_testing::{Random, Update, mutation_of};
 use tab_version::{Clip, Clips, Version};
@@ -17,23 +19,61 @@ use tab_version::{Clip, Clips, Version};
 /// The moment of all writes.
 pub const CLOCK: i64 = 2;
 
-// Whether no record has this number or a later one.
-fn is_new(active: &Active, seq: u64) -> bool
-    ensures { IsTrue result → All (λ u. u.seq < seq) active.now }
-{
-    for index in 0..active.len() {
-        if active.get(index).seq() >= seq {
-            return false;
-        }
-    }
-    true
+/// What is written, in mutations whose numbers rise. A contract sees the records.
+#[derive(Drop)]
+pub struct Writer {
+    active: Active,
+    // above each number so far
+    next: u64,
 }
 
-/// Writes the mutation, whose shape must be accepted.
-pub fn write(rt: &impl Abort, active: &mut Active, mutation: &Mutation, seq: u64) {
-    assert!(rt; is_new(active, seq));
-    assert!(rt; mutation.shape().is_none());
-    active.write(mutation, seq, CLOCK).expect(rt, "memory");
+impl Model for Writer {
+    ghost use Rattle.std.specs.Prelude.{List, Contains, ◌<◌};
+    ghost use Rattle.tab_key.specs.Records.{Record};
+
+    ghost Value = { List Record };
+
+    ghost view = { λ w. w.active };
+
+    ghost invariant = { λ w. (u : Record) → Contains w.active u → u.seq < w.next };
+}
+
+impl Writer {
+    /// Nothing yet.
+    #[tactic(auto, using(crate::proofs::Later::nothing_older))]
+    pub fn new(alloc: Global) -> Writer {
+        Writer {
+            active: Active::new(alloc),
+            next: 0,
+        }
+    }
+
+    /// How many records there are.
+    pub fn len(&self) -> usize {
+        self.active.len()
+    }
+
+    /// Whether there is no record.
+    pub fn is_empty(&self) -> bool {
+        self.active.is_empty()
+    }
+
+    /// Writes the mutation, whose shape must be accepted, with a number above those before.
+    pub fn write(&mut self, rt: &impl Abort, mutation: &Mutation, seq: u64) {
+        assert!(rt; seq >= self.next);
+        assert!(rt; seq < u64::MAX);
+        assert!(rt; mutation.shape().is_none());
+        self.active.write(mutation, seq, CLOCK).expect(rt, "memory");
+        self.next = seq + 1;
+    }
+
+    /// What was written, frozen; the number of the next mutation may then be any.
+    #[tactic(auto, using(crate::proofs::Later::nothing_older))]
+    pub fn freeze(&mut self, rt: &impl Abort, alloc: Global) -> Arc<Run> {
+        let run = self.active.freeze(alloc).expect(rt, "memory");
+        self.next = 0;
+        run
+    }
 }
 
 /// Writes as many random mutations of the rows, numbered from here on, and adds them to the table. One without updates is left out.
@@ -41,7 +81,7 @@ pub fn fill(
     rt: &impl Abort,
     alloc: Global,
     random: &mut Random,
-    active: &mut Active,
+    writer: &mut Writer,
     rows: &[&'static [u8]],
     first: u8,
     count: u8,
@@ -55,7 +95,7 @@ pub fn fill(
             continue;
         }
         let mutation = mutation_of(alloc, row, &updates).expect(rt, "memory");
-        write(rt, active, &mutation, u64::from(seq));
+        writer.write(rt, &mutation, u64::from(seq));
         for update in &updates {
             table.push(*update).expect(rt, "memory");
         }

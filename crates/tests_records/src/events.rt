@@ -1,7 +1,7 @@
 //! Copies of events, parts of replies, and numbers of versions.
 use std::process::Abort;
 use tab_history::{Act, Counts, Event, Extent, Reply, Versions, copied};
-use tab_key::{ByteString, Name};
+use tab_key::{ByteString, Items, Name};
 use tab_mutation::Mutation;
 
 fn name(rt: &impl Abort, bytes: &[u8]) -> Name {
@@ -126,6 +126,7 @@ fn session_of(rt: &impl Abort, reply: Reply<u8>, want: &'static str) -> Option<u
     let text = match told {
         Reply::Done => "done",
         Reply::Opened(()) => "opened",
+        Reply::Ranges(_) => "ranges",
         Reply::Counted(_) => "counted",
         _ => "something else",
     };
@@ -137,6 +138,8 @@ fn session_of(rt: &impl Abort, reply: Reply<u8>, want: &'static str) -> Option<u
 fn parts_a_reply_and_its_session(rt: HostRuntime) {
     assert_eq!(rt; session_of(&rt, Reply::Opened(3), "opened"), Some(3));
     assert_eq!(rt; session_of(&rt, Reply::Done, "done"), None);
+    let ranges = Reply::Ranges(Items::new(rt.alloc()));
+    assert_eq!(rt; session_of(&rt, ranges, "ranges"), None);
     let counts = Counts {
         tablets: 1,
         sources: 2,

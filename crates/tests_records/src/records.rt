@@ -49,7 +49,7 @@ fn marker(label: &'static [u8], timestamp: i64, seq: u64) -> Line {
 fn record(rt: &impl Abort, alloc: Global, line: Line) -> Record {
     let key = key(b"f", b"q", line.label, line.timestamp);
     let made = Record::new(alloc, key, line.kind, b"v", line.seq, line.idx);
-    made.expect(rt, "memory")
+    made.expect(rt, "memory").expect(rt, "a record")
 }
 
 // The first of two records stands so beside the second.

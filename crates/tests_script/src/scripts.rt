@@ -6,7 +6,7 @@ use tab_core::Core;
 use tab_history::{Counts, Refusal, Reply};
 use tab_io::memory::{Fault, PieceReader, PieceWriter};
 use tab_io::{BlockReader, BlockWriter, Output};
-use tab_key::Part;
+use tab_key::{Cell, Items, Key, Part};
 use tab_lines::lines_are_forms;
 use tab_shell::{Ended, Script, ScriptFault, write_reply};
 
@@ -33,6 +33,18 @@ fn answers_lines_wherever_they_are_cut(rt: HostRuntime) {
             b"ok\nok\nline fault\nok\nok\nr f q \\e 5 v\nend\n".as_slice()
         );
     }
+}
+
+const SESSIONS: &[u8] =
+    b"createtable t\ninsert t a f q \\e v 1\ninsert t b f q \\e v 1\nscan t \\0\nopen t \\0\nopen t \\0 [b \\0\nnext 0 0\nnext 0 1\ndelete t b f q \\e 1\nnext 0 5\nmany 1 \\0 (b [a [b\nmany 1 [b [a\nmany 1\nclose 0\nnext 0 1\nmany 2 [b [a\nopen t \\0\nas bob\nclose 1\n";
+
+const ANSWERS: &[u8] =
+    b"ok\nok\nok\na f q \\e 1 v\nb f q \\e 1 v\nend\nsession 0\nsession 1\nmore\na f q \\e 1 v\nmore\nok\nb f q \\e 1 v\nend\nrange\nb f q \\e 1 v\nrange\nrefused 13 BadRange\nok\nrefused 15 NoSession 0\nrefused 15 NoSession 2\nsession 2\nrefused 15 NoSession 1\n";
+
+#[test]
+fn keeps_sessions_by_number(rt: HostRuntime) {
+    let text = printed(&rt, rt.alloc(), SESSIONS, 1000);
+    assert_eq!(rt; text.as_slice(), ANSWERS);
 }
 
 #[test]
@@ -76,6 +88,39 @@ fn writes_replies(rt: HostRuntime) {
         output.flush().expect(&rt, "written");
         assert_eq!(rt; output.get_ref().bytes(), want);
     }
+}
+
+// A range with a cell, and one without.
+fn two_ranges(rt: &impl Abort, alloc: Global) -> Reply {
+    let key = Key {
+        row: b"r",
+        family: b"f",
+        qualifier: b"q",
+        label: b"",
+        timestamp: 5,
+    };
+    let mut cells = Vec::new(alloc);
+    let cell = Cell::new(alloc, key, b"v")
+        .expect(rt, "memory")
+        .expect(rt, "a cell");
+    cells.push(cell).expect(rt, "memory");
+    let mut ranges = Vec::new(alloc);
+    ranges.push(Items::from_vec(cells)).expect(rt, "memory");
+    ranges.push(Items::new(alloc)).expect(rt, "memory");
+    Reply::Ranges(Items::from_vec(ranges))
+}
+
+#[test]
+fn writes_ranges(rt: HostRuntime) {
+    let alloc = rt.alloc();
+    let reply = two_ranges(&rt, alloc);
+    let mut output = BlockWriter::new(alloc, PieceWriter::new(alloc, 1000)).expect(&rt, "memory");
+    write_reply(&mut output, &reply).expect(&rt, "written");
+    output.flush().expect(&rt, "written");
+    assert_eq!(rt;
+        output.get_ref().bytes(),
+        b"r f q \\e 5 v\nrange\nrange\n".as_slice()
+    );
 }
 
 #[test]

@@ -62,7 +62,9 @@ fn prints_cells(rt: HostRuntime) {
         label: b"A&B",
         timestamp: -7,
     };
-    let cell = Cell::new(rt.alloc(), key, b"\x00").expect(&rt, "memory");
+    let cell = Cell::new(rt.alloc(), key, b"\x00")
+        .expect(&rt, "memory")
+        .expect(&rt, "a cell");
     let mut output = output(&rt, rt.alloc());
     put_cell(&mut output, &cell).expect(&rt, "written");
     output.flush().expect(&rt, "written");

@@ -46,7 +46,10 @@ fn key_of<'a>(row: &'a [u8]) -> Key<'a> {
 fn record(alloc: Global, number: u64) -> Result<Record, AllocError> {
     let row = (number / 8).to_be_bytes();
     let seq = 1000u64.wrapping_sub(number);
-    Record::new(alloc, key_of(&row), Kind::Put, b"v", seq, 0)
+    match Record::new(alloc, key_of(&row), Kind::Put, b"v", seq, 0)? {
+        Some(record) => Ok(record),
+        None => Err(AllocError),
+    }
 }
 
 // The records of all sources, those of the first before those of the second, and so on.

@@ -45,7 +45,9 @@ fn marked(alloc: Global) -> Result<Vec<Record>, AllocError> {
             label: b"",
             timestamp,
         };
-        records.push(Record::new(alloc, key, kind, b"v", seq, 0)?)?;
+        if let Some(record) = Record::new(alloc, key, kind, b"v", seq, 0)? {
+            records.push(record)?;
+        }
     }
     Ok(records)
 }

@@ -10,11 +10,10 @@ ghost use Rattle.tab_version.specs.Sources.{records_of, clipped};
 
 use super::{compare, last_tabled};
 use crate::reading::expect_raw;
-use crate::writing::{add, fill};
+use crate::writing::{Writer, add, fill};
 use std::alloc::{AllocError, Global};
 use std::process::Abort;
 use tab_key::{Bound, Bounds, ByteString};
-use tab_mem::Active;
 use tab_testing::{Random, Update, sort};
 use tab_version::{Clip, Clips, Version};
 
@@ -99,9 +98,9 @@ fn random_clip(
     first: u8,
     table: &mut Vec<Update>,
 ) -> Clip {
-    let mut active = Active::new(alloc);
-    fill(rt, alloc, random, &mut active, &ROWS, first, 24, table);
-    Clip::whole(active.freeze(alloc).expect(rt, "memory"))
+    let mut writer = Writer::new(alloc);
+    fill(rt, alloc, random, &mut writer, &ROWS, first, 24, table);
+    Clip::whole(writer.freeze(rt, alloc))
 }
 
 // Three clips, the last one of a table, cut into tablets.
