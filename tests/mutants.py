@@ -17,8 +17,8 @@ TOP = os.path.dirname(os.path.dirname(os.path.abspath(__file__)))
 KIT = os.path.dirname(subprocess.run(["rt", "doc"], capture_output=True, text=True, check=True).stdout.strip())
 # How many mutants of a crate are tried by one worker at most, so that those of a large crate go side by side.
 MOST = 12
-# An error of a proof that no longer finds a name: it says nothing of the contract.
-NAMES = re.compile(r"has no field|is not in scope|has no `|was not admitted")
+# An error of a proof that no longer finds a name, or that stands on one that was rejected: it says nothing of the contract.
+NAMES = re.compile(r"has no field|is not in scope|has no `|was not admitted|which was rejected, were not checked")
 
 
 class Mutant:
@@ -128,12 +128,14 @@ def refusal(mutant, said):
     verdict = re.search(rf"^fn {re.escape(mutant.crate)}::({re.escape(mutant.function)}): (.*)$", said, re.M)
     if not verdict:
         return None
-    if verdict[2].startswith("no proof: expected answers"):
-        return verdict[2].partition("; ")[2]
     # (the folder of a function's proofs may have a + in front)
     proofs = "/".join(rf"\+?{re.escape(it)}" for it in verdict[1].split("::"))
     errors = re.findall(rf"^\./proofs/{proofs}/\S+ error: (.*)$", said, re.M)
-    return next((it for it in errors if not NAMES.search(it)), None)
+    told = [it for it in errors if not NAMES.search(it)]
+    # a goal that nothing answers may be one that only has another name now, where others of its proof have vanished
+    if not errors and verdict[2].startswith("no proof: expected answers"):
+        told = [verdict[2].partition("; ")[2]]
+    return told[0] if told else None
 
 
 def tried(batch, named, kept):
@@ -167,8 +169,8 @@ def tried_all(mutants, named):
 
 def weight(mutants):
     """Returns about how long mutants of a crate take: by how much there is to load and to check, and by how many they are."""
-    lines = sum(read(path).count("\n") for part in ("src", "proofs") for path in glob.glob(f"{folder(mutants[0].crate)}/{part}/**/*.*t*", recursive=True))
-    return lines + 200 * len(mutants)
+    files = [it for part in ("src", "proofs") for it in glob.glob(f"{folder(mutants[0].crate)}/{part}/**", recursive=True)]
+    return sum(read(it).count("\n") for it in files if os.path.isfile(it)) + 200 * len(mutants)
 
 
 def are_ready(parts, log):
