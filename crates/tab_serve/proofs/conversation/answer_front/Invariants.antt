@@ -1,0 +1,17 @@
+use Rattle.std.proofs.Common.{◌≡◌, ◌≤◌, length}
+use Rattle.tab_io.specs.Writing.{HasPut}
+use Rattle.tab_serve.specs.Progress.{side, AnswersUpTo}
+use Rattle.tab_serve.proofs.conversation.answer_front.Given as goal
+
+abbrev pub invariant-loop-fault : goal.invariant-loop-fault
+invariant-loop-fault g l = record {
+  goes : AnswersUpTo g.S.Service (side l.fn.conn l.fn.service) (g.R.Input.remaining l.fn.input) (side l.conn l.service) (g.R.Input.remaining l.input) (HasPut g.W.Output l.fn.output l.output);
+  opened : l.conn.opened ≡ g.S.Service.opened l.service;
+  reads : g.R.Input.faults l.input ≡ g.R.Input.faults l.fn.input;
+  writes : g.W.Output.faults l.output ≡ g.W.Output.faults l.fn.output;
+  here : l.here ≡ length (g.R.Input.front l.input);
+  budget : g.R.Input.budget l.input ≤ g.R.Input.budget l.fn.input;
+}
+
+abbrev pub decreases-loop-fault : goal.decreases-loop-fault
+decreases-loop-fault g l = l.here

@@ -1,0 +1,24 @@
+//! What answers the requests of a connection.
+ghost use Rattle.std.specs.Prelude.{◌≡◌, ◌<◌, ℕ, List, true};
+ghost use Rattle.tab_history.specs.Answers.{Told};
+ghost use Rattle.tab_wire.specs.Asking.{opens, opened_by};
+ghost use Rattle.tab_wire.specs.declared.request.Request.{Request as Asks};
+
+use tab_history::Reply;
+use tab_key::Name;
+use tab_wire::Request;
+
+/// What answers the requests of one connection, and keeps the sessions that it opens for it.
+pub trait Service {
+    // How many sessions it opened.
+    ghost opened: { Self → ℕ };
+
+    // What it may tell the user of this request, and the service after it.
+    ghost answers: { Self → List ℕ → Asks → Told → Self → Type 0 };
+
+    /// Answers the request of this user. Hello is a request too.
+    fn answer(&mut self, user: Name, request: Request) -> Reply
+        ensures answers { answers self.old user request result self.new }
+        ensures room { opens result ≡ true → opened self.old < u32.MAX }
+        ensures opened { opened self.new ≡ opened_by (opened self.old) result };
+}

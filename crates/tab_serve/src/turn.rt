@@ -1,0 +1,135 @@
+//! One frame, and what it is told.
+ghost use Rattle.std.specs.Prelude.{◌≡◌, [], IfOk};
+ghost use Rattle.tab_io.specs.Writing.{Puts};
+ghost use Rattle.tab_wire.specs.Replies.{Sent, sent_bytes};
+ghost use Rattle.tab_serve.specs.Turns.{cells_asked, Tells};
+ghost use Rattle.tab_serve.specs.Progress.{side, Goes, CostsOn, Faults, PutsOn, goes_on};
+
+use crate::{ServeFault, Service};
+use std::alloc::Global;
+use tab_history::{Refusal, Reply};
+use tab_io::{Input, Output, WriteFault};
+use tab_key::Name;
+use tab_wire::{Asked, Conn, Request, write_bad_frame};
+
+// How many cells the request asks for, where it asks for a batch.
+fn cells_asked(request: &Request) -> u32
+    ensures { result ≡ cells_asked request.now }
+{
+    match request {
+        Request::Next { count, .. } => *count,
+        _ => 0,
+    }
+}
+
+// Has the request answered, and writes the reply.
+fn answer<W: Output, S: Service>(
+    conn: &mut Conn,
+    user: Name,
+    request: Request,
+    output: &mut W,
+    service: &mut S,
+) -> Result<(), WriteFault>
+    requires { conn.old.opened ≡ S.opened service.old }
+    ensures told { (sent : Sent) × Tells S.Service service.old (Asked.Request user request) sent service.new × Puts W.Output output.old output.new (sent_bytes sent) result }
+    ensures user { conn.new.user ≡ conn.old.user }
+    ensures opened { conn.new.opened ≡ S.opened service.new }
+{
+    let count = cells_asked(&request);
+    let reply = service.answer(user, request);
+    conn.answer(count, &reply, output)
+}
+
+// Tells what comes of what is asked.
+fn tell<W: Output, S: Service>(
+    conn: &mut Conn,
+    asked: Asked,
+    output: &mut W,
+    service: &mut S,
+) -> Result<(), WriteFault>
+    requires { conn.old.opened ≡ S.opened service.old }
+    ensures told { (sent : Sent) × Tells S.Service service.old asked sent service.new × Puts W.Output output.old output.new (sent_bytes sent) result }
+    ensures user { conn.new.user ≡ conn.old.user }
+    ensures opened { conn.new.opened ≡ S.opened service.new }
+{
+    match asked {
+        Asked::Request(user, request) => answer(conn, user, request, output, service),
+        Asked::Bad(reason) => write_bad_frame(output, reason),
+        Asked::Broken(reason) => write_bad_frame(output, reason),
+        Asked::NoMemory => conn.answer(0, &Reply::Refused(Refusal::NoMemory), output),
+    }
+}
+
+// Whether the connection goes on behind this.
+fn goes_on(asked: &Asked) -> bool
+    ensures { result ≡ goes_on asked.now }
+{
+    !matches!(asked, Asked::Broken(_))
+}
+
+// Tells it, and whether the connection goes on.
+fn tell_on<W: Output, S: Service>(
+    conn: &mut Conn,
+    asked: Asked,
+    output: &mut W,
+    service: &mut S,
+) -> Result<bool, ServeFault>
+    requires { conn.old.opened ≡ S.opened service.old }
+    ensures told { (sent : Sent) × Tells S.Service service.old asked sent service.new × PutsOn W.Output output.old output.new (sent_bytes sent) result }
+    ensures on { IfOk result (λ on. on ≡ goes_on asked) }
+    ensures user { conn.new.user ≡ conn.old.user }
+    ensures opened { conn.new.opened ≡ S.opened service.new }
+{
+    let on = goes_on(&asked);
+    match tell(conn, asked, output, service) {
+        Ok(()) => Ok(on),
+        Err(WriteFault) => Err(ServeFault::Write),
+    }
+}
+
+// Whether the next frame is here whole.
+fn is_here(front: &[u8]) -> bool {
+    match front {
+        [first, second, third, fourth, bytes @ ..] => {
+            let length = u32::from_be_bytes([*first, *second, *third, *fourth]);
+            bytes.len() >= length as usize
+        }
+        _ => false,
+    }
+}
+
+// Writes what is gathered, before a read that may wait.
+#[tactic(auto, using(tab_io::proofs::Putting::put_none, tab_io::proofs::Putting::flush_put, tab_io::proofs::Putting::flush_part))]
+fn flush_before_read<R: Input, W: Output>(input: &R, output: &mut W) -> Result<(), WriteFault>
+    ensures { Puts W.Output output.old output.new [] result }
+{
+    if is_here(input.front()) {
+        return Ok(());
+    }
+    output.flush()
+}
+
+/// Answers the next frame. Whether the connection goes on.
+pub fn turn<R: Input, W: Output, S: Service>(
+    alloc: Global,
+    conn: &mut Conn,
+    input: &mut R,
+    output: &mut W,
+    service: &mut S,
+) -> Result<bool, ServeFault>
+    requires { conn.old.opened ≡ S.opened service.old }
+    ensures goes { Goes R.Input W.Output S.Service (side conn.old service.old) input.old output.old (side conn.new service.new) input.new output.new result }
+    ensures costs { IfOk result (λ on. CostsOn R.Input input.old input.new on) }
+    ensures faults { Faults R.Input W.Output result input.old input.new output.old output.new }
+    ensures opened { conn.new.opened ≡ S.opened service.new }
+{
+    match flush_before_read(input, output) {
+        Ok(()) => {}
+        Err(_) => return Err(ServeFault::Write),
+    }
+    match conn.ask(alloc, input) {
+        Ok(Some(asked)) => tell_on(conn, asked, output, service),
+        Ok(None) => Ok(false),
+        Err(_) => Err(ServeFault::Read),
+    }
+}

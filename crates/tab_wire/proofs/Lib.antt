@@ -1,0 +1,15 @@
+pub mod FrameLaw
+pub mod RequestLaw
+pub mod ReasonLaw
+pub mod StreamLaw
+pub mod Seen
+pub mod SetLemmas
+pub mod Loop
+pub mod Updating
+pub mod OpcodeLemmas
+pub mod Lengths
+pub mod Taking
+pub mod OwnSteps
+pub mod WholeTalks
+pub mod Turns
+pub mod Costing

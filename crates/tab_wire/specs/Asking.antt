@@ -1,0 +1,92 @@
+-- What a connection knows between two frames, and what comes next on it.
+use Rattle.std.specs.Prelude.{ℕ, ◌≡◌, ◌+◌, Bool, true, false, List, [], ◌∷◌, Option, Some, None, is_some, Ok, Err}
+use Rattle.tab_history.specs.Answers.{Told}
+use Rattle.tab_history.specs.declared.reply.Reply.TheVariants as reply
+use Rattle.tab_wire.specs.declared.request.Request.{Request}
+use Rattle.tab_wire.specs.declared.request.Request.TheVariants as asks
+use Rattle.tab_wire.specs.declared.asked.Asked.{Asked}
+use Rattle.tab_wire.specs.declared.asked.Asked.TheVariants as asked
+use Rattle.tab_wire.specs.Requests.{request_of}
+use Rattle.tab_wire.specs.Stream.{Piece, Frame, Broken, piece_at}
+
+-- ---- what a connection knows
+-- who said Hello, and how many sessions were opened
+pub record ConnState : Type 0 where
+  pub user : Option (List ℕ)
+  pub opened : ℕ
+
+-- nobody did, and none was
+abbrev pub new_conn : ConnState
+new_conn = record { user = None; opened = 0 }
+
+-- ---- what is asked
+-- What a piece of the stream asks, after Hello or before it. For any frame memory may lack.
+abbrev pub IsRead : Bool → Piece → Asked → Type 0
+IsRead greeted (Frame body) (asked.Request user request) = request_of greeted body ≡ Ok request
+IsRead greeted (Frame body) (asked.Bad reason) = request_of greeted body ≡ Err reason
+IsRead greeted (Frame body) asked.NoMemory = Unit {0}
+IsRead greeted (Frame body) (asked.Broken reason) = ⊥
+IsRead greeted (Broken why) (asked.Broken reason) = reason ≡ why
+IsRead greeted (Broken why) (asked.Request user request) = ⊥
+IsRead greeted (Broken why) (asked.Bad reason) = ⊥
+IsRead greeted (Broken why) asked.NoMemory = ⊥
+
+-- this user asks: Hello names him, where there was none, and all else is asked by the one who said it
+abbrev pub IsBy : Option (List ℕ) → List ℕ → Request → Type 0
+IsBy before user (asks.Hello name) = (before ≡ None) × (user ≡ name)
+IsBy before user (asks.Act act) = before ≡ Some user
+IsBy before user (asks.Next slot count) = before ≡ Some user
+IsBy before user (asks.Many slot ranges) = before ≡ Some user
+IsBy before user (asks.Close slot) = before ≡ Some user
+
+-- who asks, before and after; where nothing is asked, that stays
+abbrev pub Hears : Option (List ℕ) → Asked → Option (List ℕ) → Type 0
+Hears before (asked.Request user request) after = IsBy before user request × (after ≡ Some user)
+Hears before (asked.Bad reason) after = after ≡ before
+Hears before (asked.Broken reason) after = after ≡ before
+Hears before asked.NoMemory after = after ≡ before
+
+-- Who may ask this: Hello where nobody said it, and all else where somebody did.
+abbrev pub MayAsk : Option (List ℕ) → Request → Type 0
+MayAsk before (asks.Hello name) = before ≡ None
+MayAsk before (asks.Act act) = is_some before ≡ true
+MayAsk before (asks.Next slot count) = is_some before ≡ true
+MayAsk before (asks.Many slot ranges) = is_some before ≡ true
+MayAsk before (asks.Close slot) = is_some before ≡ true
+
+-- the request is what comes next, by the one who asks it
+abbrev pub IsHeard : Option (List ℕ) → Request → Asked → Option (List ℕ) → Type 0
+IsHeard before request (asked.Request user what) after = (what ≡ request) × IsBy before user request × (after ≡ Some user)
+IsHeard before request (asked.Bad reason) after = ⊥
+IsHeard before request (asked.Broken reason) after = ⊥
+IsHeard before request asked.NoMemory after = ⊥
+
+-- ---- what was taken of the stream
+-- Behind a frame the rest is left. Behind what is no frame nothing is said.
+abbrev pub IsLeft : Asked → List ℕ → Option (List ℕ) → Type 0
+IsLeft (asked.Broken reason) behind left = Unit {0}
+IsLeft (asked.Request user request) behind left = left ≡ Some behind
+IsLeft (asked.Bad reason) behind left = left ≡ Some behind
+IsLeft asked.NoMemory behind left = left ≡ Some behind
+
+-- at the end of the stream nothing is asked; else what the piece asks that it begins with
+abbrev pub Asks : Bool → List ℕ → Option Asked → Option (List ℕ) → Type 0
+Asks greeted [] what left = (what ≡ None) × (left ≡ Some [])
+Asks greeted (b ∷ bytes) None left = ⊥
+Asks greeted (b ∷ bytes) (Some what) left = let next = piece_at (b ∷ bytes) in IsRead greeted next.0 what × IsLeft what next.1 left
+
+-- who asks, and as many sessions as before; where the stream has ended, all stays
+abbrev pub Knows : ConnState → Option Asked → ConnState → Type 0
+Knows before None after = after ≡ before
+Knows before (Some what) after = Hears before.user what after.user × (after.opened ≡ before.opened)
+
+-- ---- what is told
+-- whether the reply opens a session
+abbrev pub opens : Told → Bool
+opens (reply.Opened session) = true
+opens _ = false
+
+-- how many sessions were opened, once this was told
+abbrev pub opened_by : ℕ → Told → ℕ
+opened_by n (reply.Opened session) = n + 1
+opened_by n _ = n

@@ -1,0 +1,14 @@
+pub mod FrameParts
+pub mod FrameReading
+pub mod Requests
+pub mod Forms
+pub mod Stream
+pub mod Replies
+pub mod Values
+pub mod Updating
+pub mod Gives
+pub mod Examples
+pub mod Taking
+pub mod Asking
+pub mod Talking
+pub mod TalkLaws

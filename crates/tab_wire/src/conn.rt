@@ -1,0 +1,126 @@
+//! One side of a connection: what is asked next, and what it is told.
+ghost use Rattle.std.specs.Prelude.{◌≡◌, ◌<◌, true, is_some, IfOk, IfSome, OnErr};
+ghost use Rattle.tab_io.specs.Streams.{FailsByFault};
+ghost use Rattle.tab_io.specs.Writing.{Puts};
+ghost use Rattle.tab_wire.specs.Asking.{new_conn, IsRead, IsBy, MayAsk, IsHeard, Hears, Asks, Knows, opens, opened_by};
+ghost use Rattle.tab_wire.specs.Replies.{sent_bytes, sent_of};
+ghost use Rattle.tab_wire.specs.Stream.{Frame};
+ghost use Rattle.tab_wire.specs.Taking.{Costs};
+
+use crate::frame::{FrameBuffer, Taken};
+use crate::read::read_request;
+use crate::reply::write_reply;
+use crate::{Asked, Request, Stop};
+use std::alloc::Global;
+use std::marker::Model;
+use tab_history::Reply;
+use tab_io::{Input, Output, ReadFault, WriteFault};
+use tab_key::Name;
+
+/// Who said Hello on a connection, and how many sessions were opened on it. Their numbers count from 0.
+///
+/// It reads each frame into memory that it uses again for the next one, and keeps no session.
+#[derive(Drop)]
+pub struct Conn {
+    user: Option<Name>,
+    opened: u32,
+    frame: FrameBuffer,
+}
+
+impl Model for Conn {
+    ghost use Rattle.tab_wire.specs.Asking.{ConnState};
+
+    ghost Value = { ConnState };
+
+    ghost view = { λ c. record { user = c.user; opened = c.opened } };
+}
+
+impl Conn {
+    /// A connection on which nothing was said yet. It takes no memory yet.
+    pub fn new(alloc: Global) -> Conn
+        ensures { result ≡ new_conn }
+    {
+        Conn {
+            user: None,
+            opened: 0,
+            frame: FrameBuffer::new(alloc),
+        }
+    }
+
+    /// Reads the next frame. `None`: the input has ended between two frames.
+    ///
+    /// How the input is cut into reads makes no difference. A frame for which memory lacks is read to its end. After an error a
+    /// beginning of a frame may be lost, and nothing more can be asked.
+    pub fn ask<R: Input>(
+        &mut self,
+        alloc: Global,
+        input: &mut R,
+    ) -> Result<Option<Asked>, ReadFault>
+        ensures ahead { IfOk result (λ asked. IfSome (R.remaining input.old) (λ ahead. Asks (is_some self.old.user) ahead asked (R.remaining input.new))) }
+        ensures ok { IfOk result (λ asked. Knows self.old asked self.new) }
+        ensures err { OnErr result (self.new ≡ self.old) }
+        ensures faults { FailsByFault result (R.faults input.old) (R.faults input.new) (R.budget input.new) }
+        ensures costs { IfOk result (λ _. Costs R.Input input.old input.new) }
+    {
+        match self.frame.take(input)? {
+            Taken::End => Ok(None),
+            Taken::Broken(reason) => Ok(Some(Asked::Broken(reason))),
+            Taken::NoMemory => Ok(Some(Asked::NoMemory)),
+            Taken::Frame => Ok(Some(asked(alloc, &mut self.user, self.frame.bytes()))),
+        }
+    }
+
+    /// Writes the frames of the reply. It takes no memory. `count` is how many cells were asked for, where that was a batch.
+    ///
+    /// A session that the reply opens gets the next number. After an error a beginning of the frames may have been written.
+    pub fn answer<W: Output>(
+        &mut self,
+        count: u32,
+        reply: &Reply,
+        output: &mut W,
+    ) -> Result<(), WriteFault>
+        requires { opens reply.now ≡ true → self.old.opened < u32.MAX }
+        ensures bytes { Puts W.Output output.old output.new (sent_bytes (sent_of self.old.opened count reply.now)) result }
+        ensures user { self.new.user ≡ self.old.user }
+        ensures opened { self.new.opened ≡ opened_by self.old.opened reply.now }
+    {
+        let number = self.opened;
+        if let Reply::Opened(_) = reply {
+            self.opened += 1;
+        }
+        write_reply(output, number, count, reply)
+    }
+}
+
+// What the frame asks, and who asks.
+fn asked(alloc: Global, user: &mut Option<Name>, frame: &[u8]) -> Asked
+    ensures read { IsRead (is_some user.old) (Frame frame.now) result }
+    ensures by { Hears user.old result user.new }
+{
+    match read_request(alloc, user.is_some(), frame) {
+        Ok(request) => heard(user, request),
+        Err(Stop::Bad(reason)) => Asked::Bad(reason),
+        Err(Stop::NoMemory) => Asked::NoMemory,
+    }
+}
+
+// Who asks this, which is asked in its turn.
+fn heard(user: &mut Option<Name>, request: Request) -> Asked
+    requires { MayAsk user.old request }
+    ensures { IsHeard user.old request result user.new }
+{
+    let name = asker(*user, &request);
+    *user = Some(name);
+    Asked::Request(name, request)
+}
+
+// The user whom Hello names, or else the one who said it.
+fn asker(user: Option<Name>, request: &Request) -> Name
+    requires { MayAsk user request.now }
+    ensures { IsBy user result request.now }
+{
+    match request {
+        Request::Hello(name) => *name,
+        _ => user.unwrap(),
+    }
+}
