@@ -1,0 +1,13 @@
+use Rattle.std.proofs.Common.{rules, ◌≡◌, ℤ, ◌++◌, subst, w64, to_z, of_z}
+use Rattle.std.proofs.lemmas.Int.{to_z-of_z}
+use Rattle.tab_io.specs.Writing.{HasPutPart}
+use Rattle.tab_io.proofs.Putting.{part_longer}
+use Rattle.tab_image.specs.Spelling.{eight_bytes, signed_bytes}
+use Rattle.tab_image.proofs.writing.put_clock.Goals as goal
+
+pub returns-in_err-put_signed : goal.returns-in_err-put_signed
+returns-in_err-put_signed g c =
+    let same : to_z w64 (of_z w64 c.args.clock) ≡ c.args.clock = to_z-of_z w64 c.args.clock c.ranges.clock in
+    let part : HasPutPart g.W.Output c.args.output.now c.put_signed.new.output (signed_bytes c.args.clock ++ eight_bytes c.args.next) =
+    subst (λ (z : ℤ). HasPutPart g.W.Output c.args.output.now c.put_signed.new.output (signed_bytes z ++ eight_bytes c.args.next)) same (part_longer (eight_bytes c.args.next) c.in_err-put_signed.ensures) in
+    search (rules, part)

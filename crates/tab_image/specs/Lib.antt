@@ -1,0 +1,10 @@
+pub mod Images
+pub mod Conditions
+pub mod Reading
+pub mod Spelling
+pub mod Written
+pub mod Streams
+pub mod Takes
+pub mod Laying
+pub mod Loading
+pub mod Examples

@@ -1,0 +1,67 @@
+//! Images: all that a core holds, as bytes, in the order in which they stand in a file.
+//!
+//! An image begins with six bytes and a version. Then come the clock, the number that the next accepted write gets, the users with their
+//! system permissions and authorizations, and the tables, each with its settings, who may what on it, the rows at which its tablets end,
+//! and its records; and at last a mark of four bytes. Numbers are big-endian. The version is 1; the bytes of any other one are no image.
+//!
+//! `write_image` writes the one image of what it is given, and takes no memory. `read_image` reads exactly the images: what it reads is
+//! held once, and memory is taken for bytes that came alone. Whoever has no `Image` at hand puts the same pieces by the functions of
+//! `writing`.
+//!
+//! | File | What |
+//! |---|---|
+//! | `image`, `user`, `table` | what an image says, as values: contracts see them as definitions have them |
+//! | `records` | records of one table, in one body of bytes |
+//! | `saving` | a whole image, written |
+//! | `writing`, `bits` | its pieces, and sets as bytes of bits |
+//! | `loading` | a whole image, read |
+//! | `reading_users`, `reading_tables`, `record_reading` | its pieces |
+//! | `lists`, `sets`, `fields`, `taking` | lists, sets, byte strings and names, and numbers, read from an input |
+//! | `sanity`, `byte_order` | the conditions on an image, and lists that rise |
+//! | `fault`, `unread` | why bytes are no image, why none was loaded, and why a part wasn't read |
+//! | `laws` | the laws of the definitions, each the contract of a function that does nothing |
+//!
+//! The definitions stand in `specs`, in this order of reading: `Images` (what an image is, as a relation between bytes and what they say,
+//! and what else must hold of it), `Conditions` (the same conditions as tests), `Reading` (the function from bytes to an image, or why they
+//! are none), `Spelling` (the bytes that are written for an image), `Written` (when these are an image), `Examples` (computed). `Streams`,
+//! `Takes`, `Laying` and `Loading` are the words for functions that read from an input.
+//!
+//! In `proofs`, `PartLaw`, `SaneLaw`, `Rising` and `ImageLaw` tie the relation to the function, `SpellingLaw` and `WrittenLaw` to the bytes
+//! that are written. `Streams` composes the clauses of functions that read one part after another; `TextLemmas`, `NumberLemmas`,
+//! `FieldLemmas`, `PartsLemmas`, `RecordLemmas`, `BodyLemmas` and `LoadLemmas` are on these parts, `StillThere` on records in a body that
+//! grows, `SaneLemmas` on the tests of records, `SetLemmas` and `WritingLemmas` on sets and on texts that are put.
+#![tactic(auto)]
+
+mod bits;
+mod byte_order;
+mod fault;
+mod fields;
+mod image;
+mod laws;
+mod lists;
+mod loading;
+mod reading_tables;
+mod reading_users;
+mod record_reading;
+mod records;
+mod sanity;
+mod saving;
+mod sets;
+mod table;
+mod taking;
+mod unread;
+mod user;
+mod writing;
+
+pub use fault::{ImageFault, LoadFault};
+pub use image::Image;
+pub use laws::{images_are_read, one_spelling, versions_are_told, what_fits_is_spelled};
+pub use loading::{VERSION, read_image};
+pub use records::Records;
+pub use saving::write_image;
+pub use table::{ImageRight, ImageTable, TableHead};
+pub use user::ImageUser;
+pub use writing::{
+    put_count, put_end, put_field, put_front, put_head, put_record, put_record_count, put_right,
+    put_settings, put_user,
+};

@@ -1,0 +1,219 @@
+//! The conditions on an image: what else must hold of what was read.
+ghost use Rattle.std.specs.Prelude.{◌≡◌, is_ok};
+ghost use Rattle.std.specs.List.{list_all, list_any};
+ghost use Rattle.tab_key.specs.Order.{record_cmp};
+ghost use Rattle.tab_label.specs.Reading.{label_of};
+ghost use Rattle.tab_policy.specs.Permissions.{all_system};
+ghost use Rattle.tab_policy.specs.Sets.{system_contains};
+ghost use Rattle.tab_history.specs.Checks.{too_many_auths};
+ghost use Rattle.tab_image.specs.Images.{is_root, has_user};
+ghost use Rattle.tab_image.specs.Conditions.{rises, is_sane_user, is_sane_record, has_sane_rights, has_sane_records, is_sane_table, is_sane};
+
+use crate::byte_order::{ByBytes, rise};
+use crate::image::Image;
+use crate::records::Records;
+use crate::table::{ImageRight, ImageTable};
+use crate::user::ImageUser;
+use std::alloc::Global;
+use tab_key::{
+    ByteString, MAX_AUTHORIZATION_LEN, MAX_AUTHORIZATIONS, MAX_UPDATES, Name, RecordRef,
+};
+use tab_label::{AuthSet, judge};
+use tab_policy::{SystemPermission, SystemPermissions, is_root as is_root_name};
+
+impl ByBytes for ImageUser {
+    ghost bytes = { λ u. u.name };
+
+    fn bytes(&self) -> &[u8] {
+        self.name.as_bytes()
+    }
+}
+
+impl ByBytes for ImageRight {
+    ghost bytes = { λ r. r.user };
+
+    fn bytes(&self) -> &[u8] {
+        self.user.as_bytes()
+    }
+}
+
+impl ByBytes for ImageTable {
+    ghost bytes = { λ t. t.head.name };
+
+    fn bytes(&self) -> &[u8] {
+        self.head.name.as_bytes()
+    }
+}
+
+// An end row.
+impl ByBytes for ByteString {
+    ghost bytes = { λ row. row };
+
+    fn bytes(&self) -> &[u8] {
+        self.as_bytes()
+    }
+}
+
+/// Whether all conditions hold of an image.
+pub(crate) fn is_sane(alloc: Global, image: &Image) -> bool
+    ensures { result ≡ is_sane image.now }
+{
+    let users = image.users.as_slice();
+    let tables = image.tables.as_slice();
+    if !rise(users) {
+        return false;
+    }
+    if !has_root(users) {
+        return false;
+    }
+    if !are_sane_users(users) {
+        return false;
+    }
+    if !rise(tables) {
+        return false;
+    }
+    are_sane_tables(alloc, users, image.next, tables)
+}
+
+// Whether this is root, with all system permissions.
+fn is_root(user: &ImageUser) -> bool
+    ensures { result ≡ is_root user.now }
+{
+    is_root_name(&user.name) && has_all(user.system)
+}
+
+// Whether these are all system permissions.
+fn has_all(system: SystemPermissions) -> bool
+    ensures { result ≡ list_all (system_contains system) all_system }
+{
+    SystemPermission::ALL
+        .iter()
+        .all(|permission| system.contains(*permission))
+}
+
+// Whether root is among the users.
+fn has_root(users: &[ImageUser]) -> bool
+    ensures { result ≡ list_any is_root users.now }
+{
+    users.iter().any(|user| is_root(user))
+}
+
+// Whether the authorizations are over the limits.
+fn are_too_many(authorizations: &AuthSet) -> bool
+    ensures { result ≡ too_many_auths authorizations.now }
+{
+    authorizations.len() > MAX_AUTHORIZATIONS || authorizations.has_longer(MAX_AUTHORIZATION_LEN)
+}
+
+// Whether a user's authorizations are within the limits, and he may grant system permissions only where he is root.
+fn is_sane_user(user: &ImageUser) -> bool
+    ensures { result ≡ is_sane_user user.now }
+{
+    if are_too_many(&user.authorizations) {
+        return false;
+    }
+    !user.system.contains(SystemPermission::Grant) || is_root_name(&user.name)
+}
+
+fn are_sane_users(users: &[ImageUser]) -> bool
+    ensures { result ≡ list_all is_sane_user users.now }
+{
+    users.iter().all(|user| is_sane_user(user))
+}
+
+// Whether there is a user of this name.
+fn has_user(users: &[ImageUser], name: &Name) -> bool
+    ensures { result ≡ has_user users.now name.now }
+{
+    users
+        .iter()
+        .any(|user| user.name.as_bytes() == name.as_bytes())
+}
+
+// Whether rights rise by user, and their users are there.
+fn are_sane_rights(users: &[ImageUser], rights: &[ImageRight]) -> bool
+    ensures { result ≡ has_sane_rights users.now rights.now }
+{
+    rise(rights) && are_known(users, rights)
+}
+
+fn are_known(users: &[ImageUser], rights: &[ImageRight]) -> bool
+    ensures { result ≡ list_all (λ r. has_user users.now r.user) rights.now }
+{
+    rights.iter().all(|right| has_user(users, &right.user))
+}
+
+fn are_sane_tables(alloc: Global, users: &[ImageUser], next: u64, tables: &[ImageTable]) -> bool
+    ensures { result ≡ list_all (is_sane_table users.now next) tables.now }
+{
+    let nobody = AuthSet::empty(alloc);
+    tables
+        .iter()
+        .all(|table| is_sane_table(&nobody, users, next, table))
+}
+
+// Whether a table's rights, end rows and records are as they have to be.
+fn is_sane_table(nobody: &AuthSet, users: &[ImageUser], next: u64, table: &ImageTable) -> bool
+    ensures { result ≡ is_sane_table users.now next table.now }
+{
+    if !are_sane_rights(users, table.head.rights.as_slice()) {
+        return false;
+    }
+    if !rise(table.head.ends.as_slice()) {
+        return false;
+    }
+    are_sane_records(nobody, next, &table.records)
+}
+
+fn are_sane_records(nobody: &AuthSet, next: u64, records: &Records) -> bool
+    ensures { result ≡ has_sane_records next records.now }
+{
+    records_rise(records) && is_each_sane(nobody, next, records)
+}
+
+// Whether each record is below the next.
+fn records_rise(records: &Records) -> bool
+    ensures { result ≡ rises record_cmp records.now }
+{
+    for index in 1..records.len() {
+        if !records.get(index - 1).cmp(&records.get(index)).is_lt() {
+            return false;
+        }
+    }
+    true
+}
+
+fn is_each_sane(nobody: &AuthSet, next: u64, records: &Records) -> bool
+    ensures { result ≡ list_all (is_sane_record next) records.now }
+{
+    for index in 0..records.len() {
+        if !is_sane_record(nobody, next, &records.get(index)) {
+            return false;
+        }
+    }
+    true
+}
+
+// Whether a record is of an accepted mutation, and has a label that is one; a marker has no value.
+fn is_sane_record(nobody: &AuthSet, next: u64, record: &RecordRef<'_>) -> bool
+    ensures { result ≡ is_sane_record next record.now }
+{
+    if record.seq() >= next {
+        return false;
+    }
+    if record.idx() as usize >= MAX_UPDATES {
+        return false;
+    }
+    if !record.kind().is_put() && !record.value().is_empty() {
+        return false;
+    }
+    is_label(nobody, record.label())
+}
+
+// Whether the text is a label, whoever may see it.
+#[tactic(auto, using(crate::proofs::SaneLemmas::judges))]
+fn is_label(nobody: &AuthSet, text: &[u8]) -> bool
+    ensures { result ≡ is_ok (label_of text.now) }
+{
+    judge(text, nobody).is_ok()
+}

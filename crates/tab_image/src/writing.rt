@@ -1,0 +1,325 @@
+//! An image, put piece by piece.
+//!
+//! Whoever writes an image puts its front, the count of users and each user, the count of tables and each table, and the mark of the end,
+//! in this order. Of a table these are its name, its settings, the count of its rights and each right, the count of its end rows and each
+//! row, the count of its records and each record. No piece takes memory, so what is written needn't be held in one place.
+//!
+//! Each function fails where the output does, and has put a beginning of its piece then.
+#![tactic(auto, using(tab_io::proofs::Putting::putting, crate::proofs::WritingLemmas::failing))]
+
+ghost use Rattle.std.specs.Prelude.{◌≡◌, [], ◌∷◌, ◌++◌};
+ghost use Rattle.std.specs.List.{flat_map};
+ghost use Rattle.tab_io.specs.Writing.{Puts};
+ghost use Rattle.tab_parts.specs.Parts.{kind_byte, time_byte, system_bits, table_bits, constraint_bits};
+ghost use Rattle.tab_image.specs.Spelling.{one_byte, two_bytes, four_bytes, eight_bytes, signed_bytes, field_bytes, list_bytes, user_bytes, right_bytes, settings_bytes, head_bytes, record_bytes, magic_bytes, front_bytes, end_bytes};
+
+use crate::bits::{constraint_bits, system_bits, table_bits};
+use crate::table::{ImageRight, TableHead};
+use tab_history::{TimeMode, Versions};
+use tab_io::{Output, WriteFault};
+use tab_key::{ByteString, Name, RecordRef};
+use tab_label::AuthSet;
+use tab_policy::{SystemPermissions, TablePermissions};
+use tab_rules::ConstraintSet;
+use tab_text::{PutItem, put_each};
+
+/// Puts the front of an image: six bytes, the version, the clock, and the number that the next accepted write gets.
+#[tactic(auto, using(tab_io::proofs::Putting::putting), unfolding(crate::specs::Spelling::front_bytes))]
+pub fn put_front<W: Output>(output: &mut W, clock: i64, next: u64) -> Result<(), WriteFault>
+    ensures { Puts W.Output output.old output.new (front_bytes clock next) result }
+{
+    put_magic(output)?;
+    put_versioned(output, clock, next)
+}
+
+#[tactic(auto, using(tab_io::proofs::Putting::putting), unfolding(crate::specs::Spelling::magic_bytes))]
+fn put_magic<W: Output>(output: &mut W) -> Result<(), WriteFault>
+    ensures { Puts W.Output output.old output.new magic_bytes result }
+{
+    output.put(b"TABIMG")
+}
+
+fn put_versioned<W: Output>(output: &mut W, clock: i64, next: u64) -> Result<(), WriteFault>
+    ensures { Puts W.Output output.old output.new (two_bytes 1 ++ (signed_bytes clock ++ eight_bytes next)) result }
+{
+    put_two(output, 1)?;
+    put_clock(output, clock, next)
+}
+
+fn put_clock<W: Output>(output: &mut W, clock: i64, next: u64) -> Result<(), WriteFault>
+    ensures { Puts W.Output output.old output.new (signed_bytes clock ++ eight_bytes next) result }
+{
+    put_signed(output, clock)?;
+    put_eight(output, next)
+}
+
+/// Puts the mark of the end of an image.
+#[tactic(auto, using(tab_io::proofs::Putting::putting), unfolding(crate::specs::Spelling::end_bytes))]
+pub fn put_end<W: Output>(output: &mut W) -> Result<(), WriteFault>
+    ensures { Puts W.Output output.old output.new end_bytes result }
+{
+    output.put(b"END!")
+}
+
+/// Puts a count of users, tables, rights or end rows; it has to be below 2^32.
+pub fn put_count<W: Output>(output: &mut W, count: usize) -> Result<(), WriteFault>
+    ensures { Puts W.Output output.old output.new (four_bytes count) result }
+{
+    put_four(output, count as u64)
+}
+
+/// Puts a count of records.
+pub fn put_record_count<W: Output>(output: &mut W, count: usize) -> Result<(), WriteFault>
+    ensures { Puts W.Output output.old output.new (eight_bytes count) result }
+{
+    put_eight(output, count as u64)
+}
+
+/// Puts a byte string, as the name of a table or an end row: its length, which has to be below 2^32, and its bytes.
+#[tactic(auto, using(tab_io::proofs::Putting::putting), unfolding(crate::specs::Spelling::field_bytes))]
+pub fn put_field<W: Output>(output: &mut W, text: &[u8]) -> Result<(), WriteFault>
+    ensures { Puts W.Output output.old output.new (field_bytes text.now) result }
+{
+    put_count(output, text.len())?;
+    output.put(text)
+}
+
+/// Puts a user's permissions on a table.
+#[tactic(auto, using(tab_io::proofs::Putting::putting), unfolding(crate::specs::Spelling::right_bytes))]
+pub fn put_right<W: Output>(
+    output: &mut W,
+    user: &Name,
+    held: TablePermissions,
+) -> Result<(), WriteFault>
+    ensures { Puts W.Output output.old output.new (right_bytes (record { user = user.now; held = held })) result }
+{
+    put_field(output, user.as_bytes())?;
+    put_one(output, table_bits(held))
+}
+
+/// Puts how a table keeps its columns: its time mode, its number of versions, and its constraints.
+#[tactic(auto, using(tab_io::proofs::Putting::putting), unfolding(crate::specs::Spelling::settings_bytes))]
+pub fn put_settings<W: Output>(
+    output: &mut W,
+    time: TimeMode,
+    versions: Versions,
+    constraints: &ConstraintSet,
+) -> Result<(), WriteFault>
+    ensures { Puts W.Output output.old output.new (settings_bytes time versions constraints.now) result }
+{
+    put_one(output, time_byte(time))?;
+    put_shown(output, versions, constraints)
+}
+
+fn put_shown<W: Output>(
+    output: &mut W,
+    versions: Versions,
+    constraints: &ConstraintSet,
+) -> Result<(), WriteFault>
+    ensures { Puts W.Output output.old output.new (four_bytes versions ++ one_byte (constraint_bits constraints.now)) result }
+{
+    put_four(output, u64::from(versions.get()))?;
+    put_one(output, constraint_bits(constraints))
+}
+
+/// Puts a user with his system permissions and his authorizations.
+#[tactic(auto, using(tab_io::proofs::Putting::putting), unfolding(crate::specs::Spelling::user_bytes))]
+pub fn put_user<W: Output>(
+    output: &mut W,
+    name: &Name,
+    system: SystemPermissions,
+    authorizations: &AuthSet,
+) -> Result<(), WriteFault>
+    ensures { Puts W.Output output.old output.new (user_bytes (record { name = name.now; system = system; authorizations = authorizations.now })) result }
+{
+    put_field(output, name.as_bytes())?;
+    put_held(output, system, authorizations)
+}
+
+fn put_held<W: Output>(
+    output: &mut W,
+    system: SystemPermissions,
+    authorizations: &AuthSet,
+) -> Result<(), WriteFault>
+    ensures { Puts W.Output output.old output.new (one_byte (system_bits system) ++ list_bytes field_bytes authorizations.now) result }
+{
+    put_one(output, system_bits(system))?;
+    put_set(output, authorizations)
+}
+
+/// Puts all of a table but its records.
+#[tactic(auto, using(tab_io::proofs::Putting::putting), unfolding(crate::specs::Spelling::head_bytes))]
+pub fn put_head<W: Output>(output: &mut W, head: &TableHead) -> Result<(), WriteFault>
+    ensures { Puts W.Output output.old output.new (head_bytes head.now) result }
+{
+    put_field(output, head.name.as_bytes())?;
+    put_kept(output, head)
+}
+
+fn put_kept<W: Output>(output: &mut W, head: &TableHead) -> Result<(), WriteFault>
+    ensures { Puts W.Output output.old output.new (settings_bytes head.now.time head.now.versions head.now.constraints ++ (list_bytes right_bytes head.now.rights ++ list_bytes field_bytes head.now.ends)) result }
+{
+    put_settings(output, head.time, head.versions, &head.constraints)?;
+    put_lists(output, head)
+}
+
+fn put_lists<W: Output>(output: &mut W, head: &TableHead) -> Result<(), WriteFault>
+    ensures { Puts W.Output output.old output.new (list_bytes right_bytes head.now.rights ++ list_bytes field_bytes head.now.ends) result }
+{
+    put_list(output, head.rights.as_slice(), &Right)?;
+    put_list(output, head.ends.as_slice(), &EndRow)
+}
+
+/// Puts a record. Each of its five byte strings has to be shorter than 2^32.
+#[tactic(auto, using(tab_io::proofs::Putting::putting, crate::proofs::WritingLemmas::failing), unfolding(crate::specs::Spelling::record_bytes))]
+pub fn put_record<W: Output>(output: &mut W, record: &RecordRef<'_>) -> Result<(), WriteFault>
+    ensures { Puts W.Output output.old output.new (record_bytes record.now) result }
+{
+    put_field(output, record.row())?;
+    put_field(output, record.family())?;
+    put_field(output, record.qualifier())?;
+    put_field(output, record.label())?;
+    put_numbers(output, record)
+}
+
+fn put_numbers<W: Output>(output: &mut W, record: &RecordRef<'_>) -> Result<(), WriteFault>
+    ensures { Puts W.Output output.old output.new (signed_bytes record.now.key.timestamp ++ (one_byte (kind_byte record.now.kind) ++ (eight_bytes record.now.seq ++ (four_bytes record.now.idx ++ field_bytes record.now.value)))) result }
+{
+    put_timestamp(output, record)?;
+    put_one(output, record.kind().rank())?;
+    put_place(output, record)
+}
+
+fn put_timestamp<W: Output>(output: &mut W, record: &RecordRef<'_>) -> Result<(), WriteFault>
+    ensures { Puts W.Output output.old output.new (signed_bytes record.now.key.timestamp) result }
+{
+    put_signed(output, record.timestamp())
+}
+
+fn put_place<W: Output>(output: &mut W, record: &RecordRef<'_>) -> Result<(), WriteFault>
+    ensures { Puts W.Output output.old output.new (eight_bytes record.now.seq ++ (four_bytes record.now.idx ++ field_bytes record.now.value)) result }
+{
+    put_eight(output, record.seq())?;
+    put_four(output, u64::from(record.idx()))?;
+    put_field(output, record.value())
+}
+
+// The byte of a time mode.
+fn time_byte(time: TimeMode) -> u8
+    ensures { result ≡ time_byte time }
+{
+    match time {
+        TimeMode::Any => 0,
+        TimeMode::Server => 1,
+    }
+}
+
+// Puts one byte.
+#[tactic(auto, using(tab_io::proofs::Putting::putting), unfolding(crate::specs::Spelling::one_byte))]
+fn put_one<W: Output>(output: &mut W, byte: u8) -> Result<(), WriteFault>
+    ensures { Puts W.Output output.old output.new (one_byte byte) result }
+{
+    output.put(&[byte])
+}
+
+// Puts a number in two bytes.
+#[tactic(auto, using(tab_io::proofs::Putting::putting), unfolding(crate::specs::Spelling::two_bytes))]
+fn put_two<W: Output>(output: &mut W, number: u16) -> Result<(), WriteFault>
+    ensures { Puts W.Output output.old output.new (two_bytes number) result }
+{
+    output.put(&number.to_be_bytes())
+}
+
+// Puts the four lowest bytes of a number.
+#[tactic(auto, using(tab_io::proofs::Putting::putting), unfolding(crate::specs::Spelling::four_bytes))]
+fn put_four<W: Output>(output: &mut W, number: u64) -> Result<(), WriteFault>
+    ensures { Puts W.Output output.old output.new (four_bytes number) result }
+{
+    let bytes = number.to_be_bytes();
+    output.put(&bytes[4..])
+}
+
+// Puts a number in eight bytes.
+#[tactic(auto, using(tab_io::proofs::Putting::putting), unfolding(crate::specs::Spelling::eight_bytes))]
+fn put_eight<W: Output>(output: &mut W, number: u64) -> Result<(), WriteFault>
+    ensures { Puts W.Output output.old output.new (eight_bytes number) result }
+{
+    output.put(&number.to_be_bytes())
+}
+
+// Puts a number with a sign in eight bytes.
+#[tactic(auto, using(tab_io::proofs::Putting::putting), unfolding(crate::specs::Spelling::signed_bytes))]
+fn put_signed<W: Output>(output: &mut W, number: i64) -> Result<(), WriteFault>
+    ensures { Puts W.Output output.old output.new (signed_bytes number) result }
+{
+    let bits = number.cast_unsigned();
+    output.put(&bits.to_be_bytes())
+}
+
+// A user's permissions on a table, as an item of a list.
+struct Right;
+
+impl PutItem<ImageRight> for Right {
+    ghost use Rattle.tab_image.specs.Spelling.{right_bytes};
+
+    ghost text = { λ _ right. right_bytes right };
+
+    fn put_item<W: Output>(&self, output: &mut W, right: &ImageRight) -> Result<(), WriteFault> {
+        put_right(output, &right.user, right.held)
+    }
+}
+
+// A row at which a tablet ends.
+struct EndRow;
+
+impl PutItem<ByteString> for EndRow {
+    ghost use Rattle.tab_image.specs.Spelling.{field_bytes};
+
+    ghost text = { λ _ row. field_bytes row };
+
+    fn put_item<W: Output>(&self, output: &mut W, row: &ByteString) -> Result<(), WriteFault> {
+        put_field(output, row.as_bytes())
+    }
+}
+
+// Puts a list: a count, and its items.
+#[tactic(auto, using(tab_io::proofs::Putting::putting), unfolding(crate::specs::Spelling::list_bytes))]
+pub(crate) fn put_list<T, P: PutItem<T>, W: Output>(
+    output: &mut W,
+    items: &[T],
+    how: &P,
+) -> Result<(), WriteFault>
+    ensures { Puts W.Output output.old output.new (list_bytes (P.text how.now) items.now) result }
+{
+    put_count(output, items.len())?;
+    put_each(output, items, how)
+}
+
+// A byte string of a set.
+struct Field;
+
+impl PutItem<Vec<u8>> for Field {
+    ghost use Rattle.tab_image.specs.Spelling.{field_bytes};
+
+    ghost text = { λ _ bytes. field_bytes bytes.items };
+
+    fn put_item<W: Output>(&self, output: &mut W, bytes: &Vec<u8>) -> Result<(), WriteFault> {
+        put_field(output, bytes)
+    }
+}
+
+// Puts a set: a count, and its members, rising.
+#[tactic(auto, using(tab_io::proofs::Putting::putting), unfolding(crate::specs::Spelling::list_bytes))]
+fn put_set<W: Output>(output: &mut W, set: &AuthSet) -> Result<(), WriteFault>
+    ensures { Puts W.Output output.old output.new (list_bytes field_bytes set.now) result }
+{
+    put_count(output, set.len())?;
+    put_members(output, set)
+}
+
+#[tactic(auto, using(tab_io::proofs::Putting::putting, crate::proofs::WritingLemmas::each_field))]
+fn put_members<W: Output>(output: &mut W, set: &AuthSet) -> Result<(), WriteFault>
+    ensures { Puts W.Output output.old output.new (flat_map field_bytes set.now) result }
+{
+    put_each(output, set.terms(), &Field)
+}
