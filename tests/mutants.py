@@ -143,7 +143,7 @@ def tried(batch, named, kept):
     said = check(batch, named, kept)
     found = {it: refusal(it, said) for it in batch}
     missed = [it for it in batch if not found[it]]
-    if len(batch) == 1 or len(missed) == len(batch):
+    if len(batch) == 1:
         if missed:
             print("\n".join(said.splitlines()[-40:]), flush=True)
         return found
