@@ -7,3 +7,4 @@ pub mod ComparingExamples
 pub use Rattle.tab_store.specs.Stores
 pub use Rattle.tab_store.specs.Chains
 pub use Rattle.tab_mutation.specs.Shape
+pub use Rattle.tab_cells.specs.SessionState

@@ -47,8 +47,8 @@ impl Slots {
         }
     }
 
-    // Whether no session can be opened any more.
-    fn are_full(&self) -> bool
+    /// Whether no session can be opened any more: 65,536 are open, or 4,294,967,295 were opened.
+    pub fn are_full(&self) -> bool
         ensures { result ≡ are_full self.now }
     {
         self.count_open() >= MAX_SESSIONS || self.slots.len() as u64 >= MAX_OPENED
