@@ -1,0 +1,115 @@
+//! A core that answers the requests of one connection.
+ghost use Rattle.std.specs.Prelude.{◌≡◌, true, false};
+ghost use Rattle.tab_history.specs.Answers.{is_open};
+ghost use Rattle.tab_core.specs.Slots.{are_full, ManyFrom};
+ghost use Rattle.tab_serve.specs.CoreAnswers.{CoreAnswers};
+
+use crate::{Moments, Service};
+use std::alloc::Global;
+use tab_core::{Core, Slots, told};
+use tab_history::{Act, Event, Refusal, Reply};
+use tab_key::{Bounds, Items, Name, Part};
+use tab_wire::Request;
+
+// A core, the sessions that it opened for the connection, and where its moments come from.
+#[derive(Drop)]
+pub(crate) struct CoreService<'a, M> {
+    pub(crate) alloc: Global,
+    pub(crate) core: &'a mut Core,
+    pub(crate) moments: &'a mut M,
+    pub(crate) slots: &'a mut Slots,
+}
+
+#[tactic(auto, using(crate::proofs::Counting::serves_room, crate::proofs::Counting::serves_opened))]
+impl<'a, M: Moments> Service for CoreService<'a, M> {
+    ghost use Rattle.std.specs.Prelude.{length};
+    ghost use Rattle.tab_serve.specs.CoreAnswers.{CoreAnswers};
+
+    ghost opened = { λ s. length s.slots.now };
+
+    ghost answers = { λ old user request reply new. CoreAnswers M.gives old user request reply new };
+
+    fn answer(&mut self, user: Name, request: Request) -> Reply {
+        self.does(user, request)
+    }
+}
+
+impl<'a, M: Moments> CoreService<'a, M> {
+    // Does what is asked. Hello says who asks, and changes nothing.
+    fn does(&mut self, user: Name, request: Request) -> Reply
+        ensures { CoreAnswers M.gives self.old user request result self.new }
+    {
+        match request {
+            Request::Hello(_) => Reply::Done,
+            Request::Act(act) => self.act(user, act),
+            Request::Next { slot, count } => self.slots.next(self.alloc, slot, count),
+            Request::Many { slot, ranges } => many(self.alloc, self.slots, slot, ranges),
+            Request::Close { slot } => self.slots.close(slot),
+        }
+    }
+
+    // An event at the next moment.
+    fn act(&mut self, user: Name, act: Act) -> Reply
+        ensures { CoreAnswers M.gives self.old user (Request.Act act) result self.new }
+    {
+        if opens(&act) {
+            self.open(user, act)
+        } else {
+            self.apply(user, act)
+        }
+    }
+
+    // An Open. Past the limit of sessions it takes no moment, and doesn't happen.
+    fn open(&mut self, user: Name, act: Act) -> Reply
+        requires { is_open act ≡ true }
+        ensures { CoreAnswers M.gives self.old user (Request.Act act) result self.new }
+    {
+        if self.slots.are_full() {
+            too_many(act)
+        } else {
+            self.open_next(user, act)
+        }
+    }
+
+    // An Open where one more session can be opened, which is kept under the next number.
+    fn open_next(&mut self, user: Name, act: Act) -> Reply
+        requires opens { is_open act ≡ true }
+        requires room { are_full self.old.slots.now ≡ false }
+        ensures { CoreAnswers M.gives self.old user (Request.Act act) result self.new }
+    {
+        let moment = self.moments.next();
+        let event = Event { user, moment, act };
+        self.slots.open(self.alloc, self.core, event)
+    }
+
+    // An event that opens no session.
+    fn apply(&mut self, user: Name, act: Act) -> Reply
+        requires { is_open act ≡ false }
+        ensures { CoreAnswers M.gives self.old user (Request.Act act) result self.new }
+    {
+        let moment = self.moments.next();
+        let event = Event { user, moment, act };
+        told(self.core.step(self.alloc, event))
+    }
+}
+
+// Whether the act opens a session.
+fn opens(act: &Act) -> bool
+    ensures { result ≡ is_open act.now }
+{
+    matches!(act, Act::Open(_))
+}
+
+// The refusal of an Open past the limit of sessions.
+fn too_many(_act: Act) -> Reply
+    ensures { result ≡ Reply.Refused (Refusal.TooLarge Part.Sessions) }
+{
+    Reply::Refused(Refusal::TooLarge(Part::Sessions))
+}
+
+// What the session in the slot shows in these ranges of rows.
+fn many(alloc: Global, slots: &Slots, slot: u32, ranges: Items<Bounds>) -> Reply
+    ensures { ManyFrom slots.now slot ranges result }
+{
+    slots.many(alloc, slot, ranges.as_slice())
+}
