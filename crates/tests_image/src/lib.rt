@@ -4,13 +4,13 @@
 //!
 //! | File | What is tested |
 //! |---|---|
-//! | `bytes` | the images of the tests |
+//! | `images` | the images of the tests |
 //! | `pieces` | images written piece by piece, and a fault in the middle |
 //! | `reading` | images read and written again: cut at each length, with each byte changed, of other versions, and by a reader that fails |
 #![tactic(auto)]
 
 #[cfg(test)]
-mod bytes;
+mod images;
 #[cfg(test)]
 mod pieces;
 #[cfg(test)]

@@ -1,5 +1,5 @@
 //! Images written piece by piece, and a fault in the middle.
-use crate::bytes::{ONE_PUT, SMALLEST};
+use crate::images::{ONE_PUT, SMALLEST};
 use std::io::ErrorKind;
 use std::process::Abort;
 use tab_history::{TimeMode, Versions};

@@ -1,5 +1,5 @@
 //! Images read, and written again.
-use crate::bytes::{EQUAL_RECORDS, ONE_PUT, SMALLEST, TWO_TABLES, USED_UP};
+use crate::images::{EQUAL_RECORDS, ONE_PUT, SMALLEST, TWO_TABLES, USED_UP};
 use std::alloc::Global;
 use std::io::ErrorKind;
 use std::process::Abort;
