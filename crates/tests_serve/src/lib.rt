@@ -1,0 +1,12 @@
+//! Tests of whole connections over a core, by public calls.
+//!
+//! | File | What is tested |
+//! |---|---|
+//! | `talks` | the frames of some connections, and what they are told |
+//! | `serving` | these served whole, in pieces, cut anywhere, and where reading or writing fails |
+#![tactic(auto)]
+
+#[cfg(test)]
+mod serving;
+#[cfg(test)]
+mod talks;
