@@ -178,7 +178,8 @@ def are_ready(parts, log):
     lines = read(log).splitlines() if log else []
     if not log or lines and re.fullmatch(r"\d+ passed, \d+ failed", lines[-1]):
         return parts
-    return [it for it in parts if f"rt: {it[0].crate} proved" in lines]
+    proved = {found[1] for line in lines if (found := re.match(r"rt: (\w+) (?:proved$|is kept: )", line))}
+    return [it for it in parts if it[0].crate in proved]
 
 
 def main(crates, log):
