@@ -9,7 +9,7 @@
 //! | `key` | a key, lent, and the order of keys |
 //! | `encoding`, `record_span` | how a record lies in a body of bytes: how it is put there, and where its parts are |
 //! | `record`, `record_ref` | a record in a body of its own, and one lent from a body; their order |
-//! | `cell` | what a scan shows of a put |
+//! | `cell`, `cells` | what a scan shows of a put, and a list of such cells |
 //! | `column`, `range` | what a scan asks for |
 //! | `prefix` | the beginning of a row as a number |
 //! | `laws` | the order is total, and sorting gives the one rising list |
@@ -34,6 +34,7 @@
 
 mod byte_string;
 mod cell;
+mod cells;
 mod column;
 mod encoding;
 mod items;
@@ -49,7 +50,8 @@ mod record_span;
 mod spelled;
 
 pub use byte_string::ByteString;
-pub use cell::Cell;
+pub use cell::CellRef;
+pub use cells::Cells;
 pub use column::{Column, is_selected};
 pub use encoding::{append, append_copy, end_of};
 pub use items::Items;

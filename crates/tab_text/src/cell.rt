@@ -4,11 +4,11 @@ ghost use Rattle.tab_text.specs.Lines.{cell_text};
 
 use crate::{Word, put_line};
 use tab_io::{Output, WriteFault};
-use tab_key::Cell;
+use tab_key::CellRef;
 
 /// Puts the line `ROW FAM QUAL LABEL TS VALUE` of a cell.
 #[tactic(auto, unfolding(crate::specs::Lines::cell_text))]
-pub fn put_cell<W: Output>(output: &mut W, cell: &Cell) -> Result<(), WriteFault>
+pub fn put_cell<W: Output>(output: &mut W, cell: &CellRef<'_>) -> Result<(), WriteFault>
     ensures { Puts W.Output output.old output.new (cell_text cell.now) result }
 {
     put_line(

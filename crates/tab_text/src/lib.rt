@@ -10,6 +10,7 @@
 //! | `line` | words parted by one space, and a line feed |
 //! | `items` | many items, one after another |
 //! | `cell` | the line of a cell |
+//! | `cells` | many cells, one after another |
 //! | `escape` | what is read of an escape so far: the steps by which a word is read |
 //! | `laws` | what is written reads back, and reading is exactly the spelling |
 //!
@@ -18,6 +19,7 @@
 #![tactic(auto)]
 
 mod cell;
+mod cells;
 mod escape;
 mod items;
 pub mod laws;
@@ -25,6 +27,7 @@ mod line;
 mod word;
 
 pub use cell::put_cell;
+pub use cells::{PutCell, put_each_cell};
 pub use escape::{Escape, hex_value, step};
 pub use items::{PutItem, put_each};
 pub use line::{Word, put_line};

@@ -1,0 +1,86 @@
+//! Cells in one piece of memory.
+ghost use Rattle.std.specs.Prelude.{◌≡◌, ◌<◌, ◌++◌, ◌∷◌, ◌==◌, [], OnOk, OnErr, length};
+ghost use Rattle.std.specs.List.{slice_index_or};
+ghost use Rattle.tab_key.specs.Records.{cell_of};
+
+use crate::encoding::append_copy;
+use crate::{CellRef, RecordRef};
+use std::alloc::{AllocError, Global};
+use std::marker::Model;
+
+/// A list of cells, such as a batch of a scan. A contract sees their list.
+///
+/// They lie one after another in one body, each as its record does, with 8 bytes for its place: a cell takes no memory of its own.
+#[derive(Drop)]
+pub struct Cells {
+    body: Vec<u8>,
+    // where the cells' records begin
+    places: Vec<usize>,
+}
+
+impl Model for Cells {
+    ghost use Rattle.std.specs.Prelude.{List, map};
+    ghost use Rattle.tab_key.specs.Records.{Cell as Fields, cell_of};
+
+    ghost Value = { List Fields };
+
+    ghost use Rattle.tab_key.specs.Encoding.{records_at, AreAt};
+
+    ghost view = { λ c. map cell_of (records_at c.body.items c.places.items) };
+
+    ghost invariant = { λ c. AreAt c.body.items c.places.items };
+}
+
+impl Cells {
+    /// No cells. It takes no memory.
+    pub fn new(alloc: Global) -> Cells
+        ensures { result ≡ [] }
+    {
+        Cells {
+            body: Vec::new(alloc),
+            places: Vec::new(alloc),
+        }
+    }
+
+    /// How many cells there are.
+    pub fn len(&self) -> usize
+        ensures { result ≡ length self.now }
+    {
+        self.places.len()
+    }
+
+    /// Whether there is no cell.
+    pub fn is_empty(&self) -> bool
+        ensures { result ≡ (length self.now == 0) }
+    {
+        self.places.is_empty()
+    }
+
+    /// The cell at an index, counted from 0.
+    pub fn get(&self, index: usize) -> CellRef<'_>
+        requires { index < length self.now }
+        ensures { result ≡ slice_index_or self.now index result }
+    {
+        CellRef::of(RecordRef::at(self.body.as_slice(), self.places[index]))
+    }
+
+    /// Puts the cell that the record shows at the end, in time that only the record's length counts for. `AllocError` leaves the
+    /// cells as they were.
+    pub fn push(&mut self, shown: &RecordRef<'_>) -> Result<(), AllocError>
+        ensures ok { OnOk result (self.new ≡ self.old ++ cell_of shown.now ∷ []) }
+        ensures err { OnErr result (self.new ≡ self.old) }
+    {
+        self.places.reserve(1)?;
+        let bytes = self.body.len();
+        match append_copy(&mut self.body, shown) {
+            Ok(place) => {
+                self.places.push_reserved(place);
+                Ok(())
+            }
+            Err(fault) => {
+                self.body.truncate(bytes);
+                Err(fault)
+            }
+        }
+    }
+}

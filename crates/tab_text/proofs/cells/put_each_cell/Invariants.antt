@@ -1,0 +1,7 @@
+use Rattle.std.proofs.Common.{take}
+use Rattle.std.specs.List.{flat_map}
+use Rattle.tab_io.specs.Writing.{HasPut}
+use Rattle.tab_text.proofs.cells.put_each_cell.Given as goal
+
+abbrev pub invariant-loop-index : goal.invariant-loop-index
+invariant-loop-index g l = HasPut g.W.Output l.initial.output l.output (flat_map (g.P.PutCell.text l.how) (take l.index l.cells))
