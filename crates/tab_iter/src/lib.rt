@@ -12,7 +12,7 @@
 //! | `first_markers_rule` | the rule of a merge: of each column the first marker |
 //! | `last_column` | the column of the last record that a rule observed, and the one next after it |
 //! | `named_column` | where the columns that a scan names begin in a row |
-//! | `verdict` | verdicts on labels, kept and found again |
+//! | `verdict`, `hints` | verdicts on labels, kept and found again, and where they were found last |
 //! | `layers` | the layers by their names, and the stack of them that a scan reads |
 //! | `merged` | the stack of them that a merge writes |
 //!
@@ -25,6 +25,7 @@ mod deleting_rule;
 mod fetching_rule;
 mod filtered;
 mod first_markers_rule;
+mod hints;
 mod last_column;
 mod layers;
 mod list_source;

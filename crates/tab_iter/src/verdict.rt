@@ -15,11 +15,11 @@ pub(crate) struct Verdict {
     pub(crate) holds: bool,
 }
 
-/// Whether this label holds, if a verdict on it was kept.
-pub(crate) fn find(verdicts: &[Verdict], label: &[u8]) -> Option<bool>
+/// Whether this label holds, if the verdict at a place is on it.
+pub(crate) fn find_at(verdicts: &[Verdict], place: usize, label: &[u8]) -> Option<bool>
     ensures { IfSome result (λ b. (auths : List (List ℕ)) → AreSound auths verdicts.now → b ≡ label_holds label.now auths) }
 {
-    match verdicts.get(count_before(verdicts, label)) {
+    match verdicts.get(place) {
         None => None,
         Some(found) => {
             if found.label.as_slice() == label {
@@ -31,21 +31,26 @@ pub(crate) fn find(verdicts: &[Verdict], label: &[u8]) -> Option<bool>
     }
 }
 
-/// Keeps a verdict, unless there are too many. They stand in the order of their labels' bytes.
-pub(crate) fn keep(verdicts: &mut Vec<Verdict>, label: &[u8], holds: bool) -> Result<(), NoMemory>
+/// Keeps a verdict at this place among them, unless there are too many.
+pub(crate) fn keep_at(
+    verdicts: &mut Vec<Verdict>,
+    place: usize,
+    label: &[u8],
+    holds: bool,
+) -> Result<(), NoMemory>
+    requires { place ≤ length verdicts.old.items }
     ensures { (auths : List (List ℕ)) → holds ≡ label_holds label.now auths → AreSound auths verdicts.old.items → AreSound auths verdicts.new.items }
 {
     if MOST_KEPT <= verdicts.len() {
         return Ok(());
     }
-    let at = count_before(verdicts, label);
     let label = Vec::from_slice(*verdicts.allocator(), label)?;
-    verdicts.insert(at, Verdict { label, holds })?;
+    verdicts.insert(place, Verdict { label, holds })?;
     Ok(())
 }
 
-// How many of the labels stand before this one.
-fn count_before(verdicts: &[Verdict], label: &[u8]) -> usize
+/// How many of the labels stand before this one, found by halves: they are kept in the order of their bytes.
+pub(crate) fn count_before(verdicts: &[Verdict], label: &[u8]) -> usize
     ensures { result ≤ length verdicts.now }
 {
     verdicts.partition_point(|other| other.label.as_slice() < label)

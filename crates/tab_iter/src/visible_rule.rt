@@ -4,8 +4,9 @@ ghost use Rattle.tab_label.specs.Holding.{label_holds};
 ghost use Rattle.tab_iter.specs.Verdicts.{AreSound};
 ghost use Rattle.tab_iter.specs.Propositions.{AreSound-prop};
 
+use crate::hints::Hints;
 use crate::rule::nowhere;
-use crate::verdict::{Verdict, find, keep};
+use crate::verdict::{Verdict, count_before, find_at, keep_at};
 use crate::{NoMemory, Rule};
 use std::alloc::Global;
 use tab_key::{Key, RecordRef};
@@ -13,17 +14,14 @@ use tab_label::{AuthSet, is_visible};
 
 /// Lets the records through whose label holds under a set of authorizations.
 ///
-/// It judges each label once, as long as there are no more than 1,024. Of more labels it remembers those and the last one.
+/// It judges each label once, as long as there are no more than 1,024. Of more labels it remembers those that came first.
 #[derive(Drop)]
 pub struct VisibleRule<'a> {
     auths: &'a AuthSet,
-    // the verdict on the label of the last record observed; without meaning while there is none
-    has_last: bool,
-    last_label: Vec<u8>,
-    last_holds: bool,
-    // the verdicts on all labels observed, once there is a second one
+    // the verdicts on the labels observed, in the order of their bytes
     verdicts: Vec<Verdict>,
-    ghost last_is_sound: { has_last ≡ true → last_holds ≡ label_holds last_label.items auths.now },
+    // where the verdicts were found last
+    hints: Hints,
     ghost verdicts_are_sound: { AreSound auths.now verdicts.items } by { AreSound-prop auths.now verdicts.items },
 }
 
@@ -34,41 +32,26 @@ impl<'a> VisibleRule<'a> {
     {
         VisibleRule {
             auths,
-            has_last: false,
-            last_label: Vec::new(alloc),
-            last_holds: false,
             verdicts: Vec::new(alloc),
+            hints: Hints::new(),
         }
     }
 
-    // Whether a label holds that isn't the last one.
+    // Whether a label holds on which no verdict is where one was found last.
     fn judge(&mut self, label: &[u8]) -> Result<bool, NoMemory>
         ensures same { self.new.auths.now ≡ self.old.auths.now }
         ensures holds { IfOk result (λ b. b ≡ label_holds label.now self.old.auths.now) }
     {
-        if !self.has_last {
-            return Ok(is_visible(label, self.auths));
-        }
-        self.keep_first()?;
-        match find(&self.verdicts, label) {
+        let place = count_before(&self.verdicts, label);
+        self.hints.note(label, place);
+        match find_at(&self.verdicts, place, label) {
             Some(holds) => Ok(holds),
             None => {
                 let holds = is_visible(label, self.auths);
-                keep(&mut self.verdicts, label, holds)?;
+                keep_at(&mut self.verdicts, place, label, holds)?;
                 Ok(holds)
             }
         }
-    }
-
-    // Keeps the verdict on the first label once there is a second one.
-    fn keep_first(&mut self) -> Result<(), NoMemory>
-        requires { self.old.has_last ≡ true }
-        ensures { self.new.auths.now ≡ self.old.auths.now }
-    {
-        if self.verdicts.is_empty() {
-            keep(&mut self.verdicts, &self.last_label, self.last_holds)?;
-        }
-        Ok(())
     }
 }
 
@@ -86,16 +69,10 @@ impl<'a> Rule for VisibleRule<'a> {
 
     fn observe(&mut self, next: &RecordRef<'_>) -> Result<bool, NoMemory> {
         let label = next.label();
-        if self.has_last && self.last_label.as_slice() == label {
-            return Ok(self.last_holds);
+        match find_at(&self.verdicts, self.hints.place_of(label), label) {
+            Some(holds) => Ok(holds),
+            None => self.judge(label),
         }
-        let holds = self.judge(label)?;
-        self.has_last = false;
-        self.last_label.clear();
-        self.last_label.extend_from_slice(label)?;
-        self.last_holds = holds;
-        self.has_last = true;
-        Ok(holds)
     }
 
     // A label says nothing of those that follow.

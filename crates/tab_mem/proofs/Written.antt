@@ -14,7 +14,7 @@ use Rattle.tab_iter.specs.Lists.{latest, HasI64Timestamps}
 use Rattle.tab_mem.specs.Lists.{IsActive, IsRun}
 
 -- ---- timestamps
-timestamps_first : (r : Record) (rs : List Record) → int_le r.key.timestamp latest ≡ true → HasI64Timestamps rs → HasI64Timestamps (r ∷ rs)
+pub timestamps_first : (r : Record) (rs : List Record) → int_le r.key.timestamp latest ≡ true → HasI64Timestamps rs → HasI64Timestamps (r ∷ rs)
 timestamps_first r rs e t u (inl is) = subst (λ v. int_le v.key.timestamp latest ≡ true) is e
 timestamps_first r rs e t u (inr h) = t u h
 
@@ -27,7 +27,7 @@ pub timestamps_none : (seq : ℕ) (row : List ℕ) (clock : ℤ) (us : List Upda
 unfolding records_of
 timestamps_none seq row clock us i le u h = let none : i ≡ 0 = omega (arith, le) in absurd (subst (λ j. IsIn (records_of seq row (reverse (map (timed clock) (take j us)))) u) none h)
 
-timestamps_both : (xs ys : List Record) → HasI64Timestamps xs → HasI64Timestamps ys → HasI64Timestamps (xs ++ ys)
+pub timestamps_both : (xs ys : List Record) → HasI64Timestamps xs → HasI64Timestamps ys → HasI64Timestamps (xs ++ ys)
 timestamps_both xs ys a b u h = go (in_append xs ys u h)
   where
     go : IsIn xs u ⊎ IsIn ys u → int_le u.key.timestamp latest ≡ true

@@ -1,6 +1,6 @@
 -- Lists of records, as an active part and a run hold them.
 use Rattle.std.specs.Prelude.{ℕ, ◌≡◌, List, length, take, drop}
-use Rattle.tab_key.specs.Encoding.{IsShort, AreAt, places_from, end_from}
+use Rattle.tab_key.specs.Encoding.{IsShort, AreAt, records_at, places_from, end_from}
 use Rattle.tab_key.specs.Records.{Record}
 use Rattle.tab_key.specs.Sorted.{IsDistinct, IsIn}
 use Rattle.tab_iter.specs.Lists.{IsRising, HasI64Timestamps}
@@ -17,6 +17,11 @@ HasShortParts rs = (u : Record) → IsIn rs u → IsShort u
 pub record IsFilled (body : List ℕ) (count : ℕ) : Type 0 where
   pub at : AreAt body (places_from body 0 count)
   pub ends : end_from body 0 count ≡ length body
+
+-- each record lies in the body, and has a timestamp of 64 bits
+pub record ArePacked (body places : List ℕ) : Type 0 where
+  pub at : AreAt body places
+  pub timestamps : HasI64Timestamps (records_at body places)
 
 -- what holds of the records of an active part
 pub record IsActive (xs : List Record) : Type 0 where

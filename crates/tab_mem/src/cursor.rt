@@ -9,14 +9,14 @@ ghost use Rattle.tab_mem.specs.Lists.{part};
 mod source;
 
 use crate::Run;
-use crate::packed::Packed;
+use crate::records::Records;
 use tab_key::RecordRef;
 
 /// The records of a run from one index up to another, and a place among them: a source of `tab_iter`. A contract sees all of these
 /// records, and those that are left.
 #[derive(Drop)]
 pub struct RunCursor<'a> {
-    records: &'a Packed,
+    records: &'a Records,
     from: usize,
     at: usize,
     end: usize,

@@ -9,7 +9,7 @@
 //! | `unsorted` | records as they were written, one after another in one body |
 //! | `appending` | the records of an accepted mutation, put behind others |
 //! | `lending` | records that lie one after another, lent |
-//! | `packed` | records in their places in one body |
+//! | `records` | records in their places in one body |
 //! | `item`, `sorting` | what a freeze sorts, and the sort |
 //! | `run` | a frozen run |
 //! | `ordered`, `start`, `searching` | records by their index, where a search in them goes, and the searches |
@@ -22,7 +22,7 @@ mod cursor;
 mod item;
 mod lending;
 mod ordered;
-mod packed;
+mod records;
 mod run;
 mod searching;
 mod sorting;
@@ -32,6 +32,7 @@ mod unsorted;
 pub use active::Active;
 pub use cursor::RunCursor;
 pub use ordered::Ordered;
+pub use records::Records;
 pub use run::Run;
 pub use searching::{first_near, rows_in};
 pub use start::Start;

@@ -5,7 +5,7 @@ ghost use Rattle.tab_key.specs.Ranges.{is_in_range};
 ghost use Rattle.tab_iter.specs.Lists.{IsRising, HasI64Timestamps};
 ghost use Rattle.tab_mem.specs.Lists.{part, HasShortParts};
 
-use crate::packed::Packed;
+use crate::records::Records;
 use crate::searching::rows_in;
 use std::marker::Model;
 use std::ops::Range;
@@ -16,7 +16,7 @@ use tab_key::{Bounds, RecordRef};
 /// Their parts lie in one body, one record after another.
 #[derive(Drop)]
 pub struct Run {
-    pub(crate) records: Packed,
+    pub(crate) records: Records,
 }
 
 impl Model for Run {
@@ -32,6 +32,15 @@ impl Model for Run {
 }
 
 impl Run {
+    /// A run of these records, which lie in it as they lay: none is copied. It takes no memory.
+    pub fn of(records: Records) -> Run
+        requires { IsRising records }
+        ensures { result ≡ records }
+    {
+        let _count = records.len();
+        Run { records }
+    }
+
     /// How many records there are, markers and hidden ones among them.
     pub fn len(&self) -> usize
         ensures len { result ≡ length self.now }
@@ -55,6 +64,12 @@ impl Run {
         ensures { result ≡ slice_index_or self.now index result }
     {
         self.records.get(index)
+    }
+
+    /// How much room to ask for, in bytes, where the records from one index up to another are copied. Only how often memory is taken
+    /// hangs on it.
+    pub fn room(&self, from: usize, end: usize) -> usize {
+        self.records.room(from, end)
     }
 
     /// The indexes of the records of a part whose rows are in bounds: these records stand together. The part goes from one index

@@ -52,7 +52,8 @@ fn count_from<R: Ordered>(records: &R, low: usize, high: usize, start: Start<'_>
     count_between(records, near, high, start)
 }
 
-// The same, found from a place between the two: by steps from there on that double, or by halves before it.
+// The same, found from a place between the two: by steps from there on that double, or by halves before it. At `low` nothing was read
+// yet, so nothing says that the count is near: it is found by halves.
 fn count_near<R: Ordered>(
     records: &R,
     low: usize,
@@ -67,7 +68,7 @@ fn count_near<R: Ordered>(
     ensures { result ≡ max low (min (prefix_len (is_before start.entry) (R.listed records.now)) high) }
 {
     if at == low {
-        return count_from(records, low, high, start);
+        return count_between(records, low, high, start);
     }
     if !records.precedes(at - 1, start) {
         return count_between(records, low, at - 1, start);
@@ -89,7 +90,8 @@ fn first_at<R: Ordered>(records: &R, from: usize, end: usize, start: Start<'_>) 
 }
 
 /// The index of the first record of a part that isn't before the start, or the part's end, found from a place in the part: it takes
-/// time logarithmic in how far the index lies behind that place, or in how much of the part lies before it.
+/// time logarithmic in how far the index lies behind that place, or in how much of the part lies before it. From the part's first
+/// place it takes time logarithmic in the part.
 ///
 /// The part goes from one index up to another, that one excluded.
 pub fn first_near<R: Ordered>(

@@ -3,7 +3,7 @@ ghost use Rattle.std.specs.Prelude.{◌≡◌, IfOk};
 ghost use Rattle.tab_key.specs.Sorted.{IsDistinct, sorted};
 
 use crate::item::Item;
-use crate::packed::Packed;
+use crate::records::Records;
 use crate::unsorted::Unsorted;
 use std::alloc::{AllocError, Global};
 
@@ -18,12 +18,12 @@ fn in_order(alloc: Global, records: &Unsorted) -> Result<Vec<Item<'_>>, AllocErr
 }
 
 /// Copies of the records, one after another in one body that has room for this many bytes.
-fn copied(alloc: Global, items: &[Item<'_>], bytes: usize) -> Result<Packed, AllocError>
+fn copied(alloc: Global, items: &[Item<'_>], bytes: usize) -> Result<Records, AllocError>
     ensures { IfOk result (λ p. p ≡ items.now) }
 {
-    let mut copy = Packed::with_capacity(alloc, items.len(), bytes)?;
+    let mut copy = Records::with_capacity(alloc, items.len(), bytes)?;
     for item in items {
-        copy.push(item.record())?;
+        copy.push_copy(item.record())?;
     }
     Ok(copy)
 }
@@ -31,7 +31,7 @@ fn copied(alloc: Global, items: &[Item<'_>], bytes: usize) -> Result<Packed, All
 /// Copies of the records in their order, one after another in one body of the same size.
 ///
 /// It takes memory for the copies and, until it returns, for 48 bytes a record.
-pub(crate) fn sorted_copy(alloc: Global, records: &Unsorted) -> Result<Packed, AllocError>
+pub(crate) fn sorted_copy(alloc: Global, records: &Unsorted) -> Result<Records, AllocError>
     requires { IsDistinct records.now }
     ensures { IfOk result (λ p. p ≡ sorted records.now) }
 {

@@ -1,0 +1,57 @@
+//! Where verdicts on labels were found last.
+
+/// How many places are remembered.
+const PLACES: usize = 64;
+
+/// For a few bytes of a label, the place at which the verdict on such a label was found last.
+///
+/// A place is a guess: labels that share these bytes share it, and whoever asks sees whether the verdict there is on his label.
+#[derive(Drop)]
+pub(crate) struct Hints {
+    places: [u8; PLACES],
+}
+
+impl Hints {
+    /// The first place for every label.
+    pub(crate) fn new() -> Hints {
+        Hints {
+            places: [0; PLACES],
+        }
+    }
+
+    /// Where to look first for the verdict on the label.
+    pub(crate) fn place_of(&self, label: &[u8]) -> usize {
+        match self.places.get(slot_of(label)) {
+            Some(place) => usize::from(*place),
+            None => 0,
+        }
+    }
+
+    /// Remembers that the verdict on the label is at this place, if it is one of the first 256.
+    pub(crate) fn note(&mut self, label: &[u8], place: usize) {
+        let Ok(place) = u8::try_from(place) else {
+            return;
+        };
+        if let Some(noted) = self.places.get_mut(slot_of(label)) {
+            *noted = place;
+        }
+    }
+}
+
+// Six bits of the label's length and of its first byte, the one in its middle and its last.
+fn slot_of(label: &[u8]) -> usize {
+    let length = label.len();
+    let mixed = (length as u64)
+        ^ byte_at(label, 0) << 16
+        ^ byte_at(label, length / 2) << 32
+        ^ byte_at(label, length.saturating_sub(1)) << 48;
+    (mixed.wrapping_mul(0x9E37_79B9_7F4A_7C15) >> 58) as usize
+}
+
+// The byte at an index, or 0 behind the end.
+fn byte_at(label: &[u8], index: usize) -> u64 {
+    match label.get(index) {
+        Some(byte) => u64::from(*byte),
+        None => 0,
+    }
+}

@@ -1,7 +1,0 @@
-use Rattle.std.proofs.Common.{subst}
-use Rattle.tab_mem.specs.Lists.{HasShortParts}
-use Rattle.tab_mem.proofs.ShortParts.{all_short}
-use Rattle.tab_mem.proofs.packed.Packed.len.Goals as goal
-
-pub returns-clause-short : goal.returns-clause-short
-returns-clause-short c = subst HasShortParts c.self.view_is (all_short c.self.inside.body.items c.self.inside.places.items c.self.invariant)

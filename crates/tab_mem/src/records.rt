@@ -1,0 +1,154 @@
+//! Records in their places in one body of bytes.
+ghost use Rattle.std.specs.Prelude.{◌≡◌, ◌<◌, ◌++◌, ◌∷◌, ◌==◌, [], IfOk, OnOk, OnErr, length};
+ghost use Rattle.std.specs.List.{slice_index_or};
+ghost use Rattle.tab_key.specs.Encoding.{IsShort};
+ghost use Rattle.tab_key.specs.KeyOf.{key_of};
+ghost use Rattle.tab_iter.specs.Lists.{HasI64Timestamps};
+ghost use Rattle.tab_mem.specs.Lists.{HasShortParts};
+
+use crate::{Ordered, Start};
+use std::alloc::{AllocError, Global};
+use std::marker::Model;
+use tab_key::{Key, Kind, RecordRef, append, append_copy};
+
+/// Records, one after another in one body, in the order in which they were put. A record takes there what `tab_key` puts, and 8 bytes
+/// for its place. A contract sees their list.
+#[derive(Drop)]
+pub struct Records {
+    body: Vec<u8>,
+    // where the records' heads begin
+    places: Vec<usize>,
+}
+
+impl Model for Records {
+    ghost use Rattle.std.specs.Prelude.{List};
+    ghost use Rattle.tab_key.specs.Records.{Record as Fields};
+
+    ghost Value = { List Fields };
+
+    ghost use Rattle.tab_key.specs.Encoding.{records_at};
+    ghost use Rattle.tab_mem.specs.Lists.{ArePacked};
+
+    ghost view = { λ p. records_at p.body.items p.places.items };
+
+    ghost invariant = { λ p. ArePacked p.body.items p.places.items };
+}
+
+impl Records {
+    /// No records. It takes no memory.
+    pub fn new(alloc: Global) -> Records
+        ensures { result ≡ [] }
+    {
+        Records {
+            body: Vec::new(alloc),
+            places: Vec::new(alloc),
+        }
+    }
+
+    /// No records, with memory for this many of them in this many bytes.
+    pub(crate) fn with_capacity(
+        alloc: Global,
+        records: usize,
+        bytes: usize,
+    ) -> Result<Records, AllocError>
+        ensures { IfOk result (λ p. p ≡ []) }
+    {
+        Ok(Records {
+            body: Vec::with_capacity(alloc, bytes)?,
+            places: Vec::with_capacity(alloc, records)?,
+        })
+    }
+
+    /// How many records there are.
+    pub fn len(&self) -> usize
+        ensures len { result ≡ length self.now }
+        ensures timestamps { HasI64Timestamps self.now }
+        ensures short { HasShortParts self.now }
+    {
+        self.places.len()
+    }
+
+    /// Whether there is no record.
+    pub fn is_empty(&self) -> bool
+        ensures { result ≡ (length self.now == 0) }
+    {
+        self.places.is_empty()
+    }
+
+    /// How much room to ask for, in bytes, where the records from one index up to another are copied: what they take in the body. Only
+    /// how often memory is taken hangs on it.
+    pub(crate) fn room(&self, from: usize, end: usize) -> usize {
+        self.place_of(end).saturating_sub(self.place_of(from))
+    }
+
+    // Where the record at an index begins; behind the last one the end of the body.
+    fn place_of(&self, index: usize) -> usize {
+        match self.places.get(index) {
+            Some(place) => *place,
+            None => self.body.len(),
+        }
+    }
+
+    /// The record at an index, counted from 0.
+    pub fn get(&self, index: usize) -> RecordRef<'_>
+        requires { index < length self.now }
+        ensures { result ≡ slice_index_or self.now index result }
+    {
+        RecordRef::at(self.body.as_slice(), self.places[index])
+    }
+
+    /// Puts a record at the end. Each of its parts may have at most 1,048,576 bytes. `AllocError` leaves the records as they were.
+    pub fn push(
+        &mut self,
+        key: Key<'_>,
+        kind: Kind,
+        value: &[u8],
+        seq: u64,
+        idx: u32,
+    ) -> Result<(), AllocError>
+        requires { IsShort (record { key = key_of key; kind = kind; value = value.now; seq = seq; idx = idx }) }
+        ensures ok { OnOk result (self.new ≡ self.old ++ record { key = key_of key.entry; kind = kind; value = value.now; seq = seq; idx = idx } ∷ []) }
+        ensures err { OnErr result (self.new ≡ self.old) }
+    {
+        self.places.reserve(1)?;
+        let bytes = self.body.len();
+        match append(&mut self.body, key, kind, value, seq, idx) {
+            Ok(place) => {
+                self.places.push_reserved(place);
+                Ok(())
+            }
+            Err(fault) => {
+                self.body.truncate(bytes);
+                Err(fault)
+            }
+        }
+    }
+
+    /// Puts a copy of the record at the end. `AllocError` leaves the records as they were.
+    pub(crate) fn push_copy(&mut self, source: &RecordRef<'_>) -> Result<(), AllocError>
+        ensures ok { OnOk result (self.new ≡ self.old ++ source.now ∷ []) }
+        ensures err { OnErr result (self.new ≡ self.old) }
+    {
+        self.places.reserve(1)?;
+        let bytes = self.body.len();
+        let _timestamp = source.timestamp();
+        match append_copy(&mut self.body, source) {
+            Ok(place) => {
+                self.places.push_reserved(place);
+                Ok(())
+            }
+            Err(fault) => {
+                self.body.truncate(bytes);
+                Err(fault)
+            }
+        }
+    }
+}
+
+impl Ordered for Records {
+    ghost listed = { λ p. p };
+
+    fn precedes(&self, index: usize, start: Start<'_>) -> bool {
+        start.is_after(&self.get(index))
+    }
+}
