@@ -4,7 +4,7 @@ use Rattle.std.specs.Prelude.{map}
 use Rattle.std.specs.List.{AllByRecursion}
 use Rattle.tab_key.proofs.Bodies.{same_part, no_shorter, all_same, all_pushed, reads_pushed}
 use Rattle.tab_mutation.specs.UpdateSpans.{update_in, IsWithin}
-use Rattle.tab_mutation.specs.Mutations.{Update}
+use Rattle.tab_mutation.specs.Mutations.{Update, IsBare}
 use Rattle.tab_mutation.specs.declared.update_span.UpdateSpan.{UpdateSpan}
 
 same_update : (old new : List ℕ) (p : UpdateSpan) → take (length old) new ≡ old → IsWithin old p → update_in new p ≡ update_in old p
@@ -30,3 +30,13 @@ pushed_within = all_pushed IsWithin update_in same_update update_within
 
 pub pushed_updates : (old new : List ℕ) (ps now : List UpdateSpan) (p : UpdateSpan) (u : Update) → now ≡ ps ++ p ∷ [] → take (length old) new ≡ old → AllByRecursion (IsWithin old) ps → update_in new p ≡ u → map (update_in new) now ≡ map (update_in old) ps ++ u ∷ []
 pushed_updates = reads_pushed IsWithin update_in same_update update_within
+
+-- what holds of each update holds of one more
+pub bare_pushed : (us : List Update) (u : Update) → AllByRecursion IsBare us → IsBare u → AllByRecursion IsBare (us ++ u ∷ [])
+bare_pushed [] u a b = (b, tt)
+bare_pushed (x ∷ us) u a b = (a.0, bare_pushed us u a.1 b)
+
+-- updates in the front lie in a body that grew
+pub all_within : (old new : List ℕ) (ps : List UpdateSpan) → take (length old) new ≡ old → AllByRecursion (IsWithin old) ps → AllByRecursion (IsWithin new) ps
+all_within old new [] front w = tt
+all_within old new (p ∷ ps) front w = (update_within old new p front w.0, all_within old new ps front w.1)

@@ -9,7 +9,8 @@ use Rattle.tab_mutation.specs.declared.mutation.Mutation.TheInside.{Inside}
 abbrev pub mutation_in : Inside → view.Mutation
 mutation_in m = record { row = slice_range m.body.items 0 m.row_end; updates = map (update_in m.body.items) m.spans.items }
 
--- row and updates lie in the body
+-- row and updates lie in the body, and no marker has a value
 pub record IsMutation (m : Inside) : Type 0 where
   pub row : m.row_end ≤ length m.body.items
   pub updates : AllByRecursion (IsWithin m.body.items) m.spans.items
+  pub markers : AllByRecursion view.IsBare (map (update_in m.body.items) m.spans.items)

@@ -1,5 +1,5 @@
 -- Mutations, as contracts see them. (Accumulo user manual: mutations)
-use Rattle.std.specs.Prelude.{ℕ, ℤ, List, [], ◌∷◌, ◌++◌, Option}
+use Rattle.std.specs.Prelude.{ℕ, ℤ, ◌≡◌, List, [], ◌∷◌, ◌++◌, Option}
 use Rattle.tab_key.specs.declared.key.Kind.{Kind}
 use Rattle.tab_key.specs.declared.key.Kind.TheVariants.{Delete, Put}
 
@@ -24,6 +24,10 @@ delete_update family qualifier label timestamp = record { kind = Delete; family 
 pub record Mutation : Type 0 where
   pub row : List ℕ
   pub updates : List Update
+
+-- a delete marker has no value
+abbrev pub IsBare : Update → Type 0
+IsBare u = u.kind ≡ Delete → u.value ≡ []
 
 -- the mutation with one more update at the end
 abbrev pub with_update : Mutation → Update → Mutation

@@ -1,7 +1,7 @@
 //! A row and the updates for it.
 ghost use Rattle.std.specs.Prelude.{◌≡◌, ◌<◌, ◌==◌, [], IfOk, OnOk, OnErr, None, length};
-ghost use Rattle.std.specs.List.{slice_index_or};
-ghost use Rattle.tab_mutation.specs.Mutations.{with_update, put_update, delete_update};
+ghost use Rattle.std.specs.List.{AllByRecursion, slice_index_or};
+ghost use Rattle.tab_mutation.specs.Mutations.{IsBare, with_update, put_update, delete_update};
 ghost use Rattle.tab_mutation.specs.Shape.{first_found, long_name, long_value, shape_error};
 
 use crate::shape_error::is_too_long;
@@ -58,6 +58,7 @@ impl Mutation {
         timestamp: Option<i64>,
         value: &[u8],
     ) -> Result<(), AllocError>
+        requires bare { kind ≡ Kind.Delete → value.now ≡ [] }
         ensures ok { OnOk result (self.new ≡ with_update self.old (record {
           kind = kind;
           family = family.now;
@@ -118,6 +119,13 @@ impl Mutation {
         ensures err { OnErr result (self.new ≡ self.old) }
     {
         self.add(Kind::Delete, family, qualifier, label, timestamp, &[])
+    }
+
+    /// What each mutation keeps: its delete markers have no value. Nothing is done, and it is known afterwards.
+    pub fn keeps(&self)
+        ensures { AllByRecursion IsBare self.now.updates }
+    {
+        let _row_end = self.row_end;
     }
 
     /// The row.

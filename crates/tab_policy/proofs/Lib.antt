@@ -5,3 +5,4 @@ pub mod Readings
 pub mod Changes
 pub mod RightsLemmas
 pub mod LivesLemmas
+pub mod HolderLemmas

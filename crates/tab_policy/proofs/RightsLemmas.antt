@@ -69,6 +69,11 @@ weeds_so living old new h = record {
     go true l p none = none
     go false l p none = refl
 
+-- where nothing stood nothing is left
+pub none_left : {X : Type 0} (b : Bool) {o : Option X} → o ≡ None → cond b o None ≡ None
+none_left true none = none
+none_left false none = refl
+
 -- ---- the rights on all tables
 -- a write through a borrow of a table's rights leaves the same tables
 pub same_tables : {X : Type 0} (n q : List ℕ) (old new : List (List ℕ × X)) (before written : X) → at_name n old ≡ Some before

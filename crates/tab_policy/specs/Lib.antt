@@ -9,3 +9,4 @@ pub mod Granting
 pub mod Roots
 pub mod Accounts
 pub mod Lives
+pub mod Holders

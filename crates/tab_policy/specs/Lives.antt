@@ -11,20 +11,24 @@ abbrev pub is_life : Option ℕ → ℕ → Bool
 is_life None l = false
 is_life (Some m) l = same_life m l
 
--- What holds of the lives by name, of those that are kept as living, of what tables give to lives, and of the next life.
-pub record AreLived (lives : List ℕ → Option ℕ) (living : ℕ → Bool) (gives : List ℕ → ℕ → TablePermission → Bool) (next : ℕ) : Type 0 where
+-- What holds of the lives by name, of the names that are kept of those who are living, of what tables give to lives, and of the next life.
+pub record AreLived (lives : List ℕ → Option ℕ) (names : ℕ → Option (List ℕ)) (gives : List ℕ → ℕ → TablePermission → Bool) (next : ℕ) : Type 0 where
   -- no user is in a life that is still to come
   pub begun : (n : List ℕ) (l : ℕ) → lives n ≡ Some l → l < next
-  -- the life of each user is kept as living
-  pub kept : (n : List ℕ) (l : ℕ) → lives n ≡ Some l → living l ≡ true
-  -- no two users share a life
-  pub apart : (n m : List ℕ) (l : ℕ) → lives n ≡ Some l → lives m ≡ Some l → n ≡ m
+  -- the name of each user is kept under his life
+  pub kept : (n : List ℕ) (l : ℕ) → lives n ≡ Some l → names l ≡ Some n
+  -- and no other name is kept
+  pub held : (n : List ℕ) (l : ℕ) → names l ≡ Some n → lives n ≡ Some l
   -- a life that is still to come holds nothing
   pub bare : (t : List ℕ) (l : ℕ) (p : TablePermission) → next ≤ l → gives t l p ≡ false
 
 -- the life of the user of this name
 abbrev pub life_among : List (List ℕ × Account) → List ℕ → Option ℕ
 life_among users n = account_life (at_name n users)
+
+-- the name of the user who is in the life
+abbrev pub name_among : List (ℕ × List ℕ) → ℕ → Option (List ℕ)
+name_among living l = at_life l living
 
 -- whether the life is among these
 abbrev pub is_among : {X : Type 0} → List (ℕ × X) → ℕ → Bool

@@ -1,5 +1,7 @@
 //! What is kept of a user.
 ghost use Rattle.std.specs.Prelude.{◌≡◌, ◌||◌, ◌+◌, ◌-◌, ℕ, List, [], Some, None, OnOk, OnErr, IfOk, false, is_some, length, bytes_eq, if◌then◌else◌};
+ghost use Rattle.std.specs.Map.{keys_of};
+ghost use Rattle.tab_label.specs.Sets.{IsRising};
 ghost use Rattle.tab_policy.specs.Roots.{root};
 ghost use Rattle.tab_policy.specs.Sets.{system_contains};
 ghost use Rattle.tab_policy.specs.Accounts.{with_auths, with_system};
@@ -83,6 +85,14 @@ pub fn life_among(users: &BTreeMap<NameKey, Account>, name: &Name) -> Option<u64
 {
     let account = users.get(name)?;
     Some(account.life)
+}
+
+// The names of all users, rising.
+pub fn names_of(alloc: Global, users: &BTreeMap<NameKey, Account>) -> Result<Vec<Name>, AllocError>
+    ensures names { IfOk result (λ names. names.items ≡ keys_of users.now.entries) }
+    ensures rising { IsRising (keys_of users.now.entries) }
+{
+    users.keys().map(|key| key.to_name()).collect(alloc)
 }
 
 // Puts the account under the name, and answers the life of the account that stood there. An error leaves the accounts as they were.

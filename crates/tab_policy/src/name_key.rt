@@ -6,6 +6,7 @@ ghost use Rattle.std.specs.Cmp.{partial_equiv_from_equiv, eq_by_cmp_equiv, parti
 ghost use Rattle.std.specs.Cmp.Rules.{comparing};
 ghost use Rattle.std.proofs.Common.{rules};
 ghost use Rattle.std.specs.BTreeMap.Comparable.{le_lt_trans};
+ghost use Rattle.tab_key.specs.Names.{IsName};
 
 use std::alloc::{AllocError, Global};
 use std::cmp::Ordering;
@@ -21,10 +22,13 @@ pub struct NameKey {
 
 impl Model for NameKey {
     ghost use Rattle.std.specs.Prelude.{ℕ, List};
+    ghost use Rattle.tab_key.specs.Names.{IsName};
 
     ghost Value = { List ℕ };
 
     ghost view = { λ k. k.bytes };
+
+    ghost invariant = { λ k. IsName k.bytes };
 }
 
 impl NameKey {
@@ -41,9 +45,17 @@ impl NameKey {
         })
     }
 
+    /// The name itself. It takes no memory.
+    pub fn to_name(&self) -> Name
+        ensures { result ≡ self.now }
+    {
+        Name::new(self.as_bytes()).unwrap()
+    }
+
     // The bytes of the name.
     fn as_bytes(&self) -> &[u8]
-        ensures { result.now ≡ self.now }
+        ensures value { result.now ≡ self.now }
+        ensures valid { IsName self.now }
     {
         self.bytes.as_bytes()
     }

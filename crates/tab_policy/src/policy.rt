@@ -5,11 +5,12 @@ ghost use Rattle.tab_policy.specs.Roots.{root};
 ghost use Rattle.tab_policy.specs.Sets.{system_contains, table_contains};
 
 use crate::account::{
-    Account, life_among, put_account, root_name, set_auths, set_system, take_account,
+    Account, life_among, names_of, put_account, root_name, set_auths, set_system, take_account,
 };
 use crate::action::Action;
 use crate::decision::{Decision, Denial};
 use crate::entries::{put, take_away};
+use crate::holder::Holder;
 use crate::lives::Lives;
 use crate::name_key::NameKey;
 use crate::needs::Needs;
@@ -19,13 +20,13 @@ use crate::sets::{SystemPermissions, TablePermissions};
 use std::alloc::{AllocError, Global};
 use std::collections::BTreeMap;
 use std::marker::Model;
-use tab_key::Name;
+use tab_key::{Items, Name};
 use tab_label::AuthSet;
 
 /// The users with what they hold, and the tables with the rights on them. A contract reads it by the definitions of `State`.
 ///
 /// Each user is in a life of his own, and rights on a table are those of a life. A user who is dropped takes his life with him,
-/// so no call looks at other users or tables than those that it names.
+/// so no change looks at other users or tables than those that it names.
 #[derive(Drop)]
 pub struct Policy {
     alloc: Global,
@@ -41,9 +42,9 @@ impl Model for Policy {
 
     ghost view = { λ p. record { users = p.users.entries; tables = p.tables.entries } };
 
-    ghost use Rattle.tab_policy.specs.Lives.{AreLived, life_among, is_among, gives_among};
+    ghost use Rattle.tab_policy.specs.Lives.{AreLived, life_among, name_among, gives_among};
 
-    ghost invariant = { λ p. AreLived (life_among p.users.entries) (is_among p.lives.living.entries) (gives_among p.tables.entries) p.lives.next };
+    ghost invariant = { λ p. AreLived (life_among p.users.entries) (name_among p.lives.living.entries) (gives_among p.tables.entries) p.lives.next };
 }
 
 impl Policy {
@@ -76,6 +77,7 @@ impl Policy {
 impl Policy {
     ghost use Rattle.tab_policy.specs.State.{readings, user_exists, user_count, auths_of, system_granted, has_system, table_granted, table_exists};
     ghost use Rattle.tab_policy.specs.Granting.{can_hold, is_system_right, is_table_right};
+    ghost use Rattle.tab_policy.specs.Holders.{AreUsers, AreHolders};
 
     /// A policy with the one user `root`, who has all system permissions and no authorizations, and with no table.
     ///
@@ -92,7 +94,8 @@ impl Policy {
     {
         let mut lives = Lives::new(alloc);
         let key = NameKey::new(alloc, &root_name())?;
-        let mut account = Account::new(alloc, lives.begin()?);
+        let kept = NameKey::new(alloc, &root_name())?;
+        let mut account = Account::new(alloc, lives.begin(kept)?);
         account.system = SystemPermissions::all();
         let mut users = BTreeMap::new(alloc);
         put_account(&mut users, key, account)?;
@@ -157,6 +160,36 @@ impl Policy {
         }
     }
 
+    /// The names of all users, rising by unsigned bytes.
+    ///
+    /// # Errors
+    ///
+    /// There was no memory for the list.
+    pub fn users(&self, alloc: Global) -> Result<Items<Name>, AllocError>
+        ensures { IfOk result (AreUsers self.now) }
+    {
+        let names = names_of(alloc, &self.users)?;
+        Ok(Items::from_vec(names))
+    }
+
+    /// All users who have a permission on the table, rising by name, by unsigned bytes; none where there is no such table.
+    ///
+    /// It looks at the rights that are kept of this table and at the users who have them, and at no others.
+    ///
+    /// # Errors
+    ///
+    /// There was no memory for the list.
+    pub fn holders(&self, alloc: Global, table: &Name) -> Result<Items<Holder>, AllocError>
+        ensures { IfOk result (AreHolders self.now table.now) }
+    {
+        let Some(rights) = self.tables.get(table) else {
+            return Ok(Items::new(alloc));
+        };
+        let mut holders = rights.holders(alloc, &self.lives)?;
+        holders.sort_unstable_by(|one, other| one.user.cmp(&other.user));
+        Ok(Items::from_vec(holders))
+    }
+
     /// Sets the authorizations of the user, in place of those that he held. It takes no memory.
     /// Where there is no such user nothing changes.
     pub fn set_auths(&mut self, user: &Name, auths: AuthSet)
@@ -185,6 +218,23 @@ impl Policy {
         put(&mut self.tables, key, rights)
     }
 
+    /// Makes the table, with no permissions on it for anybody. What stood under its name is gone.
+    ///
+    /// # Errors
+    ///
+    /// There was no memory for the table. The policy is then as it was.
+    pub fn put_table(&mut self, table: &Name) -> Result<(), AllocError>
+        ensures ok { OnOk result (readings self.new ≡ record (readings self.old) {
+          rights = λ n p t. if bytes_eq table.now t then false else table_granted self.old n p t;
+          tables = λ t. if bytes_eq table.now t then true else table_exists self.old t;
+        }) }
+        ensures err { OnErr result (self.new ≡ self.old) }
+    {
+        let rights = TableRights::new(self.alloc, None);
+        let name = NameKey::new(self.alloc, table)?;
+        put(&mut self.tables, name, rights)
+    }
+
     /// Takes the table away, with all rights on it. It takes no memory.
     pub fn drop_table(&mut self, table: &Name)
         ensures { readings self.new ≡ record (readings self.old) {
@@ -211,7 +261,8 @@ impl Policy {
         ensures err { OnErr result (self.new ≡ self.old) }
     {
         let key = NameKey::new(self.alloc, user)?;
-        let life = self.lives.begin()?;
+        let kept = NameKey::new(self.alloc, user)?;
+        let life = self.lives.begin(kept)?;
         match put_account(&mut self.users, key, Account::new(self.alloc, life)) {
             Ok(before) => {
                 self.lives.end(before);

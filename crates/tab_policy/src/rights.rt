@@ -1,12 +1,17 @@
 //! What is kept of a table.
-ghost use Rattle.std.specs.Prelude.{◌≡◌, ℕ, List, IfOk, OnOk, OnErr, None, Some, is_some, true, false, bytes_eq, ◌&&◌, if◌then◌else◌};
+ghost use Rattle.std.specs.Prelude.{◌≡◌, ◌++◌, ℕ, List, IfOk, OnOk, OnErr, None, Some, is_some, true, false, bytes_eq, ◌&&◌, if◌then◌else◌};
+ghost use Rattle.std.specs.Option.{option_to_list};
+ghost use Rattle.std.specs.List.{IsDistinct};
+ghost use Rattle.std.specs.Map.{keys_of};
 ghost use Rattle.tab_policy.specs.Entries.{at_name, at_life, same_life};
 ghost use Rattle.tab_policy.specs.Sets.{table_contains};
 ghost use Rattle.tab_policy.specs.Permissions.{same_table};
 ghost use Rattle.tab_policy.specs.State.{some_contains, table_gives};
-ghost use Rattle.tab_policy.specs.Lives.{is_life, is_among, Weeds};
+ghost use Rattle.tab_policy.specs.Lives.{is_life, is_among, name_among, Weeds};
+ghost use Rattle.tab_policy.specs.Holders.{holders_in};
 
 use crate::entries::{put_at, replace_at, take_away_at};
+use crate::holder::Holder;
 use crate::lives::Lives;
 use crate::name_key::NameKey;
 use crate::permission::TablePermission;
@@ -31,12 +36,15 @@ pub struct TableRights {
 }
 
 impl Model for TableRights {
-    ghost use Rattle.std.specs.Prelude.{ℕ, List, ◌∷◌};
+    ghost use Rattle.std.specs.Prelude.{ℕ, List, ◌∷◌, ◌≡◌, None};
     ghost use Rattle.tab_policy.specs.declared.sets.TablePermissions.{TablePermissions};
+    ghost use Rattle.tab_policy.specs.Entries.{at_life};
 
     ghost Value = { List (ℕ × TablePermissions) };
 
     ghost view = { λ r. (r.maker, r.own) ∷ r.others.entries };
+
+    ghost invariant = { λ r. at_life r.maker r.others.entries ≡ None };
 }
 
 impl TableRights {
@@ -104,6 +112,19 @@ impl TableRights {
         }
     }
 
+    // All users who are living and have a permission, in no order that counts.
+    pub fn holders(&self, alloc: Global, lives: &Lives) -> Result<Vec<Holder>, AllocError>
+        ensures all { IfOk result (λ holders. holders.items ≡ holders_in (name_among lives.now.living.entries) self.now) }
+        ensures apart { OnOk result (IsDistinct same_life (keys_of self.now)) }
+    {
+        let mut holders = Vec::new(alloc);
+        add(&mut holders, Holder::new(self.maker, self.own, lives))?;
+        for (life, held) in &self.others {
+            add(&mut holders, Holder::new(*life, *held, lives))?;
+        }
+        Ok(holders)
+    }
+
     // Takes the rights of ended lives away, if there are many rights. Before the next time more come than were left now.
     fn weed(&mut self, lives: &Lives)
         ensures { Weeds (is_among lives.now.living.entries) self.old self.new }
@@ -115,9 +136,20 @@ impl TableRights {
     }
 }
 
-// Takes the rights of ended lives away.
+// Puts him behind the others, if there is one.
+fn add(holders: &mut Vec<Holder>, holder: Option<Holder>) -> Result<(), AllocError>
+    ensures { OnOk result (holders.new.items ≡ holders.old.items ++ option_to_list holder) }
+{
+    if let Some(holder) = holder {
+        holders.push(holder)?;
+    }
+    Ok(())
+}
+
+// Takes the rights of ended lives away, and no others.
 fn weed(others: &mut BTreeMap<u64, TablePermissions>, lives: &Lives)
-    ensures { Weeds (is_among lives.now.living.entries) others.old.entries others.new.entries }
+    ensures weeds { Weeds (is_among lives.now.living.entries) others.old.entries others.new.entries }
+    ensures none { (l : ℕ) → at_life l others.old.entries ≡ None → at_life l others.new.entries ≡ None }
 {
     others.retain(|life, _| lives.is_living(*life));
 }

@@ -1,2 +1,3 @@
 pub mod Digits
 pub mod FirstIndex
+pub mod OneForm

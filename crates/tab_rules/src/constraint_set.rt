@@ -53,6 +53,13 @@ impl ConstraintSet {
         }
     }
 
+    /// What each set keeps: it is in its one form. Nothing is done, and it is known afterwards.
+    pub fn keeps(&self)
+        ensures { constraint_set_of self.now ≡ self.now }
+    {
+        let _flag = self.key_size;
+    }
+
     /// Whether the constraint is a member.
     pub fn contains(&self, constraint: Constraint) -> bool
         ensures { result ≡ is_set self.now constraint }

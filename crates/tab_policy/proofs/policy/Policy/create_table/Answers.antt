@@ -3,7 +3,7 @@ use Rattle.std.specs.Prelude.{OnOk, Option, is_some}
 use Rattle.std.proofs.lemmas.Result.{on_ok_weaker}
 use Rattle.tab_policy.specs.Entries.{at_name}
 use Rattle.tab_policy.specs.State.{user_exists}
-use Rattle.tab_policy.specs.Lives.{is_life, is_among, life_among, gives_among}
+use Rattle.tab_policy.specs.Lives.{is_life, name_among, life_among, gives_among}
 use Rattle.tab_policy.proofs.LivesLemmas.{either_way, rights_changed, table_made, made_for, lives_who_is}
 use Rattle.tab_policy.proofs.Changes.{table_renewed}
 use Rattle.tab_policy.proofs.policy.Policy.create_table.Goals as goal
@@ -11,7 +11,7 @@ use Rattle.tab_policy.proofs.policy.Policy.create_table.Goals as goal
 pub invariant_of-self : goal.invariant_of-self
 invariant_of-self c =
     let life : Option ℕ = life_among c.self.inside.users.entries c.args.creator.now in
-    rights_changed c.self.inside.users.entries (is_among c.self.inside.lives.living.entries) c.self.inside.tables.entries c.put.new.map.entries c.self.inside.lives.next
+    rights_changed c.self.inside.users.entries (name_among c.self.inside.lives.living.entries) c.self.inside.tables.entries c.put.new.map.entries c.self.inside.lives.next
     (λ t l p to_come none. either_way c.put.result c.put.ensures.ok c.put.ensures.err
     (table_made c.self.inside.lives.next life c.self.inside.tables.entries c.put.new.map.entries c.in_ok-key.key c.new-rights.result
     (c.self.invariant.begun c.args.creator.now) (λ m q. c.new-rights.ensures m q ∙ ap (λ o. is_life o m) c.life_among.ensures) t l p to_come none)

@@ -3,21 +3,21 @@ use Rattle.std.proofs.lemmas.Result.{on_ok_weaker}
 use Rattle.tab_policy.specs.Accounts.{with_system}
 use Rattle.tab_policy.specs.Entries.{at_name}
 use Rattle.tab_policy.specs.State.{account_life, table_granted}
-use Rattle.tab_policy.specs.Lives.{is_among, life_among}
+use Rattle.tab_policy.specs.Lives.{name_among, life_among}
 use Rattle.tab_policy.proofs.LivesLemmas.{account_changed, rights_changed, not_begun, changed_for}
 use Rattle.tab_policy.proofs.Changes.{system_given, right_given, right_given_to_none}
 use Rattle.tab_policy.proofs.policy.Policy.grant.Goals as goal
 
 pub invariant_of-self : goal.invariant_of-self
 invariant_of-self c =
-    account_changed c.self.inside.users.entries c.set_system.new.users.entries (is_among c.self.inside.lives.living.entries) c.self.inside.tables.entries c.self.inside.lives.next
+    account_changed c.self.inside.users.entries c.set_system.new.users.entries (name_among c.self.inside.lives.living.entries) c.self.inside.tables.entries c.self.inside.lives.next
     c.args.user.now (with_system c.in-OfSystem.granted true) (λ a. refl) c.set_system.ensures.names c.self.invariant
 
 pub invariant_of-self-in-OfTable : goal.invariant_of-self-in-OfTable
 invariant_of-self-in-OfTable c =
     let known : at_name c.args.user.now c.self.inside.users.entries ≡ Some c.in-Some.account.now = search rules in
     let there : life_among c.self.inside.users.entries c.args.user.now ≡ Some c.in-Some.account.now.life = ap account_life known in
-    rights_changed c.self.inside.users.entries (is_among c.self.inside.lives.living.entries) c.self.inside.tables.entries c.give.new.tables.entries c.self.inside.lives.next
+    rights_changed c.self.inside.users.entries (name_among c.self.inside.lives.living.entries) c.self.inside.tables.entries c.give.new.tables.entries c.self.inside.lives.next
     (λ t l p to_come. c.give.ensures.bare t l p (not_begun c.in-Some.account.now.life c.self.inside.lives.next l (c.self.invariant.begun c.args.user.now c.in-Some.account.now.life there) to_come))
     c.self.invariant
 

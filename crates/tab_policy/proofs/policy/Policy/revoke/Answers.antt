@@ -2,14 +2,14 @@ use Rattle.std.proofs.Common.{◌≡◌, Some, None, true, false, refl, ap, rule
 use Rattle.tab_policy.specs.Accounts.{with_system}
 use Rattle.tab_policy.specs.Entries.{at_name}
 use Rattle.tab_policy.specs.State.{account_life, table_granted}
-use Rattle.tab_policy.specs.Lives.{is_among, life_among}
+use Rattle.tab_policy.specs.Lives.{name_among, life_among}
 use Rattle.tab_policy.proofs.LivesLemmas.{account_changed, changed_for, nothing_taken}
 use Rattle.tab_policy.proofs.Changes.{system_revoked, right_revoked}
 use Rattle.tab_policy.proofs.policy.Policy.revoke.Goals as goal
 
 pub invariant_of-self : goal.invariant_of-self
 invariant_of-self c =
-    account_changed c.self.inside.users.entries c.set_system.new.users.entries (is_among c.self.inside.lives.living.entries) c.self.inside.tables.entries c.self.inside.lives.next
+    account_changed c.self.inside.users.entries c.set_system.new.users.entries (name_among c.self.inside.lives.living.entries) c.self.inside.tables.entries c.self.inside.lives.next
     c.args.user.now (with_system c.in-OfSystem.taken false) (λ a. refl) c.set_system.ensures.names c.self.invariant
 
 pub returns-in-OfSystem : goal.returns-in-OfSystem
