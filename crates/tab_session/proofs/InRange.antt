@@ -94,12 +94,12 @@ abbrev pub below : Bound → List Record → List Cell
 below high us = map cell_of (filter (λ u. is_below high u.key.row) us)
 
 -- the cell of the first record, and what is left
-pub takes_one : (high : Bound) (rest left : List Record) (u : Record) (c : Cell) (before between after all : List Cell) → before ++ below high rest ≡ all → Some u ≡ first_of rest → left ≡ tail rest → is_below high u.key.row ≡ true → c ≡ cell_of u → between ≡ before → after ≡ between ++ c ∷ [] → after ++ below high left ≡ all
-takes_one high [] left u c before between after all h f t b is same more = absurd (let bad : Some u ≡ None = f in cc)
-takes_one high (x ∷ xs) left u c before between after all h f t b is same more =
+pub takes_one : (high : Bound) (rest left : List Record) (u : Record) (before after all : List Cell) → before ++ below high rest ≡ all → Some u ≡ first_of rest → left ≡ tail rest → is_below high u.key.row ≡ true → after ≡ before ++ cell_of u ∷ [] → after ++ below high left ≡ all
+takes_one high [] left u before after all h f t b more = absurd (let bad : Some u ≡ None = f in cc)
+takes_one high (x ∷ xs) left u before after all h f t b more =
     let first : u ≡ x = cc in
     let passes : below high (x ∷ xs) ≡ cell_of x ∷ below high xs = rw (sym (ap (λ (r : Record). is_below high r.key.row) first) ∙ b) refl in
-    (λ i. (more ∙ (λ k. same k ++ (is ∙ ap cell_of first) k ∷ [])) i ++ below high (t i))
+    (λ i. (more ∙ (λ k. before ++ cell_of (first k) ∷ [])) i ++ below high (t i))
     ∙ append_assoc before (cell_of x ∷ []) (below high xs)
     ∙ ap (λ l. before ++ l) (sym passes)
     ∙ h

@@ -12,11 +12,11 @@ one_more zero (x ∷ xs) u e = let first : u ≡ x = cc in ap (λ r. cell_of r �
 one_more (suc i) (x ∷ xs) u e = ap (λ l. cell_of x ∷ l) (one_more i xs u e)
 
 -- the cell of the first record that is left
-pub takes_one : (i : ℕ) (w rest : List Record) (u : Record) (c : Cell) (before between after : List Cell) → before ≡ take i (map cell_of w) → rest ≡ drop i w → Some u ≡ first_of rest → c ≡ cell_of u → between ≡ before → after ≡ between ++ c ∷ [] → after ≡ take (i + 1) (map cell_of w)
-takes_one i w rest u c before between after t r f is same more =
+pub takes_one : (i : ℕ) (w rest : List Record) (u : Record) (before after : List Cell) → before ≡ take i (map cell_of w) → rest ≡ drop i w → Some u ≡ first_of rest → after ≡ before ++ cell_of u ∷ [] → after ≡ take (i + 1) (map cell_of w)
+takes_one i w rest u before after t r f more =
     let next : i + 1 ≡ suc i = omega arith in
     let found : take (suc i) (map cell_of w) ≡ take i (map cell_of w) ++ cell_of u ∷ [] = one_more i w u (f ∙ ap first_of r) in
-    more ∙ (λ k. (same ∙ t) k ++ is k ∷ []) ∙ sym found ∙ ap (λ n. take n (map cell_of w)) (sym next)
+    more ∙ ap (λ cells. cells ++ cell_of u ∷ []) t ∙ sym found ∙ ap (λ n. take n (map cell_of w)) (sym next)
 
 -- where nothing is left, no count takes more
 none_left : (i n : ℕ) (w : List Record) → i ≤ n → None ≡ first_of (drop i w) → take i (map cell_of w) ≡ take n (map cell_of w)

@@ -8,7 +8,7 @@ ghost use Rattle.tab_session.specs.LowEnds.{from_low};
 
 use std::alloc::{AllocError, Global};
 use tab_iter::{NoMemory, Source};
-use tab_key::{Bounds, Cell, Key};
+use tab_key::{Bounds, Cells, Key};
 
 /// The first key that a record of the row can have.
 pub(crate) fn row_start(row: &[u8]) -> Key<'_>
@@ -39,17 +39,16 @@ pub(crate) fn take_rows<S: Source>(
     alloc: Global,
     source: &mut S,
     rows: &Bounds,
-) -> Result<Vec<Cell>, NoMemory>
+) -> Result<Cells, NoMemory>
     requires { S.rest source.old ≡ from_low rows.now.low (S.whole source.old) }
-    ensures { IfOk result (λ v. v.items ≡ cells_within rows.now (map cell_of (S.whole source.old))) }
+    ensures { IfOk result (λ v. v ≡ cells_within rows.now (map cell_of (S.whole source.old))) }
 {
-    let mut cells = Vec::new(alloc);
+    let mut cells = Cells::new(alloc);
     while let Some(record) = source.top() {
         if !rows.high.is_below(record.row()) {
             break;
         }
-        cells.reserve(1)?;
-        cells.push_reserved(Cell::of(alloc, &record)?);
+        cells.push(&record)?;
         source.advance()?;
     }
     Ok(cells)

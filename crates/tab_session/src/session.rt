@@ -8,7 +8,7 @@ use crate::bookmark::Bookmark;
 use crate::snapshot_scan::SnapshotScan;
 use std::alloc::{AllocError, Global};
 use std::marker::Model;
-use tab_key::{Bounds, Cell, Column, Items};
+use tab_key::{Bounds, Cells, Column, Items};
 use tab_label::AuthSet;
 use tab_version::Version;
 
@@ -48,30 +48,26 @@ impl Session {
 
     /// The next `count` cells, fewer only at the end. Where memory lacks, the session is as before.
     ///
-    /// Each batch but the first makes one seek, and reads nothing before the column of its place. Nothing is copied but the cells and
-    /// one key.
-    pub fn next_batch(&mut self, alloc: Global, count: u32) -> Result<Items<Cell>, AllocError>
+    /// Each batch but the first makes one seek, and reads nothing before the column of its place. Nothing is copied but the cells, to
+    /// one piece of memory, and one key.
+    pub fn next_batch(&mut self, alloc: Global, count: u32) -> Result<Cells, AllocError>
         ensures ok { IfOk result (λ cells. cells ≡ batch self.old count) }
         ensures after { OnOk result (self.new ≡ gave (length (batch self.old count)) self.old) }
         ensures err { OnErr result (self.new ≡ self.old) }
     {
         let Some(from) = &self.next else {
-            return Ok(Items::new(alloc));
+            return Ok(Cells::new(alloc));
         };
         let batch = self.scan.read(alloc, from, count)?;
         self.next = batch.next;
-        Ok(Items::from_vec(batch.cells))
+        Ok(batch.cells)
     }
 
     /// The whole answer in each of these ranges of rows, in their order, whatever batches were taken. The session stays as it is.
     ///
     /// A range is read from its low end to the first row above its high one. A range that is none has no cell. The error comes only
     /// from want of memory.
-    pub fn scan_many(
-        &self,
-        alloc: Global,
-        ranges: &[Bounds],
-    ) -> Result<Items<Items<Cell>>, AllocError>
+    pub fn scan_many(&self, alloc: Global, ranges: &[Bounds]) -> Result<Items<Cells>, AllocError>
         ensures { IfOk result (λ cells. cells ≡ in_ranges self.now ranges.now) }
     {
         let mut answers = Vec::new(alloc);

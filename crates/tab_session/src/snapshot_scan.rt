@@ -14,7 +14,7 @@ use crate::taking::take;
 use std::alloc::Global;
 use std::marker::Model;
 use tab_iter::{NoMemory, Source};
-use tab_key::{Bound, Bounds, Cell, Column, Items, Key};
+use tab_key::{Bound, Bounds, Cells, Column, Items, Key};
 use tab_label::AuthSet;
 use tab_version::{Stack, Version};
 
@@ -40,7 +40,7 @@ impl Model for SnapshotScan {
 /// Cells, and where to go on behind them; nowhere once there are no more.
 #[derive(Drop)]
 pub(crate) struct Batch {
-    pub(crate) cells: Vec<Cell>,
+    pub(crate) cells: Cells,
     pub(crate) next: Option<Bookmark>,
 }
 
@@ -64,7 +64,7 @@ impl SnapshotScan {
 
     /// The cells of the next `count` records from the bookmark on, fewer only at the end.
     pub(crate) fn read(&self, alloc: Global, from: &Bookmark, count: u32) -> Result<Batch, NoMemory>
-        ensures cells { IfOk result (λ b. b.cells.items ≡ take count (map cell_of (from_mark from.now self.now))) }
+        ensures cells { IfOk result (λ b. b.cells ≡ take count (map cell_of (from_mark from.now self.now))) }
         ensures next { IfOk result (λ b. ahead_of b.next self.now ≡ drop count (from_mark from.now self.now)) }
     {
         let mut source = self.source(alloc, from)?;
@@ -75,12 +75,11 @@ impl SnapshotScan {
 
     /// The cells of the records with a row in the range. What is read begins at its low end, and ends with the first row above its
     /// high one.
-    pub(crate) fn read_rows(&self, alloc: Global, rows: &Bounds) -> Result<Items<Cell>, NoMemory>
+    pub(crate) fn read_rows(&self, alloc: Global, rows: &Bounds) -> Result<Cells, NoMemory>
         ensures { IfOk result (λ cells. cells ≡ cells_within rows.now (map cell_of self.now)) }
     {
         let mut source = self.source_at(alloc, &rows.low)?;
-        let cells = take_rows(alloc, &mut source, rows)?;
-        Ok(Items::from_vec(cells))
+        take_rows(alloc, &mut source, rows)
     }
 
     // The records from the bookmark on. Nothing before its column is read.

@@ -4,27 +4,22 @@ ghost use Rattle.tab_key.specs.Records.{cell_of};
 
 use std::alloc::Global;
 use tab_iter::{NoMemory, Source};
-use tab_key::Cell;
+use tab_key::Cells;
 
 /// The cells of the first `count` records that the source has left, fewer only at its end. It passes these records.
 ///
 /// Memory is taken as the cells come, whatever the count.
-pub(crate) fn take<S: Source>(
-    alloc: Global,
-    source: &mut S,
-    count: u32,
-) -> Result<Vec<Cell>, NoMemory>
+pub(crate) fn take<S: Source>(alloc: Global, source: &mut S, count: u32) -> Result<Cells, NoMemory>
     ensures whole { S.whole source.new ≡ S.whole source.old }
-    ensures cells { IfOk result (λ v. v.items ≡ take count (map cell_of (S.rest source.old))) }
+    ensures cells { IfOk result (λ v. v ≡ take count (map cell_of (S.rest source.old))) }
     ensures rest { OnOk result (S.rest source.new ≡ drop count (S.rest source.old)) }
 {
-    let mut cells = Vec::new(alloc);
+    let mut cells = Cells::new(alloc);
     for _ in 0..count {
         let Some(record) = source.top() else {
             break;
         };
-        cells.reserve(1)?;
-        cells.push_reserved(Cell::of(alloc, &record)?);
+        cells.push(&record)?;
         source.advance()?;
     }
     Ok(cells)

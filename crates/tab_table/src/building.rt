@@ -16,14 +16,19 @@ struct Gathered {
     places: Vec<usize>,
 }
 
-// Copies of the records that the source has left.
-fn gather<S: Source>(alloc: Global, source: &mut S) -> Result<Gathered, NoMemory>
+// Copies of the records that the source has left, with room from the start for so many in so many bytes.
+fn gather<S: Source>(
+    alloc: Global,
+    source: &mut S,
+    count: usize,
+    bytes: usize,
+) -> Result<Gathered, NoMemory>
     ensures records { IfOk result (λ g. records_at g.body.items g.places.items ≡ S.rest source.old) }
     ensures within { IfOk result (λ g. AreAt g.body.items g.places.items) }
     ensures size { IfOk result (λ g. length g.body.items ≡ encoded_size (records_at g.body.items g.places.items)) }
 {
-    let mut body = Vec::new(alloc);
-    let mut places = Vec::new(alloc);
+    let mut body = Vec::with_capacity(alloc, bytes)?;
+    let mut places = Vec::with_capacity(alloc, count)?;
     while let Some(next) = source.top() {
         let place = append_copy(&mut body, &next)?;
         places.push(place)?;
@@ -42,10 +47,23 @@ impl Table {
     pub fn build<S: Source>(alloc: Global, source: &mut S) -> Result<Table, NoMemory>
         ensures { IfOk result (λ t. records t ≡ S.rest source.old) }
     {
+        Table::build_with_room(alloc, source, 0, 0)
+    }
+
+    /// The same, with room from the start for so many records in so many bytes. Where the source has no more, building takes no more
+    /// memory than the table keeps.
+    pub fn build_with_room<S: Source>(
+        alloc: Global,
+        source: &mut S,
+        count: usize,
+        bytes: usize,
+    ) -> Result<Table, NoMemory>
+        ensures { IfOk result (λ t. records t ≡ S.rest source.old) }
+    {
         let Gathered {
             mut body,
             mut places,
-        } = gather(alloc, source)?;
+        } = gather(alloc, source, count, bytes)?;
         body.shrink_to_fit();
         places.shrink_to_fit();
         match Bytes::from_vec(body) {

@@ -8,6 +8,8 @@ pub mod Compacted
 pub mod Larger
 pub mod Counted
 pub mod Cut
+pub mod Tabled
+pub mod Listings
 pub mod Rows
 pub mod Selected
 pub mod RowCounts

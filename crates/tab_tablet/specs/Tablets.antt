@@ -5,7 +5,7 @@ use Rattle.tab_key.specs.Bytes.{bytes_cmp}
 use Rattle.tab_key.specs.Records.{Record}
 use Rattle.tab_key.specs.Sorted.{sorted}
 use Rattle.tab_cells.specs.declared.compaction.Compaction.{Compaction}
-use Rattle.tab_version.specs.Sources.{Sources, no_sources, records_of, left_by, with_table}
+use Rattle.tab_version.specs.Sources.{Sources, Sorted, no_sources, built, records_of, left_by, with_table}
 use Rattle.tab_compact.specs.Merges.{Merge, output, captured}
 
 -- A tablet: the last row that it may hold, none for the last tablet of a table; what was written since it was last frozen; and its
@@ -41,6 +41,16 @@ run_of (u ∷ us) = sorted (u ∷ us) ∷ []
 -- the active records frozen into a run, which comes last
 abbrev pub frozen : Tablet → Tablet
 frozen t = record t { active = []; sources = record (t.sources) { runs = t.sources.runs ++ run_of t.active } }
+
+-- ---- restoring
+-- these records as one sorted table, if there are any
+abbrev pub table_of : List Record → List Sorted
+table_of [] = []
+table_of (u ∷ us) = built (u ∷ us) ∷ []
+
+-- a tablet that holds these records as one sorted table, or has no source where there are none
+abbrev pub tabled : Option (List ℕ) → List Record → Tablet
+tabled end us = record { end = end; active = []; sources = record { runs = []; tables = table_of us } }
 
 -- ---- compactions
 -- the merge that a compaction of this kind makes of a tablet's sources, if there is anything to merge; it reads the tablet as it is frozen

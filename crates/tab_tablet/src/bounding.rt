@@ -17,8 +17,8 @@ pub(crate) fn rows_below(row: &ByteString) -> Result<Bounds, AllocError>
     })
 }
 
-/// This row and those below it.
-pub(crate) fn rows_up_to(row: &ByteString) -> Result<Bounds, AllocError>
+/// This row and those below it. It takes memory for a copy of the row; `AllocError` says that it lacked.
+pub fn rows_up_to(row: &ByteString) -> Result<Bounds, AllocError>
     ensures { IfOk result (λ b. is_in_range b ≡ (λ r. is_le (bytes_cmp r row.now))) }
 {
     Ok(Bounds {
@@ -27,8 +27,8 @@ pub(crate) fn rows_up_to(row: &ByteString) -> Result<Bounds, AllocError>
     })
 }
 
-/// The rows above this one.
-pub(crate) fn rows_above(row: &ByteString) -> Result<Bounds, AllocError>
+/// The rows above this one. It takes memory for a copy of the row; `AllocError` says that it lacked.
+pub fn rows_above(row: &ByteString) -> Result<Bounds, AllocError>
     ensures { IfOk result (λ b. is_in_range b ≡ (λ r. is_gt (bytes_cmp r row.now))) }
 {
     Ok(Bounds {

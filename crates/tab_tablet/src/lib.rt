@@ -9,6 +9,8 @@
 //! | `tablet` | the tablet: writes, freezes, compactions, splits, and what a scan reads |
 //! | `freezing` | what was written, made a run |
 //! | `clipping` | the sources' records in range |
+//! | `listing` | all that sources hold, to be listed |
+//! | `restoring` | records, made a sorted table |
 //! | `compacting` | the sources after a compaction |
 //! | `sparing` | the sources that a compaction doesn't read |
 //! | `counting` | how many records there are, and the sizes of tables |
@@ -25,11 +27,14 @@ mod clipping;
 mod compacting;
 mod counting;
 mod freezing;
+mod listing;
 mod middle;
 mod probing;
+mod restoring;
 mod row_counting;
 mod selecting;
 mod sparing;
 mod tablet;
 
+pub use bounding::{rows_above, rows_up_to};
 pub use tablet::Tablet;

@@ -4,21 +4,23 @@ ghost use Rattle.std.specs.Ordering.{is_le, is_gt};
 ghost use Rattle.tab_key.specs.Bytes.{bytes_cmp};
 ghost use Rattle.tab_key.specs.Ranges.{is_in_range};
 ghost use Rattle.tab_key.specs.Records.{Record as Fields};
-ghost use Rattle.tab_key.specs.Sorted.{IsDistinct};
+ghost use Rattle.tab_key.specs.Sorted.{sorted, IsDistinct};
 ghost use Rattle.tab_mutation.specs.Shape.{shape_error};
 ghost use Rattle.tab_cells.specs.Written.{mutation_records};
 ghost use Rattle.tab_version.specs.Sources.{clipped, count_of, records_of, size_of};
 ghost use Rattle.tab_compact.specs.Merges.{captured};
 ghost use Rattle.tab_tablet.specs.Spared.{sources_after};
 ghost use Rattle.tab_tablet.specs.Splitting.{cut_to, middle_row, rows_in};
-ghost use Rattle.tab_tablet.specs.Tablets.{new_tablet, records_in, written, frozen, compacted};
+ghost use Rattle.tab_tablet.specs.Tablets.{new_tablet, records_in, written, frozen, compacted, tabled};
 
 use crate::bounding::{rows_above, rows_up_to};
 use crate::clipping::clips_in;
 use crate::compacting::compacted;
 use crate::counting::{count_records, total_size};
 use crate::freezing::add_frozen;
+use crate::listing::version_of;
 use crate::middle::middle_row;
+use crate::restoring::table_of;
 use std::alloc::{AllocError, Global};
 use std::marker::Model;
 use tab_cells::Compaction;
@@ -26,7 +28,7 @@ use tab_iter::NoMemory;
 use tab_key::{Bounds, ByteString};
 use tab_mem::Active;
 use tab_mutation::Mutation;
-use tab_version::Clips;
+use tab_version::{Clip, Clips, Version};
 
 /// The records of a table's rows: what was written since the last freeze, and frozen runs and sorted tables. No two records stand at
 /// one place in the order of records. A contract sees all three as they are.
@@ -58,6 +60,20 @@ impl Tablet {
             active: Active::new(alloc),
             sources: Clips::new(alloc),
         }
+    }
+
+    /// A tablet that holds these records as one sorted table, each copied once; where there are none it has no source.
+    ///
+    /// It takes the memory that the table keeps. NoMemory says that it lacked.
+    pub fn tabled(alloc: Global, records: &Clip) -> Result<Tablet, NoMemory>
+        ensures { IfOk result (λ t. t ≡ tabled None records.now) }
+    {
+        let _count = records.len();
+        let sources = table_of(alloc, records)?;
+        Ok(Tablet {
+            active: Active::new(alloc),
+            sources,
+        })
     }
 
     /// Adds the updates of a mutation, whose shape was accepted: each with this number, its place in the mutation counted from 0,
@@ -167,6 +183,19 @@ impl Tablet {
         ensures { IfOk result (λ c. records_of c ≡ filter (λ u. is_in_range bounds.now u.key.row) (records_in self.now)) }
     {
         clips_in(alloc, &self.sources, bounds)
+    }
+
+    /// All that it holds, as a version, which lists it: what was written since the last freeze as a run, and a share of each source.
+    /// This one stays as it is, and nothing of it is frozen.
+    ///
+    /// It takes memory for that run, which is a copy, and for the shares. `AllocError` says that it lacked.
+    pub fn version(&self, alloc: Global) -> Result<Version, AllocError>
+        ensures held { IfOk result (λ v. v ≡ records_in (frozen self.now)) }
+        ensures listed { IfOk result (λ v. sorted v ≡ sorted (records_in self.now)) }
+    {
+        let mut sources = self.sources.share(alloc)?;
+        add_frozen(alloc, &self.active, &mut sources)?;
+        version_of(alloc, sources)
     }
 
     /// The row in the middle of its records: that at half of their number, rounded down, in their order, or the next lower one where

@@ -1,11 +1,15 @@
 pub mod Orders
 pub mod EndRows
+pub mod Searched
+pub mod EndPrefixes
 pub mod At
 pub mod Installed
 pub mod Whole
 pub mod Rows
 pub mod Kept
 pub mod Ranges
+pub mod Listed
+pub mod Restored
 pub mod Middle
 pub mod Counted
 pub mod Told

@@ -97,16 +97,16 @@ module _ (g : Tablet → List Record) where
 
 -- ---- what is read
 -- the same records in another order are sorted to one list
-sorted_once : (xs ys : List Record) → IsDistinct xs → IsPermutation xs ys → sorted xs ≡ sorted ys
+pub sorted_once : (xs ys : List Record) → IsDistinct xs → IsPermutation xs ys → sorted xs ≡ sorted ys
 sorted_once xs ys d p =
     same_rising (sorted xs) (sorted ys) (rising_sorted xs d) (rising_sorted ys (distinct_permuted xs ys p d))
     (λ u h. sorted_in ys u (in_from ys u (Contains-permutation xs ys u p (in_to xs u (in_sorted xs u h)))))
     (λ u h. sorted_in xs u (in_from xs u (Contains-permutation ys xs u (IsPermutation-sym xs ys p) (in_to ys u (in_sorted ys u h)))))
 
-abbrev in_order : List Tablet → List Record
+abbrev pub in_order : List Tablet → List Record
 in_order ts = flat (map (λ (t : Tablet). sorted (records_in t)) ts)
 
-held_permuted : (ts : List Tablet) → IsPermutation (in_order ts) (records_of_all ts)
+pub held_permuted : (ts : List Tablet) → IsPermutation (in_order ts) (records_of_all ts)
 held_permuted [] = IsPermutation-refl []
 held_permuted (t ∷ ts) = IsPermutation-append (sorted (records_in t)) (records_in t) (in_order ts) (records_of_all ts) (IsPermutation-sym (records_in t) (sorted (records_in t)) (permuted_sorted (records_in t))) (held_permuted ts)
 

@@ -1,6 +1,9 @@
 pub mod ByRow
 pub mod Splits
 pub mod Places
+pub mod EndPrefixes
+pub mod Listing
+pub mod Restored
 pub use Rattle.tab_version.specs.Sources
 pub use Rattle.tab_tablet.specs.Tablets
 pub use Rattle.tab_tablet.specs.Splitting

@@ -6,7 +6,8 @@
 //! | File | What |
 //! |---|---|
 //! | `lower` | a tablet with an end row |
-//! | `sought` | a row that is looked for |
+//! | `prefixes` | the prefixes of end rows |
+//! | `rising` | the search among numbers that rise |
 //! | `line` | tablets in the order of their rows, and the search among them |
 //! | `counting` | how many sources and records lower tablets have |
 //! | `ends` | the end rows of lower tablets |
@@ -15,9 +16,12 @@
 //! | `tablets` | the tablets of a table: writes, end rows and counts |
 //! | `freezing` | tablets that are frozen for an Open |
 //! | `opening` | what a scan reads of them |
+//! | `listing` | all that each of them holds |
 //! | `compacting` | compactions of all of them |
 //! | `splitting` | splits of one of them |
+//! | `restoring` | tablets made of end rows and of records |
 //! | `split` | what became of a split |
+//! | `laws` | what holds of listings, and of tablets that are restored |
 #![tactic(auto)]
 
 mod bounds;
@@ -25,15 +29,21 @@ mod compacting;
 mod counting;
 mod ends;
 mod freezing;
+mod laws;
 mod line;
+mod listing;
 mod lower;
 mod made;
 mod opening;
-mod sought;
+mod prefixes;
+mod restoring;
+mod rising;
 mod split;
 mod splitting;
 mod tablets;
 
+pub use laws::{lists_in_order, lists_on, restored_are_whole, restored_hold_all};
 pub use split::Split;
+pub use tab_mem::Records;
 pub use tab_version::Version;
 pub use tablets::Tablets;

@@ -1,5 +1,5 @@
 //! Tablets in the order of their rows.
-ghost use Rattle.std.specs.Prelude.{◌≡◌, ◌<◌, [], ◌∷◌, None, Some, length, map, min, sum, Contains, IfOk, OnOk, OnErr};
+ghost use Rattle.std.specs.Prelude.{◌≡◌, ◌<◌, [], ◌∷◌, ◌++◌, None, Some, length, map, min, sum, Contains, IfOk, OnOk, OnErr};
 ghost use Rattle.std.specs.List.{AllByRecursion};
 ghost use Rattle.tab_key.specs.Records.{Record as Fields};
 ghost use Rattle.tab_mutation.specs.Shape.{shape_error};
@@ -14,19 +14,23 @@ use crate::counting::{count_records, count_sources};
 use crate::ends::ends_of;
 use crate::lower::Lower;
 use crate::made::Made;
-use crate::sought::Sought;
+use crate::prefixes::{insert_reserved, prefixes_of};
+use crate::rising::{count_below, count_up_to};
 use std::alloc::{AllocError, Global};
 use std::marker::Model;
-use tab_key::ByteString;
+use tab_key::{ByteString, row_prefix};
 use tab_mutation::Mutation;
 use tab_tablet::Tablet;
 
 /// The most end rows that a table may have.
 const MOST_ENDS: usize = 4_294_967_295;
 
-/// The tablets of a table in the order of their rows, each at its place, counted from 0. A contract sees them with their end rows.
+/// The tablets of a table in the order of their rows, each at its place, counted from 0. A contract sees them with their end rows. The
+/// prefixes of these lie side by side, so that a search reads little else.
 #[derive(Drop)]
 pub(crate) struct Line {
+    // of the end rows, in their order
+    prefixes: Vec<u128>,
     lower: Vec<Lower>,
     last: Tablet,
 }
@@ -38,7 +42,11 @@ impl Model for Line {
 
     ghost Value = { List Held };
 
+    ghost use Rattle.tab_tablets.specs.EndPrefixes.{ArePrefixes};
+
     ghost view = { λ l. l.lower.items ++ ended None l.last ∷ [] };
+
+    ghost invariant = { λ l. ArePrefixes l.prefixes.items l.lower.items };
 }
 
 impl Line {
@@ -47,9 +55,24 @@ impl Line {
         ensures { result ≡ new_tablet None ∷ [] }
     {
         Line {
+            prefixes: Vec::new(alloc),
             lower: Vec::new(alloc),
             last: Tablet::new(alloc),
         }
+    }
+
+    /// These tablets, the last one behind the others.
+    ///
+    /// It takes memory for the prefixes of the end rows. `AllocError` says that it lacked.
+    pub(crate) fn of(alloc: Global, lower: Vec<Lower>, last: Tablet) -> Result<Line, AllocError>
+        ensures { IfOk result (λ l. l ≡ lower.items ++ ended None last ∷ []) }
+    {
+        let prefixes = prefixes_of(alloc, &lower)?;
+        Ok(Line {
+            prefixes,
+            lower,
+            last,
+        })
     }
 
     /// How many tablets there are.
@@ -59,13 +82,18 @@ impl Line {
         self.lower.len() + 1
     }
 
-    /// The place of the tablet that holds the row, found by halves.
+    /// The place of the tablet that holds the row. It is found among the prefixes of the end rows; only of end rows that have the row's
+    /// own prefix is any read itself, by halves.
     pub(crate) fn place_of(&self, row: &[u8]) -> usize
         requires { AreWhole self.now }
         ensures { IsPlaceOf row.now self.now result }
     {
-        let sought = Sought::new(row);
-        self.lower.partition_point(|lower| !lower.is_up_to(&sought))
+        let prefix = row_prefix(row);
+        let prefixes = self.prefixes.as_slice();
+        let from = count_below(prefixes, prefix);
+        let end = count_up_to(prefixes, from, prefix);
+        let alike = &self.lower[from..end];
+        from + alike.partition_point(|lower| !lower.is_up_to(row))
     }
 
     /// The tablet at a place.
@@ -145,8 +173,11 @@ impl Line {
         ensures ok { OnOk result (self.new ≡ at_place place (λ t. ended (Some row) lower ∷ ended t.end upper ∷ []) self.old) }
         ensures err { OnErr result (self.new ≡ self.old) }
     {
+        let prefix = row_prefix(row.as_bytes());
         let lower = Lower::new(alloc, row, lower)?;
+        self.prefixes.reserve(1)?;
         self.lower.insert(place, lower)?;
+        insert_reserved(&mut self.prefixes, place, prefix);
         self.put(place + 1, upper);
         Ok(())
     }

@@ -6,19 +6,16 @@ ghost use Rattle.tab_cells.specs.Written.{mutation_records};
 ghost use Rattle.tab_tablet.specs.Tablets.{is_up_to, records_in, written};
 ghost use Rattle.tab_tablets.specs.Places.{ended, is_end_row};
 
-use crate::sought::Sought;
 use std::alloc::{AllocError, Global};
 use std::marker::Model;
-use tab_key::{ByteString, row_prefix};
+use tab_key::ByteString;
 use tab_mutation::Mutation;
 use tab_tablet::Tablet;
 
 /// A tablet that isn't the last of its table, with the last row that it may hold. A contract sees the tablet with its end row. The
-/// tablet lies apart and the end row's prefix beside it, so that a search among end rows reads little else.
+/// tablet lies apart, so that few bytes are moved where another one is put among many.
 #[derive(Drop)]
 pub(crate) struct Lower {
-    // of the end row
-    prefix: u128,
     end: ByteString,
     tablet: Box<Tablet>,
 }
@@ -29,11 +26,7 @@ impl Model for Lower {
 
     ghost Value = { Held };
 
-    ghost use Rattle.tab_key.specs.RowPrefix.{IsRowPrefix};
-
     ghost view = { λ l. record (l.tablet.value) { end = Some l.end } };
-
-    ghost invariant = { λ l. IsRowPrefix l.prefix l.end };
 }
 
 impl Lower {
@@ -44,12 +37,7 @@ impl Lower {
         ensures { IfOk result (λ l. l ≡ ended (Some end) tablet) }
     {
         let tablet = Box::new(alloc, tablet)?;
-        let prefix = row_prefix(end.as_bytes());
-        Ok(Lower {
-            prefix,
-            end,
-            tablet,
-        })
+        Ok(Lower { end, tablet })
     }
 
     /// The last row that it may hold.
@@ -60,10 +48,10 @@ impl Lower {
     }
 
     /// Whether the row is at or before the end row.
-    pub(crate) fn is_up_to(&self, row: &Sought<'_>) -> bool
+    pub(crate) fn is_up_to(&self, row: &[u8]) -> bool
         ensures { result ≡ is_up_to self.now.end row.now }
     {
-        row.cmp(self.prefix, self.end.as_bytes()).is_le()
+        row.cmp(self.end.as_bytes()).is_le()
     }
 
     /// Whether the row is the end row.

@@ -139,6 +139,11 @@ impl Part<Run> {
     {
         RunCursor::over(&self.whole, self.from, self.end)
     }
+
+    // How much room to ask for, in bytes, where the records are copied.
+    pub(crate) fn room(&self) -> usize {
+        self.whole.room(self.from, self.end)
+    }
 }
 
 impl Part<Table> {

@@ -9,11 +9,11 @@ ghost use Rattle.tab_table.specs.Tables.{records};
 ghost use Rattle.tab_version.specs.InTurn.{reaches};
 ghost use Rattle.tab_version.specs.Sources.{built};
 
-use crate::Part;
-use std::alloc::AllocError;
+use crate::{Clip, Part};
+use std::alloc::{AllocError, Global};
 use std::marker::Model;
 use std::sync::Arc;
-use tab_iter::Source;
+use tab_iter::{NoMemory, Source};
 use tab_key::{Bounds, Key};
 use tab_table::{Cursor, Table};
 
@@ -42,6 +42,18 @@ impl TableClip {
             part: Part::whole(table),
             size,
         }
+    }
+
+    /// A new table of the records of a run's clip, each copied once. The clip stays as it is.
+    ///
+    /// It takes the memory that the table keeps. NoMemory says that it lacked.
+    pub fn of_run(alloc: Global, run: &Clip) -> Result<TableClip, NoMemory>
+        ensures { IfOk result (λ c. c ≡ built run.now) }
+    {
+        let mut records = run.cursor();
+        let table = Table::build_with_room(alloc, &mut records, run.len(), run.room())?;
+        let shared = Arc::new(alloc, table)?;
+        Ok(TableClip::whole(shared))
     }
 
     /// The records of this clip whose rows are in bounds; the size stays the whole table's. It shares the table and copies no record;

@@ -9,7 +9,7 @@ use Rattle.tab_session.proofs.taking.take.Goals.{else-loop-test, then-loop-test+
 pub loop-preserved : goal.loop-preserved
 loop-preserved g c = record {
   whole = c.in_ok-advance.ensures.whole ∙ c.loop.invariant.whole;
-  cells = takes_one c.loop.counter (g.S.Source.rest c.args.source.now) _ _ _ _ _ _ c.loop.invariant.cells c.loop.invariant.rest c.in-Some.ensures c.in_ok-of.ensures c.in_ok-reserve.ensures.items c.push_reserved.ensures.items;
+  cells = takes_one c.loop.counter (g.S.Source.rest c.args.source.now) _ _ _ _ c.loop.invariant.cells c.loop.invariant.rest c.in-Some.ensures c.in_ok-push.ensures.ok;
   rest = c.in_ok-advance.ensures.rest ∙ ap tail c.loop.invariant.rest ∙ sym (tail_drop c.loop.counter (g.S.Source.rest c.args.source.now));
 }
 

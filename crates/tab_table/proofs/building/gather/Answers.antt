@@ -1,5 +1,5 @@
 -- One record more was copied.
-use Rattle.std.proofs.Common.{◌≡◌, ◌++◌, ◌∷◌, [], sym, ap, subst}
+use Rattle.std.proofs.Common.{◌≡◌, ◌++◌, ◌∷◌, [], sym, ap, subst, rules}
 use Rattle.tab_key.specs.Encoding.{records_at, AreAt}
 use Rattle.tab_key.proofs.Placed.{pushed_at, pushed_records}
 use Rattle.tab_table.proofs.Grown.{nothing_sized, more_bytes, copied_one}
@@ -7,11 +7,14 @@ use Rattle.tab_table.proofs.building.gather.Goals as goal
 
 pub loop-next-init : goal.loop-next-init
 loop-next-init g c =
-    let body = c.new-body.result.items in
+    let body = c.in_ok-body.body.items in
+    let places = c.in_ok-places.places.items in
+    let no_bytes : body ≡ [] = search rules in
+    let no_places : places ≡ [] = search rules in
     record {
-      copied = ap (λ ps. records_at body ps ++ g.S.Source.rest c.args.source.now) c.new-places.ensures.items;
-      within = subst (AreAt body) (sym c.new-places.ensures.items) tt;
-      size = nothing_sized body c.new-places.result.items c.new-body.ensures.items c.new-places.ensures.items;
+      copied = ap (λ ps. records_at body ps ++ g.S.Source.rest c.args.source.now) no_places;
+      within = subst (AreAt body) (sym no_places) tt;
+      size = nothing_sized body places no_bytes no_places;
     }
 
 pub loop-next-preserved : goal.loop-next-preserved

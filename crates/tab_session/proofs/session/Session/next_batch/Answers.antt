@@ -4,7 +4,7 @@ use Rattle.tab_session.proofs.Batches.{gives, gave_them}
 use Rattle.tab_session.proofs.session.Session.next_batch.Goals as goal
 
 pub returns-clause-ok : goal.returns-clause-ok
-returns-clause-ok c = rw (← c.self.view_is, c.in-Some.is) (c.from_vec.ensures ∙ gives (Some c.in-Some.from) c.self.inside.scan c.args.count _ c.in_ok-batch.ensures.cells)
+returns-clause-ok c = rw (← c.self.view_is, c.in-Some.is) (gives (Some c.in-Some.from) c.self.inside.scan c.args.count _ c.in_ok-batch.ensures.cells)
 
 pub returns-clause-after : goal.returns-clause-after
 returns-clause-after c = rw (← c.self.view_is, c.in-Some.is) (gave_them (Some c.in-Some.from) _ c.self.inside.scan c.args.count c.in_ok-batch.ensures.next)

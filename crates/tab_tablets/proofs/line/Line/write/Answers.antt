@@ -1,12 +1,18 @@
 use Rattle.std.proofs.Common.{◌≡◌, ◌∙◌, ◌<◌, ◌≤◌, List, [], ◌∷◌, ◌++◌, None, length, set, sym, ap, subst, rules, to_z, of_z, w64}
-use Rattle.std.specs.Prelude.{Contains}
+use Rattle.std.specs.Prelude.{Contains, Result, Ok, Err, OnOk, OnErr}
 use Rattle.std.proofs.lemmas.Result.{on_ok_weaker}
 use Rattle.tab_key.specs.Records.{Record}
 use Rattle.tab_cells.specs.Written.{mutation_records}
 use Rattle.tab_tablet.specs.Tablets.{Tablet, records_in, written}
 use Rattle.tab_tablets.specs.Places.{ended, tablet_at, at_place}
 use Rattle.tab_tablets.proofs.At.{one, at_lower, at_last, lower_is, last_is}
+use Rattle.tab_tablets.proofs.EndPrefixes.{prefixes_put}
 use Rattle.tab_tablets.proofs.line.Line.write.Goals as goal
+
+-- the end row stays, whether it was written or not
+either_end : {A E : Type 0} (r : Result A E) (old new : Tablet) (us : List Record) → OnOk r (new ≡ written us old) → OnErr r (new ≡ old) → new.end ≡ old.end
+either_end (Ok x) old new us ok err = ap (λ (t : Tablet). t.end) ok
+either_end (Err e) old new us ok err = ap (λ (t : Tablet). t.end) err
 
 pub write-requires-clause-unused : goal.write-requires-clause-unused
 write-requires-clause-unused c =
@@ -51,3 +57,7 @@ returns-clause-ok c =
     ∙ at_last (written us) lower last c.args.place ge lt
     ∙ ap (at_place c.args.place (one (written us))) c.self.view_is)
     c.write-2.ensures.ok
+
+pub invariant_of-self : goal.invariant_of-self
+invariant_of-self c = prefixes_put c.self.inside.prefixes.items c.self.inside.lower.items c.args.place c.index_mut.result.now c.write.new.self c.index_mut.ensures.value
+    (either_end c.write.result c.index_mut.result.now c.write.new.self _ c.write.ensures.ok c.write.ensures.err) c.self.invariant

@@ -1,0 +1,8 @@
+use Rattle.std.proofs.Common.{arith}
+use Rattle.tab_tablets.proofs.Searched.{below_within}
+use Rattle.tab_tablets.proofs.rising.count_below.Goals as goal
+
+pub loop-left-init : goal.loop-left-init
+loop-left-init c =
+    let within = below_within c.args.bound c.args.numbers.now in
+    record { inside = omega arith; below = omega arith; within = omega (arith, within) }

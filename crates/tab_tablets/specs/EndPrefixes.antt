@@ -1,0 +1,21 @@
+-- The prefixes of the end rows of tablets, and how far among rising numbers those go that are below another one.
+use Rattle.std.specs.Prelude.{ℕ, List, [], ◌∷◌, Option, Some, None, nat_lt}
+use Rattle.std.specs.List.{prefix_len}
+use Rattle.tab_key.specs.RowPrefix.{IsRowPrefix}
+use Rattle.tab_tablet.specs.Tablets.{Tablet}
+
+-- the number is the prefix of this end row
+abbrev pub IsEndPrefix : ℕ → Option (List ℕ) → Type 0
+IsEndPrefix prefix None = ⊥
+IsEndPrefix prefix (Some end) = IsRowPrefix prefix end
+
+-- the numbers are the prefixes of the end rows of these tablets, in their order
+abbrev pub ArePrefixes : List ℕ → List Tablet → Type 0
+ArePrefixes [] [] = Unit {0}
+ArePrefixes [] (t ∷ ts) = ⊥
+ArePrefixes (p ∷ ps) [] = ⊥
+ArePrefixes (p ∷ ps) (t ∷ ts) = IsEndPrefix p t.end × ArePrefixes ps ts
+
+-- how many of the first numbers are below the bound
+abbrev pub count_below : ℕ → List ℕ → ℕ
+count_below bound ns = prefix_len (λ n. nat_lt n bound) ns
