@@ -1,5 +1,7 @@
 pub mod Acting
 pub mod Admitting
+pub mod Markers
+pub mod Bounded
 pub mod Compacting
 pub mod Limits
 pub mod Opening

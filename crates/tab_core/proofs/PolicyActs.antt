@@ -200,3 +200,12 @@ pub right_taken : (h : Held) (p : State) (now : ℤ) (user n : List ℕ) (x : Pe
     → Acts (own_answer (base_of h) now user (act.Revoke n x)) h now user (act.Revoke n x) Done (record h { policy = p })
 unfolding has_user
 right_taken h p now user n x core passes read = ruled h p now user (act.Revoke n x) core refl (ap (λ o. told o Done) passes) (read ∙ taken_reads h n x) (taken_ruling h n x)
+
+-- ---- saves and loads, which change nothing
+pub saved : (h : Held) (now : ℤ) (user : List ℕ) → IsCore h → Acts (own_answer (base_of h) now user act.Save) h now user act.Save Done h
+unfolding readings next_number has_user user_count held_auths has_system_right has_table_right table_count settings_of
+saved h now user core = ruled h h.policy now user act.Save core refl refl refl (record { numbers = refl; tables = refl; settings = λ t. refl })
+
+pub loaded : (h : Held) (now : ℤ) (user : List ℕ) → IsCore h → Acts (own_answer (base_of h) now user act.Load) h now user act.Load Done h
+unfolding readings next_number has_user user_count held_auths has_system_right has_table_right table_count settings_of
+loaded h now user core = ruled h h.policy now user act.Load core refl refl refl (record { numbers = refl; tables = refl; settings = λ t. refl })

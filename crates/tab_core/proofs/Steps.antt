@@ -26,8 +26,11 @@ use Rattle.tab_store.specs.Stores.{Held, base_of, IsNewStore}
 use Rattle.tab_store.specs.Stepping.{LaysExactly, now_at, plain_answer, entry_of}
 use Rattle.tab_store.specs.Rightness.{LeavesExactly}
 use Rattle.tab_store.proofs.ChainLaws.{new_stores_are_stores}
-use Rattle.tab_store.proofs.Right.{steps_are_right, stores_stay}
+use Rattle.tab_store.proofs.Right.{steps_are_right}
+use Rattle.tab_store.proofs.Staying.{stores_stay}
 use Rattle.tab_core.specs.Stepping.{HandsOut, Steps, changes_told, moves_clock, Acts, IsCore}
+use Rattle.tab_core.specs.Bounded.{WritesBare}
+use Rattle.tab_core.proofs.Bounded.{limits_stay, new_is_bounded}
 
 -- ---- a new core
 pub new_is_core : (h : Held) → IsNewStore h → ((t : List ℕ) → table_exists h.policy t ≡ false) → IsCore h
@@ -35,6 +38,7 @@ unfolding settings_of
 new_is_core h new unknown = record {
   store = new_stores_are_stores h new;
   knows = λ t. unknown t ∙ sym (ap (λ (ts : List BaseTable). is_some (base_settings (find (λ (u : BaseTable). bytes_eq u.name t) ts))) new.tables);
+  limits = new_is_bounded h new;
 }
 
 -- ---- the clock
@@ -107,7 +111,7 @@ no_entry v w h e r is s = no_trace v w h e (subst (λ x. Refines v (world_after 
 abbrev pub set : Event → Told → Held → Held → Held
 set e r old new = record new { clock = cond (moves_clock r) (int_max old.clock e.moment) old.clock }
 
-module _ (old new : Held) (e : Event) (reply : Reply SessionState) (core : IsCore old) (acts : Acts (plain_answer old e) old (now_at old e) e.user e.act reply new) where
+module _ (old new : Held) (e : Event) (reply : Reply SessionState) (core : IsCore old) (acts : Acts (plain_answer old e) old (now_at old e) e.user e.act reply new) (bare : WritesBare e.act) where
   abbrev after : Held
   after = set e (told_of reply) old new
 
@@ -141,7 +145,7 @@ module _ (old new : Held) (e : Event) (reply : Reply SessionState) (core : IsCor
   -- it is a core still
   pub stays : IsCore after
   unfolding settings_of
-  stays = record { store = stores_stay old after e (told_of reply) core.store leaves; knows = acts.knows }
+  stays = record { store = stores_stay old after e (told_of reply) core.store leaves; knows = acts.knows; limits = limits_stay old after e (told_of reply) core.store bare core.limits leaves right }
 
   from : (w : World) (h : List Entry) → Refines (world_of (base_of old)) (world_after w h) → GoesOnFrom w h (base_of old) (entry_of e (told_of reply)) (base_of after)
   from w h s = goes_on w h (base_of old) (entry_of e (told_of reply)) (base_of after) s right
@@ -168,15 +172,15 @@ pub record StepsWell (old : Held) (e : Event) (reply : Reply SessionState) (new 
 abbrev pub ActsAt : Held → Event → ℤ → Reply SessionState → Held → Type 0
 ActsAt old e now reply new = Acts (event_answer (base_of old) [] now e.user e.act) old now e.user e.act reply new
 
-well : (old new : Held) (e : Event) (reply : Reply SessionState) (now t : ℤ) → IsCore old → now ≡ int_max old.clock e.moment → t ≡ now → ActsAt old e t reply new → StepsWell old e reply (set e (told_of reply) old new)
-well old new e reply now t core is trip acts =
+well : (old new : Held) (e : Event) (reply : Reply SessionState) (now t : ℤ) → IsCore old → WritesBare e.act → now ≡ int_max old.clock e.moment → t ≡ now → ActsAt old e t reply new → StepsWell old e reply (set e (told_of reply) old new)
+well old new e reply now t core bare is trip acts =
     let h : Acts (plain_answer old e) old (now_at old e) e.user e.act reply new = subst (λ c. ActsAt old e c reply new) (trip ∙ is) acts in
-    record { core = stays old new e reply core h; steps = steps old new e reply core h; exact = laid old new e reply core h }
+    record { core = stays old new e reply core h bare; steps = steps old new e reply core h bare; exact = laid old new e reply core h bare }
 
-pub moved : (old new : Held) (e : Event) (reply : Reply SessionState) (now t : ℤ) → IsCore old → now ≡ int_max old.clock e.moment → t ≡ now → ActsAt old e t reply new → moves_clock (told_of reply) ≡ true → StepsWell old e reply (record new { clock = t })
-moved old new e reply now t core is trip acts moves =
-    subst (λ (c : ℤ). StepsWell old e reply (record new { clock = c })) (ap (λ v. cond v (int_max old.clock e.moment) old.clock) moves ∙ sym is ∙ sym trip) (well old new e reply now t core is trip acts)
+pub moved : (old new : Held) (e : Event) (reply : Reply SessionState) (now t : ℤ) → IsCore old → WritesBare e.act → now ≡ int_max old.clock e.moment → t ≡ now → ActsAt old e t reply new → moves_clock (told_of reply) ≡ true → StepsWell old e reply (record new { clock = t })
+moved old new e reply now t core bare is trip acts moves =
+    subst (λ (c : ℤ). StepsWell old e reply (record new { clock = c })) (ap (λ v. cond v (int_max old.clock e.moment) old.clock) moves ∙ sym is ∙ sym trip) (well old new e reply now t core bare is trip acts)
 
-pub stayed : (old new : Held) (e : Event) (reply : Reply SessionState) (now t : ℤ) → IsCore old → now ≡ int_max old.clock e.moment → t ≡ now → ActsAt old e t reply new → moves_clock (told_of reply) ≡ false → StepsWell old e reply new
-stayed old new e reply now t core is trip acts moves =
-    subst (λ (c : ℤ). StepsWell old e reply (record new { clock = c })) (ap (λ v. cond v (int_max old.clock e.moment) old.clock) moves ∙ sym acts.becomes.clock) (well old new e reply now t core is trip acts)
+pub stayed : (old new : Held) (e : Event) (reply : Reply SessionState) (now t : ℤ) → IsCore old → WritesBare e.act → now ≡ int_max old.clock e.moment → t ≡ now → ActsAt old e t reply new → moves_clock (told_of reply) ≡ false → StepsWell old e reply new
+stayed old new e reply now t core bare is trip acts moves =
+    subst (λ (c : ℤ). StepsWell old e reply (record new { clock = c })) (ap (λ v. cond v (int_max old.clock e.moment) old.clock) moves ∙ sym acts.becomes.clock) (well old new e reply now t core bare is trip acts)

@@ -1,10 +1,15 @@
 pub mod Owners
 pub mod Holding
+pub mod Bounded
 pub mod Slots
 pub mod Stepping
 pub mod Comparing
 pub mod ComparingExamples
 pub use Rattle.tab_store.specs.Stores
+pub use Rattle.tab_store.specs.Tables
+pub use Rattle.tab_store.specs.Keeping
+pub use Rattle.tab_store.specs.Limits
+pub use Rattle.tab_store.specs.Rightness
 pub use Rattle.tab_store.specs.Chains
 pub use Rattle.tab_mutation.specs.Shape
 pub use Rattle.tab_cells.specs.SessionState

@@ -32,6 +32,7 @@ pub use Rattle.tab_store.specs.Stepping.{LaysExactly, StepsExactly, now_at, plai
 use Rattle.tab_store.specs.Rightness.{IsStore}
 use Rattle.tab_core.specs.declared.store.Store.{Store}
 use Rattle.tab_core.specs.Holding.{held}
+use Rattle.tab_core.specs.Bounded.{IsBounded}
 
 -- a session that is handed out shows these cells, and none of them was given
 abbrev pub HandsOut : Reply SessionState → List Cell → Type 0
@@ -82,10 +83,11 @@ Becomes old j new = ReadsAlike (world_of new) (record (world_of old) { changes =
 abbrev pub KnowsTables : Held → Type 0
 KnowsTables h = (t : List ℕ) → table_exists h.policy t ≡ is_some (settings_of (base_of h) [] t)
 
--- what a core keeps: it is a store, and its policy knows its tables
+-- what a core keeps: it is a store, its policy knows its tables, and it is within its limits
 pub record IsCore (h : Held) : Type 0 where
   pub store : IsStore h
   pub knows : KnowsTables h
+  pub limits : IsBounded h
 
 -- What an act of this user at this clock does, whose answer is this one by what histories see; the core's own clock is set afterwards.
 pub record Acts (answer : Told) (old : Held) (now : ℤ) (user : List ℕ) (act : Act) (reply : Reply SessionState) (new : Held) : Type 0 where

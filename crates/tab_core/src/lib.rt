@@ -9,20 +9,22 @@
 //! | `state` | the core, and its step |
 //! | `store` | what a core holds, and what an event does to it: the policy decides once, then the act is done |
 //! | `policing` | what the policy is asked, and the refusal of whom it doesn't admit |
-//! | `acts`, `users`, `granting`, `writes`, `scans`, `tablets`, `splits` | what each act does |
+//! | `acts`, `users`, `granting`, `writes`, `scans`, `tablets`, `splits`, `images` | what each act does |
 //! | `checking` | the checks that are an event's own, and those of a request for ranges |
 //! | `reply` | replies without what they hand out |
 //! | `slots`, `running` | the sessions of one user in a run, and runs of steps |
 //! | `comparing` | two runs compared by what one user is told in them |
 //!
-//! Of the definitions in `specs`, `Stepping` says what a step does, `Holding` what a store holds, `Slots` and `Owners` what a run keeps,
-//! and `Comparing` what two runs tell; `ComparingExamples` computes it for a small history.
+//! Of the definitions in `specs`, `Stepping` says what a step does, `Holding` what a store holds, `Bounded` which limits a core keeps to
+//! beside those of its tables, `Slots` and `Owners` what a run keeps, and `Comparing` what two runs tell; `ComparingExamples` computes it
+//! for a small history.
 #![tactic(auto)]
 
 mod acts;
 mod checking;
 mod comparing;
 mod granting;
+mod images;
 mod policing;
 mod reply;
 mod running;

@@ -29,6 +29,8 @@ pub fn action_of(act: &Act) -> Action<'_>
         Act::AddSplit(table, _) => Action::OnTable(TableAction::AddSplit, table),
         Act::SplitBySize(table, _, _) => Action::OnTable(TableAction::SplitBySize, table),
         Act::Splits(table) => Action::OnTable(TableAction::Splits, table),
+        Act::Save => Action::OnServer(ServerAction::Save),
+        Act::Load => Action::OnServer(ServerAction::Load),
     }
 }
 

@@ -7,14 +7,15 @@ ghost use Rattle.tab_history.specs.Histories.{world_of};
 ghost use Rattle.tab_history.specs.Refinement.{Refines};
 ghost use Rattle.tab_store.specs.Stores.{base_of, IsNewStore};
 ghost use Rattle.tab_store.specs.Stepping.{LaysExactly, now_at, plain_answer};
-ghost use Rattle.tab_core.specs.Stepping.{Steps};
+ghost use Rattle.tab_core.specs.Bounded.{WritesBare};
+ghost use Rattle.tab_core.specs.Stepping.{Steps, IsCore};
 
 use crate::Session;
 use crate::reply::moves_clock;
 use crate::store::Store;
 use std::alloc::{AllocError, Global};
 use std::marker::Model;
-use tab_history::{Event, Reply};
+use tab_history::{Act, Event, Reply};
 use tab_policy::Policy;
 use tab_store::Tables;
 
@@ -52,6 +53,56 @@ impl Core {
         })
     }
 
+    /// A core that holds this, as an image of it has it. It takes no memory.
+    pub fn restored(clock: i64, next: u64, policy: Policy, tables: Tables) -> Core
+        requires { IsCore (record { clock = clock; next = next; policy = policy; tables = tables }) }
+        ensures { result ≡ record { clock = clock; next = next; policy = policy; tables = tables } }
+    {
+        Core {
+            store: Store {
+                clock,
+                next,
+                policy,
+                tables,
+            },
+        }
+    }
+
+    /// The greatest moment of all events so far.
+    pub fn clock(&self) -> i64
+        ensures { result ≡ self.now.clock }
+    {
+        self.store.clock
+    }
+
+    /// The number that the next accepted write gets.
+    pub fn next(&self) -> u64
+        ensures { result ≡ self.now.next }
+    {
+        self.store.next
+    }
+
+    /// Users and rights.
+    pub fn policy(&self) -> &Policy
+        ensures { result.now ≡ self.now.policy }
+    {
+        &self.store.policy
+    }
+
+    /// The tables.
+    pub fn tables(&self) -> &Tables
+        ensures { result.now ≡ self.now.tables }
+    {
+        &self.store.tables
+    }
+
+    /// What each core keeps: nothing is done, and it is known afterwards.
+    pub fn keeps(&self)
+        ensures { IsCore self.now }
+    {
+        let _clock = self.store.clock;
+    }
+
     /// Applies one event, and answers it.
     ///
     /// The first failing check gives the refusal: the caller is unknown; a table that is named doesn't exist; a permission
@@ -64,12 +115,23 @@ impl Core {
         ensures exact { LaysExactly self.old (now_at self.old event) event.act (plain_answer self.old event) (told_of result) self.new }
     {
         let Event { user, moment, act } = event;
+        keep_markers(&act);
         let now = later(self.store.clock, moment);
         let reply = self.store.answer(alloc, now, user, act);
         if moves_clock(&reply) {
             self.store.clock = now;
         }
         reply
+    }
+}
+
+// No marker of a mutation has a value: nothing is done, and it is known afterwards.
+fn keep_markers(act: &Act)
+    ensures { WritesBare act.now }
+{
+    match act {
+        Act::Write(_, mutation) => mutation.keeps(),
+        _ => {}
     }
 }
 

@@ -74,6 +74,8 @@ impl Store {
                 alloc, now, user, table, row, limit,
             ),
             Act::Splits(table) => self.splits(alloc, now, user, table),
+            Act::Save => self.save(now, user),
+            Act::Load => self.load(now, user),
         }
     }
 }

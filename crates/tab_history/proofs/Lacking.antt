@@ -20,7 +20,7 @@ use Rattle.tab_policy.specs.declared.decision.Denial.TheVariants as policy
 use Rattle.tab_policy.specs.declared.permission.Permission.{Permission}
 use Rattle.tab_policy.specs.declared.permission.Permission.TheVariants.{OfSystem, OfTable}
 use Rattle.tab_history.specs.declared.event.Act.{Act}
-use Rattle.tab_history.specs.declared.event.Act.TheVariants.{Open, Write, CreateTable, DropTable, SetConstraints, CreateUser, DropUser, SetAuths, Grant, Revoke, Rights as AsksRights, Status, Flush, Compact, AddSplit, SplitBySize, Splits}
+use Rattle.tab_history.specs.declared.event.Act.TheVariants.{Open, Write, CreateTable, DropTable, SetConstraints, CreateUser, DropUser, SetAuths, Grant, Revoke, Rights as AsksRights, Status, Flush, Compact, AddSplit, SplitBySize, Splits, Save, Load}
 use Rattle.tab_history.specs.declared.event.Scan.{Scan}
 use Rattle.tab_history.specs.declared.event.Step.{Step}
 use Rattle.tab_history.specs.declared.event.Step.TheVariants.{Event, Next, Many, Close}
@@ -150,6 +150,8 @@ of_own c there now (Compact t extent) = tt
 of_own c there now (AddSplit t row) = (unless _ _ refl, tt)
 of_own c there now (SplitBySize t row limit) = (unless _ _ refl, tt)
 of_own c there now (Splits t) = tt
+of_own c there now Save = tt
+of_own c there now Load = tt
 
 of_refusal : (c : Caller) (there : Bool) (now : ℤ) (user : List ℕ) (act : Act) → Speaks (refusal_of c there now user act)
 unfolding refusal_of

@@ -2,7 +2,7 @@
 use Rattle.std.proofs.Common.{◌≡◌, inl, [], true, false, refl, sym, ◌∙◌, ap, subst}
 use mathlib.Core.Bool.{true≢false}
 use Rattle.tab_history.specs.declared.event.Act.{Act}
-use Rattle.tab_history.specs.declared.event.Act.TheVariants.{Open, Write, CreateTable, DropTable, SetConstraints, CreateUser, DropUser, SetAuths, Grant, Revoke, Rights, Status, Flush, Compact, AddSplit, SplitBySize, Splits}
+use Rattle.tab_history.specs.declared.event.Act.TheVariants.{Open, Write, CreateTable, DropTable, SetConstraints, CreateUser, DropUser, SetAuths, Grant, Revoke, Rights, Status, Flush, Compact, AddSplit, SplitBySize, Splits, Save, Load}
 use Rattle.tab_history.specs.declared.event.Event.{Event as TheEvent}
 use Rattle.tab_history.specs.declared.event.Step.{Step}
 use Rattle.tab_history.specs.declared.event.Step.TheVariants.{Event, Next, Many, Close}
@@ -30,6 +30,8 @@ closed_told (Compact t extent) plain reply n e = e
 closed_told (AddSplit t row) plain reply n m = absurd (true≢false n)
 closed_told (SplitBySize t row limit) plain reply n m = absurd (true≢false n)
 closed_told (Splits t) plain reply n m = absurd (true≢false n)
+closed_told Save plain reply n e = e
+closed_told Load plain reply n e = e
 
 -- ---- what holds of the one answer, and of all that may be told where it is left open, holds of what is told
 pub of_told : (P : Told → Type 0) (act : Act) (plain reply : Told) → MayTell act plain reply → P plain → (leaves_open act ≡ true → P reply) → P reply
@@ -66,6 +68,8 @@ closed_tells (Compact t extent) plain n = refl
 closed_tells (AddSplit t row) plain n = absurd (true≢false n)
 closed_tells (SplitBySize t row limit) plain n = absurd (true≢false n)
 closed_tells (Splits t) plain n = absurd (true≢false n)
+closed_tells Save plain n = refl
+closed_tells Load plain n = refl
 
 pub plain_event : (act : Act) (plain : Told) → leaves_open act ≡ false → IsEventReply act plain plain
 plain_event act (Refused r) n = refl
@@ -96,6 +100,8 @@ one_is_told (Compact t extent) plain = refl
 one_is_told (AddSplit t row) plain = inl refl
 one_is_told (SplitBySize t row limit) plain = inl refl
 one_is_told (Splits t) plain = ([], refl)
+one_is_told Save plain = refl
+one_is_told Load plain = refl
 
 pub one_is_reply : (step : Step) (plain : Told) → IsReply step plain (one_reply step plain)
 one_is_reply (Event e) (Refused r) = refl

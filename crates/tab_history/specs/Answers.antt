@@ -15,7 +15,7 @@ use Rattle.tab_key.specs.declared.part.Part.TheVariants.{Sessions, Numbers}
 use Rattle.tab_key.specs.declared.range.Bounds.{Bounds}
 use Rattle.tab_history.specs.declared.event.Scan.{Scan}
 use Rattle.tab_history.specs.declared.event.Act.{Act}
-use Rattle.tab_history.specs.declared.event.Act.TheVariants.{Open, Write, CreateTable, DropTable, SetConstraints, CreateUser, DropUser, SetAuths, Grant, Revoke, Rights as AsksRights, Status, Flush, Compact, AddSplit, SplitBySize, Splits}
+use Rattle.tab_history.specs.declared.event.Act.TheVariants.{Open, Write, CreateTable, DropTable, SetConstraints, CreateUser, DropUser, SetAuths, Grant, Revoke, Rights as AsksRights, Status, Flush, Compact, AddSplit, SplitBySize, Splits, Save, Load}
 use Rattle.tab_history.specs.declared.event.Step.{Step}
 use Rattle.tab_history.specs.declared.event.Step.TheVariants.{Event, Next, Many, Close}
 use Rattle.tab_history.specs.declared.counts.Counts.{Counts}
@@ -75,6 +75,8 @@ granted c (Compact t extent) = Done
 granted c (AddSplit t row) = Done
 granted c (SplitBySize t row limit) = Done
 granted c (Splits t) = Done
+granted c Save = Done
+granted c Load = Done
 
 -- the refusal, if there is one
 abbrev pub told : Option Refusal → Told → Told
@@ -100,6 +102,8 @@ are_used_up b j (Compact t extent) = false
 are_used_up b j (AddSplit t row) = false
 are_used_up b j (SplitBySize t row limit) = false
 are_used_up b j (Splits t) = false
+are_used_up b j Save = false
+are_used_up b j Load = false
 
 -- the reply to what isn't refused by its checks: where the numbers are used up it is refused for that, last of all
 abbrev pub numbered : Bool → Told → Told
@@ -161,6 +165,8 @@ leaves_open (Compact t extent) = false
 leaves_open (AddSplit t row) = true
 leaves_open (SplitBySize t row limit) = true
 leaves_open (Splits t) = true
+leaves_open Save = false
+leaves_open Load = false
 
 -- What may be told of an event that no check refuses. Of a Status it is any counts, of a Splits any rows. A split may be done, or refused for
 -- where the table is split already, for what its tablet holds, or for the number of end rows. Of each other act it is the one answer, here plain.
@@ -182,6 +188,8 @@ MayTell (Compact t extent) plain reply = reply ≡ plain
 MayTell (AddSplit t row) plain reply = (reply ≡ plain) ⊎ (reply ≡ Refused (BadSplit Present)) ⊎ (reply ≡ Refused (TooLarge Numbers))
 MayTell (SplitBySize t row limit) plain reply = (reply ≡ plain) ⊎ (reply ≡ Refused (BadSplit Small)) ⊎ (reply ≡ Refused (BadSplit OneRow)) ⊎ (reply ≡ Refused (TooLarge Numbers))
 MayTell (Splits t) plain reply = (rows : List (List ℕ)) × (reply ≡ Rows rows)
+MayTell Save plain reply = reply ≡ plain
+MayTell Load plain reply = reply ≡ plain
 
 -- The reply answers the act, of which plain is the answer: it is that refusal, or what may be told in the place of what isn't one.
 abbrev pub IsEventReply : Act → Told → Told → Type 0

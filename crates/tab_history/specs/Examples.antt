@@ -26,7 +26,7 @@ use Rattle.tab_cells.specs.Cells.{matches, cells}
 use Rattle.tab_history.specs.Checks.{standing, malformed, stamped, outdated, refusal_of}
 use Rattle.tab_history.specs.Sessions.{opened, closed, session_in}
 use Rattle.tab_history.specs.Answers.{Told, are_used_up, answer, session_list}
-use Rattle.tab_history.specs.Histories.{Entry, world_of, clock_of, journal, moves_of}
+use Rattle.tab_history.specs.Histories.{Entry, world_of, world_after, clock_of, journal, moves_of}
 use Rattle.tab_history.specs.Legal.{IsAnswer, may_lack}
 use Rattle.tab_history.specs.Runs.{played}
 use Rattle.tab_rules.specs.declared.constraint.Constraint.TheVariants.{Visibility}
@@ -568,6 +568,54 @@ beyond_a_split : replies (three_rows ++ as_root (opens everywhere []) ∷ Next r
     ≡ Batch (cell (codes "a") [] (pos 1) v ∷ []) ∷ Batch (cell (codes "b") [] (pos 1) v ∷ cell (codes "c") [] (pos 1) v ∷ []) ∷ Batch (cell (codes "a") [] (pos 1) v ∷ cell (codes "b") [] (pos 1) v ∷ cell (codes "c") [] (pos 1) v ∷ []) ∷ []
 unfolding everything
 beyond_a_split = refl
+
+-- ---- images
+-- what bob is told where he may neither save nor load
+abbrev may_not_save : Told
+may_not_save = Refused (PermissionDenied (OfSystem system.System))
+
+-- an unknown user before a missing permission, and none on a table admits him; who has the permission is told that he may
+image_permissions : replies (make ∷ as_bob act.Save ∷ as_bob act.Load ∷ make_bob ∷ as_root (act.Grant bob (OfTable table.AlterTable t)) ∷ as_bob act.Save ∷ as_bob act.Load ∷ as_root (act.Grant bob (OfSystem system.System)) ∷ as_bob act.Save ∷ as_bob act.Load ∷ [])
+    ≡ Refused (UnknownUser bob) ∷ Refused (UnknownUser bob) ∷ may_not_save ∷ may_not_save ∷ []
+unfolding everything
+image_permissions = refl
+
+-- root's save is done, and his load, and they leave all but the clock as it was
+abbrev images : List Entry
+images = played (world_of new_core) [] (asks root (pos 7) act.Save ∷ asks root (pos 9) act.Load ∷ [])
+
+both_done : images ≡ record { step = asks root (pos 9) act.Load; reply = Done } ∷ record { step = asks root (pos 7) act.Save; reply = Done } ∷ []
+unfolding everything
+both_done = refl
+
+clock_alone : world_after (world_of new_core) images ≡ record { base = new_core; changes = []; clock = pos 9 }
+unfolding everything
+clock_alone = refl
+
+-- nothing else may be told of them
+save_is_done : (reply : Told) → MayBeTold act.Save reply → reply ≡ Done
+unfolding everything
+save_is_done reply e = e
+
+load_is_done : (reply : Told) → MayBeTold act.Load reply → reply ≡ Done
+unfolding everything
+load_is_done reply e = e
+
+-- they take no memory
+image_memory : (may_lack (as_root act.Save) ≡ false) × (may_lack (as_root act.Load) ≡ false)
+image_memory = (refl, refl)
+
+-- their moments count, a refused one's too
+image_moments : replies (as_root (act.CreateTable t Server 1) ∷ asks root (pos 7) act.Save ∷ as_root (writes r (put [] (codes "x") None ∷ [])) ∷ scan [] 0 ++ asks bob (pos 9) act.Load ∷ as_root (writes r (put [] v None ∷ [])) ∷ scan [] 1)
+    ≡ Batch (cell r [] (pos 7) (codes "x") ∷ []) ∷ Refused (UnknownUser bob) ∷ Batch (cell r [] (pos 9) v ∷ []) ∷ []
+unfolding everything
+image_moments = refl
+
+-- neither hands out a session nor ends one
+beyond_a_load : replies (three_rows ++ as_root (opens everywhere []) ∷ as_root act.Save ∷ Next root 0 1 ∷ as_root act.Load ∷ Next root 0 5 ∷ Next root 1 1 ∷ [])
+    ≡ Batch (cell (codes "a") [] (pos 1) v ∷ []) ∷ Batch (cell (codes "b") [] (pos 1) v ∷ cell (codes "c") [] (pos 1) v ∷ []) ∷ Refused (NoSession 1) ∷ []
+unfolding everything
+beyond_a_load = refl
 
 -- ---- what a reader can't see
 -- bob reads under A, and what stands between is written by root

@@ -4,7 +4,7 @@ use Rattle.tab_history.specs.Answers.{Told, answer, IsReply}
 use Rattle.tab_history.specs.Histories.{Entry, World, clock_of, clock_at, journal, user_of, moves_of}
 use Rattle.tab_key.specs.declared.part.Part.TheVariants.{Numbers}
 use Rattle.tab_history.specs.declared.event.Act.{Act}
-use Rattle.tab_history.specs.declared.event.Act.TheVariants.{Open, Write, CreateTable, DropTable, SetConstraints, CreateUser, DropUser, SetAuths, Grant, Revoke, Rights, Status, Flush, Compact, AddSplit, SplitBySize, Splits}
+use Rattle.tab_history.specs.declared.event.Act.TheVariants.{Open, Write, CreateTable, DropTable, SetConstraints, CreateUser, DropUser, SetAuths, Grant, Revoke, Rights, Status, Flush, Compact, AddSplit, SplitBySize, Splits, Save, Load}
 use Rattle.tab_history.specs.declared.event.Step.{Step}
 use Rattle.tab_history.specs.declared.event.Step.TheVariants.{Event, Next, Many, Close}
 use Rattle.tab_history.specs.declared.reply.Refusal.TheVariants.{NoMemory, TooLarge}
@@ -19,7 +19,8 @@ abbrev pub IsAnswer : World → List Entry → List Entry → Step → Told → 
 IsAnswer w es own step reply = IsReply step (answer_at w es own step) reply
 
 -- ---- who may lack memory
--- whether the act takes memory: those don't that only take away, put what was handed in in place of what is there, or count
+-- Whether the act takes memory: those don't that only take away, put what was handed in in place of what is there, count, or only ask
+-- whether an image may be saved or loaded.
 abbrev pub takes_memory : Act → Bool
 takes_memory (DropTable t) = false
 takes_memory (SetConstraints t cs) = false
@@ -27,6 +28,8 @@ takes_memory (DropUser n) = false
 takes_memory (SetAuths n auths) = false
 takes_memory (Revoke n p) = false
 takes_memory (Status t) = false
+takes_memory Save = false
+takes_memory Load = false
 takes_memory (Open scan) = true
 takes_memory (Write t m) = true
 takes_memory (CreateTable t time n) = true

@@ -5,7 +5,7 @@ use Rattle.tab_history.specs.Histories.{Entry, World, world_after, steps_of}
 use Rattle.tab_history.specs.Legal.{answer_at, Legal, LegalAlone, HasMemory, LacksWhereItMay}
 use Rattle.tab_key.specs.declared.part.Part.TheVariants.{Sessions}
 use Rattle.tab_history.specs.declared.event.Act.{Act}
-use Rattle.tab_history.specs.declared.event.Act.TheVariants.{Open, Write, CreateTable, DropTable, SetConstraints, CreateUser, DropUser, SetAuths, Grant, Revoke, Rights, Status, Flush, Compact, AddSplit, SplitBySize, Splits}
+use Rattle.tab_history.specs.declared.event.Act.TheVariants.{Open, Write, CreateTable, DropTable, SetConstraints, CreateUser, DropUser, SetAuths, Grant, Revoke, Rights, Status, Flush, Compact, AddSplit, SplitBySize, Splits, Save, Load}
 use Rattle.tab_history.specs.declared.event.Step.{Step}
 use Rattle.tab_history.specs.declared.event.Step.TheVariants.{Event, Next, Many, Close}
 use Rattle.tab_history.specs.declared.reply.Refusal.TheVariants.{NoMemory, TooLarge, NoSession}
@@ -31,6 +31,8 @@ one_of (Compact t extent) plain = plain
 one_of (AddSplit t row) plain = plain
 one_of (SplitBySize t row limit) plain = plain
 one_of (Splits t) plain = Rows []
+one_of Save plain = plain
+one_of Load plain = plain
 
 -- one of the replies to a step with this answer
 abbrev pub one_reply : Step → Told → Told

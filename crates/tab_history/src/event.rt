@@ -41,7 +41,7 @@ pub struct Scan {
 }
 
 /// What an event asks. An unknown caller, a table that doesn't exist and a missing permission refuse it before the checks named here.
-/// `DropTable`, `SetConstraints`, `DropUser`, `SetAuths`, `Revoke` and `Status` take no memory; for the others it may lack.
+/// `DropTable`, `SetConstraints`, `DropUser`, `SetAuths`, `Revoke`, `Status`, `Save` and `Load` take no memory; for the others it may lack.
 #[derive(Clone, Drop)]
 pub enum Act {
     /// Open a session on a scan, which answers from that moment for good. Refused for too many columns or authorizations, for a bad
@@ -96,6 +96,12 @@ pub enum Act {
     SplitBySize(Name, ByteString, u64),
     /// Tell the end rows of the table's tablets, rising. A history allows any rows.
     Splits(Name),
+    /// Ask whether an image of all users, rights and tables may be saved. Where it is done the caller may save one: the event itself
+    /// changes nothing but the clock.
+    Save,
+    /// Ask whether an image may be loaded in place of all users, rights and tables. Where it is done the caller may load one: the event
+    /// itself changes nothing but the clock.
+    Load,
 }
 
 /// What a user asks at a moment. Events are the atomic steps of a core. The clock is the greatest moment of all events so far, refused

@@ -3,7 +3,7 @@
 use crate::counts::Counts;
 use crate::rights::Rights;
 use crate::split_fault::SplitFault;
-use tab_key::{ByteString, Cell, Items, Name, Part};
+use tab_key::{ByteString, Cells, Items, Name, Part};
 use tab_policy::Permission;
 use tab_rules::Violation;
 
@@ -61,9 +61,9 @@ pub enum Reply<S = ()> {
     /// A session was opened.
     Opened(S),
     /// The next cells of a session.
-    Batch(Items<Cell>),
+    Batch(Cells),
     /// A session's cells in each of the ranges asked for, in their order.
-    Ranges(Items<Items<Cell>>),
+    Ranges(Items<Cells>),
     /// What the caller may do and holds.
     Rights(Rights),
     /// What a table's tablets hold.

@@ -1,4 +1,5 @@
--- A step of a user's own that only asks where records lie, or lays them otherwise: it changes nothing, and nothing is heard of it.
+-- A step of a user's own that only asks where records lie or whether an image may be saved or loaded, or lays records otherwise: it changes
+-- nothing, and nothing is heard of it.
 use Rattle.std.proofs.Common.{◌≡◌, ℕ, ℤ, List, [], true, false, refl, sym}
 use mathlib.Core.Bool.{true≢false}
 use Rattle.tab_history.specs.Bases.{Base}
@@ -6,7 +7,7 @@ use Rattle.tab_history.specs.Changes.{Change, changes_of}
 use Rattle.tab_history.specs.Answers.{Told, leaves_open, is_open, changes_by, moves_by}
 use Rattle.tab_history.specs.Runs.{is_left_open}
 use Rattle.tab_history.specs.declared.event.Act.{Act}
-use Rattle.tab_history.specs.declared.event.Act.TheVariants.{Open, Write, CreateTable, DropTable, SetConstraints, CreateUser, DropUser, SetAuths, Grant, Revoke, Rights, Status, Flush, Compact, AddSplit, SplitBySize, Splits}
+use Rattle.tab_history.specs.declared.event.Act.TheVariants.{Open, Write, CreateTable, DropTable, SetConstraints, CreateUser, DropUser, SetAuths, Grant, Revoke, Rights, Status, Flush, Compact, AddSplit, SplitBySize, Splits, Save, Load}
 use Rattle.tab_history.specs.declared.event.Step.{Step}
 use Rattle.tab_history.specs.declared.event.Step.TheVariants.{Event, Next, Many, Close}
 use Rattle.tab_noninterference.specs.Views.{is_inner, is_aside}
@@ -26,6 +27,8 @@ inner_does_nothing (Compact t extent) e = record { changes = λ now user. refl; 
 inner_does_nothing (AddSplit t row) e = record { changes = λ now user. refl; opens = refl; uncovered = refl }
 inner_does_nothing (SplitBySize t row limit) e = record { changes = λ now user. refl; opens = refl; uncovered = refl }
 inner_does_nothing (Splits t) e = record { changes = λ now user. refl; opens = refl; uncovered = refl }
+inner_does_nothing Save e = record { changes = λ now user. refl; opens = refl; uncovered = refl }
+inner_does_nothing Load e = record { changes = λ now user. refl; opens = refl; uncovered = refl }
 inner_does_nothing (Open scan) e = absurd (true≢false (sym e))
 inner_does_nothing (Write t m) e = absurd (true≢false (sym e))
 inner_does_nothing (CreateTable t time n) e = absurd (true≢false (sym e))
@@ -64,6 +67,8 @@ outer_closed (Compact t extent) e = refl
 outer_closed (AddSplit t row) e = absurd (true≢false e)
 outer_closed (SplitBySize t row limit) e = absurd (true≢false e)
 outer_closed (Splits t) e = absurd (true≢false e)
+outer_closed Save e = refl
+outer_closed Load e = refl
 outer_closed (Open scan) e = refl
 outer_closed (Write t m) e = refl
 outer_closed (CreateTable t time n) e = refl

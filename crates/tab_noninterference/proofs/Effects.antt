@@ -22,7 +22,7 @@ use Rattle.tab_history.specs.Answers.{Told, told_opened, told, granted, is_open,
 use Rattle.tab_history.specs.Histories.{user_of}
 use Rattle.tab_history.specs.declared.event.Scan.{Scan}
 use Rattle.tab_history.specs.declared.event.Act.{Act}
-use Rattle.tab_history.specs.declared.event.Act.TheVariants.{Open, Write, CreateTable, DropTable, SetConstraints, CreateUser, DropUser, SetAuths, Grant, Revoke, Rights, Status, Flush, Compact, AddSplit, SplitBySize, Splits}
+use Rattle.tab_history.specs.declared.event.Act.TheVariants.{Open, Write, CreateTable, DropTable, SetConstraints, CreateUser, DropUser, SetAuths, Grant, Revoke, Rights, Status, Flush, Compact, AddSplit, SplitBySize, Splits, Save, Load}
 use Rattle.tab_history.specs.declared.event.Step.{Step}
 use Rattle.tab_history.specs.declared.event.Step.TheVariants.{Event, Next, Many, Close}
 use Rattle.tab_history.specs.declared.reply.Refusal.{Refusal}
@@ -188,6 +188,8 @@ module _ (held : List (List ℕ)) (b : Base) (user : List ℕ) (low : (t : List 
   event_effect m (AddSplit t row) within = plain_effect m (AddSplit t row) refl refl (λ x. refl)
   event_effect m (SplitBySize t row limit) within = plain_effect m (SplitBySize t row limit) refl refl (λ x. refl)
   event_effect m (Splits t) within = plain_effect m (Splits t) refl refl (λ x. refl)
+  event_effect m Save within = plain_effect m Save refl refl (λ x. refl)
+  event_effect m Load within = plain_effect m Load refl refl (λ x. refl)
 
   pub own_effect : (step : Step) → user_of step ≡ user → IsSubset (auths_given b user j) held → Same step
   unfolding ample_answer

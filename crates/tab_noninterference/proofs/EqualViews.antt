@@ -12,7 +12,7 @@ use Rattle.tab_history.specs.Answers.{Told, is_open, changes_by, moves_by}
 use Rattle.tab_history.specs.Histories.{Entry, World, world_of, clock_of, clock_at, journal, moves_of, is_by, user_of}
 use Rattle.tab_history.specs.Legal.{answer_at, IsAnswer, Legal, IsAmple, IsExhausted, LacksMemory}
 use Rattle.tab_history.specs.declared.event.Act.{Act}
-use Rattle.tab_history.specs.declared.event.Act.TheVariants.{Open, Write, CreateTable, DropTable, SetConstraints, CreateUser, DropUser, SetAuths, Grant, Revoke, Rights, Status, Flush, Compact, AddSplit, SplitBySize, Splits}
+use Rattle.tab_history.specs.declared.event.Act.TheVariants.{Open, Write, CreateTable, DropTable, SetConstraints, CreateUser, DropUser, SetAuths, Grant, Revoke, Rights, Status, Flush, Compact, AddSplit, SplitBySize, Splits, Save, Load}
 use Rattle.tab_history.specs.declared.event.Step.{Step}
 use Rattle.tab_history.specs.declared.event.Step.TheVariants.{Event, Next, Many, Close}
 use Rattle.tab_history.specs.declared.reply.Refusal.TheVariants.{TooLarge}
@@ -70,6 +70,8 @@ event_changes_irrelevant moves clock u m (Compact t extent) r = refl
 event_changes_irrelevant moves clock u m (AddSplit t row) r = refl
 event_changes_irrelevant moves clock u m (SplitBySize t row limit) r = refl
 event_changes_irrelevant moves clock u m (Splits t) r = refl
+event_changes_irrelevant moves clock u m Save r = refl
+event_changes_irrelevant moves clock u m Load r = refl
 
 changes_irrelevant : (moves : List Move) (clock : ℤ) (step : Step) (r : Told) → changes_by (shown_clock moves clock step) step r ≡ changes_by (clock_at clock step) step r
 changes_irrelevant moves clock (Event e) r = event_changes_irrelevant moves clock e.user e.moment e.act r

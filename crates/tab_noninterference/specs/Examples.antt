@@ -201,6 +201,35 @@ clock_of_his_own : (sees (make ++ asks bob (pos 8) (act.Status t) ∷ as_bob (wr
 unfolding everything
 clock_of_his_own = refl
 
+-- ---- images
+-- root saves and loads, and so does eve, who may not
+abbrev unseen_images : List Step
+unseen_images = as_root act.Save ∷ asks eve (pos 0) act.Save ∷ as_root act.Load ∷ asks eve (pos 0) act.Load ∷ []
+
+-- he sees nothing of it
+seen_beside_images : sees (beside unseen_images unseen_images) ≡ seen_beside
+unfolding everything
+seen_beside_images = refl
+
+-- and is told the same
+told_beside_images : hears (beside unseen_images unseen_images) ≡ told_beside
+unfolding everything
+told_beside_images = refl
+
+-- so it is where he asks for them himself
+his_own_images : sees (beside (as_bob act.Save ∷ as_bob act.Load ∷ []) (as_bob act.Load ∷ [])) ≡ seen_beside
+unfolding everything
+his_own_images = refl
+
+told_his_own_images : hears (beside (as_bob act.Save ∷ as_bob act.Load ∷ []) (as_bob act.Load ∷ [])) ≡ told_beside
+unfolding everything
+told_his_own_images = refl
+
+-- of their moments he sees what they did to the clock that his next event meets
+clock_of_images : (sees (make ++ asks bob (pos 8) act.Save ∷ asks root (pos 9) act.Load ∷ as_bob (writes []) ∷ [])).sights ≡ Asked (as_bob (writes [])) (Some (pos 9)) ∷ (sees make).sights
+unfolding everything
+clock_of_images = refl
+
 -- ---- what is seen
 -- tables, their settings, himself and his rights, without who changed them and when; what others ask and what they may isn't
 concerns : sees (make ++ as_root (act.CreateUser eve) ∷ as_root (act.Grant eve (OfTable table.Read t)) ∷ asks eve (pos 3) opens ∷ asks root (pos 7) (act.SetConstraints t (Numeric ∷ [])) ∷ [])

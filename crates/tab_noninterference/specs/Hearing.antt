@@ -6,7 +6,7 @@ use Rattle.tab_history.specs.Changes.{Change}
 use Rattle.tab_history.specs.Answers.{Told, session_list}
 use Rattle.tab_history.specs.Histories.{Entry, World, journal, is_by}
 use Rattle.tab_history.specs.declared.event.Act.{Act}
-use Rattle.tab_history.specs.declared.event.Act.TheVariants.{Open, Write, CreateTable, DropTable, SetConstraints, CreateUser, DropUser, SetAuths, Grant, Revoke, Rights, Status, Flush, Compact, AddSplit, SplitBySize, Splits}
+use Rattle.tab_history.specs.declared.event.Act.TheVariants.{Open, Write, CreateTable, DropTable, SetConstraints, CreateUser, DropUser, SetAuths, Grant, Revoke, Rights, Status, Flush, Compact, AddSplit, SplitBySize, Splits, Save, Load}
 use Rattle.tab_history.specs.declared.event.Step.{Step}
 use Rattle.tab_history.specs.declared.event.Step.TheVariants.{Event, Next, Many, Close}
 use Rattle.tab_history.specs.declared.reply.Reply.TheVariants.{Opened}
@@ -35,6 +35,8 @@ is_covered_act (Compact t extent) = false
 is_covered_act (AddSplit t row) = false
 is_covered_act (SplitBySize t row limit) = false
 is_covered_act (Splits t) = false
+is_covered_act Save = false
+is_covered_act Load = false
 
 -- the steps of that kind: these events, batches, and what is asked for in ranges
 abbrev pub is_covered : Step → Bool

@@ -6,7 +6,7 @@ use Rattle.tab_history.specs.Sessions.{Move, is_full}
 use Rattle.tab_history.specs.Answers.{Told, changes_by, is_open}
 use Rattle.tab_history.specs.Histories.{Entry, World, world_of, clock_of, clock_at, journal, moves_of, is_by}
 use Rattle.tab_history.specs.declared.event.Act.{Act}
-use Rattle.tab_history.specs.declared.event.Act.TheVariants.{Open, Write, CreateTable, DropTable, SetConstraints, CreateUser, DropUser, SetAuths, Grant, Revoke, Rights, Status, Flush, Compact, AddSplit, SplitBySize, Splits}
+use Rattle.tab_history.specs.declared.event.Act.TheVariants.{Open, Write, CreateTable, DropTable, SetConstraints, CreateUser, DropUser, SetAuths, Grant, Revoke, Rights, Status, Flush, Compact, AddSplit, SplitBySize, Splits, Save, Load}
 use Rattle.tab_history.specs.declared.event.Step.{Step}
 use Rattle.tab_history.specs.declared.event.Step.TheVariants.{Event, Next, Many, Close}
 use Rattle.tab_noninterference.specs.Given.{auths_given}
@@ -26,7 +26,8 @@ clock_shown moves now (Next user slot n) = None
 clock_shown moves now (Many user slot ranges) = None
 clock_shown moves now (Close user slot) = None
 
--- whether the event only asks where records lie, or lays them otherwise: it changes nothing that a history reads but the clock
+-- whether the event only asks where records lie or whether an image may be saved or loaded, or lays records otherwise: it changes nothing that a
+-- history reads but the clock
 abbrev pub is_inner : Act → Bool
 is_inner (Open scan) = false
 is_inner (Write t m) = false
@@ -45,6 +46,8 @@ is_inner (Compact t extent) = true
 is_inner (AddSplit t row) = true
 is_inner (SplitBySize t row limit) = true
 is_inner (Splits t) = true
+is_inner Save = true
+is_inner Load = true
 
 -- the steps of that kind
 abbrev pub is_aside : Step → Bool

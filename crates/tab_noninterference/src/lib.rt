@@ -13,13 +13,14 @@
 //! computes examples: two histories of which one user sees the same, and what each of the definitions says of small ones.
 //!
 //! What a user sees: his own steps, each event with the clock after it, but not those that only ask where records lie or lay them
-//! otherwise (counts and compactions); which tables are made and dropped and what they are set to;
+//! otherwise (counts, compactions and splits), nor those that ask whether an image may be saved or loaded; which tables are made and
+//! dropped and what they are set to;
 //! that he is made or dropped himself, and what rights and authorizations he gets and loses; and of the updates that others write those
 //! whose label holds under all authorizations that he ever holds, taken together. What he doesn't see: who else there is and what others ask, hold
 //! and may, and all other updates.
 //!
 //! Not covered: the replies to changes of tables, users and rights (some tell whether there is another user), to compactions, to a
-//! close, the counts of a table, and all of a history in which memory or numbers ran out.
+//! close, to a save and a load, the counts of a table, and all of a history in which memory or numbers ran out.
 #![tactic(auto)]
 
 mod laws;

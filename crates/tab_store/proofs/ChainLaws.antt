@@ -21,7 +21,7 @@ use Rattle.tab_store.specs.Rightness.{IsStore, NewStoresAreStores, StoresAreSoun
 use Rattle.tab_store.specs.Chains.{DoesExactly, EventGoes, EntryGoes, ChainsStay, ChainsAreLegal}
 use Rattle.tab_store.proofs.Sound.{self_refines}
 use Rattle.tab_store.proofs.Reading.{bases_read}
-use Rattle.tab_store.proofs.Right.{stores_stay}
+use Rattle.tab_store.proofs.Staying.{stores_stay}
 
 -- ---- a new core
 no_tables : (ts : List HeldTable) → map base_table_of ts ≡ [] → ts ≡ []
@@ -30,7 +30,7 @@ no_tables (t ∷ ts) e = absurd (cc)
 
 pub new_stores_are_stores : NewStoresAreStores
 unfolding IsStrictlySortedBy
-new_stores_are_stores h new = subst (λ ts. IsStore (record h { tables = ts })) (sym (no_tables h.tables new.tables)) (record { names = tt; tables = λ q t e. absurd (cc) })
+new_stores_are_stores h new = subst (λ ts. IsStore (record h { tables = ts })) (sym (no_tables h.tables new.tables)) (record { names = tt; tables = λ q t e. absurd (cc); limits = λ q t e. absurd (cc) })
 
 -- ---- what histories see of a store
 pub stores_are_sound : StoresAreSound

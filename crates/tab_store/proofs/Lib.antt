@@ -13,6 +13,10 @@ pub mod Reading
 pub mod Telling
 pub mod OneTable
 pub mod Right
+pub mod Passed
+pub mod WellFormed
+pub mod Ends
+pub mod Staying
 pub mod ChainLaws
 pub mod Joining
 pub mod Missing

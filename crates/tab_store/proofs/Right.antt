@@ -1,4 +1,4 @@
--- An exact step of a store is a right one, and leaves a store: act by act.
+-- An exact step of a store is a right one, and leaves the tablets of each table sound: act by act.
 use Rattle.std.proofs.Common.{◌≡◌, ◌⊎◌, inl, inr, ℕ, ◌+◌, ◌≤◌, List, [], ◌∷◌, ◌++◌, Bool, true, false, cond, ◌&&◌, refl, sym, ◌∙◌, ap, subst, arith}
 use Rattle.std.specs.Prelude.{ℤ, int_le, bytes_eq, Option, Some, None}
 use Rattle.std.specs.Int.{int_max}
@@ -29,7 +29,7 @@ use Rattle.tab_history.specs.Histories.{world_of, clock_after, clock_of, journal
 use Rattle.tab_history.specs.Legal.{answer_at, IsAnswer, takes_memory, LacksMemory}
 use Rattle.tab_history.specs.declared.event.TimeMode.{TimeMode}
 use Rattle.tab_history.specs.declared.event.Act.{Act}
-use Rattle.tab_history.specs.declared.event.Act.TheVariants.{Open, Write, CreateTable, DropTable, SetConstraints, CreateUser, DropUser, SetAuths, Grant, Revoke, Rights as AsksRights, Status, Flush, Compact, AddSplit, SplitBySize, Splits}
+use Rattle.tab_history.specs.declared.event.Act.TheVariants.{Open, Write, CreateTable, DropTable, SetConstraints, CreateUser, DropUser, SetAuths, Grant, Revoke, Rights as AsksRights, Status, Flush, Compact, AddSplit, SplitBySize, Splits, Save, Load}
 use Rattle.tab_history.specs.declared.event.Event.{Event}
 use Rattle.tab_history.specs.declared.event.Step.{Step}
 use Rattle.tab_history.specs.declared.event.Step.TheVariants.{Event as IsEvent}
@@ -44,7 +44,7 @@ use Rattle.tab_history.proofs.Refines.{FitAll}
 use Rattle.tab_store.specs.Stores.{HeldTable, Held, base_of, table_in, tablets_found, tablets_in}
 use Rattle.tab_store.specs.Stepping.{Freezing, Writing, Compacting, Counting, Splitting, Halving, Listing, Making, Dropping, On, kind_of, work_of, lays_in, told_by, laid_by, told_exactly, laid_told}
 use Rattle.tab_store.specs.Keeping.{settings_in, AreSound}
-use Rattle.tab_store.specs.Rightness.{IsStore, LeavesExactly, StepsAreRight, StoresStay}
+use Rattle.tab_store.specs.Rightness.{IsStore, LeavesExactly, StepsAreRight}
 use Rattle.tab_store.proofs.Sound.{new_tables_are_sound}
 use Rattle.tab_store.proofs.Reading.{bases_read}
 use Rattle.tab_store.proofs.Telling.{tells_legally}
@@ -193,6 +193,8 @@ module _ (old new : Held) (store : IsStore old) (user : List ℕ) (moment : ℤ)
   granted_right c (AddSplit t row) same fits = split_right t row Done same
   granted_right c (SplitBySize t row limit) same fits = halved_right t row limit Done same
   granted_right c (Splits t) same fits = listed_right t Done same
+  granted_right c Save same fits = kept same
+  granted_right c Load same fits = kept same
 
   -- what is told where it is left open changes nothing that is read
   open_right : (c : Caller) (act : Act) (r : Told) → MayTell act (granted c act) r → tablets_in new q ≡ laid_by old now (work_of act) (granted c act) q → leaves_open act ≡ true → Goal act r
@@ -312,14 +314,13 @@ steps_are_right old new event r store leaves = record {
   refines = record { reads = leaves.reads; tables = λ q s e. (all_goals old new store event r leaves q s e).refines };
 }
 
-pub stores_stay : StoresStay
+-- the tablets of each table are sound still
+pub soundness_stays : (old new : Held) (event : Event) (r : Told) → IsStore old → LeavesExactly old event r new → (q : List ℕ) (t : HeldTable) → table_in new q ≡ Some t
+    → AreSound t.tablets new.next t.settings.versions (floor_of t.settings.time new.clock t.settings.horizon)
 unfolding journal clock_of next_number
-stores_stay old new event r store leaves = record { names = leaves.exact.names; tables = sound }
-  where
-    sound : (q : List ℕ) (t : HeldTable) → table_in new q ≡ Some t → AreSound t.tablets new.next t.settings.versions (floor_of t.settings.time new.clock t.settings.horizon)
-    sound q t e =
-        let settings : settings_of (base_of old) (changes_by (at old event) (IsEvent event) r ++ []) q ≡ Some t.settings = sym (leaves.reads.settings q) ∙ ((bases_read new q).0 ∙ ap settings_in e) in
-        let both = all_goals old new store event r leaves q t.settings settings in
-        subst (λ ts. AreSound ts new.next t.settings.versions (floor_of t.settings.time new.clock t.settings.horizon)) (ap tablets_found e)
-        (subst (λ k. AreSound (tablets_in new q) k t.settings.versions (floor_of t.settings.time new.clock t.settings.horizon)) (sym leaves.reads.next)
-        (subst (λ c. AreSound (tablets_in new q) (next_number (base_of old) (changes_by (at old event) (IsEvent event) r ++ [])) t.settings.versions (floor_of t.settings.time c t.settings.horizon)) (sym leaves.reads.clock) both.sound))
+soundness_stays old new event r store leaves q t e =
+    let settings : settings_of (base_of old) (changes_by (at old event) (IsEvent event) r ++ []) q ≡ Some t.settings = sym (leaves.reads.settings q) ∙ ((bases_read new q).0 ∙ ap settings_in e) in
+    let both = all_goals old new store event r leaves q t.settings settings in
+    subst (λ ts. AreSound ts new.next t.settings.versions (floor_of t.settings.time new.clock t.settings.horizon)) (ap tablets_found e)
+    (subst (λ k. AreSound (tablets_in new q) k t.settings.versions (floor_of t.settings.time new.clock t.settings.horizon)) (sym leaves.reads.next)
+    (subst (λ c. AreSound (tablets_in new q) (next_number (base_of old) (changes_by (at old event) (IsEvent event) r ++ [])) t.settings.versions (floor_of t.settings.time c t.settings.horizon)) (sym leaves.reads.clock) both.sound))

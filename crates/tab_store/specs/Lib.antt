@@ -1,11 +1,15 @@
 pub mod Stores
 pub mod Stepping
 pub mod Keeping
+pub mod Limits
 pub mod Rightness
 pub mod Chains
 pub mod Examples
 pub mod Tables
 pub use Rattle.tab_tablets.specs.ByRow
+pub use Rattle.tab_tablets.specs.Listing
+pub use Rattle.tab_tablets.specs.Places
+pub use Rattle.tab_tablets.specs.Restored
 pub use Rattle.tab_tablets.specs.Splits
 pub use Rattle.tab_tablets.specs.Tablets
 pub use Rattle.tab_tablets.specs.declared.split.Split as SplitType

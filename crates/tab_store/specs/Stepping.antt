@@ -24,7 +24,7 @@ use Rattle.tab_history.specs.declared.event.TimeMode.TheVariants.{Any}
 use Rattle.tab_history.specs.declared.event.Extent.{Extent}
 use Rattle.tab_history.specs.declared.event.Extent.TheVariants as extent
 use Rattle.tab_history.specs.declared.event.Act.{Act}
-use Rattle.tab_history.specs.declared.event.Act.TheVariants.{Open, Write, CreateTable, DropTable, SetConstraints, CreateUser, DropUser, SetAuths, Grant, Revoke, Rights, Status, Flush, Compact, AddSplit, SplitBySize, Splits}
+use Rattle.tab_history.specs.declared.event.Act.TheVariants.{Open, Write, CreateTable, DropTable, SetConstraints, CreateUser, DropUser, SetAuths, Grant, Revoke, Rights, Status, Flush, Compact, AddSplit, SplitBySize, Splits, Save, Load}
 use Rattle.tab_history.specs.declared.event.Event.{Event}
 use Rattle.tab_history.specs.declared.event.Step.TheVariants.{Event as IsEvent}
 use Rattle.tab_history.specs.declared.split_fault.SplitFault.TheVariants as fault
@@ -85,6 +85,8 @@ work_of (Compact t e) = On t (Compacting (kind_of e))
 work_of (AddSplit t row) = On t (Splitting row)
 work_of (SplitBySize t row limit) = On t (Halving row limit)
 work_of (Splits t) = On t Listing
+work_of Save = Aside
+work_of Load = Aside
 
 -- ---- what that does to the tablets of one table
 -- what an event finds beside the tablets: the settings of the table, the clock with the event's moment in it, and the number of the next write

@@ -1,9 +1,11 @@
 -- Tables by name, and what calls change of them.
 use Rattle.std.specs.Prelude.{ℕ, List, [], ◌∷◌, Option, Some, None, cond, find, bytes_eq}
 use Rattle.std.specs.Option.{option_map}
+use Rattle.tab_key.specs.Records.{Record}
 use Rattle.tab_rules.specs.declared.constraint.Constraint.{Constraint}
 use Rattle.tab_tablets.specs.Tablets.{Tablet, new_tablet}
-use Rattle.tab_history.specs.Settings.{Settings, made_with}
+use Rattle.tab_tablets.specs.Restored.{restored}
+use Rattle.tab_history.specs.Settings.{Settings, made_with, least}
 use Rattle.tab_history.specs.declared.event.TimeMode.{TimeMode}
 use Rattle.tab_store.specs.Stores.{HeldTable}
 
@@ -19,6 +21,10 @@ named_table e = record { name = e.0; settings = e.1.settings; tablets = e.1.tabl
 -- a table as it is made: one tablet, that of all rows
 abbrev pub made_table : TimeMode → ℕ → TableState
 made_table time versions = record { settings = made_with time versions; tablets = new_tablet None ∷ [] }
+
+-- a table as it is restored: without horizon, with tablets that end at these rows and hold these records
+abbrev pub restored_table : TimeMode → ℕ → List Constraint → List (List ℕ) → List Record → TableState
+restored_table time versions constraints ends us = record { settings = record { time = time; versions = versions; constraints = constraints; horizon = least }; tablets = restored ends us }
 
 -- the table with its tablets changed so
 abbrev pub with_tablets : (List Tablet → List Tablet) → TableState → TableState

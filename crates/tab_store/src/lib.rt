@@ -6,6 +6,7 @@
 //! | `specs/Stores` | what a core holds, and what histories see of it |
 //! | `specs/Stepping` | what an event does to the tablets, exactly, and what it is told |
 //! | `specs/Keeping` | when tablets refine the updates of their table, and what a core keeps of them |
+//! | `specs/Limits` | the limits that records and end rows keep to, which an image asks for |
 //! | `specs/Rightness` | stores, and that their exact steps are right ones |
 //! | `specs/Chains` | chains of exact steps |
 //! | `specs/Examples` | worked examples, computed |
@@ -21,6 +22,7 @@
 //! | `proofs/Apart` | its tablets hold what they hold one behind the other |
 //! | `proofs/Middles` | the row in the middle of one of them is no end row |
 //! | `proofs/Reading`, `Telling`, `Right` | exact steps are right ones, act by act |
+//! | `proofs/Passed`, `WellFormed`, `Ends`, `Staying` | what an event adds has passed its checks, so that limits are kept, and a store stays one |
 //! | `proofs/ChainLaws`, `Joining` | chains of exact steps, and two chains as one |
 //! | `proofs/Missing` | what is read of a table that is missing |
 //! | `proofs/Named` | tables by name, as the map has them |

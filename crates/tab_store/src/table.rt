@@ -1,16 +1,20 @@
 //! One table.
-ghost use Rattle.std.specs.Prelude.{◌≡◌, ◌<◌, [], ◌∷◌, None, map, Contains, IfOk, OnOk, OnErr};
+ghost use Rattle.std.specs.Prelude.{◌≡◌, ◌<◌, [], ◌∷◌, None, length, map, Contains, IfOk, OnOk, OnErr};
 ghost use Rattle.tab_key.specs.Records.{Record as Fields};
 ghost use Rattle.tab_key.specs.Sorted.{sorted};
 ghost use Rattle.tab_mutation.specs.Shape.{shape_error};
 ghost use Rattle.tab_cells.specs.Written.{mutation_records};
+ghost use Rattle.tab_iter.specs.Lists.{IsRising};
 ghost use Rattle.tab_tablets.specs.Opened.{ShowsRowsOf};
-ghost use Rattle.tab_tablets.specs.Tablets.{written, frozen, compacted};
+ghost use Rattle.tab_tablets.specs.Tablets.{records_in, written, frozen, compacted};
 ghost use Rattle.tab_history.specs.Held.{floor_of};
+ghost use Rattle.tab_history.specs.Settings.{least};
 ghost use Rattle.tab_tablets.specs.ByRow.{at_row, records_of_all, LieApart, ends_of};
+ghost use Rattle.tab_tablets.specs.Places.{tablet_at};
+ghost use Rattle.tab_tablets.specs.Restored.{EndRowsRise};
 ghost use Rattle.tab_tablets.specs.Splits.{splits, halves};
-ghost use Rattle.tab_store.specs.Stores.{counts_of};
-ghost use Rattle.tab_store.specs.Tables.{made_table, with_tablets, with_constraints};
+ghost use Rattle.tab_store.specs.Stores.{told_count, counts_of};
+ghost use Rattle.tab_store.specs.Tables.{made_table, restored_table, with_tablets, with_constraints};
 
 use std::alloc::{AllocError, Global};
 use std::marker::Model;
@@ -18,6 +22,7 @@ use tab_cells::Compaction;
 use tab_history::{Counts, TimeMode, Versions};
 use tab_iter::NoMemory;
 use tab_key::{Bounds, ByteString, Items};
+use tab_mem::Records;
 use tab_mutation::Mutation;
 use tab_rules::ConstraintSet;
 use tab_tablets::{Split, Tablets, Version};
@@ -45,12 +50,45 @@ impl Table {
     pub fn new(alloc: Global, time: TimeMode, versions: Versions) -> Table
         ensures { result ≡ made_table time versions }
     {
+        Table::holding(time, versions, ConstraintSet::none(), Tablets::new(alloc))
+    }
+
+    /// A table with these settings and no horizon, whose tablets end at these rows and hold these records: each those of its rows, as
+    /// one sorted table, or no source where there are none.
+    ///
+    /// It takes time linear in the records. Beside the records, which are given back once it is done, it takes the memory that the sorted
+    /// tables keep; NoMemory says that it lacked.
+    pub fn restored(
+        alloc: Global,
+        time: TimeMode,
+        versions: Versions,
+        constraints: ConstraintSet,
+        ends: Items<ByteString>,
+        records: Records,
+    ) -> Result<Table, NoMemory>
+        requires ends { EndRowsRise ends }
+        requires records { IsRising records }
+        ensures { IfOk result (λ t. t ≡ restored_table time versions constraints ends records) }
+    {
+        let tablets = Tablets::restored(alloc, ends, records)?;
+        Ok(Table::holding(time, versions, constraints, tablets))
+    }
+
+    // A table with these settings, no horizon, and these tablets.
+    fn holding(
+        time: TimeMode,
+        versions: Versions,
+        constraints: ConstraintSet,
+        tablets: Tablets,
+    ) -> Table
+        ensures { result ≡ record { settings = record { time = time; versions = versions; constraints = constraints; horizon = least }; tablets = tablets } }
+    {
         Table {
             time,
             versions,
-            constraints: ConstraintSet::none(),
+            constraints,
             horizon: i64::MIN,
-            tablets: Tablets::new(alloc),
+            tablets,
         }
     }
 
@@ -158,6 +196,25 @@ impl Table {
         ensures { IfOk result (λ ends. ends ≡ ends_of self.now.tablets) }
     {
         self.tablets.ends(alloc)
+    }
+
+    /// All that the tablet at a place holds, as a version; places are counted from 0 in the order of rows. The table stays as it is: no
+    /// tablet is frozen.
+    ///
+    /// It takes memory for a copy of what was written to this tablet since its last freeze, and for a share of each of its sources.
+    /// `AllocError` says that it lacked.
+    pub fn version_at(&self, alloc: Global, place: u64) -> Result<Version, AllocError>
+        requires { place < length self.now.tablets }
+        ensures { IfOk result (λ v. sorted v ≡ sorted (records_in (tablet_at self.now.tablets place))) }
+    {
+        self.tablets.version_at(alloc, place)
+    }
+
+    /// How many tablets there are; 2^64 - 1 for any number above it.
+    pub fn tablet_count(&self) -> u64
+        ensures { result ≡ told_count (length self.now.tablets) }
+    {
+        self.tablets.len()
     }
 
     // The time below which no update is accepted any more.

@@ -1,6 +1,7 @@
 //! Tables by name.
 ghost use Rattle.std.specs.Prelude.{◌≡◌, ◌<◌, ◌+◌, ◌-◌, ℕ, List, [], ◌∷◌, Option, Some, None, cond, map, length, Contains, is_some, bytes_eq, option_copied, IfOk, OnOk, OnErr};
 ghost use Rattle.std.specs.BTreeMap.{IsOrdered};
+ghost use Rattle.std.specs.Map.Iter.{ShowsInOrder, deref_pair};
 ghost use Rattle.tab_key.specs.Bytes.{bytes_cmp};
 ghost use Rattle.tab_key.specs.Records.{Record};
 ghost use Rattle.tab_key.specs.Sorted.{sorted};
@@ -13,11 +14,12 @@ ghost use Rattle.tab_history.specs.Held.{floor_of};
 ghost use Rattle.tab_tablets.specs.ByRow.{at_row, records_of_all, LieApart};
 ghost use Rattle.tab_tablets.specs.Splits.{splits, halves};
 ghost use Rattle.tab_store.specs.Stores.{RiseByName};
-ghost use Rattle.tab_store.specs.Tables.{made_table, with_tablets, with_constraints, table_at, changed_table, tablets_of};
+ghost use Rattle.tab_store.specs.Tables.{TableState, named_table, made_table, with_tablets, with_constraints, table_at, changed_table, tablets_of};
 
 use crate::Table;
 use std::alloc::{AllocError, Global};
 use std::collections::BTreeMap;
+use std::collections::btree_map::Iter;
 use std::marker::Model;
 use tab_cells::Compaction;
 use tab_history::{TimeMode, Versions};
@@ -68,6 +70,15 @@ impl Tables {
         self.by_name.len()
     }
 
+    /// The tables in the order of their names, each with its name. None is looked up.
+    pub fn iter(&self) -> Iter<'_, NameKey, Table>
+        ensures tables { map named_table result ≡ self.now }
+        ensures names { RiseByName self.now }
+        ensures runs { ShowsInOrder (deref_pair {K = List ℕ} {X = TableState}) }
+    {
+        self.by_name.iter()
+    }
+
     /// The table of this name.
     pub fn get(&self, name: &Name) -> Option<&Table>
         ensures { option_copied result ≡ table_at self.now name.now }
@@ -93,6 +104,16 @@ impl Tables {
             name,
             Table::new(self.alloc, time, versions),
         )
+    }
+
+    /// Puts a table under this name, in the place of one that there is. An error leaves the tables as they were.
+    pub fn put_table(&mut self, name: Name, table: Table) -> Result<(), AllocError>
+        ensures tables { OnOk result ((q : List ℕ) → table_at self.new q ≡ cond (bytes_eq name q) (Some table) (table_at self.old q)) }
+        ensures count { OnOk result (length self.new ≡ cond (is_some (table_at self.old name)) (length self.old) (length self.old + 1)) }
+        ensures names { RiseByName self.new }
+        ensures err { OnErr result (self.new ≡ self.old) }
+    {
+        put(&mut self.by_name, self.alloc, name, table)
     }
 
     /// Takes the table of this name away, if there is one.

@@ -10,11 +10,11 @@ use Rattle.tab_core.proofs.state.Core.step.Goals.{Else-moves_clock}
 
 -- where the clock stays
 kept : (c : Else-moves_clock) → StepsWell (held c.self.inside.store) c.args.event c.answer-reply.result (held c.answer-reply.new.self)
-kept c = stayed _ (held c.answer-reply.new.self) c.args.event c.answer-reply.result c.later-now.result (to_z w64 (of_z w64 c.later-now.result)) c.self.invariant (search rules) (search rules) c.answer-reply.ensures (sym c.moves_clock.ensures ∙ c.if-moves_clock.false)
+kept c = stayed _ (held c.answer-reply.new.self) c.args.event c.answer-reply.result c.later-now.result (to_z w64 (of_z w64 c.later-now.result)) c.self.invariant c.keep_markers.ensures (search rules) (search rules) c.answer-reply.ensures (sym c.moves_clock.ensures ∙ c.if-moves_clock.false)
 
 pub invariant_of-self : goal.invariant_of-self
 invariant_of-self c =
-    (moved (held c.self.inside.store) (held c.answer-reply.new.self) c.args.event c.answer-reply.result c.later-now.result (to_z w64 (of_z w64 c.later-now.result)) c.self.invariant (search rules) (search rules) c.answer-reply.ensures
+    (moved (held c.self.inside.store) (held c.answer-reply.new.self) c.args.event c.answer-reply.result c.later-now.result (to_z w64 (of_z w64 c.later-now.result)) c.self.invariant c.keep_markers.ensures (search rules) (search rules) c.answer-reply.ensures
     (sym c.moves_clock.ensures ∙ c.if-moves_clock.true)).core
 
 pub invariant_of-self-else-moves_clock : goal.invariant_of-self-else-moves_clock
@@ -23,13 +23,13 @@ invariant_of-self-else-moves_clock c = (kept c).core
 pub returns-then-moves_clock-clause-steps : goal.returns-then-moves_clock-clause-steps
 returns-then-moves_clock-clause-steps c =
     subst (λ (h : Held). Steps (base_of h) c.args.event c.answer-reply.result (base_of (record (held c.answer-reply.new.self) { clock = to_z w64 (of_z w64 c.later-now.result) }))) c.self.view_is
-    (moved (held c.self.inside.store) (held c.answer-reply.new.self) c.args.event c.answer-reply.result c.later-now.result (to_z w64 (of_z w64 c.later-now.result)) c.self.invariant (search rules) (search rules) c.answer-reply.ensures
+    (moved (held c.self.inside.store) (held c.answer-reply.new.self) c.args.event c.answer-reply.result c.later-now.result (to_z w64 (of_z w64 c.later-now.result)) c.self.invariant c.keep_markers.ensures (search rules) (search rules) c.answer-reply.ensures
     (sym c.moves_clock.ensures ∙ c.if-moves_clock.true)).steps
 
 pub returns-then-moves_clock-clause-exact : goal.returns-then-moves_clock-clause-exact
 returns-then-moves_clock-clause-exact c =
     subst (λ (h : Held). LaysExactly h (now_at h c.args.event) c.args.event.act (plain_answer h c.args.event) (told_of c.answer-reply.result) (record (held c.answer-reply.new.self) { clock = to_z w64 (of_z w64 c.later-now.result) })) c.self.view_is
-    (moved (held c.self.inside.store) (held c.answer-reply.new.self) c.args.event c.answer-reply.result c.later-now.result (to_z w64 (of_z w64 c.later-now.result)) c.self.invariant (search rules) (search rules) c.answer-reply.ensures
+    (moved (held c.self.inside.store) (held c.answer-reply.new.self) c.args.event c.answer-reply.result c.later-now.result (to_z w64 (of_z w64 c.later-now.result)) c.self.invariant c.keep_markers.ensures (search rules) (search rules) c.answer-reply.ensures
     (sym c.moves_clock.ensures ∙ c.if-moves_clock.true)).exact
 
 pub returns-else-moves_clock-clause-steps : goal.returns-else-moves_clock-clause-steps

@@ -126,3 +126,13 @@ pub returns-in-Splits : goal.returns-in-Splits
 returns-in-Splits c =
     let trip : to_z w64 (of_z w64 c.args.now) ≡ c.args.now = search rules in
     admitted (held c.args.self.now) (held c.args.self.now) c.args.now _ c.args.user c.args.act _ _ c.splits.result c.requires c.action_of.ensures c.in-Ok.ensures.decided c.in-Splits.is trip c.splits.ensures
+
+pub returns-in-Save : goal.returns-in-Save
+returns-in-Save c =
+    let trip : to_z w64 (of_z w64 c.args.now) ≡ c.args.now = search rules in
+    admitted (held c.args.self.now) (held c.args.self.now) c.args.now _ c.args.user c.args.act _ _ c.save.result c.requires c.action_of.ensures c.in-Ok.ensures.decided c.in-Save.is trip c.save.ensures
+
+pub returns-in-Load : goal.returns-in-Load
+returns-in-Load c =
+    let trip : to_z w64 (of_z w64 c.args.now) ≡ c.args.now = search rules in
+    admitted (held c.args.self.now) (held c.args.self.now) c.args.now _ c.args.user c.args.act _ _ c.load.result c.requires c.action_of.ensures c.in-Ok.ensures.decided c.in-Load.is trip c.load.ensures

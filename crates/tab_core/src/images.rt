@@ -1,0 +1,26 @@
+//! Saves and loads of an image: whoever may do one is told so, and nothing changes.
+ghost use Rattle.tab_core.specs.Holding.{held};
+ghost use Rattle.tab_core.specs.Stepping.{Does, IsCore};
+
+use crate::Session;
+use crate::store::Store;
+use tab_history::{Act, Reply};
+use tab_key::Name;
+
+impl Store {
+    // A save. It takes no memory.
+    pub(crate) fn save(&self, now: i64, user: Name) -> Reply<Session>
+        requires { IsCore (held self.now) }
+        ensures { Does self.now now user Act.Save result self.now }
+    {
+        Reply::Done
+    }
+
+    // A load. It takes no memory.
+    pub(crate) fn load(&self, now: i64, user: Name) -> Reply<Session>
+        requires { IsCore (held self.now) }
+        ensures { Does self.now now user Act.Load result self.now }
+    {
+        Reply::Done
+    }
+}
