@@ -2,6 +2,7 @@ pub mod Rising
 pub mod Streams
 pub mod TextLemmas
 pub mod NumberLemmas
+pub mod UserSearch
 pub mod SaneLaw
 pub mod PartLaw
 pub mod ImageLaw
@@ -10,7 +11,6 @@ pub mod WritingLemmas
 pub mod FieldLemmas
 pub mod SetLemmas
 pub mod PartsLemmas
-pub mod StillThere
 pub mod RecordLemmas
 pub mod SaneLemmas
 pub mod LoadLemmas

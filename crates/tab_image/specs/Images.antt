@@ -1,15 +1,17 @@
 -- What an image is: a relation between bytes and what they say. It says nothing of how bytes are read. What an image says is the Rust
 -- structs of `user`, `table` and `image` themselves.
-use Rattle.std.specs.Prelude.{ℕ, ◌≡◌, ◌≤◌, ◌<◌, ◌&&◌, Bool, true, false, List, [], ◌∷◌, ◌++◌, length, map, codes, bytes_eq, IsOk}
+use Rattle.std.specs.Prelude.{ℕ, ◌≡◌, ◌≤◌, ◌<◌, ◌^◌, ◌&&◌, Bool, true, false, List, [], ◌∷◌, ◌++◌, length, map, codes, bytes_eq, IsOk}
 use Rattle.std.specs.List.{AllByRecursion, list_all, list_any}
 use Rattle.std.specs.List.Sorted.{IsStrictlySortedBy}
 use Rattle.std.specs.Int.{w16, to_be_bytes}
+use Rattle.tab_key.specs.Encoding.{IsShort}
 use Rattle.tab_key.specs.Records.{Record}
 use Rattle.tab_key.specs.Order.{record_cmp}
 use Rattle.tab_key.specs.declared.key.Kind.TheVariants.{Delete}
 use Rattle.tab_key.specs.declared.part.TheConstants.{MAX_PART_LEN, MAX_UPDATES}
 use Rattle.tab_label.specs.Sets.{IsRising}
 use Rattle.tab_label.specs.Reading.{label_of}
+use Rattle.tab_policy.specs.Holders.{has_any}
 use Rattle.tab_policy.specs.Permissions.{all_system}
 use Rattle.tab_policy.specs.Roots.{root}
 use Rattle.tab_policy.specs.Sets.{system_contains}
@@ -113,6 +115,7 @@ pub record IsBody (bytes : List ℕ) (i : Image) : Type 0 where
   pub tables : IsCounted IsU32 IsTable ts i.tables
 
 -- ---- what else must hold
+-- The limits that bytes keep by their widths are asked for here too: what is read of an input whose bytes aren't known must keep them.
 -- root is a user, and has all system permissions
 abbrev pub is_root : ImageUser → Bool
 is_root u = bytes_eq u.name root && list_all (system_contains u.system) all_system
@@ -126,27 +129,34 @@ pub record IsSaneUser (u : ImageUser) : Type 0 where
   pub few : too_many_auths u.authorizations ≡ false
   pub grant : u.system.grant ≡ true → u.name ≡ root
 
--- a record is of an accepted mutation, and has a label that is one; a marker has no value
+-- no part of a record is too long; it is of an accepted mutation, and has a label that is one; a marker has no value
 pub record IsSaneRecord (next : ℕ) (r : Record) : Type 0 where
+  pub short : IsShort r
   pub seq : r.seq < next
   pub idx : r.idx < MAX_UPDATES
   pub marker : r.kind ≡ Delete → r.value ≡ []
   pub label : IsOk (label_of r.key.label)
 
--- its rights are of users that there are; rights, end rows and records rise strictly
+-- its rights are of users that there are, one permission at least; rights, end rows and records rise strictly; no end row is too long, and
+-- there are fewer than 2^32
 pub record IsSaneTable (users : List ImageUser) (next : ℕ) (t : ImageTable) : Type 0 where
   pub rights : IsRising (map (λ r. r.user) t.head.rights)
   pub known : AllByRecursion (λ r. has_user users r.user ≡ true) t.head.rights
+  pub some : AllByRecursion (λ r. has_any r.held ≡ true) t.head.rights
   pub ends : IsRising t.head.ends
+  pub ends_short : AllByRecursion (λ row. length row ≤ MAX_PART_LEN) t.head.ends
+  pub ends_few : length t.head.ends < 2 ^ 32
   pub records : IsStrictlySortedBy record_cmp t.records
   pub each : AllByRecursion (IsSaneRecord next) t.records
 
--- users and tables rise strictly, root is there, and each user and each table is sane
+-- users and tables rise strictly, there are fewer than 2^32 of each, root is there, and each user and each table is sane
 pub record IsSane (i : Image) : Type 0 where
   pub users : IsRising (map (λ u. u.name) i.users)
+  pub users_few : length i.users < 2 ^ 32
   pub root_there : list_any is_root i.users ≡ true
   pub each_user : AllByRecursion IsSaneUser i.users
   pub tables : IsRising (map (λ t. t.head.name) i.tables)
+  pub tables_few : length i.tables < 2 ^ 32
   pub each_table : AllByRecursion (IsSaneTable i.users i.next) i.tables
 
 -- ---- images

@@ -11,13 +11,12 @@
 //! | File | What |
 //! |---|---|
 //! | `image`, `user`, `table` | what an image says, as values: contracts see them as definitions have them |
-//! | `records` | records of one table, in one body of bytes |
 //! | `saving` | a whole image, written |
 //! | `writing`, `bits` | its pieces, and sets as bytes of bits |
 //! | `loading` | a whole image, read |
 //! | `reading_users`, `reading_tables`, `record_reading` | its pieces |
 //! | `lists`, `sets`, `fields`, `taking` | lists, sets, byte strings and names, and numbers, read from an input |
-//! | `sanity`, `byte_order` | the conditions on an image, and lists that rise |
+//! | `sanity`, `byte_order`, `known_users` | the conditions on an image, lists that rise, and users found by name |
 //! | `fault`, `unread` | why bytes are no image, why none was loaded, and why a part wasn't read |
 //! | `laws` | the laws of the definitions, each the contract of a function that does nothing |
 //!
@@ -28,8 +27,8 @@
 //!
 //! In `proofs`, `PartLaw`, `SaneLaw`, `Rising` and `ImageLaw` tie the relation to the function, `SpellingLaw` and `WrittenLaw` to the bytes
 //! that are written. `Streams` composes the clauses of functions that read one part after another; `TextLemmas`, `NumberLemmas`,
-//! `FieldLemmas`, `PartsLemmas`, `RecordLemmas`, `BodyLemmas` and `LoadLemmas` are on these parts, `StillThere` on records in a body that
-//! grows, `SaneLemmas` on the tests of records, `SetLemmas` and `WritingLemmas` on sets and on texts that are put.
+//! `FieldLemmas`, `PartsLemmas`, `RecordLemmas`, `BodyLemmas` and `LoadLemmas` are on these parts, `SaneLemmas` on the tests of records,
+//! `SetLemmas` and `WritingLemmas` on sets and on texts that are put.
 #![tactic(auto)]
 
 mod bits;
@@ -37,13 +36,13 @@ mod byte_order;
 mod fault;
 mod fields;
 mod image;
+mod known_users;
 mod laws;
 mod lists;
 mod loading;
 mod reading_tables;
 mod reading_users;
 mod record_reading;
-mod records;
 mod sanity;
 mod saving;
 mod sets;
@@ -57,8 +56,8 @@ pub use fault::{ImageFault, LoadFault};
 pub use image::Image;
 pub use laws::{images_are_read, one_spelling, versions_are_told, what_fits_is_spelled};
 pub use loading::{VERSION, read_image};
-pub use records::Records;
 pub use saving::write_image;
+pub use tab_mem::Records;
 pub use table::{ImageRight, ImageTable, TableHead};
 pub use user::ImageUser;
 pub use writing::{

@@ -10,12 +10,12 @@ ghost use Rattle.tab_image.specs.Laying.{span_of, Lays, Adds};
 ghost use Rattle.tab_parts.specs.Reading.{u64_at, parts_at};
 
 use crate::fields::{read_kind, read_part};
-use crate::records::Records;
 use crate::taking::{read_i64, read_u32, read_u64};
 use crate::unread::Unread;
 use std::alloc::Global;
 use tab_io::Input;
 use tab_key::{Key, Kind};
+use tab_mem::Records;
 
 /// Where the parts of a record end in a body that holds them alone, one behind another, and what of it isn't bytes.
 #[derive(Clone, Copy)]

@@ -3,23 +3,28 @@ ghost use Rattle.std.specs.Prelude.{◌≡◌, is_ok};
 ghost use Rattle.std.specs.List.{list_all, list_any};
 ghost use Rattle.tab_key.specs.Order.{record_cmp};
 ghost use Rattle.tab_label.specs.Reading.{label_of};
+ghost use Rattle.tab_policy.specs.Holders.{has_any};
 ghost use Rattle.tab_policy.specs.Permissions.{all_system};
 ghost use Rattle.tab_policy.specs.Sets.{system_contains};
 ghost use Rattle.tab_history.specs.Checks.{too_many_auths};
 ghost use Rattle.tab_image.specs.Images.{is_root, has_user};
-ghost use Rattle.tab_image.specs.Conditions.{rises, is_sane_user, is_sane_record, has_sane_rights, has_sane_records, is_sane_table, is_sane};
+ghost use Rattle.tab_image.specs.Conditions.{rises, is_short, is_few, is_sane_user, is_accepted, is_sane_record, has_sane_rights, has_sane_ends, has_sane_records, is_sane_table, is_sane};
 
 use crate::byte_order::{ByBytes, rise};
 use crate::image::Image;
-use crate::records::Records;
+use crate::known_users::KnownUsers;
 use crate::table::{ImageRight, ImageTable};
 use crate::user::ImageUser;
 use std::alloc::Global;
 use tab_key::{
-    ByteString, MAX_AUTHORIZATION_LEN, MAX_AUTHORIZATIONS, MAX_UPDATES, Name, RecordRef,
+    ByteString, MAX_AUTHORIZATION_LEN, MAX_AUTHORIZATIONS, MAX_PART_LEN, MAX_UPDATES, RecordRef,
 };
 use tab_label::{AuthSet, judge};
+use tab_mem::Records;
 use tab_policy::{SystemPermission, SystemPermissions, is_root as is_root_name};
+
+// The most that a count of four bytes tells.
+const MAX_COUNT: usize = 4_294_967_295;
 
 impl ByBytes for ImageUser {
     ghost bytes = { λ u. u.name };
@@ -60,19 +65,32 @@ pub(crate) fn is_sane(alloc: Global, image: &Image) -> bool
 {
     let users = image.users.as_slice();
     let tables = image.tables.as_slice();
-    if !rise(users) {
+    if !are_few(users) {
         return false;
     }
+    let Some(known) = KnownUsers::of(users) else {
+        return false;
+    };
     if !has_root(users) {
         return false;
     }
     if !are_sane_users(users) {
         return false;
     }
+    if !are_few(tables) {
+        return false;
+    }
     if !rise(tables) {
         return false;
     }
-    are_sane_tables(alloc, users, image.next, tables)
+    are_sane_tables(alloc, &known, image.next, tables)
+}
+
+// Whether a count of four bytes tells how many there are.
+fn are_few<T>(items: &[T]) -> bool
+    ensures { result ≡ is_few items.now }
+{
+    items.len() <= MAX_COUNT
 }
 
 // Whether this is root, with all system permissions.
@@ -121,29 +139,33 @@ fn are_sane_users(users: &[ImageUser]) -> bool
     users.iter().all(|user| is_sane_user(user))
 }
 
-// Whether there is a user of this name.
-fn has_user(users: &[ImageUser], name: &Name) -> bool
-    ensures { result ≡ has_user users.now name.now }
-{
-    users
-        .iter()
-        .any(|user| user.name.as_bytes() == name.as_bytes())
-}
-
-// Whether rights rise by user, and their users are there.
-fn are_sane_rights(users: &[ImageUser], rights: &[ImageRight]) -> bool
+// Whether rights rise by user, their users are there, and each is of some permission.
+fn are_sane_rights(users: &KnownUsers<'_>, rights: &[ImageRight]) -> bool
     ensures { result ≡ has_sane_rights users.now rights.now }
 {
-    rise(rights) && are_known(users, rights)
+    rise(rights) && are_known(users, rights) && are_held(rights)
 }
 
-fn are_known(users: &[ImageUser], rights: &[ImageRight]) -> bool
+fn are_known(users: &KnownUsers<'_>, rights: &[ImageRight]) -> bool
     ensures { result ≡ list_all (λ r. has_user users.now r.user) rights.now }
 {
-    rights.iter().all(|right| has_user(users, &right.user))
+    rights.iter().all(|right| users.has(&right.user))
 }
 
-fn are_sane_tables(alloc: Global, users: &[ImageUser], next: u64, tables: &[ImageTable]) -> bool
+fn are_held(rights: &[ImageRight]) -> bool
+    ensures { result ≡ list_all (λ r. has_any r.held) rights.now }
+{
+    rights.iter().all(|right| is_held(right))
+}
+
+// Whether the user has a permission.
+fn is_held(right: &ImageRight) -> bool
+    ensures { result ≡ has_any right.now.held }
+{
+    !right.held.is_empty()
+}
+
+fn are_sane_tables(alloc: Global, users: &KnownUsers<'_>, next: u64, tables: &[ImageTable]) -> bool
     ensures { result ≡ list_all (is_sane_table users.now next) tables.now }
 {
     let nobody = AuthSet::empty(alloc);
@@ -153,16 +175,35 @@ fn are_sane_tables(alloc: Global, users: &[ImageUser], next: u64, tables: &[Imag
 }
 
 // Whether a table's rights, end rows and records are as they have to be.
-fn is_sane_table(nobody: &AuthSet, users: &[ImageUser], next: u64, table: &ImageTable) -> bool
+fn is_sane_table(nobody: &AuthSet, users: &KnownUsers<'_>, next: u64, table: &ImageTable) -> bool
     ensures { result ≡ is_sane_table users.now next table.now }
 {
     if !are_sane_rights(users, table.head.rights.as_slice()) {
         return false;
     }
-    if !rise(table.head.ends.as_slice()) {
+    if !are_sane_ends(table.head.ends.as_slice()) {
         return false;
     }
     are_sane_records(nobody, next, &table.records)
+}
+
+// Whether end rows rise, and neither they nor their count are over the limits.
+fn are_sane_ends(ends: &[ByteString]) -> bool
+    ensures { result ≡ has_sane_ends ends.now }
+{
+    if !are_few(ends) {
+        return false;
+    }
+    if !rise(ends) {
+        return false;
+    }
+    are_short(ends)
+}
+
+fn are_short(rows: &[ByteString]) -> bool
+    ensures { result ≡ list_all is_short rows.now }
+{
+    rows.iter().all(|row| row.len() <= MAX_PART_LEN)
 }
 
 fn are_sane_records(nobody: &AuthSet, next: u64, records: &Records) -> bool
@@ -183,11 +224,12 @@ fn records_rise(records: &Records) -> bool
     true
 }
 
+// Whether each record is as it has to be. No part is too long, since `Records` hold no other ones.
 fn is_each_sane(nobody: &AuthSet, next: u64, records: &Records) -> bool
     ensures { result ≡ list_all (is_sane_record next) records.now }
 {
     for index in 0..records.len() {
-        if !is_sane_record(nobody, next, &records.get(index)) {
+        if !is_accepted(nobody, next, &records.get(index)) {
             return false;
         }
     }
@@ -195,8 +237,8 @@ fn is_each_sane(nobody: &AuthSet, next: u64, records: &Records) -> bool
 }
 
 // Whether a record is of an accepted mutation, and has a label that is one; a marker has no value.
-fn is_sane_record(nobody: &AuthSet, next: u64, record: &RecordRef<'_>) -> bool
-    ensures { result ≡ is_sane_record next record.now }
+fn is_accepted(nobody: &AuthSet, next: u64, record: &RecordRef<'_>) -> bool
+    ensures { result ≡ is_accepted next record.now }
 {
     if record.seq() >= next {
         return false;

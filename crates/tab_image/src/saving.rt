@@ -7,13 +7,13 @@ ghost use Rattle.tab_io.specs.Writing.{Puts};
 ghost use Rattle.tab_image.specs.Spelling.{list_bytes, user_bytes, record_bytes, records_bytes, table_bytes, front_bytes, end_bytes, image_bytes};
 
 use crate::image::Image;
-use crate::records::Records;
 use crate::table::ImageTable;
 use crate::user::ImageUser;
 use crate::writing::{
     put_end, put_front, put_head, put_list, put_record, put_record_count, put_user,
 };
 use tab_io::{Output, WriteFault};
+use tab_mem::Records;
 use tab_text::PutItem;
 
 /// Writes an image. It takes no memory, and fails where the output does; then a beginning of the image is written.

@@ -1,8 +1,8 @@
 //! What an image says of a table.
 
-use crate::records::Records;
 use tab_history::{TimeMode, Versions};
 use tab_key::{ByteString, Items, Name};
+use tab_mem::Records;
 use tab_policy::TablePermissions;
 use tab_rules::ConstraintSet;
 

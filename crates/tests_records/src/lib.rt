@@ -9,6 +9,7 @@
 //! | `records` | `tab_key`: owned records, columns, byte strings and lists |
 //! | `labels` | `tab_label`: trees and depths; `brute`: every short text, beside the grammar written as a search |
 //! | `mutations` | `tab_mutation`: the updates one after another |
+//! | `policies` | `tab_policy`: who is listed, and what is left to nobody when lives end |
 //! | `rules` | `tab_rules`: the texts of violations |
 //! | `events` | `tab_history`: copies of events, parts of replies, counts of versions |
 #![tactic(auto)]
@@ -21,6 +22,8 @@ mod keys;
 mod labels;
 #[cfg(test)]
 mod mutations;
+#[cfg(test)]
+mod policies;
 #[cfg(test)]
 mod records;
 #[cfg(test)]

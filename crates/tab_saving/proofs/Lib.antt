@@ -1,0 +1,10 @@
+pub mod Granted
+pub mod OneImage
+pub mod OneList
+pub mod HolderRights
+pub mod Sane
+pub mod Fitting
+pub mod Gathered
+pub mod Texts
+pub mod Listings
+pub mod Saved

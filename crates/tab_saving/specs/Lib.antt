@@ -1,0 +1,5 @@
+pub mod ImageOf
+pub mod OneImage
+pub mod Saves
+pub mod Saving
+pub mod Typed

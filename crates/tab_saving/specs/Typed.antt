@@ -1,0 +1,44 @@
+-- What the types of a core's parts say of them, and what is counted as they are written: what an image asks for beyond what a core keeps.
+use Rattle.std.specs.Prelude.{ℕ, ◌≡◌, ◌<◌, ◌^◌, List, length, true, FitsSigned}
+use Rattle.std.specs.Int.{w64, cast_unsigned}
+use Rattle.std.specs.List.{AllByRecursion}
+use Rattle.tab_key.specs.Encoding.{FitsNumbers}
+use Rattle.tab_key.specs.Names.{IsName}
+use Rattle.tab_key.specs.Records.{Record}
+use Rattle.tab_key.specs.Sorted.{sorted}
+use Rattle.tab_label.specs.Sets.{IsRising}
+use Rattle.tab_policy.specs.State.{State, auths_of}
+use Rattle.tab_rules.specs.Constraints.{constraint_set_of}
+use Rattle.tab_history.specs.Settings.{Settings, is_version_count}
+use Rattle.tab_store.specs.ByRow.{records_of_all}
+use Rattle.tab_store.specs.Stores.{HeldTable, Held}
+
+-- a user's name is one, and his authorizations are a set
+pub record IsTypedUser (s : State) (n : List ℕ) : Type 0 where
+  pub name : IsName n
+  pub rising : IsRising (auths_of s n)
+
+-- a table's name is one, it keeps 1 to 1,000 versions, and its constraints are in the one form of their set
+pub record IsTypedHead (n : List ℕ) (settings : Settings) : Type 0 where
+  pub name : IsName n
+  pub versions : is_version_count settings.versions ≡ true
+  pub constraints : constraint_set_of settings.constraints ≡ settings.constraints
+
+-- a record's numbers are of their widths
+abbrev pub IsTypedRecord : Record → Type 0
+IsTypedRecord u = FitsNumbers u.key.timestamp u.seq u.idx
+
+-- those of each record are, and there are fewer than 2^64 records
+pub record AreTypedRecords (us : List Record) : Type 0 where
+  pub numbers : AllByRecursion IsTypedRecord us
+  pub few : length us < 2 ^ 64
+
+pub record IsTypedTable (t : HeldTable) : Type 0 where
+  pub head : IsTypedHead t.name t.settings
+  pub records : AreTypedRecords (sorted (records_of_all t.tablets))
+
+-- the clock and the next number of a core are of their widths
+pub record AreTypedClocks (h : Held) : Type 0 where
+  pub clock : FitsSigned w64 h.clock
+  pub clock_bits : cast_unsigned w64 h.clock < 2 ^ 64
+  pub next : h.next < 2 ^ 64
