@@ -29,7 +29,9 @@ pub const LINES: &str = "  as U
   status T
   addsplit T ROW
   splitsize T ROW LIMIT
-  splits T";
+  splits T
+  save FILE
+  load FILE";
 
 /// The updates of a `mutate`, as the lines.
 pub const UPDATES: &str = "  put FAM QUAL LABEL VALUE STAMP
@@ -59,6 +61,7 @@ pub const KINDS: &str = "  U                  a user's name: 1 to 128 of a-z A-Z
   COUNT              how many cells: a whole number of 32 bits without a sign, as 100
   EXTENT             partial or full
   LIMIT              a number of bytes: a whole number of 64 bits without a sign, as 1000
+  FILE               a file's name in UTF-8: ! to ~ as they are but \\\\ for \\, \\xHH (H of 0-9 a-f) for any byte
   UPDATE             put or del, and the words behind it
   ;                  between two updates";
 

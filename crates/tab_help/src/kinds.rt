@@ -20,6 +20,7 @@ fn frame(kind: &str) -> (&'static [u8], &'static [u8]) {
         b"SESSION" | b"COUNT" => (b"close ", b""),
         b"EXTENT" => (b"compact t ", b""),
         b"LIMIT" => (b"splitsize t r ", b""),
+        b"FILE" => (b"save ", b""),
         _ => (b"insert t ", b" f q \\e v"),
     }
 }

@@ -16,4 +16,6 @@ pub mod PermissionLaw
 pub mod RangeLemmas
 pub mod SessionLaw
 pub mod SplitLaw
+pub mod FileLemmas
+pub mod FileLaw
 pub mod LineLaw

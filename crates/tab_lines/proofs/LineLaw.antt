@@ -24,6 +24,7 @@ use Rattle.tab_lines.specs.declared.line.Line.{Line}
 use Rattle.tab_lines.specs.declared.line.Line.TheVariants as says
 use Rattle.tab_lines.specs.declared.command.Command.{Command}
 use Rattle.tab_lines.specs.declared.command.Command.TheVariants as command
+use Rattle.tab_lines.specs.declared.file_line.FileKind.TheVariants.{Save, Load}
 use Rattle.tab_lines.specs.declared.updates.TimestampForm.TheVariants.{Optional}
 use Rattle.tab_lines.specs.Gives.{field, ends, optional}
 use Rattle.tab_lines.specs.Words.{words_of}
@@ -36,7 +37,7 @@ use Rattle.tab_lines.specs.Forms.{IsNameWord, IsNumber, IsList, IsConstraint, Is
 use Rattle.tab_lines.specs.Forms.AreSettings.{neither as set_neither, time as set_time, versions as set_versions, both as set_both}
 use Rattle.tab_lines.specs.Forms.AreLimits.{all as limit_all, rows as limit_rows, columns as limit_columns}
 use Rattle.tab_lines.specs.Forms.IsScan.{asks as scan_asks}
-use Rattle.tab_lines.specs.Forms.Form.{blank as form_blank, asker as form_asker, at as form_at, createtable as form_createtable, droptable as form_droptable, createuser as form_createuser, dropuser as form_dropuser, setauths as form_setauths, grant as form_grant, revoke as form_revoke, rights as form_rights, constraints as form_constraints, insert as form_insert, delete as form_delete, mutate as form_mutate, scan as form_scan, opened as form_opened, next as form_next, many as form_many, close as form_close, flush as form_flush, compact as form_compact, status as form_status, addsplit as form_addsplit, splitsize as form_splitsize, splits as form_splits}
+use Rattle.tab_lines.specs.Forms.Form.{blank as form_blank, asker as form_asker, at as form_at, createtable as form_createtable, droptable as form_droptable, createuser as form_createuser, dropuser as form_dropuser, setauths as form_setauths, grant as form_grant, revoke as form_revoke, rights as form_rights, constraints as form_constraints, insert as form_insert, delete as form_delete, mutate as form_mutate, scan as form_scan, opened as form_opened, next as form_next, many as form_many, close as form_close, flush as form_flush, compact as form_compact, status as form_status, addsplit as form_addsplit, splitsize as form_splitsize, splits as form_splits, save as form_save, load as form_load}
 use Rattle.tab_lines.specs.Forms.IsLine.{comment as line_comment, words as line_words}
 use Rattle.tab_lines.proofs.WordLaw.{words_read}
 use Rattle.tab_lines.proofs.WordsLaw.{words_sound, words_complete}
@@ -46,6 +47,7 @@ use Rattle.tab_lines.proofs.ColumnLaw.{columns_read}
 use Rattle.tab_lines.proofs.PermissionLaw.{on_name_alone, name_alone_complete, on_grant, grant_complete}
 use Rattle.tab_lines.proofs.SessionLaw.{next_sound, next_complete, many_sound, many_complete, close_sound, close_complete}
 use Rattle.tab_lines.proofs.SplitLaw.{addsplit_sound, addsplit_complete, splitsize_sound, splitsize_complete}
+use Rattle.tab_lines.proofs.FileLaw.{file_sound, file_complete}
 use Rattle.tab_lines.proofs.UpdateLaw.{put_with, delete_with, on_put, put_complete, on_delete, delete_complete, last_timestamp, last_complete, updates_sound, updates_complete}
 use Rattle.tab_lines.proofs.Inverting.{Words, some_inj, bind_some, field_some, on_bind, on_map, on_field, on_read, on_ends, on_optional}
 
@@ -372,6 +374,8 @@ command_name command.Status = codes "status"
 command_name command.AddSplit = codes "addsplit"
 command_name command.SplitSize = codes "splitsize"
 command_name command.Splits = codes "splits"
+command_name command.Save = codes "save"
+command_name command.Load = codes "load"
 
 command_sound : (word : List ℕ) (c : Command) → command_of word ≡ Some c → word ≡ command_name c
 command_sound word c is =
@@ -399,7 +403,9 @@ command_sound word c is =
     on_cond (bytes_eq word (codes "status")) (Some command.Status) _ c (word ≡ command_name c) e21 (λ yes e. named (codes "status") command.Status yes refl e) (λ no22 e22.
     on_cond (bytes_eq word (codes "addsplit")) (Some command.AddSplit) _ c (word ≡ command_name c) e22 (λ yes e. named (codes "addsplit") command.AddSplit yes refl e) (λ no23 e23.
     on_cond (bytes_eq word (codes "splitsize")) (Some command.SplitSize) _ c (word ≡ command_name c) e23 (λ yes e. named (codes "splitsize") command.SplitSize yes refl e) (λ no24 e24.
-    on_cond (bytes_eq word (codes "splits")) (Some command.Splits) _ c (word ≡ command_name c) e24 (λ yes e. named (codes "splits") command.Splits yes refl e) (λ no25 e25. absurd cc)))))))))))))))))))))))))
+    on_cond (bytes_eq word (codes "splits")) (Some command.Splits) _ c (word ≡ command_name c) e24 (λ yes e. named (codes "splits") command.Splits yes refl e) (λ no25 e25.
+    on_cond (bytes_eq word (codes "save")) (Some command.Save) _ c (word ≡ command_name c) e25 (λ yes e. named (codes "save") command.Save yes refl e) (λ no26 e26.
+    on_cond (bytes_eq word (codes "load")) (Some command.Load) _ c (word ≡ command_name c) e26 (λ yes e. named (codes "load") command.Load yes refl e) (λ no27 e27. absurd cc)))))))))))))))))))))))))))
   where
     named : (text : List ℕ) (d : Command) → bytes_eq word text ≡ true → text ≡ command_name d → Some d ≡ Some c → word ≡ command_name c
     named text d same name e = (bytes_eq-Decides word text).0 same ∙ name ∙ ap command_name (some_inj d c e)
@@ -454,6 +460,8 @@ commanded_sound command.Status words line is = named_sound (codes "status") (λ 
 commanded_sound command.AddSplit words line is = addsplit_sound words line is
 commanded_sound command.SplitSize words line is = splitsize_sound words line is
 commanded_sound command.Splits words line is = named_sound (codes "splits") (λ name. says.Act (Splits name)) words line form_splits is
+commanded_sound command.Save words line is = file_sound (codes "save") Save words line form_save is
+commanded_sound command.Load words line is = file_sound (codes "load") Load words line form_load is
 
 said_sound : (words : Words) (line : Line) → said words ≡ Some line → Form words line
 said_sound [] line is = subst (λ (y : Line). Form [] y) (some_inj says.Blank line is) form_blank
@@ -489,6 +497,8 @@ said_complete words line (form_status t table name) = ap (λ (o : Option (List �
 said_complete words line (form_addsplit t r table row name word) = addsplit_complete t r table row name word
 said_complete words line (form_splitsize t r l table row limit name word number) = splitsize_complete t r l table row limit name word number
 said_complete words line (form_splits t table name) = ap (λ (o : Option (List ℕ)). option_map (λ n. says.Act (Splits n)) o) (name_alone_complete t table name)
+said_complete words line (form_save f name is) = file_complete Save f name is
+said_complete words line (form_load f name is) = file_complete Load f name is
 
 line_sound : (text : List ℕ) (line : Line) → line_of text ≡ Some line → IsLine text line
 line_sound [] line is = line_words [] (words_of []) line (λ rest e. absurd cc) (words_sound (words_of []) [] refl) (said_sound (words_of []) line is)

@@ -3,7 +3,7 @@ use Rattle.std.specs.Prelude.{ℕ, ℤ, pos, negsuc, ◌+◌, ◌-◌, ◌*◌, 
 use Rattle.std.specs.Char.{is_ascii_digit}
 use Rattle.std.specs.List.{list_all}
 use Rattle.std.specs.Option.{option_map, option_and_then}
-use Rattle.std.specs.Str.{bytes_eq}
+use Rattle.std.specs.Str.{bytes_eq, is_utf8}
 use Rattle.tab_key.specs.Names.{is_name_byte}
 use Rattle.tab_key.specs.declared.name.TheConstants.{MAX_NAME_LEN}
 use Rattle.tab_history.specs.Settings.{is_version_count}
@@ -96,6 +96,12 @@ versions_word word = if bytes_eq (take 9 word) (codes "versions=") then option_a
 -- what it merges
 abbrev pub extent_word : List ℕ → Option Extent
 extent_word word = if bytes_eq word (codes "partial") then Some Partial else if bytes_eq word (codes "full") then Some Full else None
+
+-- ---- files
+
+-- the name of a file that a word spells: bytes that are UTF-8
+abbrev pub file_name_of : List ℕ → Option (List ℕ)
+file_name_of word = option_and_then (only_if is_utf8) (bytes_of word)
 
 -- ---- permissions
 

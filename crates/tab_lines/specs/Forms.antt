@@ -2,6 +2,7 @@
 use Rattle.std.specs.Prelude.{ℕ, ℤ, pos, negsuc, ◌≡◌, ◌≢◌, ◌+◌, ◌^◌, ◌<◌, ◌≤◌, ◌==◌, ◌⊎◌, ◌↔◌, true, not, List, [], ◌∷◌, ◌++◌, replicate, codes, Option, Some, None}
 use Rattle.std.specs.List.{AllZip, list_all}
 use Rattle.std.specs.Fmt.{decimal}
+use Rattle.std.specs.Str.{IsUtf8}
 use Rattle.tab_key.specs.Names.{IsName}
 use Rattle.tab_key.specs.declared.part.TheConstants.{MAX_VERSIONS}
 use Rattle.tab_key.specs.declared.range.Bound.{Bound}
@@ -24,6 +25,7 @@ use Rattle.tab_history.specs.declared.event.Act.TheVariants.{CreateTable, DropTa
 use Rattle.tab_history.specs.declared.event.Scan.{Scan}
 use Rattle.tab_lines.specs.declared.line.Line.{Line}
 use Rattle.tab_lines.specs.declared.line.Line.TheVariants as line
+use Rattle.tab_lines.specs.declared.file_line.FileKind.TheVariants.{Save, Load}
 use Rattle.tab_lines.specs.Words.{parts_at}
 use Rattle.tab_text.specs.Words.{IsWord}
 use Rattle.tab_lines.specs.Lines.{line_of}
@@ -33,6 +35,10 @@ use Rattle.tab_lines.specs.Lines.{line_of}
 -- the word spells a name of a user or a table
 abbrev pub IsNameWord : List ℕ → List ℕ → Type 0
 IsNameWord word name = IsWord word name × IsName name
+
+-- the word spells a name of a file: bytes that are UTF-8
+abbrev pub IsFileWord : List ℕ → List ℕ → Type 0
+IsFileWord word name = IsWord word name × IsUtf8 name
 
 -- zeros, and then the number as it is written in decimal
 abbrev pub AreDigits : List ℕ → ℕ → Type 0
@@ -192,6 +198,8 @@ pub data Form : List (List ℕ) → Line → Type 0 where
   splitsize : (t r l table row : List ℕ) (limit : ℕ) → IsNameWord t table → IsWord r row → IsUnsigned l limit
       → Form (codes "splitsize" ∷ t ∷ r ∷ l ∷ []) (line.Act (SplitBySize table row limit))
   splits : (t table : List ℕ) → IsNameWord t table → Form (codes "splits" ∷ t ∷ []) (line.Act (Splits table))
+  save : (f name : List ℕ) → IsFileWord f name → Form (codes "save" ∷ f ∷ []) (line.File (record { kind = Save; name = name }))
+  load : (f name : List ℕ) → IsFileWord f name → Form (codes "load" ∷ f ∷ []) (line.File (record { kind = Load; name = name }))
 
 -- there is a byte, and none is a space
 abbrev pub IsPlainWord : List ℕ → Type 0

@@ -15,11 +15,13 @@ use Rattle.tab_lines.specs.declared.line.Line.{Line}
 use Rattle.tab_lines.specs.declared.line.Line.TheVariants as line
 use Rattle.tab_lines.specs.declared.command.Command.{Command}
 use Rattle.tab_lines.specs.declared.command.Command.TheVariants as command
+use Rattle.tab_lines.specs.declared.file_line.FileKind.{FileKind}
+use Rattle.tab_lines.specs.declared.file_line.FileKind.TheVariants.{Save, Load}
 use Rattle.tab_lines.specs.declared.updates.TimestampForm.TheVariants.{Optional}
 use Rattle.tab_lines.specs.Gives.{◌>>=◌, field, ends, optional}
 use Rattle.tab_lines.specs.Words.{words_of}
 use Rattle.tab_text.specs.Reading.{bytes_of}
-use Rattle.tab_lines.specs.Fields.{name_of, unsigned_of, small_of, signed_of, time_word, versions_word, extent_word, system_permission, table_permission, list_of, constraints_of, bound_of, columns_of}
+use Rattle.tab_lines.specs.Fields.{name_of, unsigned_of, small_of, signed_of, time_word, versions_word, extent_word, file_name_of, system_permission, table_permission, list_of, constraints_of, bound_of, columns_of}
 use Rattle.tab_lines.specs.Updates.{row_of, with_updates, put_of, delete_of, updates_of}
 use Rattle.tab_mutation.specs.Mutations.{with_update}
 
@@ -180,6 +182,13 @@ splitsize_of words = do
   end ← ends limit.1
   Some (line.Act (SplitBySize table.0 row.0 limit.0))
 
+-- the words behind the command of a line save FILE or load FILE
+unfoldable pub file_of : FileKind → List (List ℕ) → Option Line
+file_of kind words = do
+  name ← field file_name_of words
+  end ← ends name.1
+  Some (line.File (record { kind = kind; name = name.0 }))
+
 -- the words behind the command of a line at MOMENT
 unfoldable pub at_of : List (List ℕ) → Option Line
 at_of words = do
@@ -215,6 +224,8 @@ command_of word =
     else if bytes_eq word (codes "addsplit") then Some command.AddSplit
     else if bytes_eq word (codes "splitsize") then Some command.SplitSize
     else if bytes_eq word (codes "splits") then Some command.Splits
+    else if bytes_eq word (codes "save") then Some command.Save
+    else if bytes_eq word (codes "load") then Some command.Load
     else None
 
 -- the words after the command
@@ -244,6 +255,8 @@ commanded command.Status words = option_map (λ table. line.Act (Status table)) 
 commanded command.AddSplit words = addsplit_of words
 commanded command.SplitSize words = splitsize_of words
 commanded command.Splits words = option_map (λ table. line.Act (Splits table)) (name_alone words)
+commanded command.Save words = file_of Save words
+commanded command.Load words = file_of Load words
 
 -- what the words of a line say; no words say nothing
 abbrev pub said : List (List ℕ) → Option Line

@@ -55,6 +55,10 @@ pub enum Command {
     SplitSize,
     /// `splits`
     Splits,
+    /// `save`
+    Save,
+    /// `load`
+    Load,
 }
 
 /// The command that a word is. Commands are literal: nothing in them may be escaped.
@@ -87,6 +91,8 @@ pub fn command_of(word: &[u8]) -> Option<Command>
         b"addsplit" => Some(Command::AddSplit),
         b"splitsize" => Some(Command::SplitSize),
         b"splits" => Some(Command::Splits),
+        b"save" => Some(Command::Save),
+        b"load" => Some(Command::Load),
         _ => None,
     }
 }

@@ -5,13 +5,14 @@ ghost use Rattle.tab_lines.specs.Gives.{Gives, field, ends};
 ghost use Rattle.tab_lines.specs.Words.{words_left};
 ghost use Rattle.tab_text.specs.Reading.{bytes_of};
 ghost use Rattle.tab_lines.specs.Spelling.{bytes_spelled};
-ghost use Rattle.tab_lines.specs.Fields.{name_of, unsigned_of, small_of, signed_of, list_of, bound_of, extent_word};
+ghost use Rattle.tab_lines.specs.Fields.{name_of, unsigned_of, small_of, signed_of, list_of, bound_of, extent_word, file_name_of};
 ghost use Rattle.tab_lines.specs.Lines.{name_alone};
 
 use crate::LineError;
 use crate::bounds::bound_of;
+use crate::file_line::FileName;
 use crate::lists::list_of;
-use crate::names::{extent_word, name_of};
+use crate::names::{extent_word, file_name_of, name_of};
 use crate::numbers::{signed_of, small_of, unsigned_of};
 use crate::spelling::{Spelled, bytes_of, spelling_of};
 use crate::words::Words;
@@ -110,6 +111,16 @@ pub fn an_extent(words: &mut Words) -> Result<Extent, LineError>
         return Err(LineError::Fault);
     };
     Ok(extent)
+}
+
+/// Takes a word that spells the name of a file.
+pub fn a_file_name(alloc: Global, words: &mut Words) -> Result<FileName, LineError>
+    ensures { Gives (λ x. (x, words_left words.new)) result (field file_name_of (words_left words.old)) }
+{
+    let Some(word) = words.next() else {
+        return Err(LineError::Fault);
+    };
+    file_name_of(alloc, word)
 }
 
 /// Takes the last word, which spells a name.

@@ -30,9 +30,11 @@
 //! | `addsplit T ROW` | split the tablet that holds the row, at that row |
 //! | `splitsize T ROW LIMIT` | split the tablet that holds the row in its middle, where its sorted tables have so many bytes or more |
 //! | `splits T` | tell the rows at which a table is split |
+//! | `save FILE` | save an image of everything to a file |
+//! | `load FILE` | load the image in a file in place of everything |
 //!
 //! Commands, the names of permissions and the words `put`, `del`, `;`, `-`, `time=..`, `versions=`, `partial` and `full` are literal. Names
-//! of users and tables, rows and the other parts are byte words (crate `tab_text`). P is the name of a permission as
+//! of users and tables, rows and the other parts are byte words (crate `tab_text`), and so is FILE, whose bytes are UTF-8. P is the name of a permission as
 //! crate `tab_policy` has it: of a system permission where it is the last word, else of a table permission. The forms of updates have fixed lengths and are read by place, so a value may be
 //! the word `;`. A number is decimal digits, leading zeros are accepted, a minus stands before a negative one alone, and
 //! what an i64 can't hold is a fault. The N of versions is 1 to 1,000, K and the N of `next` have no minus and are below 2^32, LIMIT has no minus and is below 2^64. A list is byte words between commas, or the word `\0` for none;
@@ -47,12 +49,13 @@
 //! | `lists` | what the parts of a word between commas say |
 //! | `fields`, `updates`, `permissions` | one word after another, the updates of a mutation, and what is granted to whom |
 //! | `command`, `line` | the first word, and the lines |
+//! | `file_line` | the lines that name a file |
 //! | `line_error` | why a line wasn't read |
 //! | `laws` | reading is exactly the forms of lines |
 //!
 //! `specs/Forms` says what the lines are, with one form for each row of the table above, and nothing of how they are
-//! read; `specs/Lines` reads them. A word without escapes is copied once, into what it becomes part of; names, numbers
-//! and the words of commands take no memory. In `specs`, `Words`, `Fields` and `Updates` are what `Lines` is made of, `Gives` and
+//! read; `specs/Lines` reads them. A word without escapes is copied once, into what it becomes part of; names of users
+//! and tables, numbers and the words of commands take no memory. In `specs`, `Words`, `Fields` and `Updates` are what `Lines` is made of, `Gives` and
 //! `Spelling` say what the code's results stand for. In `proofs`, the files named for a law show that reading one kind of word is
 //! exactly its form, `LineLaw` puts them together, and the others have lemmas for the code.
 #![tactic(auto)]
@@ -61,6 +64,7 @@ mod bounds;
 mod columns;
 mod command;
 mod fields;
+mod file_line;
 mod laws;
 mod line;
 mod line_error;
@@ -73,6 +77,7 @@ mod updates;
 mod words;
 
 pub use command::Command;
+pub use file_line::{FileKind, FileLine, FileName};
 pub use laws::lines_are_forms;
 pub use line::{Line, read_line};
 pub use line_error::LineError;

@@ -3,15 +3,16 @@ ghost use Rattle.std.specs.Prelude.{[]};
 ghost use Rattle.tab_lines.specs.Gives.{Gives, optional};
 ghost use Rattle.tab_lines.specs.Words.{words_left};
 ghost use Rattle.tab_lines.specs.Fields.{constraints_of, columns_of, versions_word};
-ghost use Rattle.tab_lines.specs.Lines.{settings, createtable_of, setauths_of, constraints_line_of, insert_of, delete_line_of, mutate_of, bounds_of, scan_words, next_of, ranges_of, many_of, close_of, compact_of, addsplit_of, splitsize_of, at_of, commanded, said, line_of};
+ghost use Rattle.tab_lines.specs.Lines.{settings, createtable_of, setauths_of, constraints_line_of, insert_of, delete_line_of, mutate_of, bounds_of, scan_words, next_of, ranges_of, many_of, close_of, compact_of, addsplit_of, splitsize_of, file_of, at_of, commanded, said, line_of};
 
 use crate::LineError;
 use crate::bounds::bound_of;
 use crate::command::{Command, command_of};
 use crate::fields::{
-    a_bound, a_byte_string, a_list, a_name, a_number, a_small, an_extent, an_unsigned, ends,
-    name_alone,
+    a_bound, a_byte_string, a_file_name, a_list, a_name, a_number, a_small, an_extent, an_unsigned,
+    ends, name_alone,
 };
+use crate::file_line::{FileKind, FileLine};
 use crate::lists::{columns_of, constraints_of};
 use crate::names::time_word;
 use crate::numbers::versions_word;
@@ -45,6 +46,8 @@ pub enum Line {
     Many(u32, Items<Bounds>),
     /// The session that has this number is closed.
     Close(u32),
+    /// An image is saved to a file, or loaded from one.
+    File(FileLine),
 }
 
 // Takes the number of versions, 1 where no word is left.
@@ -261,6 +264,15 @@ fn splitsize(alloc: Global, words: &mut Words) -> Result<Line, LineError>
     Ok(Line::Act(Act::SplitBySize(table, row, limit)))
 }
 
+#[tactic(auto, unfolding(crate::specs::Lines::file_of))]
+fn file(alloc: Global, kind: FileKind, words: &mut Words) -> Result<Line, LineError>
+    ensures { Gives (λ x. x) result (file_of kind (words_left words.old)) }
+{
+    let name = a_file_name(alloc, words)?;
+    ends(words)?;
+    Ok(Line::File(FileLine { kind, name }))
+}
+
 #[tactic(auto, unfolding(crate::specs::Lines::at_of))]
 fn at(words: &mut Words) -> Result<Line, LineError>
     ensures { Gives (λ x. x) result (at_of (words_left words.old)) }
@@ -306,6 +318,8 @@ fn commanded(alloc: Global, command: Command, words: &mut Words) -> Result<Line,
         Command::AddSplit => addsplit(alloc, words),
         Command::SplitSize => splitsize(alloc, words),
         Command::Splits => Ok(Line::Act(Act::Splits(name_alone(alloc, words)?))),
+        Command::Save => file(alloc, FileKind::Save, words),
+        Command::Load => file(alloc, FileKind::Load, words),
     }
 }
 

@@ -1,10 +1,11 @@
 //! The names that words spell.
 ghost use Rattle.std.specs.Prelude.{◌≡◌};
 ghost use Rattle.tab_lines.specs.Gives.{Gives};
-ghost use Rattle.tab_lines.specs.Fields.{name_of, is_name, only_if, time_word, extent_word, constraint_of};
+ghost use Rattle.tab_lines.specs.Fields.{name_of, is_name, only_if, time_word, extent_word, file_name_of, constraint_of};
 
 use crate::LineError;
-use crate::spelling::spelling_of;
+use crate::file_line::FileName;
+use crate::spelling::{bytes_of, spelling_of};
 use std::alloc::Global;
 use tab_history::{Extent, TimeMode};
 use tab_key::Name;
@@ -53,6 +54,17 @@ pub fn extent_word(word: &[u8]) -> Option<Extent>
     } else {
         None
     }
+}
+
+/// The name of a file that a word spells.
+pub fn file_name_of(alloc: Global, word: &[u8]) -> Result<FileName, LineError>
+    ensures { Gives (λ x. x) result (file_name_of word.now) }
+{
+    let bytes = bytes_of(alloc, word)?;
+    let Some(name) = FileName::new(bytes) else {
+        return Err(LineError::Fault);
+    };
+    Ok(name)
 }
 
 /// The constraint whose name a word spells.

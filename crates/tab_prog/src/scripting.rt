@@ -1,7 +1,10 @@
 //! `tabd script`.
 ghost use Rattle.std.specs.Prelude.{IfOk};
-ghost use Rattle.tab_prog.specs.Programs.{IsFresh, Runs, RunsProgram};
+ghost use Rattle.tab_prog.specs.Programs.{IsFresh, RunsThrough, RunsProgram};
+ghost use Rattle.tab_shell.specs.Scripts.{new_script};
 
+use crate::files::Files;
+use crate::filing::work;
 use std::alloc::{AllocError, Global};
 use tab_core::Core;
 use tab_io::{Input, Output};
@@ -21,24 +24,54 @@ pub enum ProgramFault {
     Write,
 }
 
+impl From<ScriptFault> for ProgramFault {
+    ghost use Rattle.std.specs.Prelude.{◌≡◌};
+    ghost use Rattle.tab_prog.specs.Programs.{program_fault};
+
+    ghost from_gives = { λ fault e. e ≡ program_fault fault };
+
+    fn from(fault: ScriptFault) -> ProgramFault {
+        match fault {
+            ScriptFault::Read => ProgramFault::Read,
+            ScriptFault::Write => ProgramFault::Write,
+        }
+    }
+}
+
 /// Answers the lines of the input on the output, beginning with a new core, until the input ends.
 ///
+/// What an accepted `save` or `load` asks of its file, `files` does; what came of it is answered as `ok`, or as `fault`, the command
+/// and why. A core that was loaded takes the place of the one before, whose sessions are dropped.
+///
 /// An error says which side failed in the call, or that there was no memory for a core.
-pub fn script<R: Input, W: Output>(
+pub fn script<F: Files, R: Input, W: Output>(
     alloc: Global,
+    files: &mut F,
     input: &mut R,
     output: &mut W,
 ) -> Result<(), ProgramFault>
-    ensures { RunsProgram R.Input W.Output input.old output.old input.new output.new result }
+    ensures { RunsProgram F.Files R.Input W.Output files.old input.old output.old files.new input.new output.new result }
 {
     match begun(alloc) {
-        Ok(script) => match answered(script, input, output) {
-            Ok(_) => Ok(()),
-            Err(ScriptFault::Read) => Err(ProgramFault::Read),
-            Err(ScriptFault::Write) => Err(ProgramFault::Write),
+        Ok(script) => match answered(script, files, input, output) {
+            Ok(()) => Ok(()),
+            Err(fault) => Err(ProgramFault::from(fault)),
         },
         Err(AllocError) => Err(ProgramFault::NoMemory),
     }
+}
+
+/// The same, beginning with this core.
+pub fn script_over<F: Files, R: Input, W: Output>(
+    alloc: Global,
+    core: Core,
+    files: &mut F,
+    input: &mut R,
+    output: &mut W,
+) -> Result<(), ScriptFault>
+    ensures { RunsThrough F.Files R.Input W.Output (new_script core) files.old input.old output.old files.new input.new output.new result }
+{
+    answered(Script::new(alloc, core), files, input, output)
 }
 
 // A script over a new core.
@@ -49,13 +82,23 @@ fn begun(alloc: Global) -> Result<Script, AllocError>
     Ok(Script::new(alloc, core))
 }
 
-// Runs the script, and drops it.
-fn answered<R: Input, W: Output>(
+// Runs the script up to each file line in turn, does what that one asks, and drops the script at the end.
+fn answered<F: Files, R: Input, W: Output>(
     mut script: Script,
+    files: &mut F,
     input: &mut R,
     output: &mut W,
-) -> Result<Ended, ScriptFault>
-    ensures { Runs R.Input W.Output script input.old output.old input.new output.new result }
+) -> Result<(), ScriptFault>
+    ensures { RunsThrough F.Files R.Input W.Output script files.old input.old output.old files.new input.new output.new result }
 {
-    script.run(input, output)
+    loop {
+        match script.run(input, output) {
+            Ok(Ended::File(line)) => match work(&mut script, files, line, output) {
+                Ok(()) => {}
+                Err(_) => return Err(ScriptFault::Write),
+            },
+            Ok(Ended::Input) => return Ok(()),
+            Err(fault) => return Err(fault),
+        }
+    }
 }

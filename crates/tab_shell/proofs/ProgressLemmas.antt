@@ -1,5 +1,5 @@
 -- How far a script has come with its input.
-use Rattle.std.proofs.Common.{ℕ, Bool, true, false, ◌≡◌, ◌<◌, inl, inr, List, [], ◌∷◌, ◌++◌, refl, sym, ap, ◌∙◌, subst, append_assoc, Option, Some, None, Result, Ok, Err}
+use Rattle.std.proofs.Common.{ℕ, Bool, true, false, ◌≡◌, ◌<◌, ◌⊎◌, inl, inr, List, [], ◌∷◌, ◌++◌, length, refl, sym, ap, ◌∙◌, subst, arith, append_assoc, Option, Some, None, Result, Ok, Err}
 use Rattle.std.specs.Prelude.{Result}
 use Rattle.std.specs.Io.KnownBytes.{Keeps}
 use Rattle.std.proofs.lemmas.List.{append-nil}
@@ -9,16 +9,19 @@ use Rattle.tab_core.specs.Chains.{EntryGoes}
 use Rattle.tab_core.proofs.Joining.{chain_join}
 use Rattle.tab_io.specs.Streams.{IsEnd, Fills}
 use Rattle.tab_io.specs.Writing.{HasPut, HasPutPart, WriteFailed}
+use Rattle.tab_io.specs.declared.reading.Input.{Ghosts as InputGhosts}
 use Rattle.tab_io.specs.declared.writing.Output.{Ghosts}
 use Rattle.tab_io.proofs.Putting.{put_none, put_more, put_part_more}
+use Rattle.tab_lines.specs.declared.file_line.FileLine.{FileLine}
 use Rattle.tab_lines.specs.declared.line.Line.{Line}
+use Rattle.tab_lines.specs.declared.line.Line.TheVariants as line
 use Rattle.tab_lines.specs.declared.line_error.LineError.{LineError}
 use Rattle.tab_shell.specs.declared.pending.Pending.{Pending}
 use Rattle.tab_shell.specs.Texts.{lines_of}
 use Rattle.tab_shell.specs.Sessions.{Numbers}
 use Rattle.tab_shell.specs.Scripts.{Asker, ScriptState, ScriptRefines, asker_after, numbers_after, ScriptAnswersLine, LinesAnswered, ScriptAnswersLines, IsInside}
-use Rattle.tab_shell.specs.Ahead.{Pends, ReadsLine, Ahead, AtEnd, TakesLine, TakesOn}
-use Rattle.tab_shell.specs.Progress.{AnswersWhole, HasAnswered, HasAnsweredPart, HasEnded}
+use Rattle.tab_shell.specs.Ahead.{Pends, ReadsLine, Ahead, IsNext, AtEnd, TakesLine, TakesOn}
+use Rattle.tab_shell.specs.Progress.{AnswersWhole, AnswersToFile, BeginsWithFile, IsAccepted, HasAnswered, HasAnsweredPart, HasAccepted, HasAcceptedPart, HasFailed, HasEnded, IsEmptied, ComesFurther}
 use Rattle.tab_shell.proofs.Taking.{lines_cut, lines_none, lines_join, ends_both}
 
 -- lines, and then more lines
@@ -93,18 +96,24 @@ whole_line a b said line after todo text B H says inside is behind answered hold
     )
 
 -- more of what stood behind
+whole_then : (a b d : ScriptState) (todo : List ℕ) (B C H K M : List ℕ → Type 0) (x : AnswersWhole a todo b B H) → AnswersWhole b x.1 d C K → ((t u : List ℕ) → H t → K u → M (t ++ u)) → AnswersWhole a todo d C M
+whole_then a b d todo B C H K M x y join = (
+  x.0 ++ y.0,
+  y.1,
+  x.2 ++ y.2,
+  x.3 ∙ ap (λ (t : List ℕ). x.0 ++ t) y.3 ∙ sym (append_assoc x.0 y.0 y.1),
+  ends_both x.0 y.0 x.4 y.4,
+  y.5,
+  subst (λ (ls : List (List ℕ)). ScriptAnswersLines a ls (x.2 ++ y.2) d) (sym (lines_join x.0 y.0 x.4)) (ran_both a b d (lines_of x.0) (lines_of y.0) x.2 y.2 x.6 y.6),
+  join x.2 y.2 x.7 y.7,
+)
+
 whole_both : (a b d : ScriptState) (todo : List ℕ) (B C H K M : List ℕ → Type 0) → AnswersWhole a todo b B H → ((after : List ℕ) → B after → AnswersWhole b after d C K) → ((t u : List ℕ) → H t → K u → M (t ++ u)) → AnswersWhole a todo d C M
-whole_both a b d todo B C H K M x more join =
-    let y = more x.1 x.5 in (
-      x.0 ++ y.0,
-      y.1,
-      x.2 ++ y.2,
-      x.3 ∙ ap (λ (t : List ℕ). x.0 ++ t) y.3 ∙ sym (append_assoc x.0 y.0 y.1),
-      ends_both x.0 y.0 x.4 y.4,
-      y.5,
-      subst (λ (ls : List (List ℕ)). ScriptAnswersLines a ls (x.2 ++ y.2) d) (sym (lines_join x.0 y.0 x.4)) (ran_both a b d (lines_of x.0) (lines_of y.0) x.2 y.2 x.6 y.6),
-      join x.2 y.2 x.7 y.7,
-    )
+whole_both a b d todo B C H K M x more join = whole_then a b d todo B C H K M x (more x.1 x.5) join
+
+-- more of it, and then a file line
+pub file_then : (a b d : ScriptState) (file : FileLine) (todo : List ℕ) (left : Option (List ℕ)) (B H K M : List ℕ → Type 0) (x : AnswersWhole a todo b B H) → AnswersToFile b x.1 file d left K → ((t u : List ℕ) → H t → K u → M (t ++ u)) → AnswersToFile a todo file d left M
+file_then a b d file todo left B H K M x y join = (y.0, whole_then a b y.0 todo B (BeginsWithFile file left) H K M x y.1 join, y.2)
 
 -- the same lines, with what follows from the facts
 pub whole_as : (a b : ScriptState) (todo : List ℕ) (B C H K : List ℕ → Type 0) → AnswersWhole a todo b B H → ((after : List ℕ) → B after → C after) → ((t : List ℕ) → H t → K t) → AnswersWhole a todo b C K
@@ -123,12 +132,16 @@ module _ {W : Type 0} (g : Ghosts W) where
   part_both a b d r r1 r2 p p1 p2 o o1 o2 f more todo ahead =
       whole_both a b d todo (Ahead r1 p1) (Ahead r2 p2) (HasPut g o o1) (HasPutPart g o1 o2) (HasPutPart g o o2) (f todo ahead) more (λ t u h k. put_part_more h k)
 
+  -- what is to come is ahead
+  next_ahead : (r : Option (List ℕ)) (p : Pending) (todo : List ℕ) → IsNext r p todo → Ahead r p todo
+  next_ahead r p todo next = subst (λ (x : Option (List ℕ)). Ahead x p todo) (sym next.0) ([], next.1, refl)
+
   -- one line is taken and answered
   line_goes : (a b : ScriptState) (said : Result Line LineError) (r r1 : Option (List ℕ)) (p p1 : Pending) (H : List ℕ → Type 0)
       → TakesLine r p said r1 p1 → (text : List ℕ) × ScriptAnswersLine a said text b × H text → (todo : List ℕ) → Ahead r p todo → AnswersWhole a todo b (Ahead r1 p1) H
   line_goes a b said r r1 p p1 H takes prints todo ahead =
       let x = takes todo ahead in
-      whole_line a b said x.0 x.1 todo prints.0 (Ahead r1 p1) H x.2 x.3 x.4 x.5 prints.1 prints.2
+      whole_line a b said x.0 x.1 todo prints.0 (Ahead r1 p1) H x.2 x.3 x.4 (next_ahead r1 p1 x.1 x.5) prints.1 prints.2
 
   pub goes_line : (a b d : ScriptState) (said : Result Line LineError) (r r1 r2 : Option (List ℕ)) (p p1 p2 : Pending) (o o1 o2 : W)
       → HasAnswered g a r p o b r1 p1 o1 → TakesLine r1 p1 said r2 p2 → (text : List ℕ) × ScriptAnswersLine b said text d × HasPut g o1 o2 text → HasAnswered g a r p o d r2 p2 o2
@@ -137,6 +150,51 @@ module _ {W : Type 0} (g : Ghosts W) where
   pub part_line : (a b d : ScriptState) (said : Result Line LineError) (r r1 r2 : Option (List ℕ)) (p p1 p2 : Pending) (o o1 o2 : W)
       → HasAnswered g a r p o b r1 p1 o1 → TakesLine r1 p1 said r2 p2 → (text : List ℕ) × ScriptAnswersLine b said text d × HasPutPart g o1 o2 text → HasAnsweredPart g a r p o d r2 p2 o2
   part_line a b d said r r1 r2 p p1 p2 o o1 o2 f takes prints = part_both a b d r r1 r2 p p1 p2 o o1 o2 f (line_goes b d said r1 r2 p1 p2 (HasPutPart g o1 o2) takes prints)
+
+  -- one line is taken, and it is this file line
+  takes_file : (said : Result Line LineError) (file : FileLine) (r r1 : Option (List ℕ)) (p p1 : Pending) → said ≡ Ok (line.File file) → TakesLine r p said r1 p1 → (todo : List ℕ) → Ahead r p todo → BeginsWithFile file r1 todo
+  takes_file said file r r1 p p1 is takes todo ahead =
+      let x = takes todo ahead in
+      (x.0, x.1, x.3, subst (λ (s : Result Line LineError). ReadsLine s x.0) is x.2, x.5.0, inl x.4)
+
+  -- it was accepted, behind lines that were answered
+  pub goes_file : (a b d : ScriptState) (said : Result Line LineError) (file : FileLine) (r r1 r2 : Option (List ℕ)) (p p1 p2 : Pending) (o o1 o2 : W)
+      → HasAnswered g a r p o b r1 p1 o1 → TakesLine r1 p1 said r2 p2 → IsAccepted b said file d → HasPut g o1 o2 [] → HasAccepted g a r p o file d r2 o2
+  goes_file a b d said file r r1 r2 p p1 p2 o o1 o2 f takes accepted put todo ahead = (
+    b,
+    whole_as a b todo (Ahead r1 p1) (BeginsWithFile file r2) (HasPut g o o1) (HasPut g o o2) (f todo ahead) (takes_file said file r1 r2 p1 p2 accepted.0 takes) (λ t h. subst (λ (u : List ℕ). HasPut g o o2 u) (append-nil t) (put_more h put)),
+    accepted.1,
+  )
+
+  pub part_file : (a b d : ScriptState) (said : Result Line LineError) (file : FileLine) (r r1 r2 : Option (List ℕ)) (p p1 p2 : Pending) (o o1 o2 : W)
+      → HasAnswered g a r p o b r1 p1 o1 → TakesLine r1 p1 said r2 p2 → IsAccepted b said file d → HasPutPart g o1 o2 [] → HasAcceptedPart g a r p o file d r2 o2
+  part_file a b d said file r r1 r2 p p1 p2 o o1 o2 f takes accepted put todo ahead = (
+    b,
+    whole_as a b todo (Ahead r1 p1) (BeginsWithFile file r2) (HasPut g o o1) (HasPutPart g o o2) (f todo ahead) (takes_file said file r1 r2 p1 p2 accepted.0 takes) (λ t h. subst (λ (u : List ℕ). HasPutPart g o o2 u) (append-nil t) (put_part_more h put)),
+    accepted.1,
+  )
+
+  -- a write failed at one line that was taken
+  pub fails_line : (a b d : ScriptState) (said : Result Line LineError) (r r1 r2 : Option (List ℕ)) (p p1 p2 : Pending) (o o1 o2 : W) → HasAnswered g a r p o b r1 p1 o1 → TakesLine r1 p1 said r2 p2
+      → ((text : List ℕ) × ScriptAnswersLine b said text d × HasPutPart g o1 o2 text) ⊎ ((file : FileLine) × IsAccepted b said file d × HasPutPart g o1 o2 []) → HasFailed g a r p o d r2 p2 o2
+  fails_line a b d said r r1 r2 p p1 p2 o o1 o2 f takes (inl prints) = inl (part_line a b d said r r1 r2 p p1 p2 o o1 o2 f takes prints)
+  fails_line a b d said r r1 r2 p p1 p2 o o1 o2 f takes (inr (file, accepted, put)) = inr (file, part_file a b d said file r r1 r2 p p1 p2 o o1 o2 f takes accepted put)
+
+  -- lines were answered, and then more of them, up to a file line
+  pub file_both : (a b d : ScriptState) (file : FileLine) (r r1 r2 : Option (List ℕ)) (p p1 : Pending) (o o1 o2 : W) → HasAnswered g a r p o b r1 p1 o1 → HasAccepted g b r1 p1 o1 file d r2 o2 → HasAccepted g a r p o file d r2 o2
+  file_both a b d file r r1 r2 p p1 o o1 o2 f more todo ahead =
+      let x = f todo ahead in
+      file_then a b d file todo r2 (Ahead r1 p1) (HasPut g o o1) (HasPut g o1 o2) (HasPut g o o2) x (more x.1 x.5) (λ t u h k. put_more h k)
+
+  -- the same where a write failed
+  pub failed_both : (a b d : ScriptState) (r r1 r2 : Option (List ℕ)) (p p1 p2 : Pending) (o o1 o2 : W) → HasAnswered g a r p o b r1 p1 o1 → HasFailed g b r1 p1 o1 d r2 p2 o2 → HasFailed g a r p o d r2 p2 o2
+  failed_both a b d r r1 r2 p p1 p2 o o1 o2 f (inl part) = inl (part_both a b d r r1 r2 p p1 p2 o o1 o2 f part)
+  failed_both a b d r r1 r2 p p1 p2 o o1 o2 f (inr (file, part)) = inr (file, both)
+    where
+      both : HasAcceptedPart g a r p o file d r2 o2
+      both todo ahead =
+          let x = f todo ahead in
+          file_then a b d file todo r2 (Ahead r1 p1) (HasPut g o o1) (HasPutPart g o1 o2) (HasPutPart g o o2) x (part x.1 x.5) (λ t u h k. put_part_more h k)
 
   -- no line ended, and what was there is kept
   pub goes_on : (a b : ScriptState) (r r1 r2 : Option (List ℕ)) (p p1 p2 : Pending) (o o1 : W) → HasAnswered g a r p o b r1 p1 o1 → TakesOn r1 p1 r2 p2 → HasAnswered g a r p o b r2 p2 o1
@@ -174,6 +232,21 @@ module _ {W : Type 0} (g : Ghosts W) where
 pub later_fault : {W : Type 0} (g : Ghosts W) (a b c : W) → g.faults b ≡ g.faults a → WriteFailed g b c → WriteFailed g a c
 later_fault g a b c same (inl spent) = inl spent
 later_fault g a b c same (inr counted) = inr (subst (λ (n : ℕ). n < g.faults c) same counted)
+
+-- a write failed at a line, answered or accepted
+pub fault_at : {W : Type 0} (g : Ghosts W) (b d : ScriptState) (said : Result Line LineError) (o o1 : W)
+    → ((text : List ℕ) × ScriptAnswersLine b said text d × HasPutPart g o o1 text) ⊎ ((file : FileLine) × IsAccepted b said file d × HasPutPart g o o1 []) → WriteFailed g o o1
+fault_at g b d said o o1 (inl (text, answered, part)) = part.failed
+fault_at g b d said o o1 (inr (file, accepted, part)) = part.failed
+
+-- ---- how far the reader has come
+pub further_file : {R : Type 0} (i : InputGhosts R) (a b c : R) (file : FileLine) → (i.budget b < i.budget a) ⊎ (b ≡ a) → i.budget c ≡ i.budget b → IsEmptied (Some file) (i.front b) (i.front c) → ComesFurther i a c
+further_file i a b c file (inl less) same shorter = inl (omega (arith, less, same))
+further_file {R} i a b c file (inr is) same shorter = inr (same ∙ ap i.budget is, subst (λ (x : R). length (i.front c) < length (i.front x)) is shorter.0, shorter.1)
+
+pub further_fill : {R : Type 0} (i : InputGhosts R) (a b c d : R) → (i.budget b < i.budget a) ⊎ (b ≡ a) → i.budget c ≡ i.budget b → i.budget d < i.budget c → i.budget d < i.budget a
+further_fill i a b c d (inl less) same spent = omega (arith, less, same, spent)
+further_fill i a b c d (inr is) same spent = let e : i.budget b ≡ i.budget a = ap i.budget is in omega (arith, e, same, spent)
 
 -- ---- a fill
 end_keeps : (r r1 : Option (List ℕ)) → IsEnd r r1 → Keeps r r1

@@ -6,13 +6,15 @@ use Rattle.tab_lines.specs.declared.line.Line.TheVariants as line
 use Rattle.tab_lines.specs.declared.line_error.LineError.{LineError}
 use Rattle.tab_lines.specs.declared.command.Command.{Command}
 use Rattle.tab_lines.specs.declared.command.Command.TheVariants as command
+use Rattle.tab_lines.specs.declared.file_line.FileKind.{FileKind}
+use Rattle.tab_lines.specs.declared.file_line.FileKind.TheVariants.{Save, Load}
 use Rattle.tab_lines.specs.declared.updates.TimestampForm.TheVariants.{Optional}
 use Rattle.tab_lines.specs.Gives.{◌>>=◌, Gives, field, ends}
 use Rattle.tab_lines.specs.Words.{words_of}
-use Rattle.tab_lines.specs.Fields.{name_of, unsigned_of, small_of, signed_of, extent_word, list_of, constraints_of}
+use Rattle.tab_lines.specs.Fields.{name_of, unsigned_of, small_of, signed_of, extent_word, file_name_of, list_of, constraints_of}
 use Rattle.tab_lines.specs.Updates.{row_of, put_of, delete_of, updates_of}
 use Rattle.tab_text.specs.Reading.{bytes_of}
-use Rattle.tab_lines.specs.Lines.{settings, createtable_of, setauths_of, constraints_line_of, insert_of, delete_line_of, mutate_of, scan_words, next_of, ranges_of, many_of, close_of, compact_of, addsplit_of, splitsize_of, at_of, name_alone, grant_of, command_of, commanded, said, is_comment, line_of}
+use Rattle.tab_lines.specs.Lines.{settings, createtable_of, setauths_of, constraints_line_of, insert_of, delete_line_of, mutate_of, scan_words, next_of, ranges_of, many_of, close_of, compact_of, addsplit_of, splitsize_of, file_of, at_of, name_alone, grant_of, command_of, commanded, said, is_comment, line_of}
 use Rattle.tab_shell.specs.Ahead.{OpensNoSession}
 
 -- nothing is read, or what is read is no bare act that opens a session
@@ -76,6 +78,10 @@ splitsize_shut : (words : List (List ℕ)) → IsShut (splitsize_of words)
 unfolding splitsize_of
 splitsize_shut words = after (field name_of words) _ (λ t. after (field bytes_of t.1) _ (λ r. after (field unsigned_of r.1) _ (λ l. after (ends l.1) _ (λ e. refl))))
 
+file_shut : (kind : FileKind) (words : List (List ℕ)) → IsShut (file_of kind words)
+unfolding file_of
+file_shut kind words = after (field file_name_of words) _ (λ n. after (ends n.1) _ (λ e. tt))
+
 at_shut : (words : List (List ℕ)) → IsShut (at_of words)
 unfolding at_of
 at_shut words = after (field signed_of words) _ (λ m. after (ends m.1) _ (λ e. tt))
@@ -105,6 +111,8 @@ commanded_shut command.Status words = mapped (name_alone words) _ (λ table. ref
 commanded_shut command.AddSplit words = addsplit_shut words
 commanded_shut command.SplitSize words = splitsize_shut words
 commanded_shut command.Splits words = mapped (name_alone words) _ (λ table. refl)
+commanded_shut command.Save words = file_shut Save words
+commanded_shut command.Load words = file_shut Load words
 commanded_shut command.At words = at_shut words
 
 said_shut : (words : List (List ℕ)) → IsShut (said words)

@@ -125,5 +125,5 @@ takes_line (Some rest) (Some after) p p' said front at is lt eats says none = λ
       says gone ahead.1,
       inside_more gone (take at front) ahead.1.inside h.0,
       whole,
-      ([], none, refl),
+      (refl, none),
     )

@@ -32,6 +32,10 @@ abbrev pub Ahead : Option (List ℕ) → Pending → List ℕ → Type 0
 Ahead None p todo = ⊥
 Ahead (Some rest) p todo = (gone : List ℕ) × Pends p gone × (todo ≡ gone ++ rest)
 
+-- no line has begun, and this is to come
+abbrev pub IsNext : Option (List ℕ) → Pending → List ℕ → Type 0
+IsNext r p todo = (r ≡ Some todo) × Pends p []
+
 -- the input has ended in a line of which so much has gone by
 abbrev pub AtEnd : Option (List ℕ) → Pending → List ℕ → Type 0
 AtEnd r p gone = (r ≡ Some []) × Pends p gone
@@ -39,7 +43,7 @@ AtEnd r p gone = (r ≡ Some []) × Pends p gone
 -- a line was taken, with its line feed
 abbrev pub TakesLine : Option (List ℕ) → Pending → Result Line LineError → Option (List ℕ) → Pending → Type 0
 TakesLine r p said r' p' = (todo : List ℕ) → Ahead r p todo
-    → (line : List ℕ) × (after : List ℕ) × ReadsLine said line × IsInside line × (todo ≡ line ++ 10 ∷ after) × Ahead r' p' after
+    → (line : List ℕ) × (after : List ℕ) × ReadsLine said line × IsInside line × (todo ≡ line ++ 10 ∷ after) × IsNext r' p' after
 
 -- no line ends in what was there
 abbrev pub TakesOn : Option (List ℕ) → Pending → Option (List ℕ) → Pending → Type 0
@@ -56,4 +60,5 @@ OpensNoSession (Ok (line.Open scan)) = Unit {0}
 OpensNoSession (Ok (line.Next number count)) = Unit {0}
 OpensNoSession (Ok (line.Many number ranges)) = Unit {0}
 OpensNoSession (Ok (line.Close number)) = Unit {0}
+OpensNoSession (Ok (line.File file)) = Unit {0}
 OpensNoSession (Err stop) = Unit {0}

@@ -4,10 +4,11 @@ use Rattle.std.specs.List.{prefix_len}
 use Rattle.tab_key.specs.Records.{Cell}
 use Rattle.tab_policy.specs.Roots.{root}
 use Rattle.tab_history.specs.declared.event.Act.{Act}
-use Rattle.tab_history.specs.declared.event.Act.TheVariants.{Open}
+use Rattle.tab_history.specs.declared.event.Act.TheVariants.{Open, Save, Load}
 use Rattle.tab_history.specs.declared.event.Event.{Event}
 use Rattle.tab_history.specs.declared.event.Step.{Step}
 use Rattle.tab_history.specs.declared.event.Step.TheVariants.{Event as IsEvent, Next, Many, Close}
+use Rattle.tab_history.specs.declared.reply.Refusal.{Refusal}
 use Rattle.tab_history.specs.declared.reply.Refusal.TheVariants as refusal
 use Rattle.tab_history.specs.declared.reply.Reply.TheVariants.{Done, Refused, Opened, Batch, Ranges, Rights as OwnRights, Counted, Rows}
 use Rattle.tab_history.specs.Answers.{Told, session_list}
@@ -18,6 +19,9 @@ use Rattle.tab_history.specs.Refinement.{Refines}
 use Rattle.tab_history.specs.Chains.{IsChain}
 use Rattle.tab_core.specs.Stores.{Held, base_of}
 use Rattle.tab_core.specs.Chains.{EntryGoes}
+use Rattle.tab_lines.specs.declared.file_line.FileKind.{FileKind}
+use Rattle.tab_lines.specs.declared.file_line.FileKind.TheVariants as kind
+use Rattle.tab_lines.specs.declared.file_line.FileLine.{FileLine}
 use Rattle.tab_lines.specs.declared.line.Line.{Line}
 use Rattle.tab_lines.specs.declared.line.Line.TheVariants as line
 use Rattle.tab_lines.specs.declared.line_error.LineError.{LineError}
@@ -43,6 +47,10 @@ pub record ScriptState : Type 0 where
 -- a script over this core: root asks at moment 0, and no session was opened
 abbrev pub new_script : Held → ScriptState
 new_script core = record { core = core; asker = record { user = root; moment = pos 0 }; kept = [] }
+
+-- the script over another core: no session is kept, and none was opened; who asks, and when, stays
+abbrev pub replaced : ScriptState → Held → ScriptState
+replaced s core = record { core = core; asker = s.asker; kept = [] }
 
 -- The script refines the history h of w: its core does, and for each user it keeps the sessions of h, under numbers that stand for these slots.
 pub record ScriptRefines (s : ScriptState) (numbers : Numbers) (w : World) (h : List Entry) : Type 0 where
@@ -89,6 +97,11 @@ slot_of who numbers w h number = slot_named (moves_of w who.user h) (numbers who
 abbrev pub own_entry : Step → Told → Entry
 own_entry step reply = record { step = step; reply = reply }
 
+-- what a file line asks the core before anything is done with its file
+abbrev pub file_act : FileKind → Act
+file_act kind.Save = Save
+file_act kind.Load = Load
+
 -- after the history h of w, in which numbers stand for these slots, the line makes these entries, the last one first, and prints this text
 abbrev pub LineSteps : Asker → Numbers → World → List Entry → Line → List Entry → List ℕ → Type 0
 LineSteps who numbers w h line.Blank es text = (es ≡ []) × (text ≡ [])
@@ -104,6 +117,8 @@ LineSteps who numbers w h (line.Many number ranges) es text =
     (reply : Told) × (es ≡ own_entry (Many who.user (slot_of who numbers w h number) ranges) reply ∷ []) × (text ≡ reply_text (renumbered number reply))
 LineSteps who numbers w h (line.Close number) es text =
     (reply : Told) × (es ≡ own_entry (Close who.user (slot_of who numbers w h number)) reply ∷ []) × (text ≡ reply_text (renumbered number reply))
+-- a file line that is answered was refused: one that is accepted ends a run (`ScriptAcceptsFile`)
+LineSteps who numbers w h (line.File file) es text = (r : Refusal) × (es ≡ entry (event_by who (file_act file.kind)) (Refused r) ∷ []) × (text ≡ refusal_text r)
 
 -- the same for what was read of a line: a fault is no step, nor is a line for which memory lacked
 abbrev pub LineAnswered : Asker → Numbers → World → List Entry → Result Line LineError → List Entry → List ℕ → Type 0
@@ -132,6 +147,7 @@ asker_after who (Ok (line.Open scan)) = who
 asker_after who (Ok (line.Next number count)) = who
 asker_after who (Ok (line.Many number ranges)) = who
 asker_after who (Ok (line.Close number)) = who
+asker_after who (Ok (line.File file)) = who
 asker_after who (Err error) = who
 
 -- from each legal history that the script refined it went on by the entries of this line
@@ -139,6 +155,11 @@ pub record ScriptAnswersLine (old : ScriptState) (said : Result Line LineError) 
   pub asker : new.asker ≡ asker_after old.asker said
   pub extends : (w : World) (h : List Entry) (numbers : Numbers) → ScriptRefines old numbers w h → Legal w h
       → (es : List Entry) × LineAnswered old.asker numbers w h said es text × ScriptGoes old w h es (numbers_after old.asker numbers w h said es) new
+
+-- from each legal history that the script refined it went on by what this file line asks, which was done; numbers stand for what they stood for
+pub record ScriptAcceptsFile (old : ScriptState) (file : FileLine) (new : ScriptState) : Type 0 where
+  pub asker : new.asker ≡ old.asker
+  pub extends : (w : World) (h : List Entry) (numbers : Numbers) → ScriptRefines old numbers w h → Legal w h → ScriptGoes old w h (entry (event_by old.asker (file_act file.kind)) Done ∷ []) numbers new
 
 -- ---- many lines
 -- the entries of lines, the last one first, their texts in order, and who asks and what numbers stand for afterwards

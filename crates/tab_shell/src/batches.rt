@@ -8,7 +8,7 @@ use std::alloc::{AllocError, Global};
 use tab_core::Session;
 use tab_history::Refusal;
 use tab_io::{Output, WriteFault};
-use tab_key::{Cell, Items};
+use tab_key::Cells;
 
 /// How many cells a full batch has.
 const BATCH_LENGTH: u32 = 1000;
@@ -66,10 +66,10 @@ fn put_lack<W: Output>(output: &mut W) -> Result<bool, WriteFault>
 }
 
 // Writes the cells of a batch, and an end behind one that isn't full. Whether it was full.
-fn put_taken<W: Output>(cells: Items<Cell>, output: &mut W) -> Result<bool, WriteFault>
+fn put_taken<W: Output>(cells: Cells, output: &mut W) -> Result<bool, WriteFault>
     ensures { PutsTaken W.Output output.old output.new cells result }
 {
-    match put_cells(output, cells.as_slice()) {
+    match put_cells(output, &cells) {
         Ok(()) => {}
         Err(fault) => return Err(fault),
     }

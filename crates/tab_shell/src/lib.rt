@@ -6,6 +6,7 @@
 //! |---|---|
 //! | `rights` | the text of one's own rights |
 //! | `script` | a core that answers lines: one line, the lines that are here, a whole input |
+//! | `file_lines` | the lines that name a file |
 //! | `batches` | a scan's cells, batch by batch |
 //! | `sessions` | the sessions that are kept for each user, by their numbers |
 //! | `pending` | the line that has begun, and how the next one is taken |
@@ -21,6 +22,7 @@
 #![tactic(auto)]
 
 mod batches;
+mod file_lines;
 mod laws;
 mod pending;
 mod refusal;
@@ -32,4 +34,4 @@ mod sessions;
 pub use laws::runs_are_one;
 pub use reply::write_reply;
 pub use script::{Ended, Script, ScriptFault};
-pub use tab_lines::{Line, LineError, read_line};
+pub use tab_lines::{FileKind, FileLine, FileName, Line, LineError, read_line};

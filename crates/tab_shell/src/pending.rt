@@ -1,5 +1,5 @@
 //! The line that has begun, and how the next one is taken.
-ghost use Rattle.std.specs.Prelude.{◌≡◌, ◌<◌, ◌++◌, ℕ, List, [], length, IfSome, MatchBool, MatchOption};
+ghost use Rattle.std.specs.Prelude.{◌≡◌, ◌<◌, ◌^◌, ◌++◌, ℕ, List, [], length, IfSome, MatchBool, MatchOption};
 ghost use Rattle.tab_shell.specs.Scripts.{IsInside};
 ghost use Rattle.tab_shell.specs.Ahead.{Pends, AddsOn, ReadsLine, TakesLine, TakesOn, OpensNoSession};
 
@@ -85,6 +85,7 @@ pub fn take_line<R: Input>(
         ((R.front input.new ≡ []) × TakesOn (R.remaining input.old) pending.old (R.remaining input.new) pending.new)
         (λ said. (length (R.front input.new) < length (R.front input.old)) × TakesLine (R.remaining input.old) pending.old said (R.remaining input.new) pending.new) }
     ensures none { IfSome result (λ said. OpensNoSession said) }
+    ensures fits { length (R.front input.old) < 2 ^ 64 }
     ensures calls { (R.faults input.new ≡ R.faults input.old) × (R.budget input.new ≡ R.budget input.old) }
 {
     let front = input.front();

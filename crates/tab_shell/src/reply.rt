@@ -11,8 +11,8 @@ use crate::refusal::put_refusal;
 use crate::rights::put_rights;
 use tab_history::{Counts, Reply};
 use tab_io::{Output, WriteFault};
-use tab_key::{ByteString, Cell, Items};
-use tab_text::{PutItem, Word, put_cell, put_each, put_line};
+use tab_key::{ByteString, CellRef, Cells};
+use tab_text::{PutCell, PutItem, Word, put_cell, put_each, put_each_cell, put_line};
 
 /// Writes the text of the reply. It takes no memory.
 ///
@@ -28,7 +28,7 @@ pub fn write_reply<W: Output>(output: &mut W, reply: &Reply) -> Result<(), Write
         Reply::Done => output.put(b"ok\n"),
         Reply::Refused(refusal) => put_refusal(output, refusal),
         Reply::Opened(_) => output.put(b""),
-        Reply::Batch(cells) => put_cells(output, cells.as_slice()),
+        Reply::Batch(cells) => put_cells(output, cells),
         Reply::Ranges(ranges) => put_each(output, ranges.as_slice(), &RangeLines),
         Reply::Rights(rights) => put_rights(output, rights),
         Reply::Counted(counts) => put_counts(output, *counts),
@@ -66,13 +66,13 @@ pub(crate) fn put_next<W: Output>(
     ensures { Puts W.Output output.old output.new (next_text count reply.now) result }
 {
     match reply {
-        Reply::Batch(cells) => put_batch(output, count, cells.as_slice()),
+        Reply::Batch(cells) => put_batch(output, count, cells),
         _ => write_reply(output, reply),
     }
 }
 
 // Cells, and whether more may come.
-fn put_batch<W: Output>(output: &mut W, count: u32, cells: &[Cell]) -> Result<(), WriteFault>
+fn put_batch<W: Output>(output: &mut W, count: u32, cells: &Cells) -> Result<(), WriteFault>
     ensures { Puts W.Output output.old output.new (flat_map cell_text cells.now ++ mark_text (length cells.now == count)) result }
 {
     put_cells(output, cells)?;
@@ -134,18 +134,18 @@ fn put_row<W: Output>(output: &mut W, row: &[u8]) -> Result<(), WriteFault>
 
 struct RangeLines;
 
-impl PutItem<Items<Cell>> for RangeLines {
+impl PutItem<Cells> for RangeLines {
     ghost use Rattle.tab_shell.specs.Texts.{range_text};
 
     ghost text = { λ _ cells. range_text cells };
 
-    fn put_item<W: Output>(&self, output: &mut W, cells: &Items<Cell>) -> Result<(), WriteFault> {
-        put_range(output, cells.as_slice())
+    fn put_item<W: Output>(&self, output: &mut W, cells: &Cells) -> Result<(), WriteFault> {
+        put_range(output, cells)
     }
 }
 
 // The cells in a range, and a line behind them.
-fn put_range<W: Output>(output: &mut W, cells: &[Cell]) -> Result<(), WriteFault>
+fn put_range<W: Output>(output: &mut W, cells: &Cells) -> Result<(), WriteFault>
     ensures { Puts W.Output output.old output.new (range_text cells.now) result }
 {
     put_cells(output, cells)?;
@@ -153,20 +153,20 @@ fn put_range<W: Output>(output: &mut W, cells: &[Cell]) -> Result<(), WriteFault
 }
 
 /// Each cell on a line of its own.
-pub(crate) fn put_cells<W: Output>(output: &mut W, cells: &[Cell]) -> Result<(), WriteFault>
+pub(crate) fn put_cells<W: Output>(output: &mut W, cells: &Cells) -> Result<(), WriteFault>
     ensures { Puts W.Output output.old output.new (flat_map cell_text cells.now) result }
 {
-    put_each(output, cells, &CellLine)
+    put_each_cell(output, cells, &CellLine)
 }
 
 struct CellLine;
 
-impl PutItem<Cell> for CellLine {
+impl PutCell for CellLine {
     ghost use Rattle.tab_text.specs.Lines.{cell_text};
 
     ghost text = { λ _ cell. cell_text cell };
 
-    fn put_item<W: Output>(&self, output: &mut W, cell: &Cell) -> Result<(), WriteFault> {
+    fn put_cell<W: Output>(&self, output: &mut W, cell: &CellRef<'_>) -> Result<(), WriteFault> {
         put_cell(output, cell)
     }
 }

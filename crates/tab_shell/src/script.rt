@@ -1,5 +1,5 @@
 //! Scripts: a core that answers lines.
-ghost use Rattle.std.specs.Prelude.{◌≡◌, [], true, false, is_some, IfErr, OnOk};
+ghost use Rattle.std.specs.Prelude.{◌≡◌, [], true, false, is_some, IfOk, IfErr, OnOk};
 ghost use Rattle.tab_history.specs.Answers.{told_of, is_open};
 ghost use Rattle.tab_io.specs.Streams.{FailsByFault};
 ghost use Rattle.tab_io.specs.Writing.{Puts};
@@ -7,11 +7,12 @@ ghost use Rattle.tab_shell.specs.Texts.{reply_text};
 ghost use Rattle.tab_policy.specs.Roots.{root};
 ghost use Rattle.tab_policy.specs.Entries.{at_name};
 ghost use Rattle.tab_shell.specs.Sessions.{kept_of, is_spent};
-ghost use Rattle.tab_shell.specs.Scripts.{event_by, new_script};
+ghost use Rattle.tab_shell.specs.Scripts.{event_by, new_script, replaced};
 ghost use Rattle.tab_shell.specs.Ahead.{OpensNoSession};
-ghost use Rattle.tab_shell.specs.Progress.{PrintsAnswer, AnswersFront, HasEnded, StopsAhead, FailedSide, RunsScript};
+ghost use Rattle.tab_shell.specs.Progress.{PrintsAnswer, AnswersOrAccepts, AnswersFront, IsEmptied, EndsAhead, StopsAhead, FailedSide, RunsScript, ComesFurther};
 
 use crate::batches::put_session;
+use crate::file_lines::{file_act, hand_back, is_done, printed};
 use crate::pending::{Pending, take_line};
 use crate::reply::{put_next, put_opened, write_reply};
 use crate::sessions::Sessions;
@@ -21,13 +22,17 @@ use tab_core::{Core, Session, told};
 use tab_history::{Act, Event, Refusal, Reply, Scan};
 use tab_io::{Input, Output, WriteFault};
 use tab_key::{Bounds, Items, Name, Part};
-use tab_lines::{Line, LineError};
+use tab_lines::{FileLine, Line, LineError};
 
 /// How a run of a script ended.
-#[derive(Clone, Copy, Debug, PartialEq, Eq)]
+#[derive(Drop)]
 pub enum Ended {
     /// The input ended, and every line of it was answered. Nothing is left to read, and nothing is held unwritten.
     Input,
+    /// The run came to this `save` or `load`, which the core accepted: its user may do it. The lines before it were answered, and
+    /// nothing of those behind it is read away. What is to be done with the file, and the line's reply, is the caller's; nothing
+    /// is held unwritten. The next run goes on behind the line.
+    File(FileLine),
 }
 
 /// What stopped a script. The lines answered before it have taken effect.
@@ -100,38 +105,67 @@ impl Script {
         &self.core
     }
 
-    // Does what the line says, and prints the replies.
+    /// Puts this core in place of the script's. Its sessions are dropped, and their numbers begin anew; who asks, and when, stays.
+    pub fn replace(&mut self, core: Core)
+        ensures { self.new ≡ replaced self.old core }
+    {
+        self.core = core;
+        self.sessions = Sessions::new(self.alloc);
+    }
+
+    // Does what the line says, and prints the replies. A file line that the core accepts is handed back.
     fn answer<W: Output>(
         &mut self,
         said: Result<Line, LineError>,
         output: &mut W,
-    ) -> Result<(), WriteFault>
+    ) -> Result<Option<FileLine>, WriteFault>
         requires { OpensNoSession said }
-        ensures { PrintsAnswer W.Output self.old said self.new output.old output.new result }
+        ensures { AnswersOrAccepts W.Output self.old said self.new output.old output.new result }
     {
         match said {
             Ok(line) => self.does(line, output),
-            Err(LineError::Fault) => self.faults(output),
-            Err(LineError::NoMemory) => self.lacks_memory(output),
+            Err(LineError::Fault) => printed(self.faults(output)),
+            Err(LineError::NoMemory) => printed(self.lacks_memory(output)),
         }
     }
 
-    // Does what a line of the grammar says.
-    fn does<W: Output>(&mut self, line: Line, output: &mut W) -> Result<(), WriteFault>
+    // The same for a line of the grammar.
+    fn does<W: Output>(
+        &mut self,
+        line: Line,
+        output: &mut W,
+    ) -> Result<Option<FileLine>, WriteFault>
         requires { OpensNoSession (Ok line) }
-        ensures { PrintsAnswer W.Output self.old (Ok line) self.new output.old output.new result }
+        ensures { AnswersOrAccepts W.Output self.old (Ok line) self.new output.old output.new result }
     {
         match line {
-            Line::Blank => self.says_nothing(output),
-            Line::As(user) => self.sets_user(user, output),
-            Line::At(moment) => self.sets_moment(moment, output),
-            Line::Act(act) => self.act(act, output),
-            Line::Scan(scan) => self.scan(scan, output),
-            Line::Open(scan) => self.open(scan, output),
-            Line::Next(number, count) => self.next(number, count, output),
-            Line::Many(number, ranges) => self.many(number, ranges, output),
-            Line::Close(number) => self.close(number, output),
+            Line::Blank => printed(self.says_nothing(output)),
+            Line::As(user) => printed(self.sets_user(user, output)),
+            Line::At(moment) => printed(self.sets_moment(moment, output)),
+            Line::Act(act) => printed(self.act(act, output)),
+            Line::Scan(scan) => printed(self.scan(scan, output)),
+            Line::Open(scan) => printed(self.open(scan, output)),
+            Line::Next(number, count) => printed(self.next(number, count, output)),
+            Line::Many(number, ranges) => printed(self.many(number, ranges, output)),
+            Line::Close(number) => printed(self.close(number, output)),
+            Line::File(file) => self.file(file, output),
         }
+    }
+
+    // Asks the core whether what the file line says may be done. A refusal is printed.
+    fn file<W: Output>(
+        &mut self,
+        file: FileLine,
+        output: &mut W,
+    ) -> Result<Option<FileLine>, WriteFault>
+        ensures { AnswersOrAccepts W.Output self.old (Ok (Line.File file)) self.new output.old output.new result }
+    {
+        let event = self.event(file_act(file.kind));
+        let answer = told(self.core.step(self.alloc, event));
+        if is_done(&answer) {
+            return hand_back(file, output);
+        }
+        printed(write_reply(output, &answer))
     }
 
     #[tactic(auto, using(crate::proofs::Saying::blank_prints))]
@@ -274,45 +308,47 @@ impl Script {
         write_reply(output, &reply)
     }
 
-    // Answers the lines that the front has.
+    // Answers the lines that the front has, up to a file line that the core accepts.
     #[tactic(auto, using(crate::proofs::ProgressLemmas::goes_none, crate::proofs::ProgressLemmas::goes_on))]
     fn answer_front<R: Input, W: Output>(
         &mut self,
         pending: &mut Pending,
         input: &mut R,
         output: &mut W,
-    ) -> Result<(), WriteFault>
-        ensures front { OnOk result (R.front input.new ≡ []) }
+    ) -> Result<Option<FileLine>, WriteFault>
+        ensures front { IfOk result (λ file. IsEmptied file (R.front input.old) (R.front input.new)) }
         ensures lines { AnswersFront W.Output self.old (R.remaining input.old) pending.old output.old self.new (R.remaining input.new) pending.new output.new result }
         ensures reads { (R.faults input.new ≡ R.faults input.old) × (R.budget input.new ≡ R.budget input.old) }
         ensures writes { FailsByFault result (W.faults output.old) (W.faults output.new) (W.budget output.new) }
     {
         while let Some(said) = take_line(self.alloc, input, pending) {
             match self.answer(said, output) {
-                Ok(()) => {}
+                Ok(None) => {}
+                Ok(Some(file)) => return Ok(Some(file)),
                 Err(fault) => return Err(fault),
             }
         }
-        Ok(())
+        Ok(None)
     }
 
-    // Answers all lines that end, and ends with no byte in the front and none gathered.
+    // Answers all lines that end, and ends with no byte in the front and none gathered; or up to a file line that the core accepts.
     #[tactic(auto, using(crate::proofs::ProgressLemmas::goes_none))]
     fn answer_all<R: Input, W: Output>(
         &mut self,
         pending: &mut Pending,
         input: &mut R,
         output: &mut W,
-    ) -> Result<(), ScriptFault>
-        ensures flushed { OnOk result (W.held output.new ≡ []) }
-        ensures ok { OnOk result (HasEnded W.Output self.old (R.remaining input.old) pending.old output.old self.new (R.remaining input.new) pending.new output.new) }
+    ) -> Result<Option<FileLine>, ScriptFault>
+        ensures ok { IfOk result (λ file. EndsAhead W.Output file self.old (R.remaining input.old) pending.old output.old self.new (R.remaining input.new) pending.new output.new) }
         ensures err { IfErr result (λ e. StopsAhead W.Output e self.old (R.remaining input.old) pending.old output.old self.new (R.remaining input.new) pending.new output.new) }
         ensures faults { IfErr result (λ e. FailedSide R.Input W.Output e input.old input.new output.old output.new) }
+        ensures further { OnOk result (ComesFurther R.Input input.old input.new) }
         ensures writes { OnOk result (W.faults output.new ≡ W.faults output.old) }
     {
         loop {
             match self.answer_front(pending, input, output) {
-                Ok(()) => {}
+                Ok(None) => {}
+                Ok(Some(accepted)) => return Ok(Some(accepted)),
                 Err(_) => return Err(ScriptFault::Write),
             }
             match output.flush() {
@@ -321,17 +357,19 @@ impl Script {
             }
             match input.fill() {
                 Ok(true) => {}
-                Ok(false) => return Ok(()),
+                Ok(false) => return Ok(None),
                 Err(_) => return Err(ScriptFault::Read),
             }
         }
     }
 
-    /// Answers each line that is read, until the input ends. The last line may lack its line feed.
+    /// Answers each line that is read, until the input ends or a `save` or `load` is accepted. The last line may lack its line feed.
     ///
     /// Each act that a line asks for is one exact step of the script's core, in the order of the lines, and nothing else touches the core.
+    /// So is what a `save` or `load` asks: a refusal is printed, and the run goes on. One that is accepted ends the run, as [`Ended::File`]
+    /// says.
     ///
-    /// Replies are flushed whenever no more input is here, before the reader is asked for more. A line for which memory
+    /// Replies are flushed whenever no more input is here, before the reader is asked for more, and at the end. A line for which memory
     /// lacks is read to its end and answered by its refusal. A fault of the reader or the writer ends the run; the
     /// lines answered before it have taken effect, and the script can be run again, from the beginning of a line.
     pub fn run<R: Input, W: Output>(
@@ -339,11 +377,13 @@ impl Script {
         input: &mut R,
         output: &mut W,
     ) -> Result<Ended, ScriptFault>
-        ensures { RunsScript R.Input W.Output self.old input.old output.old self.new input.new output.new result }
+        ensures run { RunsScript R.Input W.Output self.old input.old output.old self.new input.new output.new result }
+        ensures further { OnOk result (ComesFurther R.Input input.old input.new) }
     {
         let mut pending = Pending::new(self.alloc);
         match self.answer_all(&mut pending, input, output) {
-            Ok(()) => {}
+            Ok(None) => {}
+            Ok(Some(file)) => return Ok(Ended::File(file)),
             Err(stopped) => return Err(stopped),
         }
         if !pending.has_begun() {
@@ -351,7 +391,8 @@ impl Script {
         }
         let said = pending.said(self.alloc, b"");
         match self.answer(said, output) {
-            Ok(()) => {}
+            Ok(None) => {}
+            Ok(Some(file)) => return Ok(Ended::File(file)),
             Err(_) => return Err(ScriptFault::Write),
         }
         match output.flush() {

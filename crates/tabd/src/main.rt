@@ -3,19 +3,23 @@
 //! | File | What |
 //! |---|---|
 //! | `noting` | a stream that keeps why it failed |
+//! | `disk` | images in files of the system |
 #![tactic(auto)]
 
+mod disk;
 mod noting;
 
 use anyhow::Context;
 use clap::{Arg, ArgAction, ArgMatches, Command, Error};
+use disk::Disk;
 use noting::Noting;
 use std::alloc::Global;
 use std::io::{ErrorKind, Read, Write};
 use std::process::ExitCode;
+use tab_core::Core;
 use tab_help::{Explaining, forms};
-use tab_io::{BlockReader, BlockWriter};
-use tab_prog::{ProgramFault, script};
+use tab_io::{BlockReader, BlockWriter, Output};
+use tab_prog::{ProgramFault, script, script_over};
 
 /// The version that `tabd --version` tells.
 const VERSION: &str = "0.1.0";
@@ -49,10 +53,16 @@ fn command<'a>(alloc: Global, lines: &'a str) -> Result<Command<'a>, Error> {
         .long("explain")
         .action(ArgAction::SetTrue)
         .help("Says on standard error why a line is a line fault");
+    let image = Arg::new(alloc, "image")
+        .long("image")
+        .value_name("FILE")
+        .action(ArgAction::Set)
+        .help("Begins with what this image holds, and not with nothing");
     let script = Command::new(alloc, "script")
         .about("Answers the lines of standard input on standard output")
         .after_help(lines)
-        .arg(explain)?;
+        .arg(explain)?
+        .arg(image)?;
     let tabd = Command::new(alloc, "tabd")
         .version(VERSION)
         .about(
@@ -103,21 +113,32 @@ fn told(rt: &HostRuntime, error: &Error) -> anyhow::Result<ExitCode> {
 
 // Runs the subcommand.
 fn asked(rt: &HostRuntime, matches: &ArgMatches<'_>) -> anyhow::Result<ExitCode> {
-    if let Some(script) = matches.subcommand_matches("script") {
-        run_script(rt, script.get_flag("explain"))?;
-    }
+    let Some(script) = matches.subcommand_matches("script") else {
+        return Ok(ExitCode::SUCCESS);
+    };
+    let core = loaded(rt, script.get_str("image"))?;
+    run_script(rt, core, script.get_flag("explain"))?;
     Ok(ExitCode::SUCCESS)
 }
 
-// The lines of standard input, answered on standard output, and explained on standard error. A fault tells the system's reason.
-fn run_script(rt: &HostRuntime, explains: bool) -> anyhow::Result<()> {
-    let alloc = rt.alloc();
+// The core of the image that the command line names, if it names one. A fault names the file.
+fn loaded(rt: &HostRuntime, image: Option<&str>) -> anyhow::Result<Option<Core>> {
+    let Some(name) = image else {
+        return Ok(None);
+    };
+    let core = disk::load(rt, name).with_context(|| name)?;
+    Ok(Some(core))
+}
+
+// The lines of standard input, answered on standard output, and explained on standard error; by this core, or by a new one. A fault tells
+// the system's reason.
+fn run_script(rt: &HostRuntime, core: Option<Core>, explains: bool) -> anyhow::Result<()> {
     let mut input = Noting::new(rt.stdin());
     let mut output = Noting::new(rt.stdout());
     let outcome = if explains {
-        explained(rt, &mut input, &mut output)
+        explained(rt, core, &mut input, &mut output)
     } else {
-        answered(alloc, &mut input, &mut output)
+        answered(rt, core, &mut input, &mut output)
     };
     let Err(fault) = outcome else {
         return Ok(());
@@ -135,22 +156,29 @@ fn run_script(rt: &HostRuntime, explains: bool) -> anyhow::Result<()> {
 
 // The lines of the reader, answered on the writer.
 fn answered<R: Read + Drop, W: Write + Drop>(
-    alloc: Global,
+    rt: &HostRuntime,
+    core: Option<Core>,
     reader: R,
     writer: W,
 ) -> Result<(), ProgramFault> {
+    let alloc = rt.alloc();
     let Ok(mut input) = BlockReader::new(alloc, reader) else {
         return Err(ProgramFault::NoMemory);
     };
     let Ok(mut output) = BlockWriter::new(alloc, writer) else {
         return Err(ProgramFault::NoMemory);
     };
-    script(alloc, &mut input, &mut output)
+    let mut files = Disk::new(rt);
+    match core {
+        Some(core) => Ok(script_over(alloc, core, &mut files, &mut input, &mut output)?),
+        None => script(alloc, &mut files, &mut input, &mut output),
+    }
 }
 
 // The same, with its line faults explained on standard error.
 fn explained<R: Read + Drop, W: Write + Drop>(
     rt: &HostRuntime,
+    core: Option<Core>,
     reader: R,
     writer: W,
 ) -> Result<(), ProgramFault> {
@@ -158,5 +186,5 @@ fn explained<R: Read + Drop, W: Write + Drop>(
     let Ok(notes) = BlockWriter::new(alloc, rt.stderr()) else {
         return Err(ProgramFault::NoMemory);
     };
-    answered(alloc, Explaining::new(alloc, reader, notes), writer)
+    answered(rt, core, Explaining::new(alloc, reader, notes), writer)
 }

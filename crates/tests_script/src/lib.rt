@@ -8,9 +8,12 @@
 //! | `streams` | `tab_io`: blocks, faults in the middle of a stream, numbers |
 //! | `texts` | `tab_text`: words and their escapes |
 //! | `scripts` | `tab_shell`: scripts cut anywhere, and what a fault leaves; `tab_lines`: its law |
+//! | `files` | `tab_shell`, `tab_prog`: lines that name a file |
 //! | `programs` | `tab_prog`: a subcommand from its input to its output |
 #![tactic(auto)]
 
+#[cfg(test)]
+mod files;
 #[cfg(test)]
 mod programs;
 #[cfg(test)]

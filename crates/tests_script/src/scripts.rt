@@ -6,7 +6,7 @@ use tab_core::Core;
 use tab_history::{Counts, Refusal, Reply};
 use tab_io::memory::{Fault, PieceReader, PieceWriter};
 use tab_io::{BlockReader, BlockWriter, Output};
-use tab_key::{Cell, Items, Key, Part};
+use tab_key::{Cells, Items, Key, Kind, Part, Record};
 use tab_lines::lines_are_forms;
 use tab_shell::{Ended, Script, ScriptFault, write_reply};
 
@@ -99,14 +99,14 @@ fn two_ranges(rt: &impl Abort, alloc: Global) -> Reply {
         label: b"",
         timestamp: 5,
     };
-    let mut cells = Vec::new(alloc);
-    let cell = Cell::new(alloc, key, b"v")
+    let record = Record::new(alloc, key, Kind::Put, b"v", 0, 0)
         .expect(rt, "memory")
-        .expect(rt, "a cell");
-    cells.push(cell).expect(rt, "memory");
+        .expect(rt, "a record");
+    let mut cells = Cells::new(alloc);
+    cells.push(&record.as_ref()).expect(rt, "memory");
     let mut ranges = Vec::new(alloc);
-    ranges.push(Items::from_vec(cells)).expect(rt, "memory");
-    ranges.push(Items::new(alloc)).expect(rt, "memory");
+    ranges.push(cells).expect(rt, "memory");
+    ranges.push(Cells::new(alloc)).expect(rt, "memory");
     Reply::Ranges(Items::from_vec(ranges))
 }
 
@@ -132,9 +132,9 @@ fn stops_at_a_fault(rt: HostRuntime) {
     let reader = PieceReader::new(lines, 14).failing(Fault { after: 1, kind });
     let mut input = BlockReader::new(alloc, reader).expect(&rt, "memory");
     let mut output = BlockWriter::new(alloc, PieceWriter::new(alloc, 1000)).expect(&rt, "memory");
-    assert!(rt; script.run(&mut input, &mut output) == Err(ScriptFault::Read));
+    assert!(rt; matches!(script.run(&mut input, &mut output), Err(ScriptFault::Read)));
     assert_eq!(rt; output.get_ref().bytes(), b"ok\n".as_slice());
-    assert!(rt; script.run(&mut input, &mut output) == Ok(Ended::Input));
+    assert!(rt; matches!(script.run(&mut input, &mut output), Ok(Ended::Input)));
     assert_eq!(rt;
         output.get_ref().bytes(),
         b"ok\nend\nrefused 2 NoTable nope\n".as_slice()
@@ -144,6 +144,6 @@ fn stops_at_a_fault(rt: HostRuntime) {
     let mut input = BlockReader::new(alloc, PieceReader::new(lines, 14)).expect(&rt, "memory");
     let writer = PieceWriter::new(alloc, 2).failing(Fault { after: 2, kind });
     let mut output = BlockWriter::new(alloc, writer).expect(&rt, "memory");
-    assert!(rt; script.run(&mut input, &mut output) == Err(ScriptFault::Write));
+    assert!(rt; matches!(script.run(&mut input, &mut output), Err(ScriptFault::Write)));
     assert_eq!(rt; output.get_ref().bytes(), b"ok".as_slice());
 }

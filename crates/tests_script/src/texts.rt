@@ -2,7 +2,7 @@
 use std::alloc::Global;
 use std::process::Abort;
 use tab_io::{BlockWriter, Output};
-use tab_key::{Cell, Key};
+use tab_key::{CellRef, Key, Kind, Record};
 use tab_text::{Escape, Word, hex_value, is_plain, laws, put_cell, put_line, put_word, step};
 
 fn output(rt: &impl Abort, alloc: Global) -> BlockWriter<Vec<u8>> {
@@ -62,11 +62,11 @@ fn prints_cells(rt: HostRuntime) {
         label: b"A&B",
         timestamp: -7,
     };
-    let cell = Cell::new(rt.alloc(), key, b"\x00")
+    let record = Record::new(rt.alloc(), key, Kind::Put, b"\x00", 0, 0)
         .expect(&rt, "memory")
-        .expect(&rt, "a cell");
+        .expect(&rt, "a record");
     let mut output = output(&rt, rt.alloc());
-    put_cell(&mut output, &cell).expect(&rt, "written");
+    put_cell(&mut output, &CellRef::of(record.as_ref())).expect(&rt, "written");
     output.flush().expect(&rt, "written");
     assert_eq!(rt;
         output.get_ref().as_slice(),

@@ -78,3 +78,9 @@ returns-in-splitsize c = found command_of c.args.word.now (codes "splitsize") (o
 
 pub returns-in-splits : goal.returns-in-splits
 returns-in-splits c = found command_of c.args.word.now (codes "splits") (omega arith) (search rules)
+
+pub returns-in-save : goal.returns-in-save
+returns-in-save c = found command_of c.args.word.now (codes "save") (omega arith) (search rules)
+
+pub returns-in-load : goal.returns-in-load
+returns-in-load c = found command_of c.args.word.now (codes "load") (omega arith) (search rules)
