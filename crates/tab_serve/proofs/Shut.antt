@@ -36,6 +36,8 @@ granted_shut c (act.Compact t extent) shut = refl
 granted_shut c (act.AddSplit t row) shut = refl
 granted_shut c (act.SplitBySize t row limit) shut = refl
 granted_shut c (act.Splits t) shut = refl
+granted_shut c act.Save shut = refl
+granted_shut c act.Load shut = refl
 
 numbered_shut : (used_up : Bool) (r : Told) → opens r ≡ false → opens (numbered used_up r) ≡ false
 numbered_shut true r shut = refl
@@ -79,6 +81,8 @@ may_shut (act.SplitBySize t row limit) plain r shut may = elim may [
   ]
 ]
 may_shut (act.Splits t) plain r shut may = ap opens may.1
+may_shut act.Save plain r shut may = ap opens may ∙ shut
+may_shut act.Load plain r shut may = ap opens may ∙ shut
 
 reply_shut : (a : Act) (plain r : Told) → opens plain ≡ false → IsEventReply a plain r → opens r ≡ false
 reply_shut a (Refused x) r shut is = ap opens is

@@ -2,7 +2,7 @@
 
 use std::alloc::{AllocError, Global};
 use std::cmp::Ordering;
-use tab_key::{Cell, Key, RecordRef};
+use tab_key::{CellRef, Key, RecordRef};
 
 /// An update that a table accepted, or is asked to accept.
 #[derive(Clone, Copy)]
@@ -66,15 +66,8 @@ impl Update {
     }
 
     /// Whether the cell shows this put.
-    pub fn is_cell(&self, cell: &Cell) -> bool {
-        let key = Key {
-            row: cell.row(),
-            family: cell.family(),
-            qualifier: cell.qualifier(),
-            label: cell.label(),
-            timestamp: cell.timestamp(),
-        };
-        self.is_put && self.has_key(key) && cell.value() == self.value().as_slice()
+    pub fn is_cell(&self, cell: &CellRef<'_>) -> bool {
+        self.is_put && self.has_key(cell.key()) && cell.value() == self.value().as_slice()
     }
 }
 

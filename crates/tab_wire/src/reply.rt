@@ -12,8 +12,8 @@ use crate::refusal::put_refusal;
 use crate::value::{Value, put_frame};
 use tab_history::{Counts, Reply, Rights};
 use tab_io::{Output, WriteFault};
-use tab_key::{ByteString, Cell, Items};
-use tab_text::{PutItem, put_each};
+use tab_key::{ByteString, CellRef, Cells};
+use tab_text::{PutCell, PutItem, put_each, put_each_cell};
 
 /// Writes the frames of the reply. It takes no memory.
 ///
@@ -31,7 +31,7 @@ pub fn write_reply<W: Output>(
         Reply::Done => put_ok(output),
         Reply::Refused(refusal) => put_refusal(output, refusal),
         Reply::Opened(_) => put_opened(output, number),
-        Reply::Batch(cells) => put_batch(output, cells.as_slice(), count),
+        Reply::Batch(cells) => put_batch(output, cells, count),
         Reply::Ranges(ranges) => put_ranges(output, ranges.as_slice()),
         Reply::Rights(rights) => put_rights(output, rights),
         Reply::Counted(counts) => put_counts(output, *counts),
@@ -52,33 +52,33 @@ fn put_opened<W: Output>(output: &mut W, number: u32) -> Result<(), WriteFault>
 }
 
 // The cells, and whether there are as many as were asked for.
-fn put_batch<W: Output>(output: &mut W, cells: &[Cell], count: u32) -> Result<(), WriteFault>
+fn put_batch<W: Output>(output: &mut W, cells: &Cells, count: u32) -> Result<(), WriteFault>
     ensures { Puts W.Output output.old output.new (flat_map cell_frame cells.now ++ end_frame (length cells.now == count)) result }
 {
     put_cells(output, cells)?;
     put_end(output, cells.len() == count as usize)
 }
 
-fn put_cells<W: Output>(output: &mut W, cells: &[Cell]) -> Result<(), WriteFault>
+fn put_cells<W: Output>(output: &mut W, cells: &Cells) -> Result<(), WriteFault>
     ensures { Puts W.Output output.old output.new (flat_map cell_frame cells.now) result }
 {
-    put_each(output, cells, &CellFrame)
+    put_each_cell(output, cells, &CellFrame)
 }
 
 // One cell.
 struct CellFrame;
 
-impl PutItem<Cell> for CellFrame {
+impl PutCell for CellFrame {
     ghost use Rattle.tab_wire.specs.Replies.{cell_frame};
 
     ghost text = { λ _ cell. cell_frame cell };
 
-    fn put_item<W: Output>(&self, output: &mut W, cell: &Cell) -> Result<(), WriteFault> {
+    fn put_cell<W: Output>(&self, output: &mut W, cell: &CellRef<'_>) -> Result<(), WriteFault> {
         put_cell(output, cell)
     }
 }
 
-fn put_cell<W: Output>(output: &mut W, cell: &Cell) -> Result<(), WriteFault>
+fn put_cell<W: Output>(output: &mut W, cell: &CellRef<'_>) -> Result<(), WriteFault>
     ensures { Puts W.Output output.old output.new (cell_frame cell.now) result }
 {
     put_frame(
@@ -110,7 +110,7 @@ fn put_end<W: Output>(output: &mut W, more: bool) -> Result<(), WriteFault>
 }
 
 // The cells of each range, each range with its end, and the end of all.
-fn put_ranges<W: Output>(output: &mut W, ranges: &[Items<Cell>]) -> Result<(), WriteFault>
+fn put_ranges<W: Output>(output: &mut W, ranges: &[Cells]) -> Result<(), WriteFault>
     ensures { Puts W.Output output.old output.new (flat_map range_frames ranges.now ++ end_frame false) result }
 {
     put_each(output, ranges, &RangeFrames)?;
@@ -120,17 +120,17 @@ fn put_ranges<W: Output>(output: &mut W, ranges: &[Items<Cell>]) -> Result<(), W
 // The cells of a range, and its end.
 struct RangeFrames;
 
-impl PutItem<Items<Cell>> for RangeFrames {
+impl PutItem<Cells> for RangeFrames {
     ghost use Rattle.tab_wire.specs.Replies.{range_frames};
 
     ghost text = { λ _ cells. range_frames cells };
 
-    fn put_item<W: Output>(&self, output: &mut W, cells: &Items<Cell>) -> Result<(), WriteFault> {
-        put_range(output, cells.as_slice())
+    fn put_item<W: Output>(&self, output: &mut W, cells: &Cells) -> Result<(), WriteFault> {
+        put_range(output, cells)
     }
 }
 
-fn put_range<W: Output>(output: &mut W, cells: &[Cell]) -> Result<(), WriteFault>
+fn put_range<W: Output>(output: &mut W, cells: &Cells) -> Result<(), WriteFault>
     ensures { Puts W.Output output.old output.new (range_frames cells.now) result }
 {
     put_cells(output, cells)?;

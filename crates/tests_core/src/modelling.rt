@@ -5,7 +5,7 @@ use std::alloc::Global;
 use std::process::Abort;
 use tab_core::{Core, Session};
 use tab_history::{Act, Event, Extent, Refusal, Reply, Scan, SplitFault, TimeMode, Versions};
-use tab_key::{ByteString, Cell, Items};
+use tab_key::{ByteString, Cells, Items};
 use tab_testing::{Query, Random, Update, auths_of, mutation_of, scanned};
 
 const ROWS: [&[u8]; 3] = [b"k", b"l", b"m"];
@@ -72,13 +72,13 @@ fn write(
 // The batch is as long as was asked, or as the rest of the updates, and begins that rest; what is left then.
 fn expect_batch<'a>(
     rt: &impl Abort,
-    batch: &[Cell],
+    batch: &Cells,
     count: u32,
     rest: &'a [Update],
 ) -> &'a [Update] {
     assert_eq!(rt; batch.len(), rest.len().min(count as usize));
-    for (cell, update) in batch.iter().zip(rest) {
-        assert!(rt; update.is_cell(cell));
+    for (index, update) in rest.iter().take(batch.len()).enumerate() {
+        assert!(rt; update.is_cell(&batch.get(index)));
     }
     rest.get(batch.len()..).unwrap_or(&[])
 }
@@ -89,7 +89,7 @@ fn expect_cells(rt: &impl Abort, alloc: Global, mut session: Session, first: u64
     for turn in 0..4u64 {
         let count = [1, 2, 1000][(first % 3 + turn) as usize % 3];
         let batch = session.next_batch(alloc, count).expect(rt, "memory");
-        rest = expect_batch(rt, batch.as_slice(), count, rest);
+        rest = expect_batch(rt, &batch, count, rest);
     }
     assert!(rt; rest.is_empty());
 }

@@ -3,7 +3,7 @@
 use std::alloc::Global;
 use std::process::Abort;
 use tab_history::{Act, Event, Refusal, Reply, Scan, Step, TimeMode, Versions};
-use tab_key::{Bound, Bounds, ByteString, Cell, Items, Name};
+use tab_key::{Bound, Bounds, ByteString, Cells, Items, Name};
 use tab_label::AuthSet;
 use tab_mutation::Mutation;
 
@@ -113,8 +113,9 @@ pub fn deletes(
 }
 
 // The cells, as `label@timestamp=value` with a comma after each.
-fn add_cells(rt: &impl Abort, alloc: Global, text: &mut Vec<u8>, cells: &[Cell]) {
-    for cell in cells {
+fn add_cells(rt: &impl Abort, alloc: Global, text: &mut Vec<u8>, cells: &Cells) {
+    for index in 0..cells.len() {
+        let cell = cells.get(index);
         text.extend_from_slice(cell.label()).expect(rt, "memory");
         text.push(b'@').expect(rt, "memory");
         let timestamp = format!(in alloc; "{}", cell.timestamp()).expect(rt, "memory");
@@ -148,10 +149,10 @@ pub fn text_of(rt: &impl Abort, alloc: Global, replies: &[Reply]) -> Vec<u8> {
                 .extend_from_slice(word_of(refusal))
                 .expect(rt, "memory"),
             Reply::Opened(_) => text.extend_from_slice(b"opened").expect(rt, "memory"),
-            Reply::Batch(cells) => add_cells(rt, alloc, &mut text, cells.as_slice()),
+            Reply::Batch(cells) => add_cells(rt, alloc, &mut text, cells),
             Reply::Ranges(ranges) => {
                 for cells in ranges.as_slice() {
-                    add_cells(rt, alloc, &mut text, cells.as_slice());
+                    add_cells(rt, alloc, &mut text, cells);
                     text.push(b'|').expect(rt, "memory");
                 }
             }

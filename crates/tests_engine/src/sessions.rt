@@ -3,7 +3,7 @@
 use crate::writing::{Writer, add, of_runs};
 use std::alloc::{AllocError, Global};
 use std::process::Abort;
-use tab_key::{Bound, Bounds, ByteString, Cell, Items};
+use tab_key::{Bound, Bounds, ByteString, Cells, Items};
 use tab_label::AuthSet;
 use tab_mutation::Mutation;
 use tab_session::Session;
@@ -121,9 +121,10 @@ fn whole_table(rt: &impl Abort, alloc: Global, versions: u32) -> Session {
 }
 
 // The names of the cells.
-fn names(alloc: Global, cells: &Items<Cell>) -> Result<Vec<u8>, AllocError> {
+fn names(alloc: Global, cells: &Cells) -> Result<Vec<u8>, AllocError> {
     let mut names = Vec::new(alloc);
-    for cell in cells.as_slice() {
+    for index in 0..cells.len() {
+        let cell = cells.get(index);
         names.extend_from_slice(cell.value())?;
     }
     Ok(names)

@@ -8,7 +8,7 @@ use std::process::Abort;
 use tab_history::{Act, Refusal, Reply};
 use tab_io::memory::{Fault, PieceReader, PieceWriter};
 use tab_io::{BlockReader, BlockWriter};
-use tab_key::{Items, Name, Part};
+use tab_key::{Cells, Name, Part};
 use tab_serve::{Listed, Moments, ServeFault, Service, converse};
 use tab_wire::Request;
 
@@ -29,7 +29,7 @@ impl Service for Counting {
     fn answer(&mut self, _user: Name, request: Request) -> Reply {
         match request {
             Request::Act(Act::Open(_)) => self.open(),
-            Request::Next { .. } => Reply::Batch(Items::new(self.alloc)),
+            Request::Next { .. } => Reply::Batch(Cells::new(self.alloc)),
             _ => Reply::Done,
         }
     }

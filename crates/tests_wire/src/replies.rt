@@ -5,7 +5,7 @@ use std::process::Abort;
 use tab_history::{Counts, Refusal, Reply, SplitFault};
 use tab_io::memory::{Fault, PieceWriter};
 use tab_io::{BlockWriter, Output};
-use tab_key::{ByteString, Cell, Items, Key, Name, Part};
+use tab_key::{ByteString, Cells, Items, Key, Kind, Name, Part, Record};
 use tab_policy::{Permission, SystemPermission, TablePermission};
 use tab_wire::{Reason, write_bad_frame, write_reply};
 
@@ -13,7 +13,7 @@ fn output(rt: &impl Abort, alloc: Global) -> BlockWriter<Vec<u8>> {
     BlockWriter::new(alloc, Vec::new(alloc)).expect(rt, "memory")
 }
 
-fn cell(rt: &impl Abort, alloc: Global) -> Cell {
+fn record(rt: &impl Abort, alloc: Global) -> Record {
     let key = Key {
         row: b"r",
         family: b"f",
@@ -21,15 +21,16 @@ fn cell(rt: &impl Abort, alloc: Global) -> Cell {
         label: b"",
         timestamp: 5,
     };
-    Cell::new(alloc, key, b"v")
+    Record::new(alloc, key, Kind::Put, b"v", 0, 0)
         .expect(rt, "memory")
-        .expect(rt, "a cell")
+        .expect(rt, "a record")
 }
 
-fn cells(rt: &impl Abort, alloc: Global) -> Items<Cell> {
-    let mut cells = Vec::new(alloc);
-    cells.push(cell(rt, alloc)).expect(rt, "memory");
-    Items::from_vec(cells)
+fn cells(rt: &impl Abort, alloc: Global) -> Cells {
+    let mut cells = Cells::new(alloc);
+    let shown = record(rt, alloc);
+    cells.push(&shown.as_ref()).expect(rt, "memory");
+    cells
 }
 
 // The frames of one reply, to a batch of two cells; a session gets the number 7.
@@ -140,7 +141,7 @@ fn writes_why_a_frame_asks_nothing(rt: HostRuntime) {
 #[test]
 fn writes_ranges(rt: HostRuntime) {
     let mut ranges = Vec::new(rt.alloc());
-    ranges.push(Items::new(rt.alloc())).expect(&rt, "memory");
+    ranges.push(Cells::new(rt.alloc())).expect(&rt, "memory");
     ranges.push(cells(&rt, rt.alloc())).expect(&rt, "memory");
     let told = frames(&rt, rt.alloc(), &Reply::Ranges(Items::from_vec(ranges)));
     assert_eq!(rt; told.as_slice(), RANGES);
