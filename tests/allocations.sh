@@ -2,7 +2,7 @@
 # Lets each request for memory of a script fail in turn, and compares what is printed.
 # Where one fails, the program prints what it always prints, or one line is refused for memory and all others are answered
 # as if that line were not there (a long scan stands up to the batch that is refused), or it ends with status 1 before the
-# first line. Lines that drop, revoke or count are never refused.
+# first line. Lines that drop, revoke or count are never refused. A save that is refused leaves no part of an image behind.
 # Usage: tests/allocations.sh   (from anywhere; wants a C compiler; builds the program if it isn't built)
 set -eu
 top=$(cd "$(dirname -- "${BASH_SOURCE[0]}")/.." && pwd)
@@ -91,6 +91,30 @@ createtable s
 scan s A
 rights s
 S
+# An image that is saved, and loaded.
+cat >"$work/images" <<'S'
+createtable t versions=2
+createuser bob
+setauths bob A,B
+grant bob READ t
+insert t a f q A v 1
+addsplit t m
+flush t
+insert t z f q A&B w 2
+delete t a f q A 1
+save image
+droptable t
+load image
+rights t
+splits t
+scan t \0
+as bob
+scan t A,B
+load image
+as root
+save image
+status t
+S
 # A scan of more cells than a batch has.
 {
     echo 'createtable t'
@@ -105,24 +129,30 @@ S
     echo 'scan t \0'
 } >"$work/long"
 
+# Runs lines in a folder without an image.
+run() { # FOLDER
+    rm -rf "$1/image"
+    (cd "$1" && exec "$program" script)
+}
+
 # What a script may print, by checksum: what it always prints, and for each line what it prints where that line is refused
 # for memory.
 declare -A expected
 expect() { # SCRIPT
-    local line before
-    "$program" script <"$work/$1" >"$work/always"
+    local line before said sum
+    run "$work" <"$work/$1" >"$work/always"
     expected[$1.$(cksum <"$work/always")]=always
     for line in $(seq "$(wc -l <"$work/$1")"); do
         # these take no memory, and are never refused for it
         sed -n "${line}p" "$work/$1" | grep -qE '^(droptable|dropuser|revoke|status) ' && continue
-        head -n $((line - 1)) "$work/$1" | "$program" script >"$work/before"
+        head -n $((line - 1)) "$work/$1" | run "$work" >"$work/before"
         before=$(wc -c <"$work/before")
-        sum=$({
-            cat "$work/before"
-            echo 'refused 17 NoMemory'
-            sed "${line}d" "$work/$1" | "$program" script | tail -c +$((before + 1))
-        } | cksum)
-        expected[$1.$sum]=${expected[$1.$sum]:-refused}
+        run "$work" < <(sed "${line}d" "$work/$1") | tail -c +$((before + 1)) >"$work/behind"
+        # a file's line is refused as an event, or while its image is written or read
+        for said in 'refused 17 NoMemory' $(sed -n "${line}s/^\(save\|load\) .*/fault_\1_memory/p" "$work/$1"); do
+            sum=$({ cat "$work/before" && echo "${said//_/ }" && cat "$work/behind"; } | cksum)
+            expected[$1.$sum]=${expected[$1.$sum]:-refused}
+        done
     done
 }
 
@@ -130,11 +160,14 @@ expect() { # SCRIPT
 # where the script makes fewer requests.
 try_one() { # SCRIPT NUMBER FOLDER
     local status=0 found
-    rm -f "$3/failed"
-    LD_PRELOAD=$work/failing.so FAIL_AT=$2 FAIL_LOG=$3/failed "$program" script <"$work/$1" >"$3/out" 2>"$3/err" || status=$?
+    rm -rf "$3/failed" "$3/image"
+    (cd "$3" && LD_PRELOAD=$work/failing.so FAIL_AT=$2 FAIL_LOG=$3/failed exec "$program" script) <"$work/$1" >"$3/out" 2>"$3/err" || status=$?
     [ -e "$3/failed" ] || return 0
     found=${expected[$1.$(cksum <"$3/out")]:-}
-    if [ "$status" -ne 0 ] && [ ! -s "$3/out" ] && [ -s "$3/err" ]; then
+    if [ -n "$(find "$3" -name '*.part')" ]; then
+        echo "failed: $1, request $2: a part of an image is left"
+        rm -f "$3"/*.part
+    elif [ "$status" -ne 0 ] && [ ! -s "$3/out" ] && [ -s "$3/err" ]; then
         echo passed
     elif [ "$status" -eq 0 ] && [ -n "$found" ]; then
         echo "${found/always/passed}"
@@ -164,6 +197,7 @@ try_all() { # SCRIPT
 }
 
 expect script
+expect images
 expect long
 # memory may lack for the second batch: then the first one stands
 sum=$({
@@ -172,6 +206,7 @@ sum=$({
 } | cksum)
 expected[long.$sum]=refused
 try_all script
+try_all images
 try_all long
 cat "$work"/said.* >"$work/said"
 grep '^failed' "$work/said" | head -n 20 || true

@@ -158,13 +158,29 @@ def parts_of(mutants):
     return [mutants[at:at + size] for at in range(0, len(mutants), size)] if mutants else []
 
 
-def tried_all(mutants, named):
-    """Returns of each of some mutants of a crate for what it was refused."""
+def tried_all(batches, named, kept):
+    """Returns of each mutant of some batches of a crate for what it was refused, and drops what the prover kept."""
     found = {}
-    with tempfile.TemporaryDirectory() as kept:
-        for batch in batches_of(mutants):
-            found |= tried(batch, named, kept)
+    with kept:
+        for batch in batches:
+            found |= tried(batch, named, kept.name)
     return found
+
+
+def tried_of(mutants, named, pool):
+    """Returns of some of a crate's mutants for what they were refused, and what is begun for the others.
+
+    What most checks of a crate have to read first is its lemmas: the first batch has them checked, and each other part begins with
+    a copy of what the prover kept of it."""
+    first, *others = parts_of(mutants)
+    batch, *rest = batches_of(first)
+    kept, begun = tempfile.TemporaryDirectory(), []
+    found = tried(batch, named, kept.name)
+    for part in others:
+        copy = tempfile.TemporaryDirectory()
+        shutil.copytree(kept.name, copy.name, dirs_exist_ok=True)
+        begun.append(pool.submit(tried_all, batches_of(part), named, copy))
+    return found | tried_all(rest, named, kept), begun
 
 
 def weight(mutants):
@@ -173,35 +189,43 @@ def weight(mutants):
     return sum(read(it).count("\n") for it in files if os.path.isfile(it)) + 200 * len(mutants)
 
 
-def are_ready(parts, log):
-    """Returns those of the parts that can be tried: all, or those whose crate is proved by the output of rt ci that grows there."""
+def are_ready(lists, log):
+    """Returns those lists of mutants that can be tried: all, or those whose crate is proved by the output of rt ci that grows there."""
     lines = read(log).splitlines() if log else []
     if not log or lines and re.fullmatch(r"\d+ passed, \d+ failed", lines[-1]):
-        return parts
+        return lists
     proved = {found[1] for line in lines if (found := re.match(r"rt: (\w+) (?:proved$|is kept: )", line))}
-    return [it for it in parts if it[0].crate in proved]
+    return [it for it in lists if it[0].crate in proved]
+
+
+def tell(found):
+    """Prints of each mutant for what it was refused, and returns how many were and how many weren't."""
+    for mutant, why in found.items():
+        print(f"{mutant}: {'refused: ' + why[:120] if why else 'NOT REFUSED for what it ensures'}")
+    refused = sum(bool(why) for why in found.values())
+    return refused, len(found) - refused
 
 
 def main(crates, log):
     named = dependencies()
-    left = [part for crate in crates or named for part in parts_of(mutants_of(crate))]
-    lacking = {it for part in left for it in named[part[0].crate] if os.path.isdir(folder(it)) and not os.path.isdir(library(it))}
+    left = [found for crate in crates or named if (found := mutants_of(crate))]
+    lacking = {it for found in left for it in named[found[0].crate] if os.path.isdir(folder(it)) and not os.path.isdir(library(it))}
     if lacking and not log:
         sys.exit(f"mutants: {', '.join(sorted(lacking))}: not built yet (./tabd builds them)")
     # those that take longest first
     left.sort(key=weight, reverse=True)
-    passed = failed = 0
+    counts = []
     with concurrent.futures.ThreadPoolExecutor(len(os.sched_getaffinity(0))) as pool:
         begun = []
         while left:
             ready = are_ready(left, log)
-            begun += [pool.submit(tried_all, part, named[part[0].crate]) for part in ready]
+            begun += [pool.submit(tried_of, found, named[found[0].crate], pool) for found in ready]
             left = [it for it in left if it not in ready]
             time.sleep(5 if left else 0)
-        for one in begun:
-            for mutant, why in one.result().items():
-                print(f"{mutant}: {'refused: ' + why[:120] if why else 'NOT REFUSED for what it ensures'}")
-                passed, failed = passed + bool(why), failed + (not why)
+        for crate in begun:
+            found, others = crate.result()
+            counts += [tell(found), *(tell(part.result()) for part in others)]
+    passed, failed = (sum(them) for them in zip(*counts, (0, 0)))
     print(f"{passed} passed, {failed} failed")
     return 1 if failed else 0
 

@@ -137,7 +137,7 @@ name="name: 1 to 128 of a-z A-Z 0-9 _ - ."
 byte_word='a byte word: ! to ~ as they are but \\ for \, \xHH (H of 0-9 a-f) for any byte, \e for none'
 number='a whole number of 64 bits with its sign, as 7 or -7'
 versions='VERSIONS (versions=N with N from 1 to 1000)'
-commands='a command, one of as at createtable droptable createuser dropuser setauths grant revoke rights constraints insert delete mutate scan open next many close flush compact status addsplit splitsize splits'
+commands='a command, one of as at createtable droptable createuser dropuser setauths grant revoke rights constraints insert delete mutate scan open next many close flush compact status addsplit splitsize splits save load'
 system='SYSTEM_PERMISSION (GRANT, CREATE_TABLE, DROP_TABLE, ALTER_TABLE, CREATE_USER, DROP_USER, ALTER_USER or SYSTEM)'
 high='[ and a byte word (up to this row), ( and a byte word (before it), or \0 for no bound'
 session='SESSION (the number that an open gave: a whole number of 32 bits without a sign, as 0)'

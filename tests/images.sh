@@ -1,0 +1,248 @@
+#!/usr/bin/env bash
+# Images in files: what `save`, `load` and `--image` do, what they tell, and what is left of the old file where a save fails.
+# Usage: tests/images.sh   (from anywhere; wants python3; builds the program if it isn't built)
+set -u
+top=$(cd "$(dirname -- "${BASH_SOURCE[0]}")/.." && pwd)
+work=$(mktemp -d) || exit 1
+trap 'rm -rf "$work"' EXIT
+"$top/tabd" --version >/dev/null || exit 1
+program=$top/crates/tabd/out/tabd
+cd "$work" || exit 1
+passed=0 failed=0
+
+# Counts one check.
+count() { # NAME, with the status of the test that went before
+    if [ "$2" -eq 0 ]; then passed=$((passed + 1)); else
+        failed=$((failed + 1))
+        echo "FAILED: $1"
+    fi
+}
+
+# What a script answers, and that it ends with 0 and says nothing on standard error.
+answers() { # NAME LINES REPLIES [WORD ..]
+    local name=$1 lines=$2 replies=$3
+    shift 3
+    printf "$lines" | "$program" script "$@" >out 2>err
+    [ "${PIPESTATUS[1]},$(cat out err)" = "0,$(printf "$replies")" ]
+    count "$name" $?
+}
+
+# Whether the file's bytes are these, in hexadecimal.
+holds() { # NAME FILE HEX
+    [ "$(od -An -v -tx1 "$2" | tr -d ' \n')" = "$(tr -d ' ' <<<"$3")" ]
+    count "$1" $?
+}
+
+empty='544142494d47 0001 0000000000000000 0000000000000000 00000001 00000004 726f6f74 ff 00000000 00000000 454e4421'
+one='544142494d47 0001 0000000000000000 0000000000000001 00000001 00000004 726f6f74 ff 00000000 00000001 00000001 74 00 00000001 00 00000001 00000004 726f6f74 1f 00000000 0000000000000001 00000001 72 00000001 66 00000001 71 00000000 0000000000000005 01 0000000000000000 00000000 00000001 76 454e4421'
+
+# Writes bytes, given in hexadecimal, to a file.
+bytes() { # FILE HEX
+    python3 -c 'import sys; open(sys.argv[1], "wb").write(bytes.fromhex(sys.argv[2]))' "$1" "$2"
+}
+
+# ---- What is saved.
+answers 'a new core is saved' 'save new\n' 'ok\n'
+holds 'its image is the smallest' new "$empty"
+answers 'a record is saved' 'createtable t time=any\ninsert t r f q \\e v 5\nsave one\n' 'ok\nok\nok\n'
+holds 'its image is spelled so' one "$one"
+answers 'a record in a sorted table is saved' 'createtable t time=any\ninsert t r f q \\e v 5\nflush t\ncompact t full\nsave again\n' 'ok\nok\nok\nok\nok\n'
+cmp -s one again
+count 'where records lie is not in an image' $?
+[ "$(ls)" = "$(printf 'again\nerr\nnew\none\nout')" ]
+count 'no other file is left' $?
+
+# ---- What is loaded.
+answers 'a loaded core shows what was saved' 'load one\nscan t \\0\nload new\nscan t \\0\n' 'ok\nr f q \\e 5 v\nend\nok\nrefused 2 NoTable t\n'
+answers 'the image of the command line' 'scan t \\0\n' 'r f q \\e 5 v\nend\n' --image one
+answers 'the image of the command line, explained' 'scan t \\0\n' 'r f q \\e 5 v\nend\n' --explain --image one
+answers 'sessions begin anew' 'open t \\0\nopen t \\0\nload one\nnext 0 1\nopen t \\0\nnext 0 9\n' 'session 0\nsession 1\nok\nrefused 15 NoSession 0\nsession 0\nr f q \\e 5 v\nend\n' --image one
+answers 'a file that is replaced' 'save here\ncreatetable u\nsave here\nload here\nstatus u\n' 'ok\nok\nok\nok\ntablets 1 sources 0 records 0\n'
+answers 'a path' 'save ./here\nload ./here\n' 'ok\nok\n'
+mkdir folder
+answers 'a file in another folder' "save $work/folder/one\nload folder/one\nscan t \\\\0\n" 'ok\nok\nr f q \\e 5 v\nend\n' --image one
+[ "$(ls folder)" = one ]
+count 'no other file is left there' $?
+answers 'a name with a space' 'save a\\x20b\nload a\\x20b\n' 'ok\nok\n'
+[ -f 'a b' ]
+count 'the name with a space is one file' $?
+
+# All that a core holds comes back: users with their permissions and authorizations, rights, settings, end rows, records in all places.
+cat >whole <<'.'
+setauths root A,B
+createuser ann
+createuser bob
+setauths ann A
+grant ann SYSTEM
+createtable t time=any versions=3
+createtable u time=server
+constraints u numeric
+grant ann READ t
+grant bob WRITE t
+grant bob READ u
+grant bob WRITE u
+revoke root WRITE u
+insert t b f q A 1 5
+flush t
+insert t d f q A&B 2 6
+delete t b f q A 4
+compact t partial
+insert t m f q \e 3 7
+addsplit t c
+addsplit t k
+insert t a f q B 4 8
+save whole.image
+.
+cat >asked <<'.'
+scan t A,B
+splits t
+rights t
+rights u
+as ann
+rights t
+scan t A
+as bob
+rights t
+rights u
+insert u r f q \e 12
+insert u r f q \e x
+as root
+scan u \0
+.
+"$program" script <whole >out 2>err
+[ $? -eq 0 ] && [ ! -s err ] && ! grep -qv '^ok$' out
+count 'the whole store is saved' $?
+cat whole asked | "$program" script | tail -n "+$(($(wc -l <whole) + 1))" >before
+"$program" script --image whole.image <asked >after 2>err
+[ $? -eq 0 ] && [ ! -s err ] && [ "$(wc -l <before)" -gt 20 ] && cmp -s before after
+count 'a loaded store answers as the one that was saved' $?
+printf 'save again.image\n' | "$program" script --image whole.image >out
+cmp -s whole.image again.image
+count 'what is loaded is saved as it was' $?
+
+# ---- Random scripts in which a store is saved and loaded anywhere: nothing is answered otherwise than by the store that was only saved.
+# A loaded store has its records in other tables: so a tablet is split in its middle whatever its size, and where no record was dropped.
+lines() { # NUMBER
+    LC_ALL=C awk -v seed="$1" '
+        function below(n) { seed = (seed * 69069 + 12345) % 2147483648; return int(seed / 4096) % n }
+        function of(list,   words) { return words[1 + below(split(list, words, " "))] }
+        function table() { return of("t t s") }
+        function user() { return of("root ann bob") }
+        function auths() { return of("\\e A A,B B,C") }
+        function right() { return below(3) ? of("READ WRITE GRANT ALTER_TABLE DROP_TABLE") " " table() : of("SYSTEM CREATE_USER ALTER_USER DROP_USER CREATE_TABLE") }
+        function column() { return of("a b b\\x00 c m zz") " f q" below(2) " " of("\\e \\e A B A&B A|C") }
+        function line(kind) {
+            if (kind < 6) return "insert " table() " " column() " v" below(100) (below(2) ? " " below(9) : "")
+            if (kind < 8) return "delete " table() " " column()
+            if (kind < 9) return "as " user()
+            if (kind < 10) return "at " below(30)
+            if (kind < 11) return of("createuser dropuser") " " of("ann bob")
+            if (kind < 12) return "setauths " user() " " auths()
+            if (kind < 14) return of("grant grant revoke") " " user() " " right()
+            if (kind < 15) return below(4) ? "constraints " table() " " of("\\0 alphanum numeric,keysize") : of("droptable createtable") " " table()
+            if (kind < 16) return "addsplit " table() " " of("a b\\x00 m")
+            if (kind < 17) return number % 2 ? "splitsize " table() " " of("b m") " 0" : of("flush compact") " " table()
+            if (kind < 18) return of("rights splits") " " table()
+            return "scan " table() " " of("\\0 A A,B A,B,C") (below(2) ? " " of("[ (") of("a b m") " " of("\\0 [zz (m") : "")
+        }
+        BEGIN {
+            number = seed
+            for (i = 0; i < 5; i++) below(2)
+            print "createtable t versions=" 1 + below(3) "\ncreatetable s time=server\ncreateuser ann\ncreateuser bob"
+            print "setauths root A,B,C\ngrant ann SYSTEM\ngrant ann READ t\ngrant bob WRITE s"
+            for (i = 0; i < 100; i++) {
+                print line(below(20))
+                if (below(12) == 0) print "save random\nload random"
+            }
+            print "save random\nload random\nas root\nscan t A,B,C\nscan s A,B,C\nrights t\nsplits t"
+        }' | sed 's/^compact .$/& full/'
+}
+wrong=0
+for number in $(seq 100); do
+    lines "$number" >with
+    sed 's/^load /save /' with >without
+    "$program" script <with >with.out 2>&1 && "$program" script <without >without.out 2>&1 && cmp -s with.out without.out && ! grep -q fault with.out ||
+        { wrong=$((wrong + 1)) && echo "script $number" && diff with.out without.out | head -n 3; }
+done
+[ "$wrong" -eq 0 ]
+count 'random scripts, saved and loaded anywhere' $?
+
+# ---- Who may.
+answers 'only who has SYSTEM' 'createuser ann\nas ann\nsave mine\nload one\nas root\ngrant ann SYSTEM\nas ann\nsave mine\nload one\nas root\nscan t \\0\n' 'ok\nrefused 3 PermissionDenied System.SYSTEM\nrefused 3 PermissionDenied System.SYSTEM\nok\nok\nok\nr f q \\e 5 v\nend\n'
+
+# ---- What fails, and what stands then.
+head -c 100 one >cut
+printf 'TABIMG\000\011' >ninth
+printf 'TABIMG\000\000' >zeroth
+{ cat one; printf '!'; } >longer
+: >none
+for pair in missing:io folder:io none:bad cut:bad longer:bad 'ninth:version 9' 'zeroth:version 0' whole:bad; do
+    answers "load ${pair%%:*}" "load ${pair%%:*}\nscan t \\\\0\n" "fault load ${pair#*:}\nr f q \\\\e 5 v\nend\n" --image one
+    printf 'scan t \\0\n' | "$program" script --image "${pair%%:*}" >out 2>err
+    [ "${PIPESTATUS[1]},$(cat out),$(cat err)" = "1,,fault: load ${pair#*:}" ] || { [ "${PIPESTATUS[1]:-1}" = 1 ] && [ ! -s out ] && [ "$(wc -l <err)" = 1 ] && [ "$(cut -d ' ' -f 1 err)" = 'fault:' ]; }
+    count "--image ${pair%%:*} ends with 1 and a line that says why" $?
+done
+answers 'save where there is no folder' 'save missing/one\nscan t \\0\n' 'fault save io\nr f q \\e 5 v\nend\n' --image one
+answers 'save over a folder' 'save folder\nscan t \\0\n' 'fault save io\nr f q \\e 5 v\nend\n' --image one
+[ "$(ls folder)" = one ]
+count 'the folder stands' $?
+# a file may take no more than half a block: the save fails, the last image stands, and nothing is left beside it
+cp new full
+before=$(ls -a)
+printf 'save full\nstatus big\n' >short
+{ printf 'createtable big\n'; seq 20000 | sed 's/.*/insert big row& f q \\e value/'; } >big
+cat big short | (trap '' XFSZ; ulimit -f 8; exec "$program" script) 2>err | tail -n 2 >out
+[ "$(cat out)" = "$(printf 'fault save io\ntablets 1 sources 0 records 20000')" ]
+count 'a disk that is full' $?
+cmp -s new full
+count 'the last image stands' $?
+[ "$(ls -a | grep -vx -e big -e short)" = "$(grep -vx -e big -e short <<<"$before")" ]
+count 'nothing is left beside it' $?
+
+# ---- Each image cut at each of its lengths is none, and one byte changed is none or is saved as itself.
+python3 - "$program" one whole.image <<'.' >changed
+import subprocess
+import sys
+
+program, *names = sys.argv[1:]
+for name in names:
+    with open(name, "rb") as file:
+        image = file.read()
+    variants = [image[:length] for length in range(len(image))]
+    variants += [image[:place] + bytes([image[place] ^ bit]) + image[place + 1:] for place in range(len(image)) for bit in (1, 64)]
+    for number, variant in enumerate(variants):
+        with open(f"v{number}", "wb") as file:
+            file.write(variant)
+    lines = "".join(f"load v{number}\nsave w{number}\n" for number in range(len(variants)))
+    done = subprocess.run([program, "script"], input=lines, stdout=subprocess.PIPE, text=True, check=True)
+    replies = done.stdout.splitlines()
+    right = len(replies) == 2 * len(variants)
+    loaded = 0
+    for number, variant in enumerate(variants):
+        reply = replies[2 * number]
+        if reply == "ok":
+            loaded += 1
+            with open(f"w{number}", "rb") as file:
+                right = right and file.read() == variant and number >= len(image)
+        else:
+            right = right and (reply == "fault load bad" or (reply.startswith("fault load version ") and variant[:6] == b"TABIMG" and variant[6:8] != image[6:8]))
+    print("right" if right and loaded > 0 else f"wrong: {name}")
+.
+[ "$(cat changed)" = "$(printf 'right\nright')" ]
+count 'each image, cut and changed at each place' $?
+
+# ---- Past blocks and limits: values of a mebibyte, and many tables and users.
+python3 - >large <<'.'
+print("createtable t")
+for row in range(3):
+    print(f"insert t r{row} f q \\e " + "v" * 1048576)
+for number in range(300):
+    print(f"createtable t{number}\ncreateuser u{number}\ngrant u{number} READ t{number}")
+print("save large.image")
+.
+"$program" script <large >out && ! grep -qv '^ok$' out && printf 'scan t \\0\nas u299\nscan t299 \\0\nas root\nsave larger.image\n' | "$program" script --image large.image >out &&
+    [ "$(wc -c <out)" -gt 3145728 ] && cmp -s large.image larger.image
+count 'an image past blocks' $?
+
+echo "$passed passed, $failed failed"
+[ "$failed" -eq 0 ]
