@@ -111,7 +111,7 @@ fn put_parts(body: &mut Vec<u8>, key: Key<'_>, value: &[u8]) -> Result<(), Alloc
     body.extend_from_slice(value)
 }
 
-// Puts a record at the end.
+// Puts a record at the end. Memory is asked for once.
 fn put_record(
     body: &mut Vec<u8>,
     key: Key<'_>,
@@ -125,12 +125,14 @@ fn put_record(
     ensures fits { OnOk result (FitsNumbers key.entry.timestamp seq idx) }
     ensures front { take (length body.old.items) body.new.items ≡ body.old.items }
 {
+    body.reserve(byte_count(key, value))?;
     put_lengths(body, key, value)?;
     put_numbers(body, key.timestamp, kind, seq, idx)?;
     put_parts(body, key, value)
 }
 
-/// Puts a record at the end of the body, and says where its head begins. Each part may have at most 1,048,576 bytes.
+/// Puts a record at the end of the body, and says where its head begins. Each part may have at most 1,048,576 bytes. Memory is asked for
+/// once.
 ///
 /// What the body held before stays as it was. After an error, which only want of memory gives, it may hold more bytes at its end.
 pub fn append(

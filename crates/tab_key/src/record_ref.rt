@@ -121,12 +121,13 @@ impl<'a> RecordRef<'a> {
     pub fn key(&self) -> Key<'a>
         ensures { key_of result ≡ self.now.key }
     {
+        let span = span_of(self.body, self.place);
         Key {
-            row: self.row(),
-            family: self.family(),
-            qualifier: self.qualifier(),
-            label: self.label(),
-            timestamp: self.timestamp(),
+            row: &self.body[span.start..span.row_end],
+            family: &self.body[span.row_end..span.family_end],
+            qualifier: &self.body[span.family_end..span.qualifier_end],
+            label: &self.body[span.qualifier_end..span.label_end],
+            timestamp: span.timestamp,
         }
     }
 
@@ -135,9 +136,10 @@ impl<'a> RecordRef<'a> {
     fn place_cmp(&self, other: &RecordRef<'_>) -> Ordering
         ensures { result ≡ place_cmp self.now other.now }
     {
-        self.key()
-            .cmp(other.key())
-            .then(self.kind().rank().cmp(&other.kind().rank()))
+        match self.key().cmp(other.key()) {
+            Ordering::Equal => self.kind().rank().cmp(&other.kind().rank()),
+            decided => decided,
+        }
     }
 
     /// The newer first.
@@ -145,10 +147,10 @@ impl<'a> RecordRef<'a> {
     fn newer_cmp(&self, other: &RecordRef<'_>) -> Ordering
         ensures { result ≡ newer_cmp self.now other.now }
     {
-        other
-            .seq()
-            .cmp(&self.seq())
-            .then(other.idx().cmp(&self.idx()))
+        match other.seq().cmp(&self.seq()) {
+            Ordering::Equal => other.idx().cmp(&self.idx()),
+            decided => decided,
+        }
     }
 
     /// The order of records: by key, then a marker before a put, then the newer first. The value isn't read.
@@ -170,9 +172,9 @@ impl<'a> RecordRef<'a> {
         bytes_of(self.body, self.place)
     }
 
-    // Row, family, qualifier and label in one piece.
+    /// Row, family, qualifier and label, one after another in one piece.
     #[tactic(auto, using(crate::proofs::Columns::four_parts))]
-    fn column(&self) -> &'a [u8]
+    pub fn column(&self) -> &'a [u8]
         ensures { result.now ≡ self.now.key.row ++ self.now.key.family ++ self.now.key.qualifier ++ self.now.key.label }
     {
         let span = span_of(self.body, self.place);

@@ -26,7 +26,16 @@ pub struct UpdateSpan {
     pub kind: Kind,
 }
 
-/// Puts the parts of an update at the end of the body, and says where they are.
+// How many bytes the parts take in a body, as a room to ask for at once.
+fn byte_count(family: &[u8], qualifier: &[u8], label: &[u8], value: &[u8]) -> usize {
+    family
+        .len()
+        .saturating_add(qualifier.len())
+        .saturating_add(label.len())
+        .saturating_add(value.len())
+}
+
+/// Puts the parts of an update at the end of the body, and says where they are. Memory is asked for once.
 ///
 /// What the body held before stays as it was. After an error, which only want of memory gives, it may hold more bytes at its end.
 pub fn append(
@@ -49,6 +58,7 @@ pub fn append(
       value = value.now;
     }) }
 {
+    body.reserve(byte_count(family, qualifier, label, value))?;
     let start = body.len();
     body.extend_from_slice(family)?;
     let family_end = body.len();
