@@ -9,6 +9,7 @@ pub mod Idle
 pub mod NamedColumns
 pub mod BagLaws
 pub mod MergingLaws
+pub mod BothLaws
 pub mod StackLaws
 pub mod MergeLaws
 pub mod Steps

@@ -1,4 +1,4 @@
--- The layers of a merge list what a merge keeps.
+-- The rules of a merge, one behind the other, let through what a merge keeps.
 use Rattle.std.proofs.Common.{◌≡◌, ℕ, List, Bool, true, false, cond, not, ◌&&◌, ◌||◌, refl, sym, ◌∙◌, ap, length}
 use Rattle.std.specs.Prelude.{ℤ, filter, nat_lt, int_lt}
 use mathlib.Core.Bool.{true≢false}
@@ -8,6 +8,7 @@ use Rattle.tab_key.specs.Kept.{is_put, same_column, is_deleted, outranks, is_kep
 use Rattle.tab_key.specs.Sorted.{sorted, IsDistinct}
 use Rattle.tab_cells.specs.Merged.{is_first_marker, survives, merged}
 use Rattle.tab_cells.proofs.Lists.{by_bool, and_false, any_filter}
+use Rattle.tab_iter.specs.Both.{admits_both}
 use Rattle.tab_iter.specs.Layers.{is_left, is_newer, is_among, is_needed}
 use Rattle.tab_iter.specs.Columns.{leads}
 use Rattle.tab_iter.proofs.BagLaws.{sorted_filter}
@@ -22,7 +23,7 @@ survives_sorted : (us : List Record) (full : Bool) (floor : ℤ) (n : ℕ) (u : 
 unfolding survives
 survives_sorted us full floor n u = λ i. kept_sorted us n u i || first_sorted us u i && not (full && int_lt u.key.timestamp floor)
 
--- ---- layer by layer
+-- ---- rule by rule
 -- each marker is left, so the first marker of what is left is the first of all
 first_left : (w : List Record) (u : Record) → is_first_marker (filter (is_left true w) w) u ≡ is_first_marker w u
 unfolding is_first_marker is_left
@@ -71,20 +72,13 @@ kept_lower full floor n w u = by_bool (is_put u.kind) put marker
         go true = refl
         go false = refl
 
-layers_keep : (full : Bool) (floor : ℤ) (n : ℕ) (w : List Record) → filter (is_among true n (filter (lower full floor w) w)) (filter (lower full floor w) w) ≡ filter (survives w full floor n) w
-layers_keep full floor n w =
-    filter_twice (is_among true n (filter (lower full floor w) w)) (lower full floor w) w
-    ∙ filter_equal _ _ w (kept_lower full floor n w)
-
--- the layers one by one
-pub merge_chain : (us : List Record) (keeps kept : Bool) (full f : Bool) (floor g : ℤ) (n m : ℕ) (w0 w1 w2 w3 : List Record) → w0 ≡ sorted us → keeps ≡ true → w1 ≡ filter (is_left keeps w0) w0 → f ≡ full → g ≡ floor → w2 ≡ filter (is_needed f g w1) w1 → m ≡ n → kept ≡ true → w3 ≡ filter (is_among kept m w2) w2 → IsDistinct us → w3 ≡ merged us full floor n
+-- the rules one by one
+pub merge_chain : (us : List Record) (keeps kept : Bool) (full f : Bool) (floor g : ℤ) (n m : ℕ) (p q : List Record → Record → Bool) (w left : List Record) → w ≡ sorted us → keeps ≡ true → f ≡ full → g ≡ floor → p ≡ admits_both (is_left keeps) (is_needed f g) → m ≡ n → kept ≡ true → q ≡ admits_both p (is_among kept m) → left ≡ filter (q w) w → IsDistinct us → left ≡ merged us full floor n
 unfolding merged lower
-merge_chain us keeps kept full f floor g n m w0 w1 w2 w3 e0 k e1 ff gg e2 mn kk e3 d =
-    let w = sorted us in
-    let f1 : w1 ≡ filter (is_left true w) w = e1 ∙ (λ i. filter (is_left (k i) (e0 i)) (e0 i)) in
-    let f2 : w2 ≡ filter (lower full floor w) w =
-    e2 ∙ (λ i. filter (is_needed (ff i) (gg i) (f1 i)) (f1 i)) ∙ filter_twice (is_needed full floor (filter (is_left true w) w)) (is_left true w) w in
-    e3 ∙ (λ i. filter (is_among (kk i) (mn i) (f2 i)) (f2 i))
-    ∙ layers_keep full floor n w
-    ∙ filter_equal _ _ w (survives_sorted us full floor n)
+merge_chain us keeps kept full f floor g n m p q w left e0 k ff gg ep mn kk eq e d =
+    let ep2 : p ≡ lower full floor = ep ∙ (λ i. admits_both (is_left (k i)) (is_needed (ff i) (gg i))) in
+    let eq2 : q ≡ admits_both (lower full floor) (is_among true n) = eq ∙ (λ i. admits_both (ep2 i) (is_among (kk i) (mn i))) in
+    e ∙ (λ i. filter (eq2 i (e0 i)) (e0 i))
+    ∙ filter_equal _ _ (sorted us) (kept_lower full floor n (sorted us))
+    ∙ filter_equal _ _ (sorted us) (survives_sorted us full floor n)
     ∙ sym (sorted_filter (survives us full floor n) us d)

@@ -1,4 +1,4 @@
--- A stack of layers lists the shown records.
+-- The rules of a scan, one behind the other, let the shown records through.
 use Rattle.std.proofs.Common.{◌≡◌, ℕ, List, [], ◌∷◌, Bool, true, false, cond, not, ◌&&◌, ◌||◌, refl, sym, ◌∙◌, ap, length}
 use Rattle.std.specs.Prelude.{filter, map, nat_lt, bytes_eq}
 use Rattle.std.specs.List.{list_any}
@@ -14,6 +14,7 @@ use Rattle.tab_key.specs.declared.column.Column.TheVariants.{Family, Qualified}
 use Rattle.tab_label.specs.Holding.{label_holds}
 use Rattle.tab_cells.specs.Cells.{Query, matches, is_shown, cells}
 use Rattle.tab_cells.proofs.Lists.{by_bool}
+use Rattle.tab_iter.specs.Both.{admits_both}
 use Rattle.tab_iter.specs.Layers.{is_left, is_newer, is_among}
 use Rattle.tab_iter.specs.Stack.{query_of, IsOfColumns, stacked}
 use Rattle.tab_iter.proofs.BagLaws.{sorted_filter, length_sorted}
@@ -34,7 +35,7 @@ filter_twice p q (x ∷ xs) = go (q x) (filter_twice p q xs)
 passes : List Record → ℕ → (Key → Bool) → Record → Bool
 passes us n m u = m u.key && is_kept us n u
 
--- what the lower layers let through
+-- what the rules before versioning let through
 lower : List Record → (Key → Bool) → (Key → Bool) → Record → Bool
 lower w chosen seen u = (is_left false w u && chosen u.key) && seen u.key
 
@@ -90,15 +91,9 @@ shown_stacked w n chosen seen cs ss u = by_bool (chosen u.key) (λ p. by_bool (s
         go true false l = refl
         go false d l = refl
 
-stack_shows : (w : List Record) (n : ℕ) (chosen seen : Key → Bool) → IsOfColumns chosen → IsOfColumns seen → stacked w n chosen seen ≡ filter (passes w n (λ k. chosen k && seen k)) w
+stack_shows : (w : List Record) (n : ℕ) (chosen seen : Key → Bool) → IsOfColumns chosen → IsOfColumns seen → filter (stacked n chosen seen w) w ≡ filter (passes w n (λ k. chosen k && seen k)) w
 unfolding lower
-stack_shows w n chosen seen cs ss =
-    ap (λ l. filter (is_among false n l) l) below
-    ∙ filter_twice (is_among false n (filter (lower w chosen seen) w)) (lower w chosen seen) w
-    ∙ filter_equal _ _ w (shown_stacked w n chosen seen cs ss)
-  where
-    below : filter (λ u. seen u.key) (filter (λ u. chosen u.key) (filter (is_left false w) w)) ≡ filter (lower w chosen seen) w
-    below = ap (filter (λ u. seen u.key)) (filter_twice (λ u. chosen u.key) (is_left false w) w) ∙ filter_twice (λ u. seen u.key) (λ u. is_left false w u && chosen u.key) w
+stack_shows w n chosen seen cs ss = filter_equal _ _ w (shown_stacked w n chosen seen cs ss)
 
 -- ---- over the sorted records as over the records
 any_inserted : (p : Record → Bool) (x : Record) (xs : List Record) → list_any p (inserted x xs) ≡ (p x || list_any p xs)
@@ -174,20 +169,23 @@ shows us n columns auths u = ap (λ b. b && is_kept us n u) (go (is_selected col
     go false true = refl
     go false false = refl
 
-stack_answers : (us : List Record) (n : ℕ) (columns : List Column) (auths : List (List ℕ)) → IsDistinct us → stacked (sorted us) n (is_selected columns) (λ k. label_holds k.label auths) ≡ sorted (filter (is_shown us n (query_of columns auths)) us)
+stack_answers : (us : List Record) (n : ℕ) (columns : List Column) (auths : List (List ℕ)) → IsDistinct us → filter (stacked n (is_selected columns) (λ k. label_holds k.label auths) (sorted us)) (sorted us) ≡ sorted (filter (is_shown us n (query_of columns auths)) us)
 unfolding passes
 stack_answers us n columns auths d =
     stack_shows (sorted us) n (is_selected columns) (λ k. label_holds k.label auths) (selected_of_columns columns) (holds_of_columns auths)
     ∙ filter_equal _ _ (sorted us) (λ u. ap (λ b. (is_selected columns u.key && label_holds u.key.label auths) && b) (kept_sorted us n u) ∙ shows us n columns auths u)
     ∙ sym (sorted_filter (is_shown us n (query_of columns auths)) us d)
 
--- the layers one by one
-pub stack_chain : (us : List Record) (n m : ℕ) (keeps counted : Bool) (columns named : List Column) (auths given : List (List ℕ)) (w0 w1 w2 w3 w4 : List Record) → w0 ≡ sorted us → keeps ≡ false → w1 ≡ filter (is_left keeps w0) w0 → named ≡ columns → w2 ≡ filter (λ u. is_selected named u.key) w1 → given ≡ auths → w3 ≡ filter (λ u. label_holds u.key.label given) w2 → m ≡ n → counted ≡ false → w4 ≡ filter (is_among counted m w3) w3 → IsDistinct us → w4 ≡ sorted (filter (is_shown us n (query_of columns auths)) us)
-stack_chain us n m keeps counted columns named auths given w0 w1 w2 w3 w4 e0 k e1 cs e2 gs e3 mn kc e4 d =
-    let f1 : w1 ≡ filter (is_left false (sorted us)) (sorted us) = e1 ∙ (λ i. filter (is_left (k i) (e0 i)) (e0 i)) in
-    let f2 : w2 ≡ filter (λ u. is_selected columns u.key) (filter (is_left false (sorted us)) (sorted us)) = e2 ∙ (λ i. filter (λ u. is_selected (cs i) u.key) (f1 i)) in
-    let f3 : w3 ≡ filter (λ u. label_holds u.key.label auths) (filter (λ u. is_selected columns u.key) (filter (is_left false (sorted us)) (sorted us))) = e3 ∙ (λ i. filter (λ u. label_holds u.key.label (gs i)) (f2 i)) in
-    e4 ∙ (λ i. filter (is_among (kc i) (mn i) (f3 i)) (f3 i)) ∙ stack_answers us n columns auths d
+-- the rules one by one
+pub rule_chain : (n m : ℕ) (keeps counted : Bool) (columns named : List Column) (auths given : List (List ℕ)) (p q r : List Record → Record → Bool) → keeps ≡ false → named ≡ columns → p ≡ admits_both (is_left keeps) (λ w u. is_selected named u.key) → given ≡ auths → q ≡ admits_both p (λ w u. label_holds u.key.label given) → m ≡ n → counted ≡ false → r ≡ admits_both q (is_among counted m) → r ≡ stacked n (is_selected columns) (λ k. label_holds k.label auths)
+rule_chain n m keeps counted columns named auths given p q r k cs ep gs eq mn kc er =
+    let f : p ≡ admits_both (is_left false) (λ w u. is_selected columns u.key) = ep ∙ (λ i. admits_both (is_left (k i)) (λ w u. is_selected (cs i) u.key)) in
+    let g : q ≡ admits_both (admits_both (is_left false) (λ w u. is_selected columns u.key)) (λ w u. label_holds u.key.label auths) = eq ∙ (λ i. admits_both (f i) (λ w u. label_holds u.key.label (gs i))) in
+    er ∙ (λ i. admits_both (g i) (is_among (kc i) (mn i)))
+
+-- a layer of that rule over the records
+pub stack_lists : (us : List Record) (n : ℕ) (columns : List Column) (auths : List (List ℕ)) (r : List Record → Record → Bool) (w shown : List Record) → w ≡ sorted us → r ≡ stacked n (is_selected columns) (λ k. label_holds k.label auths) → shown ≡ filter (r w) w → IsDistinct us → shown ≡ sorted (filter (is_shown us n (query_of columns auths)) us)
+stack_lists us n columns auths r w shown e0 e1 e2 d = e2 ∙ (λ i. filter (e1 i (e0 i)) (e0 i)) ∙ stack_answers us n columns auths d
 
 pub stack_cells : (us w : List Record) (n : ℕ) (q : Query) → w ≡ sorted (filter (is_shown us n q) us) → map cell_of w ≡ cells us n q
 unfolding cells

@@ -3,6 +3,7 @@ pub mod Lists
 pub mod Positions
 pub mod Layers
 pub mod Columns
+pub mod Both
 pub mod LastColumn
 pub mod Verdicts
 pub mod Bags

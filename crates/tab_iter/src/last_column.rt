@@ -63,7 +63,7 @@ impl LastColumn {
     {
         match &self.ends {
             None => false,
-            Some(ends) => is_column(column_at(self.body.as_slice(), ends), next),
+            Some(ends) => is_column(self.body.as_slice(), ends, next),
         }
     }
 
@@ -94,31 +94,28 @@ impl LastColumn {
         }
         self.ends = None;
         self.body.clear();
-        let ends = put_column(&mut self.body, next.key())?;
+        let ends = put_column(&mut self.body, next)?;
         self.ends = Some(ends);
         Ok(false)
     }
 }
 
-// Puts the parts of the key's column into an empty body, and a zero byte behind them.
-fn put_column(body: &mut Vec<u8>, key: Key<'_>) -> Result<ColumnEnds, AllocError>
+// Puts the record's column into an empty body, in one piece, and a zero byte behind it.
+fn put_column(body: &mut Vec<u8>, next: &RecordRef<'_>) -> Result<ColumnEnds, AllocError>
     requires { body.old.items ≡ [] }
     ensures placed { IfOk result (λ e. AreEnds body.new.items e) }
-    ensures column { IfOk result (λ e. parts_in body.new.items e ≡ record (key_of key.entry) { timestamp = latest }) }
+    ensures column { IfOk result (λ e. parts_in body.new.items e ≡ record (next.now.key) { timestamp = latest }) }
 {
-    body.extend_from_slice(key.row)?;
-    let row = body.len();
-    body.extend_from_slice(key.family)?;
-    let family = body.len();
-    body.extend_from_slice(key.qualifier)?;
-    let qualifier = body.len();
-    body.extend_from_slice(key.label)?;
+    let key = next.key();
+    body.extend_from_slice(next.column())?;
     let label = body.len();
     body.push(0)?;
+    let row = key.row.len();
+    let family = row + key.family.len();
     Ok(ColumnEnds {
         row,
         family,
-        qualifier,
+        qualifier: family + key.qualifier.len(),
         label,
     })
 }
@@ -149,13 +146,20 @@ fn next_at<'a>(body: &'a [u8], ends: &ColumnEnds) -> Key<'a>
     }
 }
 
-// Whether the record is of the key's column.
-#[tactic(auto, unfolding(tab_key::specs::Kept::same_column))]
-fn is_column(key: Key<'_>, next: &RecordRef<'_>) -> bool
-    ensures { result ≡ same_column (key_of key.entry) next.now.key }
+// Whether the record is of the column that lies there.
+fn is_column(body: &[u8], ends: &ColumnEnds, next: &RecordRef<'_>) -> bool
+    requires { AreEnds body.now ends.now }
+    ensures { result ≡ same_column (parts_in body.now ends.now) next.now.key }
 {
-    key.row == next.row()
-        && key.family == next.family()
-        && key.qualifier == next.qualifier()
-        && key.label == next.label()
+    let key = next.key();
+    if key.row.len() != ends.row {
+        return false;
+    }
+    if key.family.len() != ends.family - ends.row {
+        return false;
+    }
+    if key.qualifier.len() != ends.qualifier - ends.family {
+        return false;
+    }
+    &body[0..ends.label] == next.column()
 }

@@ -8,17 +8,19 @@
 //! | `source_order` | the order of several sources by their first records |
 //! | `filtered` | a source without the records that a rule holds back |
 //! | `rule` | what a rule observes, what it tells, and where it aims |
+//! | `then_rule` | two rules, one behind the other, as one |
 //! | `deleting_rule`, `fetching_rule`, `visible_rule`, `versioning_rule` | the four rules of a scan: markers, columns, labels, versions |
 //! | `first_markers_rule` | the rule of a merge: of each column the first marker |
 //! | `last_column` | the column of the last record that a rule observed, and the one next after it |
 //! | `named_column` | where the columns that a scan names begin in a row |
 //! | `verdict`, `hints` | verdicts on labels, kept and found again, and where they were found last |
-//! | `layers` | the layers by their names, and the stack of them that a scan reads |
-//! | `merged` | the stack of them that a merge writes |
+//! | `layers` | what a scan reads: its rules, one behind the other, in one layer |
+//! | `merged` | what a merge writes: its rules, one behind the other, in one layer |
 //!
-//! Each layer lets a part of its source's whole list through, by a test of that list and the record. The tests stand in
-//! `specs/Layers`; `stack_of` says that all of them together show what the definition of a scan's answer shows, and `merged_of`
-//! that those of a merge list what the definition of a merge keeps.
+//! Each rule lets a part of a whole list through, by a test of that list and the record. The tests stand in `specs/Layers`. A rule
+//! behind another one is asked of what that one lets through (`specs/Both`), and one layer serves both: a record is read once for
+//! all rules of a scan, and a seek made once. `stack_of` says that the rules of a scan together show what the definition of its
+//! answer shows, and `merged_of` that those of a merge list what the definition of a merge keeps.
 #![tactic(auto)]
 
 mod deleting_rule;
@@ -35,6 +37,7 @@ mod named_column;
 mod rule;
 mod source;
 mod source_order;
+mod then_rule;
 mod verdict;
 mod versioning_rule;
 mod visible_rule;
@@ -43,13 +46,12 @@ pub use deleting_rule::DeletingRule;
 pub use fetching_rule::FetchingRule;
 pub use filtered::Filtered;
 pub use first_markers_rule::FirstMarkersRule;
-pub use layers::{
-    Deleting, Fetching, FirstMarkers, Stack, Versioning, Visible, stack_from, stack_of,
-};
+pub use layers::{Stack, StackRule, stack_of, stack_unread};
 pub use list_source::{ListSource, is_rising};
-pub use merged::{Merged, merged_of};
+pub use merged::{MergeRule, Merged, merged_of};
 pub use merging::Merging;
 pub use rule::Rule;
 pub use source::{NoMemory, Source};
+pub use then_rule::ThenRule;
 pub use versioning_rule::VersioningRule;
 pub use visible_rule::VisibleRule;

@@ -1,17 +1,19 @@
-//! The stack of layers that a merge writes.
+//! What a merge writes.
 ghost use Rattle.std.specs.Prelude.{◌≡◌, map, IfOk};
 ghost use Rattle.tab_key.specs.Sorted.{IsDistinct};
 ghost use Rattle.tab_cells.specs.Merged.{merged};
 ghost use Rattle.tab_iter.specs.Bags.{flat};
 
 use crate::{
-    Deleting, DeletingRule, Filtered, FirstMarkers, FirstMarkersRule, Merging, NoMemory, Source,
-    Versioning, VersioningRule,
+    DeletingRule, Filtered, FirstMarkersRule, Merging, NoMemory, Source, ThenRule, VersioningRule,
 };
 use std::alloc::Global;
 
-/// What a merge writes: versions of what isn't deleted of all sources, with the markers that are still needed.
-pub type Merged<S> = Versioning<FirstMarkers<Deleting<Merging<S>>>>;
+/// What a merge lets through: versions of what isn't deleted, with the markers that are still needed.
+pub type MergeRule = ThenRule<ThenRule<DeletingRule, FirstMarkersRule>, VersioningRule>;
+
+/// What a merge writes of all sources.
+pub type Merged<S> = Filtered<Merging<S>, MergeRule>;
 
 /// The records that a merge of these sources keeps, where so many versions of a column are kept.
 ///
@@ -33,8 +35,9 @@ pub fn merged_of<S: Source + Drop>(
 {
     let all = Merging::new(sources)?;
     // a marker that goes hides first what it hides
-    let undeleted = Filtered::new(all, DeletingRule::new(alloc, true))?;
-    let needed = Filtered::new(undeleted, FirstMarkersRule::new(alloc, full, floor))?;
-    let kept = Filtered::new(needed, VersioningRule::new(alloc, versions, true))?;
+    let undeleted = DeletingRule::new(alloc, true);
+    let needed = ThenRule::new(undeleted, FirstMarkersRule::new(alloc, full, floor));
+    let rule = ThenRule::new(needed, VersioningRule::new(alloc, versions, true));
+    let kept = Filtered::new(all, rule)?;
     Ok(kept)
 }

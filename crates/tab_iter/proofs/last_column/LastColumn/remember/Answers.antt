@@ -1,5 +1,5 @@
 -- A column that is the record's already stays, and else its parts are the record's.
-use Rattle.std.proofs.Common.{sym, ◌∙◌}
+use Rattle.std.proofs.Common.{refl, sym, ◌∙◌}
 use Rattle.tab_iter.proofs.ColumnLaws.{column_of_parts, column_of_same}
 use Rattle.tab_iter.proofs.last_column.LastColumn.remember.Goals as goal
 
@@ -7,4 +7,4 @@ pub returns-then-is_of-clause-column : goal.returns-then-is_of-clause-column
 returns-then-is_of-clause-column c = column_of_same c.args.self.now c.args.next.now.key (sym c.is_of.ensures ∙ c.if-is_of.true)
 
 pub returns-clause-column : goal.returns-clause-column
-returns-clause-column c = column_of_parts _ _ c.args.next.now.key c.in_ok-ends.ensures.column c.key.ensures
+returns-clause-column c = column_of_parts _ _ c.args.next.now.key c.in_ok-ends.ensures.column refl
