@@ -8,3 +8,6 @@ pub mod Seeking
 pub mod Parts
 pub mod Cursors
 pub mod Filled
+pub mod Searched
+pub mod StartPrefixes
+pub mod Fronted

@@ -99,7 +99,7 @@ start_takes s rs r = front_kept (is_before s) (before_down s) rs r
 pub blank : Record
 blank = record { key = record { row = []; family = []; qualifier = []; label = []; timestamp = pos 0 }; kind = Put; value = []; seq = 0; idx = 0 }
 
-all_at : (P : Record → Type 0) (xs : List Record) → AllByRecursion P xs → (i : ℕ) (d : Record) → i < length xs → P (slice_index_or xs i d)
+pub all_at : (P : Record → Type 0) (xs : List Record) → AllByRecursion P xs → (i : ℕ) (d : Record) → i < length xs → P (slice_index_or xs i d)
 all_at P [] a i d low = absurd (omega (arith, low))
 all_at P (x ∷ xs) a zero d low = a.0
 all_at P (x ∷ xs) a (suc i) d low = all_at P xs a.1 i d (omega (arith, low))

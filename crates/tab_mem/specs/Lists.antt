@@ -1,9 +1,11 @@
 -- Lists of records, as an active part and a run hold them.
-use Rattle.std.specs.Prelude.{ℕ, ◌≡◌, List, length, take, drop}
-use Rattle.tab_key.specs.Encoding.{IsShort, AreAt, records_at, places_from, end_from}
+use Rattle.std.specs.Prelude.{ℕ, ◌≡◌, List, length, take, drop, true, int_le}
+use Rattle.tab_key.specs.Encoding.{IsAt, IsShort, AreAt, record_at, records_at, places_from, end_from}
 use Rattle.tab_key.specs.Records.{Record}
+use Rattle.tab_key.specs.RowPrefix.{IsRowPrefix}
 use Rattle.tab_key.specs.Sorted.{IsDistinct, IsIn}
-use Rattle.tab_iter.specs.Lists.{IsRising, HasI64Timestamps}
+use Rattle.tab_iter.specs.Lists.{IsRising, latest, HasI64Timestamps}
+use Rattle.tab_mem.specs.Fronts.{AreFronts}
 
 -- the records from one index up to another, that one excluded
 abbrev pub part : ℕ → ℕ → List Record → List Record
@@ -18,10 +20,21 @@ pub record IsFilled (body : List ℕ) (count : ℕ) : Type 0 where
   pub at : AreAt body (places_from body 0 count)
   pub ends : end_from body 0 count ≡ length body
 
+-- the bytes are those of a record with a timestamp of 64 bits, and the number is its row's prefix
+pub record IsOwn (prefix : ℕ) (bytes : List ℕ) : Type 0 where
+  pub at : IsAt bytes 0
+  pub row : IsRowPrefix prefix (record_at bytes 0).key.row
+  pub timestamp : int_le (record_at bytes 0).key.timestamp latest ≡ true
+
 -- each record lies in the body, and has a timestamp of 64 bits
 pub record ArePacked (body places : List ℕ) : Type 0 where
   pub at : AreAt body places
   pub timestamps : HasI64Timestamps (records_at body places)
+
+-- and the numbers are their sparse index
+pub record IsIndexed (body places numbers : List ℕ) : Type 0 where
+  pub packed : ArePacked body places
+  pub fronts : AreFronts numbers (records_at body places)
 
 -- what holds of the records of an active part
 pub record IsActive (xs : List Record) : Type 0 where

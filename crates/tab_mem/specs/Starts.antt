@@ -1,8 +1,11 @@
 -- Where a search in a run goes.
-use Rattle.std.specs.Prelude.{Bool, List, filter, not}
+use Rattle.std.specs.Prelude.{ℕ, ◌≡◌, ◌<◌, ◌^◌, Bool, true, false, List, filter, not}
 use Rattle.std.specs.Ordering.{is_lt}
 use Rattle.tab_key.specs.Order.{key_cmp}
 use Rattle.tab_key.specs.Ranges.{is_above, is_below}
+use Rattle.tab_key.specs.RowPrefix.{IsRowPrefix}
+use Rattle.tab_key.specs.declared.range.Bound.{Bound}
+use Rattle.tab_key.specs.declared.range.Bound.TheVariants.{Unbounded, Inclusive, Exclusive}
 use Rattle.tab_key.specs.KeyOf.{key_of}
 use Rattle.tab_key.specs.Records.{Record}
 use Rattle.tab_iter.specs.Lists.{from_key}
@@ -20,3 +23,14 @@ unfoldable pub from_start : Start → List Record → List Record
 from_start (AtKey k) rs = from_key (key_of k) rs
 from_start (AtLow low) rs = filter (λ u. is_above low.now u.key.row) rs
 from_start (PastHigh high) rs = filter (λ u. not (is_below high.now u.key.row)) rs
+
+-- the number is the prefix of the end's row, or this one where there is no end
+abbrev pub IsEndPrefix : ℕ → Bound → ℕ → Type 0
+IsEndPrefix none Unbounded prefix = prefix ≡ none
+IsEndPrefix none (Inclusive row) prefix = IsRowPrefix prefix row
+IsEndPrefix none (Exclusive row) prefix = IsRowPrefix prefix row
+
+-- records whose rows have a lower prefix stand before the start, and those with a higher one don't
+pub record IsPrefixOf (s : Start) (prefix : ℕ) : Type 0 where
+  pub lower : (u : Record) (p : ℕ) → IsRowPrefix p u.key.row → p < prefix → is_before s u ≡ true
+  pub higher : (u : Record) (p : ℕ) → p < 2 ^ 128 → IsRowPrefix p u.key.row → prefix < p → is_before s u ≡ false

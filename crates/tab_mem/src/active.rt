@@ -73,7 +73,7 @@ impl Active {
 
     /// The records as a run, written anew in their order. They are kept here too.
     ///
-    /// It takes memory for the run and, until it returns, for 48 bytes a record. `AllocError` says that it lacked.
+    /// It takes memory for the run and, until it returns, for 32 bytes a record. `AllocError` says that it lacked.
     pub fn to_run(&self, alloc: Global) -> Result<Arc<Run>, AllocError>
         ensures { IfOk result (λ run. run.value ≡ sorted self.now) }
     {

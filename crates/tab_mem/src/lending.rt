@@ -1,10 +1,10 @@
 //! Records that lie one after another in a body, lent.
 ghost use Rattle.std.specs.Prelude.{◌≡◌, IfOk};
-ghost use Rattle.tab_key.specs.Encoding.{records_at, places_from, AreAt};
+ghost use Rattle.tab_key.specs.Encoding.{span_at, record_at, records_at, places_from, IsAt, AreAt};
 
 use crate::item::Item;
 use std::alloc::{AllocError, Global};
-use tab_key::{RecordRef, end_of};
+use tab_key::end_of;
 
 /// So many records from the beginning of the body on.
 pub(crate) fn items_in(
@@ -19,9 +19,19 @@ pub(crate) fn items_in(
     let mut place = 0;
     let mut left = count;
     while left > 0 {
-        items.push(Item::new(RecordRef::at(body, place)))?;
-        place = end_of(body, place);
+        let end = end_of(body, place);
+        items.push(item_at(body, place, end))?;
+        place = end;
         left -= 1;
     }
     Ok(items)
+}
+
+// The record that lies in the body from one place up to another, that one excluded.
+fn item_at(body: &[u8], place: usize, end: usize) -> Item<'_>
+    requires within { IsAt body.now place }
+    requires end { end ≡ (span_at body.now place).end }
+    ensures { result ≡ record_at body.now place }
+{
+    Item::new(&body[place..end])
 }

@@ -13,16 +13,20 @@
 //! | `item`, `sorting` | what a freeze sorts, and the sort |
 //! | `run` | a frozen run |
 //! | `ordered`, `start`, `searching` | records by their index, where a search in them goes, and the searches |
+//! | `fronts` | a sparse index of records by their rows |
+//! | `rising` | the search among numbers that rise |
 //! | `cursor` | a part of a run that is gone over, as a source of `tab_iter` |
 #![tactic(auto)]
 
 mod active;
 mod appending;
 mod cursor;
+mod fronts;
 mod item;
 mod lending;
 mod ordered;
 mod records;
+mod rising;
 mod run;
 mod searching;
 mod sorting;
@@ -31,8 +35,10 @@ mod unsorted;
 
 pub use active::Active;
 pub use cursor::RunCursor;
+pub use fronts::Fronts;
 pub use ordered::Ordered;
 pub use records::Records;
+pub use rising::{count_below, count_up_to};
 pub use run::Run;
 pub use searching::{first_near, rows_in};
 pub use start::Start;

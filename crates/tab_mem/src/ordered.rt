@@ -1,10 +1,12 @@
 //! Records in their order, each found by its index.
-ghost use Rattle.std.specs.Prelude.{◌≡◌, ◌<◌, List, length};
-ghost use Rattle.std.specs.List.{slice_index_or};
+ghost use Rattle.std.specs.Prelude.{◌≡◌, ◌<◌, ◌≤◌, List, length, max, min};
+ghost use Rattle.std.specs.List.{slice_index_or, prefix_len};
 ghost use Rattle.tab_key.specs.Records.{Record};
+ghost use Rattle.tab_iter.specs.Lists.{IsRising};
 ghost use Rattle.tab_mem.specs.Starts.{is_before};
 
 use crate::Start;
+use std::ops::Range;
 
 /// A list of records that a search goes over. Whoever searches it has to know that it rises.
 pub trait Ordered {
@@ -17,4 +19,14 @@ pub trait Ordered {
     fn precedes(&self, index: usize, start: Start<'_>) -> bool
         requires { index < length (listed self.now) }
         ensures { (u : Record) → result ≡ is_before start.entry (slice_index_or (listed self.now) index u) };
+
+    /// A smaller part of the records in which a search for the start finds what it would find in this one. No record is read for it.
+    fn narrowed(&self, low: usize, high: usize, start: Start<'_>) -> Range<usize>
+        requires rising { IsRising (listed self.now) }
+        requires ends { low ≤ high }
+        requires inside { high ≤ length (listed self.now) }
+        ensures low { low ≤ result.start }
+        ensures order { result.start ≤ result.end }
+        ensures high { result.end ≤ high }
+        ensures count { max low (min (prefix_len (is_before start.entry) (listed self.now)) high) ≡ max result.start (min (prefix_len (is_before start.entry) (listed self.now)) result.end) };
 }

@@ -6,18 +6,21 @@ ghost use Rattle.tab_key.specs.KeyOf.{key_of};
 ghost use Rattle.tab_iter.specs.Lists.{HasI64Timestamps};
 ghost use Rattle.tab_mem.specs.Lists.{HasShortParts};
 
-use crate::{Ordered, Start};
+use crate::item::Item;
+use crate::{Fronts, Ordered, Start};
 use std::alloc::{AllocError, Global};
 use std::marker::Model;
-use tab_key::{Key, Kind, RecordRef, append, append_copy};
+use std::ops::Range;
+use tab_key::{Key, Kind, RecordRef, append};
 
-/// Records, one after another in one body, in the order in which they were put. A record takes there what `tab_key` puts, and 8 bytes
-/// for its place. A contract sees their list.
+/// Records, one after another in one body, in the order in which they were put. A record takes there what `tab_key` puts, 8 bytes for
+/// its place, and a quarter of a byte for a sparse index of their rows. A contract sees their list.
 #[derive(Drop)]
 pub struct Records {
     body: Vec<u8>,
     // where the records' heads begin
     places: Vec<usize>,
+    fronts: Fronts,
 }
 
 impl Model for Records {
@@ -27,11 +30,11 @@ impl Model for Records {
     ghost Value = { List Fields };
 
     ghost use Rattle.tab_key.specs.Encoding.{records_at};
-    ghost use Rattle.tab_mem.specs.Lists.{ArePacked};
+    ghost use Rattle.tab_mem.specs.Lists.{IsIndexed};
 
     ghost view = { λ p. records_at p.body.items p.places.items };
 
-    ghost invariant = { λ p. ArePacked p.body.items p.places.items };
+    ghost invariant = { λ p. IsIndexed p.body.items p.places.items p.fronts.numbers.items };
 }
 
 impl Records {
@@ -42,6 +45,7 @@ impl Records {
         Records {
             body: Vec::new(alloc),
             places: Vec::new(alloc),
+            fronts: Fronts::new(alloc),
         }
     }
 
@@ -56,6 +60,7 @@ impl Records {
         Ok(Records {
             body: Vec::with_capacity(alloc, bytes)?,
             places: Vec::with_capacity(alloc, records)?,
+            fronts: Fronts::with_capacity(alloc, records)?,
         })
     }
 
@@ -111,9 +116,12 @@ impl Records {
         ensures err { OnErr result (self.new ≡ self.old) }
     {
         self.places.reserve(1)?;
+        self.fronts.make_room()?;
         let bytes = self.body.len();
         match append(&mut self.body, key, kind, value, seq, idx) {
             Ok(place) => {
+                let lent = RecordRef::at(&self.body, place);
+                self.fronts.put(self.places.len(), &lent);
                 self.places.push_reserved(place);
                 Ok(())
             }
@@ -124,16 +132,17 @@ impl Records {
         }
     }
 
-    /// Puts a copy of the record at the end. `AllocError` leaves the records as they were.
-    pub(crate) fn push_copy(&mut self, source: &RecordRef<'_>) -> Result<(), AllocError>
-        ensures ok { OnOk result (self.new ≡ self.old ++ source.now ∷ []) }
+    /// Puts a copy of an item's record at the end. `AllocError` leaves the records as they were.
+    pub(crate) fn push_item(&mut self, item: &Item<'_>) -> Result<(), AllocError>
+        ensures ok { OnOk result (self.new ≡ self.old ++ item.now ∷ []) }
         ensures err { OnErr result (self.new ≡ self.old) }
     {
         self.places.reserve(1)?;
+        self.fronts.make_room()?;
         let bytes = self.body.len();
-        let _timestamp = source.timestamp();
-        match append_copy(&mut self.body, source) {
+        match item.append_to(&mut self.body) {
             Ok(place) => {
+                self.fronts.put(self.places.len(), &item.record());
                 self.places.push_reserved(place);
                 Ok(())
             }
@@ -150,5 +159,9 @@ impl Ordered for Records {
 
     fn precedes(&self, index: usize, start: Start<'_>) -> bool {
         start.is_after(&self.get(index))
+    }
+
+    fn narrowed(&self, low: usize, high: usize, start: Start<'_>) -> Range<usize> {
+        self.fronts.narrow(low, high, start)
     }
 }

@@ -75,7 +75,8 @@ impl Run {
     /// The indexes of the records of a part whose rows are in bounds: these records stand together. The part goes from one index
     /// up to another, that one excluded.
     ///
-    /// The low end takes time logarithmic in the part, the high end time logarithmic in the number of records between them.
+    /// The low end takes time logarithmic in the part; so does the high end, or time logarithmic in the number of records between them
+    /// where these are few.
     pub fn rows_in(&self, from: usize, end: usize, bounds: &Bounds) -> Range<usize>
         requires ends { from ≤ end }
         requires inside { end ≤ length self.now }

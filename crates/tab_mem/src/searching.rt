@@ -10,8 +10,26 @@ use crate::{Ordered, Start};
 use std::ops::Range;
 use tab_key::{Bound, Bounds};
 
-// How many records stand before the start, but no fewer than `low` and no more than `high`: by halves between these.
-fn count_between<R: Ordered>(
+/// In so many records a search goes from one to the next; among more it first asks for a part that is near.
+const FAR: usize = 128;
+
+// How many records stand before the start, but no fewer than `low` and no more than `high`: between these by halves, of a part that is
+// near where they are many.
+fn count_between<R: Ordered>(records: &R, low: usize, high: usize, start: Start<'_>) -> usize
+    requires rising { IsRising (R.listed records.now) }
+    requires ends { low ≤ high }
+    requires inside { high ≤ length (R.listed records.now) }
+    ensures { result ≡ max low (min (prefix_len (is_before start.entry) (R.listed records.now)) high) }
+{
+    if high - low <= FAR {
+        return count_by_halves(records, low, high, start);
+    }
+    let near = records.narrowed(low, high, start);
+    count_by_halves(records, near.start, near.end, start)
+}
+
+// The same, by halves alone.
+fn count_by_halves<R: Ordered>(
     records: &R,
     mut low: usize,
     mut high: usize,
@@ -33,16 +51,17 @@ fn count_between<R: Ordered>(
     low
 }
 
-// The same, by steps from `low` on that double, then by halves: it takes time logarithmic in how far the count is from `low`.
+// The same, by steps from `low` on that double. Where the count isn't near, it is then looked for in all that is left.
 fn count_from<R: Ordered>(records: &R, low: usize, high: usize, start: Start<'_>) -> usize
     requires rising { IsRising (R.listed records.now) }
     requires ends { low ≤ high }
     requires inside { high ≤ length (R.listed records.now) }
     ensures { result ≡ max low (min (prefix_len (is_before start.entry) (R.listed records.now)) high) }
 {
+    let far = high.min(low.saturating_add(FAR));
     let mut near = low;
     let mut step: usize = 1;
-    while step < high - near {
+    while step < far - near {
         if !records.precedes(near + step, start) {
             return count_between(records, near, near + step, start);
         }
@@ -90,8 +109,8 @@ fn first_at<R: Ordered>(records: &R, from: usize, end: usize, start: Start<'_>) 
 }
 
 /// The index of the first record of a part that isn't before the start, or the part's end, found from a place in the part: it takes
-/// time logarithmic in how far the index lies behind that place, or in how much of the part lies before it. From the part's first
-/// place it takes time logarithmic in the part.
+/// time logarithmic in how far the index lies behind that place where it is near, and else in how much of the part lies before or
+/// behind the place. From the part's first place it takes time logarithmic in the part.
 ///
 /// The part goes from one index up to another, that one excluded.
 pub fn first_near<R: Ordered>(
@@ -127,7 +146,8 @@ fn past_rows<R: Ordered>(records: &R, from: usize, end: usize, high: &Bound) -> 
 /// The indexes of the records of a part whose rows are in bounds: these records stand together. The part goes from one index
 /// up to another, that one excluded.
 ///
-/// The low end takes time logarithmic in the part, the high end time logarithmic in the number of records between them.
+/// The low end takes time logarithmic in the part; so does the high end, or time logarithmic in the number of records between them where
+/// these are few.
 pub fn rows_in<R: Ordered>(records: &R, from: usize, end: usize, bounds: &Bounds) -> Range<usize>
     requires rising { IsRising (R.listed records.now) }
     requires ends { from ≤ end }

@@ -23,14 +23,14 @@ fn copied(alloc: Global, items: &[Item<'_>], bytes: usize) -> Result<Records, Al
 {
     let mut copy = Records::with_capacity(alloc, items.len(), bytes)?;
     for item in items {
-        copy.push_copy(item.record())?;
+        copy.push_item(item)?;
     }
     Ok(copy)
 }
 
 /// Copies of the records in their order, one after another in one body of the same size.
 ///
-/// It takes memory for the copies and, until it returns, for 48 bytes a record.
+/// It takes memory for the copies and, until it returns, for 32 bytes a record.
 pub(crate) fn sorted_copy(alloc: Global, records: &Unsorted) -> Result<Records, AllocError>
     requires { IsDistinct records.now }
     ensures { IfOk result (λ p. p ≡ sorted records.now) }

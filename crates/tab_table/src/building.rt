@@ -1,6 +1,7 @@
 //! Tables built of what a source has left.
 ghost use Rattle.std.specs.Prelude.{◌≡◌, IfOk, length};
 ghost use Rattle.tab_key.specs.Encoding.{records_at, AreAt};
+ghost use Rattle.tab_mem.specs.Fronts.{AreFronts};
 ghost use Rattle.tab_table.specs.Sizes.{encoded_size};
 
 use crate::Table;
@@ -8,12 +9,14 @@ use bytes::Bytes;
 use std::alloc::{AllocError, Global};
 use tab_iter::{NoMemory, Source};
 use tab_key::append_copy;
+use tab_mem::Fronts;
 
-// Records, one after another, and where their heads begin.
+// Records, one after another, where their heads begin, and the sparse index of their rows.
 #[derive(Drop)]
 struct Gathered {
     body: Vec<u8>,
     places: Vec<usize>,
+    fronts: Fronts,
 }
 
 // Copies of the records that the source has left, with room from the start for so many in so many bytes.
@@ -26,15 +29,23 @@ fn gather<S: Source>(
     ensures records { IfOk result (λ g. records_at g.body.items g.places.items ≡ S.rest source.old) }
     ensures within { IfOk result (λ g. AreAt g.body.items g.places.items) }
     ensures size { IfOk result (λ g. length g.body.items ≡ encoded_size (records_at g.body.items g.places.items)) }
+    ensures indexed { IfOk result (λ g. AreFronts g.fronts.numbers.items (records_at g.body.items g.places.items)) }
 {
     let mut body = Vec::with_capacity(alloc, bytes)?;
     let mut places = Vec::with_capacity(alloc, count)?;
+    let mut fronts = Fronts::with_capacity(alloc, count)?;
     while let Some(next) = source.top() {
+        fronts.make_room()?;
+        fronts.put(places.len(), &next);
         let place = append_copy(&mut body, &next)?;
         places.push(place)?;
         source.advance()?;
     }
-    Ok(Gathered { body, places })
+    Ok(Gathered {
+        body,
+        places,
+        fronts,
+    })
 }
 
 impl Table {
@@ -63,11 +74,17 @@ impl Table {
         let Gathered {
             mut body,
             mut places,
+            mut fronts,
         } = gather(alloc, source, count, bytes)?;
         body.shrink_to_fit();
         places.shrink_to_fit();
+        fronts.shrink_to_fit();
         match Bytes::from_vec(body) {
-            Ok(body) => Ok(Table { body, places }),
+            Ok(body) => Ok(Table {
+                body,
+                places,
+                fronts,
+            }),
             Err(_) => Err(AllocError),
         }
     }

@@ -83,7 +83,7 @@ impl<T: Tabled + Drop> TableCursor<T> {
     }
 }
 
-/// No call takes memory. A seek takes time logarithmic in how far it goes on, or in the part where it goes back.
+/// No call takes memory. A seek takes time logarithmic in how far it goes on where it stays near, and else in the part.
 impl<T: Tabled> Source for TableCursor<T> {
     ghost use Rattle.tab_iter.specs.SourceLaws.{ends_drop, always_positioned};
     ghost use Rattle.tab_mem.proofs.Parts.{part_rises, part_timestamps};

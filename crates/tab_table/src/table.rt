@@ -8,27 +8,30 @@ ghost use Rattle.tab_key.specs.Ranges.{is_in_range};
 ghost use Rattle.tab_key.specs.Records.{Record as Fields};
 ghost use Rattle.tab_iter.specs.Lists.{IsRising, HasI64Timestamps};
 ghost use Rattle.tab_iter.specs.Propositions.{HasI64Timestamps-prop};
+ghost use Rattle.tab_mem.specs.Fronts.{AreFronts, AreFronts-prop};
 ghost use Rattle.tab_mem.specs.Lists.{part, HasShortParts};
 ghost use Rattle.tab_table.specs.Sizes.{encoded_size};
 
 use bytes::Bytes;
 use std::ops::Range;
 use tab_key::{Bounds, RecordRef};
-use tab_mem::{Ordered, Start, rows_in};
+use tab_mem::{Fronts, Ordered, Start, rows_in};
 
 /// Records that no longer change, in their order. A contract sees their list by `records`.
 ///
-/// They lie in one piece of bytes, one after another; beside it a table takes 8 bytes a record, and no bytes of a record stand
-/// twice. (Accumulo user manual: a file that a compaction writes)
+/// They lie in one piece of bytes, one after another; beside it a table takes 8 bytes a record, and a quarter of a byte for a sparse
+/// index of their rows. (Accumulo user manual: a file that a compaction writes)
 #[derive(Drop)]
 pub struct Table {
     pub(crate) body: Bytes,
     // where the records' heads begin
     pub(crate) places: Vec<usize>,
+    pub(crate) fronts: Fronts,
     ghost within: { AreAt body places.items } by { AreAt-prop body places.items },
     ghost rising: { IsRising (records_at body places.items) } by { IsStrictlySortedBy-prop record_cmp (records_at body places.items) },
     ghost timestamps: { HasI64Timestamps (records_at body places.items) } by { HasI64Timestamps-prop (records_at body places.items) },
     ghost sized: { length body ≡ encoded_size (records_at body places.items) },
+    ghost indexed: { AreFronts fronts.numbers.items (records_at body places.items) } by { AreFronts-prop fronts.numbers.items (records_at body places.items) },
 }
 
 impl Table {
@@ -77,7 +80,8 @@ impl Table {
     /// The indexes of the records of a part whose rows are in bounds: these records stand together. The part goes from one index
     /// up to another, that one excluded.
     ///
-    /// The low end takes time logarithmic in the part, the high end time logarithmic in the number of records between them.
+    /// The low end takes time logarithmic in the part; so does the high end, or time logarithmic in the number of records between them
+    /// where these are few.
     pub fn rows_in(&self, from: usize, end: usize, bounds: &Bounds) -> Range<usize>
         requires ends { from ≤ end }
         requires inside { end ≤ length (records self.now) }
@@ -106,5 +110,9 @@ impl Ordered for Table {
 
     fn precedes(&self, index: usize, start: Start<'_>) -> bool {
         start.is_after(&self.get(index))
+    }
+
+    fn narrowed(&self, low: usize, high: usize, start: Start<'_>) -> Range<usize> {
+        self.fronts.narrow(low, high, start)
     }
 }

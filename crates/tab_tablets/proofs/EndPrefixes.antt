@@ -12,13 +12,14 @@ use Rattle.tab_key.specs.Bytes.{bytes_cmp}
 use Rattle.tab_key.specs.RowPrefix.{IsRowPrefix}
 use Rattle.tab_key.proofs.RowPrefix.{prefix_orders}
 use Rattle.tab_cells.proofs.Lists.{by_bool}
+use Rattle.tab_mem.specs.Numbers.{count_below}
+use Rattle.tab_mem.proofs.Searched.{below_within, below_first, none_below, below_next}
 use Rattle.tab_tablet.specs.Tablets.{Tablet, is_up_to}
 use Rattle.tab_tablets.specs.ByRow.{EndsBefore, AreWhole}
-use Rattle.tab_tablets.specs.EndPrefixes.{IsEndPrefix, ArePrefixes, count_below}
+use Rattle.tab_tablets.specs.EndPrefixes.{IsEndPrefix, ArePrefixes}
 use Rattle.tab_tablets.proofs.Orders.{below_up_to, not_above}
 use Rattle.tab_tablets.specs.Places.{IsPlaceOf}
 use Rattle.tab_tablets.proofs.EndRows.{parted, found}
-use Rattle.tab_tablets.proofs.Searched.{below_within, below_first, none_below, below_next}
 
 -- ---- as many as end rows
 pub same_count : (ps : List ℕ) (ts : List Tablet) → ArePrefixes ps ts → length ps ≡ length ts

@@ -1,6 +1,5 @@
 pub mod Orders
 pub mod EndRows
-pub mod Searched
 pub mod EndPrefixes
 pub mod At
 pub mod Installed

@@ -1,6 +1,5 @@
--- The prefixes of the end rows of tablets, and how far among rising numbers those go that are below another one.
-use Rattle.std.specs.Prelude.{ℕ, List, [], ◌∷◌, Option, Some, None, nat_lt}
-use Rattle.std.specs.List.{prefix_len}
+-- The prefixes of the end rows of tablets.
+use Rattle.std.specs.Prelude.{ℕ, List, [], ◌∷◌, Option, Some, None}
 use Rattle.tab_key.specs.RowPrefix.{IsRowPrefix}
 use Rattle.tab_tablet.specs.Tablets.{Tablet}
 
@@ -15,7 +14,3 @@ ArePrefixes [] [] = Unit {0}
 ArePrefixes [] (t ∷ ts) = ⊥
 ArePrefixes (p ∷ ps) [] = ⊥
 ArePrefixes (p ∷ ps) (t ∷ ts) = IsEndPrefix p t.end × ArePrefixes ps ts
-
--- how many of the first numbers are below the bound
-abbrev pub count_below : ℕ → List ℕ → ℕ
-count_below bound ns = prefix_len (λ n. nat_lt n bound) ns

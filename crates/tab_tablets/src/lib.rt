@@ -7,7 +7,6 @@
 //! |---|---|
 //! | `lower` | a tablet with an end row |
 //! | `prefixes` | the prefixes of end rows |
-//! | `rising` | the search among numbers that rise |
 //! | `line` | tablets in the order of their rows, and the search among them |
 //! | `counting` | how many sources and records lower tablets have |
 //! | `ends` | the end rows of lower tablets |
@@ -37,7 +36,6 @@ mod made;
 mod opening;
 mod prefixes;
 mod restoring;
-mod rising;
 mod split;
 mod splitting;
 mod tablets;

@@ -15,10 +15,10 @@ use crate::ends::ends_of;
 use crate::lower::Lower;
 use crate::made::Made;
 use crate::prefixes::{insert_reserved, prefixes_of};
-use crate::rising::{count_below, count_up_to};
 use std::alloc::{AllocError, Global};
 use std::marker::Model;
 use tab_key::{ByteString, row_prefix};
+use tab_mem::{count_below, count_up_to};
 use tab_mutation::Mutation;
 use tab_tablet::Tablet;
 

@@ -8,7 +8,7 @@ use crate::{RunCursor, Start};
 use tab_iter::{NoMemory, Source};
 use tab_key::{Key, RecordRef};
 
-/// No call takes memory. A seek takes time logarithmic in how far it goes on, or in the part where it goes back.
+/// No call takes memory. A seek takes time logarithmic in how far it goes on where it stays near, and else in the part.
 impl<'a> Source for RunCursor<'a> {
     ghost whole = { λ c. whole c };
 

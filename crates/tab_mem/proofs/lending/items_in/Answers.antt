@@ -1,15 +1,15 @@
-use Rattle.std.proofs.Common.{rules, ◌≡◌, ◌∙◌, ◌+◌, ◌-◌, ◌∷◌, [], ◌++◌, suc, sym, ap, subst, arith, append_assoc, append-nil}
+use Rattle.std.proofs.Common.{rules, ◌≡◌, ◌∙◌, ◌-◌, ◌∷◌, [], ◌++◌, suc, sym, ap, subst, arith, append_assoc, append-nil}
 use Rattle.tab_key.specs.Encoding.{record_at, records_at, places_from, AreAt, span_at}
 use Rattle.tab_mem.proofs.Filled.{first_at, rest_at, first_of_them}
 use Rattle.tab_mem.proofs.lending.items_in.Goals as goal
 
-pub at-requires : goal.at-requires
-at-requires c =
+pub end_of-end-requires : goal.end_of-end-requires
+end_of-end-requires c =
     let more : c.loop-left.left ≡ suc (c.loop-left.left - 1) = omega (arith, c.loop-left-test.true) in
     first_at c.args.body.now c.loop-left.place c.loop-left.left (c.loop-left.left - 1) more c.loop-left.invariant.at
 
-pub end_of-place-requires : goal.end_of-place-requires
-end_of-place-requires c =
+pub item_at-requires-clause-within : goal.item_at-requires-clause-within
+item_at-requires-clause-within c =
     let more : c.loop-left.left ≡ suc (c.loop-left.left - 1) = omega (arith, c.loop-left-test.true) in
     first_at c.args.body.now c.loop-left.place c.loop-left.left (c.loop-left.left - 1) more c.loop-left.invariant.at
 
@@ -20,7 +20,7 @@ loop-left-preserved c =
     let left = c.loop-left.left in
     let items = c.loop-left.items.items in
     let more : left ≡ suc (left - 1) = omega (arith, c.loop-left-test.true) in
-    let next : c.end_of-place.result ≡ (span_at body place).end = c.end_of-place.ensures in
+    let next : c.end_of-end.result ≡ (span_at body place).end = c.end_of-end.ensures in
     let pushed : c.push.new.self.items ≡ items ++ record_at body place ∷ [] = search rules in
     record {
       lent =

@@ -16,4 +16,4 @@ loop-step-preserved g c =
     let at = c.loop-step.near + c.loop-step.step in
     let here : is_before c.args.start (slice_index_or (g.R.Ordered.listed c.args.records.now) at blank) ≡ true = sym (c.precedes.ensures blank) ∙ cc in
     let more = before_earlier c.args.start (g.R.Ordered.listed c.args.records.now) c.requires.rising at blank (omega arith) here in
-    record { left = omega arith; right = omega arith; passed = omega (arith, more); moves = omega arith }
+    record { left = omega arith; right = omega arith; reach = c.loop-step.invariant.reach; passed = omega (arith, more); moves = omega arith }

@@ -1,8 +1,10 @@
 -- One record more was copied.
-use Rattle.std.proofs.Common.{◌≡◌, ◌++◌, ◌∷◌, [], sym, ap, subst, rules}
-use Rattle.tab_key.specs.Encoding.{records_at, AreAt}
+use Rattle.std.proofs.Common.{◌≡◌, ◌∙◌, ℕ, List, ◌++◌, ◌∷◌, [], sym, ap, subst, length, rules}
+use Rattle.std.proofs.lemmas.List.{length-map}
+use Rattle.tab_key.specs.Encoding.{record_at, records_at, AreAt}
 use Rattle.tab_key.proofs.Placed.{pushed_at, pushed_records}
-use Rattle.tab_table.proofs.Grown.{nothing_sized, more_bytes, copied_one}
+use Rattle.tab_mem.specs.Fronts.{AreFronts}
+use Rattle.tab_table.proofs.Grown.{nothing_sized, nothing_indexed, more_bytes, copied_one}
 use Rattle.tab_table.proofs.building.gather.Goals as goal
 
 pub loop-next-init : goal.loop-next-init
@@ -11,10 +13,12 @@ loop-next-init g c =
     let places = c.in_ok-places.places.items in
     let no_bytes : body ≡ [] = search rules in
     let no_places : places ≡ [] = search rules in
+    let no_fronts : c.in_ok-fronts.fronts.numbers.items ≡ [] = search rules in
     record {
       copied = ap (λ ps. records_at body ps ++ g.S.Source.rest c.args.source.now) no_places;
       within = subst (AreAt body) (sym no_places) tt;
       size = nothing_sized body places no_bytes no_places;
+      indexed = nothing_indexed c.in_ok-fronts.fronts.numbers.items body places no_fronts no_places;
     }
 
 pub loop-next-preserved : goal.loop-next-preserved
@@ -29,8 +33,11 @@ loop-next-preserved g c =
     let pushed : now ≡ places ++ place ∷ [] = c.in_ok-push.ensures.items in
     let made = c.in_ok-place.ensures in
     let more : records_at new now ≡ records_at old places ++ r ∷ [] = pushed_records old new places now place r pushed c.append_copy.ensures.front inv.within made.copy in
+    let before : AreFronts c.make_room.new.self.numbers.items (records_at old places) = subst (λ ns. AreFronts ns (records_at old places)) (sym {A = List ℕ} c.make_room.ensures.same) inv.indexed in
+    let count : length (records_at old places) ≡ c.len.result = length-map places (record_at old) ∙ (let same : length places ≡ c.len.result = search rules in same) in
     record {
       copied = copied_one (records_at old places) (records_at new now) (g.S.Source.rest c.loop-next.source) (g.S.Source.rest c.advance.new.self) (g.S.Source.rest c.args.source.now) r inv.copied c.in-Some.ensures more c.in_ok-advance.ensures.rest;
       within = pushed_at old new places now place pushed c.append_copy.ensures.front inv.within made.within;
       size = more_bytes old new (records_at old places) (records_at new now) r more made.size inv.size;
+      indexed = subst (AreFronts c.put.new.self.numbers.items) (sym more) (c.put.ensures (records_at old places) count before);
     }

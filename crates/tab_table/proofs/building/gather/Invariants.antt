@@ -1,6 +1,7 @@
 -- What was copied, and what is left.
 use Rattle.std.proofs.Common.{◌≡◌, ◌++◌, length}
 use Rattle.tab_key.specs.Encoding.{records_at, AreAt}
+use Rattle.tab_mem.specs.Fronts.{AreFronts}
 use Rattle.tab_table.specs.Sizes.{encoded_size}
 use Rattle.tab_table.proofs.building.gather.Given as goal
 
@@ -9,6 +10,7 @@ invariant-loop-next g l = record {
   copied : records_at l.body.items l.places.items ++ g.S.Source.rest l.source ≡ g.S.Source.rest l.initial.source;
   within : AreAt l.body.items l.places.items;
   size : length l.body.items ≡ encoded_size (records_at l.body.items l.places.items);
+  indexed : AreFronts l.fronts.numbers.items (records_at l.body.items l.places.items);
 }
 
 abbrev pub decreases-loop-next : goal.decreases-loop-next

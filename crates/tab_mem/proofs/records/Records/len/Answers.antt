@@ -5,7 +5,7 @@ use Rattle.tab_mem.proofs.ShortParts.{all_short}
 use Rattle.tab_mem.proofs.records.Records.len.Goals as goal
 
 pub returns-clause-timestamps : goal.returns-clause-timestamps
-returns-clause-timestamps c = subst HasI64Timestamps c.self.view_is c.self.invariant.timestamps
+returns-clause-timestamps c = subst HasI64Timestamps c.self.view_is c.self.invariant.packed.timestamps
 
 pub returns-clause-short : goal.returns-clause-short
-returns-clause-short c = subst HasShortParts c.self.view_is (all_short c.self.inside.body.items c.self.inside.places.items c.self.invariant.at)
+returns-clause-short c = subst HasShortParts c.self.view_is (all_short c.self.inside.body.items c.self.inside.places.items c.self.invariant.packed.at)

@@ -1,6 +1,6 @@
 use Rattle.std.proofs.Common.{arith}
-use Rattle.tab_tablets.proofs.Searched.{next_is_other, all_up_to}
-use Rattle.tab_tablets.proofs.rising.count_up_to.Goals as goal
+use Rattle.tab_mem.proofs.Searched.{next_is_other, all_up_to}
+use Rattle.tab_mem.proofs.rising.count_up_to.Goals as goal
 
 pub returns-then-below-numbers : goal.returns-then-below-numbers
 returns-then-below-numbers c = next_is_other c.args.bound c.args.numbers.now c.args.below 0 c.requires.below (λ lt. absurd (omega arith))

@@ -1,7 +1,7 @@
 //! How many of some numbers that rise are below another one.
 ghost use Rattle.std.specs.Prelude.{◌≡◌, ◌⊎◌, ◌+◌, ◌*◌, ◌<◌, ◌≤◌, length, max, min};
 ghost use Rattle.std.specs.List.Sorted.{IsNonDecreasing};
-ghost use Rattle.tab_tablets.specs.EndPrefixes.{count_below};
+ghost use Rattle.tab_mem.specs.Numbers.{count_below};
 
 /// So many numbers are compared one by one.
 const FEW: usize = 8;
@@ -10,7 +10,7 @@ const FEW: usize = 8;
 ///
 /// It takes time logarithmic in the numbers: each step leaves a quarter of them. No branch depends on what a comparison tells: the
 /// processor would foresee half of such branches wrongly.
-pub(crate) fn count_below(numbers: &[u128], bound: u128) -> usize
+pub fn count_below(numbers: &[u128], bound: u128) -> usize
     requires { IsNonDecreasing numbers.now }
     ensures { result ≡ count_below bound numbers.now }
 {
@@ -56,7 +56,7 @@ fn end_of_below(numbers: &[u128], from: usize, end: usize, bound: u128) -> usize
 }
 
 /// How many of the numbers are up to the bound, where so many are below it. It searches only where one of them is the bound.
-pub(crate) fn count_up_to(numbers: &[u128], below: usize, bound: u128) -> usize
+pub fn count_up_to(numbers: &[u128], below: usize, bound: u128) -> usize
     requires rising { IsNonDecreasing numbers.now }
     requires below { below ≡ count_below bound numbers.now }
     ensures { result ≡ count_below (bound + 1) numbers.now }

@@ -1,7 +1,7 @@
 use Rattle.std.proofs.Common.{◌≡◌, ◌⊎◌, ◌+◌, ◌*◌, ◌≤◌, ◌<◌, sym, subst}
-use Rattle.tab_tablets.specs.EndPrefixes.{count_below}
-use Rattle.tab_tablets.proofs.Searched.{passed_parts, parts_below, parts_most}
-use Rattle.tab_tablets.proofs.rising.passed.Goals as goal
+use Rattle.tab_mem.specs.Numbers.{count_below}
+use Rattle.tab_mem.proofs.Searched.{passed_parts, parts_below, parts_most}
+use Rattle.tab_mem.proofs.rising.passed.Goals as goal
 
 pub returns-clause-below : goal.returns-clause-below
 returns-clause-below c =

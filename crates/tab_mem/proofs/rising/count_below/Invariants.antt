@@ -1,6 +1,6 @@
 use Rattle.std.proofs.Common.{◌+◌, ◌≤◌, length}
-use Rattle.tab_tablets.specs.EndPrefixes.{count_below}
-use Rattle.tab_tablets.proofs.rising.count_below.Given as goal
+use Rattle.tab_mem.specs.Numbers.{count_below}
+use Rattle.tab_mem.proofs.rising.count_below.Given as goal
 
 abbrev pub invariant-loop-left : goal.invariant-loop-left
 invariant-loop-left l = record {

@@ -1,6 +1,6 @@
 use Rattle.std.proofs.Common.{arith}
-use Rattle.tab_tablets.proofs.Searched.{below_within}
-use Rattle.tab_tablets.proofs.rising.count_below.Goals as goal
+use Rattle.tab_mem.proofs.Searched.{below_within}
+use Rattle.tab_mem.proofs.rising.count_below.Goals as goal
 
 pub loop-left-init : goal.loop-left-init
 loop-left-init c =

@@ -1,7 +1,7 @@
 use Rattle.std.proofs.Common.{◌≤◌, ◌-◌, max, min}
 use Rattle.std.specs.List.{prefix_len}
 use Rattle.tab_mem.specs.Starts.{is_before}
-use Rattle.tab_mem.proofs.searching.count_between.Given as goal
+use Rattle.tab_mem.proofs.searching.count_by_halves.Given as goal
 
 abbrev pub invariant-loop-low : goal.invariant-loop-low
 invariant-loop-low g l = record {

@@ -2,7 +2,7 @@ use Rattle.std.proofs.Common.{◌≡◌, true, false, arith, ◌∙◌, sym, ◌
 use Rattle.std.specs.List.{slice_index_or}
 use Rattle.tab_mem.specs.Starts.{is_before}
 use Rattle.tab_mem.proofs.Seeking.{blank, before_earlier, before_later}
-use Rattle.tab_mem.proofs.searching.count_between.Goals as goal
+use Rattle.tab_mem.proofs.searching.count_by_halves.Goals as goal
 
 pub loop-low-preserved-then-precedes : goal.loop-low-preserved-then-precedes
 loop-low-preserved-then-precedes g c =

@@ -6,7 +6,7 @@ use Rattle.std.proofs.lemmas.Bool.Decides.{nat_tests}
 use Rattle.std.proofs.lemmas.List.Sums.{prefix_len_passes, prefix_len_stops, prefix_len_is, prefix_len-le-length}
 use mir.Val.{bool_byte}
 use Rattle.tab_cells.proofs.Lists.{by_bool}
-use Rattle.tab_tablets.specs.EndPrefixes.{count_below}
+use Rattle.tab_mem.specs.Numbers.{count_below}
 
 pub below_within : (bound : ℕ) (ns : List ℕ) → count_below bound ns ≤ length ns
 below_within bound ns = prefix_len-le-length (λ n. nat_lt n bound) ns

@@ -1,7 +1,7 @@
 use Rattle.std.proofs.Common.{◌∙◌, ◌+◌, ◌<◌, length, arith}
-use Rattle.tab_tablets.specs.EndPrefixes.{count_below}
-use Rattle.tab_tablets.proofs.Searched.{below_at, one_further}
-use Rattle.tab_tablets.proofs.rising.end_of_below.Goals as goal
+use Rattle.tab_mem.specs.Numbers.{count_below}
+use Rattle.tab_mem.proofs.Searched.{below_at, one_further}
+use Rattle.tab_mem.proofs.rising.end_of_below.Goals as goal
 use mir.Val.{bool_byte}
 
 pub loop-place-preserved : goal.loop-place-preserved
