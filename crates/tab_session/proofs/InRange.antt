@@ -48,6 +48,11 @@ starts_row row k e =
     ∙ then_not _ (bytes_cmp k.qualifier []) (none_before k.qualifier)
     ∙ then_not (bytes_cmp k.row row) (bytes_cmp k.family []) (none_before k.family)
 
+-- no record stands before the first key of the first row
+pub from_least : (w : List Record) → HasI64Timestamps w → from_key (row_start []) w ≡ w
+from_least [] i64 = refl
+from_least (u ∷ us) i64 = rw (starts_row [] u.key (i64 u (inl refl)) ∙ none_before u.key.row) refl
+
 -- ---- a low end
 turned_le : (o : Ordering) → is_lt (ordering_reverse o) ≡ not (is_le o)
 turned_le Less = refl

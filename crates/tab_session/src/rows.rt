@@ -1,5 +1,5 @@
 //! The cells of a range of rows.
-ghost use Rattle.std.specs.Prelude.{◌≡◌, ◌++◌, ◌∷◌, [], map, IfOk};
+ghost use Rattle.std.specs.Prelude.{◌≡◌, ◌++◌, ◌∷◌, [], map, IfOk, OnOk};
 ghost use Rattle.tab_key.specs.KeyOf.{key_of};
 ghost use Rattle.tab_key.specs.Records.{cell_of};
 ghost use Rattle.tab_cells.specs.SessionState.{cells_within};
@@ -8,10 +8,10 @@ ghost use Rattle.tab_session.specs.LowEnds.{from_low};
 
 use std::alloc::{AllocError, Global};
 use tab_iter::{NoMemory, Source};
-use tab_key::{Bounds, Cells, Key};
+use tab_key::{Bound, Bounds, Cells, Key};
 
-/// The first key that a record of the row can have.
-pub(crate) fn row_start(row: &[u8]) -> Key<'_>
+// The first key that a record of the row can have.
+fn row_start(row: &[u8]) -> Key<'_>
     ensures { key_of result ≡ row_start row.now }
 {
     Key {
@@ -23,14 +23,33 @@ pub(crate) fn row_start(row: &[u8]) -> Key<'_>
     }
 }
 
-/// The row that comes next after this one, whatever rows there are.
-pub(crate) fn row_after(alloc: Global, row: &[u8]) -> Result<Vec<u8>, AllocError>
+// The row that comes next after this one, whatever rows there are.
+fn row_after(alloc: Global, row: &[u8]) -> Result<Vec<u8>, AllocError>
     ensures { IfOk result (λ next. next.items ≡ row.now ++ 0 ∷ []) }
 {
     let mut next = Vec::new(alloc);
     next.extend_from_slice(row)?;
     next.push(0)?;
     Ok(next)
+}
+
+/// Goes to the first record whose row the low end admits.
+pub(crate) fn seek_low<S: Source>(
+    alloc: Global,
+    source: &mut S,
+    low: &Bound,
+) -> Result<(), NoMemory>
+    ensures whole { S.whole source.new ≡ S.whole source.old }
+    ensures rest { OnOk result (S.rest source.new ≡ from_low low.now (S.whole source.old)) }
+{
+    match low {
+        Bound::Unbounded => source.seek(row_start(b"")),
+        Bound::Inclusive(row) => source.seek(row_start(row.as_bytes())),
+        Bound::Exclusive(row) => {
+            let next = row_after(alloc, row.as_bytes())?;
+            source.seek(row_start(&next))
+        }
+    }
 }
 
 /// The cells of the source's records with a row in the range. The source stands at the first of them, and no record behind the first
@@ -41,7 +60,8 @@ pub(crate) fn take_rows<S: Source>(
     rows: &Bounds,
 ) -> Result<Cells, NoMemory>
     requires { S.rest source.old ≡ from_low rows.now.low (S.whole source.old) }
-    ensures { IfOk result (λ v. v ≡ cells_within rows.now (map cell_of (S.whole source.old))) }
+    ensures whole { S.whole source.new ≡ S.whole source.old }
+    ensures cells { IfOk result (λ v. v ≡ cells_within rows.now (map cell_of (S.whole source.old))) }
 {
     let mut cells = Cells::new(alloc);
     while let Some(record) = source.top() {
@@ -52,4 +72,22 @@ pub(crate) fn take_rows<S: Source>(
         source.advance()?;
     }
     Ok(cells)
+}
+
+/// The cells of the source's records with a row in each of the ranges. What is read of a range begins at its low end, and ends with
+/// the first record behind its high one.
+pub(crate) fn take_ranges<S: Source>(
+    alloc: Global,
+    source: &mut S,
+    ranges: &[Bounds],
+) -> Result<Vec<Cells>, NoMemory>
+    ensures { IfOk result (λ v. v.items ≡ map (λ rows. cells_within rows (map cell_of (S.whole source.old))) ranges.now) }
+{
+    let mut answers = Vec::with_capacity(alloc, ranges.len())?;
+    for rows in ranges {
+        answers.reserve(1)?;
+        seek_low(alloc, source, &rows.low)?;
+        answers.push_reserved(take_rows(alloc, source, rows)?);
+    }
+    Ok(answers)
 }

@@ -65,16 +65,11 @@ impl Session {
 
     /// The whole answer in each of these ranges of rows, in their order, whatever batches were taken. The session stays as it is.
     ///
-    /// A range is read from its low end to the first row above its high one. A range that is none has no cell. The error comes only
-    /// from want of memory.
+    /// A range is read from its low end to the first row above its high one, by a seek in what the ranges before it were read from. A
+    /// range that is none has no cell. The error comes only from want of memory.
     pub fn scan_many(&self, alloc: Global, ranges: &[Bounds]) -> Result<Items<Cells>, AllocError>
         ensures { IfOk result (λ cells. cells ≡ in_ranges self.now ranges.now) }
     {
-        let mut answers = Vec::new(alloc);
-        for rows in ranges {
-            answers.reserve(1)?;
-            answers.push_reserved(self.scan.read_rows(alloc, rows)?);
-        }
-        Ok(Items::from_vec(answers))
+        self.scan.read_ranges(alloc, ranges)
     }
 }

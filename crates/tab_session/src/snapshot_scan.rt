@@ -1,20 +1,17 @@
 //! What a session reads: a version of a table, and what a scan asks of it.
 ghost use Rattle.std.specs.Prelude.{◌≡◌, map, take, drop, IfOk};
-ghost use Rattle.tab_key.specs.KeyOf.{key_of};
 ghost use Rattle.tab_key.specs.Records.{cell_of};
 ghost use Rattle.tab_cells.specs.SessionState.{cells_within};
-ghost use Rattle.tab_iter.specs.Lists.{from_key};
 ghost use Rattle.tab_session.specs.Bookmarks.{from_mark, ahead_of};
-ghost use Rattle.tab_session.specs.LowEnds.{from_low};
 ghost use Rattle.tab_version.specs.Shown.{shown};
 
 use crate::bookmark::{Bookmark, pass_before};
-use crate::rows::{row_after, row_start, take_rows};
+use crate::rows::take_ranges;
 use crate::taking::take;
 use std::alloc::Global;
 use std::marker::Model;
 use tab_iter::{NoMemory, Source};
-use tab_key::{Bound, Bounds, Cells, Column, Items, Key};
+use tab_key::{Bounds, Cells, Column, Items};
 use tab_label::AuthSet;
 use tab_version::{Stack, Version};
 
@@ -73,13 +70,17 @@ impl SnapshotScan {
         Ok(Batch { cells, next })
     }
 
-    /// The cells of the records with a row in the range. What is read begins at its low end, and ends with the first row above its
-    /// high one.
-    pub(crate) fn read_rows(&self, alloc: Global, rows: &Bounds) -> Result<Cells, NoMemory>
-        ensures { IfOk result (λ cells. cells ≡ cells_within rows.now (map cell_of self.now)) }
+    /// The cells of the records with a row in each of the ranges.
+    pub(crate) fn read_ranges(
+        &self,
+        alloc: Global,
+        ranges: &[Bounds],
+    ) -> Result<Items<Cells>, NoMemory>
+        ensures { IfOk result (λ answers. answers ≡ map (λ rows. cells_within rows (map cell_of self.now)) ranges.now) }
     {
-        let mut source = self.source_at(alloc, &rows.low)?;
-        take_rows(alloc, &mut source, rows)
+        let mut source = self.unread(alloc);
+        let answers = take_ranges(alloc, &mut source, ranges)?;
+        Ok(Items::from_vec(answers))
     }
 
     // The records from the bookmark on. Nothing before its column is read.
@@ -88,41 +89,26 @@ impl SnapshotScan {
         ensures rest { IfOk result (λ s. ⟦<Stack<'a> as Source>⟧.rest s ≡ from_mark from.now self.now) }
     {
         match from {
-            Bookmark::Beginning => self.source_at(alloc, &Bound::Unbounded),
+            Bookmark::Beginning => {
+                let columns = self.columns.as_slice();
+                self.version
+                    .stack(alloc, columns, &self.auths, self.versions)
+            }
             Bookmark::At(first) => {
-                let mut source = self.source_from(alloc, first.as_ref().key())?;
+                let mut source = self.unread(alloc);
+                source.seek(first.as_ref().key())?;
                 pass_before(&mut source, first)?;
                 Ok(source)
             }
         }
     }
 
-    // The records with rows from the low end on. Nothing before the first of these rows is read.
-    fn source_at<'a>(&'a self, alloc: Global, low: &Bound) -> Result<Stack<'a>, NoMemory>
-        ensures whole { IfOk result (λ s. ⟦<Stack<'a> as Source>⟧.whole s ≡ self.now) }
-        ensures rest { IfOk result (λ s. ⟦<Stack<'a> as Source>⟧.rest s ≡ from_low low.now self.now) }
-    {
-        match low {
-            Bound::Unbounded => {
-                let columns = self.columns.as_slice();
-                self.version
-                    .stack(alloc, columns, &self.auths, self.versions)
-            }
-            Bound::Inclusive(row) => self.source_from(alloc, row_start(row.as_bytes())),
-            Bound::Exclusive(row) => {
-                let next = row_after(alloc, row.as_bytes())?;
-                self.source_from(alloc, row_start(&next))
-            }
-        }
-    }
-
-    // The records from the key on. Nothing before its column is read.
-    fn source_from<'a>(&'a self, alloc: Global, key: Key<'_>) -> Result<Stack<'a>, NoMemory>
-        ensures whole { IfOk result (λ s. ⟦<Stack<'a> as Source>⟧.whole s ≡ self.now) }
-        ensures rest { IfOk result (λ s. ⟦<Stack<'a> as Source>⟧.rest s ≡ from_key (key_of key.entry) self.now) }
+    // All records, none of them read before a seek.
+    fn unread<'a>(&'a self, alloc: Global) -> Stack<'a>
+        ensures { ⟦<Stack<'a> as Source>⟧.whole result ≡ self.now }
     {
         let columns = self.columns.as_slice();
         self.version
-            .stack_from(alloc, columns, &self.auths, self.versions, key)
+            .unread_stack(alloc, columns, &self.auths, self.versions)
     }
 }

@@ -9,27 +9,14 @@ use Rattle.tab_key.specs.Columns.{is_selected}
 use Rattle.tab_key.specs.declared.column.Column.{Column}
 use Rattle.tab_key.specs.declared.range.Bounds.{Bounds}
 use Rattle.tab_label.specs.Holding.{label_holds}
-use Rattle.tab_key.proofs.Rising.{rising_sorted, distinct_filter}
-use Rattle.tab_cells.proofs.Rising.{rising_distinct, sorted_rising}
+use Rattle.tab_key.proofs.Rising.{distinct_filter}
 use Rattle.tab_cells.specs.Cells.{Query, matches, is_shown, cells}
-use Rattle.tab_iter.specs.Layers.{is_left, is_among}
 use Rattle.tab_iter.specs.Stack.{query_of}
 use Rattle.tab_iter.proofs.BagLaws.{sorted_filter}
-use Rattle.tab_iter.proofs.StackLaws.{stack_chain, stack_cells}
 use Rattle.tab_cells.proofs.Lists.{and_false, filter_seen}
 use Rattle.tab_cells.proofs.RowsInRange.{kept_seen}
+use Rattle.tab_version.proofs.InOrder.{cells_sorted}
 use Rattle.tab_tablet.specs.Opened.{ShowsRowsOf}
-
--- the records in another order show the same
-cells_sorted : (us : List Record) (n : ℕ) (columns : List Column) (auths : List (List ℕ)) → IsDistinct us → cells us n (query_of columns auths) ≡ cells (sorted us) n (query_of columns auths)
-cells_sorted us n columns auths d =
-    let left : List Record = filter (is_left false (sorted us)) (sorted us) in
-    let fetched : List Record = filter (λ u. is_selected columns u.key) left in
-    let visible : List Record = filter (λ u. label_holds u.key.label auths) fetched in
-    let shown : List Record = filter (is_among false n visible) visible in
-    let once : sorted (sorted us) ≡ sorted us = sorted_rising (sorted us) (rising_sorted us d) in
-    sym (stack_cells us shown n (query_of columns auths) (stack_chain us n n false false columns columns auths auths (sorted us) left fetched visible shown refl refl refl refl refl refl refl refl refl refl d))
-    ∙ stack_cells (sorted us) shown n (query_of columns auths) (stack_chain (sorted us) n n false false columns columns auths auths (sorted us) left fetched visible shown (sym once) refl refl refl refl refl refl refl refl refl (rising_distinct (sorted us) (rising_sorted us d)))
 
 -- all rows of what is in range show what the range shows of all
 module _ (us : List Record) (n : ℕ) (bounds : Bounds) (columns : List Column) (auths : List (List ℕ)) where
@@ -54,7 +41,7 @@ pub cells_open : (us : List Record) (n : ℕ) (bounds : Bounds) (columns : List 
     → cells (filter (λ u. is_in_range bounds u.key.row) us) n (query_of columns auths) ≡ cells (sorted us) n (record { bounds = bounds; columns = columns; authorizations = auths })
 cells_open us n bounds columns auths d =
     let p : Record → Bool = λ u. is_in_range bounds u.key.row in
-    cells_sorted (filter p us) n columns auths (distinct_filter p us d)
+    sym (cells_sorted (filter p us) (sorted (filter p us)) n columns auths (distinct_filter p us d) refl)
     ∙ ap (λ l. cells l n (query_of columns auths)) (sorted_filter p us d)
     ∙ cells_part (sorted us) n bounds columns auths
 

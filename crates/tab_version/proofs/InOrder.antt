@@ -20,11 +20,10 @@ use Rattle.tab_cells.proofs.Rising.{rising_distinct, sorted_rising}
 use Rattle.tab_label.specs.Holding.{label_holds}
 use Rattle.tab_key.specs.Columns.{is_selected}
 use Rattle.tab_iter.specs.Bags.{flat}
-use Rattle.tab_iter.specs.Layers.{is_left, is_among}
 use Rattle.tab_iter.specs.Lists.{IsRising}
-use Rattle.tab_iter.specs.Stack.{query_of, shown_of}
+use Rattle.tab_iter.specs.Stack.{query_of, shown_of, stacked}
 use Rattle.tab_iter.proofs.BagLaws.{apart_left, apart_right}
-use Rattle.tab_iter.proofs.StackLaws.{stack_chain, any_sorted}
+use Rattle.tab_iter.proofs.StackLaws.{stack_lists, any_sorted}
 use Rattle.tab_version.specs.InTurn.{AreInTurn, in_order, reaches}
 use Rattle.tab_version.specs.Sources.{Sources, no_sources, records_of}
 use Rattle.tab_version.proofs.Reaching.{later_lists}
@@ -166,14 +165,12 @@ kept_filled ts us e = subst (λ l. AllByRecursion (λ (xs : List Record). xs ≢
 pub shown_sorted : (us ws : List Record) (n : ℕ) (columns : List Column) (auths : List (List ℕ)) → IsDistinct us → ws ≡ sorted us → shown_of ws n (query_of columns auths) ≡ shown_of us n (query_of columns auths)
 shown_sorted us ws n columns auths d is =
     let w : List Record = sorted us in
-    let left : List Record = filter (is_left false w) w in
-    let fetched : List Record = filter (λ u. is_selected columns u.key) left in
-    let visible : List Record = filter (λ u. label_holds u.key.label auths) fetched in
-    let shown : List Record = filter (is_among false n visible) visible in
+    let lets : List Record → Record → Bool = stacked n (is_selected columns) (λ k. label_holds k.label auths) in
+    let shown : List Record = filter (lets w) w in
     let up : IsRising w = rising_sorted us d in
     ap (λ l. shown_of l n (query_of columns auths)) is
-    ∙ sym (stack_chain w n n false false columns columns auths auths w left fetched visible shown (sym (sorted_rising w up)) refl refl refl refl refl refl refl refl refl (rising_distinct w up))
-    ∙ stack_chain us n n false false columns columns auths auths w left fetched visible shown refl refl refl refl refl refl refl refl refl refl d
+    ∙ sym (stack_lists w n columns auths lets w shown (sym (sorted_rising w up)) refl refl (rising_distinct w up))
+    ∙ stack_lists us n columns auths lets w shown refl refl refl d
 
 pub cells_sorted : (us ws : List Record) (n : ℕ) (columns : List Column) (auths : List (List ℕ)) → IsDistinct us → ws ≡ sorted us → cells ws n (query_of columns auths) ≡ cells us n (query_of columns auths)
 unfolding cells

@@ -1,11 +1,10 @@
 //! The records of tablets.
-ghost use Rattle.std.specs.Prelude.{◌≡◌, map, IfOk, OnOk};
-ghost use Rattle.tab_key.specs.KeyOf.{key_of};
+ghost use Rattle.std.specs.Prelude.{◌≡◌, true, map, IfOk, OnOk};
 ghost use Rattle.tab_key.specs.Sorted.{sorted};
 ghost use Rattle.tab_key.specs.Records.{cell_of};
 ghost use Rattle.tab_cells.specs.Cells.{cells};
 ghost use Rattle.tab_iter.specs.Bags.{flat};
-ghost use Rattle.tab_iter.specs.Lists.{IsRising, from_key};
+ghost use Rattle.tab_iter.specs.Lists.{IsRising};
 ghost use Rattle.tab_iter.specs.Stack.{query_of};
 ghost use Rattle.tab_mem.specs.Lists.{HasShortParts};
 ghost use Rattle.tab_version.specs.Shown.{shown};
@@ -16,8 +15,8 @@ use crate::tablets::drop_empty;
 use crate::{ClipCursor, Clips, InTurn};
 use std::alloc::Global;
 use std::marker::Model;
-use tab_iter::{Merging, NoMemory, Source, stack_from, stack_of};
-use tab_key::{Column, Key};
+use tab_iter::{Merging, NoMemory, Source, stack_of, stack_unread};
+use tab_key::Column;
 use tab_label::AuthSet;
 
 /// What a scan of a version reads: the layers over all of its records.
@@ -78,24 +77,20 @@ impl Version {
         Ok(stack)
     }
 
-    /// The same stack, standing at the first record shown whose key isn't before this one. Nothing before the key's column is
-    /// read, and no tablet but the one that the column lies in.
-    ///
-    /// NoMemory comes only from want of memory.
-    pub fn stack_from<'a>(
+    /// The same stack, unpositioned: nothing is read before a seek, which reads nothing before the column of its key, and no tablet but
+    /// the one that the column lies in. It takes no memory, and can be sought in again and again.
+    pub fn unread_stack<'a>(
         &'a self,
         alloc: Global,
         columns: &'a [Column],
         auths: &'a AuthSet,
         versions: u32,
-        key: Key<'_>,
-    ) -> Result<Stack<'a>, NoMemory>
-        ensures shown { IfOk result (λ s. ⟦<Stack<'a> as Source>⟧.whole s ≡ shown self.now versions columns.now auths.now) }
-        ensures from_key { IfOk result (λ s. ⟦<Stack<'a> as Source>⟧.rest s ≡ from_key (key_of key.entry) (⟦<Stack<'a> as Source>⟧.whole s)) }
+    ) -> Stack<'a>
+        ensures shown { ⟦<Stack<'a> as Source>⟧.whole result ≡ shown self.now versions columns.now auths.now }
+        ensures unpositioned { ⟦<Stack<'a> as Source>⟧.is_unpositioned result ≡ true }
     {
         let all = InTurn::unpositioned(alloc, self.tablets.as_slice());
-        let stack = stack_from(alloc, all, columns, auths, versions, key)?;
-        Ok(stack)
+        stack_unread(alloc, all, columns, auths, versions)
     }
 
     /// All records, in their order. One tablet at a time is read.

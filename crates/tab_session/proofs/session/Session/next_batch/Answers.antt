@@ -1,4 +1,3 @@
-use Rattle.std.proofs.Common.{◌∙◌}
 use Rattle.std.specs.Prelude.{Some}
 use Rattle.tab_session.proofs.Batches.{gives, gave_them}
 use Rattle.tab_session.proofs.session.Session.next_batch.Goals as goal
