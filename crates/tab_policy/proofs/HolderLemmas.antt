@@ -58,7 +58,7 @@ neither false b e = (refl, e)
 
 -- ---- one entry
 -- a set without any permission has none
-has_none : (s : TablePermissions) → has_any s ≡ false → (p : TablePermission) → table_contains s p ≡ false
+pub has_none : (s : TablePermissions) → has_any s ≡ false → (p : TablePermission) → table_contains s p ≡ false
 has_none s e p =
     let read = neither s.read (s.write || (s.alter_table || (s.grant || (s.drop_table || false)))) e in
     let write = neither s.write (s.alter_table || (s.grant || (s.drop_table || false))) read.1 in

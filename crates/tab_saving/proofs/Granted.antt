@@ -17,6 +17,7 @@ use Rattle.tab_policy.specs.Roots.{root}
 use Rattle.tab_policy.specs.Sets.{system_contains, table_contains}
 use Rattle.tab_policy.specs.Entries.{at_name}
 use Rattle.tab_policy.specs.Holders.{AreUsers, has_any}
+use Rattle.tab_policy.proofs.HolderLemmas.{has_none}
 use Rattle.tab_policy.specs.State.{State, user_exists, auths_of, system_granted, has_system, table_granted, table_exists, account_auths, account_system, account_life, table_gives}
 use Rattle.tab_image.specs.declared.table.ImageRight.{ImageRight}
 use Rattle.tab_saving.specs.ImageOf.{system_of, held_of, right_of, rights_of}
@@ -39,27 +40,6 @@ held_read s t n table.Write = refl
 held_read s t n table.AlterTable = refl
 held_read s t n table.Grant = refl
 held_read s t n table.DropTable = refl
-
-neither : (a b : Bool) → (a || b) ≡ false → (a ≡ false) × (b ≡ false)
-neither true b e = absurd (true≢false e)
-neither false b e = (refl, e)
-
--- a set without any permission has none
-pub has_none : (s : TablePermissions) → has_any s ≡ false → (p : TablePermission) → table_contains s p ≡ false
-has_none s e p =
-    let read = neither s.read (s.write || (s.alter_table || (s.grant || (s.drop_table || false)))) e in
-    let write = neither s.write (s.alter_table || (s.grant || (s.drop_table || false))) read.1 in
-    let alter = neither s.alter_table (s.grant || (s.drop_table || false)) write.1 in
-    let grant = neither s.grant (s.drop_table || false) alter.1 in
-    let drop = neither s.drop_table false grant.1 in
-    go read.0 write.0 alter.0 grant.0 drop.0 p
-  where
-    go : s.read ≡ false → s.write ≡ false → s.alter_table ≡ false → s.grant ≡ false → s.drop_table ≡ false → (p : TablePermission) → table_contains s p ≡ false
-    go read write alter grant drop table.Read = read
-    go read write alter grant drop table.Write = write
-    go read write alter grant drop table.AlterTable = alter
-    go read write alter grant drop table.Grant = grant
-    go read write alter grant drop table.DropTable = drop
 
 -- ---- nobody holds nothing
 pub no_auths : (s : State) (n : List ℕ) → user_exists s n ≡ false → auths_of s n ≡ []

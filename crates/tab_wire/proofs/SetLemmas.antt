@@ -1,7 +1,6 @@
--- Constraints by their bits.
-use Rattle.std.proofs.Common.{◌≡◌, ◌≤◌, Bool, true, false, cond, List, [], ◌∷◌, refl, arith}
-use Rattle.std.specs.Prelude.{filter}
-use Rattle.tab_rules.specs.Constraints.{constraint_number, all_constraints, constraint_set_of}
+-- Constraints by their numbers.
+use Rattle.std.proofs.Common.{◌≤◌, arith}
+use Rattle.tab_rules.specs.Constraints.{constraint_number}
 use Rattle.tab_rules.specs.declared.constraint.Constraint.{Constraint}
 use Rattle.tab_rules.specs.declared.constraint.Constraint.TheVariants.{KeySize, Alphanumeric, Numeric, Visibility}
 
@@ -11,33 +10,3 @@ number_few KeySize = (omega arith, omega arith)
 number_few Alphanumeric = (omega arith, omega arith)
 number_few Numeric = (omega arith, omega arith)
 number_few Visibility = (omega arith, omega arith)
-
--- one more, where it is kept
-abbrev with_if : Bool → Constraint → List Constraint → List Constraint
-with_if keep c cs = cond keep (c ∷ cs) cs
-
--- those of the four that are kept
-abbrev kept : Bool → Bool → Bool → Bool → List Constraint
-kept a b c d = with_if a KeySize (with_if b Alphanumeric (with_if c Numeric (with_if d Visibility [])))
-
--- the constraints that pass a test, rising, are the one form of their set
-pub one_form : (test : Constraint → Bool) → constraint_set_of (filter test all_constraints) ≡ filter test all_constraints
-one_form test = by (test KeySize) (test Alphanumeric) (test Numeric) (test Visibility)
-  where
-    by : (a b c d : Bool) → constraint_set_of (kept a b c d) ≡ kept a b c d
-    by true true true true = refl
-    by true true true false = refl
-    by true true false true = refl
-    by true true false false = refl
-    by true false true true = refl
-    by true false true false = refl
-    by true false false true = refl
-    by true false false false = refl
-    by false true true true = refl
-    by false true true false = refl
-    by false true false true = refl
-    by false true false false = refl
-    by false false true true = refl
-    by false false true false = refl
-    by false false false true = refl
-    by false false false false = refl

@@ -155,7 +155,7 @@ fn constraints_in(alloc: Global, bits: u8) -> Result<Vec<Constraint>, AllocError
 }
 
 // Their set.
-#[tactic(auto, using(crate::proofs::SetLemmas::one_form))]
+#[tactic(auto, using(tab_rules::proofs::OneForm::one_form))]
 fn constraint_set(alloc: Global, bits: u8) -> Result<ConstraintSet, AllocError>
     ensures { IfOk result (λ set. set ≡ constraints_in bits) }
 {
