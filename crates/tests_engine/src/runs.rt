@@ -1,8 +1,10 @@
 //! Random mutations, written and frozen, beside the order of updates.
+ghost use Rattle.std.specs.Prelude.{◌≤◌, length};
 
 use crate::reading::{expect_rest, expect_seek};
 use crate::writing::{CLOCK, Writer, fill};
 use std::alloc::{AllocError, Global};
+use std::ops::Range;
 use std::process::Abort;
 use tab_mem::{Run, RunCursor};
 use tab_testing::{Random, Update, in_rows, sort};
@@ -19,8 +21,14 @@ const ROWS: [&[u8]; 8] = [
     b"\xff",
 ];
 
-fn random_update(random: &mut Random) -> Update {
-    let row = random.one_of(&ROWS);
+// More rows, of which no two are alike in their first 16 bytes.
+const FAR_ROWS: [&[u8]; 16] = [
+    b"a", b"aa", b"ab", b"b", b"c", b"ca", b"caa", b"d", b"e", b"f", b"g", b"ga", b"gb", b"h",
+    b"i", b"j",
+];
+
+fn random_update(random: &mut Random, rows: &[&'static [u8]]) -> Update {
+    let row = random.one_of(rows);
     random.update(row, 0, 0, CLOCK)
 }
 
@@ -31,10 +39,17 @@ fn expect_seeks(
     mut cursor: RunCursor<'_>,
     updates: &[Update],
     random: &mut Random,
+    rows: &[&'static [u8]],
 ) {
     expect_rest(rt, &mut cursor, updates);
     for _ in 0..10 {
-        expect_seek(rt, alloc, &mut cursor, updates, &random_update(random));
+        expect_seek(
+            rt,
+            alloc,
+            &mut cursor,
+            updates,
+            &random_update(random, rows),
+        );
     }
 }
 
@@ -42,13 +57,31 @@ fn expect_seeks(
 fn expect_part(rt: &impl Abort, alloc: Global, run: &Run, updates: &[Update], random: &mut Random) {
     let end = (random.below(30) as usize).min(run.len());
     let from = (random.below(30) as usize).min(end);
-    let part = updates.get(from..end).unwrap_or(&[]);
-    expect_seeks(rt, alloc, RunCursor::over(run, from, end), part, random);
-    let low = random.end(&ROWS);
-    let high = random.end(&ROWS);
-    let rows = run.rows_in(from, end, &low.to(alloc, high).expect(rt, "memory"));
+    expect_between(rt, alloc, run, from..end, updates, random, &ROWS);
+}
+
+// The records of the run from one index up to another, that one excluded, and those of some of the rows among them.
+fn expect_between(
+    rt: &impl Abort,
+    alloc: Global,
+    run: &Run,
+    indexes: Range<usize>,
+    updates: &[Update],
+    random: &mut Random,
+    rows: &[&'static [u8]],
+)
+    requires ends { indexes.start ≤ indexes.end }
+    requires inside { indexes.end ≤ length run.now }
+{
+    let Range { start, end } = indexes;
+    let part = updates.get(start..end).unwrap_or(&[]);
+    let cursor = RunCursor::over(run, start, end);
+    expect_seeks(rt, alloc, cursor, part, random, rows);
+    let low = random.end(rows);
+    let high = random.end(rows);
+    let found = run.rows_in(start, end, &low.to(alloc, high).expect(rt, "memory"));
     let want = in_rows(alloc, part, low, high).expect(rt, "memory");
-    expect_rest(rt, &mut RunCursor::over(run, rows.start, rows.end), &want)
+    expect_rest(rt, &mut RunCursor::over(run, found.start, found.end), &want)
 }
 
 #[test]
@@ -76,9 +109,34 @@ fn freezes_in_order(rt: HostRuntime) {
             (frozen.len(), frozen.is_empty()),
             (table.len(), table.is_empty())
         );
-        expect_seeks(&rt, alloc, RunCursor::new(&frozen), &table, &mut random);
+        let cursor = RunCursor::new(&frozen);
+        expect_seeks(&rt, alloc, cursor, &table, &mut random, &ROWS);
         for _ in 0..10 {
             expect_part(&rt, alloc, &frozen, &table, &mut random);
         }
     }
+}
+
+// Many times as many records of these rows as there are between two neighbours of a run's sparse index.
+fn expect_many(rt: &impl Abort, alloc: Global, random: &mut Random, rows: &[&'static [u8]]) {
+    let mut writer = Writer::new(alloc);
+    let mut table = Vec::new(alloc);
+    fill(rt, alloc, random, &mut writer, rows, 0, 250, &mut table);
+    let frozen = writer.freeze(rt, alloc);
+    sort(&mut table);
+    assert!(rt; table.len() > 300);
+    expect_seeks(rt, alloc, RunCursor::new(&frozen), &table, random, rows);
+    for _ in 0..10 {
+        let end = (random.below(600) as usize).min(frozen.len());
+        let from = (random.below(100) as usize).min(end);
+        expect_between(rt, alloc, &frozen, from..end, &table, random, rows);
+    }
+}
+
+#[test]
+fn finds_rows_among_many(rt: HostRuntime) {
+    let alloc = rt.alloc();
+    let mut random = Random::new(17);
+    expect_many(&rt, alloc, &mut random, &ROWS);
+    expect_many(&rt, alloc, &mut random, &FAR_ROWS);
 }

@@ -110,6 +110,17 @@ fn holds_what_was_built_in(rt: HostRuntime) {
     }
 }
 
+// Many times as many records as there are between two neighbours of a table's sparse index.
+#[test]
+fn finds_records_among_many(rt: HostRuntime) {
+    let alloc = rt.alloc();
+    let mut random = Random::new(17);
+    let mut updates = Vec::new(alloc);
+    let table = random_table(&rt, alloc, &mut random, 250, &mut updates);
+    assert!(rt; updates.len() > 300);
+    expect_seeks(&rt, alloc, Cursor::new(&table), &updates, &mut random);
+}
+
 // A cursor that shares a table which nobody else has any more.
 fn left_behind(
     rt: &impl Abort,

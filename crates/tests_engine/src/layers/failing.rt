@@ -8,7 +8,7 @@ use std::alloc::{AllocError, Global};
 use std::process::Abort;
 use tab_iter::{
     DeletingRule, FetchingRule, Filtered, ListSource, Merging, NoMemory, Rule, Source,
-    VersioningRule, VisibleRule, stack_from, stack_of,
+    VersioningRule, VisibleRule, stack_of, stack_unread,
 };
 use tab_key::{Key, RecordRef};
 use tab_testing::{auths_of, family};
@@ -241,14 +241,14 @@ fn recovers_stacked(rt: HostRuntime) {
     }
 }
 
-// A stack from a key before all others begins with the first record shown.
+// A seek to a key before all others begins with the first record shown.
 #[test]
 fn reads_from_a_key(rt: HostRuntime) {
     let alloc = rt.alloc();
     let auths = auths_of(alloc, &[b"A"]).expect(&rt, "memory");
     let parts = dealt(&rt, alloc).expect(&rt, "memory");
     let merged = Merging::unpositioned(parts).expect(&rt, "memory");
-    let stack = stack_from(alloc, merged, &[], &auths, 2, start());
-    let mut stack = stack.expect(&rt, "memory");
+    let mut stack = stack_unread(alloc, merged, &[], &auths, 2);
+    stack.seek(start()).expect(&rt, "memory");
     reads(&rt, alloc, &mut stack, &[7, 10, 9, 12, 14, 16]);
 }
