@@ -1,5 +1,5 @@
-"""Sees that wrong bodies are refused, many in one check. crates/NAME/must-fail/mutants.md lists those of a crate, one
-function each. Mutants of different functions are applied to one copy of the crate, and the prover is asked for these
+"""Sees that wrong bodies and turned definitions are refused, many in one check. crates/NAME/must-fail/mutants.md lists those of a
+crate, one function each. Mutants of different functions are applied to one copy of the crate, and the prover is asked for these
 functions: each must be left unproved, and for what it ensures, not for a name that a proof no longer finds. What a copy
 of many doesn't show is tried alone."""
 import concurrent.futures
@@ -33,6 +33,10 @@ class Mutant:
             if text.count(old) != 1:
                 raise ValueError(f"{self}: the text is there {text.count(old)} times: {old}")
         return [(text.index(old), text.index(old) + len(old), new) for old, new in self.pairs]
+
+    def turns_a_definition(self):
+        """Returns whether it changes what contracts say, so that functions besides its own may be refused for it."""
+        return self.file.startswith("specs/")
 
     def __str__(self):
         return f"{self.crate}/{self.name}"
@@ -77,10 +81,11 @@ def mutants_of(crate):
 
 
 def batches_of(mutants):
-    """Parts mutants into batches in which each function stands once."""
+    """Parts mutants into batches in which each function stands once. One that turns a definition is alone in its batch."""
     batches = []
     for mutant in mutants:
-        fits = next((it for it in batches if all(other.function != mutant.function for other in it)), None)
+        together = [] if mutant.turns_a_definition() else [it for it in batches if not it[0].turns_a_definition()]
+        fits = next((it for it in together if all(other.function != mutant.function for other in it)), None)
         if fits is None:
             batches.append([mutant])
         else:
