@@ -11,6 +11,8 @@ pub mod Runs
 pub mod SlotLemmas
 pub mod Splitting
 pub mod Steps
+pub mod Recorded
+pub mod Forgetting
 pub mod TableActs
 pub mod Writing
 pub mod Picked

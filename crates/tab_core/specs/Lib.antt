@@ -3,6 +3,8 @@ pub mod Holding
 pub mod Bounded
 pub mod Slots
 pub mod Stepping
+pub mod EventReplies
+pub mod Recording
 pub mod Comparing
 pub mod ComparingExamples
 pub use Rattle.tab_store.specs.Stores

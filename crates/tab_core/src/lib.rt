@@ -12,20 +12,23 @@
 //! | `acts`, `users`, `granting`, `writes`, `scans`, `tablets`, `splits`, `images` | what each act does |
 //! | `checking` | the checks that are an event's own, and those of a request for ranges |
 //! | `reply` | replies without what they hand out |
+//! | `event_reply`, `recording` | what an event is told, copied, and the step whose history is recorded |
 //! | `slots`, `running` | the sessions of one user in a run, and runs of steps |
 //! | `comparing` | two runs compared by what one user is told in them |
 //!
 //! Of the definitions in `specs`, `Stepping` says what a step does, `Holding` what a store holds, `Bounded` which limits a core keeps to
-//! beside those of its tables, `Slots` and `Owners` what a run keeps, and `Comparing` what two runs tell; `ComparingExamples` computes it
-//! for a small history.
+//! beside those of its tables, `EventReplies` what an event is told, `Recording` what a step means for a history that is recorded beside
+//! the core, `Slots` and `Owners` what a run keeps, and `Comparing` what two runs tell; `ComparingExamples` computes it for a small history.
 #![tactic(auto)]
 
 mod acts;
 mod checking;
 mod comparing;
+mod event_reply;
 mod granting;
 mod images;
 mod policing;
+mod recording;
 mod reply;
 mod running;
 mod scans;
@@ -38,6 +41,7 @@ mod users;
 mod writes;
 
 pub use comparing::{Compared, compare_runs};
+pub use event_reply::EventReply;
 pub use reply::told;
 pub use running::run;
 pub use slots::Slots;

@@ -126,7 +126,7 @@ impl Core {
 }
 
 // No marker of a mutation has a value: nothing is done, and it is known afterwards.
-fn keep_markers(act: &Act)
+pub(crate) fn keep_markers(act: &Act)
     ensures { WritesBare act.now }
 {
     match act {
@@ -136,7 +136,7 @@ fn keep_markers(act: &Act)
 }
 
 // The later of two moments.
-fn later(a: i64, b: i64) -> i64
+pub(crate) fn later(a: i64, b: i64) -> i64
     ensures { result ≡ int_max a b }
 {
     if b < a { a } else { b }

@@ -1,0 +1,38 @@
+-- What a step of a core means for a history of events that is recorded beside it. The first three words say it of a base and the events
+-- since, the newest first; whoever keeps a history needs none of what they stand for.
+use Rattle.std.specs.Prelude.{◌≡◌, List, ◌∷◌, Option, Some, None}
+use Rattle.tab_cells.specs.SessionState.{SessionState}
+use Rattle.tab_history.specs.Bases.{Base}
+use Rattle.tab_history.specs.Answers.{told_of, session_of, session_list}
+use Rattle.tab_history.specs.Histories.{Entry, world_of, world_after, journal}
+use Rattle.tab_history.specs.Legal.{LegalAlone}
+use Rattle.tab_history.specs.Refinement.{Refines}
+use Rattle.tab_history.specs.declared.event.Act.{Act}
+use Rattle.tab_history.specs.declared.event.Event.{Event}
+use Rattle.tab_history.specs.declared.reply.Reply.{Reply}
+use Rattle.tab_store.specs.Stores.{Held, base_of}
+pub use Rattle.tab_store.specs.Stepping.{StepsExactly, entry_of}
+
+-- the core refines what these events leave of the base
+unfoldable pub RefinesHistory : Held → Base → List Entry → Type 0
+RefinesHistory core base h = Refines (world_of (base_of core)) (world_after (world_of base) h)
+
+-- each of these events was given an answer that is defined there, unless memory lacked for it
+unfoldable pub IsLegalFrom : Base → List Entry → Type 0
+IsLegalFrom base h = LegalAlone (world_of base) h
+
+-- a session that the act was handed after these events shows the list that is defined there, and none of it was given
+unfoldable pub ShowsAnswer : Base → List Entry → Act → Option SessionState → Type 0
+ShowsAnswer base h act None = Unit {0}
+ShowsAnswer base h act (Some session) = session ≡ record { all = session_list base (journal (world_of base) h) act; given = 0 }
+
+-- What an event did to a core, for each history that the core refined.
+pub record StepsOn (old : Held) (event : Event) (reply : Reply SessionState) (new : Held) : Type 0 where
+  -- a legal history stays legal with this entry
+  pub legal : (base : Base) (h : List Entry) → RefinesHistory old base h → IsLegalFrom base h → IsLegalFrom base (entry_of event (told_of reply) ∷ h)
+  -- the core refines the history with this entry
+  pub refines : (base : Base) (h : List Entry) → RefinesHistory old base h → RefinesHistory new base (entry_of event (told_of reply) ∷ h)
+  -- a session that is handed out shows the answer that is defined there
+  pub hands : (base : Base) (h : List Entry) → RefinesHistory old base h → ShowsAnswer base h event.act (session_of reply)
+  -- and the core goes on exactly
+  pub exact : StepsExactly old event (told_of reply) new
