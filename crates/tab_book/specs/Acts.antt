@@ -1,0 +1,49 @@
+-- Which act is kept.
+use Rattle.std.specs.Prelude.{ℕ}
+use Rattle.tab_policy.specs.declared.permission.Permission.{Permission}
+use Rattle.tab_policy.specs.declared.permission.Permission.TheVariants.{OfSystem, OfTable}
+use Rattle.tab_history.specs.declared.event.Scan.{Scan}
+use Rattle.tab_history.specs.declared.event.Act.{Act}
+use Rattle.tab_history.specs.declared.event.Act.TheVariants.{Open, Write, CreateTable, DropTable, SetConstraints, CreateUser, DropUser, SetAuths, Grant, Revoke, Rights, Status, Flush, Compact, AddSplit, SplitBySize, Splits, Save, Load}
+use Rattle.tab_book.specs.declared.act.KeptPermission.{KeptPermission}
+use Rattle.tab_book.specs.declared.act.KeptPermission.TheVariants as permission
+use Rattle.tab_book.specs.declared.act.KeptScan.{KeptScan}
+use Rattle.tab_book.specs.declared.act.PlainAct.{PlainAct}
+use Rattle.tab_book.specs.declared.act.PlainAct.TheVariants as plain
+use Rattle.tab_book.specs.declared.act.KeptAct.{KeptAct}
+use Rattle.tab_book.specs.declared.act.KeptAct.TheVariants as kept
+
+-- the permission
+abbrev pub permission_in : KeptPermission → Permission
+permission_in (permission.OfSystem p) = OfSystem p
+permission_in (permission.OfTable p t) = OfTable p t
+
+-- the scan
+abbrev pub scan_in : KeptScan → Scan
+scan_in s = record { table = s.table; bounds = s.bounds; columns = s.columns; authorizations = s.authorizations }
+
+-- the act of names, rows and numbers
+abbrev pub plain_in : PlainAct → Act
+plain_in (plain.CreateTable t time n) = CreateTable t time n
+plain_in (plain.DropTable t) = DropTable t
+plain_in (plain.CreateUser n) = CreateUser n
+plain_in (plain.DropUser n) = DropUser n
+plain_in (plain.Grant n p) = Grant n (permission_in p)
+plain_in (plain.Revoke n p) = Revoke n (permission_in p)
+plain_in (plain.Rights t) = Rights t
+plain_in (plain.Status t) = Status t
+plain_in (plain.Flush t) = Flush t
+plain_in (plain.Compact t extent) = Compact t extent
+plain_in (plain.AddSplit t row) = AddSplit t row
+plain_in (plain.SplitBySize t row limit) = SplitBySize t row limit
+plain_in (plain.Splits t) = Splits t
+plain_in plain.Save = Save
+plain_in plain.Load = Load
+
+-- the act
+abbrev pub act_in : KeptAct → Act
+act_in (kept.Open scan) = Open (scan_in scan.value)
+act_in (kept.Write t m) = Write t m
+act_in (kept.SetConstraints t cs) = SetConstraints t cs
+act_in (kept.SetAuths n auths) = SetAuths n auths
+act_in (kept.Plain act) = plain_in act

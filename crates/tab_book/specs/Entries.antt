@@ -1,0 +1,55 @@
+-- The history of a book, and what a seat knows.
+use Rattle.std.specs.Prelude.{ℕ, ◌≡◌, ◌+◌, ◌^◌, ◌≤◌, List, [], ◌∷◌, length}
+use Rattle.tab_history.specs.Bases.{Base}
+use Rattle.tab_history.specs.Answers.{Told}
+use Rattle.tab_history.specs.Histories.{Entry}
+use Rattle.tab_history.specs.declared.event.Event.{Event}
+use Rattle.tab_core.specs.Stores.{Held}
+use Rattle.tab_core.specs.Recording.{RefinesHistory, IsLegalFrom, entry_of}
+
+-- an entry: the number of the seat that asked, what it asked, and what it was told
+pub record Posted : Type 0 where
+  pub seat : ℕ
+  pub event : Event
+  pub reply : Told
+
+-- a history, the newest entry first, with later ones, the oldest first
+abbrev pub extend : List Entry → List Posted → List Entry
+extend h [] = h
+extend h (p ∷ ps) = extend (entry_of p.event p.reply ∷ h) ps
+
+-- the history that the entries are: it has the newest first, and knows no seats
+abbrev pub past : List Posted → List Entry
+past ps = extend [] ps
+
+-- a seat: its number, the number above all that it has seen, and how many entries are its
+pub record Place : Type 0 where
+  pub number : ℕ
+  pub seen : ℕ
+  pub count : ℕ
+
+abbrev pub place : ℕ → ℕ → ℕ → Place
+place number seen count = record { number = number; seen = seen; count = count }
+
+-- a book: its entries, the oldest first, and its core; how many seats ever joined, how many are out, and how many entries those seats made
+-- that came back
+pub record Record : Type 0 where
+  pub entries : List Posted
+  pub core : Held
+  pub joined : ℕ
+  pub out : ℕ
+  pub back : ℕ
+
+-- the number of the next entry
+abbrev pub next_of : Record → ℕ
+next_of b = length b.entries
+
+-- What each book keeps: its history is legal from the base and its core refines it; and the ledger, which is cut into so many parts, of
+-- which each seat that is out has one and the book the rest, has counted the entries.
+pub record IsKept (base : Base) (entries : List Posted) (core : Held) (joined out parts rest total : ℕ) : Type 0 where
+  pub legal : IsLegalFrom base (past entries)
+  pub refines : RefinesHistory core base (past entries)
+  pub counted : total ≡ length entries
+  pub cut : rest + out ≡ parts
+  pub enough : 2 ^ 32 ≤ parts
+  pub known : out ≤ joined

@@ -1,0 +1,111 @@
+//! Entries in blocks.
+ghost use Rattle.std.specs.Prelude.{◌≡◌, ◌+◌, ◌^◌, ◌<◌, ◌∷◌, [], ◌++◌, length, slice_get, Some, None, IfSome, IfNone, OnOk};
+ghost use Rattle.tab_book.specs.Blocks.{block_at};
+
+use crate::entry::KeptEntry;
+use std::alloc::{AllocError, Global};
+use std::marker::Model;
+use std::mem;
+
+// How many entries a block has.
+const BLOCK: usize = 1024;
+
+/// Entries, the oldest first. They lie in blocks, so that one more moves at most those of one block, and none once a block is full.
+#[derive(Drop)]
+pub struct Blocks {
+    // blocks of as many entries as one has
+    full: Vec<Vec<KeptEntry>>,
+    // the entries behind them
+    last: Vec<KeptEntry>,
+    // how many there are
+    count: u64,
+}
+
+impl Model for Blocks {
+    ghost use Rattle.tab_book.specs.Blocks.{Held, in_order, room_in, IsInBlocks};
+
+    ghost Value = { Held };
+
+    ghost view = { λ b. record { entries = in_order b.full.items b.last.items; room = room_in b.last } };
+
+    ghost invariant = { λ b. IsInBlocks b.full.items b.last.items b.count };
+}
+
+impl Blocks {
+    /// No entries.
+    pub fn new(alloc: Global) -> Blocks
+        ensures { result.entries ≡ [] }
+    {
+        Blocks {
+            full: Vec::new(alloc),
+            last: Vec::new(alloc),
+            count: 0,
+        }
+    }
+
+    /// How many there are.
+    pub fn len(&self) -> u64
+        ensures { result ≡ length self.now.entries }
+    {
+        self.count
+    }
+
+    /// Finds memory for one more. There are at most 2^64 - 1.
+    pub fn reserve(&mut self, alloc: Global) -> Result<(), AllocError>
+        ensures room { OnOk result (0 < self.new.room) }
+        ensures number { OnOk result (length self.old.entries + 1 < 2 ^ 64) }
+        ensures entries { self.new.entries ≡ self.old.entries }
+    {
+        if self.count == u64::MAX {
+            return Err(AllocError);
+        }
+        if self.last.len() < BLOCK {
+            return self.last.reserve(1);
+        }
+        let block = Vec::with_capacity(alloc, BLOCK)?;
+        self.full.reserve(1)?;
+        let full = mem::replace(&mut self.last, block);
+        self.full.push_reserved(full);
+        Ok(())
+    }
+
+    /// Puts one behind the others.
+    pub fn push_reserved(&mut self, entry: KeptEntry)
+        requires room { 0 < self.old.room }
+        requires number { length self.old.entries + 1 < 2 ^ 64 }
+        ensures { self.new.entries ≡ self.old.entries ++ entry ∷ [] }
+    {
+        self.last.push_reserved(entry);
+        self.count += 1;
+    }
+
+    /// The entry with this number, from 0 on.
+    pub fn get(&self, number: u64) -> Option<&KeptEntry>
+        ensures some { IfSome result (λ entry. slice_get self.now.entries number ≡ Some entry.now) }
+        ensures none { IfNone result (slice_get self.now.entries number ≡ None) }
+    {
+        if number >= self.count {
+            return None;
+        }
+        let at = number as usize;
+        nth(block_of(&self.full, &self.last, at / BLOCK), at % BLOCK)
+    }
+}
+
+// The entries of the full block with this number, and the last ones where there is none.
+fn block_of<'a>(full: &'a [Vec<KeptEntry>], last: &'a [KeptEntry], at: usize) -> &'a [KeptEntry]
+    ensures { result.now ≡ block_at full.now last.now at }
+{
+    match full.get(at) {
+        Some(block) => block,
+        None => last,
+    }
+}
+
+// The entry at this place.
+fn nth(block: &[KeptEntry], at: usize) -> Option<&KeptEntry>
+    ensures some { IfSome result (λ entry. slice_get block.now at ≡ Some entry.now) }
+    ensures none { IfNone result (slice_get block.now at ≡ None) }
+{
+    block.get(at)
+}

@@ -1,0 +1,221 @@
+//! Books.
+ghost use Rattle.std.specs.Prelude.{◌≡◌, ◌+◌, ◌^◌, ◌<◌, ◌≤◌, [], IfOk, IfErr, IfSome, IfNone, IsTrue, ◌↔◌, All, nat_le, sum_by, vec_len};
+ghost use Rattle.tab_core.specs.Stores.{base_of};
+ghost use Rattle.tab_core.specs.Recording.{RefinesHistory, IsLegalFrom};
+ghost use Rattle.tab_book.specs.Entries.{place, next_of, past};
+ghost use Rattle.tab_book.specs.Receipts.{Applies, Has};
+
+use crate::blocks::Blocks;
+use crate::entry::{Entry, KeptEntry};
+use crate::kept_reply::KeptReply;
+use crate::receipt::Receipt;
+use crate::reservation::Reservation;
+use crate::seat::Seat;
+use std::alloc::{AllocError, Global};
+use std::marker::{Brand, Model};
+use std::sync::ledger::{Blank, Book as Tickets, Ledger, Share};
+use tab_core::Core;
+use tab_history::Event;
+
+/// Which book a seat or a receipt is of, and what its core held before the first entry.
+pub trait Origin: Ledger {
+    ghost use Rattle.tab_history.specs.Bases.{Base};
+
+    ghost base: { Base };
+}
+
+impl Origin for Brand {
+    ghost use Rattle.tab_history.specs.Bases.{new_core};
+
+    ghost base = { new_core };
+}
+
+/// How many seats aren't back.
+#[derive(Clone, Copy, PartialEq, Eq, Debug)]
+pub struct SeatsOut(pub u32);
+
+/// A core and the history of its events, oldest first. The history is legal from what the core held at first, and the core refines it.
+///
+/// It grows with every event: nothing takes an entry away.
+#[derive(Drop)]
+pub struct Book<L: Origin> {
+    entries: Blocks,
+    core: Core,
+    joined: u32,
+    out: u32,
+    tickets: Tickets<L>,
+    // the parts of the ledger that no seat has
+    rest: Share<L>,
+}
+
+impl<L: Origin> Model for Book<L> {
+    ghost use Rattle.tab_book.specs.Entries.{Record, IsKept};
+
+    ghost Value = { Record };
+
+    ghost view = { λ b. record { entries = b.entries.entries; core = b.core; joined = b.joined; out = b.out; back = b.rest.amount } };
+
+    ghost invariant = { λ b. IsKept L.base b.entries.entries b.core b.joined b.out L.parts b.rest.parts b.tickets.total };
+}
+
+impl<L: Origin> Book<L> {
+    /// A book over a core, without entries. The blank is the ledger on which its seats count.
+    pub fn new(alloc: Global, core: Core, blank: Blank) -> Book<L>
+        requires base { base_of core ≡ L.base }
+        requires name { blank.name ≡ L.name }
+        requires parts { blank.parts ≡ L.parts }
+        requires enough { 2 ^ 32 ≤ blank.parts }
+        ensures { result ≡ record { entries = []; core = core; joined = 0; out = 0; back = 0 } }
+    {
+        core.begins();
+        let (tickets, rest) = blank.open::<L>();
+        Book {
+            entries: Blocks::new(alloc),
+            core,
+            joined: 0,
+            out: 0,
+            tickets,
+            rest,
+        }
+    }
+
+    /// A new seat, which has seen nothing and has no entry. There are 4,294,967,295 of them.
+    pub fn join(&mut self) -> Option<Seat<L>>
+        ensures some { IfSome result (λ s. (s ≡ place self.old.joined 0 0) × (self.new ≡ record self.old { joined = self.old.joined + 1; out = self.old.out + 1 })) }
+        ensures none { IfNone result ((self.old.joined + 1 ≡ 2 ^ 32) × (self.new ≡ self.old)) }
+    {
+        if self.joined == u32::MAX {
+            return None;
+        }
+        let number = self.joined;
+        self.joined += 1;
+        self.out += 1;
+        Some(Seat {
+            number,
+            seen: 0,
+            share: self.rest.split_off(1, 0),
+        })
+    }
+
+    // The number of the next entry.
+    fn next(&self) -> u64
+        ensures { result ≡ next_of self.now }
+    {
+        self.entries.len()
+    }
+
+    /// Whether the next entry's number is above all that the seat saw, as it is of a seat of this book.
+    pub fn ready(&self, seat: &Seat<L>) -> bool
+        ensures { result ≡ nat_le seat.now.seen (next_of self.now) }
+    {
+        seat.seen <= self.next()
+    }
+
+    /// The core.
+    pub fn core(&self) -> &Core
+        ensures { result.now ≡ self.now.core }
+    {
+        &self.core
+    }
+
+    /// Does an event, and gives the receipt of its entry. Where the history can't grow the event is handed back, and nothing was done or
+    /// counted: for want of memory, or with 2^64 - 1 entries.
+    pub fn apply(
+        &mut self,
+        alloc: Global,
+        seat: &mut Seat<L>,
+        event: Event,
+    ) -> Result<Receipt<L>, (Event, AllocError)>
+        requires { seat.old.seen ≤ next_of self.old }
+        ensures ok { IfOk result (λ r. Applies self.old seat.old event r self.new seat.new) }
+        ensures err { IfErr result (λ r. (r.0 ≡ event) × (self.new ≡ self.old) × (seat.new ≡ seat.old)) }
+    {
+        let Ok(reservation) = Reservation::of(alloc, &event) else {
+            return Err((event, AllocError));
+        };
+        self.apply_reserved(alloc, seat, event, reservation)
+    }
+
+    /// The same with the memory that was found before. It copies nothing of the event.
+    pub fn apply_reserved(
+        &mut self,
+        alloc: Global,
+        seat: &mut Seat<L>,
+        event: Event,
+        reservation: Reservation,
+    ) -> Result<Receipt<L>, (Event, AllocError)>
+        requires ready { seat.old.seen ≤ next_of self.old }
+        requires reserved { reservation ≡ event }
+        ensures ok { IfOk result (λ r. Applies self.old seat.old event r self.new seat.new) }
+        ensures err { IfErr result (λ r. (r.0 ≡ event) × (self.new ≡ self.old) × (seat.new ≡ seat.old)) }
+    {
+        let number = self.next();
+        if self.entries.reserve(alloc).is_err() {
+            return Err((event, AllocError));
+        }
+        let (note, copy, place) = reservation.into_parts();
+        let (reply, told) = self.core.step_told(alloc, event);
+        let (answer, session) = reply.into_parts();
+        let kept = KeptEntry::new(seat.number, note, KeptReply::of(told, place));
+        self.entries.push_reserved(kept);
+        self.tickets.add(&mut seat.share, 1);
+        seat.seen = number + 1;
+        let entry = Entry::new(seat.number, copy, answer);
+        Ok(Receipt::new(number, entry, session))
+    }
+
+    // Whether the receipt's entry stands at its number.
+    fn has(&self, receipt: &Receipt<L>) -> bool
+        ensures { IsTrue result ↔ Has self.now receipt.now }
+    {
+        match self.entries.get(receipt.number) {
+            Some(entry) => entry.is(&receipt.entry),
+            None => false,
+        }
+    }
+
+    /// Ends it, where all seats are back. The history then has as many entries as they counted, those of seats that were back before apart.
+    pub fn end(self, seats: Vec<Seat<L>>) -> Result<Book<L>, (Book<L>, Vec<Seat<L>>, SeatsOut)>
+        ensures ok { IfOk result (λ b. b ≡ record self { out = 0; back = next_of self }) }
+        ensures counted { IfOk result (λ _. next_of self ≡ self.back + sum_by (λ s. s.count) seats.items) }
+        ensures err { IfErr result (λ r. (r.0 ≡ self) × (r.1 ≡ seats) × (0 < r.2.0) × (r.2.0 + vec_len seats ≡ self.out)) }
+    {
+        let mut book = self;
+        let back = seats.len() as u64;
+        if back < book.out as u64 {
+            let out = SeatsOut(book.out - back as u32);
+            return Err((book, seats, out));
+        }
+        gather(&mut book.rest, seats);
+        book.tickets.audit(&mut book.rest);
+        book.out = 0;
+        Ok(book)
+    }
+}
+
+// The seats' counts come back into the share.
+fn gather<L: Ledger>(rest: &mut Share<L>, seats: Vec<Seat<L>>)
+    requires { rest.old.parts ≤ L.parts }
+    ensures parts { rest.new.parts ≡ rest.old.parts + vec_len seats }
+    ensures amount { rest.new.amount ≡ rest.old.amount + sum_by (λ s. s.count) seats.items }
+    ensures apart { rest.new.parts ≤ L.parts }
+{
+    for seat in seats {
+        rest.merge(seat.into_share());
+    }
+}
+
+/// Every book's history is legal from what its core held at first, and its core refines it. Nothing is done.
+pub fn book_is_legal<L: Origin>(book: &Book<L>)
+    ensures legal { IsLegalFrom L.base (past book.now.entries) }
+    ensures refines { RefinesHistory book.now.core L.base (past book.now.entries) }
+{
+    let _ = &book.entries;
+}
+
+/// Whether each receipt's entry stands in the book at its number.
+pub fn settle<L: Origin>(book: &Book<L>, receipts: &[Receipt<L>]) -> bool
+    ensures { IsTrue result ↔ All (λ receipt. Has book.now receipt) receipts.now }
+{
+    receipts.iter().all(|receipt| book.has(receipt))
+}

@@ -1,0 +1,95 @@
+//! Entries of a history.
+ghost use Rattle.std.specs.Prelude.{◌≡◌, ◌↔◌, IsTrue};
+ghost use Rattle.std.specs.Arc.{arc_value};
+ghost use Rattle.tab_book.specs.KeptReplies.{reply_in};
+
+use crate::kept_reply::KeptReply;
+use crate::note::Note;
+use std::marker::Model;
+use std::mem::size_of;
+use std::sync::Arc;
+use tab_history::Reply;
+
+/// Who asked what, and what he was told.
+#[derive(Drop)]
+pub struct Entry {
+    pub(crate) seat: u32,
+    pub(crate) event: Arc<Note>,
+    pub(crate) reply: Reply,
+}
+
+impl Model for Entry {
+    ghost use Rattle.std.specs.Arc.{arc_value};
+    ghost use Rattle.tab_book.specs.Entries.{Posted};
+
+    ghost Value = { Posted };
+
+    ghost view = { λ e. record { seat = e.seat; event = arc_value e.event; reply = e.reply } };
+}
+
+impl Entry {
+    // What the seat asked and was told.
+    pub(crate) fn new(seat: u32, event: Arc<Note>, reply: Reply) -> Entry
+        ensures { result ≡ record { seat = seat; event = arc_value event; reply = reply } }
+    {
+        Entry { seat, event, reply }
+    }
+
+    /// The number of the seat that asked.
+    pub fn seat(&self) -> u32
+        ensures { result ≡ self.now.seat }
+    {
+        self.seat
+    }
+
+    /// What was asked. The book has the same copy of it.
+    pub fn event(&self) -> &Note
+        ensures { result.now ≡ self.now.event }
+    {
+        &*self.event
+    }
+
+    /// What was told.
+    pub fn reply(&self) -> &Reply
+        ensures { result.now ≡ self.now.reply }
+    {
+        &self.reply
+    }
+}
+
+// An entry at rest takes at most 160 bytes: its place in the book, the event, and the count of those who share it.
+const _: () = prove!(size_of::<KeptEntry>() + size_of::<Note>() + size_of::<usize>() <= 160);
+
+/// An entry at rest: 32 bytes in the book, and 128 for the event. The event is shared with the entry's receipt.
+#[derive(Drop)]
+pub(crate) struct KeptEntry {
+    pub seat: u32,
+    pub event: Arc<Note>,
+    pub reply: KeptReply,
+}
+
+impl Model for KeptEntry {
+    ghost use Rattle.std.specs.Arc.{arc_value};
+    ghost use Rattle.tab_book.specs.Entries.{Posted};
+    ghost use Rattle.tab_book.specs.KeptReplies.{reply_in};
+
+    ghost Value = { Posted };
+
+    ghost view = { λ e. record { seat = e.seat; event = arc_value e.event; reply = reply_in e.reply } };
+}
+
+impl KeptEntry {
+    // What the seat asked and was told.
+    pub fn new(seat: u32, event: Arc<Note>, reply: KeptReply) -> KeptEntry
+        ensures { result ≡ record { seat = seat; event = arc_value event; reply = reply_in reply } }
+    {
+        KeptEntry { seat, event, reply }
+    }
+
+    // Whether it is this entry.
+    pub fn is(&self, entry: &Entry) -> bool
+        ensures { IsTrue result ↔ (self.now ≡ entry.now) }
+    {
+        entry.seat == self.seat && self.event.same(&entry.event) && self.reply.is(&entry.reply)
+    }
+}

@@ -1,0 +1,48 @@
+//! The book: a core and the history of all that was asked of it, by the seats that use it.
+//!
+//! A thread that uses a book has a seat. Each event is one call of [`Book::apply`], which does it, writes an entry behind the others, and
+//! gives a receipt with the entry's number, the entry, and the session that was handed out. The type of a book keeps that its history is
+//! legal from what its core held at first, and that its core refines it ([`book_is_legal`]). Once all seats are back, [`Book::end`] gives
+//! the book, which has just as many entries as they counted; and [`settle`] says of receipts whether their entries stand at their numbers.
+//!
+//! A history grows with every event, and no call takes an entry away: it is held in memory as long as the book is. An entry takes 160 bytes
+//! beside the bytes of its names, its rows and its mutation; a scan's columns and authorizations, and a reply other than done and opened,
+//! come to that. The event is there once, for the book and for the receipt.
+//!
+//! | File | What |
+//! |---|---|
+//! | `book` | books: seats that join, events, the end, and whether receipts settle |
+//! | `seat` | seats |
+//! | `receipt` | receipts |
+//! | `entry` | entries, as a receipt has them and at rest |
+//! | `blocks` | the entries of a book, in blocks: none moves once its block is full |
+//! | `reservation` | the memory of an entry, which can be found before the book is locked |
+//! | `note`, `act` | events and acts at rest: each name in as many bytes as it has |
+//! | `kept_reply` | replies at rest |
+//! | `equal`, `refusals` | whether parts of events and of replies are equal |
+//! | `text` | bytes in memory of their own |
+//!
+//! Of the definitions in `specs`, `Entries` says what a book is and what each keeps, `Receipts` what a receipt is and what an event does to
+//! a book, and `Examples` computes them for a small history; `Acts`, `Notes` and `KeptReplies` say which events and replies are kept, and
+//! `Blocks` how entries lie.
+#![tactic(auto)]
+
+mod act;
+mod blocks;
+mod book;
+mod entry;
+mod equal;
+mod kept_reply;
+mod note;
+mod receipt;
+mod refusals;
+mod reservation;
+mod seat;
+mod text;
+
+pub use book::{Book, Origin, SeatsOut, book_is_legal, settle};
+pub use entry::Entry;
+pub use note::Note;
+pub use receipt::Receipt;
+pub use reservation::Reservation;
+pub use seat::Seat;

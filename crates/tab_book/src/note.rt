@@ -1,0 +1,59 @@
+//! Events as a history keeps them.
+ghost use Rattle.std.specs.Prelude.{◌≡◌, ◌↔◌, IsTrue, IfOk};
+
+use crate::act::KeptAct;
+use crate::text::Text;
+use std::alloc::{AllocError, Global};
+use std::marker::Model;
+use tab_history::Event;
+
+/// An event as a history keeps it: 120 bytes, beside those of its names, rows and mutation. A contract sees the event.
+#[derive(Drop)]
+pub struct Note {
+    user: Text,
+    moment: i64,
+    act: KeptAct,
+}
+
+impl Model for Note {
+    ghost use Rattle.tab_history.specs.declared.event.Event.{Event};
+    ghost use Rattle.tab_book.specs.Notes.{note_in};
+
+    ghost Value = { Event };
+
+    ghost view = { note_in };
+}
+
+impl Note {
+    /// The event, kept. An error leaves nothing behind.
+    pub fn of(alloc: Global, event: &Event) -> Result<Note, AllocError>
+        ensures { IfOk result (λ note. note ≡ event.now) }
+    {
+        Ok(Note {
+            user: Text::of(alloc, event.user.as_bytes())?,
+            moment: event.moment,
+            act: KeptAct::of(alloc, &event.act)?,
+        })
+    }
+
+    /// The caller.
+    pub fn user(&self) -> &[u8]
+        ensures { result.now ≡ self.now.user }
+    {
+        self.user.as_bytes()
+    }
+
+    /// The moment that the caller handed in.
+    pub fn moment(&self) -> i64
+        ensures { result ≡ self.now.moment }
+    {
+        self.moment
+    }
+
+    /// Whether the two are one event.
+    pub fn same(&self, other: &Note) -> bool
+        ensures { IsTrue result ↔ (self.now ≡ other.now) }
+    {
+        self.user == other.user && self.moment == other.moment && self.act.same(&other.act)
+    }
+}
