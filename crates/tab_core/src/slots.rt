@@ -1,5 +1,6 @@
 //! The sessions of one user in a run or a script, each in the slot that is its number.
-ghost use Rattle.std.specs.Prelude.{◌≡◌, ◌⊎◌, ◌<◌, [], length, count_by, is_some, option_copied, vec_len, vec_capacity};
+ghost use Rattle.std.specs.Prelude.{◌≡◌, ◌⊎◌, ◌<◌, List, [], ◌∷◌, ◌++◌, Option, None, OnOk, OnErr, length, count_by, is_some, option_copied, vec_len, vec_capacity};
+ghost use Rattle.tab_cells.specs.SessionState.{SessionState};
 ghost use Rattle.tab_key.specs.declared.part.TheConstants.{MAX_SESSIONS};
 ghost use Rattle.tab_history.specs.Answers.{ranges_told};
 ghost use Rattle.tab_core.specs.Slots.{slot_at, are_full, NextFrom, ManyFrom, CloseFrom};
@@ -82,6 +83,26 @@ impl Slots {
         let (reply, session) = core.step(alloc, event).into_parts();
         keep(&mut self.slots, &mut self.open, session);
         reply
+    }
+
+    /// A new slot that holds no session, for one that is opened elsewhere.
+    pub fn prepare(&mut self) -> Result<(), AllocError>
+        ensures ok { OnOk result (self.new ≡ self.old ++ None ∷ []) }
+        ensures err { OnErr result (self.new ≡ self.old) }
+    {
+        self.slots.reserve(1)?;
+        self.slots.push_reserved(None);
+        Ok(())
+    }
+
+    /// Keeps the session in the last slot, which holds none; without a session that slot is taken away. It takes no memory.
+    pub fn keep(&mut self, session: Option<Session>)
+        requires few { count_by is_some self.old < MAX_SESSIONS }
+        requires prepared { (slots : List (Option SessionState)) × (self.old ≡ slots ++ None ∷ []) }
+        ensures { (slots : List (Option SessionState)) → self.old ≡ slots ++ None ∷ [] → self.new ≡ kept_with slots session }
+    {
+        let _ = self.slots.pop();
+        keep(&mut self.slots, &mut self.open, session);
     }
 
     /// The next cells of the session in the slot.
