@@ -139,7 +139,7 @@ forgotten old new now user a reply long acts = go acts.exact.answers
         let c : Caller = standing (base_of old) [] user in
         let there : Bool = exists_in (base_of old) [] (user_named a) in
         let f : Forgets old now user a (event_answer (base_of old) [] now user a) (told_of reply) =
-            forgets old now user a c (are_used_up (base_of old) [] a) (told_of reply) (refusal_of c there now user a) (refusal_takes c there now user a) is long in
+        forgets old now user a c (are_used_up (base_of old) [] a) (told_of reply) (refusal_of c there now user a) (refusal_takes c there now user a) is long in
         record {
           exact = record { answers = inr (f.takes, refl); tablets = λ q. acts.exact.tablets q ∙ f.laid q; names = acts.exact.names };
           becomes = subst (λ j. Becomes (base_of old) j (base_of new)) f.still acts.becomes;

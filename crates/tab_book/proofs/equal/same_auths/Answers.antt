@@ -10,5 +10,5 @@ use Rattle.tab_book.proofs.equal.same_auths.Goals as goal
 pub returns : goal.returns
 returns c =
     let lists : Decides c.eq.result (byte_lists c.terms.result.now ≡ byte_lists c.terms-2.result.now) =
-        slice_eq-Decides bytes_eq-Decides (byte_lists c.terms.result.now) (byte_lists c.terms-2.result.now) c.eq.result (c.eq.ensures ∙ sym (pointwise-map (λ (v : Vec ℕ Global). v.items) (pointwise nat_eq) c.terms.result.now c.terms-2.result.now)) in
+    slice_eq-Decides bytes_eq-Decides (byte_lists c.terms.result.now) (byte_lists c.terms-2.result.now) c.eq.result (c.eq.ensures ∙ sym (pointwise-map (λ (v : Vec ℕ Global). v.items) (pointwise nat_eq) c.terms.result.now c.terms-2.result.now)) in
     subst (λ (ys : List (List ℕ)). Decides c.eq.result (c.args.a.now ≡ ys)) c.terms-2.ensures.all (subst (λ (xs : List (List ℕ)). Decides c.eq.result (xs ≡ byte_lists c.terms-2.result.now)) c.terms.ensures.all lists)
