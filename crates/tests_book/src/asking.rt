@@ -1,0 +1,70 @@
+//! Events of root in short, over one table `t`, done by a seat.
+ghost use Rattle.std.specs.Prelude.{◌≤◌};
+ghost use Rattle.tab_book.specs.Entries.{next_of};
+
+use std::alloc::Global;
+use std::process::Abort;
+use tab_book::{Book, Origin, Receipt, Seat};
+use tab_history::{Act, Event, Scan, TimeMode, Versions};
+use tab_key::{Bound, Bounds, Items, Name};
+use tab_label::AuthSet;
+use tab_mutation::Mutation;
+
+/// The name that these bytes are.
+pub fn named(rt: &impl Abort, bytes: &[u8]) -> Name {
+    Name::new(bytes).expect(rt, "a name")
+}
+
+// Root asks this.
+pub fn asks(rt: &impl Abort, moment: i64, act: Act) -> Event {
+    let user = named(rt, b"root");
+    Event { user, moment, act }
+}
+
+/// The table is made.
+pub fn makes_table(rt: &impl Abort) -> Event {
+    let versions = Versions::new(1).expect(rt, "1 to 1,000");
+    asks(
+        rt,
+        0,
+        Act::CreateTable(named(rt, b"t"), TimeMode::Any, versions),
+    )
+}
+
+/// The value is put to the one column of the table, at the moment.
+pub fn puts(rt: &impl Abort, alloc: Global, moment: i64, value: u8) -> Event {
+    let mut mutation = Mutation::new(alloc, b"r").expect(rt, "memory");
+    mutation
+        .put(b"f", b"q", b"", None, &[value])
+        .expect(rt, "memory");
+    asks(rt, moment, Act::Write(named(rt, b"t"), mutation))
+}
+
+/// A scan of the whole table.
+pub fn scans(rt: &impl Abort, alloc: Global, moment: i64) -> Event {
+    let scan = Scan {
+        table: named(rt, b"t"),
+        bounds: Bounds {
+            low: Bound::Unbounded,
+            high: Bound::Unbounded,
+        },
+        columns: Items::new(alloc),
+        authorizations: AuthSet::empty(alloc),
+    };
+    asks(rt, moment, Act::Open(scan))
+}
+
+/// The event is done by the seat.
+pub fn done<L: Origin, R: Abort>(
+    rt: &R,
+    alloc: Global,
+    book: &mut Book<L>,
+    seat: &mut Seat<L>,
+    event: Event,
+) -> Receipt<L> {
+    assert!(rt; book.ready(seat));
+    match book.apply(alloc, seat, event) {
+        Ok(receipt) => receipt,
+        Err(_) => panic!(rt; "memory"),
+    }
+}

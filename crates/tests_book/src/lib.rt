@@ -1,0 +1,20 @@
+//! Tests of the book by its public calls.
+//!
+//! | File | What is tested |
+//! |---|---|
+//! | `settling` | receipts that settle, seats that are out, and a history past its blocks |
+//! | `receipts` | what a receipt says, its session, and that an own write is read |
+//! | `memory` | events for which memory may lack (`rt try --test --fail-alloc N` lets it) |
+//! | `asking` | helpers: events in short, done by a seat |
+//!
+//! That `settle` is no where a receipt was changed is tested inside `tab_book`: outside no one can change one.
+#![tactic(auto)]
+
+#[cfg(test)]
+mod asking;
+#[cfg(test)]
+mod memory;
+#[cfg(test)]
+mod receipts;
+#[cfg(test)]
+mod settling;

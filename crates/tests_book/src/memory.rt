@@ -1,0 +1,63 @@
+//! Events for which memory may lack: one that is handed back left no trace, and can be done again.
+ghost use Rattle.std.specs.Prelude.{◌≡◌, ◌^◌, ◌≤◌};
+ghost use Rattle.tab_core.specs.Stores.{base_of};
+
+use crate::asking::{makes_table, puts};
+use std::alloc::Global;
+use std::marker::Brand;
+use std::process::Abort;
+use std::sync::ledger::Blank;
+use tab_book::{Book, Origin, Receipt, Seat, settle};
+use tab_core::Core;
+use tab_history::Event;
+
+// Six events are done, each as often as it is handed back. Their receipts settle, and there is no entry beside.
+#[test]
+fn an_event_that_is_handed_back_left_no_trace(rt: HostRuntime) {
+    if let Ok(core) = Core::new(rt.alloc()) {
+        does_six::<Brand, _>(&rt, rt.alloc(), core, Blank::new(1 << 32))
+    }
+}
+
+fn does_six<L: Origin, R: Abort>(rt: &R, alloc: Global, core: Core, blank: Blank)
+    requires base { base_of core ≡ L.base }
+    requires name { blank.name ≡ L.name }
+    requires parts { blank.parts ≡ L.parts }
+    requires enough { 2 ^ 32 ≤ blank.parts }
+{
+    let mut receipts = Vec::new(alloc);
+    if receipts.reserve(6).is_err() {
+        return;
+    }
+    let mut book = Book::<L>::new(alloc, core, blank);
+    let mut seat = book.join().expect(rt, "a seat");
+    for number in 0..6u8 {
+        let event = if number == 0 {
+            makes_table(rt)
+        } else {
+            puts(rt, alloc, 0, number)
+        };
+        let receipt = done_at_last(rt, alloc, &mut book, &mut seat, event);
+        assert_eq!(rt; receipt.number(), u64::from(number));
+        receipts.push(receipt).expect(rt, "reserved");
+    }
+    assert!(rt; settle(&book, &receipts));
+}
+
+// The event is done; where memory lacks once, it is done by the second attempt.
+fn done_at_last<L: Origin, R: Abort>(
+    rt: &R,
+    alloc: Global,
+    book: &mut Book<L>,
+    seat: &mut Seat<L>,
+    event: Event,
+) -> Receipt<L> {
+    assert!(rt; book.ready(seat));
+    match book.apply(alloc, seat, event) {
+        Ok(receipt) => receipt,
+        Err((event, _)) => match book.apply(alloc, seat, event) {
+            Ok(receipt) => receipt,
+            Err(_) => panic!(rt; "memory lacks once"),
+        },
+    }
+}
