@@ -1,3 +1,4 @@
 pub mod Keeping
 pub mod InBlocks
+pub mod Whole
 pub mod Growing

@@ -4,4 +4,5 @@ pub mod Notes
 pub mod Entries
 pub mod Blocks
 pub mod Receipts
+pub mod Wholeness
 pub mod Examples

@@ -1,9 +1,10 @@
 //! Books.
-ghost use Rattle.std.specs.Prelude.{◌≡◌, ◌+◌, ◌^◌, ◌<◌, ◌≤◌, [], IfOk, IfErr, IfSome, IfNone, IsTrue, ◌↔◌, All, nat_le, sum_by, vec_len};
+ghost use Rattle.std.specs.Prelude.{◌≡◌, ◌+◌, ◌^◌, ◌<◌, ◌≤◌, [], IfOk, IfErr, IfSome, IfNone, IsTrue, ◌↔◌, All, length, nat_le, sum_by, vec_len};
 ghost use Rattle.tab_core.specs.Stores.{base_of};
 ghost use Rattle.tab_core.specs.Recording.{RefinesHistory, IsLegalFrom};
 ghost use Rattle.tab_book.specs.Entries.{place, next_of, past};
 ghost use Rattle.tab_book.specs.Receipts.{Applies, Has};
+ghost use Rattle.tab_book.specs.Wholeness.{AreApart, IsWhole};
 
 use crate::blocks::Blocks;
 use crate::entry::{Entry, KeptEntry};
@@ -219,3 +220,13 @@ pub fn settle<L: Origin>(book: &Book<L>, receipts: &[Receipt<L>]) -> bool
 {
     receipts.iter().all(|receipt| book.has(receipt))
 }
+
+/// Where receipts stand in a book, no two with one number, and they are as many as its entries, each entry has one receipt among them.
+/// Nothing is done.
+#[tactic(auto, using(crate::proofs::Whole::whole))]
+pub fn receipts_are_whole<L: Origin>(_book: &Book<L>, _receipts: &[Receipt<L>])
+    requires stand { All (λ receipt. Has _book.now receipt) _receipts.now }
+    requires apart { AreApart _receipts.now }
+    requires many { length _receipts.now ≡ length _book.now.entries }
+    ensures { IsWhole _book.now _receipts.now }
+{}

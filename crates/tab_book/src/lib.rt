@@ -4,6 +4,7 @@
 //! gives a receipt with the entry's number, the entry, and the session that was handed out. The type of a book keeps that its history is
 //! legal from what its core held at first, and that its core refines it ([`book_is_legal`]). Once all seats are back, [`Book::end`] gives
 //! the book, which has just as many entries as they counted; and [`settle`] says of receipts whether their entries stand at their numbers.
+//! Where they do, no two have one number and they are as many as the entries, no entry is without its receipt ([`receipts_are_whole`]).
 //!
 //! A history grows with every event, and no call takes an entry away: it is held in memory as long as the book is. An entry takes 160 bytes
 //! beside the bytes of its names, its rows and its mutation; a scan's columns and authorizations, and a reply other than done and opened,
@@ -40,9 +41,12 @@ mod reservation;
 mod seat;
 mod text;
 
-pub use book::{Book, Origin, SeatsOut, book_is_legal, settle};
+pub use book::{Book, Origin, SeatsOut, book_is_legal, receipts_are_whole, settle};
 pub use entry::Entry;
 pub use note::Note;
 pub use receipt::Receipt;
 pub use reservation::Reservation;
 pub use seat::Seat;
+
+#[cfg(test)]
+mod tests;

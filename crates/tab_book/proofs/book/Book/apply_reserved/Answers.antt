@@ -11,4 +11,4 @@ invariant_of-self-2 g c =
     let p : Posted = record { seat = c.seat.inside.number; event = c.args.event; reply = told_in c.step_told-reply.result.1 } in
     let steps : StepsOn c.self.inside.core c.args.event c.step_told-reply.result.0 c.step_told-reply.new.self = c.step_told-reply.ensures.steps in
     let grown : c.push_reserved.new.self.entries ≡ c.self.inside.entries.entries ++ p ∷ [] = search rules in
-    kept_more g.L.Origin.base c.self.inside.entries.entries c.push_reserved.new.self.entries p c.self.inside.core c.step_told-reply.new.self _ _ _ _ _ _ c.args.event c.step_told-reply.result.0 c.self.invariant steps grown (search rules) (c.step_told-reply.ensures.told) c.add.ensures.total
+    kept_more g.L.Origin.base c.self.inside.entries.entries c.push_reserved.new.self.entries p c.self.inside.core c.step_told-reply.new.self _ _ _ _ _ _ c.args.event c.step_told-reply.result.0 c.self.invariant steps grown (search rules) c.step_told-reply.ensures.told (search rules)
