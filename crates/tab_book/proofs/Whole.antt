@@ -32,9 +32,9 @@ every_number ns n apart below many k inside = go (list_any (eqb k) ns) refl wher
       let bound : length (k ∷ ns) ≤ n = length-le_from_distinct_below (k ∷ ns) n (none_equal k ns e, apart) (λ q is. within q (eqb q k) refl is) in
       absurd (omega (arith, bound, many))
     where
-    within : (q : ℕ) (b : Bool) → eqb q k ≡ b → (b || list_any (eqb q) ns) ≡ true → q < n
-    within q true same is = subst (λ m. m < n) (sym (eqb-true q k same)) inside
-    within q false same is = below q is
+      within : (q : ℕ) (b : Bool) → eqb q k ≡ b → (b || list_any (eqb q) ns) ≡ true → q < n
+      within q true same is = subst (λ m. m < n) (sym (eqb-true q k same)) inside
+      within q false same is = below q is
 
 abbrev numbers : List Slip → List ℕ
 numbers slips = map (λ (s : Slip). s.number) slips
