@@ -2,7 +2,7 @@
 ghost use Rattle.std.specs.Prelude.{◌≤◌};
 ghost use Rattle.tab_book.specs.Entries.{next_of};
 
-use std::alloc::Global;
+use std::alloc::{AllocError, Global};
 use std::process::Abort;
 use tab_book::{Book, Origin, Receipt, Seat};
 use tab_history::{Act, Event, Scan, TimeMode, Versions};
@@ -33,11 +33,19 @@ pub fn makes_table(rt: &impl Abort) -> Event {
 
 /// The value is put to the one column of the table, at the moment.
 pub fn puts(rt: &impl Abort, alloc: Global, moment: i64, value: u8) -> Event {
-    let mut mutation = Mutation::new(alloc, b"r").expect(rt, "memory");
-    mutation
-        .put(b"f", b"q", b"", None, &[value])
-        .expect(rt, "memory");
-    asks(rt, moment, Act::Write(named(rt, b"t"), mutation))
+    may_put(rt, alloc, moment, value).expect(rt, "memory")
+}
+
+/// The same, where memory may lack for the event itself.
+pub fn may_put(
+    rt: &impl Abort,
+    alloc: Global,
+    moment: i64,
+    value: u8,
+) -> Result<Event, AllocError> {
+    let mut mutation = Mutation::new(alloc, b"r")?;
+    mutation.put(b"f", b"q", b"", None, &[value])?;
+    Ok(asks(rt, moment, Act::Write(named(rt, b"t"), mutation)))
 }
 
 /// A scan of the whole table.

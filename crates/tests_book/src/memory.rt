@@ -2,8 +2,8 @@
 ghost use Rattle.std.specs.Prelude.{◌≡◌, ◌^◌, ◌≤◌};
 ghost use Rattle.tab_core.specs.Stores.{base_of};
 
-use crate::asking::{makes_table, puts};
-use std::alloc::Global;
+use crate::asking::{makes_table, may_put};
+use std::alloc::{AllocError, Global};
 use std::marker::Brand;
 use std::process::Abort;
 use std::sync::ledger::Blank;
@@ -25,23 +25,31 @@ fn does_six<L: Origin, R: Abort>(rt: &R, alloc: Global, core: Core, blank: Blank
     requires parts { blank.parts ≡ L.parts }
     requires enough { 2 ^ 32 ≤ blank.parts }
 {
+    let Ok(events) = six(rt, alloc) else {
+        return;
+    };
     let mut receipts = Vec::new(alloc);
     if receipts.reserve(6).is_err() {
         return;
     }
     let mut book = Book::<L>::new(alloc, core, blank);
     let mut seat = book.join().expect(rt, "a seat");
-    for number in 0..6u8 {
-        let event = if number == 0 {
-            makes_table(rt)
-        } else {
-            puts(rt, alloc, 0, number)
-        };
+    for event in events {
         let receipt = done_at_last(rt, alloc, &mut book, &mut seat, event);
-        assert_eq!(rt; receipt.number(), u64::from(number));
+        assert_eq!(rt; receipt.number(), receipts.len() as u64);
         receipts.push(receipt).expect(rt, "reserved");
     }
     assert!(rt; settle(&book, &receipts));
+}
+
+// A table is made, and five values are put to it.
+fn six(rt: &impl Abort, alloc: Global) -> Result<Vec<Event>, AllocError> {
+    let mut events = Vec::new(alloc);
+    events.push(makes_table(rt))?;
+    for value in 0..5 {
+        events.push(may_put(rt, alloc, 0, value)?)?;
+    }
+    Ok(events)
 }
 
 // The event is done; where memory lacks once, it is done by the second attempt.
