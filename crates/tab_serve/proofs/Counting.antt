@@ -25,12 +25,12 @@ use Rattle.tab_serve.specs.Serves.{Served, asked_at, IsTooMany, OpensNext, Appli
 use Rattle.tab_serve.proofs.Shut.{event_shut}
 
 -- where a session is opened there was room, and it is counted
-record Counts (old : List (Option SessionState)) (reply : Told) (new : List (Option SessionState)) : Type 0 where
-  room : opens reply ≡ true → length old < 4294967295
-  opened : length new ≡ opened_by (length old) reply
+pub record Counts (old : List (Option SessionState)) (reply : Told) (new : List (Option SessionState)) : Type 0 where
+  pub room : opens reply ≡ true → length old < 4294967295
+  pub opened : length new ≡ opened_by (length old) reply
 
 -- nothing is opened
-none_counted : (old new : List (Option SessionState)) (reply : Told) → opens reply ≡ false → length new ≡ length old → Counts old reply new
+pub none_counted : (old new : List (Option SessionState)) (reply : Told) → opens reply ≡ false → length new ≡ length old → Counts old reply new
 none_counted old new (Opened s) shut same = absurd cc
 none_counted old new Done shut same = record { room = λ opening. absurd cc; opened = same }
 none_counted old new (Refused r) shut same = record { room = λ opening. absurd cc; opened = same }
@@ -100,7 +100,7 @@ few_opened ss room = go (nat_le 65536 (count_by is_some ss)) room
     go true room = absurd (true≢false room)
     go false room = grind (arith, nat_tests)
 
-kept_counted : (ss : List (Option SessionState)) (r : Reply SessionState) → are_full ss ≡ false → Counts ss (told_of r) (kept_with ss (session_of r))
+pub kept_counted : (ss : List (Option SessionState)) (r : Reply SessionState) → are_full ss ≡ false → Counts ss (told_of r) (kept_with ss (session_of r))
 kept_counted ss (Opened s) room = record { room = λ opening. few_opened ss room; opened = length-append ss (Some s ∷ []) }
 kept_counted ss Done room = none_counted ss ss Done refl refl
 kept_counted ss (Refused r) room = none_counted ss ss (Refused r) refl refl
@@ -128,7 +128,7 @@ module _ {M : Type 0} (gives : M → ℤ → M → Type 0) (old : Served M) (use
       let shut : opens (told_of other.answer) ≡ false = event_shut (world_of (base_of old.core)) [] [] (asked_at user other.moment act) (told_of other.answer) other.shut other.steps.right.legal.1 in
       none_counted old.slots new.slots reply (ap opens other.told ∙ shut) (ap (λ (ss : List (Option SessionState)). length ss) other.slots)
 
-  counted : (request : Request) → Serves gives old user request reply new → Counts old.slots reply new.slots
+  pub counted : (request : Request) → Serves gives old user request reply new → Counts old.slots reply new.slots
   counted (asks.Hello name) says = none_counted old.slots new.slots reply (ap opens says.0) (ap (λ (s : Served M). length s.slots) says.1)
   counted (asks.Act act) says = act_counted act says
   counted (asks.Next slot n) says = next_counted old.slots new.slots slot n reply says.0

@@ -6,18 +6,21 @@ ghost use Rattle.tab_serve.specs.CoreAnswers.{CoreAnswers};
 
 use crate::{Moments, Service};
 use std::alloc::Global;
+use std::mem;
 use tab_core::{Core, Slots, told};
 use tab_history::{Act, Event, Refusal, Reply};
 use tab_key::{Bounds, Items, Name, Part};
 use tab_wire::Request;
 
-// A core, the sessions that it opened for the connection, and where its moments come from.
+// A core, the sessions that it opened for the connection, and where its moments come from. All of it is lent.
 #[derive(Drop)]
 pub(crate) struct CoreService<'a, M> {
     pub(crate) alloc: Global,
     pub(crate) core: &'a mut Core,
     pub(crate) moments: &'a mut M,
     pub(crate) slots: &'a mut Slots,
+    // what was told last
+    pub(crate) reply: &'a mut Reply,
 }
 
 #[tactic(auto, using(crate::proofs::Counting::serves_room, crate::proofs::Counting::serves_opened))]
@@ -27,10 +30,17 @@ impl<'a, M: Moments> Service for CoreService<'a, M> {
 
     ghost opened = { λ s. length s.slots.now };
 
+    ghost told = { λ s. s.reply.now };
+
     ghost answers = { λ old user request reply new. CoreAnswers M.gives old user request reply new };
 
-    fn answer(&mut self, user: Name, request: Request) -> Reply {
-        self.does(user, request)
+    fn answer(&mut self, user: Name, request: Request) {
+        let reply = self.does(user, request);
+        put(self.reply, reply);
+    }
+
+    fn reply(&self) -> &Reply {
+        &*self.reply
     }
 }
 
@@ -105,6 +115,13 @@ fn too_many(_act: Act) -> Reply
     ensures { result ≡ Reply.Refused (Refusal.TooLarge Part.Sessions) }
 {
     Reply::Refused(Refusal::TooLarge(Part::Sessions))
+}
+
+// Puts the reply in the place of the one before.
+fn put(place: &mut Reply, reply: Reply)
+    ensures { place.new ≡ reply }
+{
+    let _ = mem::replace(place, reply);
 }
 
 // What the session in the slot shows in these ranges of rows.

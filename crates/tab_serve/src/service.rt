@@ -8,17 +8,24 @@ use tab_history::Reply;
 use tab_key::Name;
 use tab_wire::Request;
 
-/// What answers the requests of one connection, and keeps the sessions that it opens for it.
+/// What answers the requests of one connection, and keeps the sessions that it opens for it. It lends its replies from where they lie.
 pub trait Service {
     // How many sessions it opened.
     ghost opened: { Self → ℕ };
+
+    // What it told last.
+    ghost told: { Self → Told };
 
     // What it may tell the user of this request, and the service after it.
     ghost answers: { Self → List ℕ → Asks → Told → Self → Type 0 };
 
     /// Answers the request of this user. Hello is a request too.
-    fn answer(&mut self, user: Name, request: Request) -> Reply
-        ensures answers { answers self.old user request result self.new }
-        ensures room { opens result ≡ true → opened self.old < u32.MAX }
-        ensures opened { opened self.new ≡ opened_by (opened self.old) result };
+    fn answer(&mut self, user: Name, request: Request)
+        ensures answers { answers self.old user request (told self.new) self.new }
+        ensures room { opens (told self.new) ≡ true → opened self.old < u32.MAX }
+        ensures opened { opened self.new ≡ opened_by (opened self.old) (told self.new) };
+
+    /// What it told last.
+    fn reply(&self) -> &Reply
+        ensures { result.now ≡ told self.now };
 }

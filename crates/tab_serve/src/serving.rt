@@ -6,6 +6,7 @@ use crate::core_service::CoreService;
 use crate::{Moments, ServeFault, converse};
 use std::alloc::Global;
 use tab_core::{Core, Slots};
+use tab_history::Reply;
 use tab_io::{Input, Output};
 
 /// Answers each frame that is read, until the input ends between two frames, or in what is no frame: one that is empty, too long or cut.
@@ -28,11 +29,13 @@ pub fn serve<R: Input, W: Output, M: Moments>(
     ensures faults { Faults R.Input W.Output result input.old input.new output.old output.new }
 {
     let mut slots = Slots::new(alloc);
+    let mut reply = Reply::Done;
     let mut service = CoreService {
         alloc,
         core,
         moments,
         slots: &mut slots,
+        reply: &mut reply,
     };
     converse(alloc, input, output, &mut service)
 }

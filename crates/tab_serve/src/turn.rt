@@ -36,8 +36,8 @@ fn answer<W: Output, S: Service>(
     ensures opened { conn.new.opened ≡ S.opened service.new }
 {
     let count = cells_asked(&request);
-    let reply = service.answer(user, request);
-    conn.answer(count, &reply, output)
+    service.answer(user, request);
+    conn.answer(count, service.reply(), output)
 }
 
 // Tells what comes of what is asked.

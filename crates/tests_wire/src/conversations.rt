@@ -4,6 +4,7 @@ ghost use Rattle.tab_wire.specs.Asking.{opens, opened_by};
 
 use std::alloc::Global;
 use std::io::ErrorKind;
+use std::mem;
 use std::process::Abort;
 use tab_history::{Act, Refusal, Reply};
 use tab_io::memory::{Fault, PieceReader, PieceWriter};
@@ -17,6 +18,7 @@ use tab_wire::Request;
 struct Counting {
     alloc: Global,
     opened: u32,
+    reply: Reply,
 }
 
 impl Service for Counting {
@@ -24,14 +26,17 @@ impl Service for Counting {
 
     ghost opened = { λ s. s.opened };
 
+    ghost told = { λ s. s.reply };
+
     ghost answers = { λ old user request told new. Unit {0} };
 
-    fn answer(&mut self, _user: Name, request: Request) -> Reply {
-        match request {
-            Request::Act(Act::Open(_)) => self.open(),
-            Request::Next { .. } => Reply::Batch(Cells::new(self.alloc)),
-            _ => Reply::Done,
-        }
+    fn answer(&mut self, _user: Name, request: Request) {
+        let reply = self.does(request);
+        self.tell(reply);
+    }
+
+    fn reply(&self) -> &Reply {
+        &self.reply
     }
 }
 
@@ -39,7 +44,30 @@ impl Counting {
     fn new(alloc: Global) -> Counting
         ensures { result.opened ≡ 0 }
     {
-        Counting { alloc, opened: 0 }
+        Counting {
+            alloc,
+            opened: 0,
+            reply: Reply::Done,
+        }
+    }
+
+    // What is told of the request.
+    fn does(&mut self, request: Request) -> Reply
+        ensures room { opens result ≡ true → self.old.opened < u32.MAX }
+        ensures opened { self.new.opened ≡ opened_by self.old.opened result }
+    {
+        match request {
+            Request::Act(Act::Open(_)) => self.open(),
+            Request::Next { .. } => Reply::Batch(Cells::new(self.alloc)),
+            _ => Reply::Done,
+        }
+    }
+
+    fn tell(&mut self, reply: Reply)
+        ensures reply { self.new.reply ≡ reply }
+        ensures opened { self.new.opened ≡ self.old.opened }
+    {
+        let _ = mem::replace(&mut self.reply, reply);
     }
 
     fn open(&mut self) -> Reply
