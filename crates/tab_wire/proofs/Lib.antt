@@ -1,4 +1,5 @@
 pub mod FrameLaw
+pub mod Gathered
 pub mod RequestLaw
 pub mod ReasonLaw
 pub mod StreamLaw

@@ -12,3 +12,4 @@ pub mod Taking
 pub mod Asking
 pub mod Talking
 pub mod TalkLaws
+pub mod Sending

@@ -1,8 +1,9 @@
 //! Sets of permissions, a bit for each.
 ghost use Rattle.std.specs.Prelude.{◌≡◌, ◌≤◌, cond};
-ghost use Rattle.tab_parts.specs.Parts.{system_bits, table_bits};
+ghost use Rattle.tab_parts.specs.Parts.{system_bits, table_bits, constraint_bits};
 
 use tab_policy::{SystemPermission, SystemPermissions, TablePermission, TablePermissions};
+use tab_rules::{Constraint, ConstraintSet};
 
 // 1 for a member.
 fn bit(held: bool) -> u8
@@ -35,4 +36,14 @@ pub fn table_bits(set: &TablePermissions) -> u8
             + 2 * (bit(set.contains(TablePermission::AlterTable))
                 + 2 * (bit(set.contains(TablePermission::Grant))
                     + 2 * bit(set.contains(TablePermission::DropTable)))))
+}
+
+/// The set as a byte, whose lowest bit is the first constraint.
+pub fn constraint_bits(set: &ConstraintSet) -> u8
+    ensures { result ≡ constraint_bits set.now }
+{
+    bit(set.contains(Constraint::KeySize))
+        + 2 * (bit(set.contains(Constraint::Alphanumeric))
+            + 2 * (bit(set.contains(Constraint::Numeric))
+                + 2 * bit(set.contains(Constraint::Visibility))))
 }

@@ -49,9 +49,9 @@ pub fn a_number(fields: &mut Fields) -> Result<u32, Unread>
     Ok(u32::from_be_bytes([front[0], front[1], front[2], front[3]]))
 }
 
-// Takes eight bytes as a number without a sign.
+/// Takes eight bytes as a number without a sign.
 #[tactic(auto, unfolding(tab_parts::specs::Reading::u64_at))]
-fn a_long_number(fields: &mut Fields) -> Result<u64, Unread>
+pub fn a_long_number(fields: &mut Fields) -> Result<u64, Unread>
     ensures { Gives (λ x. (x, bytes_left fields.new)) result (u64_at (bytes_left fields.old)) }
 {
     let bytes = fields.rest;

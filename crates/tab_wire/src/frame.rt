@@ -10,7 +10,7 @@ use std::alloc::Global;
 use tab_io::{Input, ReadFault};
 
 /// The most bytes in a frame.
-const MAX_FRAME: u32 = 8_388_608;
+pub const MAX_FRAME: u32 = 8_388_608;
 
 /// What one call takes of a stream.
 #[derive(Clone, Copy)]

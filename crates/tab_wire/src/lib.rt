@@ -46,7 +46,10 @@
 //! | `numbers`, `value`, `bits` | what a frame is put of |
 //! | `refusal`, `reply` | the frames of refusals and replies: `write_reply` |
 //! | `head`, `frame` | one frame after another, taken of a stream into memory that is used again |
-//! | `conn`, `asked` | one side of a connection: what is asked next, and what it is told |
+//! | `conn`, `asked` | the server's side of a connection: what is asked next, and what it is told |
+//! | `asking`, `sending`, `gathering` | the bytes of requests, gathered as a client sends them |
+//! | `told`, `answer` | what one frame of a reply tells, and what all frames of one do |
+//! | `client` | the client's side of a connection: `Client` |
 //! | `laws` | reading is exactly the forms, the first reason is told, a stream is split in one way, a connection makes a legal history |
 //!
 //! In `specs`, `Forms` says what each frame asks, with one form for each opcode, and nothing of how it is read; `Requests` reads it, of
@@ -54,16 +57,20 @@
 //! the bytes of each reply, `Values` what they are put of, `Gives` and `Updating` say what the code's results stand for, and `Examples`
 //! computes examples. `Taking` says what is taken of a stream, `Asking` what a connection knows and what comes next on it, and `Talking`
 //! what a whole connection comes to, frame by frame: the steps that its bytes spell, the moments that its events take, and what is replied;
-//! `TalkLaws` has the law on that. In `proofs`, `FrameLaw` and `RequestLaw` show that reading is exactly the forms, `ReasonLaw` which reason is
+//! `TalkLaws` has the law on that. `Sending` has the bytes of each request, of which a client makes its frames. In `proofs`, `FrameLaw` and `RequestLaw` show that reading is exactly the forms, `ReasonLaw` which reason is
 //! first, `StreamLaw` that a stream is split in one way, `WholeTalks` that a connection makes a legal history; the others have lemmas for the code.
 #![tactic(auto)]
 
+mod answer;
 mod asked;
+mod asking;
 mod bits;
+mod client;
 mod conn;
 mod counted;
 mod fields;
 mod frame;
+mod gathering;
 mod head;
 mod laws;
 mod numbers;
@@ -74,11 +81,15 @@ mod reason;
 mod refusal;
 mod reply;
 mod request;
+mod sending;
+mod told;
 mod unread;
 mod updates;
 mod value;
 
+pub use answer::Answer;
 pub use asked::Asked;
+pub use client::{Client, ReceiveFault, SendFault};
 pub use conn::Conn;
 pub use laws::{
     reasons_are_first, requests_are_forms, requests_in_turn, streams_split_once, talks_stay_legal,

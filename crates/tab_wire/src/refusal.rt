@@ -183,7 +183,8 @@ fn put_table<W: Output>(
     )
 }
 
-fn system_place(permission: SystemPermission) -> u8
+/// The place of the permission among all of its kind, counted from 0.
+pub fn system_place(permission: SystemPermission) -> u8
     ensures { result ≡ system_place permission }
 {
     match permission {
@@ -198,7 +199,8 @@ fn system_place(permission: SystemPermission) -> u8
     }
 }
 
-fn table_place(permission: TablePermission) -> u8
+/// The place of the permission among all of its kind, counted from 0.
+pub fn table_place(permission: TablePermission) -> u8
     ensures { result ≡ table_place permission }
 {
     match permission {

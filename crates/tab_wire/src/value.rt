@@ -108,7 +108,8 @@ fn put_total<W: Output>(output: &mut W, values: &[Value<'_>]) -> Result<(), Writ
     put_number(output, total(values))
 }
 
-fn put_values<W: Output>(output: &mut W, values: &[Value<'_>]) -> Result<(), WriteFault>
+/// Puts these values one after another. It takes no memory.
+pub fn put_values<W: Output>(output: &mut W, values: &[Value<'_>]) -> Result<(), WriteFault>
     ensures { Puts W.Output output.old output.new (joined (map value_bytes values.now)) result }
 {
     put_each(output, values, &InFrame)
@@ -141,7 +142,8 @@ fn put_value<W: Output>(output: &mut W, value: &Value<'_>) -> Result<(), WriteFa
     }
 }
 
-fn put_terms<W: Output>(output: &mut W, terms: &[Vec<u8>]) -> Result<(), WriteFault>
+/// Puts a count of terms, and a field for each.
+pub fn put_terms<W: Output>(output: &mut W, terms: &[Vec<u8>]) -> Result<(), WriteFault>
     ensures { Puts W.Output output.old output.new (list (byte_lists terms.now)) result }
 {
     put_count_of_terms(output, terms)?;

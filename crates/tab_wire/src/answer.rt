@@ -1,0 +1,112 @@
+//! What one request is answered: of one frame, or of a list of them.
+
+use crate::client::ReceiveFault;
+use crate::reason::Reason;
+use crate::told::Told;
+use std::alloc::Global;
+use std::mem;
+use tab_history::Reply;
+use tab_key::{ByteString, Cells, Items, Record};
+
+/// What one request is answered.
+#[derive(Drop)]
+pub enum Answer {
+    /// The reply. A session is told by its number. A list without end rows and ranges is a batch: one of no cells is also the reply of
+    /// no end rows and of no ranges.
+    Reply(Reply<u32>),
+    /// The frame asked nothing, for this reason.
+    BadFrame(Reason),
+}
+
+/// What the frames of one reply told so far.
+#[derive(Drop)]
+pub struct Listed {
+    alloc: Global,
+    cells: Cells,
+    ranges: Vec<Cells>,
+    rows: Vec<ByteString>,
+}
+
+impl Listed {
+    /// Nothing was told yet.
+    pub fn new(alloc: Global) -> Listed {
+        Listed {
+            alloc,
+            cells: Cells::new(alloc),
+            ranges: Vec::new(alloc),
+            rows: Vec::new(alloc),
+        }
+    }
+
+    /// Goes on by the next frame. The answer, where that ends it.
+    pub fn add(&mut self, told: Told) -> Result<Option<Answer>, ReceiveFault> {
+        match told {
+            Told::Cell(record) => self.add_cell(record),
+            Told::RangeEnd => self.end_range(),
+            Told::Row(row) => self.add_row(row),
+            Told::End => self.end(),
+            told if self.is_empty() => alone(told),
+            _ => Err(ReceiveFault::Bad),
+        }
+    }
+
+    fn is_empty(&self) -> bool {
+        self.cells.is_empty() && self.ranges.is_empty() && self.rows.is_empty()
+    }
+
+    fn add_cell(&mut self, record: Record) -> Result<Option<Answer>, ReceiveFault> {
+        if !self.rows.is_empty() {
+            return Err(ReceiveFault::Bad);
+        }
+        self.cells.push(&record.as_ref())?;
+        Ok(None)
+    }
+
+    fn end_range(&mut self) -> Result<Option<Answer>, ReceiveFault> {
+        if !self.rows.is_empty() {
+            return Err(ReceiveFault::Bad);
+        }
+        self.ranges.reserve(1)?;
+        let cells = mem::replace(&mut self.cells, Cells::new(self.alloc));
+        self.ranges.push_reserved(cells);
+        Ok(None)
+    }
+
+    fn add_row(&mut self, row: ByteString) -> Result<Option<Answer>, ReceiveFault> {
+        if !self.cells.is_empty() || !self.ranges.is_empty() {
+            return Err(ReceiveFault::Bad);
+        }
+        self.rows.push(row)?;
+        Ok(None)
+    }
+
+    // The whole list. Cells behind the last range are in none.
+    fn end(&mut self) -> Result<Option<Answer>, ReceiveFault> {
+        let cells = mem::replace(&mut self.cells, Cells::new(self.alloc));
+        let ranges = mem::replace(&mut self.ranges, Vec::new(self.alloc));
+        let rows = mem::replace(&mut self.rows, Vec::new(self.alloc));
+        if !rows.is_empty() {
+            return Ok(Some(Answer::Reply(Reply::Rows(Items::from_vec(rows)))));
+        }
+        if ranges.is_empty() {
+            return Ok(Some(Answer::Reply(Reply::Batch(cells))));
+        }
+        if !cells.is_empty() {
+            return Err(ReceiveFault::Bad);
+        }
+        Ok(Some(Answer::Reply(Reply::Ranges(Items::from_vec(ranges)))))
+    }
+}
+
+// The answer of one frame.
+fn alone(told: Told) -> Result<Option<Answer>, ReceiveFault> {
+    match told {
+        Told::Done => Ok(Some(Answer::Reply(Reply::Done))),
+        Told::Refused(refusal) => Ok(Some(Answer::Reply(Reply::Refused(refusal)))),
+        Told::BadFrame(reason) => Ok(Some(Answer::BadFrame(reason))),
+        Told::Opened(number) => Ok(Some(Answer::Reply(Reply::Opened(number)))),
+        Told::Counted(counts) => Ok(Some(Answer::Reply(Reply::Counted(counts)))),
+        Told::Rights(rights) => Ok(Some(Answer::Reply(Reply::Rights(rights)))),
+        _ => Err(ReceiveFault::Bad),
+    }
+}

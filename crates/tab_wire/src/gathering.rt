@@ -1,0 +1,69 @@
+//! Bytes that are gathered in memory before they are sent.
+ghost use Rattle.std.specs.Prelude.{◌≡◌, [], Some};
+
+use std::alloc::Global;
+use tab_io::{Output, WriteFault};
+
+/// An output in memory that is used again. It fails where memory lacks, and from then on until it is cleared.
+#[derive(Drop)]
+pub struct Gathering {
+    bytes: Vec<u8>,
+    lost: bool,
+}
+
+impl Gathering {
+    /// Without bytes, and without memory yet.
+    pub fn new(alloc: Global) -> Gathering
+        ensures { result.bytes.items ≡ [] }
+    {
+        Gathering {
+            bytes: Vec::new(alloc),
+            lost: false,
+        }
+    }
+
+    /// Forgets the bytes, and keeps their memory.
+    pub fn clear(&mut self)
+        ensures { self.new.bytes.items ≡ [] }
+    {
+        self.bytes.clear();
+        self.lost = false;
+    }
+
+    /// The bytes.
+    pub fn bytes(&self) -> &[u8]
+        ensures { result.now ≡ self.now.bytes.items }
+    {
+        &self.bytes
+    }
+}
+
+#[tactic(auto, using(crate::proofs::Gathered::gathers_all))]
+impl Output for Gathering {
+    ghost use Rattle.std.specs.Prelude.{[], Some, cond};
+
+    ghost contents = { λ gathered. Some gathered.bytes.items };
+
+    ghost held = { λ _. [] };
+
+    ghost faults = { λ _. 0 };
+
+    ghost budget = { λ gathered. cond gathered.lost 0 1 };
+
+    fn put(&mut self, bytes: &[u8]) -> Result<(), WriteFault> {
+        if self.lost {
+            return Err(WriteFault);
+        }
+        match self.bytes.extend_from_slice(bytes) {
+            Ok(()) => Ok(()),
+            Err(_) => {
+                self.lost = true;
+                Err(WriteFault)
+            }
+        }
+    }
+
+    fn flush(&mut self) -> Result<(), WriteFault> {
+        Ok(())
+    }
+}
