@@ -15,7 +15,7 @@ trap 'kill $(jobs -p) 2>/dev/null; exit 1' INT TERM HUP
 # The crate and all that it stands on, each behind how many steps lead up from it, those with the most first.
 ways() { # CRATE
     awk -v top="$1" -F ':' '
-        !/^#/ && NF > 1 { uses[$1] = $2 }
+        !/^#/ && NF > 1 { split($1, words, " "); uses[words[1]] = $2 }
         function climb(name, steps, words, count, i) {
             if (!(name in uses) || (name in way && steps <= way[name])) return
             way[name] = steps

@@ -19,7 +19,7 @@ trap 'rm -rf "$work" "$files"' EXIT
 # The lines of crates.txt of these crates and of all that they stand on, each behind those that it names.
 below() { # CRATES
     awk -v tops="$*" -F ':' '
-        !/^#/ && NF > 1 { uses[$1] = $2; line[$1] = $0 }
+        !/^#/ && NF > 1 { split($1, words, " "); uses[words[1]] = $2; line[words[1]] = $0 }
         function climb(name, words, count, i) {
             if (!(name in uses) || (name in seen)) return
             seen[name] = 1
@@ -35,10 +35,10 @@ build_tabd() {
     local uses='tab_key tab_label tab_mutation tab_history tab_core' crate part
     mkdir -p "$work/crates/engine/src"
     below "$uses" >"$work/crates.txt"
-    for crate in $(cut -d ':' -f 1 "$work/crates.txt"); do
+    for crate in $(sed 's/[ :].*//' "$work/crates.txt"); do
         [ -f "$top/crates/$crate/out/rlib/stamp" ] || { "$top/tabd" --version >/dev/null; break; }
     done
-    for crate in $(cut -d ':' -f 1 "$work/crates.txt"); do
+    for crate in $(sed 's/[ :].*//' "$work/crates.txt"); do
         mkdir -p "$work/crates/$crate/out"
         for part in src specs proofs out/rlib; do
             [ ! -d "$top/crates/$crate/$part" ] || cp -a "$top/crates/$crate/$part" "$work/crates/$crate/$part"

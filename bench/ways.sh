@@ -11,7 +11,7 @@ if [ -z "$program" ]; then
     cp -a "$top" "$work/top"
     cd "$work/top/crates/tabd"
     rm -f out/tabd
-    sed -i 's/^tabd:/tabd backend=rattle opt_level=0:/' ../../crates.txt
+    sed -i 's/^tabd\b/tabd backend=rattle opt_level=0/' ../../crates.txt
     rt run -- --version >"$work/built" 2>&1 || { tail -n 20 "$work/built"; exit 1; }
     program=$PWD/out/tabd
 fi

@@ -26,7 +26,9 @@ named_by() { # CRATE
 
 while IFS=: read -r crate listed; do
     [ -n "$crate" ] || continue
-    known=$(cut -d: -f1 crates.txt; cut -d: -f2 crates.txt | tr ' ' '\n')
+    # behind the name stand its counts
+    crate=${crate%% *}
+    known=$(sed 's/[ :].*//' crates.txt; cut -d: -f2 crates.txt | tr ' ' '\n')
     named=$(named_by "$crate" | grep -Fx -f <(printf '%s\n' "$known" | grep . | sort -u) | grep -vx "$crate")
     asked=$(printf '%s\n' $listed | sort -u)
     if [ "$named" = "$asked" ]; then passed=$((passed + 1)); else

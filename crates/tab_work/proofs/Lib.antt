@@ -1,0 +1,4 @@
+pub mod Booking
+pub mod Counting
+pub mod Handing
+pub mod Joining

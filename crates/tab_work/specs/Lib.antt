@@ -1,0 +1,4 @@
+pub mod Receiving
+pub mod Shares
+pub mod SharedAnswers
+pub mod Sharing

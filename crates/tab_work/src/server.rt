@@ -1,0 +1,95 @@
+//! The server.
+ghost use Rattle.std.specs.Prelude.{◌≡◌, ◌^◌, ◌≤◌};
+ghost use Rattle.tab_core.specs.Stores.{base_of};
+
+use crate::Shared;
+use crate::workers::serve_all;
+use std::alloc::{AllocError, Global};
+use std::marker::Brand;
+use std::net::TcpListener;
+use std::sync::Wait;
+use std::sync::ledger::Blank;
+use std::thread::Threads;
+use std::time::Clock;
+use tab_book::{Book, Origin, Seat};
+use tab_core::Core;
+
+/// How many threads and connections a server has.
+#[derive(Clone, Copy, Debug)]
+pub struct Options {
+    /// Threads that serve connections, one connection each at a time: 1 to 64.
+    pub workers: u32,
+    /// Threads that compact tablets: 0 to 16. Nothing is started for them yet.
+    pub compactors: u32,
+    /// After how many connections the server ends; 0 is never.
+    pub accept: u32,
+}
+
+/// Why a server couldn't begin. No fault of a connection is one.
+#[derive(Clone, Copy, Debug, PartialEq, Eq, thiserror::Error)]
+pub enum ServerFault {
+    /// Memory lacked.
+    #[error("no memory")]
+    NoMemory,
+    /// A thread couldn't be made.
+    #[error("no thread can be made")]
+    NoThread,
+}
+
+impl From<AllocError> for ServerFault {
+    fn from(_lack: AllocError) -> ServerFault {
+        ServerFault::NoMemory
+    }
+}
+
+/// Serves the connections of the listener over the core, each by one of the workers, and ends once as many as `accept` says have ended.
+///
+/// A fault of a connection ends that one alone. A worker serves one connection at a time: further ones wait until a worker is free.
+/// Moments are milliseconds since the beginning of 1970 by the machine's clock, 0 where it gives none.
+pub fn run_server<R: Threads + Wait + Clock + Sync>(
+    rt: &R,
+    alloc: Global,
+    core: Core,
+    listener: &TcpListener,
+    options: Options,
+) -> Result<(), ServerFault> {
+    serve_book::<Brand, _>(rt, alloc, core, Blank::new(1 << 32), listener, options)
+}
+
+// The same with the ledger on which the seats count.
+fn serve_book<L: Origin + Send + Sync, R: Threads + Wait + Clock + Sync>(
+    rt: &R,
+    alloc: Global,
+    core: Core,
+    blank: Blank,
+    listener: &TcpListener,
+    options: Options,
+) -> Result<(), ServerFault>
+    requires base { base_of core ≡ L.base }
+    requires name { blank.name ≡ L.name }
+    requires parts { blank.parts ≡ L.parts }
+    requires enough { 2 ^ 32 ≤ blank.parts }
+{
+    let shared = Shared::new(Book::<L>::new(alloc, core, blank));
+    let seats = seats_for(rt, alloc, &shared, options.workers)?;
+    let seats = serve_all(rt, alloc, &shared, seats, listener, options.accept)?;
+    let _ = shared.end(seats);
+    Ok(())
+}
+
+// So many seats. There are always as many.
+fn seats_for<L: Origin>(
+    rt: &impl Wait,
+    alloc: Global,
+    shared: &Shared<L>,
+    workers: u32,
+) -> Result<Vec<Seat<L>>, ServerFault> {
+    let mut seats = Vec::new(alloc);
+    for _ in 0..workers {
+        if let Some(seat) = shared.join(rt) {
+            seats.reserve(1)?;
+            seats.push_reserved(seat);
+        }
+    }
+    Ok(seats)
+}

@@ -1,0 +1,234 @@
+//! A seat of a shared book that answers the requests of one connection.
+ghost use Rattle.std.specs.Prelude.{◌≡◌, ◌<◌, true, false, [], ◌∷◌, ◌++◌, None, vec_len, vec_capacity};
+ghost use Rattle.tab_history.specs.Answers.{is_open};
+ghost use Rattle.tab_core.specs.Slots.{are_full, ManyFrom};
+ghost use Rattle.tab_work.specs.Receiving.{spent};
+ghost use Rattle.tab_work.specs.SharedAnswers.{seated, slots_of, told_by, LentSame, SharedAnswers, Tells, Takes, Tries};
+
+use crate::{Gate, Shared};
+use std::alloc::{AllocError, Global};
+use std::mem;
+use std::sync::Wait;
+use tab_book::{Origin, Receipt, Seat};
+use tab_core::{Session, Slots};
+use tab_history::{Act, Event, Refusal, Reply};
+use tab_key::{Bounds, Items, Name, Part};
+use tab_serve::{Moments, Service};
+use tab_wire::Request;
+
+// A seat, the receipts that are added for it, the sessions that it opened for the connection, and where its moments come from. All that
+// changes is lent.
+#[derive(Drop)]
+pub(crate) struct SharedService<'a, L: Origin, R, M, G> {
+    pub(crate) rt: &'a R,
+    pub(crate) alloc: Global,
+    pub(crate) shared: &'a Shared<L>,
+    pub(crate) gate: &'a G,
+    pub(crate) seat: &'a mut Seat<L>,
+    pub(crate) receipts: &'a mut Vec<Receipt<L>>,
+    pub(crate) moments: &'a mut M,
+    pub(crate) slots: &'a mut Slots,
+    // whether the reply in the last receipt was told last
+    pub(crate) booked: bool,
+    // what was told last, where that isn't so
+    pub(crate) reply: &'a mut Reply,
+}
+
+#[tactic(auto, using(crate::proofs::Counting::shares_room, crate::proofs::Counting::shares_opened))]
+impl<'a, L: Origin, R: Wait, M: Moments, G: Gate> Service for SharedService<'a, L, R, M, G> {
+    ghost use Rattle.std.specs.Prelude.{length};
+    ghost use Rattle.tab_work.specs.SharedAnswers.{SharedAnswers, told_by};
+
+    ghost opened = { λ s. length s.slots.now };
+
+    ghost told = { λ s. told_by s };
+
+    ghost answers = { λ old user request reply new. SharedAnswers M.gives old user request reply new };
+
+    fn answer(&mut self, user: Name, request: Request) {
+        self.does(user, request);
+    }
+
+    fn reply(&self) -> &Reply {
+        match self.receipts.last() {
+            Some(receipt) if self.booked => receipt.entry().reply(),
+            _ => &*self.reply,
+        }
+    }
+}
+
+impl<'a, L: Origin, R: Wait, M: Moments, G: Gate> SharedService<'a, L, R, M, G> {
+    // Does what is asked. Hello says who asks, and changes nothing.
+    fn does(&mut self, user: Name, request: Request)
+        ensures { SharedAnswers M.gives self.old user request (told_by self.new) self.new }
+    {
+        match request {
+            Request::Hello(_) => self.tell(Reply::Done),
+            Request::Act(act) => self.act(user, act),
+            Request::Next { slot, count } => self.next(user, slot, count),
+            Request::Many { slot, ranges } => self.many(user, slot, ranges),
+            Request::Close { slot } => self.close(user, slot),
+        }
+    }
+
+    // Tells this, which is no event's reply.
+    fn tell(&mut self, reply: Reply)
+        ensures { Tells self.old reply self.new }
+    {
+        self.booked = false;
+        let _ = mem::replace(self.reply, reply);
+    }
+
+    // The next cells of the session in the slot.
+    fn next(&mut self, user: Name, slot: u32, count: u32)
+        ensures { SharedAnswers M.gives self.old user (Request.Next slot count) (told_by self.new) self.new }
+    {
+        let _ = user;
+        self.gate.before_batch();
+        let reply = self.slots.next(self.alloc, slot, count);
+        self.tell(reply);
+    }
+
+    // What the session in the slot shows in these ranges of rows.
+    fn many(&mut self, user: Name, slot: u32, ranges: Items<Bounds>)
+        ensures { SharedAnswers M.gives self.old user (Request.Many slot ranges) (told_by self.new) self.new }
+    {
+        let _ = user;
+        let reply = many(self.alloc, self.slots, slot, ranges);
+        self.tell(reply);
+    }
+
+    // Closes the session in the slot.
+    fn close(&mut self, user: Name, slot: u32)
+        ensures { SharedAnswers M.gives self.old user (Request.Close slot) (told_by self.new) self.new }
+    {
+        let _ = user;
+        let reply = self.slots.close(slot);
+        self.tell(reply);
+    }
+
+    // An event at the next moment.
+    fn act(&mut self, user: Name, act: Act)
+        ensures { SharedAnswers M.gives self.old user (Request.Act act) (told_by self.new) self.new }
+    {
+        if opens(&act) {
+            self.open(user, act)
+        } else {
+            self.apply(user, act)
+        }
+    }
+
+    // An Open. Past the limit of sessions it takes no moment, and doesn't happen.
+    fn open(&mut self, user: Name, act: Act)
+        requires { is_open act ≡ true }
+        ensures { SharedAnswers M.gives self.old user (Request.Act act) (told_by self.new) self.new }
+    {
+        if self.slots.are_full() {
+            self.refuse(act)
+        } else {
+            self.open_next(user, act)
+        }
+    }
+
+    // Tells that there are too many sessions.
+    fn refuse(&mut self, _act: Act)
+        ensures { Tells self.old (Reply.Refused (Refusal.TooLarge Part.Sessions)) self.new }
+    {
+        self.tell(Reply::Refused(Refusal::TooLarge(Part::Sessions)));
+    }
+
+    // An Open where one more session can be opened, which is kept under the next number. A place for it is found before the event.
+    fn open_next(&mut self, user: Name, act: Act)
+        requires opens { is_open act ≡ true }
+        requires room { are_full self.old.slots.now ≡ false }
+        ensures { SharedAnswers M.gives self.old user (Request.Act act) (told_by self.new) self.new }
+    {
+        let event = self.take_moment(user, act);
+        if self.slots.prepare().is_err() {
+            return self.lack(event);
+        }
+        let session = self.receive(event);
+        self.slots.keep(session);
+    }
+
+    // An event that opens no session.
+    fn apply(&mut self, user: Name, act: Act)
+        requires { is_open act ≡ false }
+        ensures { SharedAnswers M.gives self.old user (Request.Act act) (told_by self.new) self.new }
+    {
+        let event = self.take_moment(user, act);
+        let _ = self.receive(event);
+    }
+
+    // What the user asks, at the next moment.
+    fn take_moment(&mut self, user: Name, act: Act) -> Event
+        ensures takes { Takes M.gives (seated self.old) user act result (seated self.new) }
+        ensures slots { slots_of self.new ≡ slots_of self.old }
+        ensures lent { LentSame self.old self.new }
+    {
+        let moment = self.moments.next();
+        Event { user, moment, act }
+    }
+
+    // Has the book do the event, tells its reply, and adds its receipt, for which a place is found before. The session that it handed out.
+    fn receive(&mut self, event: Event) -> Option<Session>
+        ensures tries { Tries (seated self.old) event (told_by self.new) result (seated self.new) }
+        ensures slots { slots_of self.new ≡ slots_of self.old }
+        ensures lent { LentSame self.old self.new }
+    {
+        if self.receipts.reserve(1).is_err() {
+            self.lack(event);
+            return None;
+        }
+        match self.shared.apply(self.rt, self.alloc, self.seat, event) {
+            Ok(receipt) => self.add(receipt),
+            Err(refused) => self.give_up(refused),
+        }
+    }
+
+    // Adds the receipt without its session, and tells its reply.
+    fn add(&mut self, receipt: Receipt<L>) -> Option<Session>
+        requires { vec_len self.old.receipts.now < vec_capacity self.old.receipts.now }
+        ensures adds { seated self.new ≡ record (seated self.old) { receipts = self.old.receipts.now.items ++ spent receipt ∷ [] } }
+        ensures told { told_by self.new ≡ receipt.entry.reply }
+        ensures session { result ≡ receipt.session }
+        ensures slots { slots_of self.new ≡ slots_of self.old }
+        ensures lent { LentSame self.old self.new }
+    {
+        let mut receipt = receipt;
+        let session = receipt.take();
+        self.receipts.push_reserved(receipt);
+        self.booked = true;
+        session
+    }
+
+    // The event didn't happen.
+    fn give_up(&mut self, _refused: (Event, AllocError)) -> Option<Session>
+        ensures tells { Tells self.old (Reply.Refused Refusal.NoMemory) self.new }
+        ensures session { result ≡ None }
+    {
+        self.tell(Reply::Refused(Refusal::NoMemory));
+        None
+    }
+
+    // Tells that memory lacks for the event, which doesn't happen.
+    fn lack(&mut self, _event: Event)
+        ensures { Tells self.old (Reply.Refused Refusal.NoMemory) self.new }
+    {
+        self.tell(Reply::Refused(Refusal::NoMemory));
+    }
+}
+
+// Whether the act opens a session.
+fn opens(act: &Act) -> bool
+    ensures { result ≡ is_open act.now }
+{
+    matches!(act, Act::Open(_))
+}
+
+// What the session in the slot shows in these ranges of rows.
+fn many(alloc: Global, slots: &Slots, slot: u32, ranges: Items<Bounds>) -> Reply
+    ensures { ManyFrom slots.now slot ranges result }
+{
+    slots.many(alloc, slot, ranges.as_slice())
+}

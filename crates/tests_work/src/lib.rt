@@ -1,0 +1,21 @@
+//! Tests of shared books, and of connections over them, by public calls.
+//!
+//! | File | What is tested |
+//! |---|---|
+//! | `talks` | the frames of some connections, and what they are told |
+//! | `serving` | these served whole, in pieces, cut anywhere, and where reading or writing fails; the receipts settle afterwards |
+//! | `settling` | threads that use one book by seats of their own, and its end |
+//! | `own_writes` | a connection that writes and then reads, and the numbers of its receipts |
+//! | `overlapping` | a batch that is held up until another connection's write was answered |
+#![tactic(auto)]
+
+#[cfg(test)]
+mod overlapping;
+#[cfg(test)]
+mod own_writes;
+#[cfg(test)]
+mod serving;
+#[cfg(test)]
+mod settling;
+#[cfg(test)]
+mod talks;

@@ -1,0 +1,153 @@
+//! A batch that is held up until another connection's write was answered: nothing is locked meanwhile.
+ghost use Rattle.std.specs.Prelude.{◌≡◌, ◌^◌, ◌≤◌};
+ghost use Rattle.tab_core.specs.Stores.{base_of};
+
+use crate::serving::served_by;
+use crate::talks::{WRITES, WRITES_TOLD, asked, told};
+use std::alloc::Global;
+use std::marker::Brand;
+use std::process::Abort;
+use std::sync::Wait;
+use std::sync::atomic::{AtomicBool, Ordering};
+use std::sync::ledger::Blank;
+use std::thread;
+use std::thread::Threads;
+use std::time::{Clock, Duration};
+use tab_book::{Book, Origin, Seat};
+use tab_core::Core;
+use tab_io::memory::{PieceReader, PieceWriter};
+use tab_work::{Gate, OpenGate, Shared};
+
+// How often a thread looks, a millisecond apart, before it gives up.
+const TURNS: u32 = 10_000;
+
+// What the two connections wait for.
+#[derive(Drop)]
+struct Signs {
+    // the first one is about to cut a batch
+    held: AtomicBool,
+    // the second one was answered
+    answered: AtomicBool,
+    // the first one gave up waiting for that
+    late: AtomicBool,
+}
+
+// Whether the sign was seen in time.
+fn is_seen<R: Clock>(rt: &R, sign: &AtomicBool) -> bool {
+    for _ in 0..TURNS {
+        if sign.load(Ordering::SeqCst) {
+            return true;
+        }
+        thread::sleep(rt, Duration::from_millis(1));
+    }
+    false
+}
+
+// It holds a batch up until the other connection was answered.
+#[derive(Drop)]
+struct Held<'a, R> {
+    rt: &'a R,
+    signs: &'a Signs,
+}
+
+impl<R: Clock> Gate for Held<'_, R> {
+    fn before_merge(&self) {}
+
+    fn before_batch(&self) {
+        self.signs.held.store(true, Ordering::SeqCst);
+        if !is_seen(self.rt, &self.signs.answered) {
+            self.signs.late.store(true, Ordering::SeqCst);
+        }
+    }
+}
+
+// What a connection is told that makes a table and reads it, its batch held up.
+fn reads_held_up<L: Origin, R: Wait + Abort + Clock>(
+    rt: &R,
+    alloc: Global,
+    shared: &Shared<L>,
+    seat: Seat<L>,
+    signs: &Signs,
+) -> Vec<u8> {
+    let mut seat = seat;
+    let mut receipts = Vec::new(alloc);
+    let reader = PieceReader::new(asked(1), 64);
+    let writer = PieceWriter::new(alloc, 64);
+    let gate = Held { rt, signs };
+    served_by(
+        rt,
+        alloc,
+        shared,
+        &mut seat,
+        &mut receipts,
+        &gate,
+        reader,
+        writer,
+    )
+    .1
+}
+
+// What a connection is told that writes into the table and reads it while the other one is held up, and whether that one was.
+fn writes_meanwhile<L: Origin, R: Wait + Abort + Clock>(
+    rt: &R,
+    alloc: Global,
+    shared: &Shared<L>,
+    seat: Seat<L>,
+    signs: &Signs,
+) -> (bool, Vec<u8>) {
+    let held = is_seen(rt, &signs.held);
+    let mut seat = seat;
+    let mut receipts = Vec::new(alloc);
+    let reader = PieceReader::new(WRITES, 64);
+    let writer = PieceWriter::new(alloc, 64);
+    let (_, bytes) = served_by(
+        rt,
+        alloc,
+        shared,
+        &mut seat,
+        &mut receipts,
+        &OpenGate,
+        reader,
+        writer,
+    );
+    signs.answered.store(true, Ordering::SeqCst);
+    (held, bytes)
+}
+
+fn overlaps<L: Origin + Send + Sync, R: Threads + Wait + Abort + Clock + Sync>(
+    rt: &R,
+    alloc: Global,
+    core: Core,
+    blank: Blank,
+)
+    requires base { base_of core ≡ L.base }
+    requires name { blank.name ≡ L.name }
+    requires parts { blank.parts ≡ L.parts }
+    requires enough { 2 ^ 32 ≤ blank.parts }
+{
+    let shared = Shared::new(Book::<L>::new(alloc, core, blank));
+    let signs = Signs {
+        held: AtomicBool::new(false),
+        answered: AtomicBool::new(false),
+        late: AtomicBool::new(false),
+    };
+    let first = shared.join(rt).expect(rt, "a seat");
+    let second = shared.join(rt).expect(rt, "a seat");
+    let (lent, seen) = (&shared, &signs);
+    let (read, (held, written)) = thread::join(
+        rt,
+        move || reads_held_up(rt, alloc, lent, first, seen),
+        move || writes_meanwhile(rt, alloc, lent, second, seen),
+    );
+    assert!(rt; held);
+    assert!(rt; !signs.late.load(Ordering::SeqCst));
+    assert_eq!(rt; written.as_slice(), WRITES_TOLD);
+    assert_eq!(rt; read.as_slice(), told(1));
+}
+
+// The session was opened before the write, and its batch, which was held up until behind it, shows nothing of it.
+#[test]
+fn batch_overlaps_write(rt: HostRuntime) {
+    let core = Core::new(rt.alloc()).expect(&rt, "memory");
+    overlaps::<Brand, _>(&rt, rt.alloc(), core, Blank::new(1 << 32));
+}

@@ -1,0 +1,61 @@
+//! A connection that writes and then reads, and the numbers of its receipts.
+ghost use Rattle.std.specs.Prelude.{◌≡◌, ◌^◌, ◌≤◌};
+ghost use Rattle.tab_core.specs.Stores.{base_of};
+
+use crate::serving::served_by;
+use crate::settling::event;
+use crate::talks::{asked, told};
+use std::alloc::Global;
+use std::marker::Brand;
+use std::process::Abort;
+use std::sync::Wait;
+use std::sync::ledger::Blank;
+use tab_book::{Book, Origin, Receipt};
+use tab_core::Core;
+use tab_io::memory::{PieceReader, PieceWriter};
+use tab_work::{OpenGate, Shared};
+
+// The number behind the last receipt, each of which has a greater one than the receipts before it.
+fn rising<L: Origin>(rt: &impl Abort, receipts: &[Receipt<L>]) -> u64 {
+    let mut next = 0;
+    for receipt in receipts {
+        assert!(rt; receipt.number() >= next);
+        next = receipt.number().saturating_add(1);
+    }
+    next
+}
+
+fn reads_own_writes<L: Origin, R: Wait + Abort>(rt: &R, alloc: Global, core: Core, blank: Blank)
+    requires base { base_of core ≡ L.base }
+    requires name { blank.name ≡ L.name }
+    requires parts { blank.parts ≡ L.parts }
+    requires enough { 2 ^ 32 ≤ blank.parts }
+{
+    let shared = Shared::new(Book::<L>::new(alloc, core, blank));
+    let mut seat = shared.join(rt).expect(rt, "a seat");
+    let mut receipts = Vec::new(alloc);
+    let (ended, bytes) = served_by(
+        rt,
+        alloc,
+        &shared,
+        &mut seat,
+        &mut receipts,
+        &OpenGate,
+        PieceReader::new(asked(5), 64),
+        PieceWriter::new(alloc, 64),
+    );
+    assert_eq!(rt; ended, Ok(()));
+    assert_eq!(rt; bytes.as_slice(), told(5));
+    assert_eq!(rt; receipts.len(), 5);
+    let next = rising(rt, &receipts);
+    let later = shared.apply(rt, alloc, &mut seat, event(rt, 9)).ok();
+    assert!(rt; later.expect(rt, "memory").number() >= next);
+}
+
+// Each scan shows what was written before it, and its receipt has a greater number than the write's. An event of the seat that comes
+// behind the connection has a greater one than all of these.
+#[test]
+fn own_write_is_read(rt: HostRuntime) {
+    let core = Core::new(rt.alloc()).expect(&rt, "memory");
+    reads_own_writes::<Brand, _>(&rt, rt.alloc(), core, Blank::new(1 << 32));
+}

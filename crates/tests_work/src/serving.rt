@@ -1,0 +1,184 @@
+//! Connections over a new book, served whole, in pieces, cut anywhere, and where reading or writing fails.
+ghost use Rattle.std.specs.Prelude.{◌≡◌, ◌^◌, ◌≤◌};
+ghost use Rattle.tab_core.specs.Stores.{base_of};
+
+use crate::talks::{CUT, TALKS, asked, told};
+use std::alloc::Global;
+use std::io::ErrorKind;
+use std::marker::Brand;
+use std::process::Abort;
+use std::sync::Wait;
+use std::sync::ledger::Blank;
+use tab_book::{Book, Origin, Receipt, Seat, settle};
+use tab_core::Core;
+use tab_io::memory::{Fault, PieceReader, PieceWriter};
+use tab_io::{BlockReader, BlockWriter};
+use tab_serve::{Listed, ServeFault};
+use tab_work::{Gate, OpenGate, Shared, serve_shared};
+
+// How the connection of this reader ends on this seat, and what stands in the writer then. Each event has the moment 0.
+pub fn served_by<L: Origin, R: Wait + Abort, G: Gate>(
+    rt: &R,
+    alloc: Global,
+    shared: &Shared<L>,
+    seat: &mut Seat<L>,
+    receipts: &mut Vec<Receipt<L>>,
+    gate: &G,
+    reader: PieceReader<'_>,
+    writer: PieceWriter,
+) -> (Result<(), ServeFault>, Vec<u8>) {
+    let mut input = BlockReader::new(alloc, reader).expect(rt, "memory");
+    let mut output = BlockWriter::new(alloc, writer).expect(rt, "memory");
+    let mut moments = Listed::new(Vec::new(alloc));
+    let ended = serve_shared(
+        rt,
+        alloc,
+        &mut input,
+        &mut output,
+        &mut moments,
+        shared,
+        seat,
+        receipts,
+        gate,
+    );
+    let bytes = Vec::from_slice(alloc, output.get_ref().bytes()).expect(rt, "memory");
+    (ended, bytes)
+}
+
+// The same with a new book. The receipts settle in it.
+fn served_at<L: Origin, R: Wait + Abort>(
+    rt: &R,
+    alloc: Global,
+    core: Core,
+    blank: Blank,
+    reader: PieceReader<'_>,
+    writer: PieceWriter,
+) -> (Result<(), ServeFault>, Vec<u8>)
+    requires base { base_of core ≡ L.base }
+    requires name { blank.name ≡ L.name }
+    requires parts { blank.parts ≡ L.parts }
+    requires enough { 2 ^ 32 ≤ blank.parts }
+{
+    let shared = Shared::new(Book::<L>::new(alloc, core, blank));
+    let mut seat = shared.join(rt).expect(rt, "a seat");
+    let mut receipts = Vec::new(alloc);
+    let answer = served_by(
+        rt,
+        alloc,
+        &shared,
+        &mut seat,
+        &mut receipts,
+        &OpenGate,
+        reader,
+        writer,
+    );
+    assert!(rt; settles(rt, alloc, shared, seat, &receipts));
+    answer
+}
+
+// Whether all receipts settle in the book, where this is its one seat.
+fn settles<L: Origin, R: Wait + Abort>(
+    rt: &R,
+    alloc: Global,
+    shared: Shared<L>,
+    seat: Seat<L>,
+    receipts: &[Receipt<L>],
+) -> bool {
+    let mut seats = Vec::new(alloc);
+    seats.push(seat).expect(rt, "memory");
+    match shared.end(seats) {
+        Ok(book) => settle(&book, receipts),
+        Err(_) => false,
+    }
+}
+
+// The same with a new core.
+fn served<R: Wait + Abort>(
+    rt: &R,
+    alloc: Global,
+    reader: PieceReader<'_>,
+    writer: PieceWriter,
+) -> (Result<(), ServeFault>, Vec<u8>) {
+    let core = Core::new(alloc).expect(rt, "memory");
+    served_at::<Brand, _>(rt, alloc, core, Blank::new(1 << 32), reader, writer)
+}
+
+// Whether these bytes are a beginning of what is told, or such a one and the refusal of a frame that is cut.
+fn is_beginning(told: &[u8], bytes: &[u8]) -> bool {
+    if told.starts_with(bytes) {
+        return true;
+    }
+    match bytes.strip_suffix(CUT) {
+        Some(front) => told.starts_with(front),
+        None => false,
+    }
+}
+
+// Replies are the same however the input is cut into reads, and the output into writes.
+#[test]
+fn tells_what_is_asked(rt: HostRuntime) {
+    for talk in 0..TALKS {
+        for piece in [1, 7, 1000] {
+            let reader = PieceReader::new(asked(talk), piece);
+            let writer = PieceWriter::new(rt.alloc(), piece);
+            let (ended, bytes) = served(&rt, rt.alloc(), reader, writer);
+            assert_eq!(rt; ended, Ok(()));
+            assert_eq!(rt; bytes.as_slice(), told(talk));
+        }
+    }
+}
+
+// Where the first read ends makes no difference.
+#[test]
+fn reads_to_any_place(rt: HostRuntime) {
+    for talk in 0..TALKS {
+        for piece in 1..asked(talk).len() {
+            let reader = PieceReader::new(asked(talk), piece);
+            let writer = PieceWriter::new(rt.alloc(), 64);
+            let (ended, bytes) = served(&rt, rt.alloc(), reader, writer);
+            assert_eq!(rt; ended, Ok(()));
+            assert_eq!(rt; bytes.as_slice(), told(talk));
+        }
+    }
+}
+
+// An input that ends anywhere is told of the frames before, and that a frame is cut, if one is.
+#[test]
+fn ends_at_any_place(rt: HostRuntime) {
+    for talk in 0..TALKS {
+        for at in 0..asked(talk).len() {
+            let front = asked(talk).get(..at).expect(&rt, "a beginning");
+            let reader = PieceReader::new(front, 64);
+            let writer = PieceWriter::new(rt.alloc(), 64);
+            let (ended, bytes) = served(&rt, rt.alloc(), reader, writer);
+            assert_eq!(rt; ended, Ok(()));
+            assert!(rt; is_beginning(told(talk), bytes.as_slice()));
+        }
+    }
+}
+
+// Where a read fails, what was answered before is written.
+#[test]
+fn stops_where_the_reader_fails(rt: HostRuntime) {
+    let kind = ErrorKind::Other;
+    for after in 0..12 {
+        let reader = PieceReader::new(asked(0), 9).failing(Fault { after, kind });
+        let writer = PieceWriter::new(rt.alloc(), 64);
+        let (ended, bytes) = served(&rt, rt.alloc(), reader, writer);
+        assert_eq!(rt; ended, Err(ServeFault::Read));
+        assert!(rt; told(0).starts_with(bytes.as_slice()));
+    }
+}
+
+// Where a write fails, a beginning of the replies is written.
+#[test]
+fn stops_where_the_writer_fails(rt: HostRuntime) {
+    let kind = ErrorKind::Other;
+    for after in 0..8 {
+        let reader = PieceReader::new(asked(0), 64);
+        let writer = PieceWriter::new(rt.alloc(), 9).failing(Fault { after, kind });
+        let (ended, bytes) = served(&rt, rt.alloc(), reader, writer);
+        assert_eq!(rt; ended, Err(ServeFault::Write));
+        assert!(rt; told(0).starts_with(bytes.as_slice()));
+    }
+}
