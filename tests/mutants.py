@@ -58,7 +58,7 @@ def read(path):
 def dependencies():
     """Returns what each crate names in crates.txt."""
     rows = [line.partition(":") for line in read(f"{TOP}/crates.txt").splitlines() if ":" in line and line[0] != "#"]
-    return {name: named.split() for name, _, named in rows}
+    return {name.split()[0]: named.split() for name, _, named in rows}
 
 
 def mutants_of(crate):
@@ -136,6 +136,9 @@ def refusal(mutant, said):
     # (the folder of a function's proofs may have a + in front)
     proofs = "/".join(rf"\+?{re.escape(it)}" for it in verdict[1].split("::"))
     errors = re.findall(rf"^\./proofs/{proofs}/\S+ error: (.*)$", said, re.M)
+    if mutant.turns_a_definition() and verdict[2] != "proved":
+        # a lemma on which the function stands, or an example, may fail before it
+        errors += re.findall(r"^\./(?:proofs|specs)/\S+ error: (.*)$", said, re.M)
     told = [it for it in errors if not NAMES.search(it)]
     # a goal that nothing answers may be one that only has another name now, where others of its proof have vanished
     if not errors and verdict[2].startswith("no proof: expected answers"):
