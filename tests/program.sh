@@ -132,6 +132,25 @@ else
     count 'the library that lets requests for memory fail' 1
 fi
 
+# ---- Prompts: who asks, help, and behind each line fault why.
+prompted() { # NAME INPUT OUTPUT ERRORS
+    printf "$2" | "$program" script --prompt >out 2>err
+    [ "${PIPESTATUS[1]}" -eq 0 ] && [ "$(cat out)" = "$(printf "$3")" ] && [ "$(cat err)" = "$4" ]
+    count "prompts: $1" $?
+}
+prompted 'no line' '' 'root> \n' ''
+prompted 'a reply behind each prompt' 'createtable t\nscan t \\0\n' 'root> ok\nroot> end\nroot> \n' ''
+prompted 'who asks' 'as bob\n\n# nothing\nscan t \\0' 'root> bob> bob> bob> refused 1 UnknownUser bob\nbob> \n' ''
+prompted 'help for a line' 'help next\n help  close \n' \
+    'root>   next SESSION COUNT\n  SESSION            the number that an open gave: a whole number of 32 bits without a sign, as 0\n  COUNT              how many cells: a whole number of 32 bits without a sign, as 100\nroot>   close SESSION\n  SESSION            the number that an open gave: a whole number of 32 bits without a sign, as 0\nroot> \n' ''
+prompted 'exit' 'createtable t\nexit\nbogus\n' 'root> ok\nroot> ' ''
+prompted 'help for what is no line' 'help bogus\n' 'root>   there is no such line: help lists them\nroot> \n' ''
+prompted 'a line fault' 'next 0\n' 'root> line fault\nroot> \n' \
+    'line 1: word 3 is missing: expected COUNT (how many cells: a whole number of 32 bits without a sign, as 100)'
+printf 'help\n' | "$program" script --prompt >out 2>err
+[ "$(sed 's/^root> //' out | awk '/^  / {print $1}' | sort -u)" = "$({ echo exit; sed -n '/^| Line | Does |/,/^$/p' "$top/docs/SCRIPT.md" | grep -oE '`[a-z]+ [A-Z]' | tr -d '`' | awk '{print $1}' | grep -vx 'put\|del'; echo help; } | sort -u)" ]
+count 'prompts: help lists all lines' $?
+
 # ---- Why a line is a fault: a line of a script, and behind the tab what is said of it.
 name="name: 1 to 128 of a-z A-Z 0-9 _ - ."
 byte_word='a byte word: ! to ~ as they are but \\ for \, \xHH (H of 0-9 a-f) for any byte, \e for none'

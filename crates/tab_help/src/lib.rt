@@ -12,6 +12,7 @@
 //! | `fitting` | the word at which a line stops to fit a form |
 //! | `reason` | why a line is a fault |
 //! | `wording` | the text of a reason |
+//! | `prompting` | a reader that asks for each line by a prompt, and answers lines that ask for help |
 //! | `explaining` | a reader that passes bytes along, and explains each line fault on the way |
 //!
 //! `specs/Explaining` says when a line is explained.
@@ -21,7 +22,9 @@ mod explaining;
 mod fitting;
 pub mod forms;
 mod kinds;
+mod prompting;
 mod reason;
 mod wording;
 
 pub use explaining::{Explaining, Told, explain};
+pub use prompting::{Asks, Prompting};

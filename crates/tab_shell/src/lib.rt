@@ -32,6 +32,7 @@ mod script;
 mod sessions;
 
 pub use laws::runs_are_one;
-pub use reply::write_reply;
+pub use pending::{Pending, take_line};
+pub use reply::{put_cells, put_next, put_opened, write_reply};
 pub use script::{Ended, Script, ScriptFault};
 pub use tab_lines::{FileKind, FileLine, FileName, Line, LineError, read_line};

@@ -37,11 +37,7 @@ pub fn write_reply<W: Output>(output: &mut W, reply: &Reply) -> Result<(), Write
 }
 
 /// Writes the reply to a line that opens a session, which gets this number: `session` and the number; else as `write_reply`.
-pub(crate) fn put_opened<W: Output>(
-    output: &mut W,
-    number: u64,
-    reply: &Reply,
-) -> Result<(), WriteFault>
+pub fn put_opened<W: Output>(output: &mut W, number: u64, reply: &Reply) -> Result<(), WriteFault>
     ensures { Puts W.Output output.old output.new (opened_text number reply.now) result }
 {
     match reply {
@@ -58,11 +54,7 @@ fn put_number<W: Output>(output: &mut W, number: u64) -> Result<(), WriteFault>
 
 /// Writes the reply to a line that asks for so many cells: the cells, and `more` where there are as many, or `end`; else as
 /// `write_reply`.
-pub(crate) fn put_next<W: Output>(
-    output: &mut W,
-    count: u32,
-    reply: &Reply,
-) -> Result<(), WriteFault>
+pub fn put_next<W: Output>(output: &mut W, count: u32, reply: &Reply) -> Result<(), WriteFault>
     ensures { Puts W.Output output.old output.new (next_text count reply.now) result }
 {
     match reply {
@@ -153,7 +145,7 @@ fn put_range<W: Output>(output: &mut W, cells: &Cells) -> Result<(), WriteFault>
 }
 
 /// Each cell on a line of its own.
-pub(crate) fn put_cells<W: Output>(output: &mut W, cells: &Cells) -> Result<(), WriteFault>
+pub fn put_cells<W: Output>(output: &mut W, cells: &Cells) -> Result<(), WriteFault>
     ensures { Puts W.Output output.old output.new (flat_map cell_text cells.now) result }
 {
     put_each_cell(output, cells, &CellLine)

@@ -1,0 +1,397 @@
+"""What tests/server.sh tests. Its last line counts what passed and failed."""
+
+import os
+import select
+import socket
+import struct
+import subprocess
+import sys
+import tempfile
+import time
+
+TOP = sys.argv[1]
+PROGRAM = os.path.join(TOP, "crates/tabd/out/tabd")
+PATIENCE = 15
+passed = failed = 0
+
+
+def count(name, good, told=""):
+    global passed, failed
+    if good:
+        passed += 1
+    else:
+        failed += 1
+        print("FAILED: %s %s" % (name, str(told)[:300]), flush=True)
+
+
+def free_port():
+    with socket.socket() as probe:
+        probe.bind(("127.0.0.1", 0))
+        return probe.getsockname()[1]
+
+
+class Server:
+    """A server on a free port, once it listens."""
+
+    def __init__(self, *words):
+        for _ in range(3):
+            self.port = free_port()
+            self.process = subprocess.Popen(
+                [PROGRAM, "serve", "--port", str(self.port), *words], stdin=subprocess.DEVNULL,
+                stdout=subprocess.PIPE, stderr=subprocess.PIPE)
+            ready, _, _ = select.select([self.process.stdout], [], [], PATIENCE)
+            self.said = self.process.stdout.readline() if ready else b""
+            if self.said:
+                return
+
+    def connect(self):
+        stream = socket.create_connection(("127.0.0.1", self.port), timeout=PATIENCE)
+        stream.setsockopt(socket.IPPROTO_TCP, socket.TCP_NODELAY, 1)
+        return stream
+
+    def shell(self, lines, *words, user="root"):
+        return subprocess.run(
+            [PROGRAM, "shell", "--port", str(self.port), "--user", user, *words], input=lines,
+            stdout=subprocess.PIPE, stderr=subprocess.PIPE, timeout=60)
+
+    def ends(self):
+        """The status, or None where it goes on."""
+        try:
+            return self.process.wait(timeout=PATIENCE)
+        except subprocess.TimeoutExpired:
+            return None
+
+    def __enter__(self):
+        return self
+
+    def __exit__(self, *_):
+        if self.process.poll() is None:
+            self.process.kill()
+        self.process.communicate()
+
+
+def frame(body):
+    return struct.pack(">I", len(body)) + body
+
+
+def field(text):
+    return struct.pack(">I", len(text)) + text
+
+
+def read_exactly(stream, length):
+    got = b""
+    while len(got) < length:
+        piece = stream.recv(length - len(got))
+        if not piece:
+            return got
+        got += piece
+    return got
+
+
+def read_frame(stream):
+    head = read_exactly(stream, 4)
+    return head + read_exactly(stream, struct.unpack(">I", head)[0]) if len(head) == 4 else head
+
+
+HELLO = frame(b"\x01" + field(b"root"))
+OK = frame(b"\x80")
+MAKE = frame(b"\x02" + field(b"t") + b"\x00" + struct.pack(">I", 1))
+
+
+def run(*words, stdin=b"", **how):
+    how.setdefault("stdout", subprocess.PIPE)
+    return subprocess.run([PROGRAM, *words], input=stdin, stderr=subprocess.PIPE, timeout=60, **how)
+
+
+# ---- Command lines.
+def refused_command_lines():
+    for words in (
+        "serve", "serve --port", "serve --port 0", "serve --port 65536", "serve --port -1", "serve --port x",
+        "serve --port 1 --workers 0", "serve --port 1 --workers 65", "serve --port 1 --compactors 17",
+        "serve --port 1 --compactors -1", "serve --port 1 --accept 4294967296", "serve --port 1 --accept -1",
+        "serve --port 1 extra", "shell", "shell --port 1", "shell --user root", "shell --port 0 --user root",
+        "shell --port 65536 --user root", "shell --port 1 --user a/b", "shell --port 1 --user " + 129 * "u",
+        "shell --port 1 --user=", "shell --port 1 --user root extra",
+    ):
+        ran = run(*words.split())
+        count("refused: " + words[:40], (ran.returncode, ran.stdout) == (2, b"") and ran.stderr, ran)
+
+
+# ---- Statuses of a server.
+def statuses():
+    with Server("--accept", "1") as server:
+        count("it says that it listens", server.said == b"listening %d\n" % server.port, server.said)
+        ran = run("serve", "--port", str(server.port))
+        count("a port in use", ran.returncode == 1 and ran.stdout == b"" and ran.stderr ==
+              b"fault: port %d can't be listened on: Address already in use (os error 98)\n" % server.port, ran)
+        ran = run("serve", "--port", str(server.port), "--image", "none/such")
+        count("a failed image comes before a port in use", ran.returncode == 1 and ran.stdout == b"" and
+              ran.stderr == b"fault: none/such: the image can't be read\n", ran)
+        server.connect().close()
+        count("it ends after its one connection", server.ends() == 0, server.process.returncode)
+    with open("/dev/full", "wb") as full:
+        ran = run("serve", "--port", str(free_port()), stdout=full)
+        count("a full output", ran.returncode == 1 and ran.stderr ==
+              b"fault: the output can't be written: No space left on device (os error 28)\n", ran)
+    with Server("--accept", "3", "--workers", "1", "--compactors", "0") as server:
+        for _ in range(3):
+            ran = server.shell(b"createtable t\n")
+        count("three connections, one behind the other", ran.stdout == b"refused 10 TableExists t\n", ran)
+        count("and it ends", server.ends() == 0, server.process.returncode)
+
+
+# ---- Frames.
+def frames():
+    with Server() as server:
+        with server.connect() as stream:
+            stream.sendall(HELLO)
+            begun = time.monotonic()
+            count("a lone request is answered at once", read_frame(stream) == OK)
+            count("within a second", time.monotonic() - begun < 1)
+            stream.sendall(MAKE + MAKE + 2000 * frame(b"\x13" + field(b"t")))
+            told = [read_frame(stream) for _ in range(2002)]
+            count("pipelined requests are answered in order", told[0] == OK and told[1][4:6] == b"\x81\x0a" and
+                  set(told[2:]) == {frame(b"\x87" + struct.pack(">QQQ", 1, 0, 0))}, told[:3])
+            stream.sendall(b"\x00\x00\x00\x00")
+            count("what is no frame is told", read_frame(stream) == frame(b"\x81\x10\x01"))
+            count("and ends the connection", stream.recv(1) == b"")
+
+
+def side_by_side():
+    with Server() as server:
+        with server.connect() as stream:
+            stream.sendall(HELLO + MAKE)
+            read_exactly(stream, 2 * len(OK))
+            # Two clients at once: one more while the first one stays, and then the first one again.
+            with server.connect() as other:
+                other.sendall(HELLO + frame(b"\x12" + field(b"t")))
+                count("a second client is answered", read_frame(other) == OK and read_frame(other) == frame(b"\x83\x01"))
+            stream.sendall(frame(b"\x12" + field(b"t")))
+            count("and the first one goes on", read_frame(stream) == frame(b"\x83\x01"))
+            # One stops inside a frame and stays, another one closes inside a frame, a third one at once.
+            with server.connect() as stopped:
+                stopped.sendall(HELLO + MAKE[:7])
+                count("what came whole is answered", read_frame(stopped) == OK)
+                with server.connect() as gone:
+                    gone.sendall(HELLO + MAKE[:7])
+                server.connect().close()
+                ran = server.shell(b"splits t\n")
+                count("a client that stops inside a frame hinders none", ran.stdout == b"end\n", ran)
+                stopped.sendall(MAKE[7:])
+                count("and can go on", read_frame(stopped)[4:6] == b"\x81\x0a")
+
+
+def open_range(table):
+    return frame(b"\x0b" + field(table) + b"\x00\x00" + struct.pack(">II", 0, 0))
+
+
+def stuck_peers():
+    """Peers that never read, or stop inside a frame, take a worker each, and nothing else."""
+    with Server("--workers", "3") as server:
+        ran = server.shell(b"createtable t\ninsert t r f q \\e " + 500_000 * b"v" + b" 1\n")
+        count("a large cell", ran.stdout == b"ok\nok\n", ran.stdout[:99])
+        with server.connect() as deaf, server.connect() as stopped:
+            # some 500 MB are asked for, and none of it is read
+            deaf.sendall(HELLO + open_range(b"t") + 1000 * frame(b"\x0d" + struct.pack(">II", 0, 1) + b"\x00\x00"))
+            stopped.sendall(HELLO + MAKE[:7])
+            count("a peer that stops was answered before", read_frame(stopped) == OK)
+            time.sleep(0.3)
+            ran = server.shell(b"insert t s f q \\e w 1\nsplits t\n")
+            count("peers that are stuck hinder none", ran.stdout == b"ok\nend\n", ran)
+            with server.connect() as third:
+                third.sendall(HELLO)
+                count("the third worker", read_frame(third) == OK)
+                with server.connect() as fourth:
+                    fourth.sendall(HELLO)
+                    ready, _, _ = select.select([fourth], [], [], 0.5)
+                    count("one more waits", not ready)
+                    third.close()
+                    count("until a worker is free", read_frame(fourth) == OK)
+
+
+def shell_over_loopback():
+    with Server("--accept", "1") as server:
+        ran = server.shell(b"createtable t time=any\ninsert t r f q \\e v 5\nscan t \\0\n")
+        count("shell_over_loopback", (ran.returncode, ran.stdout) == (0, b"ok\nok\nr f q \\e 5 v\nend\n"), ran)
+
+
+def own_write_is_read():
+    """Each scan shows the cell that was written just before it, on one connection, beside another one that does the same."""
+    def put(value):
+        return frame(b"\x0a" + field(b"t") + field(b"r") + struct.pack(">I", 1) + b"\x01" + field(b"f") + field(b"q") + field(b"")
+                     + b"\x01" + struct.pack(">q", value) + field(b"%d" % value))
+
+    def cell(value):
+        return frame(b"\x82" + field(b"r") + field(b"f") + field(b"q") + field(b"") + struct.pack(">q", value) + field(b"%d" % value))
+
+    with Server() as server, server.connect() as stream:
+        stream.sendall(HELLO + MAKE)
+        told = [read_frame(stream) for _ in range(2)]
+        for value in range(200):
+            stream.sendall(put(value) + open_range(b"t") + frame(b"\x0c" + struct.pack(">II", value, 2)))
+            told += [read_frame(stream) for _ in range(4)]
+        wanted = 2 * [OK]
+        for value in range(200):
+            wanted += [OK, frame(b"\x84" + struct.pack(">I", value)), cell(value), frame(b"\x83\x01")]
+        count("own_write_is_read", told == wanted)
+
+
+# ---- The shell.
+def shell_lines(lines):
+    """The lines that a shell has too, and whether a script answers them alike: one user, no moments, no files."""
+    words = [line.split() for line in lines.split(b"\n")]
+    return not any(w and w[0] in (b"as", b"at", b"save", b"load", b"splitsize", b"begin", b"merge", b"install") for w in words)
+
+
+def cases():
+    """The scripts of tests/cases that a shell answers as a script does, each with its title."""
+    folder = os.path.join(TOP, "tests/cases")
+    for name in sorted(os.listdir(folder)):
+        scripts = []
+        with open(os.path.join(folder, name), "rb") as file:
+            for line in file.read().split(b"\n"):
+                if line.startswith(b"# "):
+                    scripts.append([line[2:].decode("latin-1"), b""])
+                elif line.startswith(b">"):
+                    scripts[-1][1] += line[2:] + b"\n"
+        for title, lines in scripts:
+            if shell_lines(lines) and not implicit_moments(lines):
+                yield name + ": " + title, lines
+
+
+def implicit_moments(lines):
+    """Whether a cell gets the clock, which a server takes from the machine's."""
+    for line in lines.split(b"\n"):
+        words = line.split()
+        if b"time=server" in words or words[:1] == [b"insert"] and len(words) == 7 or words[:1] == [b"delete"] and len(words) == 6:
+            return True
+        if words[:1] == [b"mutate"] and b"-" in words:
+            return True
+    return False
+
+
+MANY = b"createtable m\n" + b"".join(b"insert m r%05d f q \\e v 1\n" % n for n in range(2500)) + \
+    b"open m \\0\nnext 0 2000\nnext 0 2000\nmany 0 [r00001 [r00003 [z \\0\nmany 0\nclose 0\nnext 0 1\nscan m \\0\n"
+
+LINES = b"""createtable t
+insert t r f q \\e v 5
+scan t \\0
+splits t
+addsplit t r
+splits t
+status t
+rights t
+flush t
+compact t full
+scan nope \\0
+scan t \\0 [b [a
+scan t A
+scan t \\0 \\0 \\0 f:q,g
+setauths root A,B
+insert t r f q a& v 5
+insert t r f q C v 5
+constraints t visibility,numeric
+mutate t r put f q C x 1 ; put f q D 1 2 ; del f q \\e -
+mutate t r
+createuser bob
+grant bob READ t
+grant bob GRANT
+revoke root SYSTEM
+dropuser root
+droptable t
+bogus
+# nothing
+
+dropuser bob"""
+
+
+def shells():
+    found = 0
+    for name, lines in [("many lines", MANY), ("every line", LINES), *cases()]:
+        found += 1
+        wanted = run("script", stdin=lines)
+        with Server("--accept", "1") as server:
+            ran = server.shell(lines)
+            # A scan takes a number of the connection, and none of a script.
+            count("a shell answers %s as a script does" % name, (ran.returncode, ran.stderr) == (0, b"") and
+                  numberless(ran.stdout) == numberless(wanted.stdout), (ran, wanted))
+            count("status 0 behind %s" % name, server.ends() == 0)
+    count("there are cases", found > 10, found)
+    with Server() as server:
+        for line in (b"as root", b"at 5", b"save x", b"load x", b"splitsize t r 1", b"bogus"):
+            ran = server.shell(line + b"\n")
+            count("a shell has no %s" % line.decode(), ran.stdout == b"line fault\n" and ran.returncode == 0, ran)
+        ran = server.shell(b"insert t r f q \\e " + 9_000_000 * b"v" + b"\nrights t\n")
+        count("a request that is too long", ran.stdout == b"refused 16 BadFrame toolong\nrefused 2 NoTable t\n", ran.stderr)
+        ran = server.shell(b"rights t\n", user="ghost")
+        count("an unknown user", ran.stdout == b"refused 1 UnknownUser ghost\n", ran)
+        ran = server.shell(b"")
+        count("no line", (ran.returncode, ran.stdout, ran.stderr) == (0, b"", b""), ran)
+        with open("/dev/full", "wb") as full:
+            ran = run("shell", "--port", str(server.port), "--user", "root", stdin=b"bogus\n", stdout=full)
+            count("a full output of a shell", ran.returncode == 1 and ran.stderr ==
+                  b"fault: the output can't be written: No space left on device (os error 28)\n", ran)
+        one_by_one(server)
+    ran = run("shell", "--port", str(server.port), "--user", "root", stdin=b"bogus\n")
+    count("no server", ran.returncode == 1 and ran.stdout == b"" and ran.stderr ==
+          b"fault: no server is reached on port %d: Connection refused (os error 111)\n" % server.port, ran)
+    goes_away()
+
+
+def numberless(text):
+    """The text without the numbers of sessions."""
+    return b"\n".join(b"session" if line.startswith(b"session ") else line for line in text.split(b"\n"))
+
+
+def one_by_one(server):
+    """Each reply comes before the next line is given."""
+    process = subprocess.Popen([PROGRAM, "shell", "--port", str(server.port), "--user", "root"],
+                               stdin=subprocess.PIPE, stdout=subprocess.PIPE)
+    told = []
+    for line in (b"createtable one\n", b"scan one \\0\n", b"bogus\n"):
+        process.stdin.write(line)
+        process.stdin.flush()
+        ready, _, _ = select.select([process.stdout], [], [], PATIENCE)
+        told.append(process.stdout.readline() if ready else b"")
+    process.stdin.close()
+    count("a shell answers before it awaits more", told == [b"ok\n", b"end\n", b"line fault\n"], told)
+    count("status 0 at the end of its lines", process.wait(timeout=PATIENCE) == 0)
+
+
+def goes_away():
+    """A server that ends while a shell is there, one that isn't ours, and one that tells less than a reply."""
+    for name, reply, fault in (
+        ("ended", b"", b"fault: the server has ended the connection\n"),
+        ("cut", OK + b"\x00\x00", b"fault: the server has ended the connection\n"),
+        ("another server", b"HTTP/1.1 400 Bad Request\r\n\r\n", b"fault: the server's reply isn't understood\n"),
+        ("no such reply", OK + frame(b"\x8f"), b"fault: the server's reply isn't understood\n"),
+        ("bytes left over", OK + frame(b"\x80\x00"), b"fault: the server's reply isn't understood\n"),
+        ("a count that no frame holds", OK + frame(b"\x88\x00\x00\xff\xff\xff\xff"), b"fault: the server's reply isn't understood\n"),
+    ):
+        with socket.socket() as listener:
+            listener.bind(("127.0.0.1", 0))
+            listener.listen()
+            process = subprocess.Popen([PROGRAM, "shell", "--port", str(listener.getsockname()[1]), "--user", "root"],
+                                       stdin=subprocess.PIPE, stdout=subprocess.PIPE, stderr=subprocess.PIPE)
+            stream, _ = listener.accept()
+            process.stdin.write(b"bogus\nrights t\n")
+            process.stdin.flush()
+            stream.settimeout(PATIENCE)
+            stream.recv(65536)
+            stream.sendall(reply)
+            stream.shutdown(socket.SHUT_WR)
+            out, err = process.communicate(timeout=PATIENCE)
+            stream.close()
+            count("a server that goes away: " + name, (process.returncode, out, err) == (1, b"line fault\n", fault),
+                  (process.returncode, out, err))
+
+
+with tempfile.TemporaryDirectory() as work:
+    os.chdir(work)
+    for part in (refused_command_lines, statuses, frames, side_by_side, stuck_peers, own_write_is_read, shell_over_loopback, shells):
+        try:
+            part()
+        except Exception as fault:  # a part that doesn't come to its end is one failure
+            count(part.__name__, False, repr(fault))
+print("%d passed, %d failed" % (passed, failed))
+sys.exit(1 if failed else 0)

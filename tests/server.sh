@@ -1,0 +1,7 @@
+#!/usr/bin/env bash
+# The running server and its shell: command lines, statuses, connections that are cut or side by side, and that a shell prints what a
+# script prints. More is said in tests/server.py.
+# Usage: tests/server.sh   (from anywhere; wants python3; builds the program if it isn't built)
+top=$(cd "$(dirname -- "${BASH_SOURCE[0]}")/.." && pwd)
+"$top/tabd" --version >/dev/null || exit 1
+exec timeout 110 python3 "$top/tests/server.py" "$top"
