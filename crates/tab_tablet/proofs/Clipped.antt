@@ -1,5 +1,5 @@
 -- The records of runs and of tables, one after another.
-use Rattle.std.proofs.Common.{◌≡◌, ℕ, ◌<◌, ◌+◌, List, [], ◌∷◌, ◌++◌, Bool, sym, ◌∙◌, ap, length, take, get_or}
+use Rattle.std.proofs.Common.{◌≡◌, ℕ, ◌<◌, ◌+◌, List, [], ◌∷◌, ◌++◌, Bool, sym, ◌∙◌, ap, length, take, get_or, append_assoc}
 use Rattle.std.specs.Prelude.{filter, map, Contains}
 use Rattle.std.proofs.lemmas.List.{take_more, map-append}
 use Rattle.tab_key.specs.Records.{Record}
@@ -7,16 +7,13 @@ use Rattle.tab_key.specs.Sorted.{sorted}
 use Rattle.tab_key.proofs.Rising.{in_from, in_to, in_sorted}
 use Rattle.tab_cells.proofs.Lists.{filter_append}
 use Rattle.tab_iter.specs.Bags.{flat}
-use Rattle.tab_version.specs.Sources.{Sorted}
+use Rattle.tab_version.specs.Sources.{Sorted, Sources, records_of}
+pub use Rattle.tab_tablet.specs.Bodies.{held_in}
 use Rattle.tab_tablet.proofs.Gathered.{flat_more}
 
 -- those of the first runs, and of the next
 pub flat_next : (runs : List (List Record)) (i : ℕ) (run : List Record) → i < length runs → run ≡ get_or runs i run → flat (take (i + 1) runs) ≡ flat (take i runs) ++ run
 flat_next runs i run lt is = ap flat (take_more runs i run lt ∙ ap (λ x. take i runs ++ x ∷ []) (sym is)) ∙ flat_more (take i runs) run
-
--- all records that are held of some tables
-abbrev pub held_in : List Sorted → List Record
-held_in ts = flat (map (λ (t : Sorted). t.records) ts)
 
 -- with one more table
 pub held_more : (ts : List Sorted) (t : Sorted) → held_in (ts ++ t ∷ []) ≡ held_in ts ++ t.records
@@ -38,3 +35,20 @@ tables_more p tables clips more i table part lt is of before after =
 -- what lies below a number lies below it in order too
 pub below_sorted : (seq : ℕ) (us : List Record) → ((u : Record) → Contains us u → u.seq < seq) → (u : Record) → Contains (sorted us) u → u.seq < seq
 below_sorted seq us below u k = below u (in_to us u (in_sorted us u (in_from (sorted us) u k)))
+
+-- the same behind other records
+pub tables_beside : (p : Record → Bool) (first : List Record) (tables clips more : List Sorted) (i : ℕ) (table part : Sorted) → i < length tables → table ≡ get_or tables i table → part ≡ record table { records = filter p table.records }
+    → held_in clips ≡ first ++ filter p (held_in (take i tables)) → held_in more ≡ held_in clips ++ part.records → held_in more ≡ first ++ filter p (held_in (take (i + 1) tables))
+tables_beside p first tables clips more i table part lt is of before after =
+    after ∙ (λ j. before j ++ (of j).records)
+    ∙ append_assoc first (filter p (held_in (take i tables))) (filter p table.records)
+    ∙ ap (λ l. first ++ l) (sym (filter_append p (held_in (take i tables)) table.records) ∙ ap (filter p) (sym (held_next tables i table lt is)))
+
+-- the parts of bodies and of tables
+pub parts_read : (p : Record → Bool) (b : Sources) (ts : List Sorted) (runs : List (List Record)) (none some clips : List Sorted) → flat runs ≡ filter p (flat b.runs) → held_in none ≡ [] → held_in some ≡ held_in none ++ filter p (held_in b.tables) → held_in clips ≡ held_in some ++ filter p (held_in ts)
+    → flat runs ++ held_in clips ≡ filter p (records_of b ++ held_in ts)
+parts_read p b ts runs none some clips of_runs empty first second =
+    (λ i. of_runs i ++ (second ∙ ap (λ l. l ++ filter p (held_in ts)) (first ∙ ap (λ l. l ++ filter p (held_in b.tables)) empty)) i)
+    ∙ sym (append_assoc (filter p (flat b.runs)) (filter p (held_in b.tables)) (filter p (held_in ts)))
+    ∙ ap (λ l. l ++ filter p (held_in ts)) (sym (filter_append p (flat b.runs) (held_in b.tables)))
+    ∙ sym (filter_append p (records_of b) (held_in ts))

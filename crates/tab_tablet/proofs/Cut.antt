@@ -20,7 +20,7 @@ use Rattle.tab_tablet.specs.Tablets.{Tablet, frozen}
 use Rattle.tab_tablet.proofs.Clipped.{held_in}
 use Rattle.tab_tablet.proofs.Moved.{distinct_right}
 
-runs_cut : (p : Record → Bool) (runs : List (List Record)) → flat (map (filter p) runs) ≡ filter p (flat runs)
+pub runs_cut : (p : Record → Bool) (runs : List (List Record)) → flat (map (filter p) runs) ≡ filter p (flat runs)
 runs_cut p [] = refl
 runs_cut p (run ∷ runs) = ap (λ l. filter p run ++ l) (runs_cut p runs) ∙ sym (filter_append p run (flat runs))
 

@@ -8,6 +8,7 @@ pub mod Compacted
 pub mod Larger
 pub mod Counted
 pub mod Cut
+pub mod BodyLaws
 pub mod Tabled
 pub mod Listings
 pub mod Rows

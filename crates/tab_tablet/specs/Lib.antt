@@ -1,3 +1,4 @@
+pub mod Bodies
 pub mod Opened
 pub mod Tablets
 pub mod Splitting

@@ -1,7 +1,10 @@
 //! What was written, made a run.
 ghost use Rattle.std.specs.Prelude.{◌≡◌, ◌++◌, OnOk};
+ghost use Rattle.tab_key.specs.Sorted.{IsDistinct};
+ghost use Rattle.tab_version.specs.Sources.{records_of};
 ghost use Rattle.tab_tablet.specs.Tablets.{run_of};
 
+use crate::layers::Layers;
 use std::alloc::{AllocError, Global};
 use tab_mem::Active;
 use tab_version::{Clip, Clips};
@@ -19,4 +22,20 @@ pub(crate) fn add_frozen(
     }
     let run = active.to_run(alloc)?;
     sources.add_run(Clip::whole(run))
+}
+
+/// The same, and the bodies hold that run's records then.
+pub(crate) fn add_prepared(
+    alloc: Global,
+    active: &Active,
+    layers: &mut Layers,
+) -> Result<(), AllocError>
+    requires { IsDistinct (active.now ++ records_of layers.old) }
+    ensures { OnOk result (layers.new ≡ record (layers.old) { runs = layers.old.runs ++ run_of active.now }) }
+{
+    if active.is_empty() {
+        return Ok(());
+    }
+    let freeze = layers.prepare(alloc, active)?;
+    layers.put(freeze)
 }

@@ -7,8 +7,12 @@
 //! | File | What |
 //! |---|---|
 //! | `tablet` | the tablet: writes, freezes, compactions, splits, and what a scan reads |
+//! | `layers` | the sources, and the bodies that scans read in the place of runs |
+//! | `bodies` | these, with one more run |
+//! | `merging` | sources merged into one sorted table |
 //! | `freezing` | what was written, made a run |
-//! | `clipping` | the sources' records in range |
+//! | `freeze` | what is made before a tablet is frozen in its place |
+//! | `clipping` | the records of bodies and tables in range |
 //! | `listing` | all that sources hold, to be listed |
 //! | `restoring` | records, made a sorted table |
 //! | `compacting` | the sources after a compaction |
@@ -22,12 +26,16 @@
 //! | `specs/Splitting`, `SplitExamples` | splits, and worked examples |
 #![tactic(auto)]
 
+mod bodies;
 mod bounding;
 mod clipping;
 mod compacting;
 mod counting;
+mod freeze;
 mod freezing;
+mod layers;
 mod listing;
+mod merging;
 mod middle;
 mod probing;
 mod restoring;
@@ -37,4 +45,5 @@ mod sparing;
 mod tablet;
 
 pub use bounding::{rows_above, rows_up_to};
+pub use freeze::Freeze;
 pub use tablet::Tablet;

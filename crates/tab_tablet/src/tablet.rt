@@ -1,5 +1,5 @@
 //! The tablet.
-ghost use Rattle.std.specs.Prelude.{◌≡◌, ◌<◌, ◌==◌, [], None, IfOk, OnOk, OnErr, Contains, length, filter, min};
+ghost use Rattle.std.specs.Prelude.{◌≡◌, ◌<◌, ◌==◌, [], None, false, IfOk, OnOk, OnErr, Contains, length, filter, min};
 ghost use Rattle.std.specs.Ordering.{is_le, is_gt};
 ghost use Rattle.tab_key.specs.Bytes.{bytes_cmp};
 ghost use Rattle.tab_key.specs.Ranges.{is_in_range};
@@ -9,15 +9,16 @@ ghost use Rattle.tab_mutation.specs.Shape.{shape_error};
 ghost use Rattle.tab_cells.specs.Written.{mutation_records};
 ghost use Rattle.tab_version.specs.Sources.{clipped, count_of, records_of, size_of};
 ghost use Rattle.tab_compact.specs.Merges.{captured};
+ghost use Rattle.tab_tablet.specs.Bodies.{IsFreezeOf};
 ghost use Rattle.tab_tablet.specs.Spared.{sources_after};
 ghost use Rattle.tab_tablet.specs.Splitting.{cut_to, middle_row, rows_in};
 ghost use Rattle.tab_tablet.specs.Tablets.{new_tablet, records_in, written, frozen, compacted, tabled};
 
 use crate::bounding::{rows_above, rows_up_to};
-use crate::clipping::clips_in;
-use crate::compacting::compacted;
 use crate::counting::{count_records, total_size};
-use crate::freezing::add_frozen;
+use crate::freeze::Freeze;
+use crate::freezing::{add_frozen, add_prepared};
+use crate::layers::Layers;
 use crate::listing::version_of;
 use crate::middle::middle_row;
 use crate::restoring::table_of;
@@ -35,7 +36,7 @@ use tab_version::{Clip, Clips, Version};
 #[derive(Drop)]
 pub struct Tablet {
     active: Active,
-    sources: Clips,
+    sources: Layers,
 }
 
 impl Model for Tablet {
@@ -58,7 +59,7 @@ impl Tablet {
     {
         Tablet {
             active: Active::new(alloc),
-            sources: Clips::new(alloc),
+            sources: Layers::new(alloc),
         }
     }
 
@@ -69,7 +70,8 @@ impl Tablet {
         ensures { IfOk result (λ t. t ≡ tabled None records.now) }
     {
         let _count = records.len();
-        let sources = table_of(alloc, records)?;
+        let tables = table_of(alloc, records)?;
+        let sources = Layers::of_tables(alloc, tables);
         Ok(Tablet {
             active: Active::new(alloc),
             sources,
@@ -100,12 +102,12 @@ impl Tablet {
     /// The tablet with what was written frozen into a run, which comes last; without records there it gives no run. This one stays
     /// as it is.
     ///
-    /// It takes memory for the run and for a share of each source. `AllocError` says that it lacked.
+    /// It takes memory for the run and for a share of each source and of what scans read. `AllocError` says that it lacked.
     pub fn frozen(&self, alloc: Global) -> Result<Tablet, AllocError>
         ensures { IfOk result (λ t. t ≡ frozen self.now) }
     {
         let mut sources = self.sources.share(alloc)?;
-        add_frozen(alloc, &self.active, &mut sources)?;
+        add_prepared(alloc, &self.active, &mut sources)?;
         Ok(Tablet {
             active: Active::new(alloc),
             sources,
@@ -142,7 +144,7 @@ impl Tablet {
         ensures { IfOk result (λ t. t ≡ record (self) { sources = sources_after kind (captured kind floor versions self.sources) self.sources }) }
     {
         let Tablet { active, sources } = self;
-        let sources = compacted(alloc, kind, sources, floor, versions)?;
+        let sources = sources.compacted(alloc, kind, floor, versions)?;
         Ok(Tablet { active, sources })
     }
 
@@ -175,14 +177,52 @@ impl Tablet {
         })
     }
 
-    /// The parts of its sources whose rows are in bounds, without those that have no record there. What was written must be frozen.
+    /// What is made before it is frozen in its place: a run of what was written, and what scans then read. It stays as it is.
     ///
-    /// It takes memory for one clip a source; the records are shared. `AllocError` says that it lacked.
+    /// Where scans read small bodies, these are merged with the run: over many freezes each record is copied as often as the
+    /// logarithm of 65,536, at most. `AllocError` says that memory lacked.
+    pub fn prepare(&self, alloc: Global) -> Result<Freeze, AllocError>
+        requires { (length self.now.active == 0) ≡ false }
+        ensures { IfOk result (λ f. IsFreezeOf self.now f) }
+    {
+        self.sources.prepare(alloc, &self.active)
+    }
+
+    /// Freezes it in its place: the run comes last. It takes memory for one place in the list of runs.
+    ///
+    /// `AllocError` leaves all as it was.
+    pub fn freeze(&mut self, alloc: Global, freeze: Freeze) -> Result<(), AllocError>
+        requires { IsFreezeOf self.old freeze }
+        ensures ok { OnOk result (self.new ≡ frozen self.old) }
+        ensures err { OnErr result (self.new ≡ self.old) }
+    {
+        self.sources.put(freeze)?;
+        self.active = Active::new(alloc);
+        Ok(())
+    }
+
+    /// What a scan of these rows reads. What was written must be frozen. A contract sees the records, in their order.
+    ///
+    /// Runs are not looked at: it takes time and memory for one clip a sorted table and a body, of which there are few however many
+    /// runs there are. The records are shared. `AllocError` says that memory lacked.
     pub fn clips(&self, alloc: Global, bounds: &Bounds) -> Result<Clips, AllocError>
         requires { self.now.active ≡ [] }
-        ensures { IfOk result (λ c. records_of c ≡ filter (λ u. is_in_range bounds.now u.key.row) (records_in self.now)) }
+        ensures { IfOk result (λ c. sorted (records_of c) ≡ sorted (filter (λ u. is_in_range bounds.now u.key.row) (records_in self.now))) }
     {
-        clips_in(alloc, &self.sources, bounds)
+        self.sources.clips(alloc, bounds)
+    }
+
+    /// What a scan of these rows reads once it is frozen. It stays as it is.
+    pub fn clips_after(
+        &self,
+        alloc: Global,
+        freeze: &Freeze,
+        bounds: &Bounds,
+    ) -> Result<Clips, AllocError>
+        requires { IsFreezeOf self.now freeze.now }
+        ensures { IfOk result (λ c. sorted (records_of c) ≡ sorted (filter (λ u. is_in_range bounds.now u.key.row) (records_in (frozen self.now)))) }
+    {
+        self.sources.clips_after(alloc, freeze, bounds)
     }
 
     /// All that it holds, as a version, which lists it: what was written since the last freeze as a run, and a share of each source.
@@ -193,7 +233,7 @@ impl Tablet {
         ensures held { IfOk result (λ v. v ≡ records_in (frozen self.now)) }
         ensures listed { IfOk result (λ v. sorted v ≡ sorted (records_in self.now)) }
     {
-        let mut sources = self.sources.share(alloc)?;
+        let mut sources = self.sources.sources().share(alloc)?;
         add_frozen(alloc, &self.active, &mut sources)?;
         version_of(alloc, sources)
     }
@@ -207,28 +247,29 @@ impl Tablet {
         requires { self.now.active ≡ [] }
         ensures { IfOk result (λ row. row ≡ middle_row (rows_in self.now)) }
     {
-        middle_row(alloc, &self.sources)
+        middle_row(alloc, self.sources.sources())
     }
 
     /// The bytes of its sorted tables together, each with its whole size; the greatest `u64` for any number above it.
     pub fn size(&self) -> u64
         ensures { result ≡ min (size_of self.now.sources) 18446744073709551615 }
     {
-        total_size(self.sources.tables())
+        total_size(self.sources.sources().tables())
     }
 
     /// How many runs and sorted tables there are; the greatest `u64` for any number above it.
     pub fn count_sources(&self) -> u64
         ensures { result ≡ min (count_of self.now.sources) 18446744073709551615 }
     {
-        let runs = self.sources.runs().len() as u64;
-        runs.saturating_add(self.sources.tables().len() as u64)
+        let sources = self.sources.sources();
+        let runs = sources.runs().len() as u64;
+        runs.saturating_add(sources.tables().len() as u64)
     }
 
     /// How many records there are, markers and hidden ones among them; the greatest `u64` for any number above it.
     pub fn count_records(&self) -> u64
         ensures { result ≡ min (length (records_in self.now)) 18446744073709551615 }
     {
-        count_records(&self.sources).saturating_add(self.active.len() as u64)
+        count_records(self.sources.sources()).saturating_add(self.active.len() as u64)
     }
 }

@@ -1,4 +1,4 @@
-use Rattle.std.proofs.Common.{◌≡◌, ◌∙◌, List, [], ◌∷◌, ◌++◌, map, ap, sym, subst, append-nil, rules}
+use Rattle.std.proofs.Common.{◌≡◌, ◌∙◌, List, [], ◌∷◌, map, ap, sym, subst, append-nil, rules}
 use Rattle.tab_key.specs.Sorted.{sorted}
 use Rattle.tab_key.proofs.Rising.{rising_sorted}
 use Rattle.tab_iter.specs.Bags.{flat}

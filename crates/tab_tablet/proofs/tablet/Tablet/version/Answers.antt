@@ -1,7 +1,6 @@
-use Rattle.std.proofs.Common.{◌≡◌, [], ap, subst, rules}
+use Rattle.std.proofs.Common.{◌≡◌, [], subst, rules}
 use Rattle.std.specs.Prelude.{None, IfOk}
 use Rattle.tab_key.specs.Sorted.{sorted, IsDistinct}
-use Rattle.tab_version.specs.Sources.{records_of}
 use Rattle.tab_tablet.specs.Tablets.{Tablet, records_in, frozen}
 use Rattle.tab_tablet.proofs.Compacted.{frozen_distinct_in}
 use Rattle.tab_tablet.proofs.Listings.{lists}

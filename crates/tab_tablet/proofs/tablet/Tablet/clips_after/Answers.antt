@@ -1,0 +1,11 @@
+use Rattle.std.proofs.Common.{refl, sym, subst}
+use Rattle.std.specs.Prelude.{None}
+use Rattle.tab_tablet.specs.Tablets.{Tablet}
+use Rattle.tab_tablet.specs.Bodies.{IsFreezeOf}
+use Rattle.tab_tablet.proofs.BodyLaws.{freeze_distinct}
+use Rattle.tab_tablet.proofs.tablet.Tablet.clips_after.Goals as goal
+
+pub clips_after-requires-clause-distinct : goal.clips_after-requires-clause-distinct
+clips_after-requires-clause-distinct c =
+    let bare : Tablet = record { end = None; active = c.self.inside.active; sources = c.self.inside.sources } in
+    freeze_distinct bare c.args.freeze.now _ (subst (λ (t : Tablet). IsFreezeOf t c.args.freeze.now) (sym c.self.view_is) c.requires) c.self.invariant refl

@@ -1,0 +1,29 @@
+-- What scans read in the place of runs, and what is made before a freeze.
+use Rattle.std.specs.Prelude.{◌≡◌, List, [], ◌∷◌, ◌++◌, map}
+use Rattle.std.specs.List.Sorted.{IsPermutation}
+use Rattle.tab_key.specs.Records.{Record}
+use Rattle.tab_cells.specs.declared.compaction.Compaction.{Compaction}
+use Rattle.tab_cells.specs.declared.compaction.Compaction.TheVariants.{Minor, Partial, Full}
+use Rattle.tab_iter.specs.Bags.{flat}
+use Rattle.tab_version.specs.Sources.{Sorted, Sources, no_sources, records_of}
+use Rattle.tab_tablet.specs.Tablets.{Tablet, run_of}
+use Rattle.tab_tablet.specs.declared.freeze.Freeze.{Freeze}
+
+-- all records that are held of some tables
+abbrev pub held_in : List Sorted → List Record
+held_in ts = flat (map (λ (t : Sorted). t.records) ts)
+
+-- the bodies hold the records of the runs, each once
+abbrev pub AreBodies : List (List Record) → Sources → Type 0
+AreBodies runs bodies = IsPermutation (flat runs) (records_of bodies)
+
+-- the bodies after a compaction: a partial one leaves the runs, the others merge them
+abbrev pub bodies_after : Compaction → Sources → Sources
+bodies_after Minor bodies = no_sources
+bodies_after Partial bodies = bodies
+bodies_after Full bodies = no_sources
+
+-- a run of what was written to the tablet, and the bodies of its runs and this one
+pub record IsFreezeOf (t : Tablet) (f : Freeze) : Type 0 where
+  pub run : run_of t.active ≡ f.run ∷ []
+  pub bodies : AreBodies (t.sources.runs ++ f.run ∷ []) f.bodies
