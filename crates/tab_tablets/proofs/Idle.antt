@@ -1,12 +1,17 @@
 -- A tablet to which nothing was written, and one that is frozen: what is read of it, and what is put in its place.
-use Rattle.std.proofs.Common.{◌≡◌, ◌∙◌, inr, ℕ, ◌<◌, List, [], true, length, sym, ap}
-use Rattle.std.specs.Prelude.{filter, ◌==◌}
+use Rattle.std.proofs.Common.{◌≡◌, ◌≢◌, ◌∙◌, inr, ℕ, zero, suc, ◌<◌, List, [], ◌∷◌, true, length, refl, sym, ap, subst, arith}
+use Rattle.std.specs.Prelude.{filter, map, Result, IfOk, ◌==◌}
 use Rattle.tab_key.specs.Ranges.{is_in_range}
 use Rattle.tab_key.specs.Records.{Record}
 use Rattle.tab_key.specs.declared.range.Bounds.{Bounds}
 use Rattle.tab_tablet.specs.Tablets.{Tablet, records_in, frozen}
 use Rattle.tab_tablet.proofs.Compacted.{none_waits, frozen_itself}
-use Rattle.tab_tablets.specs.Places.{ended, tablet_at, IsMadeOf, IsSettled, part_in}
+use Rattle.tab_tablets.specs.Places.{ended, tablet_at, at_place, IsMadeOf, IsSettled, part_in}
+use Rattle.tab_key.specs.Sorted.{sorted}
+use Rattle.tab_version.specs.Sources.{Sources, records_of}
+use Rattle.tab_tablet.specs.Bodies.{IsFreezeOf}
+use Rattle.tab_tablet.specs.declared.freeze.Freeze.{Freeze}
+use Rattle.tab_tablets.proofs.At.{one}
 use Rattle.tab_tablets.specs.declared.made.Made.{Made}
 
 module _ (t bare : Tablet) (is : ended t.end bare ≡ t) where
@@ -35,3 +40,29 @@ idle_settled ts ms place bare is e = inr (idle_itself (tablet_at ts place) bare 
 -- where nothing waits there a freeze changes nothing
 pub waits_settled : (ts : List Tablet) (ms : List Made) (place : ℕ) → (tablet_at ts place).active ≡ [] → IsSettled frozen ts ms place
 waits_settled ts ms place e = inr (frozen_itself (tablet_at ts place) e)
+
+-- ---- one that is frozen in its place
+module _ (t bare : Tablet) (f : Freeze) (is : ended t.end bare ≡ t) where
+  pub freeze_there : IsFreezeOf bare f → IsFreezeOf t f
+  freeze_there h = subst (λ (x : Tablet). IsFreezeOf x f) is (record { run = h.run; bodies = h.bodies })
+
+  pub freeze_bare : IsFreezeOf t f → IsFreezeOf bare f
+  freeze_bare h = let k = subst (λ (x : Tablet). IsFreezeOf x f) (sym is) h in record { run = k.run; bodies = k.bodies }
+
+-- what is read of a tablet is its part
+module _ {E : Type 0} (bounds : Bounds) (t bare : Tablet) (is : ended t.end bare ≡ t) (r : Result Sources E) where
+  pub frozen_read : IfOk r (λ c. sorted (records_of c) ≡ sorted (filter (λ (u : Record). is_in_range bounds u.key.row) (records_in (frozen bare)))) → IfOk r (λ c. sorted (records_of c) ≡ sorted (part_in bounds t))
+  frozen_read h = subst (λ (x : Tablet). IfOk r (λ c. sorted (records_of c) ≡ sorted (part_in bounds x))) is h
+
+  pub idle_read : t.active ≡ [] → IfOk r (λ c. sorted (records_of c) ≡ sorted (filter (λ (u : Record). is_in_range bounds u.key.row) (records_in bare))) → IfOk r (λ c. sorted (records_of c) ≡ sorted (part_in bounds t))
+  idle_read e h = subst (λ (x : Tablet). IfOk r (λ c. sorted (records_of c) ≡ sorted (filter (λ (u : Record). is_in_range bounds u.key.row) (records_in x)))) (is ∙ sym (frozen_itself t e)) h
+
+-- where nothing waits elsewhere, all of them are frozen then
+all_idle : (ts : List Tablet) → ((k : ℕ) → (tablet_at ts k).active ≡ []) → map frozen ts ≡ ts
+all_idle [] idle = refl
+all_idle (t ∷ ts) idle = λ i. frozen_itself t (idle 0) i ∷ all_idle ts (λ k. idle (suc k)) i
+
+pub frozen_only : (ts : List Tablet) (p : ℕ) → ((k : ℕ) → k ≢ p → (tablet_at ts k).active ≡ []) → at_place p (one frozen) ts ≡ map frozen ts
+frozen_only [] p idle = refl
+frozen_only (t ∷ ts) zero idle = ap (λ l. frozen t ∷ l) (sym (all_idle ts (λ k. idle (suc k) (λ e. let z = e in omega (arith, z)))))
+frozen_only (t ∷ ts) (suc p) idle = λ i. sym (frozen_itself t (idle 0 (λ e. let z = e in omega (arith, z)))) i ∷ frozen_only ts p (λ k ne. idle (suc k) (λ e. ne (let z = e in omega (arith, z)))) i

@@ -1,5 +1,5 @@
 -- What a table's tablets keep, whatever is done to them.
-use Rattle.std.proofs.Common.{◌≡◌, ◌≢◌, ℕ, zero, suc, ◌+◌, ◌<◌, List, [], ◌∷◌, ◌++◌, Bool, true, false, cond, ◌||◌, refl, sym, ◌∙◌, ap, subst, length, arith}
+use Rattle.std.proofs.Common.{◌≡◌, ◌≢◌, ℕ, zero, suc, ◌+◌, ◌<◌, List, [], ◌∷◌, ◌++◌, Bool, true, false, cond, ◌||◌, refl, sym, ◌∙◌, ap, subst, length, get_or, arith}
 use Rattle.std.specs.Prelude.{ℤ, Option, Some, None, Result, Ok, Err, OnOk, OnErr, map, reverse, ◌==◌, nat_lt}
 use Rattle.std.specs.List.{AllByRecursion, filter_map, cons_option}
 use Rattle.std.proofs.lemmas.Bool.Decides.{nat_tests}
@@ -71,6 +71,18 @@ module _ (ts : List Tablet) (ws : List ℕ) (kept : AreKept ts ws) where
         or_true : (v : Bool) → (v || (true || false)) ≡ true
         or_true true = refl
         or_true false = refl
+
+  -- where one place is noted, nothing waits elsewhere
+  pub only_one : length ws ≡ 1 → (p : ℕ) → p ≡ get_or ws 0 p → (p < length ts) × ((k : ℕ) → k ≢ p → (tablet_at ts k).active ≡ [])
+  only_one count p is = go ws count is kept.inside kept.waiting
+    where
+      other : (w k : ℕ) → k ≢ w → (w == k) ≡ false
+      other w k ne = by_bool (w == k) (λ t. absurd (ne (sym (same_place w k t)))) (λ f. f)
+
+      go : (vs : List ℕ) → length vs ≡ 1 → p ≡ get_or vs 0 p → AllByRecursion (λ w. w < length ts) vs → ((k : ℕ) → is_among vs k ≡ false → (tablet_at ts k).active ≡ []) → (p < length ts) × ((k : ℕ) → k ≢ p → (tablet_at ts k).active ≡ [])
+      go [] n e inside waiting = absurd (omega (arith, n))
+      go (v ∷ []) n e inside waiting = (subst (λ w. w < length ts) (sym e) inside.0, λ k ne. waiting k (ap (λ x. x || false) (other v k (λ s. ne (s ∙ sym e)))))
+      go (v ∷ w ∷ vs) n e inside waiting = absurd (omega (arith, n))
 
   -- ---- a freeze or a compaction of all of them
   pub kept_all : (f : Tablet → Tablet) → ((t : Tablet) → (f t).end ≡ t.end) → ((t : Tablet) (u : Record) → IsIn (records_in (f t)) u → IsIn (records_in t) u) → ((t : Tablet) → (f t).active ≡ []) → AreKept (map f ts) []

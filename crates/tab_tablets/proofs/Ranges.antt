@@ -29,6 +29,7 @@ use Rattle.tab_iter.specs.Stack.{query_of}
 use Rattle.tab_iter.proofs.BagLaws.{sorted_filter}
 use Rattle.tab_iter.proofs.ColumnLaws.{filter_none}
 use Rattle.tab_version.specs.Sources.{Sources, records_of}
+use Rattle.tab_version.proofs.InOrder.{all_distinct, all_sorted, cells_sorted}
 use Rattle.tab_tablet.specs.Opened.{ShowsRowsOf}
 use Rattle.tab_tablet.specs.Tablets.{Tablet, new_tablet, records_in, frozen}
 use Rattle.tab_tablet.proofs.Compacted.{frozen_in, frozen_sorted, frozen_distinct_in}
@@ -66,6 +67,13 @@ none_below ts high row p k q lt r = (
   by_bool (is_le (bytes_cmp row high)) (λ t. absurd (true≢false (not_below ts row high k p r lt q t))) (λ f. f),
   by_bool (is_lt (bytes_cmp row high)) (λ t. absurd (true≢false (not_below ts row high k p r lt q (lt_up_to row high t)))) (λ f. f),
 )
+
+-- ---- what is read, in its order
+abbrev pub in_its_order : Sources → List Record
+in_its_order c = sorted (records_of c)
+
+abbrev pub part_sorted : Bounds → Tablet → List Record
+part_sorted bounds t = sorted (part_in bounds t)
 
 -- ---- tablets outside of a range
 module _ (g : Tablet → List Record) where
@@ -129,6 +137,11 @@ module _ (bounds : Bounds) where
       (λ i. (sorted_filter seen (records_in (frozen t)) (frozen_distinct_in t here) ∙ ap (filter seen) (frozen_sorted t here)) i ++ parts_rise ts (distinct_right (sorted (records_in t)) (in_order ts) d) i)
       ∙ sym (filter-append seen (sorted (records_in t)) (in_order ts))
 
+  -- the parts, each in its order
+  parts_permuted : (ts : List Tablet) → IsPermutation (flat (map (λ (t : Tablet). sorted (part_in bounds t)) ts)) (flat (map (part_in bounds) ts))
+  parts_permuted [] = IsPermutation-refl []
+  parts_permuted (t ∷ ts) = IsPermutation-append (sorted (part_in bounds t)) (part_in bounds t) (flat (map (λ (t : Tablet). sorted (part_in bounds t)) ts)) (flat (map (part_in bounds) ts)) (IsPermutation-sym (part_in bounds t) (sorted (part_in bounds t)) (permuted_sorted (part_in bounds t))) (parts_permuted ts)
+
   module _ (ts : List Tablet) (apart : LieApart ts) where
     once : IsDistinct (in_order ts)
     once = rising_distinct (in_order ts) apart
@@ -140,6 +153,15 @@ module _ (bounds : Bounds) where
         ap (λ l. cells l n (query_of columns auths)) (e ∙ parts_are ts)
         ∙ cells_open after n bounds columns auths (distinct_permuted (in_order ts) after permuted once)
         ∙ ap (λ l. cells l n (record { bounds = bounds; columns = columns; authorizations = auths })) (sym (sorted_once (in_order ts) after once permuted) ∙ sorted_once (in_order ts) (records_of_all ts) once (held_permuted ts))
+
+    -- what holds the same records, in any order, shows the same
+    pub shows_once : (v : List Record) → IsDistinct v → IsPermutation v (flat (map (part_in bounds) ts)) → ShowsRowsOf bounds (sorted (records_of_all ts)) v
+    shows_once v d p = λ n columns auths.
+        let u = flat (map (part_in bounds) ts) in
+        sym (cells_sorted v (sorted v) n columns auths d refl)
+        ∙ ap (λ l. cells l n (query_of columns auths)) (sorted_once v u d p)
+        ∙ cells_sorted u (sorted u) n columns auths (distinct_permuted v u p d) refl
+        ∙ shows u refl n columns auths
 
     pub rises : IsRising (flat (map (λ (t : Tablet). sorted (part_in bounds t)) ts))
     rises = subst IsRising (sym (parts_rise ts once)) (IsStrictlySortedBy-filter record_cmp seen (in_order ts) apart)
@@ -154,29 +176,30 @@ module _ (bounds : Bounds) (ts : List Tablet) (own : HoldOwnRows ts) (apart : Li
       go (inl lt) u q = ap (λ v. v && is_below bounds.high u.key.row) (low k u.key.row lt q)
       go (inr ge) u q = ap (λ v. is_above bounds.low u.key.row && v) (high k u.key.row (omega arith) q) ∙ and_false (is_above bounds.low u.key.row)
 
-  module _ (cs : List Sources) (are : map records_of cs ≡ map (part_in bounds) (slice_range ts a b)) where
-    sorted_map : {X : Type 0} (f : X → List Record) (xs : List X) → map (λ x. sorted (f x)) xs ≡ map sorted (map f xs)
-    sorted_map f [] = refl
-    sorted_map f (x ∷ xs) = ap (λ l. sorted (f x) ∷ l) (sorted_map f xs)
+  module _ (cs : List Sources) (are : map in_its_order cs ≡ map (part_sorted bounds) (slice_range ts a b)) where
+    all_are : flat (map in_its_order cs) ≡ flat (map (part_sorted bounds) ts)
+    all_are = ap flat are ∙ within (part_sorted bounds) ts a b order (λ k in_ts o. ap sorted (unseen k in_ts o))
 
     pub clips_rise : IsRising (flat (map (λ (c : Sources). sorted (records_of c)) cs))
-    clips_rise = subst IsRising
-        (sym (within (λ (t : Tablet). sorted (part_in bounds t)) ts a b order (λ k in_ts o. ap sorted (unseen k in_ts o)))
-        ∙ ap flat (sorted_map (part_in bounds) (slice_range ts a b) ∙ ap (map sorted) (sym are) ∙ sym (sorted_map records_of cs)))
-        (rises bounds ts apart)
+    clips_rise = subst IsRising (sym all_are) (rises bounds ts apart)
 
     pub clips_show : (v : List Record) → v ≡ flat (map records_of cs) → ShowsRowsOf bounds (sorted (records_of_all ts)) v
-    clips_show v is = shows bounds ts apart v (is ∙ ap flat are ∙ within (part_in bounds) ts a b order unseen)
+    clips_show v is =
+        let w = flat (map records_of cs) in
+        let u = flat (map (part_in bounds) ts) in
+        subst (ShowsRowsOf bounds (sorted (records_of_all ts))) (sym is)
+        (shows_once bounds ts apart w (all_distinct cs clips_rise)
+        (IsPermutation-trans w (flat (map (part_sorted bounds) ts)) u (subst (IsPermutation w) (sym (all_sorted cs clips_rise) ∙ all_are) (permuted_sorted w)) (parts_permuted bounds ts)))
 
 -- one tablet more
-pub range_more : (bounds : Bounds) (ts : List Tablet) (from i : ℕ) (cs : List Sources) (c : Sources) → from ≤ i → i < length ts → map records_of cs ≡ map (part_in bounds) (slice_range ts from i) → records_of c ≡ part_in bounds (tablet_at ts i)
-    → map records_of (cs ++ c ∷ []) ≡ map (part_in bounds) (slice_range ts from (i + 1))
+pub range_more : (bounds : Bounds) (ts : List Tablet) (from i : ℕ) (cs : List Sources) (c : Sources) → from ≤ i → i < length ts → map in_its_order cs ≡ map (part_sorted bounds) (slice_range ts from i) → in_its_order c ≡ part_sorted bounds (tablet_at ts i)
+    → map in_its_order (cs ++ c ∷ []) ≡ map (part_sorted bounds) (slice_range ts from (i + 1))
 range_more bounds ts from i cs c le lt are is =
-    map-append records_of cs (c ∷ [])
+    map-append in_its_order cs (c ∷ [])
     ∙ (λ j. are j ++ is j ∷ [])
-    ∙ sym (map-append (part_in bounds) (slice_range ts from i) (tablet_at ts i ∷ []))
-    ∙ ap (map (part_in bounds)) (sym (between_more ts from i (new_tablet None) le lt))
+    ∙ sym (map-append (part_sorted bounds) (slice_range ts from i) (tablet_at ts i ∷ []))
+    ∙ ap (map (part_sorted bounds)) (sym (between_more ts from i (new_tablet None) le lt))
 
 -- and none at first
-pub range_none : (bounds : Bounds) (ts : List Tablet) (i : ℕ) → map (part_in bounds) (slice_range ts i i) ≡ []
-range_none bounds ts i = ap (map (part_in bounds)) (between_none ts i)
+pub range_none : (bounds : Bounds) (ts : List Tablet) (i : ℕ) → map (part_sorted bounds) (slice_range ts i i) ≡ []
+range_none bounds ts i = ap (map (part_sorted bounds)) (between_none ts i)

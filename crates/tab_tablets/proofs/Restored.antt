@@ -16,15 +16,14 @@ use Rattle.tab_key.specs.Sorted.{sorted, IsIn}
 use Rattle.tab_key.proofs.Rising.{in_filter}
 use Rattle.tab_cells.proofs.Lists.{by_bool, filter_seen, in_append}
 use Rattle.tab_cells.proofs.Rising.{sorted_rising}
-use Rattle.tab_iter.specs.Bags.{flat}
 use Rattle.tab_iter.specs.Lists.{IsRising}
 use Rattle.tab_mem.proofs.RowOrder.{rows_rise}
-use Rattle.tab_tablet.specs.Tablets.{Tablet, is_up_to, records_in, tabled, table_of}
+use Rattle.tab_tablet.specs.Tablets.{Tablet, records_in, tabled}
 use Rattle.tab_tablets.specs.ByRow.{EndsBefore, EndsRise, AreWhole, LieApart, records_of_all, ends_of}
 use Rattle.tab_tablets.specs.Listing.{listed}
 use Rattle.tab_tablets.specs.Places.{ended, HoldOwnRows, AreKept, tablet_at}
 use Rattle.tab_tablets.specs.Restored.{EndRowsRise, end_for, same_end, records_for, restored}
-use Rattle.tab_tablets.proofs.Orders.{Below, below_other, up_to_both}
+use Rattle.tab_tablets.proofs.Orders.{below_other, up_to_both}
 
 -- ---- end rows
 abbrev AreAbove : List ℕ → List (List ℕ) → Type 0

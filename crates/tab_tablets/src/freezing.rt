@@ -1,6 +1,7 @@
 //! Tablets that are frozen for an Open.
 ghost use Rattle.std.specs.Prelude.{◌≡◌, ℕ, ◌≤◌, ◌<◌, true, length, OnOk, IfOk};
 ghost use Rattle.std.specs.List.{AllByRecursion};
+ghost use Rattle.tab_key.specs.Sorted.{sorted};
 ghost use Rattle.tab_version.specs.Sources.{records_of};
 ghost use Rattle.tab_tablet.specs.Tablets.{frozen};
 ghost use Rattle.tab_tablets.specs.Places.{tablet_at, IsSettled, MakesMore, is_among, part_in};
@@ -20,7 +21,7 @@ pub(crate) fn clips_at(
     made: &mut Vec<Made>,
 ) -> Result<Clips, AllocError>
     requires { place < length line.now }
-    ensures clips { IfOk result (λ c. records_of c ≡ part_in bounds.now (tablet_at line.now place)) }
+    ensures clips { IfOk result (λ c. sorted (records_of c) ≡ sorted (part_in bounds.now (tablet_at line.now place))) }
     ensures more { OnOk result (MakesMore frozen line.now made.old.items made.new.items) }
     ensures settled { OnOk result (IsSettled frozen line.now made.new.items place) }
 {

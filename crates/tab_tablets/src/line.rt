@@ -4,7 +4,8 @@ ghost use Rattle.std.specs.List.{AllByRecursion};
 ghost use Rattle.tab_key.specs.Records.{Record as Fields};
 ghost use Rattle.tab_mutation.specs.Shape.{shape_error};
 ghost use Rattle.tab_cells.specs.Written.{mutation_records};
-ghost use Rattle.tab_tablet.specs.Tablets.{new_tablet, records_in, written};
+ghost use Rattle.tab_tablet.specs.Tablets.{new_tablet, frozen, records_in, written};
+ghost use Rattle.tab_tablet.specs.Bodies.{IsFreezeOf};
 ghost use Rattle.tab_version.specs.Sources.{count_of};
 ghost use Rattle.tab_tablets.specs.ByRow.{AreWhole, ends_of, records_of_all};
 ghost use Rattle.tab_tablets.specs.Places.{ended, tablet_at, IsPlaceOf, at_place, put_at, installed, is_end_row};
@@ -20,7 +21,7 @@ use std::marker::Model;
 use tab_key::{ByteString, row_prefix};
 use tab_mem::{count_below, count_up_to};
 use tab_mutation::Mutation;
-use tab_tablet::Tablet;
+use tab_tablet::{Freeze, Tablet};
 
 /// The most end rows that a table may have.
 const MOST_ENDS: usize = 4_294_967_295;
@@ -137,6 +138,24 @@ impl Line {
             return self.lower[place].write(mutation, seq, clock);
         }
         self.last.write(mutation, seq, clock)
+    }
+
+    /// Freezes the tablet at a place, as `Tablet::freeze` does.
+    pub(crate) fn freeze(
+        &mut self,
+        alloc: Global,
+        place: usize,
+        freeze: Freeze,
+    ) -> Result<(), AllocError>
+        requires inside { place < length self.old }
+        requires freeze { IsFreezeOf (tablet_at self.old place) freeze }
+        ensures ok { OnOk result (self.new ≡ at_place place (λ t. frozen t ∷ []) self.old) }
+        ensures err { OnErr result (self.new ≡ self.old) }
+    {
+        if place < self.lower.len() {
+            return self.lower[place].freeze(alloc, freeze);
+        }
+        self.last.freeze(alloc, freeze)
     }
 
     /// Puts tablets in their places that were made before. It can't fail.

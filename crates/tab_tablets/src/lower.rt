@@ -3,14 +3,15 @@ ghost use Rattle.std.specs.Prelude.{◌≡◌, ◌<◌, None, Some, Contains, If
 ghost use Rattle.tab_key.specs.Records.{Record as Fields};
 ghost use Rattle.tab_mutation.specs.Shape.{shape_error};
 ghost use Rattle.tab_cells.specs.Written.{mutation_records};
-ghost use Rattle.tab_tablet.specs.Tablets.{is_up_to, records_in, written};
+ghost use Rattle.tab_tablet.specs.Tablets.{is_up_to, frozen, records_in, written};
+ghost use Rattle.tab_tablet.specs.Bodies.{IsFreezeOf};
 ghost use Rattle.tab_tablets.specs.Places.{ended, is_end_row};
 
 use std::alloc::{AllocError, Global};
 use std::marker::Model;
 use tab_key::ByteString;
 use tab_mutation::Mutation;
-use tab_tablet::Tablet;
+use tab_tablet::{Freeze, Tablet};
 
 /// A tablet that isn't the last of its table, with the last row that it may hold. A contract sees the tablet with its end row. The
 /// tablet lies apart, so that few bytes are moved where another one is put among many.
@@ -88,5 +89,14 @@ impl Lower {
         ensures err { OnErr result (self.new ≡ self.old) }
     {
         self.tablet.write(mutation, seq, clock)
+    }
+
+    /// Freezes it in its place, as `Tablet::freeze` does.
+    pub(crate) fn freeze(&mut self, alloc: Global, freeze: Freeze) -> Result<(), AllocError>
+        requires { IsFreezeOf self.old freeze }
+        ensures ok { OnOk result (self.new ≡ frozen self.old) }
+        ensures err { OnErr result (self.new ≡ self.old) }
+    {
+        self.tablet.freeze(alloc, freeze)
     }
 }

@@ -1,13 +1,13 @@
 use Rattle.std.proofs.Common.{◌≡◌, ℕ, ◌<◌, ◌≤◌}
 use Rattle.std.specs.Prelude.{map, slice_range}
-use Rattle.tab_version.specs.Sources.{records_of}
+use Rattle.tab_tablets.proofs.Ranges.{in_its_order, part_sorted}
 use Rattle.tab_tablet.specs.Tablets.{frozen}
-use Rattle.tab_tablets.specs.Places.{IsSettled, AreMade, part_in}
+use Rattle.tab_tablets.specs.Places.{IsSettled, AreMade}
 use Rattle.tab_tablets.proofs.opening.clips_in.Given as goal
 
 abbrev pub invariant-loop-place : goal.invariant-loop-place
 invariant-loop-place l = record {
-  clips : map records_of l.clips.items ≡ map (part_in l.bounds) (slice_range l.line l.from l.place);
+  clips : map in_its_order l.clips.items ≡ map (part_sorted l.bounds) (slice_range l.line l.from l.place);
   made : AreMade frozen l.line l.made.items;
   settled : (k : ℕ) → l.from ≤ k → k < l.place → IsSettled frozen l.line l.made.items k;
 }
