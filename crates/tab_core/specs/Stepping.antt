@@ -34,6 +34,10 @@ use Rattle.tab_core.specs.declared.store.Store.{Store}
 use Rattle.tab_core.specs.Holding.{held}
 use Rattle.tab_core.specs.Bounded.{IsBounded}
 
+-- what this user asks at this moment
+abbrev pub asked_at : List ℕ → ℤ → Act → Event
+asked_at user moment act = record { user = user; moment = moment; act = act }
+
 -- a session that is handed out shows these cells, and none of them was given
 abbrev pub HandsOut : Reply SessionState → List Cell → Type 0
 HandsOut (Opened session) all = session ≡ record { all = all; given = 0 }

@@ -20,42 +20,42 @@ impl Store {
     pub(crate) fn create_table(
         &mut self,
         now: i64,
-        user: Name,
-        table: Name,
+        user: &Name,
+        table: &Name,
         time: TimeMode,
         versions: Versions,
     ) -> Reply<Session>
         requires core { IsCore (held self.old) }
-        requires admitted { IsAdmitted (base_of (held self.old)) user (Act.CreateTable table time versions) }
-        ensures { Does self.old now user (Act.CreateTable table time versions) result self.new }
+        requires admitted { IsAdmitted (base_of (held self.old)) user.now (Act.CreateTable table.now time versions) }
+        ensures { Does self.old now user.now (Act.CreateTable table.now time versions) result self.new }
     {
-        if self.tables.get(&table).is_some() {
-            return Reply::Refused(Refusal::TableExists(table));
+        if self.tables.get(table).is_some() {
+            return Reply::Refused(Refusal::TableExists(*table));
         }
         if self.tables.len() >= MAX_TABLES {
             return Reply::Refused(Refusal::TooLarge(Part::Numbers));
         }
-        match self.tables.insert(table, time, versions) {
+        match self.tables.insert(*table, time, versions) {
             Ok(()) => {}
             Err(AllocError) => return Reply::Refused(Refusal::NoMemory),
         }
-        match self.policy.create_table(&user, &table) {
+        match self.policy.create_table(user, table) {
             Ok(()) => Reply::Done,
             Err(AllocError) => {
-                self.tables.remove(&table);
+                self.tables.remove(table);
                 Reply::Refused(Refusal::NoMemory)
             }
         }
     }
 
     // A table taken away, with its records and all rights on it. It takes no memory.
-    pub(crate) fn drop_table(&mut self, now: i64, user: Name, table: Name) -> Reply<Session>
+    pub(crate) fn drop_table(&mut self, now: i64, user: &Name, table: &Name) -> Reply<Session>
         requires core { IsCore (held self.old) }
-        requires admitted { IsAdmitted (base_of (held self.old)) user (Act.DropTable table) }
-        ensures { Does self.old now user (Act.DropTable table) result self.new }
+        requires admitted { IsAdmitted (base_of (held self.old)) user.now (Act.DropTable table.now) }
+        ensures { Does self.old now user.now (Act.DropTable table.now) result self.new }
     {
-        self.tables.remove(&table);
-        self.policy.drop_table(&table);
+        self.tables.remove(table);
+        self.policy.drop_table(table);
         Reply::Done
     }
 
@@ -63,14 +63,14 @@ impl Store {
     pub(crate) fn set_constraints(
         &mut self,
         now: i64,
-        user: Name,
-        table: Name,
+        user: &Name,
+        table: &Name,
         constraints: ConstraintSet,
     ) -> Reply<Session>
         requires { IsCore (held self.old) }
-        ensures { Does self.old now user (Act.SetConstraints table constraints) result self.new }
+        ensures { Does self.old now user.now (Act.SetConstraints table.now constraints) result self.new }
     {
-        self.tables.set_constraints(&table, constraints);
+        self.tables.set_constraints(table, constraints);
         Reply::Done
     }
 
@@ -78,21 +78,21 @@ impl Store {
     pub(crate) fn set_auths(
         &mut self,
         now: i64,
-        user: Name,
-        name: Name,
+        user: &Name,
+        name: &Name,
         auths: AuthSet,
     ) -> Reply<Session>
         requires { IsCore (held self.old) }
-        ensures { Does self.old now user (Act.SetAuths name auths) result self.new }
+        ensures { Does self.old now user.now (Act.SetAuths name.now auths) result self.new }
     {
-        let known = self.policy.user_exists(&name);
+        let known = self.policy.user_exists(name);
         if too_many_auths(&auths) {
             return Reply::Refused(Refusal::TooLarge(Part::Authorizations));
         }
         if !known {
-            return Reply::Refused(Refusal::NoUser(name));
+            return Reply::Refused(Refusal::NoUser(*name));
         }
-        self.policy.set_auths(&name, auths);
+        self.policy.set_auths(name, auths);
         Reply::Done
     }
 }

@@ -16,19 +16,19 @@ impl Store {
     pub(crate) fn grant(
         &mut self,
         now: i64,
-        user: Name,
-        name: Name,
-        permission: Permission,
+        user: &Name,
+        name: &Name,
+        permission: &Permission,
     ) -> Reply<Session>
         requires core { IsCore (held self.old) }
-        requires admitted { IsAdmitted (base_of (held self.old)) user (Act.Grant name permission) }
-        ensures { Does self.old now user (Act.Grant name permission) result self.new }
+        requires admitted { IsAdmitted (base_of (held self.old)) user.now (Act.Grant name.now permission.now) }
+        ensures { Does self.old now user.now (Act.Grant name.now permission.now) result self.new }
     {
-        let known = self.policy.user_exists(&name);
-        if let Some(refusal) = right_refusal(known, name, &permission) {
+        let known = self.policy.user_exists(name);
+        if let Some(refusal) = right_refusal(known, *name, permission) {
             return Reply::Refused(refusal);
         }
-        match self.policy.grant(&name, &permission) {
+        match self.policy.grant(name, permission) {
             Ok(()) => Reply::Done,
             Err(AllocError) => Reply::Refused(Refusal::NoMemory),
         }
@@ -38,18 +38,18 @@ impl Store {
     pub(crate) fn revoke(
         &mut self,
         now: i64,
-        user: Name,
-        name: Name,
-        permission: Permission,
+        user: &Name,
+        name: &Name,
+        permission: &Permission,
     ) -> Reply<Session>
         requires { IsCore (held self.old) }
-        ensures { Does self.old now user (Act.Revoke name permission) result self.new }
+        ensures { Does self.old now user.now (Act.Revoke name.now permission.now) result self.new }
     {
-        let known = self.policy.user_exists(&name);
-        if let Some(refusal) = right_refusal(known, name, &permission) {
+        let known = self.policy.user_exists(name);
+        if let Some(refusal) = right_refusal(known, *name, permission) {
             return Reply::Refused(refusal);
         }
-        self.policy.revoke(&name, &permission);
+        self.policy.revoke(name, permission);
         Reply::Done
     }
 }

@@ -9,17 +9,17 @@ use tab_key::Name;
 
 impl Store {
     // A save. It takes no memory.
-    pub(crate) fn save(&self, now: i64, user: Name) -> Reply<Session>
+    pub(crate) fn save(&self, now: i64, user: &Name) -> Reply<Session>
         requires { IsCore (held self.now) }
-        ensures { Does self.now now user Act.Save result self.now }
+        ensures { Does self.now now user.now Act.Save result self.now }
     {
         Reply::Done
     }
 
     // A load. It takes no memory.
-    pub(crate) fn load(&self, now: i64, user: Name) -> Reply<Session>
+    pub(crate) fn load(&self, now: i64, user: &Name) -> Reply<Session>
         requires { IsCore (held self.now) }
-        ensures { Does self.now now user Act.Load result self.now }
+        ensures { Does self.now now user.now Act.Load result self.now }
     {
         Reply::Done
     }

@@ -4,7 +4,7 @@ ghost use Rattle.tab_history.specs.Answers.{told_of, event_answer};
 ghost use Rattle.tab_store.specs.Stores.{base_of};
 ghost use Rattle.tab_core.specs.EventReplies.{told_in};
 ghost use Rattle.tab_core.specs.Holding.{held};
-ghost use Rattle.tab_core.specs.Stepping.{Acts, IsCore};
+ghost use Rattle.tab_core.specs.Stepping.{Acts, IsCore, asked_at};
 ghost use Rattle.tab_core.specs.Recording.{RefinesHistory, StepsOn};
 
 use crate::Session;
@@ -33,8 +33,22 @@ impl Core {
         ensures steps { StepsOn self.old event result.0 self.new }
         ensures told { told_in result.1 ≡ told_of result.0 }
     {
-        let Event { user, moment, act } = event;
-        keep_markers(&act);
+        let mut event = event;
+        self.step_told_lent(alloc, &event.user, event.moment, &mut event.act)
+    }
+
+    // The same for an event whose parts are lent.
+    fn step_told_lent(
+        &mut self,
+        alloc: Global,
+        user: &Name,
+        moment: i64,
+        act: &mut Act,
+    ) -> (Reply<Session>, EventReply)
+        ensures steps { StepsOn self.old (asked_at user.now moment act.old) result.0 self.new }
+        ensures told { told_in result.1 ≡ told_of result.0 }
+    {
+        keep_markers(act);
         let now = later(self.store.clock, moment);
         let answered = self.store.answer_told(alloc, now, user, act);
         if moves_clock(&answered.0) {
@@ -50,11 +64,11 @@ impl Store {
         &mut self,
         alloc: Global,
         now: i64,
-        user: Name,
-        act: Act,
+        user: &Name,
+        act: &mut Act,
     ) -> (Reply<Session>, EventReply)
         requires { IsCore (held self.old) }
-        ensures acts { Acts (event_answer (base_of (held self.old)) [] now user act) (held self.old) now user act result.0 (held self.new) }
+        ensures acts { Acts (event_answer (base_of (held self.old)) [] now user.now act.old) (held self.old) now user.now act.old result.0 (held self.new) }
         ensures told { told_in result.1 ≡ told_of result.0 }
     {
         let reply = self.answer(alloc, now, user, act);

@@ -12,39 +12,43 @@ ghost use Rattle.tab_core.specs.Stepping.{ActsOnTables};
 use crate::Session;
 use crate::checking::scan_refusal;
 use std::alloc::{AllocError, Global};
+use std::mem;
 use tab_history::{Act, Refusal, Reply, Scan};
-use tab_key::Name;
+use tab_key::{Items, Name};
 use tab_label::AuthSet;
 use tab_store::Tables;
 
-/// A session on a scan's answer, for a caller with these authorizations.
+/// A session on a scan's answer, for a caller with these authorizations. It takes the scan's columns and authorizations.
 pub fn open(
     alloc: Global,
     tables: &mut Tables,
     authorizations: &AuthSet,
-    scan: Scan,
+    scan: &mut Scan,
 ) -> Reply<Session>
-    requires { LieApart (tablets_of (table_at tables.old scan.table)) }
-    ensures { (now : ℤ) (next : ℕ) → ActsOnTables authorizations.now now (Act.Open scan) tables.old next result tables.new next }
+    requires { LieApart (tablets_of (table_at tables.old scan.old.table)) }
+    ensures { (now : ℤ) (next : ℕ) → ActsOnTables authorizations.now now (Act.Open scan.old) tables.old next result tables.new next }
 {
-    if let Some(refusal) = scan_refusal(alloc, authorizations, &scan) {
+    if let Some(refusal) = scan_refusal(alloc, authorizations, scan) {
         return Reply::Refused(refusal);
     }
     handed(session_on(alloc, tables, scan))
 }
 
-// A session on what the scan shows of its table, on nothing where there is no such table. The table's tablets are frozen.
-fn session_on(alloc: Global, tables: &mut Tables, scan: Scan) -> Result<Session, AllocError>
-    requires { LieApart (tablets_of (table_at tables.old scan.table)) }
-    ensures ok { OnOk result ((q : List ℕ) → table_at tables.new q ≡ changed_table scan.table (with_tablets (map frozen)) tables.old q) }
-    ensures opened { IfOk result (λ s. s ≡ record { all = listed (sorted (records_of_all (tablets_of (table_at tables.old scan.table)))) (query_of scan) (settings_at (table_at tables.old scan.table)); given = 0 }) }
+// A session on what the scan shows of its table, on nothing where there is no such table. The table's tablets are frozen. The session
+// takes the scan's columns and authorizations.
+fn session_on(alloc: Global, tables: &mut Tables, scan: &mut Scan) -> Result<Session, AllocError>
+    requires { LieApart (tablets_of (table_at tables.old scan.old.table)) }
+    ensures ok { OnOk result ((q : List ℕ) → table_at tables.new q ≡ changed_table scan.old.table (with_tablets (map frozen)) tables.old q) }
+    ensures opened { IfOk result (λ s. s ≡ record { all = listed (sorted (records_of_all (tablets_of (table_at tables.old scan.old.table)))) (query_of scan.old) (settings_at (table_at tables.old scan.old.table)); given = 0 }) }
     ensures count { length tables.new ≡ length tables.old }
     ensures names { RiseByName tables.new }
     ensures err { OnErr result (tables.new ≡ tables.old) }
 {
     let versions = versions_of(tables, &scan.table);
     let version = tables.open(alloc, &scan.table, &scan.bounds)?;
-    Ok(Session::new(version, scan.columns, scan.authorizations, versions))
+    let columns = mem::replace(&mut scan.columns, Items::new(alloc));
+    let authorizations = mem::replace(&mut scan.authorizations, AuthSet::empty(alloc));
+    Ok(Session::new(version, columns, authorizations, versions))
 }
 
 // How many versions the table shows; none, where there is no such table.

@@ -21,17 +21,17 @@ impl Store {
         &mut self,
         alloc: Global,
         now: i64,
-        user: Name,
-        table: Name,
+        user: &Name,
+        table: &Name,
         row: ByteString,
     ) -> Reply<Session>
         requires { IsCore (held self.old) }
-        ensures { Does self.old now user (Act.AddSplit table row) result self.new }
+        ensures { Does self.old now user.now (Act.AddSplit table.now row) result self.new }
     {
         if is_too_long(&row) {
             return Reply::Refused(Refusal::TooLarge(Part::Row));
         }
-        split_reply(self.tables.split(alloc, &table, row))
+        split_reply(self.tables.split(alloc, table, row))
     }
 
     // A table's tablet that holds this row split in the middle of what it holds, where its sorted tables come to the limit, in bytes.
@@ -39,26 +39,32 @@ impl Store {
         &mut self,
         alloc: Global,
         now: i64,
-        user: Name,
-        table: Name,
-        row: ByteString,
+        user: &Name,
+        table: &Name,
+        row: &ByteString,
         limit: u64,
     ) -> Reply<Session>
         requires { IsCore (held self.old) }
-        ensures { Does self.old now user (Act.SplitBySize table row limit) result self.new }
+        ensures { Does self.old now user.now (Act.SplitBySize table.now row.now limit) result self.new }
     {
-        if is_too_long(&row) {
+        if is_too_long(row) {
             return Reply::Refused(Refusal::TooLarge(Part::Row));
         }
-        split_reply(self.tables.halve(alloc, &table, row.as_bytes(), limit))
+        split_reply(self.tables.halve(alloc, table, row.as_bytes(), limit))
     }
 
     // The rows at which a table is split.
-    pub(crate) fn splits(&self, alloc: Global, now: i64, user: Name, table: Name) -> Reply<Session>
+    pub(crate) fn splits(
+        &self,
+        alloc: Global,
+        now: i64,
+        user: &Name,
+        table: &Name,
+    ) -> Reply<Session>
         requires { IsCore (held self.now) }
-        ensures { Does self.now now user (Act.Splits table) result self.now }
+        ensures { Does self.now now user.now (Act.Splits table.now) result self.now }
     {
-        match ends_in(alloc, &self.tables, &table) {
+        match ends_in(alloc, &self.tables, table) {
             Ok(ends) => Reply::Rows(ends),
             Err(AllocError) => Reply::Refused(Refusal::NoMemory),
         }

@@ -8,7 +8,7 @@ ghost use Rattle.tab_history.specs.Refinement.{Refines};
 ghost use Rattle.tab_store.specs.Stores.{base_of, IsNewStore};
 ghost use Rattle.tab_store.specs.Stepping.{LaysExactly, now_at, plain_answer};
 ghost use Rattle.tab_core.specs.Bounded.{WritesBare};
-ghost use Rattle.tab_core.specs.Stepping.{Steps, IsCore};
+ghost use Rattle.tab_core.specs.Stepping.{Steps, IsCore, asked_at};
 
 use crate::Session;
 use crate::reply::moves_clock;
@@ -16,6 +16,7 @@ use crate::store::Store;
 use std::alloc::{AllocError, Global};
 use std::marker::Model;
 use tab_history::{Act, Event, Reply};
+use tab_key::Name;
 use tab_policy::Policy;
 use tab_store::Tables;
 
@@ -114,8 +115,24 @@ impl Core {
         ensures steps { Steps (base_of self.old) event result (base_of self.new) }
         ensures exact { LaysExactly self.old (now_at self.old event) event.act (plain_answer self.old event) (told_of result) self.new }
     {
-        let Event { user, moment, act } = event;
-        keep_markers(&act);
+        let mut event = event;
+        self.step_lent(alloc, &event.user, event.moment, &mut event.act)
+    }
+
+    /// The same for an event whose parts are lent, so that none of it is moved. What the core keeps of an event it may take out of the
+    /// act: the columns and the authorizations of an Open, the authorizations of a SetAuths, the constraints of a SetConstraints, the row
+    /// of an AddSplit. The rest of the act is copied or only read.
+    pub fn step_lent(
+        &mut self,
+        alloc: Global,
+        user: &Name,
+        moment: i64,
+        act: &mut Act,
+    ) -> Reply<Session>
+        ensures steps { Steps (base_of self.old) (asked_at user.now moment act.old) result (base_of self.new) }
+        ensures exact { LaysExactly self.old (now_at self.old (asked_at user.now moment act.old)) act.old (plain_answer self.old (asked_at user.now moment act.old)) (told_of result) self.new }
+    {
+        keep_markers(act);
         let now = later(self.store.clock, moment);
         let reply = self.store.answer(alloc, now, user, act);
         if moves_clock(&reply) {

@@ -11,9 +11,12 @@ use crate::policing::{action_of, refusal_of};
 use crate::scans::open;
 use crate::writes::write;
 use std::alloc::Global;
-use tab_history::{Act, Refusal, Reply};
-use tab_key::Name;
+use std::mem;
+use tab_history::{Act, Reply};
+use tab_key::{ByteString, Name};
+use tab_label::AuthSet;
 use tab_policy::Policy;
+use tab_rules::ConstraintSet;
 use tab_store::Tables;
 
 /// The clock, the number that the next accepted write gets, users with their rights, and tables.
@@ -31,13 +34,14 @@ pub struct Store {
 
 impl Store {
     /// Answers the event, and does what the answer says; the clock is set afterwards. `now` is the clock with the event's moment in it.
-    pub fn answer(&mut self, alloc: Global, now: i64, user: Name, act: Act) -> Reply<Session>
+    /// What is done with an act's columns, authorizations, constraints or row may take them out of it.
+    pub fn answer(&mut self, alloc: Global, now: i64, user: &Name, act: &mut Act) -> Reply<Session>
         requires { IsCore (held self.old) }
-        ensures { Acts (event_answer (base_of (held self.old)) [] now user act) (held self.old) now user act result (held self.new) }
+        ensures { Acts (event_answer (base_of (held self.old)) [] now user.now act.old) (held self.old) now user.now act.old result (held self.new) }
     {
-        let caller = match self.policy.decide(&user, &action_of(&act)) {
+        let caller = match self.policy.decide(user, &action_of(act)) {
             Ok(caller) => caller,
-            Err(denial) => return refused(act, refusal_of(user, denial)),
+            Err(denial) => return Reply::Refused(refusal_of(*user, denial)),
         };
         match act {
             Act::Open(scan) => open(alloc, &mut self.tables, caller.authorizations, scan),
@@ -51,38 +55,42 @@ impl Store {
                 mutation,
             ),
             Act::CreateTable(table, time, versions) => self.create_table(
-                now, user, table, time, versions,
+                now, user, table, *time, *versions,
             ),
             Act::DropTable(table) => self.drop_table(now, user, table),
             Act::SetConstraints(table, constraints) => self.set_constraints(
                 now,
                 user,
                 table,
-                constraints,
+                mem::replace(constraints, ConstraintSet::none()),
             ),
             Act::CreateUser(name) => self.create_user(now, user, name),
             Act::DropUser(name) => self.drop_user(now, user, name),
-            Act::SetAuths(name, auths) => self.set_auths(now, user, name, auths),
+            Act::SetAuths(name, auths) => self.set_auths(
+                now,
+                user,
+                name,
+                mem::replace(auths, AuthSet::empty(alloc)),
+            ),
             Act::Grant(name, permission) => self.grant(now, user, name, permission),
             Act::Revoke(name, permission) => self.revoke(now, user, name, permission),
             Act::Rights(_) => rights(caller),
             Act::Status(table) => self.status(now, user, table),
             Act::Flush(table) => self.flush(alloc, now, user, table),
-            Act::Compact(table, extent) => self.compact(alloc, now, user, table, extent),
-            Act::AddSplit(table, row) => self.add_split(alloc, now, user, table, row),
+            Act::Compact(table, extent) => self.compact(alloc, now, user, table, *extent),
+            Act::AddSplit(table, row) => self.add_split(
+                alloc,
+                now,
+                user,
+                table,
+                mem::replace(row, ByteString::new(alloc)),
+            ),
             Act::SplitBySize(table, row, limit) => self.split_by_size(
-                alloc, now, user, table, row, limit,
+                alloc, now, user, table, row, *limit,
             ),
             Act::Splits(table) => self.splits(alloc, now, user, table),
             Act::Save => self.save(now, user),
             Act::Load => self.load(now, user),
         }
     }
-}
-
-// The reply to an act that isn't done.
-fn refused(_act: Act, refusal: Refusal) -> Reply<Session>
-    ensures { result ≡ Reply.Refused refusal }
-{
-    Reply::Refused(refusal)
 }

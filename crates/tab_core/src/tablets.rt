@@ -17,11 +17,11 @@ use tab_store::Tables;
 
 impl Store {
     // How much the tablets of a table hold. It takes no memory.
-    pub(crate) fn status(&self, now: i64, user: Name, table: Name) -> Reply<Session>
+    pub(crate) fn status(&self, now: i64, user: &Name, table: &Name) -> Reply<Session>
         requires { IsCore (held self.now) }
-        ensures { Does self.now now user (Act.Status table) result self.now }
+        ensures { Does self.now now user.now (Act.Status table.now) result self.now }
     {
-        Reply::Counted(counts_in(&self.tables, &table))
+        Reply::Counted(counts_in(&self.tables, table))
     }
 
     // What was written to a table since the last flush, merged in each of its tablets.
@@ -29,13 +29,13 @@ impl Store {
         &mut self,
         alloc: Global,
         now: i64,
-        user: Name,
-        table: Name,
+        user: &Name,
+        table: &Name,
     ) -> Reply<Session>
         requires { IsCore (held self.old) }
-        ensures { Does self.old now user (Act.Flush table) result self.new }
+        ensures { Does self.old now user.now (Act.Flush table.now) result self.new }
     {
-        compacted(self.tables.compact(alloc, &table, Compaction::Minor, now))
+        compacted(self.tables.compact(alloc, table, Compaction::Minor, now))
     }
 
     // The sorted tables of a table that the extent names, merged in each of its tablets.
@@ -43,14 +43,14 @@ impl Store {
         &mut self,
         alloc: Global,
         now: i64,
-        user: Name,
-        table: Name,
+        user: &Name,
+        table: &Name,
         extent: Extent,
     ) -> Reply<Session>
         requires { IsCore (held self.old) }
-        ensures { Does self.old now user (Act.Compact table extent) result self.new }
+        ensures { Does self.old now user.now (Act.Compact table.now extent) result self.new }
     {
-        compacted(self.tables.compact(alloc, &table, kind_of(extent), now))
+        compacted(self.tables.compact(alloc, table, kind_of(extent), now))
     }
 }
 

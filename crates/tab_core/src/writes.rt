@@ -22,18 +22,18 @@ pub fn write(
     next: &mut u64,
     authorizations: &AuthSet,
     now: i64,
-    table: Name,
-    mutation: Mutation,
+    table: &Name,
+    mutation: &Mutation,
 ) -> Reply<Session>
-    requires there { is_some (table_at tables.old table) ≡ true }
-    requires unused { (u : Record) → Contains (records_of_all (tablets_of (table_at tables.old table))) u → u.seq < next.old }
-    ensures { ActsOnTables authorizations.now now (Act.Write table mutation) tables.old next.old result tables.new next.new }
+    requires there { is_some (table_at tables.old table.now) ≡ true }
+    requires unused { (u : Record) → Contains (records_of_all (tablets_of (table_at tables.old table.now))) u → u.seq < next.old }
+    ensures { ActsOnTables authorizations.now now (Act.Write table.now mutation.now) tables.old next.old result tables.new next.new }
 {
-    let refusal = write_refusal(alloc, tables, &table, authorizations, *next, now, &mutation);
+    let refusal = write_refusal(alloc, tables, table, authorizations, *next, now, mutation);
     if let Some(refusal) = refusal {
         return Reply::Refused(refusal);
     }
-    match tables.write(&table, &mutation, *next, now) {
+    match tables.write(table, mutation, *next, now) {
         Ok(()) => {
             *next += 1;
             Reply::Done

@@ -9,12 +9,12 @@ use Rattle.tab_core.proofs.Opening.{leaves_tables, open_either}
 use Rattle.tab_core.proofs.scans.open.Goals as goal
 
 pub returns-in-Some : goal.returns-in-Some
-returns-in-Some c = λ now next. leaves_tables c.args.authorizations.now now c.args.scan c.args.tables.now next c.in-Some.refusal c.in-Some.ensures
+returns-in-Some c = λ now next. leaves_tables c.args.authorizations.now now c.args.scan.now c.args.tables.now next c.in-Some.refusal c.in-Some.ensures
 
 pub returns : goal.returns
 returns c = λ now next.
     let none : c.scan_refusal.result ≡ None = search rules in
-    let passes : (None ≡ first_some (scan_checks c.args.authorizations.now c.args.scan)) ⊎ (None ≡ Some NoMemory) =
-    subst (λ (o : Option Refusal). (o ≡ first_some (scan_checks c.args.authorizations.now c.args.scan)) ⊎ (o ≡ Some NoMemory)) none c.scan_refusal.ensures in
-    open_either c.args.authorizations.now now c.args.scan c.args.tables.now c.session_on.new.tables next c.session_on.result c.handed.result passes c.session_on.ensures.opened
+    let passes : (None ≡ first_some (scan_checks c.args.authorizations.now c.args.scan.now)) ⊎ (None ≡ Some NoMemory) =
+    subst (λ (o : Option Refusal). (o ≡ first_some (scan_checks c.args.authorizations.now c.args.scan.now)) ⊎ (o ≡ Some NoMemory)) none c.scan_refusal.ensures in
+    open_either c.args.authorizations.now now c.args.scan.now c.args.tables.now c.session_on.new.tables next c.session_on.result c.handed.result passes c.session_on.ensures.opened
     (on_ok_weaker c.session_on.result (λ f. record { names = c.session_on.ensures.names; count = c.session_on.ensures.count; changed = f }) c.session_on.ensures.ok) c.session_on.ensures.err c.handed.ensures.ok c.handed.ensures.err

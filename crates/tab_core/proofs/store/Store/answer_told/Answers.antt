@@ -11,7 +11,7 @@ use Rattle.tab_core.proofs.store.Store.answer_told.Goals as goal
 pub returns-in-Err-clause-acts : goal.returns-in-Err-clause-acts
 returns-in-Err-clause-acts c =
     let trip : to_z w64 (of_z w64 c.args.now) ≡ c.args.now = search rules in
-    let acts : Acts (event_answer (base_of (held c.args.self.now)) [] c.args.now c.args.user c.args.act) (held c.args.self.now) c.args.now c.args.user c.args.act c.answer-reply.result (held c.answer-reply.new.self) =
-    subst (λ (t : ℤ). Acts (event_answer (base_of (held c.args.self.now)) [] t c.args.user c.args.act) (held c.args.self.now) t c.args.user c.args.act c.answer-reply.result (held c.answer-reply.new.self)) trip c.answer-reply.ensures in
-    subst (λ (r : Reply SessionState). Acts (event_answer (base_of (held c.args.self.now)) [] c.args.now c.args.user c.args.act) (held c.args.self.now) c.args.now c.args.user c.args.act r (held c.answer-reply.new.self)) (sym c.lacking.ensures.reply)
-    (forgotten (held c.args.self.now) (held c.answer-reply.new.self) c.args.now c.args.user c.args.act c.answer-reply.result c.in-Err.ensures.err acts)
+    let acts : Acts (event_answer (base_of (held c.args.self.now)) [] c.args.now c.args.user.now c.args.act.now) (held c.args.self.now) c.args.now c.args.user.now c.args.act.now c.answer-reply.result (held c.answer-reply.new.self) =
+    subst (λ (t : ℤ). Acts (event_answer (base_of (held c.args.self.now)) [] t c.args.user.now c.args.act.now) (held c.args.self.now) t c.args.user.now c.args.act.now c.answer-reply.result (held c.answer-reply.new.self)) trip c.answer-reply.ensures in
+    subst (λ (r : Reply SessionState). Acts (event_answer (base_of (held c.args.self.now)) [] c.args.now c.args.user.now c.args.act.now) (held c.args.self.now) c.args.now c.args.user.now c.args.act.now r (held c.answer-reply.new.self)) (sym c.lacking.ensures.reply)
+    (forgotten (held c.args.self.now) (held c.answer-reply.new.self) c.args.now c.args.user.now c.args.act.now c.answer-reply.result c.in-Err.ensures.err acts)

@@ -8,12 +8,12 @@ use Rattle.tab_core.proofs.store.Store.revoke.Goals as goal
 
 pub returns-in-Some : goal.returns-in-Some
 returns-in-Some c =
-    let fails : first_some (right_checks (user_exists c.args.self.now.policy c.args.name) c.args.name c.args.permission) ≡ Some c.in-Some.refusal =
-    ap (λ v. first_some (right_checks v c.args.name c.args.permission)) (sym c.user_exists-known.ensures) ∙ sym c.right_refusal.ensures ∙ c.in-Some.is in
-    revoke_refused (held c.args.self.now) c.args.now c.args.user c.args.name c.args.permission c.in-Some.refusal c.requires fails
+    let fails : first_some (right_checks (user_exists c.args.self.now.policy c.args.name.now) c.args.name.now c.args.permission.now) ≡ Some c.in-Some.refusal =
+    ap (λ v. first_some (right_checks v c.args.name.now c.args.permission.now)) (sym c.user_exists-known.ensures) ∙ sym c.right_refusal.ensures ∙ c.in-Some.is in
+    revoke_refused (held c.args.self.now) c.args.now c.args.user.now c.args.name.now c.args.permission.now c.in-Some.refusal c.requires fails
 
 pub returns : goal.returns
 returns c =
-    let passes : first_some (right_checks (user_exists c.args.self.now.policy c.args.name) c.args.name c.args.permission) ≡ None =
-    ap (λ v. first_some (right_checks v c.args.name c.args.permission)) (sym c.user_exists-known.ensures) ∙ sym c.right_refusal.ensures ∙ c.in_default.is in
-    right_taken (held c.args.self.now) c.revoke.new.self c.args.now c.args.user c.args.name c.args.permission c.requires passes c.revoke.ensures
+    let passes : first_some (right_checks (user_exists c.args.self.now.policy c.args.name.now) c.args.name.now c.args.permission.now) ≡ None =
+    ap (λ v. first_some (right_checks v c.args.name.now c.args.permission.now)) (sym c.user_exists-known.ensures) ∙ sym c.right_refusal.ensures ∙ c.in_default.is in
+    right_taken (held c.args.self.now) c.revoke.new.self c.args.now c.args.user.now c.args.name.now c.args.permission.now c.requires passes c.revoke.ensures

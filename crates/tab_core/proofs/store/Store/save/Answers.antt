@@ -3,4 +3,4 @@ use Rattle.tab_core.proofs.PolicyActs.{saved}
 use Rattle.tab_core.proofs.store.Store.save.Goals as goal
 
 pub returns : goal.returns
-returns c = saved (held c.args.self.now) c.args.now c.args.user c.requires
+returns c = saved (held c.args.self.now) c.args.now c.args.user.now c.requires

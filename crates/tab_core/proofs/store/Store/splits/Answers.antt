@@ -7,7 +7,7 @@ use Rattle.tab_core.proofs.Splitting.{ends_told}
 use Rattle.tab_core.proofs.store.Store.splits.Goals as goal
 
 pub returns-in-Ok : goal.returns-in-Ok
-returns-in-Ok c = ends_told (held c.args.self.now) c.args.now c.args.user c.args.table _ c.requires (ap Rows c.in-Ok.ensures)
+returns-in-Ok c = ends_told (held c.args.self.now) c.args.now c.args.user.now c.args.table.now _ c.requires (ap Rows c.in-Ok.ensures)
 
 pub returns-in-Err : goal.returns-in-Err
-returns-in-Err c = lacked _ (held c.args.self.now) c.args.now c.args.user (act.Splits c.args.table) refl c.requires
+returns-in-Err c = lacked _ (held c.args.self.now) c.args.now c.args.user.now (act.Splits c.args.table.now) refl c.requires

@@ -5,4 +5,4 @@ use Rattle.tab_core.proofs.Compacting.{counted}
 use Rattle.tab_core.proofs.store.Store.status.Goals as goal
 
 pub returns : goal.returns
-returns c = counted (held c.args.self.now) c.args.now c.args.user c.args.table _ c.requires (ap Counted c.counts_in.ensures)
+returns c = counted (held c.args.self.now) c.args.now c.args.user.now c.args.table.now _ c.requires (ap Counted c.counts_in.ensures)
