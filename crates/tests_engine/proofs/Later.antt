@@ -1,13 +1,16 @@
 -- A run of later numbers shares no place with what was there.
 use Rattle.std.proofs.Common.{◌≡◌, ◌⊎◌, inl, inr, ℕ, zero, suc, ◌≤◌, ◌<◌, Bool, List, [], ◌∷◌, ◌++◌, filter, refl, sym, ◌∙◌, ap, subst, length, arith, append_assoc, All, append-nil}
 use Rattle.std.specs.Prelude.{slice_index_or, Contains}
+use Rattle.std.proofs.lemmas.List.Sorted.{IsPermutation-sym}
 use Rattle.tab_key.specs.Records.{Record}
-use Rattle.tab_key.specs.Sorted.{IsDistinct, IsIn}
+use Rattle.tab_key.specs.Sorted.{IsDistinct, IsIn, sorted}
 use Rattle.tab_key.proofs.Rising.{in_from, in_to, distinct_filter}
+use Rattle.tab_key.proofs.Sorting.{distinct_permuted}
 use Rattle.tab_key.proofs.Ties.{ties_are_one}
 use Rattle.tab_iter.specs.Bags.{flat}
 use Rattle.tab_iter.proofs.BagLaws.{distinct_more, apart_join}
 use Rattle.tab_cells.proofs.Lists.{in_append}
+use Rattle.tab_version.proofs.InOrder.{permuted_sorted}
 use Rattle.tab_iter.specs.Lists.{IsRising}
 use Rattle.tab_iter.proofs.ListLaws.{first_less, later_rises}
 
@@ -46,6 +49,9 @@ module _ (cs new : List (List Record)) (x : List Record) (from to : ℕ) where
 pub nothing_older : (us : List Record) (n : ℕ) → us ≡ [] → (u : Record) → Contains us u → u.seq < n
 nothing_older us n e u h = absurd (in_from [] u (subst (λ l. Contains l u) e h))
 
--- what is read of records that stand apart stands apart
-pub distinct_read : (p : Record → Bool) (us read : List Record) → read ≡ filter p us → IsDistinct us → IsDistinct read
-distinct_read p us read e d = subst IsDistinct (sym e) (distinct_filter p us d)
+-- what is read of records that stand apart stands apart, in whatever order it lies
+pub distinct_read : (p : Record → Bool) (us read : List Record) → sorted read ≡ sorted (filter p us) → IsDistinct us → IsDistinct read
+distinct_read p us read e d =
+    let part : List Record = filter p us in
+    distinct_permuted (sorted read) read (IsPermutation-sym read (sorted read) (permuted_sorted read))
+    (subst IsDistinct (sym e) (distinct_permuted part (sorted part) (permuted_sorted part) (distinct_filter p us d)))
