@@ -1,5 +1,5 @@
 //! Cells in one piece of memory.
-ghost use Rattle.std.specs.Prelude.{◌≡◌, ◌<◌, ◌++◌, ◌∷◌, ◌==◌, [], OnOk, OnErr, length};
+ghost use Rattle.std.specs.Prelude.{◌≡◌, ◌<◌, ◌++◌, ◌∷◌, ◌==◌, [], OnOk, OnErr, length, vec_len, vec_capacity};
 ghost use Rattle.std.specs.List.{slice_index_or};
 ghost use Rattle.tab_key.specs.Records.{cell_of};
 
@@ -7,6 +7,11 @@ use crate::encoding::append_copy;
 use crate::{CellRef, RecordRef};
 use std::alloc::{AllocError, Global};
 use std::marker::Model;
+
+// How many cells the first memory has room for, and how many bytes of them: most ranges of a few rows ask for memory once.
+const FIRST_CELLS: usize = 8;
+
+const FIRST_BYTES: usize = 512;
 
 /// A list of cells, such as a batch of a scan. A contract sees their list.
 ///
@@ -70,7 +75,7 @@ impl Cells {
         ensures ok { OnOk result (self.new ≡ self.old ++ cell_of shown.now ∷ []) }
         ensures err { OnErr result (self.new ≡ self.old) }
     {
-        self.places.reserve(1)?;
+        make_room(&mut self.body, &mut self.places)?;
         let bytes = self.body.len();
         match append_copy(&mut self.body, shown) {
             Ok(place) => {
@@ -83,4 +88,17 @@ impl Cells {
             }
         }
     }
+}
+
+// Room for the place of one more cell, and at first for some cells with their bytes.
+fn make_room(body: &mut Vec<u8>, places: &mut Vec<usize>) -> Result<(), AllocError>
+    ensures body { body.new.items ≡ body.old.items }
+    ensures places { places.new.items ≡ places.old.items }
+    ensures room { OnOk result (vec_len places.new < vec_capacity places.new) }
+{
+    if !places.is_empty() {
+        return places.reserve(1);
+    }
+    body.reserve(FIRST_BYTES)?;
+    places.reserve(FIRST_CELLS)
 }
