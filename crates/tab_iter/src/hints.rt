@@ -1,7 +1,7 @@
 //! Where verdicts on labels were found last.
 
 /// How many places are remembered.
-const PLACES: usize = 64;
+const PLACES: usize = 256;
 
 /// For a few bytes of a label, the place at which the verdict on such a label was found last.
 ///
@@ -38,14 +38,14 @@ impl Hints {
     }
 }
 
-// Six bits of the label's length and of its first byte, the one in its middle and its last.
+// Eight bits of the label's length and of its first byte, the one in its middle and its last.
 fn slot_of(label: &[u8]) -> usize {
     let length = label.len();
     let mixed = (length as u64)
         ^ byte_at(label, 0) << 16
         ^ byte_at(label, length / 2) << 32
         ^ byte_at(label, length.saturating_sub(1)) << 48;
-    (mixed.wrapping_mul(0x9E37_79B9_7F4A_7C15) >> 58) as usize
+    (mixed.wrapping_mul(0xBF58_476D_1CE4_E5B9) >> 56) as usize
 }
 
 // The byte at an index, or 0 behind the end.
