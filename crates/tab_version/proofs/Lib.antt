@@ -1,3 +1,4 @@
+pub mod Alone
 pub mod Gathering
 pub mod HeldLaws
 pub mod InOrder

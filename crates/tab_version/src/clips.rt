@@ -1,6 +1,7 @@
 //! Clips of runs and of tables.
-ghost use Rattle.std.specs.Prelude.{◌≡◌, ◌++◌, ◌∷◌, [], map, IfOk, OnOk, OnErr};
+ghost use Rattle.std.specs.Prelude.{◌≡◌, ◌++◌, ◌∷◌, [], map, IfSome, IfOk, OnOk, OnErr};
 ghost use Rattle.tab_key.specs.Ranges.{is_in_range};
+ghost use Rattle.tab_key.specs.Sorted.{sorted};
 ghost use Rattle.tab_iter.specs.Bags.{flat};
 ghost use Rattle.tab_mem.specs.Lists.{HasShortParts};
 ghost use Rattle.tab_version.specs.Clips.{lists_of};
@@ -129,6 +130,18 @@ impl Clips {
         put_tables(&mut cursors, &self.tables)?;
         Ok(cursors)
     }
+
+    /// A cursor over all records, at the first of them, where one clip has them all. It takes no memory.
+    pub fn only_cursor<'a>(&'a self) -> Option<ClipCursor<'a>>
+        ensures whole { IfSome result (λ c. ⟦<ClipCursor<'a> as Source>⟧.whole c ≡ sorted (records_of self.now)) }
+        ensures at_start { IfSome result (λ c. ⟦<ClipCursor<'a> as Source>⟧.rest c ≡ ⟦<ClipCursor<'a> as Source>⟧.whole c) }
+    {
+        match (self.runs.len(), self.tables.len()) {
+            (1, 0) => Some(OneOf::First(self.runs[0].cursor())),
+            (0, 1) => Some(OneOf::Second(self.tables[0].cursor())),
+            _ => None,
+        }
+    }
 }
 
 // The same runs, each shared once more.
@@ -160,7 +173,7 @@ fn put_runs<'a>(cursors: &mut Vec<ClipCursor<'a>>, clips: &'a [Clip]) -> Result<
     ensures short { OnOk result (HasShortParts (flat clips.now)) }
 {
     for clip in clips {
-        cursors.push(OneOf::Run(clip.cursor()))?;
+        cursors.push(OneOf::First(clip.cursor()))?;
     }
     Ok(())
 }
@@ -175,7 +188,7 @@ fn put_tables<'a>(
     ensures short { OnOk result (HasShortParts (flat (map (λ t. t.records) clips.now))) }
 {
     for clip in clips {
-        cursors.push(OneOf::Table(clip.cursor()))?;
+        cursors.push(OneOf::Second(clip.cursor()))?;
     }
     Ok(())
 }

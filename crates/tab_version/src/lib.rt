@@ -33,5 +33,6 @@ pub use in_turn::InTurn;
 pub use lists::Lists;
 pub use one_of::OneOf;
 pub use table_clip::TableClip;
+pub use tablets::TabletSource;
 pub use version::{Raw, Stack, Version};
 pub use whole::Whole;

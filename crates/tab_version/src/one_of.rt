@@ -6,48 +6,48 @@ ghost use Rattle.tab_version.specs.OneOf.{one_of, by_kind};
 use tab_iter::{NoMemory, Source};
 use tab_key::{Key, RecordRef};
 
-/// A source over a run, or one over a table.
+/// A source of one kind, or one of another.
 #[derive(Drop)]
-pub enum OneOf<R: Source, T: Source> {
-    /// Over a run.
-    Run(R),
-    /// Over a table.
-    Table(T),
+pub enum OneOf<A: Source, B: Source> {
+    /// Of the first kind.
+    First(A),
+    /// Of the second.
+    Second(B),
 }
 
-impl<R: Source, T: Source> Source for OneOf<R, T> {
-    ghost whole = { one_of R.whole T.whole };
+impl<A: Source, B: Source> Source for OneOf<A, B> {
+    ghost whole = { one_of A.whole B.whole };
 
-    ghost rest = { one_of R.rest T.rest };
+    ghost rest = { one_of A.rest B.rest };
 
-    ghost is_unpositioned = { one_of R.is_unpositioned T.is_unpositioned };
+    ghost is_unpositioned = { one_of A.is_unpositioned B.is_unpositioned };
 
-    ghost whole_rises = { by_kind (λ s. IsRising (one_of R.whole T.whole s)) R.whole_rises T.whole_rises };
+    ghost whole_rises = { by_kind (λ s. IsRising (one_of A.whole B.whole s)) A.whole_rises B.whole_rises };
 
-    ghost has_i64_timestamps = { by_kind (λ s. HasI64Timestamps (one_of R.whole T.whole s)) R.has_i64_timestamps T.has_i64_timestamps };
+    ghost has_i64_timestamps = { by_kind (λ s. HasI64Timestamps (one_of A.whole B.whole s)) A.has_i64_timestamps B.has_i64_timestamps };
 
-    ghost rest_is_suffix = { by_kind (λ s. IsEnd (one_of R.rest T.rest s) (one_of R.whole T.whole s)) R.rest_is_suffix T.rest_is_suffix };
+    ghost rest_is_suffix = { by_kind (λ s. IsEnd (one_of A.rest B.rest s) (one_of A.whole B.whole s)) A.rest_is_suffix B.rest_is_suffix };
 
-    ghost unpositioned_is_empty = { by_kind (λ s. one_of R.is_unpositioned T.is_unpositioned s ≡ true → one_of R.rest T.rest s ≡ []) R.unpositioned_is_empty T.unpositioned_is_empty };
+    ghost unpositioned_is_empty = { by_kind (λ s. one_of A.is_unpositioned B.is_unpositioned s ≡ true → one_of A.rest B.rest s ≡ []) A.unpositioned_is_empty B.unpositioned_is_empty };
 
     fn top(&self) -> Option<RecordRef<'_>> {
         match self {
-            OneOf::Run(source) => source.top(),
-            OneOf::Table(source) => source.top(),
+            OneOf::First(source) => source.top(),
+            OneOf::Second(source) => source.top(),
         }
     }
 
     fn advance(&mut self) -> Result<(), NoMemory> {
         match self {
-            OneOf::Run(source) => source.advance(),
-            OneOf::Table(source) => source.advance(),
+            OneOf::First(source) => source.advance(),
+            OneOf::Second(source) => source.advance(),
         }
     }
 
     fn seek(&mut self, key: Key<'_>) -> Result<(), NoMemory> {
         match self {
-            OneOf::Run(source) => source.seek(key),
-            OneOf::Table(source) => source.seek(key),
+            OneOf::First(source) => source.seek(key),
+            OneOf::Second(source) => source.seek(key),
         }
     }
 }

@@ -6,13 +6,15 @@ ghost use Rattle.tab_version.specs.InTurn.{reaches};
 ghost use Rattle.tab_version.specs.Sources.{records_of};
 
 use crate::held::Held;
-use crate::{ClipCursor, Clips, Lists};
+use crate::{ClipCursor, Clips, Lists, OneOf};
 use std::alloc::Global;
 use tab_iter::{Merging, NoMemory};
 use tab_key::Key;
 
-/// A source over a tablet is a cursor for each of its clips, merged.
-impl<'a> Lists<Merging<ClipCursor<'a>>> for &'a [Clips] {
+/// What is read of a tablet: a cursor over its only clip, or one over each of its clips, merged.
+pub type TabletSource<'a> = OneOf<ClipCursor<'a>, Merging<ClipCursor<'a>>>;
+
+impl<'a> Lists<TabletSource<'a>> for &'a [Clips] {
     ghost use Rattle.tab_version.specs.InTurn.{in_order};
 
     ghost listed = { λ t. in_order t.now };
@@ -27,22 +29,26 @@ impl<'a> Lists<Merging<ClipCursor<'a>>> for &'a [Clips] {
         count_before(&tablets[..last], key)
     }
 
-    fn source_at(&self, alloc: Global, index: usize) -> Result<Merging<ClipCursor<'a>>, NoMemory> {
+    fn source_at(&self, alloc: Global, index: usize) -> Result<TabletSource<'a>, NoMemory> {
         let tablets: &'a [Clips] = *self;
-        let cursors = tablets[index].cursors(alloc)?;
+        let tablet = &tablets[index];
+        if let Some(cursor) = tablet.only_cursor() {
+            return Ok(OneOf::First(cursor));
+        }
+        let cursors = tablet.cursors(alloc)?;
         let source = Merging::new(cursors)?;
-        Ok(source)
+        Ok(OneOf::Second(source))
     }
 
-    fn unpositioned_at(
-        &self,
-        alloc: Global,
-        index: usize,
-    ) -> Result<Merging<ClipCursor<'a>>, NoMemory> {
+    fn unpositioned_at(&self, alloc: Global, index: usize) -> Result<TabletSource<'a>, NoMemory> {
         let tablets: &'a [Clips] = *self;
-        let cursors = tablets[index].cursors(alloc)?;
+        let tablet = &tablets[index];
+        if let Some(cursor) = tablet.only_cursor() {
+            return Ok(OneOf::First(cursor));
+        }
+        let cursors = tablet.cursors(alloc)?;
         let source = Merging::unpositioned(cursors)?;
-        Ok(source)
+        Ok(OneOf::Second(source))
     }
 }
 

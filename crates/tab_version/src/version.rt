@@ -12,18 +12,18 @@ ghost use Rattle.tab_version.specs.Sources.{records_of};
 
 use crate::held::read_all;
 use crate::tablets::drop_empty;
-use crate::{ClipCursor, Clips, InTurn};
+use crate::{Clips, InTurn, TabletSource};
 use std::alloc::Global;
 use std::marker::Model;
-use tab_iter::{Merging, NoMemory, Source, stack_of, stack_unread};
+use tab_iter::{NoMemory, Source, stack_of, stack_unread};
 use tab_key::Column;
 use tab_label::AuthSet;
 
 /// What a scan of a version reads: the layers over all of its records.
 pub type Stack<'a> = tab_iter::Stack<'a, Raw<'a>>;
 
-/// All records of a version, markers and hidden ones among them: one tablet after another, of each a cursor for each clip, merged.
-pub type Raw<'a> = InTurn<&'a [Clips], Merging<ClipCursor<'a>>>;
+/// All records of a version, markers and hidden ones among them: one tablet after another.
+pub type Raw<'a> = InTurn<&'a [Clips], TabletSource<'a>>;
 
 /// What a session reads: the clips of tablets, as they stood. The tablets lie one behind the other, and no two records stand at one
 /// place. A contract sees the records of all clips, one clip after another.

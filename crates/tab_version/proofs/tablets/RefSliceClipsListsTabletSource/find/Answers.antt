@@ -5,7 +5,7 @@ use Rattle.tab_key.specs.KeyOf.{key_of}
 use Rattle.tab_key.specs.Sorted.{sorted}
 use Rattle.tab_version.specs.Sources.{Sources, records_of}
 use Rattle.tab_version.proofs.InOrder.{parted, found_passed, found_here}
-use Rattle.tab_version.proofs.tablets.RefSliceClipsListsMergingClipCursor.find.Goals as goal
+use Rattle.tab_version.proofs.tablets.RefSliceClipsListsTabletSource.find.Goals as goal
 
 pub count_before-requires : goal.count_before-requires
 count_before-requires c = parted (key_of c.args.key) c.args.self.now.now (length c.args.self.now.now - 1) c.requires.in_turn (omega arith)
