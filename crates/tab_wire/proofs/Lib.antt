@@ -9,6 +9,7 @@ pub mod Loop
 pub mod Updating
 pub mod OpcodeLemmas
 pub mod Lengths
+pub mod CellLengths
 pub mod Taking
 pub mod OwnSteps
 pub mod WholeTalks

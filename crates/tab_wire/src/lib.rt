@@ -44,7 +44,7 @@
 //! | `fields`, `parts`, `counted`, `updates`, `unread` | one field after another, and why one wasn't read |
 //! | `read` | what a frame asks: `read_request` |
 //! | `numbers`, `value`, `bits` | what a frame is put of |
-//! | `refusal`, `reply` | the frames of refusals and replies: `write_reply` |
+//! | `refusal`, `reply`, `cell_frame` | the frames of refusals and replies, and of a cell: `write_reply` |
 //! | `head`, `frame` | one frame after another, taken of a stream into memory that is used again |
 //! | `conn`, `asked` | the server's side of a connection: what is asked next, and what it is told |
 //! | `asking`, `sending`, `gathering` | the bytes of requests, gathered as a client sends them |
@@ -65,6 +65,7 @@ mod answer;
 mod asked;
 mod asking;
 mod bits;
+mod cell_frame;
 mod client;
 mod conn;
 mod counted;

@@ -8,6 +8,7 @@ ghost use Rattle.tab_wire.specs.Replies as sent;
 ghost use Rattle.tab_wire.specs.Replies.{u32, frame, cell_frame, end_frame, range_frames, row_frame, sent_bytes, sent_of};
 
 use crate::bits::{system_bits, table_bits};
+use crate::cell_frame::put_cell;
 use crate::refusal::put_refusal;
 use crate::value::{Value, put_frame};
 use tab_history::{Counts, Reply, Rights};
@@ -76,23 +77,6 @@ impl PutCell for CellFrame {
     fn put_cell<W: Output>(&self, output: &mut W, cell: &CellRef<'_>) -> Result<(), WriteFault> {
         put_cell(output, cell)
     }
-}
-
-fn put_cell<W: Output>(output: &mut W, cell: &CellRef<'_>) -> Result<(), WriteFault>
-    ensures { Puts W.Output output.old output.new (cell_frame cell.now) result }
-{
-    put_frame(
-        output,
-        &[
-            Value::Byte(0x82),
-            Value::Field(cell.row()),
-            Value::Field(cell.family()),
-            Value::Field(cell.qualifier()),
-            Value::Field(cell.label()),
-            Value::Signed(cell.timestamp()),
-            Value::Field(cell.value()),
-        ],
-    )
 }
 
 // The byte that says whether there may be more.
