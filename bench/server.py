@@ -26,7 +26,7 @@ sys.path.insert(0, str(TOP / "bench" / "store"))
 from phases import memory, processor_seconds  # noqa: E402
 
 # what a part may take of the plain server's time; and of several at once, of its throughput at least
-AIMS = {"writes of 100": 0.7, "writes of one": 0.7, "whole scan": 0.5, "100000 ranges": 0.8, "one at a time, writes": 1.1, "one at a time, ranges": 1.1}
+AIMS = {"writes of 100": 0.7, "writes of one": 0.7, "ten whole scans": 0.5, "100000 ranges": 0.8, "one at a time, writes": 1.1, "one at a time, ranges": 1.1}
 THROUGHPUT = 1.0
 
 

@@ -17,6 +17,9 @@ const BATCH: u32 = 1000;
 const NEIGHBOURS: usize = 10;
 const RANGES_A_FRAME: usize = 100;
 const BLOCK: usize = 1 << 16;
+/// Whole scans that are timed together behind the first one, and the session of the second table, which is opened behind theirs.
+const SCANS: u32 = 10;
+const TALL: u32 = SCANS + 1;
 
 /// Random words, by splitmix64.
 struct Words(u64);
@@ -251,22 +254,22 @@ fn alone(port: u16, cells: usize) -> Result<()> {
     measure("writes of 100", &mut one, |one| one.pipeline(&wide).map(|()| cells))?;
     drop(wide);
     measure("first whole scan", &mut one, |one| one.scan(0).map(|()| one.told.cells))?;
-    measure("whole scan", &mut one, |one| one.scan(1).map(|()| one.told.cells))?;
+    measure("ten whole scans", &mut one, |one| (1..=SCANS).try_for_each(|session| one.scan(session)).map(|()| one.told.cells))?;
     let tall = list(|to| words.shuffled(cells).into_iter().for_each(|row| to.write("tall", row, 1, &mut Words(row as u64))));
     measure("writes of one", &mut one, |one| one.pipeline(&tall).map(|()| cells))?;
     drop(tall);
     measure("open behind them", &mut one, |one| {
         one.ask(&list(|to| to.open("tall")))?;
-        one.ask(&list(|to| to.next(2))).map(|()| one.told.cells)
+        one.ask(&list(|to| to.next(TALL))).map(|()| one.told.cells)
     })?;
-    let ranges = list(|to| (0..1000).for_each(|_| to.many(2, RANGES_A_FRAME, cells, &mut words)));
+    let ranges = list(|to| (0..1000).for_each(|_| to.many(TALL, RANGES_A_FRAME, cells, &mut words)));
     measure("100000 ranges", &mut one, |one| one.pipeline(&ranges).map(|()| one.told.cells))?;
     let turns = 20_000.min(cells);
     measure("one at a time, writes", &mut one, |one| {
         (0..turns).try_for_each(|at| one.ask(&list(|to| to.write("tall", cells + at, 1, &mut words)))).map(|()| turns)
     })?;
     measure("one at a time, ranges", &mut one, |one| {
-        (0..turns).try_for_each(|_| one.ask(&list(|to| to.many(2, 1, cells, &mut words)))).map(|()| one.told.cells)
+        (0..turns).try_for_each(|_| one.ask(&list(|to| to.many(TALL, 1, cells, &mut words)))).map(|()| one.told.cells)
     })
 }
 
