@@ -17,3 +17,4 @@ pub mod Encoded
 pub mod Placed
 pub mod Windows
 pub mod Sequence
+pub mod SameRecords

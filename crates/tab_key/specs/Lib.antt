@@ -11,3 +11,4 @@ pub mod Kept
 pub mod Sorted
 pub mod Ranges
 pub mod Columns
+pub mod Same

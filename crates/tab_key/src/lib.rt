@@ -24,12 +24,13 @@
 //! | `Encoding`, `RecordSpans` | the record that lies in a body of bytes |
 //! | `RowPrefix` | the first bytes of a row as a number |
 //! | `Kept` | which records are hidden, and which are kept |
+//! | `Same` | when two records are the same |
 //! | `Sorted` | records in their order, computed and said without computing |
 //! | `Ranges`, `Columns` | which rows are in a range, which keys are of a column |
 //!
 //! In `proofs`, `Order`, `Ties`, `Numbers`, `Rising`, `Sorting` and `Listing` are on the order and on lists in it, `BigEndian`
 //! and `RowPrefix` on the order of rows by their prefixes, `Bodies` and
-//! `Packed` on records in bytes, `Columns` and `Selecting` on columns, `Each` on lists, and `Examples` has worked examples.
+//! `Packed` and `SameRecords` on records in bytes, `Columns` and `Selecting` on columns, `Each` on lists, and `Examples` has worked examples.
 #![tactic(auto)]
 
 mod byte_string;

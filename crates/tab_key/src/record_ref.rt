@@ -3,6 +3,7 @@ ghost use Rattle.std.specs.Prelude.{◌≡◌, ◌++◌, length};
 ghost use Rattle.tab_key.specs.Order.{place_cmp, newer_cmp, record_cmp};
 ghost use Rattle.tab_key.specs.Kept.{same_column, hides};
 ghost use Rattle.tab_key.specs.KeyOf.{key_of};
+ghost use Rattle.tab_key.specs.Same.{same_record};
 ghost use Rattle.tab_key.specs.Encoding.{record_at, record_size, IsAt};
 
 use crate::encoding::{bytes_of, span_of};
@@ -207,5 +208,26 @@ impl<'a> RecordRef<'a> {
             return false;
         }
         self.same_column(other)
+    }
+
+    // Whether each of the records' fields is the same, read one by one.
+    #[tactic(auto, unfolding(crate::specs::Same::same_record))]
+    fn same_fields(&self, other: &RecordRef<'_>) -> bool
+        ensures { result ≡ same_record self.now other.now }
+    {
+        self.same_column(other)
+            && self.timestamp() == other.timestamp()
+            && self.kind().rank() == other.kind().rank()
+            && self.value() == other.value()
+            && self.seq() == other.seq()
+            && self.idx() == other.idx()
+    }
+
+    /// Whether the records are the same: key, kind, value, number and place. The bytes in which they lie are compared first, so that
+    /// equal ones are found by one comparison; where these differ, the fields decide.
+    pub fn same_record(&self, other: &RecordRef<'_>) -> bool
+        ensures { result ≡ same_record self.now other.now }
+    {
+        self.encoded() == other.encoded() || self.same_fields(other)
     }
 }

@@ -1,5 +1,5 @@
 //! Records in their places in one body of bytes.
-ghost use Rattle.std.specs.Prelude.{◌≡◌, ◌<◌, ◌++◌, ◌∷◌, ◌==◌, [], IfOk, OnOk, OnErr, length};
+ghost use Rattle.std.specs.Prelude.{◌≡◌, ◌<◌, ◌++◌, ◌∷◌, ◌==◌, [], IfOk, OnOk, OnErr, IsTrue, length};
 ghost use Rattle.std.specs.List.{slice_index_or};
 ghost use Rattle.tab_key.specs.Encoding.{IsShort};
 ghost use Rattle.tab_key.specs.KeyOf.{key_of};
@@ -100,6 +100,17 @@ impl Records {
         ensures { result ≡ slice_index_or self.now index result }
     {
         RecordRef::at(self.body.as_slice(), self.places[index])
+    }
+
+    /// Whether the others lie as these do, byte for byte and at the same places; then they are the same records. Where they don't, they
+    /// may be the same ones all the same. It takes time linear in the bytes that are equal.
+    pub(crate) fn lie_like(&self, other: &Records) -> bool
+        ensures { IsTrue result → self.now ≡ other.now }
+    {
+        if self.places.as_slice() != other.places.as_slice() {
+            return false;
+        }
+        self.body.as_slice() == other.body.as_slice()
     }
 
     /// Puts a record at the end. Each of its parts may have at most 1,048,576 bytes. `AllocError` leaves the records as they were.

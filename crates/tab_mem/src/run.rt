@@ -1,5 +1,5 @@
 //! Frozen runs.
-ghost use Rattle.std.specs.Prelude.{◌≡◌, ◌<◌, ◌≤◌, ◌==◌, length, filter};
+ghost use Rattle.std.specs.Prelude.{◌≡◌, ◌<◌, ◌≤◌, ◌==◌, IsTrue, length, filter};
 ghost use Rattle.std.specs.List.{slice_index_or};
 ghost use Rattle.tab_key.specs.Ranges.{is_in_range};
 ghost use Rattle.tab_iter.specs.Lists.{IsRising, HasI64Timestamps};
@@ -64,6 +64,14 @@ impl Run {
         ensures { result ≡ slice_index_or self.now index result }
     {
         self.records.get(index)
+    }
+
+    /// Whether the other's records lie as its own do, byte for byte; then they are the same records. Where they don't, they may be the
+    /// same ones all the same. It takes time linear in the bytes that are equal.
+    pub fn lies_like(&self, other: &Run) -> bool
+        ensures { IsTrue result → self.now ≡ other.now }
+    {
+        self.records.lie_like(&other.records)
     }
 
     /// How much room to ask for, in bytes, where the records from one index up to another are copied. Only how often memory is taken

@@ -1,5 +1,5 @@
 //! Sorted tables.
-ghost use Rattle.std.specs.Prelude.{◌≡◌, ◌<◌, ◌≤◌, ◌==◌, length, filter};
+ghost use Rattle.std.specs.Prelude.{◌≡◌, ◌<◌, ◌≤◌, ◌==◌, IsTrue, length, filter};
 ghost use Rattle.std.specs.List.{slice_index_or};
 ghost use Rattle.std.proofs.lemmas.Map.Keys.{IsStrictlySortedBy-prop};
 ghost use Rattle.tab_key.specs.Encoding.{records_at, AreAt, AreAt-prop};
@@ -67,6 +67,17 @@ impl Table {
         ensures { (u : Fields) → result ≡ slice_index_or (records self.now) index u }
     {
         record_of(self.body.as_slice(), self.places.as_slice(), index)
+    }
+
+    /// Whether the other's records lie as its own do, byte for byte; then they are the same records. Where they don't, they may be the
+    /// same ones all the same. It takes time linear in the bytes that are equal.
+    pub fn lies_like(&self, other: &Table) -> bool
+        ensures { IsTrue result → records self.now ≡ records other.now }
+    {
+        if self.places.as_slice() != other.places.as_slice() {
+            return false;
+        }
+        self.body.as_slice() == other.body.as_slice()
     }
 
     /// The row of the record at an index, counted from 0 in the order of records.

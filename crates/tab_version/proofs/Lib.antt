@@ -5,3 +5,5 @@ pub mod InOrder
 pub mod InTurnLaws
 pub mod PartsByIndex
 pub mod Reaching
+pub mod Alike
+pub mod TakenOut

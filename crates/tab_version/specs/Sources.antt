@@ -1,9 +1,7 @@
 -- What a tablet reads beside its active part: frozen runs and sorted tables, each cut to the tablet's rows.
-use Rattle.std.specs.Prelude.{ℕ, List, [], ◌∷◌, ◌++◌, ◌+◌, Bool, true, false, ◌&&◌, ◌==◌, cond, Option, Some, None, option_map, option_and_then, length, filter, map, sum, bytes_eq}
-use Rattle.std.specs.Ordering.{int_eq}
+use Rattle.std.specs.Prelude.{ℕ, List, [], ◌∷◌, ◌++◌, ◌+◌, Bool, true, false, ◌&&◌, ◌==◌, cond, Option, Some, None, option_map, option_and_then, length, filter, map, sum}
 use Rattle.tab_key.specs.Records.{Record}
-use Rattle.tab_key.specs.Order.{kind_rank}
-use Rattle.tab_key.specs.Kept.{same_column}
+pub use Rattle.tab_key.specs.Same.{same_record}
 use Rattle.tab_iter.specs.Bags.{flat}
 use Rattle.tab_table.specs.Sizes.{encoded_size}
 
@@ -46,10 +44,6 @@ abbrev pub clipped : (List ℕ → Bool) → Sources → Sources
 clipped p s = record { runs = map (filter (λ (u : Record). p u.key.row)) s.runs; tables = map (λ (t : Sorted). record t { records = filter (λ (u : Record). p u.key.row) t.records }) s.tables }
 
 -- ---- equal contents
--- the same key, kind, value, number and place
-unfoldable pub same_record : Record → Record → Bool
-same_record a b = same_column a.key b.key && int_eq a.key.timestamp b.key.timestamp && kind_rank a.kind == kind_rank b.kind && bytes_eq a.value b.value && a.seq == b.seq && a.idx == b.idx
-
 -- lists whose members pair up, in order
 abbrev pub same_lists : {X : Type 0} → (X → X → Bool) → List X → List X → Bool
 same_lists same [] [] = true
@@ -64,6 +58,10 @@ same_contents xs ys = same_lists same_record xs ys
 -- two sorted tables of which the same records are held
 abbrev pub same_table : Sorted → Sorted → Bool
 same_table a b = same_contents a.records b.records
+
+-- sources that pair up in order by their contents, a run with a run and a table with a table
+abbrev pub same_sources : Sources → Sources → Bool
+same_sources a b = same_lists same_contents a.runs b.runs && same_lists same_table a.tables b.tables
 
 -- ---- taking sources out
 -- the list without its first member that passes, if there is one

@@ -1,11 +1,12 @@
 //! Parts of shared runs and tables.
-ghost use Rattle.std.specs.Prelude.{◌≡◌, ◌<◌, ◌==◌, IfOk, length, filter, slice_index_or};
+ghost use Rattle.std.specs.Prelude.{◌≡◌, ◌<◌, ◌==◌, IfOk, IsTrue, length, filter, slice_index_or};
 ghost use Rattle.tab_key.specs.Ranges.{is_in_range};
 ghost use Rattle.tab_key.specs.Records.{Record as Fields};
 ghost use Rattle.tab_key.specs.KeyOf.{key_of};
 ghost use Rattle.tab_iter.specs.Lists.{IsRising, HasI64Timestamps};
 ghost use Rattle.tab_mem.specs.Lists.{HasShortParts};
 ghost use Rattle.tab_version.specs.InTurn.{reaches};
+ghost use Rattle.tab_version.specs.Sources.{same_record, same_contents};
 
 use crate::Whole;
 use std::alloc::AllocError;
@@ -87,6 +88,62 @@ impl<W: Whole + Drop> Part<W> {
         let _end = self.end;
         let place = self.from + index;
         self.whole.row(place)
+    }
+
+    // Whether the records at an index are the same.
+    fn same_at(&self, other: &Part<W>, index: usize) -> bool
+        requires here { index < length self.now }
+        requires there { index < length other.now }
+        ensures { (u : Fields) → result ≡ same_record (slice_index_or self.now index u) (slice_index_or other.now index u) }
+    {
+        let _end = self.end;
+        let _other_end = other.end;
+        let here = self.from + index;
+        let there = other.from + index;
+        self.whole.same_at(here, &other.whole, there)
+    }
+
+    // Whether each record is the same as the other's at its index, of as many.
+    fn same_records(&self, other: &Part<W>) -> bool
+        ensures { result ≡ same_contents self.now other.now }
+    {
+        let count = self.len();
+        if other.len() != count {
+            return false;
+        }
+        for index in 0..count {
+            if !self.same_at(other, index) {
+                return false;
+            }
+        }
+        true
+    }
+
+    // Whether it is a large part of a whole, and the other one the same part of a whole that lies alike: then they have the same records.
+    fn is_cut_like(&self, other: &Part<W>) -> bool
+        ensures { IsTrue result → self.now ≡ other.now }
+    {
+        if self.from != other.from || self.end != other.end {
+            return false;
+        }
+        if self.len() < self.whole.len() / 4 {
+            return false;
+        }
+        self.whole.lies_like(&other.whole)
+    }
+
+    /// Whether the other clip has the same records, in order. Where both are the same large part of wholes that lie alike, as they are where
+    /// one is a share of the other, one comparison of bytes finds it; else each record is compared.
+    ///
+    /// It takes no memory, and time linear in the records that are the same; where there are not as many, none is read.
+    #[tactic(auto, using(crate::proofs::Alike::contents_alike))]
+    pub fn same_contents(&self, other: &Part<W>) -> bool
+        ensures { result ≡ same_contents self.now other.now }
+    {
+        if self.is_cut_like(other) {
+            return true;
+        }
+        self.same_records(other)
     }
 
     // Whether a record stands at the key or behind it. Of the records only the last one is read.

@@ -1,13 +1,15 @@
 //! Clips of runs and of tables.
-ghost use Rattle.std.specs.Prelude.{◌≡◌, ◌++◌, ◌∷◌, [], map, IfSome, IfOk, OnOk, OnErr};
+ghost use Rattle.std.specs.Prelude.{◌≡◌, ◌++◌, ◌∷◌, [], Some, None, cond, map, IfSome, IfOk, OnOk, OnErr};
 ghost use Rattle.tab_key.specs.Ranges.{is_in_range};
 ghost use Rattle.tab_key.specs.Sorted.{sorted};
 ghost use Rattle.tab_iter.specs.Bags.{flat};
 ghost use Rattle.tab_mem.specs.Lists.{HasShortParts};
 ghost use Rattle.tab_version.specs.Clips.{lists_of};
-ghost use Rattle.tab_version.specs.Sources.{no_sources, records_of, clipped};
+ghost use Rattle.tab_version.specs.Sources.{no_sources, records_of, clipped, same_sources, left_by};
 
 use crate::cutting::{runs_in, tables_in};
+use crate::sought::pair_up;
+use crate::taking::{take_runs, take_tables};
 use crate::{Clip, OneOf, TableClip};
 use std::alloc::{AllocError, Global};
 use std::marker::Model;
@@ -95,6 +97,52 @@ impl Clips {
         let runs = runs_in(alloc, &self.runs, bounds)?;
         let tables = tables_in(alloc, &self.tables, bounds)?;
         Ok(Clips::of(runs, tables))
+    }
+
+    /// Whether the sources of both pair up in order, a run with a run and a table with a table, each with one that holds the same records.
+    /// The sizes of whole tables aren't compared. It takes no memory, and time linear in the records that are the same.
+    pub fn same_sources(&self, other: &Clips) -> bool
+        ensures { result ≡ same_sources self.now other.now }
+    {
+        if !pair_up(self.runs(), other.runs()) {
+            return false;
+        }
+        pair_up(self.tables(), other.tables())
+    }
+
+    /// The other sources, where each of the inputs has a source of its own with equal contents among these, a run a run and a table a
+    /// table; of tables with equal contents one of equal size is taken first. None where an input has none. Each that is left is shared
+    /// once more; these stay as they are.
+    ///
+    /// It takes memory for a share of each source, and time linear in the records of the inputs, where sources with as many records
+    /// differ in one of their first. `AllocError` says that memory lacked.
+    pub fn left_by(&self, alloc: Global, inputs: &Clips) -> Result<Option<Clips>, AllocError>
+        ensures { IfOk result (λ left. left ≡ left_by inputs.now self.now) }
+    {
+        let shared = self.share(alloc)?;
+        Ok(shared.spared(inputs))
+    }
+
+    // What is left where a source of equal contents is taken out for each of the inputs.
+    fn spared(self, inputs: &Clips) -> Option<Clips>
+        ensures { result ≡ left_by inputs.now self }
+    {
+        let mut left = self;
+        if left.take_out(inputs) {
+            Some(left)
+        } else {
+            None
+        }
+    }
+
+    // Takes out a source of equal contents for each of the inputs, and says whether each input had one of its own.
+    fn take_out(&mut self, inputs: &Clips) -> bool
+        ensures { left_by inputs.now self.old ≡ cond result (Some self.new) None }
+    {
+        if !take_runs(&mut self.runs, inputs.runs()) {
+            return false;
+        }
+        take_tables(&mut self.tables, inputs.tables())
     }
 
     /// Puts a clip of a run behind the others. `AllocError` leaves all as it was.

@@ -8,6 +8,7 @@
 //! | `one_of` | a source that is of one of two kinds |
 //! | `clips` | clips of runs and of tables: what a tablet reads |
 //! | `cutting` | clips cut to rows |
+//! | `sought`, `taking` | sources that are found by their contents, and taken out |
 //! | `held` | what is asked of the records that clips hold |
 //! | `lists` | lists of records, one behind the other |
 //! | `in_turn` | the records of such lists, of which one is read at a time |
@@ -22,8 +23,10 @@ mod held;
 mod in_turn;
 mod lists;
 mod one_of;
+mod sought;
 mod table_clip;
 mod tablets;
+mod taking;
 mod version;
 mod whole;
 

@@ -7,7 +7,7 @@ ghost use Rattle.tab_iter.specs.Lists.{IsRising, HasI64Timestamps};
 ghost use Rattle.tab_mem.specs.Lists.{HasShortParts};
 ghost use Rattle.tab_table.specs.Tables.{records};
 ghost use Rattle.tab_version.specs.InTurn.{reaches};
-ghost use Rattle.tab_version.specs.Sources.{built};
+ghost use Rattle.tab_version.specs.Sources.{built, same_table};
 
 use crate::{Clip, Part};
 use std::alloc::{AllocError, Global};
@@ -82,6 +82,14 @@ impl TableClip {
         ensures { (u : Fields) → result.now ≡ (slice_index_or self.now.records index u).key.row }
     {
         self.part.row(index)
+    }
+
+    /// Whether the other clip has the same records, in order; the sizes of the whole tables aren't compared. It takes no memory, and time
+    /// linear in the records that are the same; where there are not as many, none is read.
+    pub fn same_contents(&self, other: &TableClip) -> bool
+        ensures { result ≡ same_table self.now other.now }
+    {
+        self.part.same_contents(&other.part)
     }
 
     // Whether a record stands at the key or behind it.

@@ -1,11 +1,12 @@
 //! What clips are cut of.
-ghost use Rattle.std.specs.Prelude.{◌≡◌, ◌<◌, ◌≤◌, List, length, filter, slice_index_or};
+ghost use Rattle.std.specs.Prelude.{◌≡◌, ◌<◌, ◌≤◌, IsTrue, List, length, filter, slice_index_or};
 ghost use Rattle.std.specs.Ordering.{is_lt};
 ghost use Rattle.tab_key.specs.KeyOf.{key_of};
 ghost use Rattle.tab_key.specs.Order.{key_cmp};
 ghost use Rattle.tab_key.specs.Ranges.{is_in_range};
 ghost use Rattle.tab_iter.specs.Lists.{IsRising, HasI64Timestamps};
 ghost use Rattle.tab_mem.specs.Lists.{part, HasShortParts};
+ghost use Rattle.tab_version.specs.Sources.{same_record};
 
 use std::ops::Range;
 use tab_key::{Bounds, Key};
@@ -35,6 +36,17 @@ pub trait Whole {
         requires { index < length (listed self.now) }
         ensures { (u : Record) → result.now ≡ (slice_index_or (listed self.now) index u).key.row };
 
+    /// Whether the record at an index is the same as the one at an index of another whole.
+    fn same_at(&self, index: usize, other: &Self, place: usize) -> bool
+        requires here { index < length (listed self.now) }
+        requires there { place < length (listed other.now) }
+        ensures { (u : Record) → result ≡ same_record (slice_index_or (listed self.now) index u) (slice_index_or (listed other.now) place u) };
+
+    /// Whether another whole's records lie as its own do, byte for byte; then they are the same records. Where they don't, they may be
+    /// the same ones all the same.
+    fn lies_like(&self, other: &Self) -> bool
+        ensures { IsTrue result → listed self.now ≡ listed other.now };
+
     /// The indexes of the records of a part whose rows are in bounds: these records stand together. The part goes from one index
     /// up to another, that one excluded.
     fn rows_in(&self, from: usize, end: usize, bounds: &Bounds) -> Range<usize>
@@ -61,6 +73,16 @@ impl Whole for Run {
         self.get(index).row()
     }
 
+    fn same_at(&self, index: usize, other: &Run, place: usize) -> bool {
+        let here = self.get(index);
+        let there = other.get(place);
+        here.same_record(&there)
+    }
+
+    fn lies_like(&self, other: &Run) -> bool {
+        Run::lies_like(self, other)
+    }
+
     fn rows_in(&self, from: usize, end: usize, bounds: &Bounds) -> Range<usize> {
         Run::rows_in(self, from, end, bounds)
     }
@@ -81,6 +103,16 @@ impl Whole for Table {
 
     fn row(&self, index: usize) -> &[u8] {
         Table::row(self, index)
+    }
+
+    fn same_at(&self, index: usize, other: &Table, place: usize) -> bool {
+        let here = self.get(index);
+        let there = other.get(place);
+        here.same_record(&there)
+    }
+
+    fn lies_like(&self, other: &Table) -> bool {
+        Table::lies_like(self, other)
     }
 
     fn rows_in(&self, from: usize, end: usize, bounds: &Bounds) -> Range<usize> {
