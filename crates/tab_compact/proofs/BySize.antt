@@ -1,11 +1,10 @@
 -- Tables in the order of their sizes.
-use Rattle.std.proofs.Common.{◌≡◌, ℕ, zero, suc, ◌+◌, ◌-◌, ◌<◌, ◌≤◌, List, [], ◌∷◌, ◌++◌, Bool, true, false, cond, refl, sym, ◌∙◌, ap, subst, length, map, take, drop, get_or, arith, add-one, drop-cons}
+use Rattle.std.proofs.Common.{◌≡◌, ℕ, zero, suc, ◌+◌, ◌<◌, ◌≤◌, List, [], ◌∷◌, Bool, true, false, cond, refl, sym, ◌∙◌, ap, length, take, drop, get_or, arith, add-one, drop-cons}
 use Rattle.std.specs.Prelude.{Option, Some, None, nat_lt, unwrap_or}
 use Rattle.std.specs.List.{AllByRecursion, insert, prefix_len}
 use Rattle.std.specs.List.Sorted.{IsNonDecreasing}
 use Rattle.std.proofs.lemmas.Bool.Decides.{nat_tests}
 use Rattle.tab_key.proofs.Each.{each_map}
-use Rattle.tab_cells.proofs.Lists.{by_bool}
 use Rattle.tab_version.specs.Sources.{Sorted}
 use Rattle.tab_compact.specs.Merges.{put_by_size, by_size, sizes_of, taken}
 

@@ -1,6 +1,6 @@
 -- The plan takes the greatest number that fits, and one pass over the sizes finds it.
 use Rattle.std.proofs.Common.{◌≡◌, ℕ, zero, suc, ◌+◌, ◌*◌, ◌<◌, ◌≤◌, List, [], ◌∷◌, ◌++◌, Bool, true, false, ◌&&◌, cond, refl, sym, ◌∙◌, ap, subst, length, take, get_or, max, arith}
-use Rattle.std.specs.Prelude.{Option, Some, nat_le, sum}
+use Rattle.std.specs.Prelude.{Some, nat_le, sum}
 use Rattle.std.specs.List.Sorted.{IsNonDecreasing}
 use Rattle.std.proofs.lemmas.List.{take_more}
 use Rattle.std.proofs.lemmas.List.Sums.{sum_by_more}

@@ -12,26 +12,28 @@ use tab_cells::Compaction;
 use tab_iter::NoMemory;
 use tab_version::{Clips, TableClip};
 
-/// The merge that a compaction begins on these sources, with the floor of their table's timestamps and so many versions of a
-/// column; none where there is nothing to merge.
+/// The merge that a compaction begins on these sources of the tablet with this number, with the floor of their table's timestamps and
+/// so many versions of a column; none where there is nothing to merge. The merge gets the number that is given for it.
 ///
 /// A minor compaction reads all runs, a partial one the smallest tables, as many as [`plan`] says, and a full one all sources. What
 /// it reads is shared. The error comes only from want of memory.
 pub fn capture(
     alloc: Global,
+    tablet: u64,
+    number: u64,
     kind: Compaction,
     sources: &Clips,
     floor: i64,
     versions: u32,
 ) -> Result<Option<Job>, NoMemory>
     requires { IsDistinct (records_of sources.now) }
-    ensures { IfOk result (λ job. job ≡ captured kind floor versions sources.now) }
+    ensures { IfOk result (λ job. job ≡ captured tablet number kind floor versions sources.now) }
 {
     let inputs = inputs_of(alloc, kind, sources)?;
     if is_nothing(&inputs) {
         return Ok(None);
     }
-    Ok(Some(Job::new(kind, inputs, floor, versions)))
+    Ok(Some(Job::new(tablet, number, kind, inputs, floor, versions)))
 }
 
 // Whether there is no source.

@@ -1,12 +1,12 @@
 //! A merge that is to be made.
-ghost use Rattle.std.specs.Prelude.{◌≡◌, IfOk, IfErr};
+ghost use Rattle.std.specs.Prelude.{◌≡◌, Some, IfOk, IfErr};
 ghost use Rattle.tab_key.specs.Sorted.{IsDistinct};
 ghost use Rattle.tab_table.specs.Tables.{records};
 ghost use Rattle.tab_version.specs.Sources.{records_of};
-ghost use Rattle.tab_compact.specs.Merges.{output};
+ghost use Rattle.tab_compact.specs.Merges.{output, is_under_way};
 
 use crate::Finished;
-use std::alloc::Global;
+use std::alloc::{AllocError, Global};
 use std::marker::Model;
 use std::sync::Arc;
 use tab_cells::Compaction;
@@ -19,6 +19,8 @@ use tab_version::Clips;
 /// It shares its sources, so it can be made whatever becomes of the tablet meanwhile.
 #[derive(Drop)]
 pub struct Job {
+    tablet: u64,
+    number: u64,
     kind: Compaction,
     inputs: Clips,
     floor: i64,
@@ -32,24 +34,96 @@ impl Model for Job {
 
     ghost Value = { Merge };
 
-    ghost view = { λ j. record { kind = j.kind; inputs = j.inputs; floor = j.floor; versions = j.versions } };
+    ghost view = { λ j. record { tablet = j.tablet; number = j.number; kind = j.kind; inputs = j.inputs; floor = j.floor; versions = j.versions } };
 
     ghost invariant = { λ j. IsDistinct (records_of j.inputs) };
 }
 
 impl Job {
-    /// The merge of these sources, no two of whose records stand at one place, with the floor of their table's timestamps and so
-    /// many versions of a column.
-    pub fn new(kind: Compaction, inputs: Clips, floor: i64, versions: u32) -> Job
+    /// The merge with this number of these sources of the tablet with that number: no two of their records stand at one place. The
+    /// floor is that of their table's timestamps; of a column so many versions are kept.
+    pub fn new(
+        tablet: u64,
+        number: u64,
+        kind: Compaction,
+        inputs: Clips,
+        floor: i64,
+        versions: u32,
+    ) -> Job
         requires { IsDistinct (records_of inputs) }
-        ensures { result ≡ record { kind = kind; inputs = inputs; floor = floor; versions = versions } }
+        ensures { result ≡ record { tablet = tablet; number = number; kind = kind; inputs = inputs; floor = floor; versions = versions } }
     {
         Job {
+            tablet,
+            number,
             kind,
             inputs,
             floor,
             versions,
         }
+    }
+
+    /// The number of the tablet whose sources it reads.
+    pub fn tablet(&self) -> u64
+        ensures { result ≡ self.now.tablet }
+    {
+        self.tablet
+    }
+
+    /// Its own number.
+    pub fn number(&self) -> u64
+        ensures { result ≡ self.now.number }
+    {
+        self.number
+    }
+
+    /// The kind of its compaction.
+    pub fn kind(&self) -> Compaction
+        ensures { result ≡ self.now.kind }
+    {
+        self.kind
+    }
+
+    /// The floor of the table's timestamps when it began.
+    pub fn floor(&self) -> i64
+        ensures { result ≡ self.now.floor }
+    {
+        self.floor
+    }
+
+    /// How many versions of a column the table kept when it began.
+    pub fn versions(&self) -> u32
+        ensures { result ≡ self.now.versions }
+    {
+        self.versions
+    }
+
+    /// The same job, each of its sources shared once more. No record is copied.
+    ///
+    /// It takes memory for a share of each source. `AllocError` says that it lacked.
+    pub fn share(&self, alloc: Global) -> Result<Job, AllocError>
+        ensures { IfOk result (λ j. j ≡ self.now) }
+    {
+        let inputs = self.inputs.share(alloc)?;
+        Ok(Job {
+            tablet: self.tablet,
+            number: self.number,
+            kind: self.kind,
+            inputs,
+            floor: self.floor,
+            versions: self.versions,
+        })
+    }
+
+    /// Whether it merges what this one does: inputs of equal contents in the same order, with the same floor and as many versions. Which
+    /// tablet, which kind and which numbers they have isn't looked at. It takes no memory, and time linear in the records of the inputs.
+    pub fn is_like(&self, other: &Job) -> bool
+        ensures { result ≡ is_under_way self.now (Some other.now) }
+    {
+        if self.floor != other.floor || self.versions != other.versions {
+            return false;
+        }
+        self.inputs.same_sources(&other.inputs)
     }
 
     /// The sources that it reads.

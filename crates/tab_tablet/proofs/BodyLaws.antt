@@ -10,7 +10,7 @@ use Rattle.tab_key.proofs.Sorting.{distinct_permuted}
 use Rattle.tab_iter.specs.Bags.{flat}
 use Rattle.tab_iter.proofs.BagLaws.{sorted_filter}
 use Rattle.tab_version.specs.Sources.{Sorted, Sources, records_of, clipped}
-use Rattle.tab_tablet.specs.Bodies.{held_in, AreBodies, IsFreezeOf, bodies_after}
+use Rattle.tab_tablet.specs.Bodies.{held_in, AreBodies, Freezes, IsFreezeOf, bodies_after}
 use Rattle.tab_tablet.proofs.Clipped.{held_more}
 use Rattle.tab_tablet.proofs.Cut.{clipped_records, runs_cut}
 use Rattle.tab_tablet.proofs.Gathered.{permuted_sorted, flat_more}
@@ -145,7 +145,7 @@ distinct_with active run s b d e q =
     (IsPermutation-append active (sorted active) (flat s.runs) (records_of b) (permuted_sorted active) q)
     (distinct_left (active ++ flat s.runs) (held_in s.tables) (subst IsDistinct (sym (append_assoc active (flat s.runs) (held_in s.tables))) d)))
 
-pub freeze_is : (active : List Record) (s b : Sources) (f : Freeze) → (length active == 0) ≡ false → f.run ≡ sorted active → AreBodies s.runs b → IsPermutation (f.run ++ records_of b) (records_of f.bodies) → IsFreezeOf (record { end = None; active = active; sources = s }) f
+pub freeze_is : (active : List Record) (s b : Sources) (f : Freeze) → (length active == 0) ≡ false → f.run ≡ sorted active → AreBodies s.runs b → IsPermutation (f.run ++ records_of b) (records_of f.bodies) → Freezes active s f
 freeze_is active s b f some e q p = record { run = run_some active some ∙ ap (λ l. l ∷ []) (sym e); bodies = bodies_more s.runs f.run b f.bodies q p }
 
 -- the frozen tablet holds no record twice
@@ -159,10 +159,10 @@ no_runs runs n e = let z = (Decides-eqb (length runs + n) 0).0 e in nil_from_len
 none_held : (runs : List (List Record)) (n : ℕ) → (length runs + n == 0) ≡ true → IsPermutation (flat runs) []
 none_held runs n e = subst (λ (l : List (List Record)). IsPermutation (flat l) []) (sym (no_runs runs n e)) (IsPermutation-refl [])
 
-pub bodies_compacted : (kind : Compaction) (floor : ℤ) (n : ℕ) (s b : Sources) → AreBodies s.runs b → AreBodies (sources_after kind (captured kind floor n s) s).runs (bodies_after kind b)
-bodies_compacted kind floor n s b q = go kind (count_of (inputs_of kind s) == 0) refl
+pub bodies_compacted : (tablet : ℕ) (kind : Compaction) (floor : ℤ) (n : ℕ) (s b : Sources) → AreBodies s.runs b → AreBodies (sources_after kind (captured tablet 0 kind floor n s) s).runs (bodies_after kind b)
+bodies_compacted tablet kind floor n s b q = go kind (count_of (inputs_of kind s) == 0) refl
   where
-    go : (k : Compaction) (v : Bool) → (count_of (inputs_of k s) == 0) ≡ v → AreBodies (sources_after k (cond v None (Some (record { kind = k; inputs = inputs_of k s; floor = floor; versions = n }))) s).runs (bodies_after k b)
+    go : (k : Compaction) (v : Bool) → (count_of (inputs_of k s) == 0) ≡ v → AreBodies (sources_after k (cond v None (Some (record { tablet = tablet; number = 0; kind = k; inputs = inputs_of k s; floor = floor; versions = n }))) s).runs (bodies_after k b)
     go Minor true e = none_held s.runs 0 e
     go Minor false e = IsPermutation-refl []
     go Partial true e = q

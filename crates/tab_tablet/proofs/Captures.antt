@@ -11,12 +11,13 @@ use Rattle.std.proofs.lemmas.List.Elements.{filter-append}
 use mathlib.Core.Bool.{true≢false}
 use Rattle.tab_key.specs.Records.{Record}
 use Rattle.tab_key.specs.Order.{kind_rank}
+use Rattle.tab_key.specs.Same.{same_record}
 use Rattle.tab_key.proofs.Each.{each_map}
 use Rattle.tab_cells.specs.declared.compaction.Compaction.{Compaction}
 use Rattle.tab_cells.specs.declared.compaction.Compaction.TheVariants.{Minor, Partial, Full}
 use Rattle.tab_cells.proofs.Lists.{by_bool}
 use Rattle.tab_iter.proofs.ColumnLaws.{same_itself}
-use Rattle.tab_version.specs.Sources.{Sorted, same_record, same_lists, same_contents, same_table, without, or_else, without_runs, without_tables, left_by, count_of}
+use Rattle.tab_version.specs.Sources.{Sorted, same_lists, same_contents, same_table, without, or_else, without_runs, without_tables, left_by, count_of}
 use Rattle.tab_compact.specs.Plans.{largest, fits, IsPlan}
 use Rattle.tab_compact.specs.Merges.{Merge, put_by_size, by_size, sizes_of, taken, inputs_of}
 use Rattle.tab_compact.proofs.Plans.{plan_is_greatest}
@@ -169,7 +170,7 @@ many_sorted y [] = refl
 many_sorted y (t ∷ ts) = many_put y t (by_size ts) ∙ ap (one_if (exact y t)) (many_sorted y ts)
 
 -- sizes rise
-abbrev Rises : List Sorted → Type 0
+abbrev pub Rises : List Sorted → Type 0
 Rises [] = Unit {0}
 Rises (t ∷ ts) = AllByRecursion (λ (u : Sorted). t.size ≤ u.size) ts × Rises ts
 
@@ -195,7 +196,7 @@ put_rises t (s ∷ ss) r = go (nat_lt s.size t.size) refl (put_rises t ss r.1)
     go true e ih = (all_put s.size t ss (under s.size t.size e) r.0, ih)
     go false e ih = let le : t.size ≤ s.size = over s.size t.size e in ((le, each_map (λ (u : Sorted). s.size ≤ u.size) (λ (u : Sorted). t.size ≤ u.size) (λ u k. omega (arith, le, k)) ss r.0), r)
 
-rises_by_size : (ts : List Sorted) → Rises (by_size ts)
+pub rises_by_size : (ts : List Sorted) → Rises (by_size ts)
 rises_by_size [] = tt
 rises_by_size (t ∷ ts) = put_rises t (by_size ts) (rises_by_size ts)
 
@@ -340,9 +341,9 @@ inputs_leave Partial s = ap (option_map (λ tables. record { runs = s.runs; tabl
     go (Some k) e = exactly_left (λ (t : Sorted). nat_le t.size (limit_of k s.tables)) (take k (by_size s.tables)) s.tables (counts k e)
 
 -- what is captured is found
-pub captures_leave : (kind : Compaction) (floor : ℤ) (n : ℕ) (t : Tablet) (m : Merge) → capture kind floor n t ≡ Some m → left_by m.inputs (frozen t).sources ≡ Some (spared kind (frozen t).sources)
-captures_leave kind floor n t m e = go (count_of (inputs_of kind (frozen t).sources) == 0) e
+pub captures_leave : (number : ℕ) (kind : Compaction) (floor : ℤ) (n : ℕ) (t : Tablet) (m : Merge) → capture number kind floor n t ≡ Some m → left_by m.inputs (frozen t).sources ≡ Some (spared kind (frozen t).sources)
+captures_leave number kind floor n t m e = go (count_of (inputs_of kind (frozen t).sources) == 0) e
   where
-    go : (v : Bool) → cond v None (Some (record { kind = kind; inputs = inputs_of kind (frozen t).sources; floor = floor; versions = n })) ≡ Some m → left_by m.inputs (frozen t).sources ≡ Some (spared kind (frozen t).sources)
+    go : (v : Bool) → cond v None (Some (record { tablet = t.number; number = number; kind = kind; inputs = inputs_of kind (frozen t).sources; floor = floor; versions = n })) ≡ Some m → left_by m.inputs (frozen t).sources ≡ Some (spared kind (frozen t).sources)
     go true q = absurd (cc)
     go false q = subst (λ (x : Merge). left_by x.inputs (frozen t).sources ≡ Some (spared kind (frozen t).sources)) (some_is _ m q) (inputs_leave kind (frozen t).sources)

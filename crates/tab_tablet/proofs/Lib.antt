@@ -2,6 +2,7 @@ pub mod Gathered
 pub mod Shown
 pub mod Parted
 pub mod Captures
+pub mod Planned
 pub mod Moved
 pub mod Clipped
 pub mod Compacted
@@ -9,6 +10,8 @@ pub mod Larger
 pub mod Counted
 pub mod Cut
 pub mod BodyLaws
+pub mod BodiesLeft
+pub mod InParts
 pub mod Tabled
 pub mod Listings
 pub mod Rows

@@ -13,11 +13,12 @@ use Rattle.std.proofs.lemmas.List.{map-id}
 use mathlib.Core.Bool.{true≢false}
 use Rattle.tab_key.specs.Records.{Key, Record}
 use Rattle.tab_key.specs.Order.{kind_rank, key_cmp}
+use Rattle.tab_key.specs.Same.{same_record}
 use Rattle.tab_key.specs.Kept.{same_column}
 use Rattle.tab_key.proofs.Ties.{kinds_tied, keys_tied}
 use Rattle.tab_iter.specs.Bags.{flat}
 use Rattle.tab_iter.proofs.ColumnLaws.{same_equal}
-use Rattle.tab_version.specs.Sources.{Sorted, Sources, records_of, same_record, same_lists, same_contents, same_table, without, or_else, without_runs, without_tables, left_by}
+use Rattle.tab_version.specs.Sources.{Sorted, Sources, records_of, same_lists, same_contents, same_table, without, or_else, without_runs, without_tables, left_by}
 
 -- ---- equal contents are equal
 pub nat_same : (a b : ℕ) → (a == b) ≡ true → a ≡ b

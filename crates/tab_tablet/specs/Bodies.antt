@@ -23,7 +23,11 @@ bodies_after Minor bodies = no_sources
 bodies_after Partial bodies = bodies
 bodies_after Full bodies = no_sources
 
--- a run of what was written to the tablet, and the bodies of its runs and this one
-pub record IsFreezeOf (t : Tablet) (f : Freeze) : Type 0 where
-  pub run : run_of t.active ≡ f.run ∷ []
-  pub bodies : AreBodies (t.sources.runs ++ f.run ∷ []) f.bodies
+-- a run of these active records, and the bodies of the runs and this one
+pub record Freezes (active : List Record) (sources : Sources) (f : Freeze) : Type 0 where
+  pub run : run_of active ≡ f.run ∷ []
+  pub bodies : AreBodies (sources.runs ++ f.run ∷ []) f.bodies
+
+-- the same of what was written to a tablet
+abbrev pub IsFreezeOf : Tablet → Freeze → Type 0
+IsFreezeOf t f = Freezes t.active t.sources f

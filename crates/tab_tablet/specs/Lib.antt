@@ -5,6 +5,7 @@ pub mod Splitting
 pub mod Selecting
 pub mod Spared
 pub mod SplitExamples
+pub mod Due
 pub use Rattle.tab_compact.specs.Merges
 pub use Rattle.tab_compact.specs.Plans
 pub use Rattle.tab_compact.specs.Sizes

@@ -5,6 +5,7 @@ use Rattle.tab_cells.specs.declared.compaction.Compaction.TheVariants.{Minor, Pa
 use Rattle.tab_version.specs.Sources.{Sorted, Sources, no_sources, left_by, with_table}
 use Rattle.tab_compact.specs.Plans.{largest, plan}
 use Rattle.tab_compact.specs.Merges.{Merge, output, by_size, sizes_of, inputs_of}
+use Rattle.tab_tablet.specs.Tablets.{Jobs, with_job}
 
 -- how many of the tables a partial compaction takes, if it takes any
 abbrev pub plan_of : List Sorted → Option ℕ
@@ -34,3 +35,8 @@ InputsLeave = (kind : Compaction) (s : Sources) → left_by (inputs_of kind s) s
 abbrev pub sources_after : Compaction → Option Merge → Sources → Sources
 sources_after kind None s = s
 sources_after kind (Some m) s = with_table (output m) (spared kind s)
+
+-- the merges under way after one of this kind: the one of the kind is gone, if there was anything to merge
+abbrev pub jobs_after : Compaction → Option Merge → Jobs → Jobs
+jobs_after kind None j = j
+jobs_after kind (Some m) j = with_job kind None j

@@ -5,21 +5,23 @@ use Rattle.tab_key.specs.Bytes.{bytes_cmp}
 use Rattle.tab_key.specs.Records.{Record}
 use Rattle.tab_key.specs.Sorted.{sorted}
 use Rattle.tab_version.specs.Sources.{clipped}
-use Rattle.tab_tablet.specs.Tablets.{Tablet, records_in, frozen}
+use Rattle.tab_tablet.specs.Tablets.{Tablet, no_jobs, next_number, records_in, frozen}
 
--- what a split leaves of a tablet in the rows that pass: it is frozen, and its sources are shared, each cut to these rows
-abbrev pub cut_to : (List ℕ → Bool) → Tablet → Tablet
-cut_to p t = record t { active = []; sources = clipped p (frozen t).sources }
+-- what a split leaves of a tablet in the rows that pass, as a tablet with a number of its own: it is frozen, and its sources are shared,
+-- each cut to these rows; no merge is under way
+abbrev pub cut_to : ℕ → (List ℕ → Bool) → Tablet → Tablet
+cut_to number p t = record { number = number; end = t.end; active = []; sources = clipped p (frozen t).sources; jobs = no_jobs }
 
 -- the two tablets that a split at the row makes, which belongs to the lower one
-abbrev pub lower_at : List ℕ → Tablet → Tablet
-lower_at row t = record (cut_to (λ r. is_le (bytes_cmp r row)) t) { end = Some row }
+abbrev pub lower_at : List ℕ → ℕ → Tablet → Tablet
+lower_at row number t = record (cut_to number (λ r. is_le (bytes_cmp r row)) t) { end = Some row }
 
-abbrev pub upper_at : List ℕ → Tablet → Tablet
-upper_at row t = cut_to (λ r. is_gt (bytes_cmp r row)) t
+abbrev pub upper_at : List ℕ → ℕ → Tablet → Tablet
+upper_at row number t = cut_to number (λ r. is_gt (bytes_cmp r row)) t
 
-abbrev pub split_at : List ℕ → Tablet → List Tablet
-split_at row t = lower_at row t ∷ upper_at row t ∷ []
+-- the lower one has this number, the upper one the next
+abbrev pub split_at : List ℕ → ℕ → Tablet → List Tablet
+split_at row number t = lower_at row number t ∷ upper_at row (next_number number) t ∷ []
 
 -- ---- splits by size
 -- the last of some rows

@@ -1,5 +1,5 @@
 //! The sources after a compaction.
-ghost use Rattle.std.specs.Prelude.{◌≡◌, Some, IfOk};
+ghost use Rattle.std.specs.Prelude.{◌≡◌, Some, is_some, IfOk};
 ghost use Rattle.tab_key.specs.Sorted.{IsDistinct};
 ghost use Rattle.tab_version.specs.Sources.{records_of, with_table};
 ghost use Rattle.tab_compact.specs.Merges.{output, inputs_of, captured};
@@ -13,20 +13,23 @@ use tab_iter::NoMemory;
 use tab_version::{Clips, TableClip};
 
 /// The sources after a compaction of this kind, with the floor of their table's timestamps and so many versions of a column: what
-/// its merge makes takes the place of what it reads, and comes last. Where there is nothing to merge they stay.
+/// its merge makes takes the place of what it reads, and comes last; and whether there was anything to merge. Where there was nothing
+/// they stay.
 pub(crate) fn compacted(
     alloc: Global,
+    tablet: u64,
     kind: Compaction,
     sources: Clips,
     floor: i64,
     versions: u32,
-) -> Result<Clips, NoMemory>
+) -> Result<(Clips, bool), NoMemory>
     requires { IsDistinct (records_of sources) }
-    ensures { IfOk result (λ c. c ≡ sources_after kind (captured kind floor versions sources) sources) }
+    ensures sources { IfOk result (λ p. p.0 ≡ sources_after kind (captured tablet 0 kind floor versions sources) sources) }
+    ensures is_merged { IfOk result (λ p. p.1 ≡ is_some (captured tablet 0 kind floor versions sources)) }
 {
-    match capture(alloc, kind, &sources, floor, versions)? {
-        Some(job) => merged(alloc, kind, sources, job),
-        None => Ok(sources),
+    match capture(alloc, tablet, 0, kind, &sources, floor, versions)? {
+        Some(job) => Ok((merged(alloc, kind, sources, job)?, true)),
+        None => Ok((sources, false)),
     }
 }
 

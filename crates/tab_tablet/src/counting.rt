@@ -12,7 +12,8 @@ pub(crate) fn count_records(sources: &Clips) -> u64
     count_in_runs(sources.runs()).saturating_add(count_in_tables(sources.tables()))
 }
 
-fn count_in_runs(runs: &[Clip]) -> u64
+/// How many records the runs have; the greatest `u64` for any number above it.
+pub(crate) fn count_in_runs(runs: &[Clip]) -> u64
     ensures { result ≡ min (length (flat runs.now)) 18446744073709551615 }
 {
     let mut count = 0u64;

@@ -1,10 +1,10 @@
 //! A tablet's sources, with the bodies that scans read in the place of its runs.
-ghost use Rattle.std.specs.Prelude.{◌≡◌, ◌==◌, ◌++◌, ◌∷◌, [], None, false, filter, length, IfOk, OnOk, OnErr};
+ghost use Rattle.std.specs.Prelude.{◌≡◌, ◌==◌, ◌++◌, ◌∷◌, [], Some, false, filter, length, is_some, IfOk, OnOk, OnErr};
 ghost use Rattle.tab_key.specs.Ranges.{is_in_range};
 ghost use Rattle.tab_key.specs.Sorted.{sorted, IsDistinct};
-ghost use Rattle.tab_version.specs.Sources.{clipped, no_sources, records_of};
-ghost use Rattle.tab_compact.specs.Merges.{captured};
-ghost use Rattle.tab_tablet.specs.Bodies.{AreBodies, IsFreezeOf, bodies_after};
+ghost use Rattle.tab_version.specs.Sources.{clipped, no_sources, records_of, left_by, with_table};
+ghost use Rattle.tab_compact.specs.Merges.{output, captured};
+ghost use Rattle.tab_tablet.specs.Bodies.{AreBodies, Freezes, bodies_after};
 ghost use Rattle.tab_tablet.specs.Spared.{sources_after};
 
 use crate::bodies::bodies_with;
@@ -14,10 +14,11 @@ use crate::freeze::Freeze;
 use std::alloc::{AllocError, Global};
 use std::marker::Model;
 use tab_cells::Compaction;
+use tab_compact::Finished;
 use tab_iter::NoMemory;
 use tab_key::Bounds;
 use tab_mem::Active;
-use tab_version::{Clip, Clips};
+use tab_version::{Clip, Clips, TableClip};
 
 /// Frozen runs and sorted tables, and bodies that hold what the runs hold: few, however many runs there are. A contract sees the
 /// runs and the tables.
@@ -98,7 +99,7 @@ impl Layers {
     pub(crate) fn prepare(&self, alloc: Global, active: &Active) -> Result<Freeze, AllocError>
         requires some { (length active.now == 0) ≡ false }
         requires distinct { IsDistinct (active.now ++ records_of self.now) }
-        ensures { IfOk result (λ f. IsFreezeOf (record { end = None; active = active.now; sources = self.now }) f) }
+        ensures { IfOk result (λ f. Freezes active.now self.now f) }
     {
         let run = Clip::whole(active.to_run(alloc)?);
         let bodies = bodies_with(alloc, &self.bodies, &run)?;
@@ -131,22 +132,63 @@ impl Layers {
         Ok(())
     }
 
-    /// The sources after a compaction of this kind, as `compacting` says.
+    /// The sources after a compaction of this kind of the tablet with this number, and whether there was anything to merge, as
+    /// `compacting` says.
     pub(crate) fn compacted(
         self,
         alloc: Global,
+        tablet: u64,
         kind: Compaction,
         floor: i64,
         versions: u32,
-    ) -> Result<Layers, NoMemory>
+    ) -> Result<(Layers, bool), NoMemory>
         requires { IsDistinct (records_of self) }
-        ensures { IfOk result (λ l. l ≡ sources_after kind (captured kind floor versions self) self) }
+        ensures sources { IfOk result (λ p. p.0 ≡ sources_after kind (captured tablet 0 kind floor versions self) self) }
+        ensures is_merged { IfOk result (λ p. p.1 ≡ is_some (captured tablet 0 kind floor versions self)) }
     {
         let Layers { sources, bodies } = self;
-        let sources = compacted(alloc, kind, sources, floor, versions)?;
+        let (sources, is_merged) = compacted(alloc, tablet, kind, sources, floor, versions)?;
         let bodies = bodies_after(alloc, kind, bodies);
+        Ok((Layers { sources, bodies }, is_merged))
+    }
+
+    /// The sources that are left where the merge's inputs are taken out, with what it made behind them. These stay as they are. It takes
+    /// memory for a share of each run or body.
+    pub(crate) fn installed(
+        &self,
+        alloc: Global,
+        left: Clips,
+        finished: Finished,
+    ) -> Result<Layers, AllocError>
+        requires { left_by finished.inputs self.now ≡ Some left }
+        ensures { IfOk result (λ l. l ≡ with_table (output finished) left) }
+    {
+        let bodies = self.bodies_left(alloc, &left, finished.job().inputs())?;
+        let mut sources = left;
+        sources.add_table(TableClip::whole(finished.into_table()))?;
         Ok(Layers { sources, bodies })
     }
+
+    // The bodies of the runs that are left where these inputs are taken out: where there are no runs among these, all runs are left.
+    fn bodies_left(&self, alloc: Global, left: &Clips, inputs: &Clips) -> Result<Clips, AllocError>
+        requires { left_by inputs.now self.now ≡ Some left.now }
+        ensures { IfOk result (λ b. AreBodies left.now.runs b) }
+    {
+        if inputs.runs().is_empty() {
+            let bodies = self.bodies.share(alloc)?;
+            return Ok(bodies);
+        }
+        let bodies = runs_of(alloc, left)?;
+        Ok(bodies)
+    }
+}
+
+// A share of each run, without the tables.
+fn runs_of(alloc: Global, sources: &Clips) -> Result<Clips, AllocError>
+    ensures { IfOk result (λ r. r ≡ record { runs = sources.now.runs; tables = [] }) }
+{
+    let (runs, _) = sources.share(alloc)?.into_parts();
+    Ok(Clips::of(runs, Vec::new(alloc)))
 }
 
 // The bodies after a compaction of this kind: a partial one leaves the runs, the others merge them.

@@ -17,7 +17,10 @@
 //! | `restoring` | records, made a sorted table |
 //! | `compacting` | the sources after a compaction |
 //! | `sparing` | the sources that a compaction doesn't read |
+//! | `entry`, `jobs` | a merge that is under way, and those of a tablet |
+//! | `installed` | what an install tells |
 //! | `counting` | how many records there are, and the sizes of tables |
+//! | `due` | work that is due |
 //! | `bounding` | the rows below one row, up to it and above it |
 //! | `row_counting` | how many records have rows in bounds |
 //! | `middle` | the row in the middle of all records |
@@ -31,8 +34,12 @@ mod bounding;
 mod clipping;
 mod compacting;
 mod counting;
+mod due;
+mod entry;
 mod freeze;
 mod freezing;
+mod installed;
+mod jobs;
 mod layers;
 mod listing;
 mod merging;
@@ -45,5 +52,8 @@ mod sparing;
 mod tablet;
 
 pub use bounding::{rows_above, rows_up_to};
+pub use due::DueKind;
 pub use freeze::Freeze;
+pub use installed::Installed;
+pub use tab_compact::{Finished, Job};
 pub use tablet::Tablet;

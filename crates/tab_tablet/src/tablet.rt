@@ -1,23 +1,29 @@
 //! The tablet.
-ghost use Rattle.std.specs.Prelude.{◌≡◌, ◌<◌, ◌==◌, [], None, false, IfOk, OnOk, OnErr, Contains, length, filter, min};
+ghost use Rattle.std.specs.Prelude.{◌≡◌, ◌<◌, ◌==◌, ◌++◌, [], None, Some, false, IfOk, OnOk, OnErr, Contains, length, filter, min};
 ghost use Rattle.std.specs.Ordering.{is_le, is_gt};
 ghost use Rattle.tab_key.specs.Bytes.{bytes_cmp};
 ghost use Rattle.tab_key.specs.Ranges.{is_in_range};
 ghost use Rattle.tab_key.specs.Records.{Record as Fields};
 ghost use Rattle.tab_key.specs.Sorted.{sorted, IsDistinct};
+ghost use Rattle.tab_iter.specs.Bags.{flat};
 ghost use Rattle.tab_mutation.specs.Shape.{shape_error};
 ghost use Rattle.tab_cells.specs.Written.{mutation_records};
-ghost use Rattle.tab_version.specs.Sources.{clipped, count_of, records_of, size_of};
+ghost use Rattle.tab_version.specs.Sources.{clipped, count_of, left_by, records_of, size_of};
 ghost use Rattle.tab_compact.specs.Merges.{captured};
 ghost use Rattle.tab_tablet.specs.Bodies.{IsFreezeOf};
-ghost use Rattle.tab_tablet.specs.Spared.{sources_after};
+ghost use Rattle.tab_tablet.specs.Due.{is_due};
+ghost use Rattle.tab_tablet.specs.Spared.{sources_after, jobs_after};
 ghost use Rattle.tab_tablet.specs.Splitting.{cut_to, middle_row, rows_in};
-ghost use Rattle.tab_tablet.specs.Tablets.{new_tablet, records_in, written, frozen, compacted, tabled};
+ghost use Rattle.tab_tablet.specs.Tablets.{new_tablet, no_jobs, with_job, records_in, written, frozen, compacted, tabled, capture, begun, begins, fitting, sources_told, replaced, installed};
+ghost use Rattle.tab_tablet.specs.declared.installed.Installed.TheVariants.{Done, Stale};
 
 use crate::bounding::{rows_above, rows_up_to};
-use crate::counting::{count_records, total_size};
+use crate::counting::{count_in_runs, count_records, total_size};
+use crate::due::{DueKind, has_plan};
 use crate::freeze::Freeze;
 use crate::freezing::{add_frozen, add_prepared};
+use crate::installed::Installed;
+use crate::jobs::Jobs;
 use crate::layers::Layers;
 use crate::listing::version_of;
 use crate::middle::middle_row;
@@ -25,18 +31,28 @@ use crate::restoring::table_of;
 use std::alloc::{AllocError, Global};
 use std::marker::Model;
 use tab_cells::Compaction;
+use tab_compact::{Finished, Job, capture};
 use tab_iter::NoMemory;
 use tab_key::{Bounds, ByteString};
 use tab_mem::Active;
 use tab_mutation::Mutation;
 use tab_version::{Clip, Clips, Version};
 
+/// So many records that were written or lie in runs are to be flushed.
+const MANY_RECORDS: u64 = 4096;
+
+/// Sorted tables of so many bytes are to be split.
+const MANY_BYTES: u64 = 16_777_216;
+
 /// The records of a table's rows: what was written since the last freeze, and frozen runs and sorted tables. No two records stand at
-/// one place in the order of records. A contract sees all three as they are.
+/// one place in the order of records. It has a number, and keeps which merges of it are under way, at most one of each kind. A contract
+/// sees all of it as it is.
 #[derive(Drop)]
 pub struct Tablet {
+    number: u64,
     active: Active,
     sources: Layers,
+    jobs: Jobs,
 }
 
 impl Model for Tablet {
@@ -47,34 +63,45 @@ impl Model for Tablet {
 
     ghost Value = { Held };
 
-    ghost view = { λ t. record { end = None; active = t.active; sources = t.sources } };
+    ghost view = { λ t. record { number = t.number; end = None; active = t.active; sources = t.sources; jobs = t.jobs } };
 
     ghost invariant = { λ t. IsDistinct (t.active ++ records_of t.sources) };
 }
 
 impl Tablet {
-    /// A tablet of all rows, without records. It takes no memory.
-    pub fn new(alloc: Global) -> Tablet
-        ensures { result ≡ new_tablet None }
+    /// The tablet with this number, of all rows, without records. It takes no memory.
+    pub fn new(alloc: Global, number: u64) -> Tablet
+        ensures { result ≡ new_tablet number None }
     {
         Tablet {
+            number,
             active: Active::new(alloc),
             sources: Layers::new(alloc),
+            jobs: Jobs::new(),
         }
     }
 
-    /// A tablet that holds these records as one sorted table, each copied once; where there are none it has no source.
+    /// Its number.
+    pub fn number(&self) -> u64
+        ensures { result ≡ self.now.number }
+    {
+        self.number
+    }
+
+    /// The tablet with this number that holds these records as one sorted table, each copied once; where there are none it has no source.
     ///
     /// It takes the memory that the table keeps. NoMemory says that it lacked.
-    pub fn tabled(alloc: Global, records: &Clip) -> Result<Tablet, NoMemory>
-        ensures { IfOk result (λ t. t ≡ tabled None records.now) }
+    pub fn tabled(alloc: Global, number: u64, records: &Clip) -> Result<Tablet, NoMemory>
+        ensures { IfOk result (λ t. t ≡ tabled number None records.now) }
     {
         let _count = records.len();
         let tables = table_of(alloc, records)?;
         let sources = Layers::of_tables(alloc, tables);
         Ok(Tablet {
+            number,
             active: Active::new(alloc),
             sources,
+            jobs: Jobs::new(),
         })
     }
 
@@ -108,15 +135,18 @@ impl Tablet {
     {
         let mut sources = self.sources.share(alloc)?;
         add_prepared(alloc, &self.active, &mut sources)?;
+        let jobs = self.jobs.share()?;
         Ok(Tablet {
+            number: self.number,
             active: Active::new(alloc),
             sources,
+            jobs,
         })
     }
 
     /// The tablet after a compaction: frozen, and what the merge makes of the sources that a compaction of this kind reads in their
-    /// place, as the last table. The floor is that of the table's timestamps; of a column so many versions are kept. Where there is
-    /// nothing to merge it is only frozen. This one stays as it is.
+    /// place, as the last table; no merge of the kind is under way then. The floor is that of the table's timestamps; of a column so many
+    /// versions are kept. Where there is nothing to merge it is only frozen. This one stays as it is.
     ///
     /// A minor compaction merges all runs, a partial one the smallest tables that fit, a full one everything. It takes time and
     /// memory for what it merges. NoMemory says that memory lacked. (Accumulo user manual: minor and major compactions)
@@ -141,39 +171,157 @@ impl Tablet {
         versions: u32,
     ) -> Result<Tablet, NoMemory>
         requires { self.active ≡ [] }
-        ensures { IfOk result (λ t. t ≡ record (self) { sources = sources_after kind (captured kind floor versions self.sources) self.sources }) }
+        ensures { IfOk result (λ t. t ≡ record (self) { sources = sources_after kind (captured self.number 0 kind floor versions self.sources) self.sources; jobs = jobs_after kind (captured self.number 0 kind floor versions self.sources) self.jobs }) }
     {
-        let Tablet { active, sources } = self;
-        let sources = sources.compacted(alloc, kind, floor, versions)?;
-        Ok(Tablet { active, sources })
+        let Tablet {
+            number,
+            active,
+            sources,
+            jobs,
+        } = self;
+        let (sources, is_merged) = sources.compacted(alloc, number, kind, floor, versions)?;
+        let jobs = jobs.after(kind, is_merged);
+        Ok(Tablet {
+            number,
+            active,
+            sources,
+            jobs,
+        })
     }
 
-    /// The two tablets that a split at the row makes, the row belonging to the lower one: both share the sources of this one, cut to
-    /// their rows, and nothing of it is copied but what was written since the last freeze. This one stays as it is.
+    /// Begins a compaction: the tablet is frozen, and the merge of the sources that a compaction of this kind reads is under way, in the
+    /// place of the one of its kind. It is handed out as a job with this number; none where there is nothing to merge. The floor is that
+    /// of the table's timestamps; of a column so many versions are kept.
+    ///
+    /// It takes memory for a run of what was written, and for shares of the sources. NoMemory says that it lacked, and leaves all as it
+    /// was.
+    pub fn begin(
+        &mut self,
+        alloc: Global,
+        kind: Compaction,
+        floor: i64,
+        versions: u32,
+        number: u64,
+    ) -> Result<Option<Job>, NoMemory>
+        ensures job { IfOk result (λ j. j ≡ capture number kind floor versions self.old) }
+        ensures ok { OnOk result (self.new ≡ begins number kind floor versions self.old) }
+        ensures err { OnErr result (self.new ≡ self.old) }
+    {
+        let mut frozen = self.frozen(alloc)?;
+        let job = frozen.begin_frozen(alloc, kind, floor, versions, number)?;
+        *self = frozen;
+        Ok(job)
+    }
+
+    // The same, where nothing waits to be frozen.
+    fn begin_frozen(
+        &mut self,
+        alloc: Global,
+        kind: Compaction,
+        floor: i64,
+        versions: u32,
+        number: u64,
+    ) -> Result<Option<Job>, NoMemory>
+        ensures job { IfOk result (λ j. j ≡ captured self.old.number number kind floor versions self.old.sources) }
+        ensures ok { OnOk result (self.new ≡ begun (captured self.old.number number kind floor versions self.old.sources) self.old) }
+    {
+        let sources = self.sources.sources();
+        let job = capture(alloc, self.number, number, kind, sources, floor, versions)?;
+        self.jobs.register(alloc, &job)?;
+        Ok(job)
+    }
+
+    /// Ends a compaction: where its merge is the one of its kind that is under way, and each source that it read has one of equal contents
+    /// here, what it made takes their place, and comes last. Else it is stale. Either way no merge of its kind is under way any more. What
+    /// was written is not frozen.
+    ///
+    /// It takes time linear in the records of the inputs, and memory for shares of the sources. NoMemory says that it lacked; then all is
+    /// as it was, and the merge is lost.
+    pub fn install(&mut self, alloc: Global, finished: Finished) -> Result<Installed, NoMemory>
+        ensures told { IfOk result (λ told. told ≡ (installed finished self.old).0) }
+        ensures ok { OnOk result (self.new ≡ (installed finished self.old).1) }
+        ensures err { OnErr result (self.new ≡ self.old) }
+    {
+        match self.fitting(alloc, finished.job())? {
+            Some(left) => self.replace(alloc, left, finished),
+            None => Ok(self.forget(finished.job().kind())),
+        }
+    }
+
+    // The sources beside the merge's inputs, where it is under way and they are there.
+    fn fitting(&self, alloc: Global, job: &Job) -> Result<Option<Clips>, AllocError>
+        ensures { IfOk result (λ left. left ≡ fitting job.now self.now) }
+    {
+        if !self.jobs.has(job) {
+            return Ok(None);
+        }
+        self.sources.sources().left_by(alloc, job.inputs())
+    }
+
+    // Puts what the merge made behind the sources that its inputs leave.
+    fn replace(
+        &mut self,
+        alloc: Global,
+        left: Clips,
+        finished: Finished,
+    ) -> Result<Installed, NoMemory>
+        requires { left_by finished.inputs self.old.sources ≡ Some left }
+        ensures told { IfOk result (λ told. told ≡ Done) }
+        ensures ok { OnOk result (self.new ≡ replaced finished left self.old) }
+        ensures err { OnErr result (self.new ≡ self.old) }
+    {
+        let kind = finished.job().kind();
+        let sources = self.sources.installed(alloc, left, finished)?;
+        self.sources = sources;
+        self.jobs.forget(kind);
+        Ok(Installed::Done)
+    }
+
+    // Forgets the merge of this kind that is under way.
+    fn forget(&mut self, kind: Compaction) -> Installed
+        ensures told { result ≡ Stale (sources_told self.old) }
+        ensures forgotten { self.new ≡ record (self.old) { jobs = with_job kind None self.old.jobs } }
+    {
+        let count = self.count_sources();
+        self.jobs.forget(kind);
+        Installed::Stale(count)
+    }
+
+    /// The two tablets that a split at the row makes, with these numbers, the row belonging to the lower one: both share the sources of
+    /// this one, cut to their rows, and nothing of it is copied but what was written since the last freeze. No merge of them is under way.
+    /// This one stays as it is.
     ///
     /// It takes memory for that and for two shares of each source. `AllocError` says that it lacked. (Accumulo user manual: tablets,
     /// splitting)
-    pub fn split(&self, alloc: Global, row: &ByteString) -> Result<(Tablet, Tablet), AllocError>
-        ensures lower { IfOk result (λ p. p.0 ≡ cut_to (λ r. is_le (bytes_cmp r row.now)) self.now) }
-        ensures upper { IfOk result (λ p. p.1 ≡ cut_to (λ r. is_gt (bytes_cmp r row.now)) self.now) }
+    pub fn split(
+        &self,
+        alloc: Global,
+        row: &ByteString,
+        lower_number: u64,
+        upper_number: u64,
+    ) -> Result<(Tablet, Tablet), AllocError>
+        ensures lower { IfOk result (λ p. p.0 ≡ cut_to lower_number (λ r. is_le (bytes_cmp r row.now)) self.now) }
+        ensures upper { IfOk result (λ p. p.1 ≡ cut_to upper_number (λ r. is_gt (bytes_cmp r row.now)) self.now) }
     {
         let frozen = self.frozen(alloc)?;
         let up_to = rows_up_to(row)?;
-        let lower = frozen.cut(alloc, &up_to)?;
+        let lower = frozen.cut(alloc, lower_number, &up_to)?;
         let above = rows_above(row)?;
-        let upper = frozen.cut(alloc, &above)?;
+        let upper = frozen.cut(alloc, upper_number, &above)?;
         Ok((lower, upper))
     }
 
-    // The same tablet, whose active part is empty, its sources cut to the rows in bounds.
-    fn cut(&self, alloc: Global, bounds: &Bounds) -> Result<Tablet, AllocError>
+    // A tablet with this number and the sources of this one, whose active part is empty, cut to the rows in bounds.
+    fn cut(&self, alloc: Global, number: u64, bounds: &Bounds) -> Result<Tablet, AllocError>
         requires { self.now.active ≡ [] }
-        ensures { IfOk result (λ t. t ≡ record (self.now) { sources = clipped (is_in_range bounds.now) self.now.sources }) }
+        ensures { IfOk result (λ t. t ≡ record (self.now) { number = number; sources = clipped (is_in_range bounds.now) self.now.sources; jobs = no_jobs }) }
     {
         let sources = self.sources.in_rows(alloc, bounds)?;
         Ok(Tablet {
+            number,
             active: Active::new(alloc),
             sources,
+            jobs: Jobs::new(),
         })
     }
 
@@ -271,5 +419,25 @@ impl Tablet {
         ensures { result ≡ min (length (records_in self.now)) 18446744073709551615 }
     {
         count_records(self.sources.sources()).saturating_add(self.active.len() as u64)
+    }
+
+    /// Whether work of this kind is due: a minor compaction where what was written and the runs come to 4,096 records or more; a partial one
+    /// where it would merge some of the sorted tables; a split where these come to 16,777,216 bytes or more. It takes no memory, and time
+    /// linear in the sources, for a partial compaction quadratic in the tables.
+    pub fn is_due(&self, kind: DueKind) -> bool
+        ensures { result ≡ is_due kind self.now }
+    {
+        match kind {
+            DueKind::Minor => self.count_unflushed() >= MANY_RECORDS,
+            DueKind::Partial => has_plan(self.sources.sources().tables()),
+            DueKind::Split => self.size() >= MANY_BYTES,
+        }
+    }
+
+    // How many records were written or lie in runs; the greatest `u64` for any number above it.
+    fn count_unflushed(&self) -> u64
+        ensures { result ≡ min (length (self.now.active ++ flat self.now.sources.runs)) 18446744073709551615 }
+    {
+        count_in_runs(self.sources.sources().runs()).saturating_add(self.active.len() as u64)
     }
 }

@@ -1,8 +1,8 @@
 -- The sizes rise, and what is cut off is not taken.
-use Rattle.std.proofs.Common.{◌≡◌, sym, ◌∙◌, ap, subst, take}
+use Rattle.std.proofs.Common.{sym, ◌∙◌, ap, subst}
 use Rattle.std.specs.List.Sorted.{IsNonDecreasing}
-use Rattle.tab_compact.specs.Merges.{by_size, sizes_of}
-use Rattle.tab_compact.proofs.BySize.{by_size_rise, taken_front}
+use Rattle.tab_compact.specs.Merges.{sizes_of}
+use Rattle.tab_compact.proofs.BySize.{by_size_rise}
 use Rattle.tab_compact.proofs.capturing.smallest.Goals as goal
 
 pub plan-requires : goal.plan-requires

@@ -1,5 +1,5 @@
 -- One size more, and the whole.
-use Rattle.std.proofs.Common.{◌≡◌, ℕ, ◌+◌, ◌*◌, ◌^◌, ◌<◌, ◌≤◌, List, length, Bool, true, false, ◌&&◌, cond, sym, ◌∙◌, ap, arith, subst, take, get_or}
+use Rattle.std.proofs.Common.{◌≡◌, ℕ, ◌+◌, ◌*◌, ◌^◌, ◌<◌, ◌≤◌, List, length, true, false, ◌&&◌, cond, sym, ◌∙◌, ap, arith, take, get_or}
 use Rattle.std.specs.Prelude.{Some, nat_le, sum}
 use Rattle.std.proofs.lemmas.Bool.Decides.{nat_tests}
 use Rattle.std.proofs.lemmas.List.Sums.{sum_by_more}

@@ -7,5 +7,5 @@ use Rattle.tab_tablet.proofs.tablet.Tablet.clips_after.Goals as goal
 
 pub clips_after-requires-clause-distinct : goal.clips_after-requires-clause-distinct
 clips_after-requires-clause-distinct c =
-    let bare : Tablet = record { end = None; active = c.self.inside.active; sources = c.self.inside.sources } in
+    let bare : Tablet = record { number = c.self.inside.number; end = None; active = c.self.inside.active; sources = c.self.inside.sources; jobs = c.self.inside.jobs } in
     freeze_distinct bare c.args.freeze.now _ (subst (λ (t : Tablet). IsFreezeOf t c.args.freeze.now) (sym c.self.view_is) c.requires) c.self.invariant refl

@@ -7,5 +7,5 @@ use Rattle.tab_tablet.proofs.tablet.Tablet.frozen.Goals as goal
 
 pub invariant_of-result : goal.invariant_of-result
 invariant_of-result c =
-    let is : frozen (record { end = None; active = c.self.inside.active; sources = c.self.inside.sources }) ≡ record { end = None; active = c.new.result; sources = c.add_prepared.new.layers } = search rules in
-    subst (λ t. IsDistinct (records_in t)) is (frozen_distinct_in (record { end = None; active = c.self.inside.active; sources = c.self.inside.sources }) c.self.invariant)
+    let is : frozen (record { number = c.self.inside.number; end = None; active = c.self.inside.active; sources = c.self.inside.sources; jobs = c.self.inside.jobs }) ≡ record { number = c.self.inside.number; end = None; active = c.new.result; sources = c.add_prepared.new.layers; jobs = c.self.inside.jobs } = search rules in
+    subst (λ t. IsDistinct (records_in t)) is (frozen_distinct_in (record { number = c.self.inside.number; end = None; active = c.self.inside.active; sources = c.self.inside.sources; jobs = c.self.inside.jobs }) c.self.invariant)

@@ -22,5 +22,5 @@ pub returns-clause-ok : goal.returns-clause-ok
 returns-clause-ok c =
     let trip : to_z w64 (of_z w64 c.args.clock) ≡ c.args.clock = search rules in
     on_ok_weaker c.write.result
-    (λ e. ap (λ a. record { end = None; active = a; sources = c.self.inside.sources }) e ∙ (λ i. written (mutation_records c.args.seq (trip i) c.args.mutation.now) (c.self.view_is i)))
+    (λ e. ap (λ a. record { number = c.self.inside.number; end = None; active = a; sources = c.self.inside.sources; jobs = c.self.inside.jobs }) e ∙ (λ i. written (mutation_records c.args.seq (trip i) c.args.mutation.now) (c.self.view_is i)))
     c.write.ensures.ok
