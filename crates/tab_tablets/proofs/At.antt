@@ -35,6 +35,14 @@ same_end f ends (t ∷ ts) zero (suc k) = refl
 same_end f ends (t ∷ ts) (suc p) zero = refl
 same_end f ends (t ∷ ts) (suc p) (suc k) = same_end f ends ts p k
 
+-- and so does what waits to be frozen
+pub same_active : (f : Tablet → Tablet) → ((t : Tablet) → (f t).active ≡ t.active) → (ts : List Tablet) (p k : ℕ) → (tablet_at (at_place p (one f) ts) k).active ≡ (tablet_at ts k).active
+same_active f idle [] p k = refl
+same_active f idle (t ∷ ts) zero zero = idle t
+same_active f idle (t ∷ ts) zero (suc k) = refl
+same_active f idle (t ∷ ts) (suc p) zero = refl
+same_active f idle (t ∷ ts) (suc p) (suc k) = same_active f idle ts p k
+
 -- only what is done with the tablet there counts
 pub at_same : (f g : Tablet → List Tablet) (ts : List Tablet) (p : ℕ) → f (tablet_at ts p) ≡ g (tablet_at ts p) → at_place p f ts ≡ at_place p g ts
 at_same f g [] p e = refl
@@ -76,29 +84,29 @@ divided (t ∷ ts) x a b (suc p) le = step p ∙ ap (λ l. t ∷ l) (divided ts 
     step : (p : ℕ) → put_at (suc p + 1) b (insert (t ∷ ts) (suc p) a ++ x ∷ []) ≡ t ∷ put_at (p + 1) b (insert ts p a ++ x ∷ [])
     step p = let e : suc p + 1 ≡ suc (p + 1) = omega arith in ap (λ k. put_at k b (insert (t ∷ ts) (suc p) a ++ x ∷ [])) e
 
-module _ (row : List ℕ) where
-  pub longer : (ts : List Tablet) (p : ℕ) → p < length ts → length (at_place p (split_at row) ts) ≡ length ts + 1
+module _ (row : List ℕ) (number : ℕ) where
+  pub longer : (ts : List Tablet) (p : ℕ) → p < length ts → length (at_place p (split_at row number) ts) ≡ length ts + 1
   longer [] p lt = absurd (omega arith)
   longer (t ∷ ts) zero lt = omega arith
   longer (t ∷ ts) (suc p) lt = let e = longer ts p (omega arith) in omega (arith, e)
 
-  pub before : (ts : List Tablet) (p k : ℕ) → k < p → tablet_at (at_place p (split_at row) ts) k ≡ tablet_at ts k
+  pub before : (ts : List Tablet) (p k : ℕ) → k < p → tablet_at (at_place p (split_at row number) ts) k ≡ tablet_at ts k
   before [] p k lt = refl
   before (t ∷ ts) zero k lt = absurd (omega arith)
   before (t ∷ ts) (suc p) zero lt = refl
   before (t ∷ ts) (suc p) (suc k) lt = before ts p k (omega arith)
 
-  pub low_is_frozen : (ts : List Tablet) (p : ℕ) → (tablet_at (at_place p (split_at row) ts) p).active ≡ []
+  pub low_is_frozen : (ts : List Tablet) (p : ℕ) → (tablet_at (at_place p (split_at row number) ts) p).active ≡ []
   low_is_frozen [] p = refl
   low_is_frozen (t ∷ ts) zero = refl
   low_is_frozen (t ∷ ts) (suc p) = low_is_frozen ts p
 
-  pub high_is_frozen : (ts : List Tablet) (p : ℕ) → (tablet_at (at_place p (split_at row) ts) (suc p)).active ≡ []
+  pub high_is_frozen : (ts : List Tablet) (p : ℕ) → (tablet_at (at_place p (split_at row number) ts) (suc p)).active ≡ []
   high_is_frozen [] p = refl
   high_is_frozen (t ∷ ts) zero = refl
   high_is_frozen (t ∷ ts) (suc p) = high_is_frozen ts p
 
-  pub behind : (ts : List Tablet) (p k : ℕ) → p < k → tablet_at (at_place p (split_at row) ts) (suc k) ≡ tablet_at ts k
+  pub behind : (ts : List Tablet) (p k : ℕ) → p < k → tablet_at (at_place p (split_at row number) ts) (suc k) ≡ tablet_at ts k
   behind [] p k lt = refl
   behind (t ∷ ts) zero zero lt = absurd (omega arith)
   behind (t ∷ ts) zero (suc k) lt = refl

@@ -67,14 +67,14 @@ pub found : (row : List ℕ) (lower : List Tablet) (x : Tablet) (p : ℕ) → x.
 found row lower x p none within point = record {
   inside = let l = length-append lower (x ∷ []) in omega (arith, l);
   holds = go (length lower - p) refl;
-  first = λ k lt. let below : k < length lower = omega arith in ap (λ (t : Tablet). is_up_to t.end row) (get_or_append_left lower (x ∷ []) (new_tablet None) k below) ∙ not_true _ (point.0 k (new_tablet None) (omega arith) lt);
+  first = λ k lt. let below : k < length lower = omega arith in ap (λ (t : Tablet). is_up_to t.end row) (get_or_append_left lower (x ∷ []) (new_tablet 0 None) k below) ∙ not_true _ (point.0 k (new_tablet 0 None) (omega arith) lt);
 }
   where
     go : (n : ℕ) → length lower - p ≡ n → is_up_to (tablet_at (lower ++ x ∷ []) p).end row ≡ true
     go zero e =
         let is : p ≡ length lower + 0 = omega arith in
-        ap (λ k. is_up_to (tablet_at (lower ++ x ∷ []) k).end row) is ∙ ap (λ (t : Tablet). is_up_to t.end row) (get_or-append-add lower (x ∷ []) 0 (new_tablet None)) ∙ ap (λ o. is_up_to o row) none
-    go (suc n) e = let lt : p < length lower = omega arith in ap (λ (t : Tablet). is_up_to t.end row) (get_or_append_left lower (x ∷ []) (new_tablet None) p lt) ∙ not_false _ (point.1 p (new_tablet None) (omega arith) lt)
+        ap (λ k. is_up_to (tablet_at (lower ++ x ∷ []) k).end row) is ∙ ap (λ (t : Tablet). is_up_to t.end row) (get_or-append-add lower (x ∷ []) 0 (new_tablet 0 None)) ∙ ap (λ o. is_up_to o row) none
+    go (suc n) e = let lt : p < length lower = omega arith in ap (λ (t : Tablet). is_up_to t.end row) (get_or_append_left lower (x ∷ []) (new_tablet 0 None) p lt) ∙ not_false _ (point.1 p (new_tablet 0 None) (omega arith) lt)
 
 -- ---- a row's place
 pub later_place : (row : List ℕ) (t : Tablet) (ts : List Tablet) (p : ℕ) → IsPlaceOf row (t ∷ ts) (suc p) → IsPlaceOf row ts p

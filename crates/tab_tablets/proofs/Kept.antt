@@ -1,6 +1,6 @@
 -- What a table's tablets keep, whatever is done to them.
-use Rattle.std.proofs.Common.{◌≡◌, ◌≢◌, ℕ, zero, suc, ◌+◌, ◌<◌, List, [], ◌∷◌, ◌++◌, Bool, true, false, cond, ◌||◌, refl, sym, ◌∙◌, ap, subst, length, get_or, arith}
-use Rattle.std.specs.Prelude.{ℤ, Option, Some, None, Result, Ok, Err, OnOk, OnErr, map, reverse, ◌==◌, nat_lt}
+use Rattle.std.proofs.Common.{◌≡◌, ◌≢◌, ℕ, zero, suc, ◌+◌, ◌<◌, List, [], ◌∷◌, ◌++◌, Bool, true, false, not, cond, ◌||◌, refl, sym, ◌∙◌, ap, subst, length, get_or, arith}
+use Rattle.std.specs.Prelude.{ℤ, Option, Some, None, Result, Ok, Err, OnOk, OnErr, filter, map, reverse, ◌==◌, nat_lt}
 use Rattle.std.specs.List.{AllByRecursion, filter_map, cons_option}
 use Rattle.std.proofs.lemmas.Bool.Decides.{nat_tests}
 use Rattle.std.proofs.lemmas.List.Folds.{list_any-append}
@@ -13,9 +13,9 @@ use Rattle.tab_cells.proofs.Lists.{by_bool}
 use Rattle.tab_tablet.specs.Tablets.{Tablet, new_tablet, records_in, written}
 use Rattle.tab_tablet.specs.Splitting.{split_at}
 use Rattle.tab_tablets.specs.Places.{tablet_at, IsPlaceOf, at_place, is_end_row, is_among, moved_from, AreKept}
-use Rattle.tab_tablets.proofs.At.{one, same_length, elsewhere, longer, before, behind, low_is_frozen, high_is_frozen, none_waits_in}
+use Rattle.tab_tablets.proofs.At.{one, same_length, same_active, there, elsewhere, longer, before, behind, low_is_frozen, high_is_frozen, none_waits_in}
 use Rattle.tab_tablets.proofs.Whole.{whole_map, whole_one, whole_split}
-use Rattle.tab_tablets.proofs.Rows.{mutation_rows, rows_map, rows_written, rows_split}
+use Rattle.tab_tablets.proofs.Rows.{mutation_rows, rows_map, rows_one, rows_written, rows_split}
 
 -- ---- tests of places
 same_place : (a b : ℕ) → (a == b) ≡ true → a ≡ b
@@ -32,12 +32,12 @@ or_none true w e = absurd (true≢false e)
 or_none false w e = (refl, e)
 
 -- ---- at first
-idle_one : (k : ℕ) → (tablet_at (new_tablet None ∷ []) k).active ≡ []
-idle_one zero = refl
-idle_one (suc k) = refl
+idle_one : (number k : ℕ) → (tablet_at (new_tablet number None ∷ []) k).active ≡ []
+idle_one number zero = refl
+idle_one number (suc k) = refl
 
-pub kept_new : AreKept (new_tablet None ∷ []) []
-kept_new = record { whole = refl; rows = (λ u k. absurd k, λ u k. absurd k, tt); inside = tt; waiting = λ k e. idle_one k }
+pub kept_new : (number : ℕ) → AreKept (new_tablet number None ∷ []) []
+kept_new number = record { whole = refl; rows = (λ u k. absurd k, λ u k. absurd k, tt); inside = tt; waiting = λ k e. idle_one number k }
 
 -- ---- a write
 all_more : (P : ℕ → Type 0) (ws : List ℕ) (p : ℕ) → AllByRecursion P ws → P p → AllByRecursion P (ws ++ p ∷ [])
@@ -93,6 +93,47 @@ module _ (ts : List Tablet) (ws : List ℕ) (kept : AreKept ts ws) where
     waiting = λ k e. none_waits_in f idle ts k;
   }
 
+  -- ---- something done with one of them, which leaves no other record
+  module _ (f : Tablet → Tablet) (ends : (t : Tablet) → (f t).end ≡ t.end) (fewer : (t : Tablet) (u : Record) → IsIn (records_in (f t)) u → IsIn (records_in t) u) (p : ℕ) where
+    kept_with : (vs : List ℕ) → AllByRecursion (λ w. w < length ts) vs → ((k : ℕ) → is_among vs k ≡ false → (tablet_at (at_place p (one f) ts) k).active ≡ []) → AreKept (at_place p (one f) ts) vs
+    kept_with vs inside waiting = record {
+      whole = whole_one f ends ts p kept.whole;
+      rows = rows_one f ends fewer ts p kept.rows;
+      inside = subst (λ n. AllByRecursion (λ w. w < n) vs) (sym (same_length f ts p)) inside;
+      waiting = waiting;
+    }
+
+    -- and leaves what waits to be frozen
+    pub kept_one : ((t : Tablet) → (f t).active ≡ t.active) → AreKept (at_place p (one f) ts) ws
+    kept_one idle = kept_with ws kept.inside (λ k e. same_active f idle ts p k ∙ kept.waiting k e)
+
+    abbrev others : List ℕ → List ℕ
+    others vs = filter (λ w. not (w == p)) vs
+
+    others_inside : (vs : List ℕ) → AllByRecursion (λ w. w < length ts) vs → AllByRecursion (λ w. w < length ts) (others vs)
+    others_inside [] a = tt
+    others_inside (v ∷ vs) a = go (not (v == p)) (others_inside vs a.1)
+      where
+        go : (b : Bool) → AllByRecursion (λ w. w < length ts) (others vs) → AllByRecursion (λ w. w < length ts) (cond b (v ∷ others vs) (others vs))
+        go true ih = (a.0, ih)
+        go false ih = ih
+
+    -- a place that isn't this one, and isn't among the others, was none of them
+    not_other : (vs : List ℕ) (k : ℕ) → (k == p) ≡ false → is_among (others vs) k ≡ false → is_among vs k ≡ false
+    not_other [] k n e = refl
+    not_other (v ∷ vs) k n e = by_bool (v == p)
+        (λ t. λ i. differs (same_place v p t) i || not_other vs k n (ap (λ b. is_among (cond (not b) (v ∷ others vs) (others vs)) k) (sym t) ∙ e) i)
+        (λ g. let h = or_none (v == k) (is_among (others vs) k) (ap (λ b. is_among (cond (not b) (v ∷ others vs) (others vs)) k) (sym g) ∙ e) in λ i. h.0 i || not_other vs k n h.1 i)
+      where
+        differs : v ≡ p → (v == k) ≡ false
+        differs s = by_bool (v == k) (λ t. absurd (true≢false (sym (itself k) ∙ ap (λ x. k == x) (sym (same_place v k t) ∙ s) ∙ n))) (λ g. g)
+
+    -- and leaves nothing to be frozen there
+    pub kept_frozen : p < length ts → ((t : Tablet) → (f t).active ≡ []) → AreKept (at_place p (one f) ts) (others ws)
+    kept_frozen inside idle = kept_with (others ws) (others_inside ws kept.inside) (λ k e. by_bool (k == p)
+        (λ t. ap (λ j. (tablet_at (at_place p (one f) ts) j).active) (same_place k p t) ∙ ap (λ (x : Tablet). x.active) (there f ts p inside) ∙ idle (tablet_at ts p))
+        (λ n. ap (λ (x : Tablet). x.active) (elsewhere f ts p k (other_place k p n)) ∙ kept.waiting k (not_other ws k n e)))
+
 -- ---- a split
 module _ (p : ℕ) where
   pub moved_below : (k : ℕ) → k < p → moved_from p k ≡ Some k
@@ -139,18 +180,18 @@ module _ (p : ℕ) where
       go false true ih = (let lt = a.0 in omega (arith, lt), ih)
       go false false ih = (let lt = a.0 in omega (arith, lt), ih)
 
-module _ (ts : List Tablet) (ws : List ℕ) (kept : AreKept ts ws) (row : List ℕ) (p : ℕ) (place : IsPlaceOf row ts p) (new : is_end_row row (tablet_at ts p).end ≡ false) where
+module _ (ts : List Tablet) (ws : List ℕ) (kept : AreKept ts ws) (row : List ℕ) (number p : ℕ) (place : IsPlaceOf row ts p) (new : is_end_row row (tablet_at ts p).end ≡ false) where
   abbrev after : List Tablet
-  after = at_place p (split_at row) ts
+  after = at_place p (split_at row number) ts
 
   abbrev moved : List ℕ
   moved = filter_map (moved_from p) ws
 
   idle_below : (k : ℕ) → k < p → is_among moved k ≡ false → (tablet_at after k).active ≡ []
-  idle_below k lt e = ap (λ (t : Tablet). t.active) (before row ts p k lt) ∙ kept.waiting k (not_among p ws k k (moved_below p k lt) e)
+  idle_below k lt e = ap (λ (t : Tablet). t.active) (before row number ts p k lt) ∙ kept.waiting k (not_among p ws k k (moved_below p k lt) e)
 
   idle_above : (k : ℕ) → p < k → is_among moved (suc k) ≡ false → (tablet_at after (suc k)).active ≡ []
-  idle_above k lt e = ap (λ (t : Tablet). t.active) (behind row ts p k lt) ∙ kept.waiting k (not_among p ws k (suc k) (moved_above p k lt) e)
+  idle_above k lt e = ap (λ (t : Tablet). t.active) (behind row number ts p k lt) ∙ kept.waiting k (not_among p ws k (suc k) (moved_above p k lt) e)
 
   idle_from : (k : ℕ) → (k == p) ≡ false → nat_lt k p ≡ false → is_among moved k ≡ false → (tablet_at after k).active ≡ []
   idle_from zero ne ge e = absurd (true≢false (sym (none p ne) ∙ ge))
@@ -158,7 +199,7 @@ module _ (ts : List Tablet) (ws : List ℕ) (kept : AreKept ts ws) (row : List �
       none : (q : ℕ) → (0 == q) ≡ false → nat_lt 0 q ≡ true
       none q n = grind (arith, nat_tests)
   idle_from (suc k) ne ge e = by_bool (k == p)
-      (λ t. subst (λ j. (tablet_at after (suc j)).active ≡ []) (sym (same_place k p t)) (high_is_frozen row ts p))
+      (λ t. subst (λ j. (tablet_at after (suc j)).active ≡ []) (sym (same_place k p t)) (high_is_frozen row number ts p))
       (λ f. idle_above k (more k ne ge f) e)
     where
       more : (j : ℕ) → (suc j == p) ≡ false → nat_lt (suc j) p ≡ false → (j == p) ≡ false → p < j
@@ -166,11 +207,11 @@ module _ (ts : List Tablet) (ws : List ℕ) (kept : AreKept ts ws) (row : List �
 
   pub kept_split : AreKept after moved
   kept_split = record {
-    whole = whole_split row ts p place new kept.whole;
-    rows = rows_split row ts p place kept.rows;
-    inside = subst (λ n. AllByRecursion (λ w. w < n) moved) (sym (longer row ts p place.inside)) (moved_inside p (length ts) ws kept.inside);
+    whole = whole_split row number ts p place new kept.whole;
+    rows = rows_split row number ts p place kept.rows;
+    inside = subst (λ n. AllByRecursion (λ w. w < n) moved) (sym (longer row number ts p place.inside)) (moved_inside p (length ts) ws kept.inside);
     waiting = λ k e. by_bool (nat_lt k p) (λ t. idle_below k (less k t) e)
-        (λ ge. by_bool (k == p) (λ s. subst (λ j. (tablet_at after j).active ≡ []) (sym (same_place k p s)) (low_is_frozen row ts p)) (λ ne. idle_from k ne ge e));
+        (λ ge. by_bool (k == p) (λ s. subst (λ j. (tablet_at after j).active ≡ []) (sym (same_place k p s)) (low_is_frozen row number ts p)) (λ ne. idle_from k ne ge e));
   }
     where
       less : (k : ℕ) → nat_lt k p ≡ true → k < p

@@ -2,7 +2,7 @@ pub mod Orders
 pub mod EndRows
 pub mod EndPrefixes
 pub mod At
-pub mod Installed
+pub mod PutIn
 pub mod Whole
 pub mod Rows
 pub mod Kept
@@ -13,6 +13,8 @@ pub mod Middle
 pub mod Counted
 pub mod Told
 pub mod Merged
+pub mod InParts
+pub mod FirstDue
 pub mod Idle
 pub use Rattle.tab_tablet.proofs.Parted
 pub use Rattle.tab_tablet.proofs.Moved

@@ -198,7 +198,7 @@ range_more bounds ts from i cs c le lt are is =
     map-append in_its_order cs (c ∷ [])
     ∙ (λ j. are j ++ is j ∷ [])
     ∙ sym (map-append (part_sorted bounds) (slice_range ts from i) (tablet_at ts i ∷ []))
-    ∙ ap (map (part_sorted bounds)) (sym (between_more ts from i (new_tablet None) le lt))
+    ∙ ap (map (part_sorted bounds)) (sym (between_more ts from i (new_tablet 0 None) le lt))
 
 -- and none at first
 pub range_none : (bounds : Bounds) (ts : List Tablet) (i : ℕ) → map (part_sorted bounds) (slice_range ts i i) ≡ []

@@ -18,11 +18,11 @@ use Rattle.tab_cells.proofs.Lists.{by_bool, filter_seen, in_append}
 use Rattle.tab_cells.proofs.Rising.{sorted_rising}
 use Rattle.tab_iter.specs.Lists.{IsRising}
 use Rattle.tab_mem.proofs.RowOrder.{rows_rise}
-use Rattle.tab_tablet.specs.Tablets.{Tablet, records_in, tabled}
+use Rattle.tab_tablet.specs.Tablets.{Tablet, records_in, tabled, next_number}
 use Rattle.tab_tablets.specs.ByRow.{EndsBefore, EndsRise, AreWhole, LieApart, records_of_all, ends_of}
 use Rattle.tab_tablets.specs.Listing.{listed}
 use Rattle.tab_tablets.specs.Places.{ended, HoldOwnRows, AreKept, tablet_at}
-use Rattle.tab_tablets.specs.Restored.{EndRowsRise, end_for, same_end, records_for, restored}
+use Rattle.tab_tablets.specs.Restored.{EndRowsRise, end_for, same_end, records_for, tabled_for, restored}
 use Rattle.tab_tablets.proofs.Orders.{below_other, up_to_both}
 
 -- ---- end rows
@@ -76,30 +76,30 @@ module _ (e : List ℕ) (es : List (List ℕ)) (us : List Record) where
       keep true f s = absurd (true≢false (sym s))
       keep false f s = refl
 
-  later_tablets : (ds : List (List ℕ)) → AreAbove e ds → map (λ o. tabled o (records_for (e ∷ es) us o)) (with_last ds) ≡ map (λ o. tabled o (records_for es (filter behind_first us) o)) (with_last ds)
-  later_tablets [] a = ap (λ vs. tabled None vs ∷ []) (later_held None refl)
-  later_tablets (d ∷ ds) a = λ i. tabled (Some d) (later_held (Some d) (below_other e d a.0) i) ∷ later_tablets ds a.1 i
+  later_tablets : (n : ℕ) (ds : List (List ℕ)) → AreAbove e ds → tabled_for (e ∷ es) us n (with_last ds) ≡ tabled_for es (filter behind_first us) n (with_last ds)
+  later_tablets n [] a = ap (λ vs. tabled n None vs ∷ []) (later_held None refl)
+  later_tablets n (d ∷ ds) a = λ i. tabled n (Some d) (later_held (Some d) (below_other e d a.0) i) ∷ later_tablets (next_number n) ds a.1 i
 
-  pub restored_first : EndRowsRise (e ∷ es) → restored (e ∷ es) us ≡ tabled (Some e) (filter in_first us) ∷ restored es (filter behind_first us)
+  pub restored_first : (n : ℕ) → EndRowsRise (e ∷ es) → restored n (e ∷ es) us ≡ tabled n (Some e) (filter in_first us) ∷ restored (next_number n) es (filter behind_first us)
   unfolding IsStrictlySortedBy
-  restored_first s = λ i. tabled (Some e) (first_held s.0 i) ∷ later_tablets es s.0 i
+  restored_first n s = λ i. tabled n (Some e) (first_held s.0 i) ∷ later_tablets (next_number n) es s.0 i
 
 later_rise : (e : List ℕ) (es : List (List ℕ)) → EndRowsRise (e ∷ es) → EndRowsRise es
 unfolding IsStrictlySortedBy
 later_rise e es s = s.1
 
 -- without an end row all records are the last tablet's
-pub restored_last : (us : List Record) → restored [] us ≡ tabled None us ∷ []
-restored_last us = ap (λ vs. tabled None vs ∷ []) (all us)
+pub restored_last : (n : ℕ) (us : List Record) → restored n [] us ≡ tabled n None us ∷ []
+restored_last n us = ap (λ vs. tabled n None vs ∷ []) (all us)
   where
     all : (vs : List Record) → filter (λ (u : Record). true) vs ≡ vs
     all [] = refl
     all (u ∷ vs) = ap (λ l. u ∷ l) (all vs)
 
 -- ---- each row has one tablet
-ends_are : (ends : List (List ℕ)) (us : List Record) (os : List (Option (List ℕ))) → map (λ (t : Tablet). t.end) (map (λ o. tabled o (records_for ends us o)) os) ≡ os
-ends_are ends us [] = refl
-ends_are ends us (o ∷ os) = ap (λ l. o ∷ l) (ends_are ends us os)
+ends_are : (ends : List (List ℕ)) (us : List Record) (n : ℕ) (os : List (Option (List ℕ))) → map (λ (t : Tablet). t.end) (tabled_for ends us n os) ≡ os
+ends_are ends us n [] = refl
+ends_are ends us n (o ∷ os) = ap (λ l. o ∷ l) (ends_are ends us (next_number n) os)
 
 ends_rise : (ends : List (List ℕ)) → EndRowsRise ends → EndsRise (with_last ends)
 unfolding IsStrictlySortedBy
@@ -107,13 +107,13 @@ ends_rise [] s = refl
 ends_rise (e ∷ []) s = (tt, refl)
 ends_rise (e ∷ d ∷ ends) s = (s.0.0, ends_rise (d ∷ ends) s.1)
 
-pub restored_whole : (ends : List (List ℕ)) (us : List Record) → EndRowsRise ends → AreWhole (restored ends us)
-restored_whole ends us s = subst EndsRise (sym (ends_are ends us (with_last ends))) (ends_rise ends s)
+pub restored_whole : (n : ℕ) (ends : List (List ℕ)) (us : List Record) → EndRowsRise ends → AreWhole (restored n ends us)
+restored_whole n ends us s = subst EndsRise (sym (ends_are ends us n (with_last ends))) (ends_rise ends s)
 
 -- ---- what they hold
-pub held_tabled : (o : Option (List ℕ)) (us : List Record) → records_in (tabled o us) ≡ us
-held_tabled o [] = refl
-held_tabled o (u ∷ us) = append-nil (u ∷ us)
+pub held_tabled : (n : ℕ) (o : Option (List ℕ)) (us : List Record) → records_in (tabled n o us) ≡ us
+held_tabled n o [] = refl
+held_tabled n o (u ∷ us) = append-nil (u ∷ us)
 
 not_greater : (o : Ordering) → is_gt o ≡ false → is_le o ≡ true
 not_greater Less g = refl
@@ -151,70 +151,70 @@ module _ (e : List ℕ) where
 rising_part : (p : Record → Bool) (us : List Record) → IsRising us → IsRising (filter p us)
 rising_part p us r = IsStrictlySortedBy-filter record_cmp p us r
 
-pub restored_holds : (ends : List (List ℕ)) (us : List Record) → EndRowsRise ends → IsRising us → records_of_all (restored ends us) ≡ us
-restored_holds [] us s r = ap records_of_all (restored_last us) ∙ append-nil (records_in (tabled None us)) ∙ held_tabled None us
-restored_holds (e ∷ es) us s r =
-    ap records_of_all (restored_first e es us s)
-    ∙ (λ i. held_tabled (Some e) (filter (low e) us) i ++ restored_holds es (filter (high e) us) (later_rise e es s) (rising_part (high e) us r) i)
+pub restored_holds : (n : ℕ) (ends : List (List ℕ)) (us : List Record) → EndRowsRise ends → IsRising us → records_of_all (restored n ends us) ≡ us
+restored_holds n [] us s r = ap records_of_all (restored_last n us) ∙ append-nil (records_in (tabled n None us)) ∙ held_tabled n None us
+restored_holds n (e ∷ es) us s r =
+    ap records_of_all (restored_first e es us n s)
+    ∙ (λ i. held_tabled n (Some e) (filter (low e) us) i ++ restored_holds (next_number n) es (filter (high e) us) (later_rise e es s) (rising_part (high e) us r) i)
     ∙ parted e us r
 
-held_in_order : (o : Option (List ℕ)) (us : List Record) → IsRising us → sorted (records_in (tabled o us)) ≡ us
-held_in_order o us r = ap sorted (held_tabled o us) ∙ sorted_rising us r
+held_in_order : (n : ℕ) (o : Option (List ℕ)) (us : List Record) → IsRising us → sorted (records_in (tabled n o us)) ≡ us
+held_in_order n o us r = ap sorted (held_tabled n o us) ∙ sorted_rising us r
 
 -- listed one tablet behind the other
-pub restored_lists : (ends : List (List ℕ)) (us : List Record) → EndRowsRise ends → IsRising us → listed (restored ends us) ≡ us
-restored_lists [] us s r = ap listed (restored_last us) ∙ append-nil (sorted (records_in (tabled None us))) ∙ held_in_order None us r
-restored_lists (e ∷ es) us s r =
-    ap listed (restored_first e es us s)
-    ∙ (λ i. held_in_order (Some e) (filter (low e) us) (rising_part (low e) us r) i ++ restored_lists es (filter (high e) us) (later_rise e es s) (rising_part (high e) us r) i)
+pub restored_lists : (n : ℕ) (ends : List (List ℕ)) (us : List Record) → EndRowsRise ends → IsRising us → listed (restored n ends us) ≡ us
+restored_lists n [] us s r = ap listed (restored_last n us) ∙ append-nil (sorted (records_in (tabled n None us))) ∙ held_in_order n None us r
+restored_lists n (e ∷ es) us s r =
+    ap listed (restored_first e es us n s)
+    ∙ (λ i. held_in_order n (Some e) (filter (low e) us) (rising_part (low e) us r) i ++ restored_lists (next_number n) es (filter (high e) us) (later_rise e es s) (rising_part (high e) us r) i)
     ∙ parted e us r
 
-pub restored_apart : (ends : List (List ℕ)) (us : List Record) → EndRowsRise ends → IsRising us → LieApart (restored ends us)
-restored_apart ends us s r = subst IsRising (sym (restored_lists ends us s r)) r
+pub restored_apart : (n : ℕ) (ends : List (List ℕ)) (us : List Record) → EndRowsRise ends → IsRising us → LieApart (restored n ends us)
+restored_apart n ends us s r = subst IsRising (sym (restored_lists n ends us s r)) r
 
 -- ---- what a table's tablets keep
-in_restored : (ends : List (List ℕ)) (us : List Record) (os : List (Option (List ℕ))) (u : Record) → IsIn (records_of_all (map (λ o. tabled o (records_for ends us o)) os)) u → IsIn us u
-in_restored ends us [] u k = absurd k
-in_restored ends us (o ∷ os) u k = go (in_append (records_in (tabled o (records_for ends us o))) (records_of_all (map (λ q. tabled q (records_for ends us q)) os)) u k) (in_restored ends us os u)
+in_restored : (ends : List (List ℕ)) (us : List Record) (n : ℕ) (os : List (Option (List ℕ))) (u : Record) → IsIn (records_of_all (tabled_for ends us n os)) u → IsIn us u
+in_restored ends us n [] u k = absurd k
+in_restored ends us n (o ∷ os) u k = go (in_append (records_in (tabled n o (records_for ends us o))) (records_of_all (tabled_for ends us (next_number n) os)) u k) (in_restored ends us (next_number n) os u)
   where
-    go : IsIn (records_in (tabled o (records_for ends us o))) u ⊎ IsIn (records_of_all (map (λ q. tabled q (records_for ends us q)) os)) u → (IsIn (records_of_all (map (λ q. tabled q (records_for ends us q)) os)) u → IsIn us u) → IsIn us u
-    go (inl a) ih = (in_filter (λ (v : Record). same_end (end_for ends v.key.row) o) us u (subst (λ l. IsIn l u) (held_tabled o (records_for ends us o)) a)).0
+    go : IsIn (records_in (tabled n o (records_for ends us o))) u ⊎ IsIn (records_of_all (tabled_for ends us (next_number n) os)) u → (IsIn (records_of_all (tabled_for ends us (next_number n) os)) u → IsIn us u) → IsIn us u
+    go (inl a) ih = (in_filter (λ (v : Record). same_end (end_for ends v.key.row) o) us u (subst (λ l. IsIn l u) (held_tabled n o (records_for ends us o)) a)).0
     go (inr b) ih = ih b
 
-own_rows : (ends : List (List ℕ)) (us : List Record) → EndRowsRise ends → HoldOwnRows (restored ends us)
-own_rows [] us s = subst HoldOwnRows (sym (restored_last us)) (λ u k. refl, λ u k. absurd k, tt)
-own_rows (e ∷ es) us s = subst HoldOwnRows (sym (restored_first e es us s)) (
-  λ u k. (in_filter (low e) us u (subst (λ l. IsIn l u) (held_tabled (Some e) (filter (low e) us)) k)).1,
-  λ u k. not_low u (in_filter (high e) us u (in_restored es (filter (high e) us) (with_last es) u k)).1,
-  own_rows es (filter (high e) us) (later_rise e es s),
+own_rows : (n : ℕ) (ends : List (List ℕ)) (us : List Record) → EndRowsRise ends → HoldOwnRows (restored n ends us)
+own_rows n [] us s = subst HoldOwnRows (sym (restored_last n us)) (λ u k. refl, λ u k. absurd k, tt)
+own_rows n (e ∷ es) us s = subst HoldOwnRows (sym (restored_first e es us n s)) (
+  λ u k. (in_filter (low e) us u (subst (λ l. IsIn l u) (held_tabled n (Some e) (filter (low e) us)) k)).1,
+  λ u k. not_low u (in_filter (high e) us u (in_restored es (filter (high e) us) (next_number n) (with_last es) u k)).1,
+  own_rows (next_number n) es (filter (high e) us) (later_rise e es s),
 )
   where
     not_low : (u : Record) → high e u ≡ true → low e u ≡ false
     not_low u h = by_bool (low e u) (λ t. absurd (true≢false (sym h ∙ ap not t))) (λ f. f)
 
-none_written : (ends : List (List ℕ)) (us : List Record) (os : List (Option (List ℕ))) (k : ℕ) → (tablet_at (map (λ o. tabled o (records_for ends us o)) os) k).active ≡ []
-none_written ends us [] k = refl
-none_written ends us (o ∷ os) zero = refl
-none_written ends us (o ∷ os) (suc k) = none_written ends us os k
+none_written : (ends : List (List ℕ)) (us : List Record) (n : ℕ) (os : List (Option (List ℕ))) (k : ℕ) → (tablet_at (tabled_for ends us n os) k).active ≡ []
+none_written ends us n [] k = refl
+none_written ends us n (o ∷ os) zero = refl
+none_written ends us n (o ∷ os) (suc k) = none_written ends us (next_number n) os k
 
-pub restored_kept : (ends : List (List ℕ)) (us : List Record) → EndRowsRise ends → AreKept (restored ends us) []
-restored_kept ends us s = record {
-  whole = restored_whole ends us s;
-  rows = own_rows ends us s;
+pub restored_kept : (n : ℕ) (ends : List (List ℕ)) (us : List Record) → EndRowsRise ends → AreKept (restored n ends us) []
+restored_kept n ends us s = record {
+  whole = restored_whole n ends us s;
+  rows = own_rows n ends us s;
   inside = tt;
-  waiting = λ k none. none_written ends us (with_last ends) k;
+  waiting = λ k none. none_written ends us n (with_last ends) k;
 }
 
 -- ---- the end rows
-ends_listed : (ends : List (List ℕ)) (us : List Record) (ds : List (List ℕ)) → filter_map (λ (t : Tablet). t.end) (map (λ o. tabled o (records_for ends us o)) (with_last ds)) ≡ ds
-ends_listed ends us [] = refl
-ends_listed ends us (d ∷ ds) = ap (λ l. d ∷ l) (ends_listed ends us ds)
+ends_listed : (ends : List (List ℕ)) (us : List Record) (n : ℕ) (ds : List (List ℕ)) → filter_map (λ (t : Tablet). t.end) (tabled_for ends us n (with_last ds)) ≡ ds
+ends_listed ends us n [] = refl
+ends_listed ends us n (d ∷ ds) = ap (λ l. d ∷ l) (ends_listed ends us (next_number n) ds)
 
-pub restored_are_whole : (ends : List (List ℕ)) (us : List Record) → EndRowsRise ends → AreWhole (restored ends us) × (ends_of (restored ends us) ≡ ends)
-restored_are_whole ends us s = (restored_whole ends us s, ends_listed ends us ends)
+pub restored_are_whole : (n : ℕ) (ends : List (List ℕ)) (us : List Record) → EndRowsRise ends → AreWhole (restored n ends us) × (ends_of (restored n ends us) ≡ ends)
+restored_are_whole n ends us s = (restored_whole n ends us s, ends_listed ends us n ends)
 
-pub restored_hold_all : (ends : List (List ℕ)) (us : List Record) → EndRowsRise ends → IsRising us → (records_of_all (restored ends us) ≡ us) × LieApart (restored ends us)
-restored_hold_all ends us s r = (restored_holds ends us s r, restored_apart ends us s r)
+pub restored_hold_all : (n : ℕ) (ends : List (List ℕ)) (us : List Record) → EndRowsRise ends → IsRising us → (records_of_all (restored n ends us) ≡ us) × LieApart (restored n ends us)
+restored_hold_all n ends us s r = (restored_holds n ends us s r, restored_apart n ends us s r)
 
 -- ---- the end rows of a table's tablets rise
 below_all : (e d : List ℕ) (ds : List (List ℕ)) → bytes_cmp e d ≡ Less → AreAbove d ds → AreAbove e ds
@@ -246,9 +246,10 @@ pub ends_of_rise : (ts : List Tablet) → AreWhole ts → EndRowsRise (ends_of t
 ends_of_rise ts w = subst EndRowsRise (ends_known ts) (known_rise (map (λ (t : Tablet). t.end) ts) w)
 
 -- ---- one tablet more, of the records that are left
--- these lower tablets, and what the end rows to come make of the records that are left, are what all end rows make
-abbrev pub GoesOn : List (List ℕ) → List Record → List Tablet → List Record → Type 0
-GoesOn done us lower left = (es : List (List ℕ)) → EndRowsRise (done ++ es) → lower ++ restored es left ≡ restored (done ++ es) us
+-- these lower tablets, and what the end rows to come make of the records that are left, numbered from the next number on, are what all end
+-- rows make, numbered from the first
+abbrev pub GoesOn : ℕ → ℕ → List (List ℕ) → List Record → List Tablet → List Record → Type 0
+GoesOn first next done us lower left = (es : List (List ℕ)) → EndRowsRise (done ++ es) → lower ++ restored next es left ≡ restored first (done ++ es) us
 
 last_rise : (done es : List (List ℕ)) → EndRowsRise (done ++ es) → EndRowsRise es
 last_rise [] es s = s
@@ -263,28 +264,28 @@ above_high : (e : List ℕ) (us : List Record) → filter (λ (u : Record). is_g
 above_high e [] = refl
 above_high e (u ∷ us) = λ i. cond (gt_not (bytes_cmp u.key.row e) i) (u ∷ above_high e us i) (above_high e us i)
 
-pub goes_on_one : (done : List (List ℕ)) (us : List Record) (lower more : List Tablet) (left after : List Record) (e : List ℕ) (t : Tablet)
-    → more ≡ lower ++ t ∷ [] → t ≡ tabled (Some e) (filter (λ (u : Record). is_le (bytes_cmp u.key.row e)) left) → after ≡ filter (λ (u : Record). is_gt (bytes_cmp u.key.row e)) left → GoesOn done us lower left → GoesOn (done ++ e ∷ []) us more after
-goes_on_one done us lower more left after e t m is behind g es s =
+pub goes_on_one : (first next later : ℕ) (done : List (List ℕ)) (us : List Record) (lower more : List Tablet) (left after : List Record) (e : List ℕ) (t : Tablet)
+    → later ≡ next_number next → more ≡ lower ++ t ∷ [] → t ≡ tabled next (Some e) (filter (λ (u : Record). is_le (bytes_cmp u.key.row e)) left) → after ≡ filter (λ (u : Record). is_gt (bytes_cmp u.key.row e)) left → GoesOn first next done us lower left → GoesOn first later (done ++ e ∷ []) us more after
+goes_on_one first next later done us lower more left after e t n m is behind g es s =
     let rest : after ≡ filter (high e) left = behind ∙ above_high e left in
     let same : (done ++ e ∷ []) ++ es ≡ done ++ e ∷ es = append_assoc done (e ∷ []) es in
     let rises : EndRowsRise (done ++ e ∷ es) = subst EndRowsRise same s in
-    (λ i. m i ++ restored es (rest i))
-    ∙ append_assoc lower (t ∷ []) (restored es (filter (high e) left))
-    ∙ (λ i. lower ++ is i ∷ restored es (filter (high e) left))
-    ∙ ap (λ l. lower ++ l) (sym (restored_first e es left (last_rise done (e ∷ es) rises)))
+    (λ i. m i ++ restored (n i) es (rest i))
+    ∙ append_assoc lower (t ∷ []) (restored (next_number next) es (filter (high e) left))
+    ∙ (λ i. lower ++ is i ∷ restored (next_number next) es (filter (high e) left))
+    ∙ ap (λ l. lower ++ l) (sym (restored_first e es left next (last_rise done (e ∷ es) rises)))
     ∙ g (e ∷ es) rises
-    ∙ ap (λ ends. restored ends us) (sym same)
+    ∙ ap (λ ends. restored first ends us) (sym same)
 
-pub goes_on_end : (done ends : List (List ℕ)) (us : List Record) (lower : List Tablet) (left : List Record) → done ≡ ends → EndRowsRise ends → GoesOn done us lower left → lower ++ tabled None left ∷ [] ≡ restored ends us
-goes_on_end done ends us lower left same s g =
-    ap (λ l. lower ++ l) (sym (restored_last left))
+pub goes_on_end : (first next : ℕ) (done ends : List (List ℕ)) (us : List Record) (lower : List Tablet) (left : List Record) → done ≡ ends → EndRowsRise ends → GoesOn first next done us lower left → lower ++ tabled next None left ∷ [] ≡ restored first ends us
+goes_on_end first next done ends us lower left same s g =
+    ap (λ l. lower ++ l) (sym (restored_last next left))
     ∙ g [] (subst EndRowsRise (sym (append-nil done ∙ same)) s)
-    ∙ ap (λ es. restored es us) (append-nil done ∙ same)
+    ∙ ap (λ es. restored first es us) (append-nil done ∙ same)
 
 -- the last tablet holds what is left then
-pub restored_line : (ends : List (List ℕ)) (us : List Record) (lower line : List Tablet) (last : Tablet) (left : List Record) → line ≡ lower ++ ended None last ∷ [] → last ≡ tabled None left → lower ++ tabled None left ∷ [] ≡ restored ends us → line ≡ restored ends us
-restored_line ends us lower line last left l t g = l ∙ (λ i. lower ++ ended None (t i) ∷ []) ∙ g
+pub restored_line : (first next : ℕ) (ends : List (List ℕ)) (us : List Record) (lower line : List Tablet) (last : Tablet) (left : List Record) → line ≡ lower ++ ended None last ∷ [] → last ≡ tabled next None left → lower ++ tabled next None left ∷ [] ≡ restored first ends us → line ≡ restored first ends us
+restored_line first next ends us lower line last left l t g = l ∙ (λ i. lower ++ ended None (t i) ∷ []) ∙ g
 
 -- what holds either way
 pub either_way : {A E P : Type 0} (r : Result A E) → P → OnOk r P

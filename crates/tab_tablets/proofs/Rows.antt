@@ -38,6 +38,28 @@ module _ (f : Tablet → Tablet) (ends : (t : Tablet) → (f t).end ≡ t.end) (
     rows_map ts h.2,
   )
 
+  in_one : (ts : List Tablet) (p : ℕ) (u : Record) → IsIn (records_of_all (at_place p (one f) ts)) u → IsIn (records_of_all ts) u
+  in_one [] p u k = k
+  in_one (t ∷ ts) zero u k = go (in_append (records_in (f t)) (records_of_all ts) u k)
+    where
+      go : IsIn (records_in (f t)) u ⊎ IsIn (records_of_all ts) u → IsIn (records_in t ++ records_of_all ts) u
+      go (inl a) = in_left (records_in t) (records_of_all ts) u (fewer t u a)
+      go (inr b) = in_right (records_in t) (records_of_all ts) u b
+  in_one (t ∷ ts) (suc p) u k = go (in_append (records_in t) (records_of_all (at_place p (one f) ts)) u k) (in_one ts p u)
+    where
+      go : IsIn (records_in t) u ⊎ IsIn (records_of_all (at_place p (one f) ts)) u → (IsIn (records_of_all (at_place p (one f) ts)) u → IsIn (records_of_all ts) u) → IsIn (records_in t ++ records_of_all ts) u
+      go (inl a) ih = in_left (records_in t) (records_of_all ts) u a
+      go (inr b) ih = in_right (records_in t) (records_of_all ts) u (ih b)
+
+  pub rows_one : (ts : List Tablet) (p : ℕ) → HoldOwnRows ts → HoldOwnRows (at_place p (one f) ts)
+  rows_one [] p h = h
+  rows_one (t ∷ ts) zero h = (
+    λ u k. ap (λ o. is_up_to o u.key.row) (ends t) ∙ h.0 u (fewer t u k),
+    λ u k. ap (λ o. is_up_to o u.key.row) (ends t) ∙ h.1 u k,
+    h.2,
+  )
+  rows_one (t ∷ ts) (suc p) h = (h.0, λ u k. h.1 u (in_one ts p u k), rows_one ts p h.2)
+
 -- ---- a write
 -- the records of a mutation are of its row
 pub mutation_rows : (seq : ℕ) (row : List ℕ) (us : List TimedUpdate) (u : Record) → IsIn (mutated seq row us) u → u.key.row ≡ row
@@ -96,35 +118,35 @@ module _ (row : List ℕ) (us : List Record) (own : (u : Record) → IsIn us u �
       go u (inr b) = h.1 u b
 
 -- ---- a split
-in_cut : (p : List ℕ → Bool) (t : Tablet) (u : Record) → IsIn (records_in (cut_to p t)) u → IsIn (records_in t) u × (p u.key.row ≡ true)
-in_cut p t u k =
+in_cut : (number : ℕ) (p : List ℕ → Bool) (t : Tablet) (u : Record) → IsIn (records_in (cut_to number p t)) u → IsIn (records_in t) u × (p u.key.row ≡ true)
+in_cut number p t u k =
     let h = in_filter (λ (v : Record). p v.key.row) (records_in (frozen t)) u (subst (λ l. IsIn l u) (clipped_records p (frozen t).sources) k) in
     (frozen_in t u h.0, h.1)
 
-module _ (row : List ℕ) where
-  in_low : (t : Tablet) (u : Record) → IsIn (records_in (lower_at row t)) u → IsIn (records_in t) u × (is_le (bytes_cmp u.key.row row) ≡ true)
-  in_low t u k = in_cut (λ r. is_le (bytes_cmp r row)) t u k
+module _ (row : List ℕ) (number : ℕ) where
+  in_low : (t : Tablet) (u : Record) → IsIn (records_in (lower_at row number t)) u → IsIn (records_in t) u × (is_le (bytes_cmp u.key.row row) ≡ true)
+  in_low t u k = in_cut number (λ r. is_le (bytes_cmp r row)) t u k
 
-  in_high : (t : Tablet) (u : Record) → IsIn (records_in (upper_at row t)) u → IsIn (records_in t) u × (is_gt (bytes_cmp u.key.row row) ≡ true)
-  in_high t u k = in_cut (λ r. is_gt (bytes_cmp r row)) t u k
+  in_high : (t : Tablet) (u : Record) → IsIn (records_in (upper_at row number t)) u → IsIn (records_in t) u × (is_gt (bytes_cmp u.key.row row) ≡ true)
+  in_high t u k = in_cut number (λ r. is_gt (bytes_cmp r row)) t u k
 
-  in_both : (t : Tablet) (rest : List Record) (u : Record) → IsIn (records_in (upper_at row t) ++ rest) u → IsIn (records_in (upper_at row t)) u ⊎ IsIn rest u
-  in_both t rest u k = in_append (records_in (upper_at row t)) rest u k
+  in_both : (t : Tablet) (rest : List Record) (u : Record) → IsIn (records_in (upper_at row number t) ++ rest) u → IsIn (records_in (upper_at row number t)) u ⊎ IsIn rest u
+  in_both t rest u k = in_append (records_in (upper_at row number t)) rest u k
 
-  in_split : (ts : List Tablet) (p : ℕ) (u : Record) → IsIn (records_of_all (at_place p (split_at row) ts)) u → IsIn (records_of_all ts) u
+  in_split : (ts : List Tablet) (p : ℕ) (u : Record) → IsIn (records_of_all (at_place p (split_at row number) ts)) u → IsIn (records_of_all ts) u
   in_split [] p u k = k
-  in_split (t ∷ ts) zero u k = go (in_append (records_in (lower_at row t)) (records_in (upper_at row t) ++ records_of_all ts) u k)
+  in_split (t ∷ ts) zero u k = go (in_append (records_in (lower_at row number t)) (records_in (upper_at row number t) ++ records_of_all ts) u k)
     where
-      back : IsIn (records_in (upper_at row t)) u ⊎ IsIn (records_of_all ts) u → IsIn (records_in t ++ records_of_all ts) u
+      back : IsIn (records_in (upper_at row number t)) u ⊎ IsIn (records_of_all ts) u → IsIn (records_in t ++ records_of_all ts) u
       back (inl a) = in_left (records_in t) (records_of_all ts) u (in_high t u a).0
       back (inr b) = in_right (records_in t) (records_of_all ts) u b
 
-      go : IsIn (records_in (lower_at row t)) u ⊎ IsIn (records_in (upper_at row t) ++ records_of_all ts) u → IsIn (records_in t ++ records_of_all ts) u
+      go : IsIn (records_in (lower_at row number t)) u ⊎ IsIn (records_in (upper_at row number t) ++ records_of_all ts) u → IsIn (records_in t ++ records_of_all ts) u
       go (inl a) = in_left (records_in t) (records_of_all ts) u (in_low t u a).0
       go (inr b) = back (in_both t (records_of_all ts) u b)
-  in_split (t ∷ ts) (suc p) u k = go (in_append (records_in t) (records_of_all (at_place p (split_at row) ts)) u k) (in_split ts p u)
+  in_split (t ∷ ts) (suc p) u k = go (in_append (records_in t) (records_of_all (at_place p (split_at row number) ts)) u k) (in_split ts p u)
     where
-      go : IsIn (records_in t) u ⊎ IsIn (records_of_all (at_place p (split_at row) ts)) u → (IsIn (records_of_all (at_place p (split_at row) ts)) u → IsIn (records_of_all ts) u) → IsIn (records_in t ++ records_of_all ts) u
+      go : IsIn (records_in t) u ⊎ IsIn (records_of_all (at_place p (split_at row number) ts)) u → (IsIn (records_of_all (at_place p (split_at row number) ts)) u → IsIn (records_of_all ts) u) → IsIn (records_in t ++ records_of_all ts) u
       go (inl a) ih = in_left (records_in t) (records_of_all ts) u a
       go (inr b) ih = in_right (records_in t) (records_of_all ts) u (ih b)
 
@@ -132,11 +154,11 @@ module _ (row : List ℕ) where
   pub beyond : (o : Option (List ℕ)) (r : List ℕ) → is_up_to o row ≡ true → is_up_to o r ≡ false → is_le (bytes_cmp r row) ≡ false
   beyond o r up over = by_bool (is_le (bytes_cmp r row)) (λ t. absurd (true≢false (sym (lower_up o r row t up) ∙ over))) (λ f. f)
 
-  pub rows_split : (ts : List Tablet) (p : ℕ) → IsPlaceOf row ts p → HoldOwnRows ts → HoldOwnRows (at_place p (split_at row) ts)
+  pub rows_split : (ts : List Tablet) (p : ℕ) → IsPlaceOf row ts p → HoldOwnRows ts → HoldOwnRows (at_place p (split_at row number) ts)
   rows_split [] p q h = h
   rows_split (t ∷ ts) zero q h = (λ u k. (in_low t u k).1, λ u k. go u (in_both t (records_of_all ts) u k), (λ u k. h.0 u (in_high t u k).0, h.1, h.2))
     where
-      go : (u : Record) → IsIn (records_in (upper_at row t)) u ⊎ IsIn (records_of_all ts) u → is_le (bytes_cmp u.key.row row) ≡ false
+      go : (u : Record) → IsIn (records_in (upper_at row number t)) u ⊎ IsIn (records_of_all ts) u → is_le (bytes_cmp u.key.row row) ≡ false
       go u (inl a) = not_up_to u.key.row row (in_high t u a).1
       go u (inr b) = beyond t.end u.key.row q.holds (h.1 u b)
   rows_split (t ∷ ts) (suc p) q h = (h.0, λ u k. h.1 u (in_split ts p u k), rows_split ts p (later_place row t ts p q) h.2)

@@ -5,7 +5,7 @@ use Rattle.tab_key.specs.Bytes.{bytes_cmp}
 use Rattle.std.specs.Prelude.{Option, Some, None, nat_lt}
 use Rattle.std.proofs.lemmas.Bool.Decides.{nat_tests}
 use Rattle.tab_version.specs.Sources.{size_of}
-use Rattle.tab_tablet.specs.Tablets.{Tablet}
+use Rattle.tab_tablet.specs.Tablets.{Tablet, next_number}
 use Rattle.tab_tablet.specs.Splitting.{cut_to, lower_at, upper_at, split_at, middle_row, rows_in}
 use Rattle.tab_tablets.specs.Places.{ended, tablet_at, IsPlaceOf}
 use Rattle.tab_tablets.specs.ByRow.{at_row, tablet_of, is_end}
@@ -20,31 +20,31 @@ Told = Split × List Tablet
 abbrev told : Split → List Tablet → Told
 told s ts = (s, ts)
 
-pub present : (row : List ℕ) (ts : List Tablet) → is_end row ts ≡ true → splits row ts ≡ told Present ts
-present row ts e = ap (λ v. cond {A = Told} v (Present, ts) (split_in row ts)) e
+pub present : (row : List ℕ) (number : ℕ) (ts : List Tablet) → is_end row ts ≡ true → splits row number ts ≡ told Present ts
+present row number ts e = ap (λ v. cond {A = Told} v (Present, ts) (split_in row number ts)) e
 
-pub absent : (row : List ℕ) (ts : List Tablet) → is_end row ts ≡ false → splits row ts ≡ split_in row ts
-absent row ts e = ap (λ v. cond {A = Told} v (Present, ts) (split_in row ts)) e
+pub absent : (row : List ℕ) (number : ℕ) (ts : List Tablet) → is_end row ts ≡ false → splits row number ts ≡ split_in row number ts
+absent row number ts e = ap (λ v. cond {A = Told} v (Present, ts) (split_in row number ts)) e
 
-pub full : (row : List ℕ) (ts : List Tablet) → is_full ts ≡ true → split_in row ts ≡ told Full ts
-full row ts e = ap (λ v. cond {A = Told} v (Full, ts) (Done, at_row row (split_at row) ts)) e
+pub full : (row : List ℕ) (number : ℕ) (ts : List Tablet) → is_full ts ≡ true → split_in row number ts ≡ told Full ts
+full row number ts e = ap (λ v. cond {A = Told} v (Full, ts) (Done, at_row row (split_at row number) ts)) e
 
-pub done : (row : List ℕ) (ts : List Tablet) → is_full ts ≡ false → split_in row ts ≡ told Done (at_row row (split_at row) ts)
-done row ts e = ap (λ v. cond {A = Told} v (Full, ts) (Done, at_row row (split_at row) ts)) e
+pub done : (row : List ℕ) (number : ℕ) (ts : List Tablet) → is_full ts ≡ false → split_in row number ts ≡ told Done (at_row row (split_at row number) ts)
+done row number ts e = ap (λ v. cond {A = Told} v (Full, ts) (Done, at_row row (split_at row number) ts)) e
 
-module _ (row : List ℕ) (limit : ℕ) (ts : List Tablet) (t : Tablet) (is : tablet_of row ts ≡ Some t) where
-  pub small : nat_lt (size_of t.sources) limit ≡ true → halves row limit ts ≡ told Small ts
-  small e = ap (λ o. halved limit o ts) is ∙ ap (λ v. cond {A = Told} v (Small, ts) (split_found (middle_row (rows_in t)) ts)) e
+module _ (row : List ℕ) (limit number : ℕ) (ts : List Tablet) (t : Tablet) (is : tablet_of row ts ≡ Some t) where
+  pub small : nat_lt (size_of t.sources) limit ≡ true → halves row limit number ts ≡ told Small ts
+  small e = ap (λ o. halved limit number o ts) is ∙ ap (λ v. cond {A = Told} v (Small, ts) (split_found (middle_row (rows_in t)) number ts)) e
 
-  pub large : nat_lt (size_of t.sources) limit ≡ false → halves row limit ts ≡ split_found (middle_row (rows_in t)) ts
-  large e = ap (λ o. halved limit o ts) is ∙ ap (λ v. cond {A = Told} v (Small, ts) (split_found (middle_row (rows_in t)) ts)) e
+  pub large : nat_lt (size_of t.sources) limit ≡ false → halves row limit number ts ≡ split_found (middle_row (rows_in t)) number ts
+  large e = ap (λ o. halved limit number o ts) is ∙ ap (λ v. cond {A = Told} v (Small, ts) (split_found (middle_row (rows_in t)) number ts)) e
 
   -- with a row in the middle, and without one
-  pub found : (m : List ℕ) → nat_lt (size_of t.sources) limit ≡ false → middle_row (rows_in t) ≡ Some m → halves row limit ts ≡ split_in m ts
-  found m e f = large e ∙ ap (λ o. split_found o ts) f
+  pub found : (m : List ℕ) → nat_lt (size_of t.sources) limit ≡ false → middle_row (rows_in t) ≡ Some m → halves row limit number ts ≡ split_in m number ts
+  found m e f = large e ∙ ap (λ o. split_found o number ts) f
 
-  pub none_found : nat_lt (size_of t.sources) limit ≡ false → middle_row (rows_in t) ≡ None → halves row limit ts ≡ told OneRow ts
-  none_found e f = large e ∙ ap (λ o. split_found o ts) f
+  pub none_found : nat_lt (size_of t.sources) limit ≡ false → middle_row (rows_in t) ≡ None → halves row limit number ts ≡ told OneRow ts
+  none_found e f = large e ∙ ap (λ o. split_found o number ts) f
 
 -- a size that was cut off is below a limit where it was before
 pub is_small : (size limit : ℕ) → limit < 2 ^ 64 → min size 18446744073709551615 < limit → nat_lt size limit ≡ true
@@ -54,15 +54,15 @@ pub is_large : (size limit : ℕ) → limit < 2 ^ 64 → limit ≤ min size 1844
 is_large size limit fits ge = let h : limit ≤ size = omega arith in grind (arith, nat_tests)
 
 -- ---- by what is asked of the tablet of the row
-module _ (row : List ℕ) (limit size : ℕ) (line now : List Tablet) (p : ℕ) (bare : Tablet) (same : line ≡ now) (place : IsPlaceOf row line p) (is : ended (tablet_at line p).end bare ≡ tablet_at line p) (cut : size ≡ min (size_of bare.sources) 18446744073709551615) (fits : limit < 2 ^ 64) where
+module _ (row : List ℕ) (limit number size : ℕ) (line now : List Tablet) (p : ℕ) (bare : Tablet) (same : line ≡ now) (place : IsPlaceOf row line p) (is : ended (tablet_at line p).end bare ≡ tablet_at line p) (cut : size ≡ min (size_of bare.sources) 18446744073709551615) (fits : limit < 2 ^ 64) where
   there : tablet_of row now ≡ Some (tablet_at line p)
   there = ap (tablet_of row) (sym same) ∙ tablet_at_place row line p place
 
   size_is : size ≡ min (size_of (tablet_at line p).sources) 18446744073709551615
   size_is = cut ∙ ap (λ (t : Tablet). min (size_of t.sources) 18446744073709551615) is
 
-  pub small_told : size < limit → halves row limit now ≡ told Small now
-  small_told lt = small row limit now (tablet_at line p) there (is_small (size_of (tablet_at line p).sources) limit fits (subst (λ n. n < limit) size_is lt))
+  pub small_told : size < limit → halves row limit number now ≡ told Small now
+  small_told lt = small row limit number now (tablet_at line p) there (is_small (size_of (tablet_at line p).sources) limit fits (subst (λ n. n < limit) size_is lt))
 
   module _ (ge : limit ≤ size) (asked : Tablet) (is_asked : ended (tablet_at line p).end asked ≡ tablet_at line p) where
     is_not_small : nat_lt (size_of (tablet_at line p).sources) limit ≡ false
@@ -71,13 +71,13 @@ module _ (row : List ℕ) (limit size : ℕ) (line now : List Tablet) (p : ℕ) 
     middle_is : (o : Option (List ℕ)) → o ≡ middle_row (rows_in asked) → middle_row (rows_in (tablet_at line p)) ≡ o
     middle_is o e = ap (λ (t : Tablet). middle_row (rows_in t)) (sym is_asked) ∙ sym e
 
-    pub one_row_told : None ≡ middle_row (rows_in asked) → halves row limit now ≡ told OneRow now
-    one_row_told e = none_found row limit now (tablet_at line p) there is_not_small (middle_is None e)
+    pub one_row_told : None ≡ middle_row (rows_in asked) → halves row limit number now ≡ told OneRow now
+    one_row_told e = none_found row limit number now (tablet_at line p) there is_not_small (middle_is None e)
 
-    pub middle_told : (m : List ℕ) → Some m ≡ middle_row (rows_in asked) → halves row limit now ≡ split_in m now
-    middle_told m e = found row limit now (tablet_at line p) there m is_not_small (middle_is (Some m) e)
+    pub middle_told : (m : List ℕ) → Some m ≡ middle_row (rows_in asked) → halves row limit number now ≡ split_in m number now
+    middle_told m e = found row limit number now (tablet_at line p) there m is_not_small (middle_is (Some m) e)
 
 -- ---- the two tablets
-pub halves_are : (row : List ℕ) (t bare low up : Tablet) → ended t.end bare ≡ t → low ≡ cut_to (λ r. is_le (bytes_cmp r row)) bare → up ≡ cut_to (λ r. is_gt (bytes_cmp r row)) bare
-    → ended (Some row) low ∷ ended t.end up ∷ [] ≡ split_at row t
-halves_are row t bare low up is a b = λ i. (ap (ended (Some row)) a ∙ ap (lower_at row) is) i ∷ (ap (ended t.end) b ∙ ap (upper_at row) is) i ∷ []
+pub halves_are : (row : List ℕ) (number : ℕ) (t bare low up : Tablet) → ended t.end bare ≡ t → low ≡ cut_to number (λ r. is_le (bytes_cmp r row)) bare → up ≡ cut_to (next_number number) (λ r. is_gt (bytes_cmp r row)) bare
+    → ended (Some row) low ∷ ended t.end up ∷ [] ≡ split_at row number t
+halves_are row number t bare low up is a b = λ i. (ap (ended (Some row)) a ∙ ap (lower_at row number) is) i ∷ (ap (ended t.end) b ∙ ap (upper_at row (next_number number)) is) i ∷ []

@@ -40,9 +40,9 @@ end_behind : (row : List ℕ) (o : Option (List ℕ)) → is_up_to o row ≡ fal
 end_behind row None over = absurd (true≢false over)
 end_behind row (Some e) over = above row e over
 
-pub whole_split : (row : List ℕ) (ts : List Tablet) (p : ℕ) → IsPlaceOf row ts p → is_end_row row (tablet_at ts p).end ≡ false → AreWhole ts → AreWhole (at_place p (split_at row) ts)
-whole_split row [] p h n w = w
-whole_split row (t ∷ ts) zero h n w = (end_before row t.end h.holds n, w)
-whole_split row (t ∷ []) (suc p) h n w = w
-whole_split row (t ∷ s ∷ ts) (suc zero) h n w = (end_behind row t.end (first_over row t (s ∷ ts) zero h), whole_split row (s ∷ ts) zero (later_place row t (s ∷ ts) zero h) n w.1)
-whole_split row (t ∷ s ∷ ts) (suc (suc p)) h n w = (w.0, whole_split row (s ∷ ts) (suc p) (later_place row t (s ∷ ts) (suc p) h) n w.1)
+pub whole_split : (row : List ℕ) (number : ℕ) (ts : List Tablet) (p : ℕ) → IsPlaceOf row ts p → is_end_row row (tablet_at ts p).end ≡ false → AreWhole ts → AreWhole (at_place p (split_at row number) ts)
+whole_split row number [] p h n w = w
+whole_split row number (t ∷ ts) zero h n w = (end_before row t.end h.holds n, w)
+whole_split row number (t ∷ []) (suc p) h n w = w
+whole_split row number (t ∷ s ∷ ts) (suc zero) h n w = (end_behind row t.end (first_over row t (s ∷ ts) zero h), whole_split row number (s ∷ ts) zero (later_place row t (s ∷ ts) zero h) n w.1)
+whole_split row number (t ∷ s ∷ ts) (suc (suc p)) h n w = (w.0, whole_split row number (s ∷ ts) (suc p) (later_place row t (s ∷ ts) (suc p) h) n w.1)

@@ -1,6 +1,8 @@
 pub mod ByRow
 pub mod Splits
 pub mod Places
+pub mod Parts
+pub mod Due
 pub mod EndPrefixes
 pub mod Listing
 pub mod Restored
@@ -12,3 +14,4 @@ pub use Rattle.tab_tablet.specs.Spared
 pub use Rattle.tab_tablet.specs.Merges
 pub use Rattle.tab_tablet.specs.Plans
 pub use Rattle.tab_tablet.specs.Sizes
+pub use Rattle.tab_tablet.specs.Due as TabletDue

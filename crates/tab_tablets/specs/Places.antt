@@ -15,7 +15,7 @@ ended end t = record t { end = end }
 
 -- the tablet at a place; beyond the last there is nothing in it
 abbrev pub tablet_at : List Tablet → ℕ → Tablet
-tablet_at ts place = slice_index_or ts place (new_tablet None)
+tablet_at ts place = slice_index_or ts place (new_tablet 0 None)
 
 -- the tablet at this place is the first whose end isn't before the row
 pub record IsPlaceOf (row : List ℕ) (ts : List Tablet) (place : ℕ) : Type 0 where

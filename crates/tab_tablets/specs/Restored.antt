@@ -5,7 +5,7 @@ use Rattle.std.specs.Ordering.{is_le}
 use Rattle.tab_key.specs.Bytes.{bytes_cmp}
 use Rattle.tab_key.specs.Records.{Record}
 use Rattle.tab_iter.specs.Lists.{IsRising}
-use Rattle.tab_tablet.specs.Tablets.{Tablet, tabled}
+use Rattle.tab_tablet.specs.Tablets.{Tablet, tabled, next_number}
 use Rattle.tab_tablets.specs.ByRow.{AreWhole, LieApart, records_of_all, ends_of}
 
 -- each end row is below those after it
@@ -27,16 +27,21 @@ same_end (Some a) (Some b) = bytes_eq a b
 abbrev pub records_for : List (List ℕ) → List Record → Option (List ℕ) → List Record
 records_for ends us end = filter (λ (u : Record). same_end (end_for ends u.key.row) end) us
 
--- a tablet for each end row, and the last one; each holds the records of its rows as one sorted table, or has no source where there are
--- none
-abbrev pub restored : List (List ℕ) → List Record → List Tablet
-restored ends us = map (λ end. tabled end (records_for ends us end)) (map Some ends ++ None ∷ [])
+-- a tablet for each of these of the end rows, numbered from this number on; each holds the records of its rows as one sorted table, or has
+-- no source where there are none
+abbrev pub tabled_for : List (List ℕ) → List Record → ℕ → List (Option (List ℕ)) → List Tablet
+tabled_for ends us number [] = []
+tabled_for ends us number (end ∷ later) = tabled number end (records_for ends us end) ∷ tabled_for ends us (next_number number) later
+
+-- one for each end row, and the last one
+abbrev pub restored : ℕ → List (List ℕ) → List Record → List Tablet
+restored number ends us = tabled_for ends us number (map Some ends ++ None ∷ [])
 
 -- ---- what such tablets are
 -- each row has one of them, and they end at these rows
 abbrev pub RestoredAreWhole : Type 0
-RestoredAreWhole = (ends : List (List ℕ)) (us : List Record) → EndRowsRise ends → AreWhole (restored ends us) × (ends_of (restored ends us) ≡ ends)
+RestoredAreWhole = (number : ℕ) (ends : List (List ℕ)) (us : List Record) → EndRowsRise ends → AreWhole (restored number ends us) × (ends_of (restored number ends us) ≡ ends)
 
 -- they hold exactly these records, in this order, and lie apart
 abbrev pub RestoredHoldAll : Type 0
-RestoredHoldAll = (ends : List (List ℕ)) (us : List Record) → EndRowsRise ends → IsRising us → (records_of_all (restored ends us) ≡ us) × LieApart (restored ends us)
+RestoredHoldAll = (number : ℕ) (ends : List (List ℕ)) (us : List Record) → EndRowsRise ends → IsRising us → (records_of_all (restored number ends us) ≡ us) × LieApart (restored number ends us)

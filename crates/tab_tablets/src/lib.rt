@@ -17,6 +17,9 @@
 //! | `opening` | what a scan reads of them |
 //! | `listing` | all that each of them holds |
 //! | `compacting` | compactions of all of them |
+//! | `parts` | compactions of one of them in parts |
+//! | `tablet_job` | a merge of one of them that is to be made, and one that is made |
+//! | `due` | which of them is due for work, and where it begins |
 //! | `splitting` | splits of one of them |
 //! | `restoring` | tablets made of end rows and of records |
 //! | `split` | what became of a split |
@@ -26,6 +29,7 @@
 mod bounds;
 mod compacting;
 mod counting;
+mod due;
 mod ends;
 mod freezing;
 mod laws;
@@ -34,14 +38,18 @@ mod listing;
 mod lower;
 mod made;
 mod opening;
+mod parts;
 mod prefixes;
 mod restoring;
 mod split;
 mod splitting;
+mod tablet_job;
 mod tablets;
 
 pub use laws::{lists_in_order, lists_on, restored_are_whole, restored_hold_all};
 pub use split::Split;
 pub use tab_mem::Records;
+pub use tab_tablet::{DueKind, Installed};
 pub use tab_version::Version;
+pub use tablet_job::{FinishedJob, TabletJob};
 pub use tablets::Tablets;

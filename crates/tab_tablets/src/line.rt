@@ -1,14 +1,15 @@
 //! Tablets in the order of their rows.
-ghost use Rattle.std.specs.Prelude.{◌≡◌, ◌<◌, [], ◌∷◌, ◌++◌, None, Some, length, map, min, sum, Contains, IfOk, OnOk, OnErr};
+ghost use Rattle.std.specs.Prelude.{◌≡◌, ◌==◌, ℕ, ◌<◌, [], ◌∷◌, ◌++◌, None, Some, false, length, map, min, sum, Contains, IfOk, IfSome, OnOk, OnErr};
 ghost use Rattle.std.specs.List.{AllByRecursion};
 ghost use Rattle.tab_key.specs.Records.{Record as Fields};
 ghost use Rattle.tab_mutation.specs.Shape.{shape_error};
 ghost use Rattle.tab_cells.specs.Written.{mutation_records};
-ghost use Rattle.tab_tablet.specs.Tablets.{new_tablet, frozen, records_in, written};
+ghost use Rattle.tab_tablet.specs.Tablets.{new_tablet, frozen, records_in, written, capture, begins, installed as installed_by};
 ghost use Rattle.tab_tablet.specs.Bodies.{IsFreezeOf};
 ghost use Rattle.tab_version.specs.Sources.{count_of};
 ghost use Rattle.tab_tablets.specs.ByRow.{AreWhole, ends_of, records_of_all};
 ghost use Rattle.tab_tablets.specs.Places.{ended, tablet_at, IsPlaceOf, at_place, put_at, installed, is_end_row};
+ghost use Rattle.tab_tablets.specs.Due.{first_due, IsFirstWith, start_at};
 ghost use Rattle.tab_tablets.specs.Splits.{is_full};
 
 use crate::counting::{count_records, count_sources};
@@ -18,10 +19,13 @@ use crate::made::Made;
 use crate::prefixes::{insert_reserved, prefixes_of};
 use std::alloc::{AllocError, Global};
 use std::marker::Model;
+use std::mem;
+use tab_cells::Compaction;
+use tab_iter::NoMemory;
 use tab_key::{ByteString, row_prefix};
 use tab_mem::{count_below, count_up_to};
 use tab_mutation::Mutation;
-use tab_tablet::{Freeze, Tablet};
+use tab_tablet::{DueKind, Finished, Freeze, Installed, Job, Tablet};
 
 /// The most end rows that a table may have.
 const MOST_ENDS: usize = 4_294_967_295;
@@ -51,14 +55,14 @@ impl Model for Line {
 }
 
 impl Line {
-    /// One tablet, of all rows, without records. It takes no memory.
-    pub(crate) fn new(alloc: Global) -> Line
-        ensures { result ≡ new_tablet None ∷ [] }
+    /// The tablet with this number alone, of all rows, without records. It takes no memory.
+    pub(crate) fn new(alloc: Global, number: u64) -> Line
+        ensures { result ≡ new_tablet number None ∷ [] }
     {
         Line {
             prefixes: Vec::new(alloc),
             lower: Vec::new(alloc),
-            last: Tablet::new(alloc),
+            last: Tablet::new(alloc, number),
         }
     }
 
@@ -116,7 +120,7 @@ impl Line {
         if place < self.lower.len() {
             self.lower[place].put(tablet);
         } else {
-            self.last = tablet;
+            drop(mem::replace(&mut self.last, tablet));
         }
     }
 
@@ -156,6 +160,45 @@ impl Line {
             return self.lower[place].freeze(alloc, freeze);
         }
         self.last.freeze(alloc, freeze)
+    }
+
+    /// Begins a compaction of the tablet at a place, as `Tablet::begin` does.
+    pub(crate) fn begin(
+        &mut self,
+        alloc: Global,
+        place: usize,
+        kind: Compaction,
+        floor: i64,
+        versions: u32,
+        number: u64,
+    ) -> Result<Option<Job>, NoMemory>
+        requires { place < length self.old }
+        ensures job { IfOk result (λ job. job ≡ capture number kind floor versions (tablet_at self.old place)) }
+        ensures ok { OnOk result (self.new ≡ at_place place (λ t. begins number kind floor versions t ∷ []) self.old) }
+        ensures err { OnErr result (self.new ≡ self.old) }
+    {
+        if place < self.lower.len() {
+            return self.lower[place].begin(alloc, kind, floor, versions, number);
+        }
+        self.last.begin(alloc, kind, floor, versions, number)
+    }
+
+    /// Installs a finished merge in the tablet at a place, as `Tablet::install` does.
+    pub(crate) fn install_merge(
+        &mut self,
+        alloc: Global,
+        place: usize,
+        finished: Finished,
+    ) -> Result<Installed, NoMemory>
+        requires { place < length self.old }
+        ensures told { IfOk result (λ told. told ≡ (installed_by finished (tablet_at self.old place)).0) }
+        ensures ok { OnOk result (self.new ≡ at_place place (λ t. (installed_by finished t).1 ∷ []) self.old) }
+        ensures err { OnErr result (self.new ≡ self.old) }
+    {
+        if place < self.lower.len() {
+            return self.lower[place].install(alloc, finished);
+        }
+        self.last.install(alloc, finished)
     }
 
     /// Puts tablets in their places that were made before. It can't fail.
@@ -199,6 +242,54 @@ impl Line {
         insert_reserved(&mut self.prefixes, place, prefix);
         self.put(place + 1, upper);
         Ok(())
+    }
+
+    /// Whether the tablet at a place has this number.
+    pub(crate) fn has_number(&self, place: usize, number: u64) -> bool
+        requires { place < length self.now }
+        ensures { result ≡ ((tablet_at self.now place).number == number) }
+    {
+        self.tablet(place).number() == number
+    }
+
+    /// The place of the tablet with this number, if there is one: the first of several. It takes time linear in the tablets.
+    pub(crate) fn place_with(&self, number: u64) -> Option<usize>
+        ensures place { IfSome result (λ place. IsFirstWith number self.now place) }
+        ensures none { result ≡ None → (k : ℕ) → k < length self.now → ((tablet_at self.now k).number == number) ≡ false }
+    {
+        for place in 0..self.len() {
+            if self.has_number(place, number) {
+                return Some(place);
+            }
+        }
+        None
+    }
+
+    /// The number of the first tablet that is due for work of this kind. It takes of each tablet up to that one the time that
+    /// `Tablet::is_due` takes.
+    pub(crate) fn due(&self, kind: DueKind) -> Option<u64>
+        ensures { result ≡ first_due kind self.now }
+    {
+        for place in 0..self.len() {
+            let tablet = self.tablet(place);
+            if tablet.is_due(kind) {
+                return Some(tablet.number());
+            }
+        }
+        None
+    }
+
+    /// The least row of the tablet at a place.
+    ///
+    /// It takes memory for the row. `AllocError` says that it lacked.
+    pub(crate) fn start_at(&self, alloc: Global, place: usize) -> Result<ByteString, AllocError>
+        requires { place < length self.now }
+        ensures { IfOk result (λ row. row ≡ start_at self.now place) }
+    {
+        if place == 0 {
+            return Ok(ByteString::new(alloc));
+        }
+        self.lower[place - 1].row_above(alloc)
     }
 
     /// Whether the row is the end row of the tablet at a place.

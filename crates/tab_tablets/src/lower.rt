@@ -3,15 +3,18 @@ ghost use Rattle.std.specs.Prelude.{◌≡◌, ◌<◌, None, Some, Contains, If
 ghost use Rattle.tab_key.specs.Records.{Record as Fields};
 ghost use Rattle.tab_mutation.specs.Shape.{shape_error};
 ghost use Rattle.tab_cells.specs.Written.{mutation_records};
-ghost use Rattle.tab_tablet.specs.Tablets.{is_up_to, frozen, records_in, written};
+ghost use Rattle.tab_tablet.specs.Tablets.{is_up_to, frozen, records_in, written, capture, begins, installed};
 ghost use Rattle.tab_tablet.specs.Bodies.{IsFreezeOf};
+ghost use Rattle.tab_tablets.specs.Due.{least_above};
 ghost use Rattle.tab_tablets.specs.Places.{ended, is_end_row};
 
 use std::alloc::{AllocError, Global};
 use std::marker::Model;
+use tab_cells::Compaction;
+use tab_iter::NoMemory;
 use tab_key::ByteString;
 use tab_mutation::Mutation;
-use tab_tablet::{Freeze, Tablet};
+use tab_tablet::{Finished, Freeze, Installed, Job, Tablet};
 
 /// A tablet that isn't the last of its table, with the last row that it may hold. A contract sees the tablet with its end row. The
 /// tablet lies apart, so that few bytes are moved where another one is put among many.
@@ -46,6 +49,19 @@ impl Lower {
         ensures { self.now.end ≡ Some result.now }
     {
         &self.end
+    }
+
+    /// The least row above the end row: that and a zero byte.
+    ///
+    /// It takes memory for the row. `AllocError` says that it lacked.
+    pub(crate) fn row_above(&self, alloc: Global) -> Result<ByteString, AllocError>
+        ensures { IfOk result (λ row. row ≡ least_above self.now.end) }
+    {
+        let end = self.end.as_bytes();
+        let mut row = Vec::with_capacity(alloc, end.len() + 1)?;
+        row.extend_from_slice(end)?;
+        row.push(0)?;
+        Ok(ByteString::from_vec(row))
     }
 
     /// Whether the row is at or before the end row.
@@ -89,6 +105,35 @@ impl Lower {
         ensures err { OnErr result (self.new ≡ self.old) }
     {
         self.tablet.write(mutation, seq, clock)
+    }
+
+    /// Begins a compaction, as `Tablet::begin` does.
+    pub(crate) fn begin(
+        &mut self,
+        alloc: Global,
+        kind: Compaction,
+        floor: i64,
+        versions: u32,
+        number: u64,
+    ) -> Result<Option<Job>, NoMemory>
+        ensures job { IfOk result (λ job. job ≡ capture number kind floor versions self.old) }
+        ensures ok { OnOk result (self.new ≡ begins number kind floor versions self.old) }
+        ensures err { OnErr result (self.new ≡ self.old) }
+    {
+        self.tablet.begin(alloc, kind, floor, versions, number)
+    }
+
+    /// Installs a finished merge, as `Tablet::install` does.
+    pub(crate) fn install(
+        &mut self,
+        alloc: Global,
+        finished: Finished,
+    ) -> Result<Installed, NoMemory>
+        ensures told { IfOk result (λ told. told ≡ (installed finished self.old).0) }
+        ensures ok { OnOk result (self.new ≡ (installed finished self.old).1) }
+        ensures err { OnErr result (self.new ≡ self.old) }
+    {
+        self.tablet.install(alloc, finished)
     }
 
     /// Freezes it in its place, as `Tablet::freeze` does.

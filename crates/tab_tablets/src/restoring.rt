@@ -18,50 +18,63 @@ use tab_tablet::{Tablet, rows_above, rows_up_to};
 use tab_version::Clip;
 
 impl Tablets {
-    /// Tablets that end at these rows, and hold these records: each those of its rows, as one sorted table, or no source where there are
-    /// none. Any number of end rows will do; a table that has 4,294,967,295 or more is not split again.
+    /// Tablets that end at these rows, numbered from this number on, and hold these records: each those of its rows, as one sorted table,
+    /// or no source where there are none. Any number of end rows will do; a table that has 4,294,967,295 or more is not split again.
     ///
     /// It takes time linear in the records. Beside the records, which are given back once it is done, it takes the memory that the tables
     /// keep; NoMemory says that it lacked.
     pub fn restored(
         alloc: Global,
+        number: u64,
         ends: Items<ByteString>,
         records: Records,
     ) -> Result<Tablets, NoMemory>
         requires ends { EndRowsRise ends }
         requires records { IsRising records }
-        ensures { IfOk result (λ ts. ts ≡ restored ends records) }
+        ensures { IfOk result (λ ts. ts ≡ restored number ends records) }
     {
         let run = Arc::new(alloc, Run::of(records))?;
         let mut left = Clip::whole(run);
-        let lower = lower_of(alloc, ends.into_vec(), &mut left)?;
-        let last = Tablet::tabled(alloc, &left)?;
+        let mut next = number;
+        let lower = lower_of(alloc, ends.into_vec(), &mut left, &mut next)?;
+        let last = Tablet::tabled(alloc, next, &left)?;
         let line = Line::of(alloc, lower, last)?;
         let written = Vec::new(alloc);
         Ok(Tablets { line, written })
     }
 }
 
-// For each end row the tablet of the rows up to it; what it holds is taken from the records that are left.
-fn lower_of(alloc: Global, ends: Vec<ByteString>, left: &mut Clip) -> Result<Vec<Lower>, NoMemory>
+// For each end row the tablet of the rows up to it, numbered from the next number on; what it holds is taken from the records that are left.
+fn lower_of(
+    alloc: Global,
+    ends: Vec<ByteString>,
+    left: &mut Clip,
+    next: &mut u64,
+) -> Result<Vec<Lower>, NoMemory>
     requires { EndRowsRise ends.items }
-    ensures { IfOk result (λ v. v.items ++ tabled None left.new ∷ [] ≡ restored ends.items left.old) }
+    ensures { IfOk result (λ v. v.items ++ tabled next.new None left.new ∷ [] ≡ restored next.old ends.items left.old) }
 {
     let mut lower = Vec::with_capacity(alloc, ends.len())?;
     for end in ends {
-        lower.push(take_lower(alloc, end, left)?)?;
+        lower.push(take_lower(alloc, *next, end, left)?)?;
+        *next = next.saturating_add(1);
     }
     Ok(lower)
 }
 
-// The tablet of the rows up to this one, which holds the first of the records that are left; the others are left then.
-fn take_lower(alloc: Global, end: ByteString, left: &mut Clip) -> Result<Lower, NoMemory>
-    ensures lower { IfOk result (λ l. l ≡ tabled (Some end) (filter (λ u. is_le (bytes_cmp u.key.row end)) left.old)) }
+// The tablet with this number, of the rows up to this one, which holds the first of the records that are left; the others are left then.
+fn take_lower(
+    alloc: Global,
+    number: u64,
+    end: ByteString,
+    left: &mut Clip,
+) -> Result<Lower, NoMemory>
+    ensures lower { IfOk result (λ l. l ≡ tabled number (Some end) (filter (λ u. is_le (bytes_cmp u.key.row end)) left.old)) }
     ensures left { OnOk result (left.new ≡ filter (λ u. is_gt (bytes_cmp u.key.row end)) left.old) }
 {
     let up_to = rows_up_to(&end)?;
     let own = left.in_rows(&up_to)?;
-    let tablet = Tablet::tabled(alloc, &own)?;
+    let tablet = Tablet::tabled(alloc, number, &own)?;
     let above = rows_above(&end)?;
     *left = left.in_rows(&above)?;
     Lower::new(alloc, end, tablet)

@@ -15,28 +15,40 @@ use tab_tablet::Tablet;
 
 impl Tablets {
     /// Splits the tablet that holds the row, which becomes an end row and belongs to the lower one of the two. Both share the sources
-    /// of the one that there was; what was written to it is frozen. A split that is refused freezes nothing.
+    /// of the one that there was; what was written to it is frozen. The lower one gets this number, the upper one the next. A split
+    /// that is refused freezes nothing.
     ///
     /// `AllocError` leaves all as it was.
-    pub fn split(&mut self, alloc: Global, row: ByteString) -> Result<Split, AllocError>
-        ensures told { IfOk result (λ told. told ≡ (splits row self.old).0) }
-        ensures tablets { OnOk result (self.new ≡ (splits row self.old).1) }
+    pub fn split(
+        &mut self,
+        alloc: Global,
+        row: ByteString,
+        number: u64,
+    ) -> Result<Split, AllocError>
+        ensures told { IfOk result (λ told. told ≡ (splits row number self.old).0) }
+        ensures tablets { OnOk result (self.new ≡ (splits row number self.old).1) }
         ensures err { OnErr result (self.new ≡ self.old) }
     {
         let place = self.line.place_of(row.as_bytes());
         if self.line.is_end_at(place, row.as_bytes()) {
             return Ok(Split::Present);
         }
-        self.split_in(alloc, place, row)
+        self.split_in(alloc, place, row, number)
     }
 
     /// Splits the tablet that holds the row, if its sorted tables come to the limit, in bytes: at the row in the middle of its
-    /// records. A split that is refused freezes nothing.
+    /// records. The lower one of the two gets this number, the upper one the next. A split that is refused freezes nothing.
     ///
     /// It takes memory for a run of what was written to the tablet, too. `AllocError` leaves all as it was.
-    pub fn halve(&mut self, alloc: Global, row: &[u8], limit: u64) -> Result<Split, AllocError>
-        ensures told { IfOk result (λ told. told ≡ (halves row.now limit self.old).0) }
-        ensures tablets { OnOk result (self.new ≡ (halves row.now limit self.old).1) }
+    pub fn halve(
+        &mut self,
+        alloc: Global,
+        row: &[u8],
+        limit: u64,
+        number: u64,
+    ) -> Result<Split, AllocError>
+        ensures told { IfOk result (λ told. told ≡ (halves row.now limit number self.old).0) }
+        ensures tablets { OnOk result (self.new ≡ (halves row.now limit number self.old).1) }
         ensures err { OnErr result (self.new ≡ self.old) }
     {
         let place = self.line.place_of(row);
@@ -45,7 +57,7 @@ impl Tablets {
         }
         match middle_of(alloc, self.line.tablet(place))? {
             None => Ok(Split::OneRow),
-            Some(middle) => self.split_in(alloc, place, middle),
+            Some(middle) => self.split_in(alloc, place, middle, number),
         }
     }
 
@@ -55,28 +67,36 @@ impl Tablets {
         alloc: Global,
         place: usize,
         row: ByteString,
+        number: u64,
     ) -> Result<Split, AllocError>
         requires place { IsPlaceOf row self.old place }
         requires fresh { is_end_row row (tablet_at self.old place).end ≡ false }
-        ensures told { IfOk result (λ told. told ≡ (split_in row self.old).0) }
-        ensures tablets { OnOk result (self.new ≡ (split_in row self.old).1) }
+        ensures told { IfOk result (λ told. told ≡ (split_in row number self.old).0) }
+        ensures tablets { OnOk result (self.new ≡ (split_in row number self.old).1) }
         ensures err { OnErr result (self.new ≡ self.old) }
     {
         if self.line.is_full() {
             return Ok(Split::Full);
         }
-        self.divide(alloc, place, row)?;
+        self.divide(alloc, place, row, number)?;
         Ok(Split::Done)
     }
 
     // Splits it.
-    fn divide(&mut self, alloc: Global, place: usize, row: ByteString) -> Result<(), AllocError>
+    fn divide(
+        &mut self,
+        alloc: Global,
+        place: usize,
+        row: ByteString,
+        number: u64,
+    ) -> Result<(), AllocError>
         requires place { IsPlaceOf row self.old place }
         requires fresh { is_end_row row (tablet_at self.old place).end ≡ false }
-        ensures ok { OnOk result (self.new ≡ at_place place (split_at row) self.old) }
+        ensures ok { OnOk result (self.new ≡ at_place place (split_at row number) self.old) }
         ensures err { OnErr result (self.new ≡ self.old) }
     {
-        let (lower, upper) = self.line.tablet(place).split(alloc, &row)?;
+        let tablet = self.line.tablet(place);
+        let (lower, upper) = tablet.split(alloc, &row, number, number.saturating_add(1))?;
         let written = moved(alloc, &self.written, place, self.line.len())?;
         self.line.divide(alloc, place, row, lower, upper)?;
         self.written = written;

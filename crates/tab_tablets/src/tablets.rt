@@ -35,12 +35,12 @@ impl Model for Tablets {
 }
 
 impl Tablets {
-    /// One tablet, of all rows, without records. It takes no memory.
-    pub fn new(alloc: Global) -> Tablets
-        ensures { result ≡ new_tablet None ∷ [] }
+    /// The tablet with this number alone, of all rows, without records. It takes no memory.
+    pub fn new(alloc: Global, number: u64) -> Tablets
+        ensures { result ≡ new_tablet number None ∷ [] }
     {
         Tablets {
-            line: Line::new(alloc),
+            line: Line::new(alloc, number),
             written: Vec::new(alloc),
         }
     }

@@ -2,7 +2,7 @@ use Rattle.std.proofs.Common.{◌≡◌, ◌∙◌, ℕ, ◌<◌, ◌+◌, List,
 use Rattle.tab_tablet.specs.Tablets.{compacted}
 use Rattle.tab_tablets.specs.Places.{ended, tablet_at, AreMade, is_made}
 use Rattle.tab_tablets.specs.declared.made.Made.{Made}
-use Rattle.tab_tablets.proofs.Installed.{made_more, made_next}
+use Rattle.tab_tablets.proofs.PutIn.{made_more, made_next}
 use Rattle.tab_tablets.proofs.Merged.{compacted_ended}
 use Rattle.tab_tablets.proofs.compacting.compacted_all.Goals as goal
 

@@ -2,7 +2,7 @@ use Rattle.std.proofs.Common.{◌<◌, length, subst, arith, below_more}
 use Rattle.std.proofs.lemmas.List.Elements.{All-from_recursion}
 use Rattle.tab_tablet.specs.Tablets.{frozen}
 use Rattle.tab_tablets.specs.Places.{IsSettled}
-use Rattle.tab_tablets.proofs.Installed.{makes_both, still_settled, among_at}
+use Rattle.tab_tablets.proofs.PutIn.{makes_both, still_settled, among_at}
 use Rattle.tab_tablets.proofs.freezing.freeze_others.Goals as goal
 
 pub freeze_outside-requires-clause-inside : goal.freeze_outside-requires-clause-inside

@@ -2,7 +2,7 @@ use Rattle.std.proofs.Common.{◌∙◌, subst, sym, ap, arith}
 use Rattle.std.specs.Prelude.{map}
 use Rattle.tab_tablet.specs.Tablets.{frozen}
 use Rattle.tab_tablets.specs.Places.{AreMade}
-use Rattle.tab_tablets.proofs.Installed.{settled_next}
+use Rattle.tab_tablets.proofs.PutIn.{settled_next}
 use Rattle.tab_tablets.proofs.Ranges.{in_its_order, range_none, range_more}
 use Rattle.tab_tablets.proofs.opening.clips_in.Goals as goal
 

@@ -9,7 +9,7 @@ pub returns-clause-lower : goal.returns-clause-lower
 returns-clause-lower c =
     subst (λ (t : Tablet). IfOk c.new.result (λ l. l ≡ t))
     (ap (ended (Some c.args.end)) c.in_ok-tablet.ensures
-    ∙ ap (tabled (Some c.args.end)) (c.in_ok-own.ensures ∙ ap (λ (p : List ℕ → Bool). filter (λ (u : Record). p u.key.row) c.args.left.now) c.in_ok-up_to.ensures))
+    ∙ ap (tabled c.args.number (Some c.args.end)) (c.in_ok-own.ensures ∙ ap (λ (p : List ℕ → Bool). filter (λ (u : Record). p u.key.row) c.args.left.now) c.in_ok-up_to.ensures))
     c.new.ensures
 
 pub returns-clause-left : goal.returns-clause-left

@@ -2,7 +2,7 @@ use Rattle.std.proofs.Common.{◌∙◌, length, sym, ap, subst}
 use Rattle.tab_tablet.specs.Tablets.{Tablet}
 use Rattle.tab_tablets.specs.Places.{ended, installed}
 use Rattle.tab_tablets.proofs.At.{same_length}
-use Rattle.tab_tablets.proofs.Installed.{Inside, installed_more, inside_front}
+use Rattle.tab_tablets.proofs.PutIn.{Inside, installed_more, inside_front}
 use Rattle.tab_tablets.proofs.line.Line.install.Goals as goal
 
 pub loop-next-preserved : goal.loop-next-preserved

@@ -1,6 +1,6 @@
 use Rattle.std.proofs.Common.{◌≡◌, length, vec_len}
 use Rattle.tab_tablets.specs.Places.{installed}
-use Rattle.tab_tablets.proofs.Installed.{Inside}
+use Rattle.tab_tablets.proofs.PutIn.{Inside}
 use Rattle.tab_tablets.proofs.line.Line.install.Given as goal
 
 abbrev pub invariant-loop-next : goal.invariant-loop-next

@@ -2,7 +2,7 @@ use Rattle.std.proofs.Common.{◌≡◌, ◌∙◌, inl, ℤ, List, map, sym, su
 use Rattle.tab_tablet.specs.Tablets.{Tablet, compacted}
 use Rattle.tab_tablet.proofs.Compacted.{compacted_in}
 use Rattle.tab_tablets.specs.Places.{AreKept}
-use Rattle.tab_tablets.proofs.Installed.{installed_all}
+use Rattle.tab_tablets.proofs.PutIn.{installed_all}
 use Rattle.tab_tablets.proofs.Kept.{kept_all}
 use Rattle.tab_tablets.proofs.Merged.{compacted_end, compacted_idle}
 use Rattle.tab_tablets.proofs.tablets.Tablets.compact.Goals as goal

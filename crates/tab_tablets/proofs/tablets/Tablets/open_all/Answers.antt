@@ -7,7 +7,7 @@ use Rattle.tab_tablet.proofs.Compacted.{frozen_in}
 use Rattle.tab_tablets.specs.ByRow.{LieApart, records_of_all}
 use Rattle.tab_tablets.specs.Places.{AreKept, IsSettled, is_among}
 use Rattle.tab_tablets.proofs.Idle.{waits_settled}
-use Rattle.tab_tablets.proofs.Installed.{installed_all}
+use Rattle.tab_tablets.proofs.PutIn.{installed_all}
 use Rattle.tab_tablets.proofs.Kept.{kept_all}
 use Rattle.tab_tablets.proofs.Ranges.{clips_rise, clips_show}
 use Rattle.tab_tablets.proofs.tablets.Tablets.open_all.Goals as goal

@@ -17,7 +17,7 @@ of-requires c =
     clips_rise c.args.bounds.now c.self.inside.line c.self.invariant.rows (subst LieApart (sym c.self.view_is) c.requires.apart) c.first_met-from.result c.end_met.result c.max-end.result order reach c.first_met-from.ensures.low c.end_met.ensures.high c.in_ok-clips.clips.items c.in_ok-clips.ensures
 
 pub clips_with-requires-clause-freeze : goal.clips_with-requires-clause-freeze
-clips_with-requires-clause-freeze c = freeze_there (tablet_at c.self.inside.line c.args.place) _ _ c.tablet-2.ensures c.in_ok-prepared.ensures
+clips_with-requires-clause-freeze c = freeze_there (tablet_at c.self.inside.line c.args.place) c.tablet-2.result.now c.in_ok-prepared.prepared c.tablet-2.ensures c.in_ok-prepared.ensures
 
 pub invariant_of-self : goal.invariant_of-self
 invariant_of-self c = subst (λ ts. AreKept ts c.self.inside.written.items) (sym c.in_err-freeze.ensures.err) c.self.invariant

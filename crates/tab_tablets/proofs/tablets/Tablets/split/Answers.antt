@@ -15,20 +15,20 @@ asked row line now p first second v same whole a b place e =
 
 pub returns-then-is_end_at-clause-told : goal.returns-then-is_end_at-clause-told
 returns-then-is_end_at-clause-told c =
-    sym (ap (λ (x : Split × List Tablet). x.0) (present c.args.row c.args.self.now (asked c.args.row c.self.inside.line c.args.self.now c.place_of-place.result c.as_bytes.result.now c.as_bytes-2.result.now c.is_end_at.result c.self.view_is c.self.invariant.whole c.as_bytes.ensures c.as_bytes-2.ensures c.place_of-place.ensures c.is_end_at.ensures ∙ c.if-is_end_at.true)))
+    sym (ap (λ (x : Split × List Tablet). x.0) (present c.args.row c.args.number c.args.self.now (asked c.args.row c.self.inside.line c.args.self.now c.place_of-place.result c.as_bytes.result.now c.as_bytes-2.result.now c.is_end_at.result c.self.view_is c.self.invariant.whole c.as_bytes.ensures c.as_bytes-2.ensures c.place_of-place.ensures c.is_end_at.ensures ∙ c.if-is_end_at.true)))
 
 pub returns-then-is_end_at-clause-tablets : goal.returns-then-is_end_at-clause-tablets
 returns-then-is_end_at-clause-tablets c =
-    sym (ap (λ (x : Split × List Tablet). x.1) (present c.args.row c.args.self.now (asked c.args.row c.self.inside.line c.args.self.now c.place_of-place.result c.as_bytes.result.now c.as_bytes-2.result.now c.is_end_at.result c.self.view_is c.self.invariant.whole c.as_bytes.ensures c.as_bytes-2.ensures c.place_of-place.ensures c.is_end_at.ensures ∙ c.if-is_end_at.true)))
+    sym (ap (λ (x : Split × List Tablet). x.1) (present c.args.row c.args.number c.args.self.now (asked c.args.row c.self.inside.line c.args.self.now c.place_of-place.result c.as_bytes.result.now c.as_bytes-2.result.now c.is_end_at.result c.self.view_is c.self.invariant.whole c.as_bytes.ensures c.as_bytes-2.ensures c.place_of-place.ensures c.is_end_at.ensures ∙ c.if-is_end_at.true)))
 
 pub returns-clause-told : goal.returns-clause-told
 returns-clause-told c =
     subst (λ (x : Split). IfOk c.split_in.result (λ told. told ≡ x))
-    (sym (ap (λ (x : Split × List Tablet). x.0) (absent c.args.row c.args.self.now (asked c.args.row c.self.inside.line c.args.self.now c.place_of-place.result c.as_bytes.result.now c.as_bytes-2.result.now c.is_end_at.result c.self.view_is c.self.invariant.whole c.as_bytes.ensures c.as_bytes-2.ensures c.place_of-place.ensures c.is_end_at.ensures ∙ c.if-is_end_at.false))))
+    (sym (ap (λ (x : Split × List Tablet). x.0) (absent c.args.row c.args.number c.args.self.now (asked c.args.row c.self.inside.line c.args.self.now c.place_of-place.result c.as_bytes.result.now c.as_bytes-2.result.now c.is_end_at.result c.self.view_is c.self.invariant.whole c.as_bytes.ensures c.as_bytes-2.ensures c.place_of-place.ensures c.is_end_at.ensures ∙ c.if-is_end_at.false))))
     c.split_in.ensures.told
 
 pub returns-clause-tablets : goal.returns-clause-tablets
 returns-clause-tablets c =
     subst (λ (ts : List Tablet). OnOk c.split_in.result (c.split_in.new.self ≡ ts))
-    (sym (ap (λ (x : Split × List Tablet). x.1) (absent c.args.row c.args.self.now (asked c.args.row c.self.inside.line c.args.self.now c.place_of-place.result c.as_bytes.result.now c.as_bytes-2.result.now c.is_end_at.result c.self.view_is c.self.invariant.whole c.as_bytes.ensures c.as_bytes-2.ensures c.place_of-place.ensures c.is_end_at.ensures ∙ c.if-is_end_at.false))))
+    (sym (ap (λ (x : Split × List Tablet). x.1) (absent c.args.row c.args.number c.args.self.now (asked c.args.row c.self.inside.line c.args.self.now c.place_of-place.result c.as_bytes.result.now c.as_bytes-2.result.now c.is_end_at.result c.self.view_is c.self.invariant.whole c.as_bytes.ensures c.as_bytes-2.ensures c.place_of-place.ensures c.is_end_at.ensures ∙ c.if-is_end_at.false))))
     c.split_in.ensures.tablets
