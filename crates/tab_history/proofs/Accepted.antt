@@ -4,20 +4,21 @@ use Rattle.std.specs.Prelude.{ℤ, Option, Some, None}
 use mathlib.Core.Bool.{true≢false}
 use Rattle.tab_key.specs.declared.part.Part.TheVariants.{Sessions}
 use Rattle.tab_history.specs.declared.event.Act.{Act}
-use Rattle.tab_history.specs.declared.event.Act.TheVariants.{Open, Status, AddSplit, SplitBySize, Splits}
+use Rattle.tab_history.specs.declared.event.Act.TheVariants.{Open, Status, AddSplit, SplitBySize, Splits, Begin, Install}
 use Rattle.tab_history.specs.declared.event.Event.{Event as TheEvent}
 use Rattle.tab_history.specs.declared.event.Step.{Step}
 use Rattle.tab_history.specs.declared.event.Step.TheVariants.{Event}
 use Rattle.tab_history.specs.declared.reply.Refusal.{Refusal}
 use Rattle.tab_history.specs.declared.reply.Refusal.TheVariants.{NoMemory, TooLarge}
 use Rattle.tab_history.specs.declared.reply.Reply.TheVariants.{Refused}
-use Rattle.tab_history.specs.Answers.{Told, granted, told, are_used_up, numbered, event_answer, is_open, answer, leaves_open, changes_by}
+use Rattle.tab_history.specs.Answers.{Told, granted, told, are_used_up, numbered, event_answer, is_open, empty_slot, slotted, answer, leaves_open, changes_by}
 use Rattle.tab_history.specs.Bases.{Base}
 use Rattle.tab_history.specs.Changes.{Change, changes_of}
 use Rattle.tab_history.specs.Checks.{Caller, standing, user_named, exists_in, action_of, denial, own_checks, refusal_of}
-use Rattle.tab_history.specs.Histories.{Entry, World, clock_of, clock_at, journal, user_of, moves_of}
+use Rattle.tab_history.specs.Histories.{Entry, World, clock_of, clock_at, journal, user_of, moves_of, jobs_of}
 use Rattle.tab_history.specs.Legal.{answer_at, IsAnswer, LacksMemory}
 use Rattle.tab_history.specs.Sessions.{Move, is_full}
+use Rattle.tab_history.specs.Jobs.{JobMove}
 use Rattle.tab_policy.specs.Decisions.{decision}
 use Rattle.tab_mutation.specs.Shape.{first_some}
 use Rattle.tab_history.proofs.Options.{or_else_right}
@@ -34,6 +35,8 @@ open_changes now user (Status t) o = refl
 open_changes now user (AddSplit t row) o = refl
 open_changes now user (SplitBySize t row limit) o = refl
 open_changes now user (Splits t) o = refl
+open_changes now user (Begin t row kind) o = refl
+open_changes now user (Install t given) o = refl
 open_changes now user _ o = absurd (true≢false (sym o))
 
 -- what holds of no change, and of what each event changes that isn't refused
@@ -51,15 +54,19 @@ module _ (b : Base) (j : List Change) (now : ℤ) (P : List Change → Type 0) (
   of_told e c None false f = of_granted e c e.act (f refl)
   of_told e c (Some x) used_up f = none
 
+  of_slot : (e : TheEvent) (o : Option ℕ) (reply : Told) → P (changes_by now (Event e) reply) → P (changes_by now (Event e) (slotted o reply))
+  of_slot e None reply p = p
+  of_slot e (Some slot) reply p = none
+
   -- holds of what a step and its answer change
-  of_answer : ((e : TheEvent) → refusal_of (standing b j e.user) (exists_in b j (user_named e.act)) now e.user e.act ≡ None → P (changes_of now e.user e.act)) → (moves : List Move) (step : Step) → P (changes_by now step (answer b j moves now step))
+  of_answer : ((e : TheEvent) → refusal_of (standing b j e.user) (exists_in b j (user_named e.act)) now e.user e.act ≡ None → P (changes_of now e.user e.act)) → (moves : List Move) (jobs : List JobMove) (step : Step) → P (changes_by now step (answer b j moves jobs now step))
   unfolding answer
-  of_answer f moves (Event e) = go (is_open e.act && is_full moves)
+  of_answer f moves jobs (Event e) = go (is_open e.act && is_full moves)
     where
-      go : (v : Bool) → P (changes_by now (Event e) (cond v (Refused (TooLarge Sessions)) (event_answer b j now e.user e.act)))
+      go : (v : Bool) → P (changes_by now (Event e) (cond v (Refused (TooLarge Sessions)) (slotted (empty_slot jobs e.act) (event_answer b j now e.user e.act))))
       go true = none
-      go false = of_told e (standing b j e.user) (refusal_of (standing b j e.user) (exists_in b j (user_named e.act)) now e.user e.act) (are_used_up b j e.act) (f e)
-  of_answer f moves _ = none
+      go false = of_slot e (empty_slot jobs e.act) _ (of_told e (standing b j e.user) (refusal_of (standing b j e.user) (exists_in b j (user_named e.act)) now e.user e.act) (are_used_up b j e.act) (f e))
+  of_answer f moves jobs _ = none
 
   -- nothing changes where the reply is left open
   of_open : (step : Step) (r : Told) (e : TheEvent) → step ≡ Event e → leaves_open e.act ≡ true → P (changes_by now step r)
@@ -75,5 +82,5 @@ pub of_legal : (w : World) (es own : List Entry) (step : Step) (r : Told) (P : L
     → IsAnswer w es own step r ⊎ LacksMemory step r → P (changes_by (clock_at (clock_of w es) step) step r)
 of_legal w es own step r P none f (inl h) =
     let now = clock_at (clock_of w es) step in
-    of_reply (λ x. P (changes_by now step x)) step (answer_at w es own step) r h (of_answer w.base (journal w es) now P none f (moves_of w (user_of step) own) step) (λ e q o m. of_open w.base (journal w es) now P none step r e q o)
+    of_reply (λ x. P (changes_by now step x)) step (answer_at w es own step) r h (of_answer w.base (journal w es) now P none f (moves_of w (user_of step) own) (jobs_of own) step) (λ e q o m. of_open w.base (journal w es) now P none step r e q o)
 of_legal w es own step r P none f (inr e) = subst (λ x. P (changes_by (clock_at (clock_of w es) step) step x)) (sym e.1) (of_refused w.base (journal w es) (clock_at (clock_of w es) step) P none step NoMemory)

@@ -10,7 +10,7 @@ use Rattle.tab_policy.specs.declared.permission.Permission.TheVariants.{OfSystem
 use Rattle.tab_history.specs.declared.event.TimeMode.{TimeMode}
 use Rattle.tab_history.specs.declared.event.TimeMode.TheVariants.{Any, Server}
 use Rattle.tab_history.specs.declared.event.Act.{Act}
-use Rattle.tab_history.specs.declared.event.Act.TheVariants.{Open, Write, CreateTable, DropTable, SetConstraints, CreateUser, DropUser, SetAuths, Grant, Revoke, Rights, Status, Flush, Compact, AddSplit, SplitBySize, Splits, Save, Load}
+use Rattle.tab_history.specs.declared.event.Act.TheVariants.{Open, Write, CreateTable, DropTable, SetConstraints, CreateUser, DropUser, SetAuths, Grant, Revoke, Rights, Status, Flush, Compact, AddSplit, SplitBySize, Splits, Save, Load, Begin, Install}
 use Rattle.tab_history.specs.declared.event.Step.{Step}
 use Rattle.tab_history.specs.declared.reply.Refusal.TheVariants.{TimestampNotAllowed, BelowHorizon}
 use Rattle.tab_key.specs.Records.{Record}
@@ -124,6 +124,8 @@ module _ (b : Base) (j : List Change) (now : ℤ) (user : List ℕ) where
   act_fits there (Splits t) e = tt
   act_fits there Save e = tt
   act_fits there Load e = tt
+  act_fits there (Begin t row kind) e = tt
+  act_fits there (Install t given) e = tt
 
 -- and so do those of each entry of a legal history
 pub fits_legal : (w : World) (es own : List Entry) (step : Step) (r : Told) → IsAnswer w es own step r ⊎ LacksMemory step r → FitAll w.base (journal w es) (clock_at (clock_of w es) step) (changes_by (clock_at (clock_of w es) step) step r)

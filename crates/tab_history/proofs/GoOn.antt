@@ -8,19 +8,20 @@ use Rattle.tab_history.specs.declared.event.Act.{Act}
 use Rattle.tab_history.specs.declared.event.Act.TheVariants.{Open, Write, CreateTable, CreateUser}
 use Rattle.tab_history.specs.declared.event.Event.{Event as TheEvent}
 use Rattle.tab_history.specs.declared.event.Step.{Step}
-use Rattle.tab_history.specs.declared.event.Step.TheVariants.{Event, Next, Many, Close}
-use Rattle.tab_history.specs.declared.reply.Refusal.TheVariants.{NoMemory, TooLarge, NoSession}
+use Rattle.tab_history.specs.declared.event.Step.TheVariants.{Event, Next, Many, Close, Merge}
+use Rattle.tab_history.specs.declared.reply.Refusal.TheVariants.{NoMemory, TooLarge, NoSession, NoJob}
 use Rattle.tab_history.specs.declared.reply.Reply.TheVariants.{Done, Refused, Opened, Batch}
-use Rattle.tab_history.specs.Answers.{Told, granted, told, are_used_up, numbered, event_answer, is_open, answer, IsReply, query_of, listed, session_list, changes_by, moves_by}
+use Rattle.tab_history.specs.Answers.{Told, granted, told, are_used_up, numbered, event_answer, is_open, empty_slot, slotted, answer, IsReply, query_of, listed, session_list, changes_by, moves_by}
 use Rattle.tab_cells.specs.Cells.{cells}
 use Rattle.tab_history.specs.Changes.{changes_of}
 use Rattle.tab_history.specs.Checks.{standing, user_named, exists_in, refusal_of}
 use Rattle.tab_history.specs.Held.{floor_of, RefinesTable}
-use Rattle.tab_history.specs.Histories.{Entry, World, clock_after, clock_of, clock_at, journal, world_after, user_of, is_by, moves_of}
+use Rattle.tab_history.specs.Histories.{Entry, World, clock_after, clock_of, clock_at, journal, world_after, user_of, is_by, moves_of, jobs_of}
 use Rattle.tab_history.specs.Legal.{answer_at, IsAnswer, LacksMemory, Legal, LegalAlone}
 use Rattle.tab_policy.specs.Roots.{root}
 use Rattle.tab_history.specs.Readings.{settings_of, next_number, updates_of}
 use Rattle.tab_history.specs.Sessions.{Move, Opening, is_full}
+use Rattle.tab_history.specs.Jobs.{JobMove}
 use Rattle.tab_history.specs.Settings.{Settings}
 use Rattle.tab_history.specs.Refinement.{Refines, GoOnAlike}
 use Rattle.tab_history.proofs.Fitting.{fits_legal}
@@ -42,6 +43,7 @@ pub clock_grows : (step : Step) (r : Told) (c : ℤ) → int_le c (clock_after s
 clock_grows (Event e) (Refused NoMemory) c = le_self c
 clock_grows (Event e) (Refused (TooLarge Sessions)) c = le_self c
 clock_grows (Event e) (Refused (NoSession slot)) c = le_self c
+clock_grows (Event e) (Refused (NoJob slot)) c = le_self c
 clock_grows (Event e) _ c = max_left c e.moment
 clock_grows _ r c = le_self c
 
@@ -80,10 +82,10 @@ module _ (v w : World) (h : Refines v w) where
   event_same : (now : ℤ) (user : List ℕ) (act : Act) → event_answer v.base v.changes now user act ≡ event_answer w.base w.changes now user act
   event_same now user act = λ i. told (refusal_of (standing_same user i) (exists_same (user_named act) i) now user act) (numbered (used_up_same act i) (granted (standing_same user i) act))
 
-  pub answer_same : (moves : List Move) (now : ℤ) (step : Step) → answer v.base v.changes moves now step ≡ answer w.base w.changes moves now step
+  pub answer_same : (moves : List Move) (jobs : List JobMove) (now : ℤ) (step : Step) → answer v.base v.changes moves jobs now step ≡ answer w.base w.changes moves jobs now step
   unfolding answer
-  answer_same moves now (Event e) = λ i. cond (is_open e.act && is_full moves) (Refused (TooLarge Sessions)) (event_same now e.user e.act i)
-  answer_same moves now _ = refl
+  answer_same moves jobs now (Event e) = λ i. cond (is_open e.act && is_full moves) (Refused (TooLarge Sessions)) (slotted (empty_slot jobs e.act) (event_same now e.user e.act i))
+  answer_same moves jobs now _ = refl
 
   pub list_same : (act : Act) → session_list v.base v.changes act ≡ session_list w.base w.changes act
   unfolding session_list
@@ -103,21 +105,22 @@ module _ (v w : World) (h : Refines v w) where
   moves_same (Many user slot ranges) _ = refl
   moves_same (Close user slot) Done = refl
   moves_same (Close user slot) _ = refl
+  moves_same (Merge slot) _ = refl
 
 -- ---- an answer of the one is an answer of the other
 record Agreeing (v w : World) (es own : List Entry) : Type 0 where
   clock : clock_of v es ≡ clock_of w es
   moves : (user : List ℕ) → moves_of v user own ≡ moves_of w user own
-  answers : (moves : List Move) (now : ℤ) (step : Step) → answer v.base (journal v es) moves now step ≡ answer w.base (journal w es) moves now step
+  answers : (moves : List Move) (jobs : List JobMove) (now : ℤ) (step : Step) → answer v.base (journal v es) moves jobs now step ≡ answer w.base (journal w es) moves jobs now step
 
 agreeing_back : (v w : World) (es own : List Entry) → Agreeing v w es own → Agreeing w v es own
-agreeing_back v w es own a = record { clock = sym a.clock; moves = λ u. sym (a.moves u); answers = λ ms now step. sym (a.answers ms now step) }
+agreeing_back v w es own a = record { clock = sym a.clock; moves = λ u. sym (a.moves u); answers = λ ms jobs now step. sym (a.answers ms jobs now step) }
 
 answer_too : (v w : World) (es own : List Entry) → Agreeing v w es own → (step : Step) (r : Told) → IsAnswer v es own step r → IsAnswer w es own step r
 answer_too v w es own a step r h = subst (λ x. IsReply step x r) both h
   where
     both : answer_at v es own step ≡ answer_at w es own step
-    both = (λ i. answer v.base (journal v es) (a.moves (user_of step) i) (clock_at (a.clock i) step) step) ∙ a.answers (moves_of w (user_of step) own) (clock_at (clock_of w es) step) step
+    both = (λ i. answer v.base (journal v es) (a.moves (user_of step) i) (jobs_of own) (clock_at (a.clock i) step) step) ∙ a.answers (moves_of w (user_of step) own) (jobs_of own) (clock_at (clock_of w es) step) step
 
 either_too : (v w : World) (es own : List Entry) → Agreeing v w es own → (step : Step) (r : Told) → IsAnswer v es own step r ⊎ LacksMemory step r → IsAnswer w es own step r ⊎ LacksMemory step r
 either_too v w es own a step r (inl h) = inl (answer_too v w es own a step r h)

@@ -20,10 +20,10 @@ use Rattle.tab_policy.specs.declared.decision.Denial.TheVariants as policy
 use Rattle.tab_policy.specs.declared.permission.Permission.{Permission}
 use Rattle.tab_policy.specs.declared.permission.Permission.TheVariants.{OfSystem, OfTable}
 use Rattle.tab_history.specs.declared.event.Act.{Act}
-use Rattle.tab_history.specs.declared.event.Act.TheVariants.{Open, Write, CreateTable, DropTable, SetConstraints, CreateUser, DropUser, SetAuths, Grant, Revoke, Rights as AsksRights, Status, Flush, Compact, AddSplit, SplitBySize, Splits, Save, Load}
+use Rattle.tab_history.specs.declared.event.Act.TheVariants.{Open, Write, CreateTable, DropTable, SetConstraints, CreateUser, DropUser, SetAuths, Grant, Revoke, Rights as AsksRights, Status, Flush, Compact, AddSplit, SplitBySize, Splits, Save, Load, Begin, Install}
 use Rattle.tab_history.specs.declared.event.Scan.{Scan}
 use Rattle.tab_history.specs.declared.event.Step.{Step}
-use Rattle.tab_history.specs.declared.event.Step.TheVariants.{Event, Next, Many, Close}
+use Rattle.tab_history.specs.declared.event.Step.TheVariants.{Event, Next, Many, Close, Merge}
 use Rattle.tab_history.specs.declared.reply.Refusal.{Refusal}
 use Rattle.tab_history.specs.declared.reply.Refusal.TheVariants.{NoMemory, TooLarge, TableExists, UserExists, NoUser, BadAuthorizations, BadRange, TimestampNotAllowed, BelowHorizon, RootFixed, GrantInvalid}
 use Rattle.tab_history.specs.declared.reply.Reply.TheVariants.{Refused}
@@ -31,10 +31,11 @@ use Rattle.tab_history.specs.Settings.{Settings, takes_timestamps}
 use Rattle.tab_history.specs.Bases.{Base}
 use Rattle.tab_history.specs.Changes.{Change}
 use Rattle.tab_history.specs.Checks.{Caller, standing, user_named, exists_in, action_of, denial, shape_refusal, malformed_at, malformed, stamped, outdated, violated, mutation_checks, too_many_auths, scan_checks, is_grant, right_checks, own_checks, refusal_of, many_checks}
-use Rattle.tab_history.specs.Answers.{Told, granted, told, are_used_up, numbered, event_answer, is_open, next_answer, many_answer, close_answer, answer, leaves_open, MayTell}
+use Rattle.tab_history.specs.Answers.{Told, granted, told, are_used_up, numbered, event_answer, is_open, next_answer, many_answer, close_answer, merge_answer, empty_slot, slotted, answer, leaves_open, MayTell}
 use Rattle.tab_history.specs.Sessions.{Move, is_full, session_in}
+use Rattle.tab_history.specs.Jobs.{JobMove, job_in, is_waiting}
 use Rattle.tab_cells.specs.SessionState.{SessionState}
-use Rattle.tab_history.specs.Histories.{Entry, World, clock_of, clock_at, journal, user_of, moves_of}
+use Rattle.tab_history.specs.Histories.{Entry, World, clock_of, clock_at, journal, user_of, moves_of, jobs_of}
 use Rattle.tab_history.specs.Legal.{answer_at, IsAnswer, LacksMemory, may_lack, Legal, LegalAlone, LacksWhereItMay}
 use Rattle.tab_history.specs.Runs.{MemoryLacksWhereItMay}
 use Rattle.tab_history.proofs.LeftOpen.{of_reply}
@@ -152,6 +153,8 @@ of_own c there now (SplitBySize t row limit) = (unless _ _ refl, tt)
 of_own c there now (Splits t) = tt
 of_own c there now Save = tt
 of_own c there now Load = tt
+of_own c there now (Begin t row kind) = tt
+of_own c there now (Install t given) = tt
 
 of_refusal : (c : Caller) (there : Bool) (now : ℤ) (user : List ℕ) (act : Act) → Speaks (refusal_of c there now user act)
 unfolding refusal_of
@@ -186,16 +189,25 @@ of_close : (o : Option SessionState) (slot : ℕ) → tells_want (close_answer o
 of_close None slot = refl
 of_close (Some held) slot = refl
 
-of_answer : (b : Base) (j : List Change) (moves : List Move) (now : ℤ) (step : Step) → tells_want (answer b j moves now step) ≡ false
+of_merge : (waits : Bool) (slot : ℕ) → tells_want (merge_answer waits slot) ≡ false
+of_merge true slot = refl
+of_merge false slot = refl
+
+of_slot : (o : Option ℕ) (reply : Told) → tells_want reply ≡ false → tells_want (slotted o reply) ≡ false
+of_slot None reply h = h
+of_slot (Some slot) reply h = refl
+
+of_answer : (b : Base) (j : List Change) (moves : List Move) (jobs : List JobMove) (now : ℤ) (step : Step) → tells_want (answer b j moves jobs now step) ≡ false
 unfolding answer
-of_answer b j moves now (Event e) = go (is_open e.act && is_full moves)
+of_answer b j moves jobs now (Event e) = go (is_open e.act && is_full moves)
   where
-    go : (v : Bool) → tells_want (cond v (Refused (TooLarge Sessions)) (event_answer b j now e.user e.act)) ≡ false
+    go : (v : Bool) → tells_want (cond v (Refused (TooLarge Sessions)) (slotted (empty_slot jobs e.act) (event_answer b j now e.user e.act))) ≡ false
     go true = refl
-    go false = of_told (refusal_of (standing b j e.user) (exists_in b j (user_named e.act)) now e.user e.act) _ (of_refusal (standing b j e.user) (exists_in b j (user_named e.act)) now e.user e.act) (of_numbered (are_used_up b j e.act) (standing b j e.user) e.act)
-of_answer b j moves now (Next user slot n) = of_next (session_in moves slot) slot n
-of_answer b j moves now (Many user slot ranges) = of_many (session_in moves slot) slot ranges
-of_answer b j moves now (Close user slot) = of_close (session_in moves slot) slot
+    go false = of_slot (empty_slot jobs e.act) _ (of_told (refusal_of (standing b j e.user) (exists_in b j (user_named e.act)) now e.user e.act) _ (of_refusal (standing b j e.user) (exists_in b j (user_named e.act)) now e.user e.act) (of_numbered (are_used_up b j e.act) (standing b j e.user) e.act))
+of_answer b j moves jobs now (Next user slot n) = of_next (session_in moves slot) slot n
+of_answer b j moves jobs now (Many user slot ranges) = of_many (session_in moves slot) slot ranges
+of_answer b j moves jobs now (Close user slot) = of_close (session_in moves slot) slot
+of_answer b j moves jobs now (Merge slot) = of_merge (is_waiting (job_in jobs slot)) slot
 
 -- what may be told in the place of an answer isn't want of memory either
 of_open : (act : Act) (plain reply : Told) → tells_want plain ≡ false → leaves_open act ≡ true → MayTell act plain reply → tells_want reply ≡ false
@@ -208,13 +220,18 @@ of_open (SplitBySize t row limit) plain reply p o (inr (inl e)) = ap tells_want 
 of_open (SplitBySize t row limit) plain reply p o (inr (inr (inl e))) = ap tells_want e
 of_open (SplitBySize t row limit) plain reply p o (inr (inr (inr e))) = ap tells_want e
 of_open (Splits t) plain reply p o m = ap tells_want m.1
+of_open (Begin t row kind) plain reply p o (inl e) = ap tells_want e
+of_open (Begin t row kind) plain reply p o (inr (inl e)) = ap tells_want e
+of_open (Begin t row kind) plain reply p o (inr (inr e)) = ap tells_want e
+of_open (Install t given) plain reply p o (inl e) = ap tells_want e ∙ p
+of_open (Install t given) plain reply p o (inr s) = ap tells_want s.1
 of_open _ plain reply p o m = absurd (true≢false (sym o))
 
 -- ---- histories
 one : (w : World) (es own : List Entry) (e : Entry) → IsAnswer w es own e.step e.reply ⊎ LacksMemory e.step e.reply → e.reply ≡ Refused NoMemory → may_lack e.step ≡ true
 one w es own e (inl is) lacks =
     let plain = answer_at w es own e.step in
-    let speaks : tells_want plain ≡ false = of_answer w.base (journal w es) (moves_of w (user_of e.step) own) (clock_at (clock_of w es) e.step) e.step in
+    let speaks : tells_want plain ≡ false = of_answer w.base (journal w es) (moves_of w (user_of e.step) own) (jobs_of own) (clock_at (clock_of w es) e.step) e.step in
     absurd (true≢false (sym (ap tells_want lacks) ∙ of_reply (λ r. tells_want r ≡ false) e.step plain e.reply is speaks (λ f q o m. of_open f.act plain e.reply speaks o m)))
 one w es own e (inr lacks) is = lacks.0
 

@@ -2,10 +2,10 @@
 use Rattle.std.proofs.Common.{◌≡◌, inl, [], true, false, refl, sym, ◌∙◌, ap, subst}
 use mathlib.Core.Bool.{true≢false}
 use Rattle.tab_history.specs.declared.event.Act.{Act}
-use Rattle.tab_history.specs.declared.event.Act.TheVariants.{Open, Write, CreateTable, DropTable, SetConstraints, CreateUser, DropUser, SetAuths, Grant, Revoke, Rights, Status, Flush, Compact, AddSplit, SplitBySize, Splits, Save, Load}
+use Rattle.tab_history.specs.declared.event.Act.TheVariants.{Open, Write, CreateTable, DropTable, SetConstraints, CreateUser, DropUser, SetAuths, Grant, Revoke, Rights, Status, Flush, Compact, AddSplit, SplitBySize, Splits, Save, Load, Begin, Install}
 use Rattle.tab_history.specs.declared.event.Event.{Event as TheEvent}
 use Rattle.tab_history.specs.declared.event.Step.{Step}
-use Rattle.tab_history.specs.declared.event.Step.TheVariants.{Event, Next, Many, Close}
+use Rattle.tab_history.specs.declared.event.Step.TheVariants.{Event, Next, Many, Close, Merge}
 use Rattle.tab_history.specs.declared.reply.Reply.TheVariants.{Refused}
 use Rattle.tab_history.specs.Answers.{Told, leaves_open, MayTell, IsEventReply, IsReply}
 use Rattle.tab_history.specs.Runs.{is_left_open, one_of, one_reply}
@@ -32,6 +32,8 @@ closed_told (SplitBySize t row limit) plain reply n m = absurd (true≢false n)
 closed_told (Splits t) plain reply n m = absurd (true≢false n)
 closed_told Save plain reply n e = e
 closed_told Load plain reply n e = e
+closed_told (Begin t row kind) plain reply n m = absurd (true≢false n)
+closed_told (Install t given) plain reply n m = absurd (true≢false n)
 
 -- ---- what holds of the one answer, and of all that may be told where it is left open, holds of what is told
 pub of_told : (P : Told → Type 0) (act : Act) (plain reply : Told) → MayTell act plain reply → P plain → (leaves_open act ≡ true → P reply) → P reply
@@ -46,6 +48,7 @@ of_reply P (Event e) plain reply h p f = of_event P e.act plain reply h p (f e r
 of_reply P (Next user slot n) plain reply h p f = subst P (sym h) p
 of_reply P (Many user slot ranges) plain reply h p f = subst P (sym h) p
 of_reply P (Close user slot) plain reply h p f = subst P (sym h) p
+of_reply P (Merge slot) plain reply h p f = subst P (sym h) p
 
 pub closed_reply : (step : Step) (plain reply : Told) → is_left_open step ≡ false → IsReply step plain reply → reply ≡ plain
 closed_reply step plain reply n h = of_reply (λ r. r ≡ plain) step plain reply h refl (λ e q o m. absurd (true≢false (sym (ap is_left_open q ∙ o) ∙ n)))
@@ -70,6 +73,8 @@ closed_tells (SplitBySize t row limit) plain n = absurd (true≢false n)
 closed_tells (Splits t) plain n = absurd (true≢false n)
 closed_tells Save plain n = refl
 closed_tells Load plain n = refl
+closed_tells (Begin t row kind) plain n = absurd (true≢false n)
+closed_tells (Install t given) plain n = absurd (true≢false n)
 
 pub plain_event : (act : Act) (plain : Told) → leaves_open act ≡ false → IsEventReply act plain plain
 plain_event act (Refused r) n = refl
@@ -80,6 +85,7 @@ plain_reply (Event e) plain n = plain_event e.act plain n
 plain_reply (Next user slot k) plain n = refl
 plain_reply (Many user slot ranges) plain n = refl
 plain_reply (Close user slot) plain n = refl
+plain_reply (Merge slot) plain n = refl
 
 -- ---- a reply that may be told
 one_is_told : (act : Act) (plain : Told) → MayTell act plain (one_of act plain)
@@ -102,6 +108,8 @@ one_is_told (SplitBySize t row limit) plain = inl refl
 one_is_told (Splits t) plain = ([], refl)
 one_is_told Save plain = refl
 one_is_told Load plain = refl
+one_is_told (Begin t row kind) plain = inl refl
+one_is_told (Install t given) plain = inl refl
 
 pub one_is_reply : (step : Step) (plain : Told) → IsReply step plain (one_reply step plain)
 one_is_reply (Event e) (Refused r) = refl
@@ -109,3 +117,4 @@ one_is_reply (Event e) plain = one_is_told e.act plain
 one_is_reply (Next user slot n) plain = refl
 one_is_reply (Many user slot ranges) plain = refl
 one_is_reply (Close user slot) plain = refl
+one_is_reply (Merge slot) plain = refl

@@ -8,7 +8,7 @@ use Rattle.tab_policy.specs.Permissions.{same_system}
 use Rattle.tab_policy.specs.Roots.{root}
 use Rattle.tab_mutation.specs.Shape.{first_some, when}
 use Rattle.tab_history.specs.declared.event.Act.{Act}
-use Rattle.tab_history.specs.declared.event.Act.TheVariants.{Open, Write, CreateTable, DropTable, SetConstraints, CreateUser, DropUser, SetAuths, Grant, Revoke, Rights, Status, Flush, Compact, AddSplit, SplitBySize, Splits, Save, Load}
+use Rattle.tab_history.specs.declared.event.Act.TheVariants.{Open, Write, CreateTable, DropTable, SetConstraints, CreateUser, DropUser, SetAuths, Grant, Revoke, Rights, Status, Flush, Compact, AddSplit, SplitBySize, Splits, Save, Load, Begin, Install}
 use Rattle.tab_history.specs.declared.reply.Refusal.TheVariants.{NoUser, RootFixed, GrantInvalid}
 use Rattle.tab_history.specs.Bases.{Base, new_core}
 use Rattle.tab_history.specs.Changes.{Change, UserMade, UserDropped, SystemGiven, SystemTaken, changes_of}
@@ -107,6 +107,8 @@ act_keeps c there now user (SplitBySize t row limit) e = tt
 act_keeps c there now user (Splits t) e = tt
 act_keeps c there now user Save e = tt
 act_keeps c there now user Load e = tt
+act_keeps c there now user (Begin t row kind) e = tt
+act_keeps c there now user (Install t given) e = tt
 
 -- ---- histories
 entry_keeps : (w : World) (es own : List Entry) (e : Entry) → IsAnswer w es own e.step e.reply ⊎ LacksMemory e.step e.reply → IsRooted w.base (journal w es) → IsRooted w.base (journal w (e ∷ es))

@@ -9,32 +9,38 @@ use Rattle.tab_cells.specs.Cells.{Query, cells}
 use Rattle.tab_history.specs.Checks.{Caller, standing, refusal_of, many_checks, user_named, exists_in}
 use Rattle.tab_mutation.specs.Shape.{first_some}
 use Rattle.tab_history.specs.OwnRights.{own_rights}
+use Rattle.tab_history.specs.Jobs.{JobMove, Beginning, Merging, Installing, job_in, is_waiting, is_merged}
 use Rattle.tab_history.specs.Sessions.{Move, Opening, Taking, Closing, is_full, session_in}
 use Rattle.tab_cells.specs.SessionState.{SessionState, batch, in_ranges}
 use Rattle.tab_key.specs.declared.part.Part.TheVariants.{Sessions, Numbers}
 use Rattle.tab_key.specs.declared.range.Bounds.{Bounds}
 use Rattle.tab_history.specs.declared.event.Scan.{Scan}
 use Rattle.tab_history.specs.declared.event.Act.{Act}
-use Rattle.tab_history.specs.declared.event.Act.TheVariants.{Open, Write, CreateTable, DropTable, SetConstraints, CreateUser, DropUser, SetAuths, Grant, Revoke, Rights as AsksRights, Status, Flush, Compact, AddSplit, SplitBySize, Splits, Save, Load}
+use Rattle.tab_history.specs.declared.event.Act.TheVariants.{Open, Write, CreateTable, DropTable, SetConstraints, CreateUser, DropUser, SetAuths, Grant, Revoke, Rights as AsksRights, Status, Flush, Compact, AddSplit, SplitBySize, Splits, Save, Load, Begin, Install}
+use Rattle.tab_history.specs.declared.event.Given.TheVariants.{InSlot, ByHand}
 use Rattle.tab_history.specs.declared.event.Step.{Step}
-use Rattle.tab_history.specs.declared.event.Step.TheVariants.{Event, Next, Many, Close}
+use Rattle.tab_history.specs.declared.event.Step.TheVariants.{Event, Next, Many, Close, Merge}
 use Rattle.tab_history.specs.declared.counts.Counts.{Counts}
 use Rattle.tab_history.specs.declared.split_fault.SplitFault.TheVariants.{Present, Small, OneRow}
 use Rattle.tab_history.specs.declared.reply.Refusal.{Refusal}
-use Rattle.tab_history.specs.declared.reply.Refusal.TheVariants.{TooLarge, NoSession, BadSplit}
+use Rattle.tab_history.specs.declared.reply.Refusal.TheVariants.{TooLarge, NoSession, NoJob, Stale, BadSplit}
 use Rattle.tab_history.specs.declared.reply.Reply.{Reply}
-use Rattle.tab_history.specs.declared.reply.Reply.TheVariants.{Done, Refused, Opened, Batch, Ranges, Rights, Counted, Rows}
+use Rattle.tab_history.specs.declared.reply.Reply.TheVariants.{Done, Refused, Opened, Batch, Ranges, Rights, Counted, Rows, Begun, Nothing}
 
--- a reply without the session that goes with it
+-- a reply without the session or the job that goes with it
 abbrev pub Told : Type 0
-Told = Reply (Unit {0})
+Told = Reply (Unit {0}) (Unit {0})
 
 -- what is told of an opened session
 abbrev pub told_opened : Told
 told_opened = Opened tt
 
+-- what is told of a job that was begun
+abbrev pub told_begun : Told
+told_begun = Begun tt
+
 -- what is told of a reply
-abbrev pub told_of : {S : Type 0} → Reply S → Told
+abbrev pub told_of : {S J : Type 0} → Reply S J → Told
 told_of Done = Done
 told_of (Refused refusal) = Refused refusal
 told_of (Opened session) = told_opened
@@ -43,9 +49,11 @@ told_of (Ranges ranges) = Ranges ranges
 told_of (Rights rights) = Rights rights
 told_of (Counted counts) = Counted counts
 told_of (Rows rows) = Rows rows
+told_of (Begun job) = told_begun
+told_of Nothing = Nothing
 
 -- the session that goes with a reply
-abbrev pub session_of : {S : Type 0} → Reply S → Option S
+abbrev pub session_of : {S J : Type 0} → Reply S J → Option S
 session_of Done = None
 session_of (Refused refusal) = None
 session_of (Opened session) = Some session
@@ -54,6 +62,21 @@ session_of (Ranges ranges) = None
 session_of (Rights rights) = None
 session_of (Counted counts) = None
 session_of (Rows rows) = None
+session_of (Begun job) = None
+session_of Nothing = None
+
+-- the job that goes with a reply
+abbrev pub job_of : {S J : Type 0} → Reply S J → Option J
+job_of Done = None
+job_of (Refused refusal) = None
+job_of (Opened session) = None
+job_of (Batch cells) = None
+job_of (Ranges ranges) = None
+job_of (Rights rights) = None
+job_of (Counted counts) = None
+job_of (Rows rows) = None
+job_of (Begun job) = Some job
+job_of Nothing = None
 
 -- ---- answers
 -- What the caller is told of an event that isn't refused. Where that is left open (`MayTell`) Done stands here for all of it.
@@ -77,13 +100,16 @@ granted c (SplitBySize t row limit) = Done
 granted c (Splits t) = Done
 granted c Save = Done
 granted c Load = Done
+granted c (Begin t row kind) = Done
+granted c (Install t given) = Done
 
 -- the refusal, if there is one
 abbrev pub told : Option Refusal → Told → Told
 told None reply = reply
 told (Some r) reply = Refused r
 
--- Whether the numbers are used up that the act needs: a write's would be 2^64 - 1, or there are 2^32 - 1 tables or users already.
+-- Whether the numbers are used up that the act needs: a write's would be 2^64 - 1, or there are 2^32 - 1 tables or users already. Those of
+-- end rows and of jobs are no history's: what is told of them is left open (`MayTell`).
 abbrev pub are_used_up : Base → List Change → Act → Bool
 are_used_up b j (Write t m) = nat_le 18446744073709551615 (next_number b j)
 are_used_up b j (CreateTable t time n) = nat_le 4294967295 (table_count b j)
@@ -104,6 +130,8 @@ are_used_up b j (SplitBySize t row limit) = false
 are_used_up b j (Splits t) = false
 are_used_up b j Save = false
 are_used_up b j Load = false
+are_used_up b j (Begin t row kind) = false
+are_used_up b j (Install t given) = false
 
 -- the reply to what isn't refused by its checks: where the numbers are used up it is refused for that, last of all
 abbrev pub numbered : Bool → Told → Told
@@ -137,13 +165,54 @@ abbrev pub close_answer : Option SessionState → ℕ → Told
 close_answer None slot = Refused (NoSession slot)
 close_answer (Some held) slot = Done
 
--- The answer to a step of a user whose sessions went through these moves. An Open past the limit of sessions is refused before all else.
--- Where what is told is left open, this says whether the step is refused, and why.
-unfoldable pub answer : Base → List Change → List Move → ℤ → Step → Told
-answer b j moves now (Event e) = cond (is_open e.act && is_full moves) (Refused (TooLarge Sessions)) (event_answer b j now e.user e.act)
-answer b j moves now (Next user slot n) = next_answer (session_in moves slot) slot n
-answer b j moves now (Many user slot ranges) = many_answer (session_in moves slot) slot ranges
-answer b j moves now (Close user slot) = close_answer (session_in moves slot) slot
+-- the merge of the job in the slot can be made, if it waits for that
+abbrev pub merge_answer : Bool → ℕ → Told
+merge_answer true slot = Done
+merge_answer false slot = Refused (NoJob slot)
+
+-- the slot, where it holds no finished merge
+abbrev pub without_merge : List JobMove → ℕ → Option ℕ
+without_merge jobs slot = cond (is_merged (job_in jobs slot)) None (Some slot)
+
+-- the slot that an Install names with no finished merge in it; one that came with its merge names none
+abbrev pub empty_slot : List JobMove → Act → Option ℕ
+empty_slot jobs (Install t (InSlot slot)) = without_merge jobs slot
+empty_slot jobs (Install t (ByHand job)) = None
+empty_slot jobs (Open scan) = None
+empty_slot jobs (Write t m) = None
+empty_slot jobs (CreateTable t time n) = None
+empty_slot jobs (DropTable t) = None
+empty_slot jobs (SetConstraints t cs) = None
+empty_slot jobs (CreateUser n) = None
+empty_slot jobs (DropUser n) = None
+empty_slot jobs (SetAuths n auths) = None
+empty_slot jobs (Grant n p) = None
+empty_slot jobs (Revoke n p) = None
+empty_slot jobs (AsksRights t) = None
+empty_slot jobs (Status t) = None
+empty_slot jobs (Flush t) = None
+empty_slot jobs (Compact t extent) = None
+empty_slot jobs (AddSplit t row) = None
+empty_slot jobs (SplitBySize t row limit) = None
+empty_slot jobs (Splits t) = None
+empty_slot jobs Save = None
+empty_slot jobs Load = None
+empty_slot jobs (Begin t row kind) = None
+
+-- that the slot holds no finished merge, if there is such a slot
+abbrev pub slotted : Option ℕ → Told → Told
+slotted None reply = reply
+slotted (Some slot) reply = Refused (NoJob slot)
+
+-- The answer to a step of a user whose sessions went through these moves, and all users' jobs through those. An Open past the limit of
+-- sessions is refused before all else, and so is an Install by a slot without a finished merge. Where what is told is left open, this says
+-- whether the step is refused, and why.
+unfoldable pub answer : Base → List Change → List Move → List JobMove → ℤ → Step → Told
+answer b j moves jobs now (Event e) = cond (is_open e.act && is_full moves) (Refused (TooLarge Sessions)) (slotted (empty_slot jobs e.act) (event_answer b j now e.user e.act))
+answer b j moves jobs now (Next user slot n) = next_answer (session_in moves slot) slot n
+answer b j moves jobs now (Many user slot ranges) = many_answer (session_in moves slot) slot ranges
+answer b j moves jobs now (Close user slot) = close_answer (session_in moves slot) slot
+answer b j moves jobs now (Merge slot) = merge_answer (is_waiting (job_in jobs slot)) slot
 
 -- ---- open answers: no history tells where records lie, and so neither what is told of that
 -- whether what is told of the event is left open, once no check refuses it
@@ -167,9 +236,13 @@ leaves_open (SplitBySize t row limit) = true
 leaves_open (Splits t) = true
 leaves_open Save = false
 leaves_open Load = false
+leaves_open (Begin t row kind) = true
+leaves_open (Install t given) = true
 
 -- What may be told of an event that no check refuses. Of a Status it is any counts, of a Splits any rows. A split may be done, or refused for
--- where the table is split already, for what its tablet holds, or for the number of end rows. Of each other act it is the one answer, here plain.
+-- where the table is split already, for what its tablet holds, or for the number of end rows. A Begin may begin a job or find nothing to merge,
+-- or the numbers of jobs are used up; an Install may be done, or refused where what was merged doesn't stand there any more, with any count of
+-- what does. Of each other act it is the one answer, here plain.
 abbrev pub MayTell : Act → Told → Told → Type 0
 MayTell (Open scan) plain reply = reply ≡ plain
 MayTell (Write t m) plain reply = reply ≡ plain
@@ -190,6 +263,8 @@ MayTell (SplitBySize t row limit) plain reply = (reply ≡ plain) ⊎ (reply ≡
 MayTell (Splits t) plain reply = (rows : List (List ℕ)) × (reply ≡ Rows rows)
 MayTell Save plain reply = reply ≡ plain
 MayTell Load plain reply = reply ≡ plain
+MayTell (Begin t row kind) plain reply = (reply ≡ told_begun) ⊎ (reply ≡ Nothing) ⊎ (reply ≡ Refused (TooLarge Numbers))
+MayTell (Install t given) plain reply = (reply ≡ plain) ⊎ ((count : ℕ) × (reply ≡ Refused (Stale count)))
 
 -- The reply answers the act, of which plain is the answer: it is that refusal, or what may be told in the place of what isn't one.
 abbrev pub IsEventReply : Act → Told → Told → Type 0
@@ -202,6 +277,7 @@ IsReply (Event e) plain reply = IsEventReply e.act plain reply
 IsReply (Next user slot n) plain reply = reply ≡ plain
 IsReply (Many user slot ranges) plain reply = reply ≡ plain
 IsReply (Close user slot) plain reply = reply ≡ plain
+IsReply (Merge slot) plain reply = reply ≡ plain
 
 -- ---- what a step does
 -- what the scan asks of its table
@@ -230,3 +306,62 @@ moves_by b j (Event e) (Opened session) = cond (is_open e.act) (Opening (session
 moves_by b j (Next user slot n) (Batch cells) = Taking slot (length cells) ∷ []
 moves_by b j (Close user slot) Done = Closing slot ∷ []
 moves_by b j _ _ = []
+
+-- a job was begun, where that is told
+abbrev pub begun_by : Told → List JobMove
+begun_by (Begun job) = Beginning ∷ []
+begun_by Done = []
+begun_by (Refused refusal) = []
+begun_by (Opened session) = []
+begun_by (Batch cells) = []
+begun_by (Ranges ranges) = []
+begun_by (Rights rights) = []
+begun_by (Counted counts) = []
+begun_by (Rows rows) = []
+begun_by Nothing = []
+
+-- what an event and its reply do to the jobs; an Install names its slot, whatever it is told
+abbrev pub event_job_moves : Act → Told → List JobMove
+event_job_moves (Begin t row kind) reply = begun_by reply
+event_job_moves (Install t (InSlot slot)) reply = Installing slot ∷ []
+event_job_moves (Install t (ByHand job)) reply = []
+event_job_moves (Open scan) reply = []
+event_job_moves (Write t m) reply = []
+event_job_moves (CreateTable t time n) reply = []
+event_job_moves (DropTable t) reply = []
+event_job_moves (SetConstraints t cs) reply = []
+event_job_moves (CreateUser n) reply = []
+event_job_moves (DropUser n) reply = []
+event_job_moves (SetAuths n auths) reply = []
+event_job_moves (Grant n p) reply = []
+event_job_moves (Revoke n p) reply = []
+event_job_moves (AsksRights t) reply = []
+event_job_moves (Status t) reply = []
+event_job_moves (Flush t) reply = []
+event_job_moves (Compact t extent) reply = []
+event_job_moves (AddSplit t row) reply = []
+event_job_moves (SplitBySize t row limit) reply = []
+event_job_moves (Splits t) reply = []
+event_job_moves Save reply = []
+event_job_moves Load reply = []
+
+-- what the merge of the job in the slot and its reply do: it is finished, where that was done, and else still to be made
+abbrev pub merge_job_moves : ℕ → Told → List JobMove
+merge_job_moves slot Done = Merging slot ∷ []
+merge_job_moves slot (Refused refusal) = []
+merge_job_moves slot (Opened session) = []
+merge_job_moves slot (Batch cells) = []
+merge_job_moves slot (Ranges ranges) = []
+merge_job_moves slot (Rights rights) = []
+merge_job_moves slot (Counted counts) = []
+merge_job_moves slot (Rows rows) = []
+merge_job_moves slot (Begun job) = []
+merge_job_moves slot Nothing = []
+
+-- what a step and its reply do to the jobs, which all users share
+abbrev pub job_moves_by : Step → Told → List JobMove
+job_moves_by (Event e) reply = event_job_moves e.act reply
+job_moves_by (Next user slot n) reply = []
+job_moves_by (Many user slot ranges) reply = []
+job_moves_by (Close user slot) reply = []
+job_moves_by (Merge slot) reply = merge_job_moves slot reply

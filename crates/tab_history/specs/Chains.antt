@@ -1,14 +1,18 @@
 -- Chains of cores, and how the step of one core goes on with any history that the core refines.
-use Rattle.std.specs.Prelude.{◌≡◌, ◌⊎◌, List, [], ◌∷◌, true, false}
+use Rattle.std.specs.Prelude.{◌≡◌, ◌⊎◌, ◌↔◌, ℕ, ◌==◌, ℤ, List, [], ◌∷◌, true, false, ◌&&◌}
 use Rattle.tab_history.specs.Bases.{Base}
 use Rattle.tab_history.specs.Sessions.{is_full}
-use Rattle.tab_history.specs.Answers.{is_open, session_list}
-use Rattle.tab_history.specs.Histories.{Entry, World, world_of, world_after, journal, moves_of}
+use Rattle.tab_history.specs.Answers.{Told, is_open, session_list}
+use Rattle.tab_history.specs.Jobs.{JobMove, is_merged, job_in}
+use Rattle.tab_history.specs.Histories.{Entry, World, world_of, world_after, journal, moves_of, jobs_of}
 use Rattle.tab_history.specs.Legal.{IsAnswer, LacksMemory, LegalAlone}
 use Rattle.tab_history.specs.Refinement.{Refines, IsSound, IsAlike}
 use Rattle.tab_history.specs.declared.event.Act.{Act}
+use Rattle.tab_history.specs.declared.event.Act.TheVariants.{Open, Write, CreateTable, DropTable, SetConstraints, CreateUser, DropUser, SetAuths, Grant, Revoke, Rights, Status, Flush, Compact, AddSplit, SplitBySize, Splits, Save, Load, Begin, Install}
+use Rattle.tab_history.specs.declared.event.Given.{Given}
+use Rattle.tab_history.specs.declared.event.Given.TheVariants.{InSlot, ByHand}
 use Rattle.tab_history.specs.declared.event.Step.{Step}
-use Rattle.tab_history.specs.declared.event.Step.TheVariants.{Event, Next, Many, Close}
+use Rattle.tab_history.specs.declared.event.Step.TheVariants.{Event, Next, Many, Close, Merge}
 
 -- ---- one step of a core, seen from the core alone
 -- the entry is legal on what the core holds, and the next core refines that entry on it
@@ -22,16 +26,42 @@ abbrev pub RightStep : Type 0
 RightStep = (before : Base) (e : Entry) (after : Base) → IsSound (world_of before) → LegalAlone (world_of before) (e ∷ []) → IsAlike (world_of after) (world_after (world_of before) (e ∷ [])) → GoesRight before e after
 
 -- ---- The law: a right step goes on with each history that the core refines.
--- the step is an event, and if it opens a session there is room for one among those of its user
+-- the act names no job's slot
+abbrev pub NamesNoSlot : Act → Type 0
+NamesNoSlot (Install t (InSlot slot)) = ⊥
+NamesNoSlot (Install t (ByHand job)) = Unit {0}
+NamesNoSlot (Open scan) = Unit {0}
+NamesNoSlot (Write t m) = Unit {0}
+NamesNoSlot (CreateTable t time n) = Unit {0}
+NamesNoSlot (DropTable t) = Unit {0}
+NamesNoSlot (SetConstraints t cs) = Unit {0}
+NamesNoSlot (CreateUser n) = Unit {0}
+NamesNoSlot (DropUser n) = Unit {0}
+NamesNoSlot (SetAuths n auths) = Unit {0}
+NamesNoSlot (Grant n p) = Unit {0}
+NamesNoSlot (Revoke n p) = Unit {0}
+NamesNoSlot (Rights t) = Unit {0}
+NamesNoSlot (Status t) = Unit {0}
+NamesNoSlot (Flush t) = Unit {0}
+NamesNoSlot (Compact t extent) = Unit {0}
+NamesNoSlot (AddSplit t row) = Unit {0}
+NamesNoSlot (SplitBySize t row limit) = Unit {0}
+NamesNoSlot (Splits t) = Unit {0}
+NamesNoSlot Save = Unit {0}
+NamesNoSlot Load = Unit {0}
+NamesNoSlot (Begin t row kind) = Unit {0}
+
+-- the step is an event, if it opens a session there is room for one among those of its user, and if it installs a merge it came with that
 abbrev pub HasRoom : World → List Entry → Step → Type 0
-HasRoom w own (Event e) = is_open e.act ≡ true → is_full (moves_of w e.user own) ≡ false
+HasRoom w own (Event e) = (is_open e.act ≡ true → is_full (moves_of w e.user own) ≡ false) × NamesNoSlot e.act
 HasRoom w own (Next user slot n) = ⊥
 HasRoom w own (Many user slot ranges) = ⊥
 HasRoom w own (Close user slot) = ⊥
+HasRoom w own (Merge slot) = ⊥
 
 -- what the step means after the entries h of w, for which the core stood before
 pub record GoesOnFrom (w : World) (h : List Entry) (before : Base) (e : Entry) (after : Base) : Type 0 where
-  -- the reply is an answer, whichever sessions were opened, if there is room
+  -- the reply is an answer, whichever sessions were opened and jobs begun, if there is room
   pub answers : (own : List Entry) → HasRoom w own e.step → IsAnswer w h own e.step e.reply ⊎ LacksMemory e.step e.reply
   -- the next core refines the history with this entry
   pub refines : Refines (world_of after) (world_after w (e ∷ h))
@@ -43,6 +73,25 @@ pub record GoesOnFrom (w : World) (h : List Entry) (before : Base) (e : Entry) (
 -- a right step goes on from each history that the core refined
 abbrev pub GoesOn : Type 0
 GoesOn = (w : World) (h : List Entry) (before : Base) (e : Entry) (after : Base) → Refines (world_of before) (world_after w h) → GoesRight before e after → GoesOnFrom w h before e after
+
+-- ---- The law: an Install by a slot with a finished merge is answered as one that came with its merge, and leaves the same.
+-- the user's event that installs a merge, with its reply
+abbrev pub installing : List ℕ → ℤ → List ℕ → Given → Told → Entry
+installing user moment t given reply = record { step = Event (record { user = user; moment = moment; act = Install t given }); reply = reply }
+
+-- so it is after each history, for each slot that holds one by the entries own, whatever the number of the job that came
+abbrev pub SlotsAreAside : Type 0
+SlotsAreAside = (w : World) (h own : List Entry) (user : List ℕ) (moment : ℤ) (t : List ℕ) (slot job : ℕ) (reply : Told) → is_merged (job_in (jobs_of own) slot) ≡ true
+    → let by_slot : Entry = installing user moment t (InSlot slot) reply in
+    let by_hand : Entry = installing user moment t (ByHand job) reply in
+    (IsAnswer w h own by_slot.step reply ↔ IsAnswer w h [] by_hand.step reply) × (world_after w (by_slot ∷ h) ≡ world_after w (by_hand ∷ h))
+
+-- ---- The law: behind an Install by a slot that holds no finished merge, and all else is as it was, whatever it was told.
+abbrev pub InstallsUseUp : Type 0
+InstallsUseUp = (es : List Entry) (user : List ℕ) (moment : ℤ) (t : List ℕ) (slot : ℕ) (reply : Told) →
+    let jobs : List JobMove = jobs_of es in
+    let after : List JobMove = jobs_of (installing user moment t (InSlot slot) reply ∷ es) in
+    (is_merged (job_in after slot) ≡ false) × ((k : ℕ) → (slot == k && is_merged (job_in jobs k)) ≡ false → job_in after k ≡ job_in jobs k)
 
 -- ---- The law: a chain of right steps makes a legal history, which its last core refines.
 -- a chain of cores, each got from the one before by an entry; goes says what one entry may do to a core

@@ -9,7 +9,7 @@ use Rattle.tab_policy.specs.declared.permission.Permission.{Permission}
 use Rattle.tab_policy.specs.declared.permission.Permission.TheVariants.{OfSystem, OfTable}
 use Rattle.tab_history.specs.declared.event.TimeMode.{TimeMode}
 use Rattle.tab_history.specs.declared.event.Act.{Act}
-use Rattle.tab_history.specs.declared.event.Act.TheVariants.{Open, Write, CreateTable, DropTable, SetConstraints, CreateUser, DropUser, SetAuths, Grant, Revoke, Rights, Status, Flush, Compact, AddSplit, SplitBySize, Splits, Save, Load}
+use Rattle.tab_history.specs.declared.event.Act.TheVariants.{Open, Write, CreateTable, DropTable, SetConstraints, CreateUser, DropUser, SetAuths, Grant, Revoke, Rights, Status, Flush, Compact, AddSplit, SplitBySize, Splits, Save, Load, Begin, Install}
 
 -- one change
 pub data Change : Type 0 where
@@ -50,8 +50,8 @@ abbrev pub taken : List ℕ → Permission → Change
 taken n (OfSystem p) = SystemTaken n p
 taken n (OfTable p t) = TableTaken n p t
 
--- What an accepted event of the user changes, where the clock is now. A compaction or a split changes nothing that is read here, and who may
--- save or load an image has changed nothing yet.
+-- What an accepted event of the user changes, where the clock is now. A compaction, whole or in parts, or a split changes nothing that is read
+-- here, and who may save or load an image has changed nothing yet.
 abbrev pub changes_of : ℤ → List ℕ → Act → List Change
 changes_of now user (Open scan) = []
 changes_of now user (Write t m) = Written t m.row (reverse (map (timed now) m.updates)) ∷ []
@@ -72,3 +72,5 @@ changes_of now user (SplitBySize t row limit) = []
 changes_of now user (Splits t) = []
 changes_of now user Save = []
 changes_of now user Load = []
+changes_of now user (Begin t row kind) = []
+changes_of now user (Install t given) = []

@@ -30,7 +30,7 @@ use Rattle.tab_policy.specs.Actions as action
 use Rattle.tab_policy.specs.Actions.{Action}
 use Rattle.tab_history.specs.declared.event.Scan.{Scan}
 use Rattle.tab_history.specs.declared.event.Act.{Act}
-use Rattle.tab_history.specs.declared.event.Act.TheVariants.{Open, Write, CreateTable, DropTable, SetConstraints, CreateUser, DropUser, SetAuths, Grant, Revoke, Rights, Status, Flush, Compact, AddSplit, SplitBySize, Splits, Save, Load}
+use Rattle.tab_history.specs.declared.event.Act.TheVariants.{Open, Write, CreateTable, DropTable, SetConstraints, CreateUser, DropUser, SetAuths, Grant, Revoke, Rights, Status, Flush, Compact, AddSplit, SplitBySize, Splits, Save, Load, Begin, Install}
 use Rattle.tab_history.specs.declared.reply.Refusal.{Refusal}
 use Rattle.tab_history.specs.declared.reply.Refusal.TheVariants.{UnknownUser, NoTable, PermissionDenied, BadAuthorizations, MalformedVisibility, ConstraintViolation, TimestampNotAllowed, EmptyMutation, TooLarge, TableExists, UserExists, NoUser, BadRange, RootFixed, GrantInvalid, BelowHorizon}
 
@@ -70,6 +70,8 @@ user_named (SplitBySize t row limit) = None
 user_named (Splits t) = None
 user_named Save = None
 user_named Load = None
+user_named (Begin t row kind) = None
+user_named (Install t given) = None
 
 -- whether that user exists, where one is named
 abbrev pub exists_in : Base → List Change → Option (List ℕ) → Bool
@@ -98,6 +100,8 @@ action_of (SplitBySize t row limit) = action.OnTable on.SplitBySize t
 action_of (Splits t) = action.OnTable on.Splits t
 action_of Save = action.OnServer server.Save
 action_of Load = action.OnServer server.Load
+action_of (Begin t row kind) = action.OnTable on.Begin t
+action_of (Install t given) = action.OnTable on.Install t
 
 -- why the policy doesn't admit the user's event
 abbrev pub denial : List ℕ → Option Denial → Option Refusal
@@ -184,6 +188,8 @@ own_checks c there now (SplitBySize t row limit) = row_checks row
 own_checks c there now (Splits t) = []
 own_checks c there now Save = []
 own_checks c there now Load = []
+own_checks c there now (Begin t row kind) = []
+own_checks c there now (Install t given) = []
 
 -- why the event is refused: the first failing check, the policy's before its own
 unfoldable pub refusal_of : Caller → Bool → ℤ → List ℕ → Act → Option Refusal

@@ -1,5 +1,5 @@
 -- Worked examples, computed: lists of steps from a new core, and the replies to them that say more than that all went well. Where a
--- reply is left open they show one: of a Status zeros, of a Splits no rows, and a split as done.
+-- reply is left open they show one: of a Status zeros, of a Splits no rows, a split and an Install as done, and a Begin as begun.
 use Rattle.std.specs.Prelude.{◌≡◌, ℕ, ◌-◌, ℤ, pos, nat_le, length, List, [], ◌∷◌, ◌++◌, Bool, true, false, cond, Option, Some, None, codes, reverse, replicate, refl}
 use Rattle.std.proofs.Common.{inl, inr, subst}
 use Rattle.tab_key.specs.Records.{Cell}
@@ -25,9 +25,10 @@ use Rattle.tab_cells.specs.Written.{records_of}
 use Rattle.tab_cells.specs.Cells.{matches, cells}
 use Rattle.tab_history.specs.Checks.{standing, malformed, stamped, outdated, refusal_of}
 use Rattle.tab_history.specs.Sessions.{opened, closed, session_in}
-use Rattle.tab_history.specs.Answers.{Told, are_used_up, answer, session_list}
-use Rattle.tab_history.specs.Histories.{Entry, world_of, world_after, clock_of, journal, moves_of}
-use Rattle.tab_history.specs.Legal.{IsAnswer, may_lack}
+use Rattle.tab_history.specs.Jobs.{begun, job_in}
+use Rattle.tab_history.specs.Answers.{Told, told_begun, are_used_up, answer, session_list}
+use Rattle.tab_history.specs.Histories.{Entry, world_of, world_after, clock_of, journal, moves_of, jobs_of}
+use Rattle.tab_history.specs.Legal.{IsAnswer, may_lack, Legal}
 use Rattle.tab_history.specs.Runs.{played}
 use Rattle.tab_rules.specs.declared.constraint.Constraint.TheVariants.{Visibility}
 use Rattle.tab_policy.specs.declared.permission.Permission.TheVariants.{OfSystem, OfTable}
@@ -39,12 +40,15 @@ use Rattle.tab_history.specs.declared.counts.Counts.{Counts}
 use Rattle.tab_history.specs.declared.split_fault.SplitFault.TheVariants.{Present, Small, OneRow}
 use Rattle.tab_history.specs.declared.event.TimeMode.TheVariants.{Any, Server}
 use Rattle.tab_history.specs.declared.event.Extent.TheVariants.{Partial, Full}
+use Rattle.tab_cells.specs.declared.compaction.Compaction.{Compaction}
+use Rattle.tab_cells.specs.declared.compaction.Compaction.TheVariants as part
+use Rattle.tab_history.specs.declared.event.Given.TheVariants.{InSlot, ByHand}
 use Rattle.tab_history.specs.declared.event.Act.{Act}
 use Rattle.tab_history.specs.declared.event.Act.TheVariants as act
 use Rattle.tab_history.specs.declared.event.Step.{Step}
-use Rattle.tab_history.specs.declared.event.Step.TheVariants.{Next, Many, Close}
-use Rattle.tab_history.specs.declared.reply.Refusal.TheVariants.{UnknownUser, NoTable, PermissionDenied, BadAuthorizations, MalformedVisibility, ConstraintViolation, TimestampNotAllowed, EmptyMutation, TooLarge, TableExists, UserExists, NoUser, BadRange, NoSession, RootFixed, GrantInvalid, BelowHorizon, BadSplit}
-use Rattle.tab_history.specs.declared.reply.Reply.TheVariants.{Done, Refused, Opened, Batch, Ranges, Rights, Counted, Rows}
+use Rattle.tab_history.specs.declared.event.Step.TheVariants.{Next, Many, Close, Merge}
+use Rattle.tab_history.specs.declared.reply.Refusal.TheVariants.{UnknownUser, NoTable, PermissionDenied, BadAuthorizations, MalformedVisibility, ConstraintViolation, TimestampNotAllowed, EmptyMutation, TooLarge, TableExists, UserExists, NoUser, BadRange, NoSession, NoJob, Stale, NoMemory, RootFixed, GrantInvalid, BelowHorizon, BadSplit}
+use Rattle.tab_history.specs.declared.reply.Reply.TheVariants.{Done, Refused, Opened, Batch, Ranges, Rights, Counted, Rows, Nothing}
 use Rattle.tab_history.specs.ExampleWords.{t, r, f, q, v, bob, everywhere, asks, as_root, as_bob}
 
 -- whether the reply says no more than that all went well
@@ -68,7 +72,7 @@ replies steps = replies_from new_core steps
 
 -- names what the examples look into
 everything : ℕ
-unfolding is_term_byte step ending reads_on label_of column_cmp key_cmp place_cmp newer_cmp same_column hides is_deleted outranks is_kept matches cells user_exists policy_users auths_of system_granted table_granted has_user user_count held_auths has_system_right has_table_right table_count settings_of next_number records_of updates_of shape_error malformed stamped outdated violations standing refusal_of opened closed session_in answer session_list clock_of journal moves_of
+unfolding is_term_byte step ending reads_on label_of column_cmp key_cmp place_cmp newer_cmp same_column hides is_deleted outranks is_kept matches cells user_exists policy_users auths_of system_granted table_granted has_user user_count held_auths has_system_right has_table_right table_count settings_of next_number records_of updates_of shape_error malformed stamped outdated violations standing refusal_of opened closed session_in begun job_in answer session_list clock_of journal moves_of jobs_of
 everything = 0
 
 -- ---- steps, updates and cells of the examples
@@ -568,6 +572,139 @@ beyond_a_split : replies (three_rows ++ as_root (opens everywhere []) ∷ Next r
     ≡ Batch (cell (codes "a") [] (pos 1) v ∷ []) ∷ Batch (cell (codes "b") [] (pos 1) v ∷ cell (codes "c") [] (pos 1) v ∷ []) ∷ Batch (cell (codes "a") [] (pos 1) v ∷ cell (codes "b") [] (pos 1) v ∷ cell (codes "c") [] (pos 1) v ∷ []) ∷ []
 unfolding everything
 beyond_a_split = refl
+
+-- ---- compactions in three parts
+-- begins a compaction of this kind in the tablet of t that holds the row r
+abbrev begins : Compaction → Act
+begins kind = act.Begin t r kind
+
+-- installs the finished merge in the slot
+abbrev installs : ℕ → Act
+installs slot = act.Install t (InSlot slot)
+
+-- an Install that came with the merge of the job of this number
+abbrev by_hand : ℕ → Act
+by_hand job = act.Install t (ByHand job)
+
+-- an unknown user before an unknown table, and that before a missing permission
+part_refusals : replies (as_bob (begins part.Full) ∷ as_bob (by_hand 0) ∷ make_bob ∷ as_bob (begins part.Full) ∷ as_bob (by_hand 0) ∷ make ∷ as_bob (begins part.Minor) ∷ as_bob (begins part.Partial) ∷ as_bob (begins part.Full) ∷ as_bob (by_hand 0) ∷ [])
+    ≡ Refused (UnknownUser bob) ∷ Refused (UnknownUser bob) ∷ Refused (NoTable t) ∷ Refused (NoTable t) ∷ may_not_alter ∷ may_not_alter ∷ may_not_alter ∷ may_not_alter ∷ []
+unfolding everything
+part_refusals = refl
+
+-- who may write may begin and install, and so may who may alter the table; a merge asks for nothing
+part_permissions : replies (make ∷ make_bob ∷ as_root (act.Grant bob (OfTable table.Write t)) ∷ as_bob (begins part.Minor) ∷ Merge 0 ∷ as_bob (installs 0) ∷ as_root (act.Revoke bob (OfTable table.Write t)) ∷ as_root (act.Grant bob (OfTable table.AlterTable t)) ∷ as_bob (begins part.Full) ∷ Merge 1 ∷ as_bob (installs 1) ∷ [])
+    ≡ told_begun ∷ told_begun ∷ []
+unfolding everything
+part_permissions = refl
+
+-- an Install before its merge is refused and is no event: the clock stays, and behind the merge it is done
+before_its_merge : replies (as_root (act.CreateTable t Server 1) ∷ as_root (begins part.Full) ∷ asks root (pos 9) (installs 0) ∷ as_root (writes r (put [] (codes "x") None ∷ [])) ∷ scan [] 0 ++ Merge 0 ∷ asks root (pos 9) (installs 0) ∷ as_root (writes r (put [] v None ∷ [])) ∷ scan [] 1)
+    ≡ told_begun ∷ Refused (NoJob 0) ∷ Batch (cell r [] (pos 0) (codes "x") ∷ []) ∷ Batch (cell r [] (pos 9) v ∷ []) ∷ []
+unfolding everything
+before_its_merge = refl
+
+-- the same, as what it leaves
+not_an_event : world_after (world_of new_core) (played (world_of new_core) [] (asks root (pos 9) (installs 0) ∷ [])) ≡ world_of new_core
+unfolding everything
+not_an_event = refl
+
+-- that comes before an unknown user, an unknown table and a missing permission; an Install that came with its merge has no slot
+slot_first : replies (as_bob (installs 0) ∷ make_bob ∷ as_bob (installs 0) ∷ make ∷ as_bob (installs 0) ∷ as_root (by_hand 0) ∷ []) ≡ Refused (NoJob 0) ∷ Refused (NoJob 0) ∷ Refused (NoJob 0) ∷ []
+unfolding everything
+slot_first = refl
+
+-- an Install that is refused uses its finished merge up
+refused_install : replies (make ∷ as_root (begins part.Full) ∷ Merge 0 ∷ as_bob (installs 0) ∷ as_root (installs 0) ∷ []) ≡ told_begun ∷ Refused (UnknownUser bob) ∷ Refused (NoJob 0) ∷ []
+unfolding everything
+refused_install = refl
+
+-- and one that is done
+second_install : replies (make ∷ as_root (begins part.Full) ∷ Merge 0 ∷ as_root (installs 0) ∷ as_root (installs 0) ∷ Merge 0 ∷ []) ≡ told_begun ∷ Refused (NoJob 0) ∷ Refused (NoJob 0) ∷ []
+unfolding everything
+second_install = refl
+
+-- a merge is made once, and of a job that was begun
+merged_once : replies (make ∷ Merge 0 ∷ as_root (begins part.Full) ∷ Merge 0 ∷ Merge 0 ∷ Merge 1 ∷ []) ≡ Refused (NoJob 0) ∷ told_begun ∷ Refused (NoJob 0) ∷ Refused (NoJob 1) ∷ []
+unfolding everything
+merged_once = refl
+
+-- jobs have one row of numbers for all users, who may install each other's; sessions have their own
+shared_jobs : replies (make ∷ make_bob ∷ as_root (act.Grant bob (OfTable table.Write t)) ∷ as_root (begins part.Full) ∷ as_root (opens everywhere []) ∷ as_bob (begins part.Full) ∷ Merge 1 ∷ as_root (installs 1) ∷ as_bob (installs 1) ∷ as_bob (installs 0) ∷ Next root 0 1 ∷ [])
+    ≡ told_begun ∷ told_begun ∷ Refused (NoJob 1) ∷ Refused (NoJob 0) ∷ Batch [] ∷ []
+unfolding everything
+shared_jobs = refl
+
+-- a Begin begins a job, or there is nothing to merge, or the numbers of jobs are used up
+may_begin : MayBeTold (begins part.Full) told_begun × MayBeTold (begins part.Full) Nothing × MayBeTold (begins part.Full) (Refused (TooLarge Numbers))
+unfolding everything
+may_begin = (inl refl, inr (inl refl), inr (inr refl))
+
+-- whether the reply says no more than that it was done
+abbrev SaysDone : Told → Type 0
+SaysDone Done = Unit {0}
+SaysDone _ = ⊥
+
+-- it isn't told that it was done
+never_done : MayBeTold (begins part.Full) Done → ⊥
+unfolding everything
+never_done (inl e) = subst SaysDone e tt
+never_done (inr (inl e)) = subst SaysDone e tt
+never_done (inr (inr e)) = subst SaysDone e tt
+
+-- an Install is done, or stale with any count
+may_install : (count : ℕ) → MayBeTold (by_hand 0) Done × MayBeTold (by_hand 0) (Refused (Stale count))
+unfolding everything
+may_install count = (inl refl, inr (count, refl))
+
+-- each part may lack memory
+part_memory : (may_lack (as_root (begins part.Full)) ≡ true) × (may_lack (Merge 0) ≡ true) × (may_lack (as_root (installs 0)) ≡ true)
+part_memory = (refl, refl, refl)
+
+-- an entry of this step and reply
+abbrev entry : Step → Told → Entry
+entry step reply = record { step = step; reply = reply }
+
+-- a merge that lacked memory keeps its job, which can be merged later
+merged_later : Legal (world_of new_core) (entry (as_root (installs 0)) Done ∷ entry (Merge 0) Done ∷ entry (Merge 0) (Refused NoMemory) ∷ entry (as_root (begins part.Full)) told_begun ∷ entry make Done ∷ [])
+unfolding everything
+merged_later = (((((tt, inl refl), inl (inl refl)), inr (refl, refl)), inl refl), inl (inl refl))
+
+-- an Install that lacked memory uses its finished merge up, and leaves the clock
+installed_no_more : Legal (world_of new_core) (entry (as_root (installs 0)) (Refused (NoJob 0)) ∷ entry (asks root (pos 9) (installs 0)) (Refused NoMemory) ∷ entry (Merge 0) Done ∷ entry (as_root (begins part.Full)) told_begun ∷ entry make Done ∷ [])
+unfolding everything
+installed_no_more = (((((tt, inl refl), inl (inl refl)), inl refl), inr (refl, refl)), inl refl)
+
+-- one that lacked memory before its merge uses nothing up
+waits_on : Legal (world_of new_core) (entry (as_root (installs 0)) Done ∷ entry (Merge 0) Done ∷ entry (as_root (installs 0)) (Refused NoMemory) ∷ entry (as_root (begins part.Full)) told_begun ∷ entry make Done ∷ [])
+unfolding everything
+waits_on = (((((tt, inl refl), inl (inl refl)), inr (refl, refl)), inl refl), inl (inl refl))
+
+-- Two jobs of one tablet, the second of which merges what the first does: once the first is installed the second is stale, of which the
+-- tablet's one sorted table is told; and a merge is used up.
+abbrev one_of_two : List Entry
+one_of_two =
+    entry (as_root (installs 0)) (Refused (NoJob 0))
+    ∷ entry (as_root (installs 1)) (Refused (Stale 1))
+    ∷ entry (as_root (installs 0)) Done
+    ∷ entry (Merge 1) Done
+    ∷ entry (Merge 0) Done
+    ∷ entry (as_root (begins part.Full)) told_begun
+    ∷ entry (as_root (begins part.Minor)) told_begun
+    ∷ entry (as_root (writes r (put [] v (Some (pos 5)) ∷ []))) Done
+    ∷ entry make Done
+    ∷ []
+
+-- that is a legal history
+one_of_two_legal : Legal (world_of new_core) one_of_two
+unfolding everything
+one_of_two_legal = (((((((((tt, inl refl), inl refl), inl (inl refl)), inl (inl refl)), inl refl), inl refl), inl (inl refl)), inl (inr (1, refl))), inl refl)
+
+-- a session reads on over what was installed, and a scan shows what it showed
+beyond_an_install : replies (three_rows ++ as_root (opens everywhere []) ∷ Next root 0 1 ∷ as_root (begins part.Full) ∷ as_root (writes (codes "b") (del [] (Some (pos 1)) ∷ [])) ∷ Merge 0 ∷ as_root (installs 0) ∷ Next root 0 5 ∷ scan [] 1)
+    ≡ Batch (cell (codes "a") [] (pos 1) v ∷ []) ∷ told_begun ∷ Batch (cell (codes "b") [] (pos 1) v ∷ cell (codes "c") [] (pos 1) v ∷ []) ∷ Batch (cell (codes "a") [] (pos 1) v ∷ cell (codes "c") [] (pos 1) v ∷ []) ∷ []
+unfolding everything
+beyond_an_install = refl
 
 -- ---- images
 -- what bob is told where he may neither save nor load

@@ -4,11 +4,12 @@ use Rattle.std.specs.Int.{int_max}
 use Rattle.tab_history.specs.Bases.{Base}
 use Rattle.tab_history.specs.Changes.{Change}
 use Rattle.tab_history.specs.Sessions.{Move}
-use Rattle.tab_history.specs.Answers.{Told, changes_by, moves_by}
+use Rattle.tab_history.specs.Jobs.{JobMove}
+use Rattle.tab_history.specs.Answers.{Told, changes_by, moves_by, job_moves_by}
 use Rattle.tab_key.specs.declared.part.Part.TheVariants.{Sessions}
 use Rattle.tab_history.specs.declared.event.Step.{Step}
-use Rattle.tab_history.specs.declared.event.Step.TheVariants.{Event, Next, Many, Close}
-use Rattle.tab_history.specs.declared.reply.Refusal.TheVariants.{NoMemory, TooLarge, NoSession}
+use Rattle.tab_history.specs.declared.event.Step.TheVariants.{Event, Next, Many, Close, Merge}
+use Rattle.tab_history.specs.declared.reply.Refusal.TheVariants.{NoMemory, TooLarge, NoSession, NoJob}
 use Rattle.tab_history.specs.declared.reply.Reply.TheVariants.{Refused}
 
 -- a step and what was answered
@@ -27,11 +28,13 @@ abbrev pub world_of : Base → World
 world_of b = record { base = b; changes = []; clock = b.clock }
 
 -- ---- the clock
--- An event moves the clock up to its moment, also where it is refused. What was refused for memory, or by the list of sessions, was no event.
+-- An event moves the clock up to its moment, also where it is refused. What was refused for memory, by the list of sessions or by that of jobs
+-- was no event.
 abbrev pub clock_after : Step → Told → ℤ → ℤ
 clock_after (Event e) (Refused NoMemory) clock = clock
 clock_after (Event e) (Refused (TooLarge Sessions)) clock = clock
 clock_after (Event e) (Refused (NoSession slot)) clock = clock
+clock_after (Event e) (Refused (NoJob slot)) clock = clock
 clock_after (Event e) reply clock = int_max clock e.moment
 clock_after step reply clock = clock
 
@@ -56,12 +59,13 @@ abbrev pub world_after : World → List Entry → World
 world_after w es = record { base = w.base; changes = journal w es; clock = clock_of w es }
 
 -- ---- sessions
--- whose step it is
+-- Whose step it is. The merge of a job is nobody's: no name is empty.
 abbrev pub user_of : Step → List ℕ
 user_of (Event e) = e.user
 user_of (Next user slot n) = user
 user_of (Many user slot ranges) = user
 user_of (Close user slot) = user
+user_of (Merge slot) = []
 
 -- whether the step is the user's
 abbrev pub is_by : List ℕ → Step → Bool
@@ -71,6 +75,12 @@ is_by user step = bytes_eq (user_of step) user
 unfoldable pub moves_of : World → List ℕ → List Entry → List Move
 moves_of w user [] = []
 moves_of w user (e ∷ es) = cond (is_by user e.step) (moves_by w.base (journal w es) e.step e.reply ++ moves_of w user es) (moves_of w user es)
+
+-- ---- jobs
+-- what was done with jobs in these entries, by whomever
+unfoldable pub jobs_of : List Entry → List JobMove
+jobs_of [] = []
+jobs_of (e ∷ es) = job_moves_by e.step e.reply ++ jobs_of es
 
 -- ---- lists of steps
 -- the steps of the entries, the first one first

@@ -1,18 +1,18 @@
 -- Which histories are legal: each reply is the answer to its step, unless memory lacked for it.
 use Rattle.std.specs.Prelude.{◌≡◌, ◌⊎◌, List, [], ◌∷◌, Bool, true, false}
 use Rattle.tab_history.specs.Answers.{Told, answer, IsReply}
-use Rattle.tab_history.specs.Histories.{Entry, World, clock_of, clock_at, journal, user_of, moves_of}
+use Rattle.tab_history.specs.Histories.{Entry, World, clock_of, clock_at, journal, user_of, moves_of, jobs_of}
 use Rattle.tab_key.specs.declared.part.Part.TheVariants.{Numbers}
 use Rattle.tab_history.specs.declared.event.Act.{Act}
-use Rattle.tab_history.specs.declared.event.Act.TheVariants.{Open, Write, CreateTable, DropTable, SetConstraints, CreateUser, DropUser, SetAuths, Grant, Revoke, Rights, Status, Flush, Compact, AddSplit, SplitBySize, Splits, Save, Load}
+use Rattle.tab_history.specs.declared.event.Act.TheVariants.{Open, Write, CreateTable, DropTable, SetConstraints, CreateUser, DropUser, SetAuths, Grant, Revoke, Rights, Status, Flush, Compact, AddSplit, SplitBySize, Splits, Save, Load, Begin, Install}
 use Rattle.tab_history.specs.declared.event.Step.{Step}
-use Rattle.tab_history.specs.declared.event.Step.TheVariants.{Event, Next, Many, Close}
+use Rattle.tab_history.specs.declared.event.Step.TheVariants.{Event, Next, Many, Close, Merge}
 use Rattle.tab_history.specs.declared.reply.Refusal.TheVariants.{NoMemory, TooLarge}
 use Rattle.tab_history.specs.declared.reply.Reply.TheVariants.{Refused}
 
--- The answer to the step after the entries es, with Done where it is left open. The sessions are those that were opened in the entries own.
+-- The answer to the step after the entries es, with Done where it is left open. The sessions and the jobs are those of the entries own.
 abbrev pub answer_at : World → List Entry → List Entry → Step → Told
-answer_at w es own step = answer w.base (journal w es) (moves_of w (user_of step) own) (clock_at (clock_of w es) step) step
+answer_at w es own step = answer w.base (journal w es) (moves_of w (user_of step) own) (jobs_of own) (clock_at (clock_of w es) step) step
 
 -- The reply is an answer to the step there.
 abbrev pub IsAnswer : World → List Entry → List Entry → Step → Told → Type 0
@@ -41,6 +41,8 @@ takes_memory (Compact t extent) = true
 takes_memory (AddSplit t row) = true
 takes_memory (SplitBySize t row limit) = true
 takes_memory (Splits t) = true
+takes_memory (Begin t row kind) = true
+takes_memory (Install t given) = true
 
 -- whether memory may lack for the step
 abbrev pub may_lack : Step → Bool
@@ -48,6 +50,7 @@ may_lack (Event e) = takes_memory e.act
 may_lack (Next user slot n) = true
 may_lack (Many user slot ranges) = true
 may_lack (Close user slot) = false
+may_lack (Merge slot) = true
 
 -- memory lacked for a step that takes some
 abbrev pub LacksMemory : Step → Told → Type 0
@@ -59,7 +62,7 @@ abbrev pub Legal : World → List Entry → Type 0
 Legal w [] = Unit {0}
 Legal w (e ∷ es) = Legal w es × (IsAnswer w es es e.step e.reply ⊎ LacksMemory e.step e.reply)
 
--- the same of events that stand alone, in no one's list of sessions
+-- the same of events that stand alone, in no one's list of sessions and beside no jobs
 abbrev pub LegalAlone : World → List Entry → Type 0
 LegalAlone w [] = Unit {0}
 LegalAlone w (e ∷ es) = LegalAlone w es × (IsAnswer w es [] e.step e.reply ⊎ LacksMemory e.step e.reply)

@@ -5,6 +5,7 @@ pub mod Readings
 pub mod Checks
 pub mod OwnRights
 pub mod Sessions
+pub mod Jobs
 pub mod Answers
 pub mod Histories
 pub mod Lives

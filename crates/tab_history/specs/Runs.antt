@@ -1,14 +1,14 @@
 -- Each list of steps has a legal history, and but for open answers and want of memory just one.
 use Rattle.std.specs.Prelude.{◌≡◌, List, [], ◌∷◌, Bool, false, cond, Option, Some, None, map}
-use Rattle.tab_history.specs.Answers.{Told, leaves_open}
+use Rattle.tab_history.specs.Answers.{Told, told_begun, leaves_open}
 use Rattle.tab_history.specs.Histories.{Entry, World, world_after, steps_of}
 use Rattle.tab_history.specs.Legal.{answer_at, Legal, LegalAlone, HasMemory, LacksWhereItMay}
 use Rattle.tab_key.specs.declared.part.Part.TheVariants.{Sessions}
 use Rattle.tab_history.specs.declared.event.Act.{Act}
-use Rattle.tab_history.specs.declared.event.Act.TheVariants.{Open, Write, CreateTable, DropTable, SetConstraints, CreateUser, DropUser, SetAuths, Grant, Revoke, Rights, Status, Flush, Compact, AddSplit, SplitBySize, Splits, Save, Load}
+use Rattle.tab_history.specs.declared.event.Act.TheVariants.{Open, Write, CreateTable, DropTable, SetConstraints, CreateUser, DropUser, SetAuths, Grant, Revoke, Rights, Status, Flush, Compact, AddSplit, SplitBySize, Splits, Save, Load, Begin, Install}
 use Rattle.tab_history.specs.declared.event.Step.{Step}
-use Rattle.tab_history.specs.declared.event.Step.TheVariants.{Event, Next, Many, Close}
-use Rattle.tab_history.specs.declared.reply.Refusal.TheVariants.{NoMemory, TooLarge, NoSession}
+use Rattle.tab_history.specs.declared.event.Step.TheVariants.{Event, Next, Many, Close, Merge}
+use Rattle.tab_history.specs.declared.reply.Refusal.TheVariants.{NoMemory, TooLarge, NoSession, NoJob}
 use Rattle.tab_history.specs.declared.reply.Reply.TheVariants.{Refused, Counted, Rows}
 
 -- ---- The law: each list of steps has a legal history.
@@ -33,6 +33,8 @@ one_of (SplitBySize t row limit) plain = plain
 one_of (Splits t) plain = Rows []
 one_of Save plain = plain
 one_of Load plain = plain
+one_of (Begin t row kind) plain = told_begun
+one_of (Install t given) plain = plain
 
 -- one of the replies to a step with this answer
 abbrev pub one_reply : Step → Told → Told
@@ -41,6 +43,7 @@ one_reply (Event e) plain = one_of e.act plain
 one_reply (Next user slot n) plain = plain
 one_reply (Many user slot ranges) plain = plain
 one_reply (Close user slot) plain = plain
+one_reply (Merge slot) plain = plain
 
 -- one of the replies to a step after these entries, in one run
 abbrev pub answer_to : World → List Entry → Step → Told
@@ -62,6 +65,7 @@ is_left_open (Event e) = leaves_open e.act
 is_left_open (Next user slot n) = false
 is_left_open (Many user slot ranges) = false
 is_left_open (Close user slot) = false
+is_left_open (Merge slot) = false
 
 -- the step of an entry, and its reply where that is left open
 abbrev pub asked_of : Entry → Step × Option Told
@@ -77,15 +81,17 @@ abbrev pub MemoryLacksWhereItMay : Type 0
 MemoryLacksWhereItMay = (w : World) (es : List Entry) → (Legal w es → LacksWhereItMay es) × (LegalAlone w es → LacksWhereItMay es)
 
 -- ---- The law: what is no event leaves all as it was.
--- no step of a session, nor what was refused for memory or by the list of sessions, is an event
+-- no step of a session, no merge, nor what was refused for memory, by the list of sessions or by that of jobs, is an event
 abbrev pub IsNoEvent : Step → Told → Type 0
 IsNoEvent (Event e) (Refused NoMemory) = Unit {0}
 IsNoEvent (Event e) (Refused (TooLarge Sessions)) = Unit {0}
 IsNoEvent (Event e) (Refused (NoSession slot)) = Unit {0}
+IsNoEvent (Event e) (Refused (NoJob slot)) = Unit {0}
 IsNoEvent (Event e) reply = ⊥
 IsNoEvent (Next user slot n) reply = Unit {0}
 IsNoEvent (Many user slot ranges) reply = Unit {0}
 IsNoEvent (Close user slot) reply = Unit {0}
+IsNoEvent (Merge slot) reply = Unit {0}
 
 -- users, rights, tables and the clock stay as they were
 abbrev pub Unmoved : Type 0

@@ -3,6 +3,7 @@ ghost use Rattle.std.specs.Prelude.{◌≡◌, IfOk};
 
 use crate::versions::Versions;
 use std::alloc::AllocError;
+use tab_cells::Compaction;
 use tab_key::{Bounds, ByteString, Column, Items, Name};
 use tab_label::AuthSet;
 use tab_mutation::Mutation;
@@ -25,6 +26,16 @@ pub enum Extent {
     Partial,
     /// All that each tablet holds.
     Full,
+}
+
+/// Where the finished merge of an Install is.
+#[derive(Clone, Copy, Debug, PartialEq, Eq)]
+pub enum Given {
+    /// In this slot of a run or a script: the merge of the job that was begun in it.
+    InSlot(u64),
+    /// It came with the event, where a core is stepped by itself or a book is written. The number is its job's: how many jobs were begun
+    /// before it.
+    ByHand(u64),
 }
 
 /// What a scan asks for. (Accumulo user manual: scanner, fetching columns, authorizations)
@@ -102,6 +113,21 @@ pub enum Act {
     /// Ask whether an image may be loaded in place of all users, rights and tables. Where it is done the caller may load one: the event
     /// itself changes nothing but the clock.
     Load,
+    /// Begin a compaction of this kind in the tablet that holds the row, which may be of any length. What was written to the tablet since it
+    /// was last frozen is frozen, and it is settled what is to be merged: all runs, some of the sorted tables, chosen by their sizes, or all
+    /// that the tablet holds. The job that is handed out makes the merge, apart from all events, and an `Install` puts it in place; scans and
+    /// writes go on meanwhile. Where there is nothing to merge `Nothing` is told. It needs one of the permissions ALTER_TABLE for the server,
+    /// ALTER_TABLE and WRITE on the table. Refused last of all where 2^64 - 1 jobs were begun. Whether there is anything to merge is the
+    /// core's own affair: a history allows each of these answers. No scan is answered otherwise after it. (Accumulo user manual: minor
+    /// compaction, major compaction)
+    Begin(Name, ByteString, Compaction),
+    /// Put the finished merge of a job in the place of what it merged. By a slot without a finished merge it is refused before all else, and
+    /// is no event; else it uses the merge up, whatever it is answered, for want of memory too: the tablets are then as they were, and the
+    /// merge can be begun and made anew. It needs what a `Begin` needs. Refused last of all as stale: where what was merged doesn't all
+    /// stand in the job's tablet any more, where the compaction of its kind that is under way there isn't this one, and where the tablet is
+    /// gone or isn't the named table's. What stands there is the core's own affair: a history allows it to be done, or stale with any count.
+    /// No scan is answered otherwise after it. (Accumulo user manual: minor compaction, major compaction)
+    Install(Name, Given),
 }
 
 /// What a user asks at a moment. Events are the atomic steps of a core. The clock is the greatest moment of all events so far, refused
@@ -116,7 +142,7 @@ pub struct Event {
     pub act: Act,
 }
 
-/// One step of a run: an event, or what one user does with a session of his.
+/// One step of a run: an event, what one user does with a session of his, or the merge of a job.
 #[derive(Clone, Drop)]
 pub enum Step {
     /// An event.
@@ -147,11 +173,51 @@ pub enum Step {
         /// The number of sessions opened for the user before this one.
         slot: u32,
     },
+    /// The merge of the job in the slot is made. It is no event and no one's step: it asks for no permission and has no moment, and no table
+    /// changes before an `Install` of the slot. Refused where the slot holds no job whose merge is to be made: none was begun in it, or its
+    /// merge was made already. Where memory lacks for it the job waits on in its slot.
+    Merge {
+        /// The number of jobs begun before this one, by whomever.
+        slot: u64,
+    },
 }
 
 /// A copy of the event. An error leaves nothing behind.
 pub fn copied(event: &Event) -> Result<Event, AllocError>
     ensures { IfOk result (λ copy. copy ≡ event.now) }
 {
-    event.clone()
+    Ok(Event {
+        user: event.user,
+        moment: event.moment,
+        act: copied_act(&event.act)?,
+    })
+}
+
+// A copy of the act. An error leaves nothing behind.
+fn copied_act(act: &Act) -> Result<Act, AllocError>
+    ensures { IfOk result (λ copy. copy ≡ act.now) }
+{
+    Ok(match act {
+        Act::Open(scan) => Act::Open(scan.clone()?),
+        Act::Write(table, mutation) => Act::Write(*table, mutation.clone()?),
+        Act::CreateTable(table, time, versions) => Act::CreateTable(*table, *time, *versions),
+        Act::DropTable(table) => Act::DropTable(*table),
+        Act::SetConstraints(table, set) => Act::SetConstraints(*table, set.clone()?),
+        Act::CreateUser(name) => Act::CreateUser(*name),
+        Act::DropUser(name) => Act::DropUser(*name),
+        Act::SetAuths(name, auths) => Act::SetAuths(*name, auths.clone()?),
+        Act::Grant(name, permission) => Act::Grant(*name, *permission),
+        Act::Revoke(name, permission) => Act::Revoke(*name, *permission),
+        Act::Rights(table) => Act::Rights(*table),
+        Act::Status(table) => Act::Status(*table),
+        Act::Flush(table) => Act::Flush(*table),
+        Act::Compact(table, extent) => Act::Compact(*table, *extent),
+        Act::AddSplit(table, row) => Act::AddSplit(*table, row.clone()?),
+        Act::SplitBySize(table, row, limit) => Act::SplitBySize(*table, row.clone()?, *limit),
+        Act::Splits(table) => Act::Splits(*table),
+        Act::Save => Act::Save,
+        Act::Load => Act::Load,
+        Act::Begin(table, row, kind) => Act::Begin(*table, row.clone()?, *kind),
+        Act::Install(table, given) => Act::Install(*table, *given),
+    })
 }

@@ -3,7 +3,7 @@ ghost use Rattle.tab_history.specs.OwnRights.{RightsAreTold};
 ghost use Rattle.tab_history.specs.Lives.{LivesAreApart};
 ghost use Rattle.tab_history.specs.Rooted.{RootStays};
 ghost use Rattle.tab_history.specs.Refinement.{SameHistories, SameEvents, RefinementIsTransitive, SoundRefinesItself, NewCoreIsSound, NewCoreRefines, RefinementIsSound, AlikeRefines, AnswersAreOne};
-ghost use Rattle.tab_history.specs.Chains.{RightStep, GoesOn, ChainsRefine};
+ghost use Rattle.tab_history.specs.Chains.{RightStep, GoesOn, SlotsAreAside, InstallsUseUp, ChainsRefine};
 ghost use Rattle.tab_history.specs.Runs.{EveryRunIsAnswered, OneHistory, MemoryLacksWhereItMay, Unmoved};
 
 /// What a user is told of his rights has just the permissions that he has, and his authorizations.
@@ -94,6 +94,16 @@ pub fn right_step()
 /// A step that is right on what a core holds goes on with each history that the core refines.
 pub fn goes_on()
     ensures { GoesOn }
+{}
+
+/// An Install by a slot with a finished merge is answered as one that came with its merge, and leaves the same.
+pub fn slots_are_aside()
+    ensures { SlotsAreAside }
+{}
+
+/// Behind an Install its slot holds no finished merge, whatever it was told; a job whose merge is to be made waits on, and so does all else.
+pub fn installs_use_up()
+    ensures { InstallsUseUp }
 {}
 
 /// A chain of right steps makes a legal history, which its last core refines.

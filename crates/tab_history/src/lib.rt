@@ -12,7 +12,7 @@
 //!
 //! The definitions stand in `specs`, in this order of reading: `Settings`, `Bases`, `Changes`, `Readings` (what there is after some
 //! changes), `Cells` (what a scan shows), `Checks` (why an event is refused, or a request for ranges),
-//! `OwnRights` (what a user is told of his rights), `Sessions`, `Answers` (the answer to each step, and which are left open), `Histories`, `Lives` (what a creation begins with), `Legal` (which histories are),
+//! `OwnRights` (what a user is told of his rights), `Sessions`, `Jobs` (compactions that were begun), `Answers` (the answer to each step, and which are left open), `Histories`, `Lives` (what a creation begins with), `Legal` (which histories are),
 //! `Rooted` (root stays), `Held` and `Refinement` (which cores refine which histories), `Chains`, `Runs`. `Examples` computes
 //! examples. The definitions of records, labels, mutations, constraints and permissions stand in the crates below.
 #![tactic(auto)]
@@ -26,12 +26,12 @@ mod split_fault;
 mod versions;
 
 pub use counts::Counts;
-pub use event::{Act, Event, Extent, Scan, Step, TimeMode, copied};
+pub use event::{Act, Event, Extent, Given, Scan, Step, TimeMode, copied};
 pub use laws::{
-    alike_refines, answers_are_one, chains_refine, every_run_is_answered, goes_on, lives_are_apart,
-    memory_lacks_where_it_may, new_core_is_sound, new_core_refines, one_history,
+    alike_refines, answers_are_one, chains_refine, every_run_is_answered, goes_on, installs_use_up,
+    lives_are_apart, memory_lacks_where_it_may, new_core_is_sound, new_core_refines, one_history,
     refinement_is_sound, refinement_is_transitive, right_step, rights_are_told, root_stays,
-    same_events, same_histories, sound_refines_itself, unmoved,
+    same_events, same_histories, slots_are_aside, sound_refines_itself, unmoved,
 };
 pub use reply::{Refusal, Reply};
 pub use rights::Rights;

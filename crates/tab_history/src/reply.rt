@@ -7,7 +7,8 @@ use tab_key::{ByteString, Cells, Items, Name, Part};
 use tab_policy::Permission;
 use tab_rules::Violation;
 
-/// Why a step is refused. A refused event changes no user, cell, right or table; all but `NoMemory` and a full list of sessions move the clock.
+/// Why a step is refused. A refused event changes no user, cell, right or table; all but `NoMemory`, a full
+/// list of sessions and `NoJob` move the clock.
 #[derive(Drop)]
 pub enum Refusal {
     /// There is no user of the caller's name.
@@ -27,7 +28,7 @@ pub enum Refusal {
     /// The mutation has no update.
     EmptyMutation,
     /// A part is over its limit, which [`Part`] names; `Part::Sessions` is a full list of sessions. `Part::Numbers` says, last of all
-    /// checks, that the numbers of writes, tables, users or end rows are used up.
+    /// checks, that the numbers of writes, tables, users, end rows or jobs are used up.
     TooLarge(Part),
     /// There is a table of this name already.
     TableExists(Name),
@@ -37,9 +38,16 @@ pub enum Refusal {
     NoUser(Name),
     /// The low row is above the high row, or equal to it with an exclusive end.
     BadRange,
+    /// A finished merge isn't installed: what it merged doesn't all stand in its tablet any more, or the compaction of its kind that is under
+    /// way there isn't this one. It tells how many frozen memory maps and sorted tables the tablet holds now; 0 where the tablet is gone or
+    /// isn't the named table's, and 2^64 - 1 where there are more.
+    Stale(u64),
     /// There is no session in this slot of the user.
     NoSession(u32),
-    /// There was no memory for a step that takes some; it had no effect at all.
+    /// There is no job in this slot whose merge can be made, or no finished merge that can be installed. In text and frames it is told
+    /// under the number and the name of `NoSession`.
+    NoJob(u64),
+    /// There was no memory for a step that takes some; it had no effect at all, but that an Install gives its finished merge up.
     NoMemory,
     /// Root can't be dropped, and its system permissions don't change.
     RootFixed,
@@ -51,9 +59,9 @@ pub enum Refusal {
     BadSplit(SplitFault),
 }
 
-/// What a step is answered; `S` is the session that an accepted Open hands out.
+/// What a step is answered; `S` is the session that an accepted Open hands out, `J` the job that a Begin does.
 #[derive(Drop)]
-pub enum Reply<S = ()> {
+pub enum Reply<S = (), J = ()> {
     /// The step was done.
     Done,
     /// The step was refused.
@@ -70,26 +78,33 @@ pub enum Reply<S = ()> {
     Counted(Counts),
     /// The end rows of a table's tablets, rising.
     Rows(Items<ByteString>),
+    /// A job was begun, and its merge can be made.
+    Begun(J),
+    /// There is nothing to merge, and no job was begun.
+    Nothing,
 }
 
-impl<S> Reply<S> {
+impl<S, J> Reply<S, J> {
     ghost use Rattle.std.specs.Prelude.{◌≡◌};
-    ghost use Rattle.tab_history.specs.Answers.{told_of, session_of};
+    ghost use Rattle.tab_history.specs.Answers.{told_of, session_of, job_of};
 
-    /// The reply without the session, and the session where there is one.
-    pub fn into_parts(self) -> (Reply, Option<S>)
+    /// The reply without what it hands out; the session, and the job, where there is one.
+    pub fn into_parts(self) -> (Reply, Option<S>, Option<J>)
         ensures told { result.0 ≡ told_of self }
         ensures session { result.1 ≡ session_of self }
+        ensures job { result.2 ≡ job_of self }
     {
         match self {
-            Reply::Done => (Reply::Done, None),
-            Reply::Refused(refusal) => (Reply::Refused(refusal), None),
-            Reply::Opened(session) => (Reply::Opened(()), Some(session)),
-            Reply::Batch(cells) => (Reply::Batch(cells), None),
-            Reply::Ranges(ranges) => (Reply::Ranges(ranges), None),
-            Reply::Rights(rights) => (Reply::Rights(rights), None),
-            Reply::Counted(counts) => (Reply::Counted(counts), None),
-            Reply::Rows(rows) => (Reply::Rows(rows), None),
+            Reply::Done => (Reply::Done, None, None),
+            Reply::Refused(refusal) => (Reply::Refused(refusal), None, None),
+            Reply::Opened(session) => (Reply::Opened(()), Some(session), None),
+            Reply::Batch(cells) => (Reply::Batch(cells), None, None),
+            Reply::Ranges(ranges) => (Reply::Ranges(ranges), None, None),
+            Reply::Rights(rights) => (Reply::Rights(rights), None, None),
+            Reply::Counted(counts) => (Reply::Counted(counts), None, None),
+            Reply::Rows(rows) => (Reply::Rows(rows), None, None),
+            Reply::Begun(job) => (Reply::Begun(()), None, Some(job)),
+            Reply::Nothing => (Reply::Nothing, None, None),
         }
     }
 }

@@ -1,45 +1,80 @@
 -- The answers where numbers are never used up, which need not be counted; an ample reply is one of them.
-use Rattle.std.proofs.Common.{◌≡◌, inr, ℕ, ℤ, List, Bool, true, false, cond, ◌&&◌, refl}
+use Rattle.std.proofs.Common.{◌≡◌, inr, ℕ, ℤ, List, Bool, true, false, cond, ◌&&◌, refl, ◌∙◌, ap, subst}
+use mathlib.Core.Bool.{true≢false}
 use Rattle.std.specs.Prelude.{Option, Some, None}
 use Rattle.tab_key.specs.declared.part.Part.TheVariants.{Sessions}
 use Rattle.tab_history.specs.Bases.{Base}
 use Rattle.tab_history.specs.Changes.{Change}
 use Rattle.tab_history.specs.Checks.{standing, refusal_of, user_named, exists_in}
 use Rattle.tab_history.specs.Sessions.{Move, is_full, session_in}
-use Rattle.tab_history.specs.Answers.{Told, told, granted, are_used_up, numbered, event_answer, is_open, next_answer, many_answer, close_answer, answer}
+use Rattle.tab_history.specs.Jobs.{JobMove}
+use Rattle.tab_history.specs.Answers.{Told, told, granted, are_used_up, numbered, event_answer, is_open, next_answer, many_answer, close_answer, empty_slot, slotted, answer}
 use Rattle.tab_history.specs.Legal.{IsExhausted}
 use Rattle.tab_history.specs.declared.event.Act.{Act}
+use Rattle.tab_history.specs.declared.event.Act.TheVariants.{Open, Write, CreateTable, DropTable, SetConstraints, CreateUser, DropUser, SetAuths, Grant, Revoke, Rights, Status, Flush, Compact, AddSplit, SplitBySize, Splits, Save, Load, Begin, Install}
 use Rattle.tab_history.specs.declared.event.Step.{Step}
-use Rattle.tab_history.specs.declared.event.Step.TheVariants.{Event, Next, Many, Close}
+use Rattle.tab_history.specs.declared.event.Step.TheVariants.{Event, Next, Many, Close, Merge}
 use Rattle.tab_history.specs.declared.reply.Refusal.{Refusal}
 use Rattle.tab_history.specs.declared.reply.Refusal.TheVariants.{TooLarge}
-use Rattle.tab_history.specs.declared.reply.Reply.TheVariants.{Refused}
+use Rattle.tab_history.specs.declared.reply.Reply.TheVariants.{Done, Refused}
+use Rattle.tab_noninterference.specs.Views.{is_inner, is_aside}
 
 -- the answer to an event, by its checks alone
 abbrev pub ample_event : Base → List Change → ℤ → List ℕ → Act → Told
 ample_event b j now user act = told (refusal_of (standing b j user) (exists_in b j (user_named act)) now user act) (granted (standing b j user) act)
 
--- the answer to a step, by the checks of an event alone
+-- the answer to a step, by the checks of an event alone, whatever jobs there are; that of a merge is none that a user hears
 unfoldable pub ample_answer : Base → List Change → List Move → ℤ → Step → Told
 ample_answer b j moves now (Event e) = cond (is_open e.act && is_full moves) (Refused (TooLarge Sessions)) (ample_event b j now e.user e.act)
 ample_answer b j moves now (Next user slot n) = next_answer (session_in moves slot) slot n
 ample_answer b j moves now (Many user slot ranges) = many_answer (session_in moves slot) slot ranges
 ample_answer b j moves now (Close user slot) = close_answer (session_in moves slot) slot
+ample_answer b j moves now (Merge slot) = Done
 
 not_numbered : (o : Option Refusal) (used_up : Bool) (reply : Told) → (IsExhausted (told o (numbered used_up reply)) → ⊥) → told o (numbered used_up reply) ≡ told o reply
 not_numbered None true reply n = absurd (n (inr refl))
 not_numbered None false reply n = refl
 not_numbered (Some r) used_up reply n = refl
 
--- an answer that isn't that something ran out is the one by the checks alone
-pub is_ample : (b : Base) (j : List Change) (moves : List Move) (now : ℤ) (step : Step) → (IsExhausted (answer b j moves now step) → ⊥) → answer b j moves now step ≡ ample_answer b j moves now step
+-- the act names no slot, where it isn't aside
+outer_slot : (act : Act) (jobs : List JobMove) → is_inner act ≡ false → empty_slot jobs act ≡ None
+outer_slot (Open scan) jobs e = refl
+outer_slot (Write t m) jobs e = refl
+outer_slot (CreateTable t time n) jobs e = refl
+outer_slot (DropTable t) jobs e = refl
+outer_slot (SetConstraints t cs) jobs e = refl
+outer_slot (CreateUser n) jobs e = refl
+outer_slot (DropUser n) jobs e = refl
+outer_slot (SetAuths n auths) jobs e = refl
+outer_slot (Grant n p) jobs e = refl
+outer_slot (Revoke n p) jobs e = refl
+outer_slot (Rights t) jobs e = refl
+outer_slot (Status t) jobs e = refl
+outer_slot (Flush t) jobs e = refl
+outer_slot (Compact t extent) jobs e = refl
+outer_slot (AddSplit t row) jobs e = refl
+outer_slot (SplitBySize t row limit) jobs e = refl
+outer_slot (Splits t) jobs e = refl
+outer_slot Save jobs e = refl
+outer_slot Load jobs e = refl
+outer_slot (Begin t row kind) jobs e = refl
+outer_slot (Install t given) jobs e = absurd (true≢false e)
+
+-- an answer that isn't that something ran out is the one by the checks alone, where the step isn't aside
+pub is_ample : (b : Base) (j : List Change) (moves : List Move) (jobs : List JobMove) (now : ℤ) (step : Step) → is_aside step ≡ false → (IsExhausted (answer b j moves jobs now step) → ⊥) → answer b j moves jobs now step ≡ ample_answer b j moves now step
 unfolding answer ample_answer
-is_ample b j moves now (Event e) n = go (is_open e.act && is_full moves) n
+is_ample b j moves jobs now (Event e) a n = go (is_open e.act && is_full moves) n
   where
-    go : (v : Bool) → (IsExhausted (cond v (Refused (TooLarge Sessions)) (event_answer b j now e.user e.act)) → ⊥)
-        → cond v (Refused (TooLarge Sessions)) (event_answer b j now e.user e.act) ≡ cond v (Refused (TooLarge Sessions)) (ample_event b j now e.user e.act)
+    slots : empty_slot jobs e.act ≡ None
+    slots = outer_slot e.act jobs a
+
+    go : (v : Bool) → (IsExhausted (cond v (Refused (TooLarge Sessions)) (slotted (empty_slot jobs e.act) (event_answer b j now e.user e.act))) → ⊥)
+        → cond v (Refused (TooLarge Sessions)) (slotted (empty_slot jobs e.act) (event_answer b j now e.user e.act)) ≡ cond v (Refused (TooLarge Sessions)) (ample_event b j now e.user e.act)
     go true n = refl
-    go false n = not_numbered (refusal_of (standing b j e.user) (exists_in b j (user_named e.act)) now e.user e.act) (are_used_up b j e.act) (granted (standing b j e.user) e.act) n
-is_ample b j moves now (Next user slot k) n = refl
-is_ample b j moves now (Many user slot ranges) n = refl
-is_ample b j moves now (Close user slot) n = refl
+    go false n =
+        ap (λ o. slotted o (event_answer b j now e.user e.act)) slots
+        ∙ not_numbered (refusal_of (standing b j e.user) (exists_in b j (user_named e.act)) now e.user e.act) (are_used_up b j e.act) (granted (standing b j e.user) e.act) (subst (λ o. IsExhausted (slotted o (event_answer b j now e.user e.act)) → ⊥) slots n)
+is_ample b j moves jobs now (Next user slot k) a n = refl
+is_ample b j moves jobs now (Many user slot ranges) a n = refl
+is_ample b j moves jobs now (Close user slot) a n = refl
+is_ample b j moves jobs now (Merge slot) a n = absurd (true≢false a)

@@ -7,9 +7,9 @@ use Rattle.tab_history.specs.Changes.{Change, changes_of}
 use Rattle.tab_history.specs.Answers.{Told, leaves_open, is_open, changes_by, moves_by}
 use Rattle.tab_history.specs.Runs.{is_left_open}
 use Rattle.tab_history.specs.declared.event.Act.{Act}
-use Rattle.tab_history.specs.declared.event.Act.TheVariants.{Open, Write, CreateTable, DropTable, SetConstraints, CreateUser, DropUser, SetAuths, Grant, Revoke, Rights, Status, Flush, Compact, AddSplit, SplitBySize, Splits, Save, Load}
+use Rattle.tab_history.specs.declared.event.Act.TheVariants.{Open, Write, CreateTable, DropTable, SetConstraints, CreateUser, DropUser, SetAuths, Grant, Revoke, Rights, Status, Flush, Compact, AddSplit, SplitBySize, Splits, Save, Load, Begin, Install}
 use Rattle.tab_history.specs.declared.event.Step.{Step}
-use Rattle.tab_history.specs.declared.event.Step.TheVariants.{Event, Next, Many, Close}
+use Rattle.tab_history.specs.declared.event.Step.TheVariants.{Event, Next, Many, Close, Merge}
 use Rattle.tab_noninterference.specs.Views.{is_inner, is_aside}
 use Rattle.tab_noninterference.specs.Hearing.{is_covered_act, heard_of}
 use Rattle.tab_noninterference.proofs.Effects.{no_changes, no_moves}
@@ -29,6 +29,8 @@ inner_does_nothing (SplitBySize t row limit) e = record { changes = λ now user.
 inner_does_nothing (Splits t) e = record { changes = λ now user. refl; opens = refl; uncovered = refl }
 inner_does_nothing Save e = record { changes = λ now user. refl; opens = refl; uncovered = refl }
 inner_does_nothing Load e = record { changes = λ now user. refl; opens = refl; uncovered = refl }
+inner_does_nothing (Begin t row kind) e = record { changes = λ now user. refl; opens = refl; uncovered = refl }
+inner_does_nothing (Install t given) e = record { changes = λ now user. refl; opens = refl; uncovered = refl }
 inner_does_nothing (Open scan) e = absurd (true≢false (sym e))
 inner_does_nothing (Write t m) e = absurd (true≢false (sym e))
 inner_does_nothing (CreateTable t time n) e = absurd (true≢false (sym e))
@@ -46,18 +48,21 @@ aside_changes now (Event e) r a = no_changes now e.user e.moment e.act r ((inner
 aside_changes now (Next u slot n) r a = absurd (true≢false (sym a))
 aside_changes now (Many u slot ranges) r a = absurd (true≢false (sym a))
 aside_changes now (Close u slot) r a = absurd (true≢false (sym a))
+aside_changes now (Merge slot) r a = refl
 
 pub aside_moves : (b : Base) (j : List Change) (step : Step) (r : Told) → is_aside step ≡ true → moves_by b j step r ≡ []
 aside_moves b j (Event e) r a = no_moves b j e.user e.moment e.act r (inner_does_nothing e.act a).opens
 aside_moves b j (Next u slot n) r a = absurd (true≢false (sym a))
 aside_moves b j (Many u slot ranges) r a = absurd (true≢false (sym a))
 aside_moves b j (Close u slot) r a = absurd (true≢false (sym a))
+aside_moves b j (Merge slot) r a = refl
 
 pub aside_heard : (b : Base) (j : List Change) (step : Step) (r : Told) → is_aside step ≡ true → heard_of b j step r ≡ []
 aside_heard b j (Event e) r a = rw (inner_does_nothing e.act a).uncovered refl
 aside_heard b j (Next u slot n) r a = absurd (true≢false (sym a))
 aside_heard b j (Many u slot ranges) r a = absurd (true≢false (sym a))
 aside_heard b j (Close u slot) r a = refl
+aside_heard b j (Merge slot) r a = refl
 
 -- what is told of the other steps isn't left open
 outer_closed : (act : Act) → is_inner act ≡ false → leaves_open act ≡ false
@@ -69,6 +74,8 @@ outer_closed (SplitBySize t row limit) e = absurd (true≢false e)
 outer_closed (Splits t) e = absurd (true≢false e)
 outer_closed Save e = refl
 outer_closed Load e = refl
+outer_closed (Begin t row kind) e = absurd (true≢false e)
+outer_closed (Install t given) e = absurd (true≢false e)
 outer_closed (Open scan) e = refl
 outer_closed (Write t m) e = refl
 outer_closed (CreateTable t time n) e = refl
@@ -86,3 +93,4 @@ outside_closed (Event e) a = outer_closed e.act a
 outside_closed (Next u slot n) a = refl
 outside_closed (Many u slot ranges) a = refl
 outside_closed (Close u slot) a = refl
+outside_closed (Merge slot) a = refl

@@ -22,9 +22,9 @@ use Rattle.tab_history.specs.Answers.{Told, told_opened, told, granted, is_open,
 use Rattle.tab_history.specs.Histories.{user_of}
 use Rattle.tab_history.specs.declared.event.Scan.{Scan}
 use Rattle.tab_history.specs.declared.event.Act.{Act}
-use Rattle.tab_history.specs.declared.event.Act.TheVariants.{Open, Write, CreateTable, DropTable, SetConstraints, CreateUser, DropUser, SetAuths, Grant, Revoke, Rights, Status, Flush, Compact, AddSplit, SplitBySize, Splits, Save, Load}
+use Rattle.tab_history.specs.declared.event.Act.TheVariants.{Open, Write, CreateTable, DropTable, SetConstraints, CreateUser, DropUser, SetAuths, Grant, Revoke, Rights, Status, Flush, Compact, AddSplit, SplitBySize, Splits, Save, Load, Begin, Install}
 use Rattle.tab_history.specs.declared.event.Step.{Step}
-use Rattle.tab_history.specs.declared.event.Step.TheVariants.{Event, Next, Many, Close}
+use Rattle.tab_history.specs.declared.event.Step.TheVariants.{Event, Next, Many, Close, Merge}
 use Rattle.tab_history.specs.declared.reply.Refusal.{Refusal}
 use Rattle.tab_history.specs.declared.reply.Refusal.TheVariants.{BadAuthorizations, TooLarge, BadRange}
 use Rattle.tab_history.specs.declared.reply.Reply.TheVariants.{Done, Refused, Opened, Batch}
@@ -190,6 +190,8 @@ module _ (held : List (List ℕ)) (b : Base) (user : List ℕ) (low : (t : List 
   event_effect m (Splits t) within = plain_effect m (Splits t) refl refl (λ x. refl)
   event_effect m Save within = plain_effect m Save refl refl (λ x. refl)
   event_effect m Load within = plain_effect m Load refl refl (λ x. refl)
+  event_effect m (Begin t row kind) within = plain_effect m (Begin t row kind) refl refl (λ x. refl)
+  event_effect m (Install t given) within = plain_effect m (Install t given) refl refl (λ x. refl)
 
   pub own_effect : (step : Step) → user_of step ≡ user → IsSubset (auths_given b user j) held → Same step
   unfolding ample_answer
@@ -197,3 +199,4 @@ module _ (held : List (List ℕ)) (b : Base) (user : List ℕ) (low : (t : List 
   own_effect (Next x slot n) u within = record { changes = refl; moves = next_moves c b his j x slot n _; heard = refl }
   own_effect (Many x slot ranges) u within = record { changes = refl; moves = refl; heard = refl }
   own_effect (Close x slot) u within = record { changes = refl; moves = close_moves c b his j x slot _; heard = refl }
+  own_effect (Merge slot) u within = record { changes = refl; moves = refl; heard = refl }

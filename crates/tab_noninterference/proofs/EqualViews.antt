@@ -9,12 +9,12 @@ use Rattle.tab_history.specs.Changes.{Change}
 use Rattle.tab_history.specs.Readings.{base_table, base_records}
 use Rattle.tab_history.specs.Sessions.{Move, is_full}
 use Rattle.tab_history.specs.Answers.{Told, is_open, changes_by, moves_by}
-use Rattle.tab_history.specs.Histories.{Entry, World, world_of, clock_of, clock_at, journal, moves_of, is_by, user_of}
+use Rattle.tab_history.specs.Histories.{Entry, World, world_of, clock_of, clock_at, journal, moves_of, jobs_of, is_by, user_of}
 use Rattle.tab_history.specs.Legal.{answer_at, IsAnswer, Legal, IsAmple, IsExhausted, LacksMemory}
 use Rattle.tab_history.specs.declared.event.Act.{Act}
-use Rattle.tab_history.specs.declared.event.Act.TheVariants.{Open, Write, CreateTable, DropTable, SetConstraints, CreateUser, DropUser, SetAuths, Grant, Revoke, Rights, Status, Flush, Compact, AddSplit, SplitBySize, Splits, Save, Load}
+use Rattle.tab_history.specs.declared.event.Act.TheVariants.{Open, Write, CreateTable, DropTable, SetConstraints, CreateUser, DropUser, SetAuths, Grant, Revoke, Rights, Status, Flush, Compact, AddSplit, SplitBySize, Splits, Save, Load, Begin, Install}
 use Rattle.tab_history.specs.declared.event.Step.{Step}
-use Rattle.tab_history.specs.declared.event.Step.TheVariants.{Event, Next, Many, Close}
+use Rattle.tab_history.specs.declared.event.Step.TheVariants.{Event, Next, Many, Close, Merge}
 use Rattle.tab_history.specs.declared.reply.Refusal.TheVariants.{TooLarge}
 use Rattle.tab_history.specs.declared.reply.Reply.TheVariants.{Refused}
 use Rattle.tab_noninterference.proofs.Ample.{is_ample, ample_event, ample_answer}
@@ -50,6 +50,7 @@ clock_irrelevant b j moves clock (Event e) = go (is_open e.act && is_full moves)
 clock_irrelevant b j moves clock (Next u slot n) = refl
 clock_irrelevant b j moves clock (Many u slot ranges) = refl
 clock_irrelevant b j moves clock (Close u slot) = refl
+clock_irrelevant b j moves clock (Merge slot) = refl
 
 -- and neither do the changes
 event_changes_irrelevant : (moves : List Move) (clock : ℤ) (u : List ℕ) (m : ℤ) (act : Act) (r : Told) → changes_by (shown_clock moves clock (asks u m act)) (asks u m act) r ≡ changes_by (clock_at clock (asks u m act)) (asks u m act) r
@@ -72,12 +73,15 @@ event_changes_irrelevant moves clock u m (SplitBySize t row limit) r = refl
 event_changes_irrelevant moves clock u m (Splits t) r = refl
 event_changes_irrelevant moves clock u m Save r = refl
 event_changes_irrelevant moves clock u m Load r = refl
+event_changes_irrelevant moves clock u m (Begin t row kind) r = refl
+event_changes_irrelevant moves clock u m (Install t given) r = refl
 
 changes_irrelevant : (moves : List Move) (clock : ℤ) (step : Step) (r : Told) → changes_by (shown_clock moves clock step) step r ≡ changes_by (clock_at clock step) step r
 changes_irrelevant moves clock (Event e) r = event_changes_irrelevant moves clock e.user e.moment e.act r
 changes_irrelevant moves clock (Next u slot n) r = refl
 changes_irrelevant moves clock (Many u slot ranges) r = refl
 changes_irrelevant moves clock (Close u slot) r = refl
+changes_irrelevant moves clock (Merge slot) r = refl
 
 module _ (b : Base) (clock : ℤ) (held : List (List ℕ)) (user : List ℕ) (low : (t : List ℕ) → NumbersBelow b.next (base_records (base_table b t))) where
   -- what he may read of the base
@@ -134,7 +138,7 @@ module _ (b : Base) (clock : ℤ) (held : List (List ℕ)) (user : List ℕ) (lo
       is_answer : is_aside e.step ≡ false → IsAnswer w es es e.step e.reply ⊎ LacksMemory e.step e.reply → e.reply ≡ ample_answer b (journal w es) (moves_of w (user_of e.step) es) now e.step
       is_answer a (inl h) =
           let one : e.reply ≡ answer_at w es es e.step = closed_reply e.step (answer_at w es es e.step) e.reply (outside_closed e.step a) h in
-          one ∙ is_ample b (journal w es) (moves_of w (user_of e.step) es) now e.step (λ x. ample.1 (subst IsExhausted (sym one) x))
+          one ∙ is_ample b (journal w es) (moves_of w (user_of e.step) es) (jobs_of es) now e.step a (λ x. ample.1 (subst IsExhausted (sym one) x))
       is_answer a (inr h) = absurd (ample.1 (inl h.1))
 
       by_whom : (v : Bool) → is_by user e.step ≡ v → replay c held user (sights held user w es) ≡ known es

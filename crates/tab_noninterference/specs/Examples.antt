@@ -25,15 +25,18 @@ use Rattle.tab_history.specs.Readings.{has_user, user_count, held_auths, has_sys
 use Rattle.tab_cells.specs.Cells.{matches, cells}
 use Rattle.tab_history.specs.Checks.{standing, malformed, stamped, outdated, refusal_of}
 use Rattle.tab_history.specs.Sessions.{opened, closed, session_in}
+use Rattle.tab_history.specs.Jobs.{begun, job_in}
 use Rattle.tab_history.specs.Answers.{Told, told_opened, answer, session_list}
-use Rattle.tab_history.specs.Histories.{Entry, world_of, clock_of, journal, moves_of}
+use Rattle.tab_history.specs.Histories.{Entry, world_of, clock_of, journal, moves_of, jobs_of}
 use Rattle.tab_history.specs.Runs.{played}
 use Rattle.tab_history.specs.declared.event.TimeMode.TheVariants.{Any}
 use Rattle.tab_history.specs.declared.event.Extent.TheVariants.{Partial, Full}
+use Rattle.tab_cells.specs.declared.compaction.Compaction.TheVariants as part
+use Rattle.tab_history.specs.declared.event.Given.TheVariants.{InSlot, ByHand}
 use Rattle.tab_history.specs.declared.event.Act.{Act}
 use Rattle.tab_history.specs.declared.event.Act.TheVariants as act
 use Rattle.tab_history.specs.declared.event.Step.{Step}
-use Rattle.tab_history.specs.declared.event.Step.TheVariants.{Next, Many}
+use Rattle.tab_history.specs.declared.event.Step.TheVariants.{Next, Many, Merge}
 use Rattle.tab_history.specs.declared.reply.Refusal.TheVariants.{PermissionDenied}
 use Rattle.tab_history.specs.declared.reply.Reply.TheVariants.{Refused, Batch, Ranges, Rights}
 use Rattle.tab_history.specs.ExampleWords.{t, r, f, q, bob, eve, asks, as_root, as_bob}
@@ -43,7 +46,7 @@ use Rattle.tab_noninterference.specs.Hearing.{Heard, heard}
 
 -- names what the examples look into
 everything : ℕ
-unfolding is_term_byte step ending reads_on label_of column_cmp key_cmp place_cmp newer_cmp same_column hides is_deleted outranks is_kept matches cells user_exists policy_users auths_of system_granted table_granted has_user user_count held_auths has_system_right has_table_right table_count settings_of next_number records_of updates_of shape_error malformed stamped outdated violations standing refusal_of opened closed session_in answer session_list clock_of journal moves_of auths_given sights heard
+unfolding is_term_byte step ending reads_on label_of column_cmp key_cmp place_cmp newer_cmp same_column hides is_deleted outranks is_kept matches cells user_exists policy_users auths_of system_granted table_granted has_user user_count held_auths has_system_right has_table_right table_count settings_of next_number records_of updates_of shape_error malformed stamped outdated violations standing refusal_of opened closed session_in begun job_in answer session_list clock_of journal moves_of jobs_of auths_given sights heard
 everything = 0
 
 -- ---- steps, updates and cells of the examples
@@ -200,6 +203,47 @@ same_with_his_own = refl
 clock_of_his_own : (sees (make ++ asks bob (pos 8) (act.Status t) ∷ as_bob (writes []) ∷ [])).sights ≡ Asked (as_bob (writes [])) (Some (pos 8)) ∷ (sees make).sights
 unfolding everything
 clock_of_his_own = refl
+
+-- ---- compactions in three parts
+-- root begins, merges and installs one between, and so does eve, who may not
+abbrev unseen_parts : List Step
+unseen_parts = as_root (act.Begin t r part.Full) ∷ asks eve (pos 0) (act.Begin t r part.Minor) ∷ as_root (writes (update Put (codes "B") (codes "y") (Some (pos 6)) ∷ [])) ∷ Merge 0 ∷ as_root (act.Install t (InSlot 0)) ∷ asks eve (pos 0) (act.Install t (ByHand 1)) ∷ []
+
+-- he sees nothing of it
+seen_beside_parts : sees (beside unseen_parts unseen_parts) ≡ seen_beside
+unfolding everything
+seen_beside_parts = refl
+
+-- and is told the same
+told_beside_parts : hears (beside unseen_parts unseen_parts) ≡ told_beside
+unfolding everything
+told_beside_parts = refl
+
+-- so it is where a begin of his own, which was admitted, is all that is different
+begun_by_him : sees (beside (granted_alone ++ as_bob (act.Begin t r part.Full) ∷ []) []) ≡ sees (beside granted_alone [])
+unfolding everything
+begun_by_him = refl
+
+told_begun_by_him : hears (beside (granted_alone ++ as_bob (act.Begin t r part.Full) ∷ []) []) ≡ hears (beside granted_alone [])
+unfolding everything
+told_begun_by_him = refl
+
+-- and where he takes all parts himself, admitted or not
+abbrev his_own_parts : List Step
+his_own_parts = as_bob (act.Begin t r part.Full) ∷ as_root (act.Grant bob (OfTable table.AlterTable t)) ∷ as_bob (act.Begin t r part.Minor) ∷ as_bob (act.Install t (InSlot 0)) ∷ Merge 0 ∷ as_bob (act.Install t (InSlot 0)) ∷ as_bob (act.Install t (ByHand 1)) ∷ []
+
+alike_with_his_own_parts : sees (beside his_own_parts []) ≡ sees (beside granted_alone [])
+unfolding everything
+alike_with_his_own_parts = refl
+
+same_with_his_own_parts : hears (beside his_own_parts []) ≡ hears (beside granted_alone [])
+unfolding everything
+same_with_his_own_parts = refl
+
+-- Of their moments he sees what they did to the clock that his next event meets; an Install of a slot that is empty did nothing.
+clock_of_his_own_parts : (sees (make ++ asks bob (pos 8) (act.Begin t r part.Full) ∷ asks bob (pos 9) (act.Install t (InSlot 0)) ∷ as_bob (writes []) ∷ [])).sights ≡ Asked (as_bob (writes [])) (Some (pos 8)) ∷ (sees make).sights
+unfolding everything
+clock_of_his_own_parts = refl
 
 -- ---- images
 -- root saves and loads, and so does eve, who may not

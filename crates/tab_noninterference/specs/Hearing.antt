@@ -6,9 +6,9 @@ use Rattle.tab_history.specs.Changes.{Change}
 use Rattle.tab_history.specs.Answers.{Told, session_list}
 use Rattle.tab_history.specs.Histories.{Entry, World, journal, is_by}
 use Rattle.tab_history.specs.declared.event.Act.{Act}
-use Rattle.tab_history.specs.declared.event.Act.TheVariants.{Open, Write, CreateTable, DropTable, SetConstraints, CreateUser, DropUser, SetAuths, Grant, Revoke, Rights, Status, Flush, Compact, AddSplit, SplitBySize, Splits, Save, Load}
+use Rattle.tab_history.specs.declared.event.Act.TheVariants.{Open, Write, CreateTable, DropTable, SetConstraints, CreateUser, DropUser, SetAuths, Grant, Revoke, Rights, Status, Flush, Compact, AddSplit, SplitBySize, Splits, Save, Load, Begin, Install}
 use Rattle.tab_history.specs.declared.event.Step.{Step}
-use Rattle.tab_history.specs.declared.event.Step.TheVariants.{Event, Next, Many, Close}
+use Rattle.tab_history.specs.declared.event.Step.TheVariants.{Event, Next, Many, Close, Merge}
 use Rattle.tab_history.specs.declared.reply.Reply.TheVariants.{Opened}
 
 -- a reply, with the whole answer of the session that it opens
@@ -37,6 +37,8 @@ is_covered_act (SplitBySize t row limit) = false
 is_covered_act (Splits t) = false
 is_covered_act Save = false
 is_covered_act Load = false
+is_covered_act (Begin t row kind) = false
+is_covered_act (Install t given) = false
 
 -- the steps of that kind: these events, batches, and what is asked for in ranges
 abbrev pub is_covered : Step → Bool
@@ -44,6 +46,7 @@ is_covered (Event e) = is_covered_act e.act
 is_covered (Next user slot n) = true
 is_covered (Many user slot ranges) = true
 is_covered (Close user slot) = false
+is_covered (Merge slot) = false
 
 -- the whole answer of the session that a step opens, after these changes
 abbrev pub list_opened : Base → List Change → Step → Told → List Cell

@@ -6,9 +6,9 @@ use Rattle.tab_history.specs.Sessions.{Move, is_full}
 use Rattle.tab_history.specs.Answers.{Told, changes_by, is_open}
 use Rattle.tab_history.specs.Histories.{Entry, World, world_of, clock_of, clock_at, journal, moves_of, is_by}
 use Rattle.tab_history.specs.declared.event.Act.{Act}
-use Rattle.tab_history.specs.declared.event.Act.TheVariants.{Open, Write, CreateTable, DropTable, SetConstraints, CreateUser, DropUser, SetAuths, Grant, Revoke, Rights, Status, Flush, Compact, AddSplit, SplitBySize, Splits, Save, Load}
+use Rattle.tab_history.specs.declared.event.Act.TheVariants.{Open, Write, CreateTable, DropTable, SetConstraints, CreateUser, DropUser, SetAuths, Grant, Revoke, Rights, Status, Flush, Compact, AddSplit, SplitBySize, Splits, Save, Load, Begin, Install}
 use Rattle.tab_history.specs.declared.event.Step.{Step}
-use Rattle.tab_history.specs.declared.event.Step.TheVariants.{Event, Next, Many, Close}
+use Rattle.tab_history.specs.declared.event.Step.TheVariants.{Event, Next, Many, Close, Merge}
 use Rattle.tab_noninterference.specs.Given.{auths_given}
 use Rattle.tab_noninterference.specs.Concerns.{visible}
 
@@ -25,6 +25,7 @@ clock_shown moves now (Event e) = cond (is_open e.act && is_full moves) None (So
 clock_shown moves now (Next user slot n) = None
 clock_shown moves now (Many user slot ranges) = None
 clock_shown moves now (Close user slot) = None
+clock_shown moves now (Merge slot) = None
 
 -- whether the event only asks where records lie or whether an image may be saved or loaded, or lays records otherwise: it changes nothing that a
 -- history reads but the clock
@@ -48,13 +49,16 @@ is_inner (SplitBySize t row limit) = true
 is_inner (Splits t) = true
 is_inner Save = true
 is_inner Load = true
+is_inner (Begin t row kind) = true
+is_inner (Install t given) = true
 
--- the steps of that kind
+-- the steps of that kind; the merge of a job is one
 abbrev pub is_aside : Step → Bool
 is_aside (Event e) = is_inner e.act
 is_aside (Next user slot n) = false
 is_aside (Many user slot ranges) = false
 is_aside (Close user slot) = false
+is_aside (Merge slot) = true
 
 -- what he sees of a step of his own: the step, without its reply, and nothing of one that is aside
 abbrev pub own_sight : List Move → ℤ → Step → List Sight

@@ -13,7 +13,7 @@
 //! computes examples: two histories of which one user sees the same, and what each of the definitions says of small ones.
 //!
 //! What a user sees: his own steps, each event with the clock after it, but not those that only ask where records lie or lay them
-//! otherwise (counts, compactions and splits), nor those that ask whether an image may be saved or loaded; which tables are made and
+//! otherwise (counts, compactions, whole or in parts, and splits), nor those that ask whether an image may be saved or loaded; which tables are made and
 //! dropped and what they are set to;
 //! that he is made or dropped himself, and what rights and authorizations he gets and loses; and of the updates that others write those
 //! whose label holds under all authorizations that he ever holds, taken together. What he doesn't see: who else there is and what others ask, hold
