@@ -26,6 +26,9 @@ pub const LINES: &str = "  as U
   close SESSION
   flush T
   compact T EXTENT
+  begin T ROW KIND
+  merge JOB
+  install T JOB
   status T
   addsplit T ROW
   splitsize T ROW LIMIT
@@ -60,6 +63,8 @@ pub const KINDS: &str = "  U                  a user's name: 1 to 128 of a-z A-Z
   SESSION            the number that an open gave: a whole number of 32 bits without a sign, as 0
   COUNT              how many cells: a whole number of 32 bits without a sign, as 100
   EXTENT             partial or full
+  KIND               minor, partial or full
+  JOB                the number that a begin gave: a whole number of 64 bits without a sign, as 0
   LIMIT              a number of bytes: a whole number of 64 bits without a sign, as 1000
   FILE               a file's name in UTF-8: ! to ~ as they are but \\\\ for \\, \\xHH (H of 0-9 a-f) for any byte
   UPDATE             put or del, and the words behind it

@@ -19,6 +19,8 @@ fn frame(kind: &str) -> (&'static [u8], &'static [u8]) {
         b"COLS" => (b"scan t \\0 \\0 \\0 ", b""),
         b"SESSION" | b"COUNT" => (b"close ", b""),
         b"EXTENT" => (b"compact t ", b""),
+        b"KIND" => (b"begin t r ", b""),
+        b"JOB" => (b"merge ", b""),
         b"LIMIT" => (b"splitsize t r ", b""),
         b"FILE" => (b"save ", b""),
         _ => (b"insert t ", b" f q \\e v"),

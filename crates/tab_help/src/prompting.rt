@@ -23,7 +23,9 @@ impl Asks {
     // Whether the line of this command is one.
     fn has(self, command: &[u8]) -> bool {
         match command {
-            b"as" | b"at" | b"splitsize" | b"save" | b"load" => self == Asks::Script,
+            b"as" | b"at" | b"begin" | b"merge" | b"install" | b"splitsize" | b"save" | b"load" => {
+                self == Asks::Script
+            }
             _ => true,
         }
     }

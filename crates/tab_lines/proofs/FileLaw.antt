@@ -1,8 +1,7 @@
 -- The lines that name a file are exactly what is read of their words.
 use Rattle.std.proofs.Common.{ℕ, ◌≡◌, true, false, cond, List, [], ◌∷◌, refl, ap, ◌∙◌, subst, Some, None, Option}
-use Rattle.std.specs.Prelude.{codes}
 use Rattle.std.specs.Option.{option_and_then}
-use Rattle.std.specs.Str.{IsUtf8, is_utf8}
+use Rattle.std.specs.Str.{is_utf8}
 use Rattle.std.proofs.lemmas.Str.{IsUtf8-from_is_utf8, is_utf8-from_IsUtf8}
 use Rattle.tab_lines.specs.declared.file_line.FileKind.{FileKind}
 use Rattle.tab_lines.specs.declared.line.Line.{Line}

@@ -1,5 +1,5 @@
 -- How what was read is taken apart again.
-use Rattle.std.proofs.Common.{ℕ, ◌≡◌, List, [], ◌∷◌, refl, sym, ap, ◌∙◌, subst, Some, None, Option}
+use Rattle.std.proofs.Common.{ℕ, ◌≡◌, Bool, true, false, cond, List, [], ◌∷◌, refl, sym, ap, ◌∙◌, subst, Some, None, Option}
 use Rattle.std.specs.Option.{option_map, option_and_then}
 use Rattle.tab_lines.specs.Gives.{◌>>=◌, field, ends, optional}
 
@@ -67,3 +67,8 @@ pub on_optional : {A B : Type 0} (missing : A) (reads : List ℕ → Option A) (
     → ((word : List ℕ) (rest : Words) (x : A) → reads word ≡ Some x → f (x, rest) ≡ Some y → P (word ∷ rest)) → P words
 on_optional missing reads [] f y P is none then = none is
 on_optional missing reads (word ∷ rest) f y P is none then = on_field reads (word ∷ rest) f y P is then
+
+-- which side a test chose
+pub on_cond : {A : Type 0} (b : Bool) (x y : Option A) (z : A) (P : Type 0) → cond b x y ≡ Some z → (b ≡ true → x ≡ Some z → P) → (b ≡ false → y ≡ Some z → P) → P
+on_cond true x y z P is then other = then refl is
+on_cond false x y z P is then other = other refl is

@@ -16,6 +16,7 @@ pub mod PermissionLaw
 pub mod RangeLemmas
 pub mod SessionLaw
 pub mod SplitLaw
+pub mod JobLaw
 pub mod FileLemmas
 pub mod FileLaw
 pub mod LineLaw

@@ -1,5 +1,5 @@
 -- Lines are exactly what is read of their words.
-use Rattle.std.proofs.Common.{ℕ, ◌≡◌, ◌≢◌, ◌==◌, Bool, true, false, cond, List, [], ◌∷◌, refl, sym, ap, ◌∙◌, subst, arith, Some, None, Option}
+use Rattle.std.proofs.Common.{ℕ, ◌≡◌, ◌≢◌, ◌==◌, true, false, cond, List, [], ◌∷◌, refl, sym, ap, ◌∙◌, subst, arith, Some, None, Option}
 use Rattle.std.specs.Prelude.{ℤ, codes}
 use Rattle.std.specs.Option.{option_map}
 use Rattle.std.specs.Str.{bytes_eq}
@@ -37,7 +37,7 @@ use Rattle.tab_lines.specs.Forms.{IsNameWord, IsNumber, IsList, IsConstraint, Is
 use Rattle.tab_lines.specs.Forms.AreSettings.{neither as set_neither, time as set_time, versions as set_versions, both as set_both}
 use Rattle.tab_lines.specs.Forms.AreLimits.{all as limit_all, rows as limit_rows, columns as limit_columns}
 use Rattle.tab_lines.specs.Forms.IsScan.{asks as scan_asks}
-use Rattle.tab_lines.specs.Forms.Form.{blank as form_blank, asker as form_asker, at as form_at, createtable as form_createtable, droptable as form_droptable, createuser as form_createuser, dropuser as form_dropuser, setauths as form_setauths, grant as form_grant, revoke as form_revoke, rights as form_rights, constraints as form_constraints, insert as form_insert, delete as form_delete, mutate as form_mutate, scan as form_scan, opened as form_opened, next as form_next, many as form_many, close as form_close, flush as form_flush, compact as form_compact, status as form_status, addsplit as form_addsplit, splitsize as form_splitsize, splits as form_splits, save as form_save, load as form_load}
+use Rattle.tab_lines.specs.Forms.Form.{blank as form_blank, asker as form_asker, at as form_at, createtable as form_createtable, droptable as form_droptable, createuser as form_createuser, dropuser as form_dropuser, setauths as form_setauths, grant as form_grant, revoke as form_revoke, rights as form_rights, constraints as form_constraints, insert as form_insert, delete as form_delete, mutate as form_mutate, scan as form_scan, opened as form_opened, next as form_next, many as form_many, close as form_close, flush as form_flush, compact as form_compact, begin as form_begin, merge as form_merge, install as form_install, status as form_status, addsplit as form_addsplit, splitsize as form_splitsize, splits as form_splits, save as form_save, load as form_load}
 use Rattle.tab_lines.specs.Forms.IsLine.{comment as line_comment, words as line_words}
 use Rattle.tab_lines.proofs.WordLaw.{words_read}
 use Rattle.tab_lines.proofs.WordsLaw.{words_sound, words_complete}
@@ -46,15 +46,11 @@ use Rattle.tab_lines.proofs.ListLaw.{names_read, lists_read, constraints_read, b
 use Rattle.tab_lines.proofs.ColumnLaw.{columns_read}
 use Rattle.tab_lines.proofs.PermissionLaw.{on_name_alone, name_alone_complete, on_grant, grant_complete}
 use Rattle.tab_lines.proofs.SessionLaw.{next_sound, next_complete, many_sound, many_complete, close_sound, close_complete}
+use Rattle.tab_lines.proofs.JobLaw.{begin_sound, begin_complete, merge_sound, merge_complete, install_sound, install_complete}
 use Rattle.tab_lines.proofs.SplitLaw.{addsplit_sound, addsplit_complete, splitsize_sound, splitsize_complete}
 use Rattle.tab_lines.proofs.FileLaw.{file_sound, file_complete}
 use Rattle.tab_lines.proofs.UpdateLaw.{put_with, delete_with, on_put, put_complete, on_delete, delete_complete, last_timestamp, last_complete, updates_sound, updates_complete}
-use Rattle.tab_lines.proofs.Inverting.{Words, some_inj, bind_some, field_some, on_bind, on_map, on_field, on_read, on_ends, on_optional}
-
--- which side a test chose
-on_cond : {A : Type 0} (b : Bool) (x y : Option A) (z : A) (P : Type 0) → cond b x y ≡ Some z → (b ≡ true → x ≡ Some z → P) → (b ≡ false → y ≡ Some z → P) → P
-on_cond true x y z P is then other = then refl is
-on_cond false x y z P is then other = other refl is
+use Rattle.tab_lines.proofs.Inverting.{Words, some_inj, bind_some, field_some, on_bind, on_map, on_field, on_read, on_ends, on_optional, on_cond}
 
 -- no word is left
 ends_none : (words end : Words) → ends words ≡ Some end → words ≡ []
@@ -370,6 +366,9 @@ command_name command.Many = codes "many"
 command_name command.Close = codes "close"
 command_name command.Flush = codes "flush"
 command_name command.Compact = codes "compact"
+command_name command.Begin = codes "begin"
+command_name command.Merge = codes "merge"
+command_name command.Install = codes "install"
 command_name command.Status = codes "status"
 command_name command.AddSplit = codes "addsplit"
 command_name command.SplitSize = codes "splitsize"
@@ -400,12 +399,15 @@ command_sound word c is =
     on_cond (bytes_eq word (codes "close")) (Some command.Close) _ c (word ≡ command_name c) e18 (λ yes e. named (codes "close") command.Close yes refl e) (λ no19 e19.
     on_cond (bytes_eq word (codes "flush")) (Some command.Flush) _ c (word ≡ command_name c) e19 (λ yes e. named (codes "flush") command.Flush yes refl e) (λ no20 e20.
     on_cond (bytes_eq word (codes "compact")) (Some command.Compact) _ c (word ≡ command_name c) e20 (λ yes e. named (codes "compact") command.Compact yes refl e) (λ no21 e21.
-    on_cond (bytes_eq word (codes "status")) (Some command.Status) _ c (word ≡ command_name c) e21 (λ yes e. named (codes "status") command.Status yes refl e) (λ no22 e22.
-    on_cond (bytes_eq word (codes "addsplit")) (Some command.AddSplit) _ c (word ≡ command_name c) e22 (λ yes e. named (codes "addsplit") command.AddSplit yes refl e) (λ no23 e23.
-    on_cond (bytes_eq word (codes "splitsize")) (Some command.SplitSize) _ c (word ≡ command_name c) e23 (λ yes e. named (codes "splitsize") command.SplitSize yes refl e) (λ no24 e24.
-    on_cond (bytes_eq word (codes "splits")) (Some command.Splits) _ c (word ≡ command_name c) e24 (λ yes e. named (codes "splits") command.Splits yes refl e) (λ no25 e25.
-    on_cond (bytes_eq word (codes "save")) (Some command.Save) _ c (word ≡ command_name c) e25 (λ yes e. named (codes "save") command.Save yes refl e) (λ no26 e26.
-    on_cond (bytes_eq word (codes "load")) (Some command.Load) _ c (word ≡ command_name c) e26 (λ yes e. named (codes "load") command.Load yes refl e) (λ no27 e27. absurd cc)))))))))))))))))))))))))))
+    on_cond (bytes_eq word (codes "begin")) (Some command.Begin) _ c (word ≡ command_name c) e21 (λ yes e. named (codes "begin") command.Begin yes refl e) (λ no22 e22.
+    on_cond (bytes_eq word (codes "merge")) (Some command.Merge) _ c (word ≡ command_name c) e22 (λ yes e. named (codes "merge") command.Merge yes refl e) (λ no23 e23.
+    on_cond (bytes_eq word (codes "install")) (Some command.Install) _ c (word ≡ command_name c) e23 (λ yes e. named (codes "install") command.Install yes refl e) (λ no24 e24.
+    on_cond (bytes_eq word (codes "status")) (Some command.Status) _ c (word ≡ command_name c) e24 (λ yes e. named (codes "status") command.Status yes refl e) (λ no25 e25.
+    on_cond (bytes_eq word (codes "addsplit")) (Some command.AddSplit) _ c (word ≡ command_name c) e25 (λ yes e. named (codes "addsplit") command.AddSplit yes refl e) (λ no26 e26.
+    on_cond (bytes_eq word (codes "splitsize")) (Some command.SplitSize) _ c (word ≡ command_name c) e26 (λ yes e. named (codes "splitsize") command.SplitSize yes refl e) (λ no27 e27.
+    on_cond (bytes_eq word (codes "splits")) (Some command.Splits) _ c (word ≡ command_name c) e27 (λ yes e. named (codes "splits") command.Splits yes refl e) (λ no28 e28.
+    on_cond (bytes_eq word (codes "save")) (Some command.Save) _ c (word ≡ command_name c) e28 (λ yes e. named (codes "save") command.Save yes refl e) (λ no29 e29.
+    on_cond (bytes_eq word (codes "load")) (Some command.Load) _ c (word ≡ command_name c) e29 (λ yes e. named (codes "load") command.Load yes refl e) (λ no30 e30. absurd cc))))))))))))))))))))))))))))))
   where
     named : (text : List ℕ) (d : Command) → bytes_eq word text ≡ true → text ≡ command_name d → Some d ≡ Some c → word ≡ command_name c
     named text d same name e = (bytes_eq-Decides word text).0 same ∙ name ∙ ap command_name (some_inj d c e)
@@ -456,6 +458,9 @@ commanded_sound command.Many words line is = many_sound words line is
 commanded_sound command.Close words line is = close_sound words line is
 commanded_sound command.Flush words line is = named_sound (codes "flush") (λ name. says.Act (Flush name)) words line form_flush is
 commanded_sound command.Compact words line is = compact_sound words line is
+commanded_sound command.Begin words line is = begin_sound words line is
+commanded_sound command.Merge words line is = merge_sound words line is
+commanded_sound command.Install words line is = install_sound words line is
 commanded_sound command.Status words line is = named_sound (codes "status") (λ name. says.Act (Status name)) words line form_status is
 commanded_sound command.AddSplit words line is = addsplit_sound words line is
 commanded_sound command.SplitSize words line is = splitsize_sound words line is
@@ -493,6 +498,9 @@ said_complete words line (form_many k ws session ranges s are) = many_complete k
 said_complete words line (form_close k session s) = close_complete k session s
 said_complete words line (form_flush t table name) = ap (λ (o : Option (List ℕ)). option_map (λ n. says.Act (Flush n)) o) (name_alone_complete t table name)
 said_complete words line (form_compact t table extent name) = compact_complete t table extent name
+said_complete words line (form_begin t r table row kind name word) = begin_complete t r table row kind name word
+said_complete words line (form_merge k job number) = merge_complete k job number
+said_complete words line (form_install t k table job name number) = install_complete t k table job name number
 said_complete words line (form_status t table name) = ap (λ (o : Option (List ℕ)). option_map (λ n. says.Act (Status n)) o) (name_alone_complete t table name)
 said_complete words line (form_addsplit t r table row name word) = addsplit_complete t r table row name word
 said_complete words line (form_splitsize t r l table row limit name word number) = splitsize_complete t r l table row limit name word number

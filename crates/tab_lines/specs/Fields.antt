@@ -16,6 +16,8 @@ use Rattle.tab_rules.specs.declared.constraint.Constraint.{Constraint}
 use Rattle.tab_policy.specs.Permissions.{system_by_name, table_by_name}
 use Rattle.tab_policy.specs.declared.permission.Permission.{Permission}
 use Rattle.tab_policy.specs.declared.permission.Permission.TheVariants.{OfSystem, OfTable}
+use Rattle.tab_cells.specs.declared.compaction.Compaction.{Compaction}
+use Rattle.tab_cells.specs.declared.compaction.Compaction.TheVariants as merges
 use Rattle.tab_history.specs.declared.event.Extent.{Extent}
 use Rattle.tab_history.specs.declared.event.Extent.TheVariants.{Partial, Full}
 use Rattle.tab_history.specs.declared.event.TimeMode.{TimeMode}
@@ -93,9 +95,17 @@ versions_word word = if bytes_eq (take 9 word) (codes "versions=") then option_a
 
 -- ---- a word of a compaction
 
--- what it merges
+-- what one of a whole table merges
 abbrev pub extent_word : List ℕ → Option Extent
 extent_word word = if bytes_eq word (codes "partial") then Some Partial else if bytes_eq word (codes "full") then Some Full else None
+
+-- what one of a tablet merges
+abbrev pub compaction_word : List ℕ → Option Compaction
+compaction_word word =
+    if bytes_eq word (codes "minor") then Some merges.Minor
+    else if bytes_eq word (codes "partial") then Some merges.Partial
+    else if bytes_eq word (codes "full") then Some merges.Full
+    else None
 
 -- ---- files
 

@@ -17,11 +17,14 @@ use Rattle.tab_rules.specs.declared.constraint.Constraint.{Constraint}
 use Rattle.tab_policy.specs.Permissions.{system_name, table_name}
 use Rattle.tab_policy.specs.declared.permission.Permission.{Permission}
 use Rattle.tab_policy.specs.declared.permission.Permission.TheVariants.{OfSystem, OfTable}
+use Rattle.tab_cells.specs.declared.compaction.Compaction.{Compaction}
+use Rattle.tab_cells.specs.declared.compaction.Compaction.TheVariants as merges
 use Rattle.tab_history.specs.declared.event.Extent.{Extent}
 use Rattle.tab_history.specs.declared.event.Extent.TheVariants.{Partial, Full}
 use Rattle.tab_history.specs.declared.event.TimeMode.{TimeMode}
 use Rattle.tab_history.specs.declared.event.TimeMode.TheVariants.{Any, Server}
-use Rattle.tab_history.specs.declared.event.Act.TheVariants.{CreateTable, DropTable, CreateUser, DropUser, SetAuths, Grant, Revoke, SetConstraints, Write, Rights, Status, Flush, Compact, AddSplit, SplitBySize, Splits}
+use Rattle.tab_history.specs.declared.event.Act.TheVariants.{CreateTable, DropTable, CreateUser, DropUser, SetAuths, Grant, Revoke, SetConstraints, Write, Rights, Status, Flush, Compact, AddSplit, SplitBySize, Splits, Begin, Install}
+use Rattle.tab_history.specs.declared.event.Given.TheVariants.{InSlot}
 use Rattle.tab_history.specs.declared.event.Scan.{Scan}
 use Rattle.tab_lines.specs.declared.line.Line.{Line}
 use Rattle.tab_lines.specs.declared.line.Line.TheVariants as line
@@ -91,10 +94,16 @@ abbrev pub time_name : TimeMode → List ℕ
 time_name Any = codes "time=any"
 time_name Server = codes "time=server"
 
--- how a line says what a compaction merges
+-- how a line says what a compaction of a whole table merges
 abbrev pub extent_name : Extent → List ℕ
 extent_name Partial = codes "partial"
 extent_name Full = codes "full"
+
+-- how a line says what a compaction of a tablet merges
+abbrev pub compaction_name : Compaction → List ℕ
+compaction_name merges.Minor = codes "minor"
+compaction_name merges.Partial = codes "partial"
+compaction_name merges.Full = codes "full"
 
 -- the word is versions= and a number from 1 to 1,000
 abbrev pub IsVersions : List ℕ → ℕ → Type 0
@@ -193,6 +202,11 @@ pub data Form : List (List ℕ) → Line → Type 0 where
   close : (k : List ℕ) (session : ℕ) → IsSmall k session → Form (codes "close" ∷ k ∷ []) (line.Close session)
   flush : (t table : List ℕ) → IsNameWord t table → Form (codes "flush" ∷ t ∷ []) (line.Act (Flush table))
   compact : (t table : List ℕ) (extent : Extent) → IsNameWord t table → Form (codes "compact" ∷ t ∷ extent_name extent ∷ []) (line.Act (Compact table extent))
+  begin : (t r table row : List ℕ) (kind : Compaction) → IsNameWord t table → IsWord r row
+      → Form (codes "begin" ∷ t ∷ r ∷ compaction_name kind ∷ []) (line.Act (Begin table row kind))
+  merge : (k : List ℕ) (job : ℕ) → IsUnsigned k job → Form (codes "merge" ∷ k ∷ []) (line.Merge job)
+  install : (t k table : List ℕ) (job : ℕ) → IsNameWord t table → IsUnsigned k job
+      → Form (codes "install" ∷ t ∷ k ∷ []) (line.Act (Install table (InSlot job)))
   status : (t table : List ℕ) → IsNameWord t table → Form (codes "status" ∷ t ∷ []) (line.Act (Status table))
   addsplit : (t r table row : List ℕ) → IsNameWord t table → IsWord r row → Form (codes "addsplit" ∷ t ∷ r ∷ []) (line.Act (AddSplit table row))
   splitsize : (t r l table row : List ℕ) (limit : ℕ) → IsNameWord t table → IsWord r row → IsUnsigned l limit

@@ -9,7 +9,8 @@ use Rattle.tab_policy.specs.declared.permission.Permission.{Permission}
 use Rattle.tab_history.specs.declared.event.TimeMode.{TimeMode}
 use Rattle.tab_history.specs.declared.event.TimeMode.TheVariants.{Any}
 use Rattle.tab_rules.specs.Constraints.{constraint_set_of}
-use Rattle.tab_history.specs.declared.event.Act.TheVariants.{CreateTable, DropTable, CreateUser, DropUser, SetAuths, Grant, Revoke, SetConstraints, Write, Rights, Status, Flush, Compact, AddSplit, SplitBySize, Splits}
+use Rattle.tab_history.specs.declared.event.Act.TheVariants.{CreateTable, DropTable, CreateUser, DropUser, SetAuths, Grant, Revoke, SetConstraints, Write, Rights, Status, Flush, Compact, AddSplit, SplitBySize, Splits, Begin, Install}
+use Rattle.tab_history.specs.declared.event.Given.TheVariants.{InSlot}
 use Rattle.tab_history.specs.declared.event.Scan.{Scan}
 use Rattle.tab_lines.specs.declared.line.Line.{Line}
 use Rattle.tab_lines.specs.declared.line.Line.TheVariants as line
@@ -21,7 +22,7 @@ use Rattle.tab_lines.specs.declared.updates.TimestampForm.TheVariants.{Optional}
 use Rattle.tab_lines.specs.Gives.{◌>>=◌, field, ends, optional}
 use Rattle.tab_lines.specs.Words.{words_of}
 use Rattle.tab_text.specs.Reading.{bytes_of}
-use Rattle.tab_lines.specs.Fields.{name_of, unsigned_of, small_of, signed_of, time_word, versions_word, extent_word, file_name_of, system_permission, table_permission, list_of, constraints_of, bound_of, columns_of}
+use Rattle.tab_lines.specs.Fields.{name_of, unsigned_of, small_of, signed_of, time_word, versions_word, extent_word, compaction_word, file_name_of, system_permission, table_permission, list_of, constraints_of, bound_of, columns_of}
 use Rattle.tab_lines.specs.Updates.{row_of, with_updates, put_of, delete_of, updates_of}
 use Rattle.tab_mutation.specs.Mutations.{with_update}
 
@@ -165,6 +166,30 @@ compact_of words = do
   end ← ends extent.1
   Some (line.Act (Compact table.0 extent.0))
 
+-- the words behind the command of a line begin T ROW and minor, partial or full
+unfoldable pub begin_of : List (List ℕ) → Option Line
+begin_of words = do
+  table ← field name_of words
+  row ← field bytes_of table.1
+  kind ← field compaction_word row.1
+  end ← ends kind.1
+  Some (line.Act (Begin table.0 row.0 kind.0))
+
+-- the words behind the command of a line merge K
+unfoldable pub merge_of : List (List ℕ) → Option Line
+merge_of words = do
+  job ← field unsigned_of words
+  end ← ends job.1
+  Some (line.Merge job.0)
+
+-- the words behind the command of a line install T K
+unfoldable pub install_of : List (List ℕ) → Option Line
+install_of words = do
+  table ← field name_of words
+  job ← field unsigned_of table.1
+  end ← ends job.1
+  Some (line.Act (Install table.0 (InSlot job.0)))
+
 -- the words behind the command of a line addsplit T ROW
 unfoldable pub addsplit_of : List (List ℕ) → Option Line
 addsplit_of words = do
@@ -220,6 +245,9 @@ command_of word =
     else if bytes_eq word (codes "close") then Some command.Close
     else if bytes_eq word (codes "flush") then Some command.Flush
     else if bytes_eq word (codes "compact") then Some command.Compact
+    else if bytes_eq word (codes "begin") then Some command.Begin
+    else if bytes_eq word (codes "merge") then Some command.Merge
+    else if bytes_eq word (codes "install") then Some command.Install
     else if bytes_eq word (codes "status") then Some command.Status
     else if bytes_eq word (codes "addsplit") then Some command.AddSplit
     else if bytes_eq word (codes "splitsize") then Some command.SplitSize
@@ -251,6 +279,9 @@ commanded command.Many words = many_of words
 commanded command.Close words = close_of words
 commanded command.Flush words = option_map (λ table. line.Act (Flush table)) (name_alone words)
 commanded command.Compact words = compact_of words
+commanded command.Begin words = begin_of words
+commanded command.Merge words = merge_of words
+commanded command.Install words = install_of words
 commanded command.Status words = option_map (λ table. line.Act (Status table)) (name_alone words)
 commanded command.AddSplit words = addsplit_of words
 commanded command.SplitSize words = splitsize_of words

@@ -47,6 +47,12 @@ pub enum Command {
     Flush,
     /// `compact`
     Compact,
+    /// `begin`
+    Begin,
+    /// `merge`
+    Merge,
+    /// `install`
+    Install,
     /// `status`
     Status,
     /// `addsplit`
@@ -87,6 +93,9 @@ pub fn command_of(word: &[u8]) -> Option<Command>
         b"close" => Some(Command::Close),
         b"flush" => Some(Command::Flush),
         b"compact" => Some(Command::Compact),
+        b"begin" => Some(Command::Begin),
+        b"merge" => Some(Command::Merge),
+        b"install" => Some(Command::Install),
         b"status" => Some(Command::Status),
         b"addsplit" => Some(Command::AddSplit),
         b"splitsize" => Some(Command::SplitSize),

@@ -5,18 +5,19 @@ ghost use Rattle.tab_lines.specs.Gives.{Gives, field, ends};
 ghost use Rattle.tab_lines.specs.Words.{words_left};
 ghost use Rattle.tab_text.specs.Reading.{bytes_of};
 ghost use Rattle.tab_lines.specs.Spelling.{bytes_spelled};
-ghost use Rattle.tab_lines.specs.Fields.{name_of, unsigned_of, small_of, signed_of, list_of, bound_of, extent_word, file_name_of};
+ghost use Rattle.tab_lines.specs.Fields.{name_of, unsigned_of, small_of, signed_of, list_of, bound_of, extent_word, compaction_word, file_name_of};
 ghost use Rattle.tab_lines.specs.Lines.{name_alone};
 
 use crate::LineError;
 use crate::bounds::bound_of;
 use crate::file_line::FileName;
 use crate::lists::list_of;
-use crate::names::{extent_word, file_name_of, name_of};
+use crate::names::{compaction_word, extent_word, file_name_of, name_of};
 use crate::numbers::{signed_of, small_of, unsigned_of};
 use crate::spelling::{Spelled, bytes_of, spelling_of};
 use crate::words::Words;
 use std::alloc::Global;
+use tab_cells::Compaction;
 use tab_history::Extent;
 use tab_key::{Bound, ByteString, Name};
 
@@ -100,7 +101,7 @@ pub fn a_bound(alloc: Global, words: &mut Words) -> Result<Bound, LineError>
     bound_of(alloc, word)
 }
 
-/// Takes a word that says what a compaction merges.
+/// Takes a word that says what a compaction of a whole table merges.
 pub fn an_extent(words: &mut Words) -> Result<Extent, LineError>
     ensures { Gives (λ x. (x, words_left words.new)) result (field extent_word (words_left words.old)) }
 {
@@ -111,6 +112,19 @@ pub fn an_extent(words: &mut Words) -> Result<Extent, LineError>
         return Err(LineError::Fault);
     };
     Ok(extent)
+}
+
+/// Takes a word that says what a compaction of a tablet merges.
+pub fn a_compaction(words: &mut Words) -> Result<Compaction, LineError>
+    ensures { Gives (λ x. (x, words_left words.new)) result (field compaction_word (words_left words.old)) }
+{
+    let Some(word) = words.next() else {
+        return Err(LineError::Fault);
+    };
+    let Some(kind) = compaction_word(word) else {
+        return Err(LineError::Fault);
+    };
+    Ok(kind)
 }
 
 /// Takes a word that spells the name of a file.

@@ -26,6 +26,9 @@
 //! | `close K` | close that session |
 //! | `flush T` | a minor compaction of each of a table's tablets |
 //! | `compact T partial\|full` | a major compaction of each of them, of some of their sorted tables or of all that they hold |
+//! | `begin T ROW minor\|partial\|full` | begin a compaction of the tablet that holds the row: of what was written since the last one, of some of its sorted tables or of all that it holds |
+//! | `merge K` | make the merge of the job that has the number K |
+//! | `install T K` | put the finished merge of that job in the place of what it merged |
 //! | `status T` | count a table's tablets, and what they hold |
 //! | `addsplit T ROW` | split the tablet that holds the row, at that row |
 //! | `splitsize T ROW LIMIT` | split the tablet that holds the row in its middle, where its sorted tables have so many bytes or more |
@@ -33,11 +36,11 @@
 //! | `save FILE` | save an image of everything to a file |
 //! | `load FILE` | load the image in a file in place of everything |
 //!
-//! Commands, the names of permissions and the words `put`, `del`, `;`, `-`, `time=..`, `versions=`, `partial` and `full` are literal. Names
+//! Commands, the names of permissions and the words `put`, `del`, `;`, `-`, `time=..`, `versions=`, `minor`, `partial` and `full` are literal. Names
 //! of users and tables, rows and the other parts are byte words (crate `tab_text`), and so is FILE, whose bytes are UTF-8. P is the name of a permission as
 //! crate `tab_policy` has it: of a system permission where it is the last word, else of a table permission. The forms of updates have fixed lengths and are read by place, so a value may be
 //! the word `;`. A number is decimal digits, leading zeros are accepted, a minus stands before a negative one alone, and
-//! what an i64 can't hold is a fault. The N of versions is 1 to 1,000, K and the N of `next` have no minus and are below 2^32, LIMIT has no minus and is below 2^64. A list is byte words between commas, or the word `\0` for none;
+//! what an i64 can't hold is a fault. The N of versions is 1 to 1,000, K and the N of `next` have no minus and are below 2^32, LIMIT and the K of a job have no minus and are below 2^64. A list is byte words between commas, or the word `\0` for none;
 //! each member has at least one byte of text. A bound is `\0` for none, or a byte word behind `[` (in the range) or `(`
 //! (not in it). A column is a family, or a family and a qualifier with the first colon between them. Commas and colons
 //! part a word before its escapes are undone.

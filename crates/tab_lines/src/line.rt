@@ -3,14 +3,14 @@ ghost use Rattle.std.specs.Prelude.{[]};
 ghost use Rattle.tab_lines.specs.Gives.{Gives, optional};
 ghost use Rattle.tab_lines.specs.Words.{words_left};
 ghost use Rattle.tab_lines.specs.Fields.{constraints_of, columns_of, versions_word};
-ghost use Rattle.tab_lines.specs.Lines.{settings, createtable_of, setauths_of, constraints_line_of, insert_of, delete_line_of, mutate_of, bounds_of, scan_words, next_of, ranges_of, many_of, close_of, compact_of, addsplit_of, splitsize_of, file_of, at_of, commanded, said, line_of};
+ghost use Rattle.tab_lines.specs.Lines.{settings, createtable_of, setauths_of, constraints_line_of, insert_of, delete_line_of, mutate_of, bounds_of, scan_words, next_of, ranges_of, many_of, close_of, compact_of, begin_of, merge_of, install_of, addsplit_of, splitsize_of, file_of, at_of, commanded, said, line_of};
 
 use crate::LineError;
 use crate::bounds::bound_of;
 use crate::command::{Command, command_of};
 use crate::fields::{
-    a_bound, a_byte_string, a_file_name, a_list, a_name, a_number, a_small, an_extent, an_unsigned,
-    ends, name_alone,
+    a_bound, a_byte_string, a_compaction, a_file_name, a_list, a_name, a_number, a_small,
+    an_extent, an_unsigned, ends, name_alone,
 };
 use crate::file_line::{FileKind, FileLine};
 use crate::lists::{columns_of, constraints_of};
@@ -20,7 +20,7 @@ use crate::permissions::a_grant;
 use crate::updates::{TimestampForm, a_row, add_delete, add_put, add_updates};
 use crate::words::Words;
 use std::alloc::Global;
-use tab_history::{Act, Scan, TimeMode, Versions};
+use tab_history::{Act, Given, Scan, TimeMode, Versions};
 use tab_key::{Bound, Bounds, Column, Items, Name};
 use tab_label::AuthSet;
 use tab_rules::ConstraintSet;
@@ -46,6 +46,8 @@ pub enum Line {
     Many(u32, Items<Bounds>),
     /// The session that has this number is closed.
     Close(u32),
+    /// The merge of the job that has this number is made.
+    Merge(u64),
     /// An image is saved to a file, or loaded from one.
     File(FileLine),
 }
@@ -243,6 +245,36 @@ fn compact(alloc: Global, words: &mut Words) -> Result<Line, LineError>
     Ok(Line::Act(Act::Compact(table, extent)))
 }
 
+#[tactic(auto, unfolding(crate::specs::Lines::begin_of))]
+fn begin(alloc: Global, words: &mut Words) -> Result<Line, LineError>
+    ensures { Gives (λ x. x) result (begin_of (words_left words.old)) }
+{
+    let table = a_name(alloc, words)?;
+    let row = a_byte_string(alloc, words)?;
+    let kind = a_compaction(words)?;
+    ends(words)?;
+    Ok(Line::Act(Act::Begin(table, row, kind)))
+}
+
+#[tactic(auto, unfolding(crate::specs::Lines::merge_of))]
+fn merge(words: &mut Words) -> Result<Line, LineError>
+    ensures { Gives (λ x. x) result (merge_of (words_left words.old)) }
+{
+    let job = an_unsigned(words)?;
+    ends(words)?;
+    Ok(Line::Merge(job))
+}
+
+#[tactic(auto, unfolding(crate::specs::Lines::install_of))]
+fn install(alloc: Global, words: &mut Words) -> Result<Line, LineError>
+    ensures { Gives (λ x. x) result (install_of (words_left words.old)) }
+{
+    let table = a_name(alloc, words)?;
+    let job = an_unsigned(words)?;
+    ends(words)?;
+    Ok(Line::Act(Act::Install(table, Given::InSlot(job))))
+}
+
 #[tactic(auto, unfolding(crate::specs::Lines::addsplit_of))]
 fn addsplit(alloc: Global, words: &mut Words) -> Result<Line, LineError>
     ensures { Gives (λ x. x) result (addsplit_of (words_left words.old)) }
@@ -314,6 +346,9 @@ fn commanded(alloc: Global, command: Command, words: &mut Words) -> Result<Line,
         Command::Close => close(words),
         Command::Flush => Ok(Line::Act(Act::Flush(name_alone(alloc, words)?))),
         Command::Compact => compact(alloc, words),
+        Command::Begin => begin(alloc, words),
+        Command::Merge => merge(words),
+        Command::Install => install(alloc, words),
         Command::Status => Ok(Line::Act(Act::Status(name_alone(alloc, words)?))),
         Command::AddSplit => addsplit(alloc, words),
         Command::SplitSize => splitsize(alloc, words),

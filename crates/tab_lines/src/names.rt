@@ -1,12 +1,13 @@
 //! The names that words spell.
 ghost use Rattle.std.specs.Prelude.{◌≡◌};
 ghost use Rattle.tab_lines.specs.Gives.{Gives};
-ghost use Rattle.tab_lines.specs.Fields.{name_of, is_name, only_if, time_word, extent_word, file_name_of, constraint_of};
+ghost use Rattle.tab_lines.specs.Fields.{name_of, is_name, only_if, time_word, extent_word, compaction_word, file_name_of, constraint_of};
 
 use crate::LineError;
 use crate::file_line::FileName;
 use crate::spelling::{bytes_of, spelling_of};
 use std::alloc::Global;
+use tab_cells::Compaction;
 use tab_history::{Extent, TimeMode};
 use tab_key::Name;
 use tab_rules::Constraint;
@@ -43,7 +44,7 @@ pub fn time_word(word: &[u8]) -> Option<TimeMode>
     }
 }
 
-/// What a compaction merges: the words `partial` and `full`.
+/// What a compaction of a whole table merges: the words `partial` and `full`.
 pub fn extent_word(word: &[u8]) -> Option<Extent>
     ensures { result ≡ extent_word word.now }
 {
@@ -51,6 +52,21 @@ pub fn extent_word(word: &[u8]) -> Option<Extent>
         Some(Extent::Partial)
     } else if word == b"full".as_slice() {
         Some(Extent::Full)
+    } else {
+        None
+    }
+}
+
+/// What a compaction of a tablet merges: the words `minor`, `partial` and `full`.
+pub fn compaction_word(word: &[u8]) -> Option<Compaction>
+    ensures { result ≡ compaction_word word.now }
+{
+    if word == b"minor".as_slice() {
+        Some(Compaction::Minor)
+    } else if word == b"partial".as_slice() {
+        Some(Compaction::Partial)
+    } else if word == b"full".as_slice() {
+        Some(Compaction::Full)
     } else {
         None
     }

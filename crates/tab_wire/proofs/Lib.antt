@@ -2,6 +2,7 @@ pub mod FrameLaw
 pub mod Gathered
 pub mod RequestLaw
 pub mod ReasonLaw
+pub mod NoSlots
 pub mod StreamLaw
 pub mod Seen
 pub mod SetLemmas

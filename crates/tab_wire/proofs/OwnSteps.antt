@@ -10,11 +10,11 @@ use Rattle.tab_history.specs.declared.event.Step.{Step}
 use Rattle.tab_history.specs.declared.event.Step.TheVariants as step
 use Rattle.tab_history.specs.declared.reply.Refusal.TheVariants as refusal
 use Rattle.tab_history.specs.declared.reply.Reply.TheVariants as reply
-use Rattle.tab_history.specs.Answers.{Told, answer, event_answer, is_open, next_answer, many_answer, close_answer, moves_by, session_list, IsEventReply}
+use Rattle.tab_history.specs.Answers.{Told, answer, event_answer, empty_slot, slotted, is_open, next_answer, many_answer, close_answer, moves_by, session_list, IsEventReply}
 use Rattle.tab_history.specs.Bases.{Base}
 use Rattle.tab_history.specs.Changes.{Change}
 use Rattle.tab_history.specs.Sessions.{Move, is_full, session_in}
-use Rattle.tab_history.specs.Histories.{Entry, World, journal, clock_of, clock_at, moves_of, user_of, is_by}
+use Rattle.tab_history.specs.Histories.{Entry, World, journal, clock_of, clock_at, moves_of, jobs_of, user_of, is_by}
 use Rattle.tab_history.specs.Legal.{Legal, IsAnswer, LacksMemory}
 use Rattle.tab_wire.specs.Talking.{Exchange, event, moves_told, DoesAct, DoesOwn}
 use Rattle.tab_wire.specs.TalkLaws.{IsRight}
@@ -34,6 +34,8 @@ event_moves b j user moment a (reply.Ranges ranges) = refl
 event_moves b j user moment a (reply.Rights rights) = refl
 event_moves b j user moment a (reply.Counted counts) = refl
 event_moves b j user moment a (reply.Rows rows) = refl
+event_moves b j user moment a (reply.Begun job) = refl
+event_moves b j user moment a reply.Nothing = refl
 
 next_moves : (b : Base) (j : List Change) (user : List ℕ) (slot n : ℕ) (told : Told) → moves_by b j (step.Next user slot n) told ≡ moves_told (step.Next user slot n) told []
 next_moves b j user slot n reply.Done = refl
@@ -44,6 +46,8 @@ next_moves b j user slot n (reply.Ranges ranges) = refl
 next_moves b j user slot n (reply.Rights rights) = refl
 next_moves b j user slot n (reply.Counted counts) = refl
 next_moves b j user slot n (reply.Rows rows) = refl
+next_moves b j user slot n (reply.Begun job) = refl
+next_moves b j user slot n reply.Nothing = refl
 
 many_moves : (b : Base) (j : List Change) (user : List ℕ) (slot : ℕ) (ranges : List Bounds) (told : Told) → moves_by b j (step.Many user slot ranges) told ≡ moves_told (step.Many user slot ranges) told []
 many_moves b j user slot ranges reply.Done = refl
@@ -54,6 +58,8 @@ many_moves b j user slot ranges (reply.Ranges answers) = refl
 many_moves b j user slot ranges (reply.Rights rights) = refl
 many_moves b j user slot ranges (reply.Counted counts) = refl
 many_moves b j user slot ranges (reply.Rows rows) = refl
+many_moves b j user slot ranges (reply.Begun job) = refl
+many_moves b j user slot ranges reply.Nothing = refl
 
 close_moves : (b : Base) (j : List Change) (user : List ℕ) (slot : ℕ) (told : Told) → moves_by b j (step.Close user slot) told ≡ moves_told (step.Close user slot) told []
 close_moves b j user slot reply.Done = refl
@@ -64,6 +70,8 @@ close_moves b j user slot (reply.Ranges ranges) = refl
 close_moves b j user slot (reply.Rights rights) = refl
 close_moves b j user slot (reply.Counted counts) = refl
 close_moves b j user slot (reply.Rows rows) = refl
+close_moves b j user slot (reply.Begun job) = refl
+close_moves b j user slot reply.Nothing = refl
 
 -- ---- one exchange of a user whose sessions are known
 module _ (w : World) (h : List Entry) (user : List ℕ) (moves : List Move) (x : Exchange) (legal : Legal w h) (sessions : moves_of w user h ≡ moves) where
@@ -86,9 +94,9 @@ module _ (w : World) (h : List Entry) (user : List ℕ) (moves : List Move) (x :
   unfolding answer
   full_right moment a full =
       let now : ℤ = clock_at (clock_of w h) (event user moment a) in
-      let is : answer w.base (journal w h) (moves_of w user h) now (event user moment a) ≡ reply.Refused (refusal.TooLarge Sessions) =
-      ap (λ (ms : List Move). answer w.base (journal w h) ms now (event user moment a)) sessions
-      ∙ ap (λ b. cond b (reply.Refused (refusal.TooLarge Sessions)) (event_answer w.base (journal w h) now user a)) full in
+      let is : answer w.base (journal w h) (moves_of w user h) (jobs_of h) now (event user moment a) ≡ reply.Refused (refusal.TooLarge Sessions) =
+      ap (λ (ms : List Move). answer w.base (journal w h) ms (jobs_of h) now (event user moment a)) sessions
+      ∙ ap (λ b. cond b (reply.Refused (refusal.TooLarge Sessions)) (slotted (empty_slot (jobs_of h) a) (event_answer w.base (journal w h) now user a))) full in
       subst (λ (t : Told). IsEventReply a t (reply.Refused (refusal.TooLarge Sessions))) (sym is) refl
 
   pub act_stays : (a : Act) (new : List Move) → IsRight w h x → DoesAct user moves a x new → StaysLegal w h user x new

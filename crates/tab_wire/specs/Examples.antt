@@ -269,6 +269,19 @@ refused_sessions : sent_bytes (sent.Refused (refusal.TooLarge part.Sessions)) �
 unfolding looked_into
 refused_sessions = refl
 
+-- how many sources there are; and a job's number, of which four bytes are told
+refused_stale : sent_bytes (sent.Refused (refusal.Stale 1)) ≡ hex (codes "0000000a 81 0e 0000000000000001")
+unfolding looked_into
+refused_stale = refl
+
+refused_job : sent_bytes (sent.Refused (refusal.NoJob 4294967298)) ≡ hex (codes "00000006 81 0f 00000002")
+unfolding looked_into
+refused_job = refl
+
+begun_told : sent_bytes (sent_of 0 0 (reply.Begun tt)) ≡ hex (codes "00000001 80")
+unfolding looked_into
+begun_told = refl
+
 refused_split : sent_bytes (sent.Refused (refusal.BadSplit OneRow)) ≡ hex (codes "00000003 81 14 02")
 unfolding looked_into
 refused_split = refl

@@ -1,5 +1,5 @@
 -- The bytes of each reply.
-use Rattle.std.specs.Prelude.{ℕ, ℤ, ◌==◌, Bool, false, cond, List, [], ◌∷◌, ◌++◌, length}
+use Rattle.std.specs.Prelude.{ℕ, ℤ, ◌%◌, ◌^◌, ◌==◌, Bool, false, cond, List, [], ◌∷◌, ◌++◌, length}
 use Rattle.std.specs.List.{flat_map}
 use Rattle.std.specs.Int.{w32, w64, to_be_bytes, cast_unsigned}
 use Rattle.tab_key.specs.Records.{Cell}
@@ -76,7 +76,8 @@ split_number OneRow = 2
 abbrev pub violation_bytes : Violation → List ℕ
 violation_bytes v = constraint_number v.constraint ∷ v.code ∷ u32 v.update
 
--- the number of a refusal and its fields
+-- The number of a refusal and its fields. No frame asks for a job, so no connection is told of one: there is a frame all the same, with what
+-- four bytes hold of the job's number.
 abbrev pub refusal_bytes : Refusal → List ℕ
 refusal_bytes (refusal.UnknownUser user) = 1 ∷ field user
 refusal_bytes (refusal.NoTable table) = 2 ∷ field table
@@ -91,7 +92,9 @@ refusal_bytes (refusal.TableExists table) = 10 ∷ field table
 refusal_bytes (refusal.UserExists user) = 11 ∷ field user
 refusal_bytes (refusal.NoUser user) = 12 ∷ field user
 refusal_bytes refusal.BadRange = 13 ∷ []
+refusal_bytes (refusal.Stale count) = 14 ∷ u64 count
 refusal_bytes (refusal.NoSession slot) = 15 ∷ u32 slot
+refusal_bytes (refusal.NoJob slot) = 15 ∷ u32 (slot % 2 ^ 32)
 refusal_bytes refusal.NoMemory = 17 ∷ []
 refusal_bytes refusal.RootFixed = 18 ∷ []
 refusal_bytes refusal.GrantInvalid = 19 ∷ []
@@ -140,7 +143,8 @@ sent_bytes (Splits rows) = flat_map row_frame rows ++ end_frame false
 sent_bytes (Status counts) = frame (135 ∷ (u64 counts.tablets ++ (u64 counts.sources ++ u64 counts.records)))
 sent_bytes (OwnRights rights) = frame (136 ∷ system_bits rights.system ∷ table_bits rights.table ∷ list rights.authorizations)
 
--- the reply to an event, or to a batch of n cells; a session gets this number
+-- The reply to an event, or to a batch of n cells; a session gets this number. No connection is told that a job was begun, or that there is
+-- nothing to merge.
 abbrev pub sent_of : ℕ → ℕ → Told → Sent
 sent_of number n reply.Done = Ok
 sent_of number n (reply.Refused r) = Refused r
@@ -150,3 +154,5 @@ sent_of number n (reply.Ranges ranges) = Ranges ranges
 sent_of number n (reply.Rights rights) = OwnRights rights
 sent_of number n (reply.Counted counts) = Status counts
 sent_of number n (reply.Rows rows) = Splits rows
+sent_of number n (reply.Begun job) = Ok
+sent_of number n reply.Nothing = Ok

@@ -58,7 +58,7 @@ abbrev pub scan_bytes : Scan → List ℕ
 scan_bytes scan = field scan.table ++ (bounds_bytes scan.bounds ++ (counted column_bytes scan.columns ++ list scan.authorizations))
 
 -- ---- requests
--- A split by size, a save and a load are asked of a script alone: no frame asks them.
+-- A split by size, a compaction in three parts, a save and a load are asked of a script alone: no frame asks them.
 abbrev pub act_bytes : Act → List ℕ
 act_bytes (act.Open scan) = 11 ∷ scan_bytes scan
 act_bytes (act.Write table mutation) = 10 ∷ (field table ++ mutation_bytes mutation)
@@ -79,6 +79,8 @@ act_bytes (act.SplitBySize table row limit) = []
 act_bytes (act.Splits table) = 18 ∷ field table
 act_bytes act.Save = []
 act_bytes act.Load = []
+act_bytes (act.Begin table row kind) = []
+act_bytes (act.Install table given) = []
 
 abbrev pub request_bytes : Request → List ℕ
 request_bytes (asks.Hello user) = 1 ∷ field user

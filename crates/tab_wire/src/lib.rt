@@ -58,7 +58,7 @@
 //! computes examples. `Taking` says what is taken of a stream, `Asking` what a connection knows and what comes next on it, and `Talking`
 //! what a whole connection comes to, frame by frame: the steps that its bytes spell, the moments that its events take, and what is replied;
 //! `TalkLaws` has the law on that. `Sending` has the bytes of each request, of which a client makes its frames. In `proofs`, `FrameLaw` and `RequestLaw` show that reading is exactly the forms, `ReasonLaw` which reason is
-//! first, `StreamLaw` that a stream is split in one way, `WholeTalks` that a connection makes a legal history; the others have lemmas for the code.
+//! first, `NoSlots` that no frame names the slot of a job, `StreamLaw` that a stream is split in one way, `WholeTalks` that a connection makes a legal history; the others have lemmas for the code.
 #![tactic(auto)]
 
 mod answer;

@@ -1,14 +1,15 @@
 //! The frames of refusals.
 #![tactic(auto, using(tab_io::proofs::Putting::putting))]
 
-ghost use Rattle.std.specs.Prelude.{◌≡◌, [], ◌∷◌, ◌++◌, length};
+ghost use Rattle.std.specs.Prelude.{◌≡◌, ◌%◌, ◌^◌, [], ◌∷◌, ◌++◌, length};
 ghost use Rattle.std.specs.List.{flat_map};
 ghost use Rattle.tab_io.specs.Writing.{Puts};
 ghost use Rattle.tab_policy.specs.Permissions.{system_place, table_place};
 ghost use Rattle.tab_wire.specs.Replies as sent;
-ghost use Rattle.tab_wire.specs.Replies.{u32, field, frame, part_number, reason_number, split_number, permission_bytes, violation_bytes, refusal_bytes, sent_bytes};
+ghost use Rattle.tab_wire.specs.Replies.{u32, u64, field, frame, part_number, reason_number, split_number, permission_bytes, violation_bytes, refusal_bytes, sent_bytes};
 
 use crate::Reason;
+use crate::numbers::low;
 use crate::value::{Value, put_frame};
 use tab_history::{Refusal, SplitFault};
 use tab_io::{Output, WriteFault};
@@ -37,7 +38,9 @@ pub fn put_refusal<W: Output>(output: &mut W, refusal: &Refusal) -> Result<(), W
         Refusal::UserExists(user) => put_text(output, 11, user.as_bytes()),
         Refusal::NoUser(user) => put_text(output, 12, user.as_bytes()),
         Refusal::BadRange => put_bare(output, 13),
+        Refusal::Stale(count) => put_stale(output, *count),
         Refusal::NoSession(slot) => put_told(output, 15, *slot),
+        Refusal::NoJob(slot) => put_no_job(output, *slot),
         Refusal::NoMemory => put_bare(output, 17),
         Refusal::RootFixed => put_bare(output, 18),
         Refusal::GrantInvalid => put_bare(output, 19),
@@ -82,6 +85,23 @@ fn put_told<W: Output>(output: &mut W, number: u8, told: u32) -> Result<(), Writ
             Value::Number(told),
         ],
     )
+}
+
+fn put_stale<W: Output>(output: &mut W, count: u64) -> Result<(), WriteFault>
+    ensures { Puts W.Output output.old output.new (frame (129 ∷ 14 ∷ u64 count)) result }
+{
+    put_frame(
+        output,
+        &[Value::Byte(REFUSED), Value::Byte(14), Value::Long(count)],
+    )
+}
+
+// What four bytes hold of the job's number: no connection is told of one.
+fn put_no_job<W: Output>(output: &mut W, slot: u64) -> Result<(), WriteFault>
+    ensures { Puts W.Output output.old output.new (frame (129 ∷ 15 ∷ u32 (slot % 2 ^ 32))) result }
+{
+    let slot = low(slot as usize);
+    put_told(output, 15, slot)
 }
 
 // A refusal that tells a name or a term.

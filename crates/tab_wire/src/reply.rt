@@ -29,7 +29,7 @@ pub fn write_reply<W: Output>(
     ensures { Puts W.Output output.old output.new (sent_bytes (sent_of number count reply.now)) result }
 {
     match reply {
-        Reply::Done => put_ok(output),
+        Reply::Done | Reply::Begun(_) | Reply::Nothing => put_ok(output),
         Reply::Refused(refusal) => put_refusal(output, refusal),
         Reply::Opened(_) => put_opened(output, number),
         Reply::Batch(cells) => put_batch(output, cells, count),

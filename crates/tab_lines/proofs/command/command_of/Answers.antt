@@ -67,6 +67,15 @@ returns-in-flush c = found command_of c.args.word.now (codes "flush") (omega ari
 pub returns-in-compact : goal.returns-in-compact
 returns-in-compact c = found command_of c.args.word.now (codes "compact") (omega arith) (search rules)
 
+pub returns-in-begin : goal.returns-in-begin
+returns-in-begin c = found command_of c.args.word.now (codes "begin") (omega arith) (search rules)
+
+pub returns-in-merge : goal.returns-in-merge
+returns-in-merge c = found command_of c.args.word.now (codes "merge") (omega arith) (search rules)
+
+pub returns-in-install : goal.returns-in-install
+returns-in-install c = found command_of c.args.word.now (codes "install") (omega arith) (search rules)
+
 pub returns-in-status : goal.returns-in-status
 returns-in-status c = found command_of c.args.word.now (codes "status") (omega arith) (search rules)
 
