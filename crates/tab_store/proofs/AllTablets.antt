@@ -8,7 +8,7 @@ use Rattle.tab_key.proofs.Rising.{in_from, in_to, in_filter, distinct_filter}
 use Rattle.tab_cells.specs.Written.{TimedUpdate, timed, records_of, mutation_records}
 use Rattle.tab_cells.proofs.Lists.{filter_append}
 use Rattle.tab_iter.proofs.ColumnLaws.{filter_none}
-use Rattle.tab_tablets.specs.Tablets.{Tablet, is_up_to, records_in, written, frozen, compacted}
+use Rattle.tab_tablets.specs.Tablets.{Tablet, is_up_to, records_in, written, frozen, compacted, begins}
 use Rattle.tab_tablets.specs.Splitting.{split_at}
 use Rattle.tab_history.specs.Held.{RefinesTable}
 use Rattle.tab_history.proofs.Holds.{holds_nothing, holds_beside}
@@ -18,12 +18,13 @@ use Rattle.tab_tablets.proofs.EndRows.{has_place, row_at_place, end_at_place}
 use Rattle.tab_tablets.proofs.Whole.{whole_map, whole_one, whole_split as split_at_place}
 use Rattle.tab_tablets.proofs.Rows.{mutation_rows}
 use Rattle.tab_tablets.proofs.Merged.{compacted_end}
-use Rattle.tab_store.specs.Stepping.{Freezing, Writing, Compacting, Counting, Splitting, Halving, Listing, floor_at, lays}
+use Rattle.tab_store.specs.Stepping.{Freezing, Writing, Compacting, Counting, Splitting, Halving, Listing, Beginning, Installing, floor_at, lays}
 use Rattle.tab_store.specs.Keeping.{TabletRefines, is_low, is_high, TabletsRefine, TabletsHoldAll, WorkKeeps, StaysWhole}
 use Rattle.tab_store.proofs.ByRows.{joined_refines}
-use Rattle.tab_store.proofs.OneTablet.{freezes_keep, writes_keep, compactions_keep}
+use Rattle.tab_store.proofs.OneTablet.{freezes_keep, writes_keep, compactions_keep, beginnings_keep, installs_keep}
 use Rattle.tab_store.proofs.SplitTablets.{all_split}
 use Rattle.tab_store.proofs.SplitCases.{after_split, after_halve}
+use Rattle.tab_store.proofs.InstallCases.{with_merge, with_merge_end, after_install}
 use Rattle.tab_store.proofs.Middles.{lies}
 
 -- ---- filters
@@ -40,9 +41,22 @@ all_map next n floor f ends keeps (t ∷ ts) us a = (
   subst (λ e. TabletsRefine (map f ts) (filter (is_high e) us) next n floor) (sym (ends t)) (all_map next n floor f ends keeps ts (filter (is_high t.end) us) a.1),
 )
 
+-- at the tablet that holds a row alone
+all_at : (next n : ℕ) (floor : ℤ) (row : List ℕ) (f : Tablet → Tablet) → ((t : Tablet) → (f t).end ≡ t.end) → ((t : Tablet) (us : List Record) → TabletRefines t us next n floor → TabletRefines (f t) us next n floor)
+    → (ts : List Tablet) (us : List Record) → TabletsRefine ts us next n floor → TabletsRefine (at_row row (λ t. f t ∷ []) ts) us next n floor
+all_at next n floor row f ends keeps [] us a = a
+all_at next n floor row f ends keeps (t ∷ ts) us a = go (is_up_to t.end row) (all_at next n floor row f ends keeps ts (filter (is_high t.end) us) a.1)
+  where
+    go : (v : Bool) → TabletsRefine (at_row row (λ x. f x ∷ []) ts) (filter (is_high t.end) us) next n floor → TabletsRefine (cond v (f t ∷ ts) (t ∷ at_row row (λ x. f x ∷ []) ts)) us next n floor
+    go true ih = (
+      subst (λ e. TabletRefines (f t) (filter (is_low e) us) next n floor) (sym (ends t)) (keeps t (filter (is_low t.end) us) a.0),
+      subst (λ e. TabletsRefine ts (filter (is_high e) us) next n floor) (sym (ends t)) a.1,
+    )
+    go false ih = (a.0, ih)
+
 -- ---- one more number
 one_more : (t : Tablet) (us : List Record) (next n : ℕ) (floor : ℤ) → TabletRefines t us next n floor → TabletRefines t us (next + 1) n floor
-one_more t us next n floor h = record { refines = holds_beside (records_in t) us next n floor h.refines }
+one_more t us next n floor h = record { refines = holds_beside (records_in t) us next n floor h.refines; jobs = h.jobs }
 
 all_more : (ts : List Tablet) (us : List Record) (next n : ℕ) (floor : ℤ) → TabletsRefine ts us next n floor → TabletsRefine ts us (next + 1) n floor
 all_more [] us next n floor a = a
@@ -106,17 +120,20 @@ work_keeps p Freezing plain ts us w r a = all_map p.next p.settings.versions (fl
 work_keeps p (Writing m) plain ts us w r a = all_written m.row (reverse (map (timed p.now) m.updates)) p.next p.settings.versions (floor_at p) r ts us w a
 work_keeps p (Compacting kind) plain ts us w r a = all_map p.next p.settings.versions (floor_at p) (compacted kind (floor_at p) p.settings.versions) (compacted_end kind (floor_at p) p.settings.versions) (λ t vs h. compactions_keep kind t vs p.next p.settings.versions (floor_at p) h) ts us a
 work_keeps p Counting plain ts us w r a = a
-work_keeps p (Splitting row) plain ts us w r a = after_split (λ vs. TabletsRefine vs us p.next p.settings.versions (floor_at p)) ts a (λ at e. all_split at p.next p.settings.versions (floor_at p) ts us a) row
-work_keeps p (Halving row limit) plain ts us w r a = after_halve (λ vs. TabletsRefine vs us p.next p.settings.versions (floor_at p)) ts a (λ at e. all_split at p.next p.settings.versions (floor_at p) ts us a) row limit (λ t middle e k. (lies p.next p.settings.versions (floor_at p) row middle t k ts us w a e).fresh)
+work_keeps p (Splitting row) plain ts us w r a = after_split (λ vs. TabletsRefine vs us p.next p.settings.versions (floor_at p)) p.tablet ts a (λ at e. all_split at p.tablet p.next p.settings.versions (floor_at p) ts us a) row
+work_keeps p (Halving row limit) plain ts us w r a = after_halve (λ vs. TabletsRefine vs us p.next p.settings.versions (floor_at p)) p.tablet ts a (λ at e. all_split at p.tablet p.next p.settings.versions (floor_at p) ts us a) row limit (λ t middle e k. (lies p.next p.settings.versions (floor_at p) row middle t k ts us w a e).fresh)
 work_keeps p Listing plain ts us w r a = a
+work_keeps p (Beginning row kind) plain ts us w r a = all_at p.next p.settings.versions (floor_at p) row (begins p.job kind (floor_at p) p.settings.versions) (λ t. refl) (λ t vs h. beginnings_keep p.job kind t vs p.next p.settings.versions (floor_at p) h) ts us a
+work_keeps p (Installing given) plain ts us w r a = after_install (λ vs. TabletsRefine vs us p.next p.settings.versions (floor_at p)) ts a
+    (λ m. all_at p.next p.settings.versions (floor_at p) m.row (with_merge m.merge) (with_merge_end m.merge) (λ t vs h. installs_keep m.merge t vs p.next p.settings.versions (floor_at p) h) ts us a) plain given
 
 -- ---- each row has one tablet
 -- what is done at the row's tablet leaves it so, if it does at that one's place
 whole_at : (row : List ℕ) (f : Tablet → List Tablet) (ts : List Tablet) → ((p : ℕ) → IsPlaceOf row ts p → AreWhole (at_place p f ts)) → AreWhole ts → AreWhole (at_row row f ts)
 whole_at row f ts keeps w = let k = has_place row ts w in subst AreWhole (sym (row_at_place row f ts k.0 k.1)) (keeps k.0 k.1)
 
-whole_split : (row : List ℕ) (ts : List Tablet) → is_end row ts ≡ false → AreWhole ts → AreWhole (at_row row (split_at row) ts)
-whole_split row ts n w = whole_at row (split_at row) ts (λ p k. split_at_place row ts p k (sym (end_at_place row ts p w k) ∙ n) w) w
+whole_split : (row : List ℕ) (number : ℕ) (ts : List Tablet) → is_end row ts ≡ false → AreWhole ts → AreWhole (at_row row (split_at row number) ts)
+whole_split row number ts n w = whole_at row (split_at row number) ts (λ p k. split_at_place row number ts p k (sym (end_at_place row ts p w k) ∙ n) w) w
 
 pub stays_whole : StaysWhole
 unfolding lays
@@ -124,9 +141,11 @@ stays_whole p Freezing plain ts us w a = whole_map frozen (λ t. refl) ts w
 stays_whole p (Writing m) plain ts us w a = let new = written (mutation_records p.next p.now m) in whole_at m.row (λ t. new t ∷ []) ts (λ q k. whole_one new (λ t. refl) ts q w) w
 stays_whole p (Compacting kind) plain ts us w a = whole_map (compacted kind (floor_at p) p.settings.versions) (compacted_end kind (floor_at p) p.settings.versions) ts w
 stays_whole p Counting plain ts us w a = w
-stays_whole p (Splitting row) plain ts us w a = after_split AreWhole ts w (λ at e. whole_split at ts e w) row
-stays_whole p (Halving row limit) plain ts us w a = after_halve AreWhole ts w (λ at e. whole_split at ts e w) row limit (λ t middle e k. (lies p.next p.settings.versions (floor_at p) row middle t k ts us w a e).fresh)
+stays_whole p (Splitting row) plain ts us w a = after_split AreWhole p.tablet ts w (λ at e. whole_split at p.tablet ts e w) row
+stays_whole p (Halving row limit) plain ts us w a = after_halve AreWhole p.tablet ts w (λ at e. whole_split at p.tablet ts e w) row limit (λ t middle e k. (lies p.next p.settings.versions (floor_at p) row middle t k ts us w a e).fresh)
 stays_whole p Listing plain ts us w a = w
+stays_whole p (Beginning row kind) plain ts us w a = let under_way = begins p.job kind (floor_at p) p.settings.versions in whole_at row (λ t. under_way t ∷ []) ts (λ q k. whole_one under_way (λ t. refl) ts q w) w
+stays_whole p (Installing given) plain ts us w a = after_install AreWhole ts w (λ m. whole_at m.row (λ t. with_merge m.merge t ∷ []) ts (λ q k. whole_one (with_merge m.merge) (with_merge_end m.merge) ts q w) w) plain given
 
 -- ---- so all that is held refines all updates
 pub tablets_hold_all : TabletsHoldAll

@@ -13,6 +13,7 @@ use Rattle.tab_cells.specs.Written.{mutation_records}
 use Rattle.tab_cells.specs.declared.compaction.Compaction.{Compaction}
 use Rattle.tab_tablets.specs.Tablets.{Tablet, written, frozen, compacted}
 use Rattle.tab_tablets.specs.ByRow.{at_row, records_of_all}
+use Rattle.tab_tablets.specs.Parts.{TabletMerge, begins_at, installs_in}
 use Rattle.tab_tablets.specs.Splits.{splits, halves}
 use Rattle.tab_history.specs.Settings.{made_with}
 use Rattle.tab_history.specs.Held.{floor_of}
@@ -20,10 +21,10 @@ use Rattle.tab_history.specs.Readings.{settings_of, updates_of, table_count, con
 use Rattle.tab_history.specs.Answers.{Told}
 use Rattle.tab_history.specs.declared.event.TimeMode.{TimeMode}
 use Rattle.tab_store.specs.Stores.{HeldTable, Held, base_of, base_table_of, table_in, tablets_found, tablets_in}
-use Rattle.tab_store.specs.Stepping.{TabletWork, Freezing, Writing, Compacting, Counting, Splitting, Halving, Listing, Making, Dropping, On, lays, lays_in, laid_by}
+use Rattle.tab_store.specs.Stepping.{TabletWork, Freezing, Writing, Compacting, Counting, Splitting, Halving, Listing, Beginning, Installing, Making, Dropping, On, place_of, told_job, told_install, begun_by, lays, lays_in, told_by, laid_by, job_by}
 use Rattle.tab_store.specs.Keeping.{settings_in}
 use Rattle.tab_store.specs.Rightness.{IsStore}
-use Rattle.tab_store.specs.Tables.{TableState, made_table, with_tablets, with_constraints, state_of, table_at, changed_table, settings_at, tablets_of}
+use Rattle.tab_store.specs.Tables.{TableState, made_table, with_tablets, with_constraints, state_of, table_at, changed_table, settings_at, tablets_of, begun_in}
 use Rattle.tab_store.proofs.Reading.{bases_read}
 
 -- ---- what is read of a table
@@ -96,8 +97,8 @@ module _ (old new : Held) (t : List ℕ) where
     abbrev worked_on : TabletWork → Option HeldTable → List Tablet
     worked_on work o = (lays_in old now work plain o).1
 
-    pub table_made : (time : TimeMode) (n : ℕ) → Renews (Some (made_table time n)) → (q : List ℕ) → tablets_in new q ≡ laid_by old now (Making t) plain q
-    table_made time n f = renewed (Some (made_table time n)) f
+    pub table_made : (time : TimeMode) (n : ℕ) → Renews (Some (made_table time n old.tablet)) → (q : List ℕ) → tablets_in new q ≡ laid_by old now (Making t) plain q
+    table_made time n f = renewed (Some (made_table time n old.tablet)) f
 
     pub table_dropped : Renews None → (q : List ℕ) → tablets_in new q ≡ laid_by old now (Dropping t) plain q
     table_dropped f = renewed None f
@@ -124,13 +125,29 @@ module _ (old new : Held) (t : List ℕ) where
     unfolding lays
     table_compacted kind = worked (Compacting kind) (λ s. with_tablets (map (compacted kind (floor_of s.settings.time now s.settings.horizon) s.settings.versions)) s) (λ x. refl) refl
 
-    pub table_split : (row : List ℕ) → Changes (with_tablets (λ ts. (splits row ts).1)) → (q : List ℕ) → tablets_in new q ≡ laid_by old now (On t (Splitting row)) plain q
+    pub table_split : (row : List ℕ) → Changes (with_tablets (λ ts. (splits row old.tablet ts).1)) → (q : List ℕ) → tablets_in new q ≡ laid_by old now (On t (Splitting row)) plain q
     unfolding lays
-    table_split row = worked (Splitting row) (with_tablets (λ ts. (splits row ts).1)) (λ x. refl) refl
+    table_split row = worked (Splitting row) (with_tablets (λ ts. (splits row old.tablet ts).1)) (λ x. refl) refl
 
-    pub table_halved : (row : List ℕ) (limit : ℕ) → Changes (with_tablets (λ ts. (halves row limit ts).1)) → (q : List ℕ) → tablets_in new q ≡ laid_by old now (On t (Halving row limit)) plain q
+    pub table_halved : (row : List ℕ) (limit : ℕ) → Changes (with_tablets (λ ts. (halves row limit old.tablet ts).1)) → (q : List ℕ) → tablets_in new q ≡ laid_by old now (On t (Halving row limit)) plain q
     unfolding lays
-    table_halved row limit = worked (Halving row limit) (with_tablets (λ ts. (halves row limit ts).1)) (λ x. refl) refl
+    table_halved row limit = worked (Halving row limit) (with_tablets (λ ts. (halves row limit old.tablet ts).1)) (λ x. refl) refl
+
+    -- a merge begins
+    pub table_begun : (row : List ℕ) (kind : Compaction) → Changes (λ s. with_tablets (begins_at row old.job kind (floor_of s.settings.time now s.settings.horizon) s.settings.versions) s)
+        → (q : List ℕ) → tablets_in new q ≡ laid_by old now (On t (Beginning row kind)) plain q
+    unfolding lays
+    table_begun row kind = worked (Beginning row kind) (λ s. with_tablets (begins_at row old.job kind (floor_of s.settings.time now s.settings.horizon) s.settings.versions) s) (λ x. refl) refl
+
+    -- one is installed
+    pub table_installed : (m : TabletMerge) → Changes (with_tablets (λ ts. (installs_in m ts).1)) → (q : List ℕ) → tablets_in new q ≡ laid_by old now (On t (Installing (Some m))) plain q
+    unfolding lays
+    table_installed m = worked (Installing (Some m)) (with_tablets (λ ts. (installs_in m ts).1)) (λ x. refl) refl
+
+    -- where none came to be installed they stay
+    pub table_uninstalled : ((q : List ℕ) → tablets_in new q ≡ tablets_in old q) → (q : List ℕ) → tablets_in new q ≡ laid_by old now (On t (Installing None)) plain q
+    unfolding lays
+    table_uninstalled same q = same q ∙ same_either (bytes_eq t q) (tablets_in old q)
 
     -- counts leave them
     pub table_counted : ((q : List ℕ) → tablets_in new q ≡ tablets_in old q) → (q : List ℕ) → tablets_in new q ≡ laid_by old now (On t Counting) plain q
@@ -150,8 +167,8 @@ module _ (old new : Held) (t : List ℕ) where
       go true = refl
       go false = sym (settings_read old q)
 
-  pub settings_made : (time : TimeMode) (n : ℕ) → Renews (Some (made_table time n)) → (q : List ℕ) → settings_of (base_of new) [] q ≡ cond (bytes_eq t q) (Some (made_with time n)) (settings_of (base_of old) [] q)
-  settings_made time n f = reset (Some (made_table time n)) f
+  pub settings_made : (time : TimeMode) (n number : ℕ) → Renews (Some (made_table time n number)) → (q : List ℕ) → settings_of (base_of new) [] q ≡ cond (bytes_eq t q) (Some (made_with time n)) (settings_of (base_of old) [] q)
+  settings_made time n number f = reset (Some (made_table time n number)) f
 
   pub settings_dropped : Renews None → (q : List ℕ) → settings_of (base_of new) [] q ≡ cond (bytes_eq t q) None (settings_of (base_of old) [] q)
   settings_dropped f = reset None f
@@ -172,6 +189,26 @@ module _ (old new : Held) (t : List ℕ) where
       go true None = refl
       go true (Some s) = ap Some (same s)
       go false o = refl
+
+-- ---- merges that begin and are installed
+module _ (old : Held) (now : ℤ) (t : List ℕ) (plain : Told) where
+  -- the one that begins
+  pub begun_read : (row : List ℕ) (kind : Compaction) → begun_in row old.job kind now (table_at old.tables t) ≡ job_by old now (On t (Beginning row kind))
+  begun_read row kind = go (table_in old t)
+    where
+      go : (o : Option HeldTable) → begun_in row old.job kind now (option_map state_of o) ≡ begun_by (place_of old now o) (Beginning row kind) (tablets_found o)
+      go None = refl
+      go (Some x) = refl
+
+  -- what is told of it
+  pub begun_told : (row : List ℕ) (kind : Compaction) → told_job (begun_in row old.job kind now (table_at old.tables t)) ≡ told_by old now (On t (Beginning row kind)) plain
+  unfolding lays
+  begun_told row kind = ap told_job (begun_read row kind)
+
+  -- and of one that is installed
+  pub installed_told : (m : TabletMerge) → told_install plain (installs_in m (tablets_of (table_at old.tables t))).0 ≡ told_by old now (On t (Installing (Some m))) plain
+  unfolding lays
+  installed_told m = ap (λ ts. told_install plain (installs_in m ts).0) (sym (tablets_read old t))
 
 -- ---- where tables read as before
 module _ (old new : Held) (same : (q : List ℕ) → table_at new.tables q ≡ table_at old.tables q) where

@@ -7,11 +7,13 @@ use Rattle.std.specs.declared.cmp.Ordering.TheVariants.{Less, Equal, Greater}
 use Rattle.tab_key.specs.Bytes.{bytes_cmp}
 use Rattle.tab_key.specs.Records.{Record}
 use Rattle.tab_tablets.specs.Sources.{records_of, clipped}
-use Rattle.tab_tablets.specs.Tablets.{Tablet, frozen}
-use Rattle.tab_tablets.specs.Splitting.{upper_at}
+use Rattle.tab_cells.specs.declared.compaction.Compaction.{Compaction}
+use Rattle.tab_cells.specs.declared.compaction.Compaction.TheVariants.{Minor, Partial, Full}
+use Rattle.tab_tablets.specs.Tablets.{Tablet, no_jobs, job_of, records_in, frozen}
+use Rattle.tab_tablets.specs.Splitting.{lower_at, upper_at}
 use Rattle.tab_tablets.proofs.Cut.{clipped_records}
 use Rattle.tab_history.specs.Held.{RefinesTable}
-use Rattle.tab_store.specs.Keeping.{TabletRefines, is_high, SplitsKeep}
+use Rattle.tab_store.specs.Keeping.{MayAllInstall, TabletRefines, is_high, SplitsKeep}
 use Rattle.tab_store.proofs.ByRows.{here, rows_refine}
 use Rattle.tab_store.proofs.OneTablet.{freezes_keep}
 
@@ -25,10 +27,20 @@ gt_not_le Less = refl
 gt_not_le Equal = refl
 gt_not_le Greater = refl
 
+-- none is under way in a tablet that a split makes
+pub none_under_way : (held : List Record) (n : ℕ) (floor : ℤ) → MayAllInstall no_jobs held n floor
+none_under_way held n floor kind m e = absurd (none kind e)
+  where
+    none : (kind : Compaction) → job_of kind no_jobs ≡ Some m → ⊥
+    none Minor q = cc
+    none Partial q = cc
+    none Full q = cc
+
 pub splits_keep : SplitsKeep
-splits_keep row t us next n floor h = (
-  record { refines = cut_refines (λ r. is_le (bytes_cmp r row)) t us next n floor h },
-  subst (λ q. TabletRefines (upper_at row t) (filter q us) next n floor) are_high (record { refines = cut_refines (λ r. is_gt (bytes_cmp r row)) t us next n floor h }),
+splits_keep row lower upper t us next n floor h = (
+  record { refines = cut_refines (λ r. is_le (bytes_cmp r row)) t us next n floor h; jobs = none_under_way (records_in (lower_at row lower t)) n floor },
+  subst (λ q. TabletRefines (upper_at row upper t) (filter q us) next n floor) are_high
+      (record { refines = cut_refines (λ r. is_gt (bytes_cmp r row)) t us next n floor h; jobs = none_under_way (records_in (upper_at row upper t)) n floor }),
 )
   where
     are_high : here (λ r. is_gt (bytes_cmp r row)) ≡ is_high (Some row)

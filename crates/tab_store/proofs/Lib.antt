@@ -5,6 +5,7 @@ pub mod Accepted
 pub mod CutTablet
 pub mod SplitTablets
 pub mod SplitCases
+pub mod InstallCases
 pub mod Middles
 pub mod AllTablets
 pub mod Sound
@@ -20,5 +21,6 @@ pub mod Staying
 pub mod ChainLaws
 pub mod Joining
 pub mod Missing
+pub mod DueTables
 pub mod Named
 pub mod Changed

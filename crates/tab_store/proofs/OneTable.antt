@@ -63,7 +63,7 @@ module _ (old new : Held) (store : IsStore old) (now : ℤ) (later : int_le old.
   }
 
   abbrev pub place : Place
-  place = record { settings = t.settings; now = now; next = old.next }
+  place = record { settings = t.settings; now = now; next = old.next; tablet = old.tablet; job = old.job }
 
   -- work is done with them
   pub happens : (work : TabletWork) (plain : Told) → tablets_in new q ≡ (lays_in old now work plain (table_in old q)).1 → IsRecent place work → Both new q (updates_after place work was) (next_after place work) t.settings.versions low

@@ -18,18 +18,21 @@ use Rattle.tab_policy.specs.declared.permission.Permission.TheVariants.{OfSystem
 use Rattle.tab_tablets.specs.Tablets.{Tablet, new_tablet}
 use Rattle.tab_tablets.proofs.Parted.{some_is}
 use Rattle.tab_tablets.specs.ByRow.{records_of_all}
+use Rattle.tab_tablets.specs.Parts.{TabletMerge}
 use Rattle.tab_history.specs.Settings.{Settings, made_with}
 use Rattle.tab_history.specs.Bases.{Base}
 use Rattle.tab_history.specs.Readings.{constrained, settings_of, next_number, updates_of}
 use Rattle.tab_history.specs.Held.{floor_of, RefinesTable}
 use Rattle.tab_history.specs.Checks.{Caller, standing, exists_in, user_named, refusal_of}
 use Rattle.tab_history.specs.Sessions.{opened, closed, is_full}
-use Rattle.tab_history.specs.Answers.{Told, told_opened, told, are_used_up, numbered, granted, event_answer, is_open, answer, leaves_open, MayTell, IsReply, changes_by}
-use Rattle.tab_history.specs.Histories.{world_of, clock_after, clock_of, journal, moves_of}
+use Rattle.tab_history.specs.Answers.{Told, told_opened, told, are_used_up, numbered, granted, event_answer, is_open, answer, slotted, empty_slot, leaves_open, MayTell, IsReply, changes_by}
+use Rattle.tab_history.specs.Histories.{world_of, clock_after, clock_of, journal, moves_of, jobs_of}
 use Rattle.tab_history.specs.Legal.{answer_at, IsAnswer, takes_memory, LacksMemory}
+use Rattle.tab_history.specs.Chains.{NamesNoSlot}
 use Rattle.tab_history.specs.declared.event.TimeMode.{TimeMode}
 use Rattle.tab_history.specs.declared.event.Act.{Act}
-use Rattle.tab_history.specs.declared.event.Act.TheVariants.{Open, Write, CreateTable, DropTable, SetConstraints, CreateUser, DropUser, SetAuths, Grant, Revoke, Rights as AsksRights, Status, Flush, Compact, AddSplit, SplitBySize, Splits, Save, Load}
+use Rattle.tab_history.specs.declared.event.Act.TheVariants.{Open, Write, CreateTable, DropTable, SetConstraints, CreateUser, DropUser, SetAuths, Grant, Revoke, Rights as AsksRights, Status, Flush, Compact, AddSplit, SplitBySize, Splits, Save, Load, Begin, Install}
+use Rattle.tab_history.specs.declared.event.Given.TheVariants.{InSlot, ByHand}
 use Rattle.tab_history.specs.declared.event.Event.{Event}
 use Rattle.tab_history.specs.declared.event.Step.{Step}
 use Rattle.tab_history.specs.declared.event.Step.TheVariants.{Event as IsEvent}
@@ -42,7 +45,7 @@ use Rattle.tab_history.proofs.Holds.{holds_nothing}
 use Rattle.tab_history.proofs.LeftOpen.{of_told}
 use Rattle.tab_history.proofs.Refines.{FitAll}
 use Rattle.tab_store.specs.Stores.{HeldTable, Held, base_of, table_in, tablets_found, tablets_in}
-use Rattle.tab_store.specs.Stepping.{Freezing, Writing, Compacting, Counting, Splitting, Halving, Listing, Making, Dropping, On, kind_of, work_of, lays_in, told_by, laid_by, told_exactly, laid_told}
+use Rattle.tab_store.specs.Stepping.{Freezing, Writing, Compacting, Counting, Splitting, Halving, Listing, Beginning, Installing, Making, Dropping, On, kind_of, work_of, lays_in, told_by, laid_by, told_exactly, laid_told}
 use Rattle.tab_store.specs.Keeping.{settings_in, AreSound}
 use Rattle.tab_store.specs.Rightness.{IsStore, LeavesExactly, StepsAreRight}
 use Rattle.tab_store.proofs.Sound.{new_tables_are_sound}
@@ -50,7 +53,7 @@ use Rattle.tab_store.proofs.Reading.{bases_read}
 use Rattle.tab_store.proofs.Telling.{tells_legally}
 use Rattle.tab_store.proofs.OneTable.{at_table, Both, stays, happens}
 
-module _ (old new : Held) (store : IsStore old) (user : List ℕ) (moment : ℤ) (q : List ℕ) where
+module _ (old new : Held) (store : IsStore old) (given : Option TabletMerge) (user : List ℕ) (moment : ℤ) (q : List ℕ) where
   abbrev b : Base
   b = base_of old
 
@@ -115,6 +118,12 @@ module _ (old new : Held) (store : IsStore old) (user : List ℕ) (moment : ℤ)
   listed_right : (t : List ℕ) (plain : Told) → tablets_in new q ≡ laid_by old now (On t Listing) plain q → Plain
   listed_right t plain same = on_named t (lays_in old now Listing plain (table_in old q)).1 same (λ x. at_table old q (λ s. Both new q (updates_of b [] q) old.next s.versions (floor_of s.time now s.horizon)) (λ o e. happens old new store now (max_left old.clock moment) q o e Listing plain x tt))
 
+  begun_right : (t row : List ℕ) (kind : Compaction) (plain : Told) → tablets_in new q ≡ laid_by old now (On t (Beginning row kind)) plain q → Plain
+  begun_right t row kind plain same = on_named t (lays_in old now (Beginning row kind) plain (table_in old q)).1 same (λ x. at_table old q (λ s. Both new q (updates_of b [] q) old.next s.versions (floor_of s.time now s.horizon)) (λ o e. happens old new store now (max_left old.clock moment) q o e (Beginning row kind) plain x tt))
+
+  installed_right : (t : List ℕ) (plain : Told) → tablets_in new q ≡ laid_by old now (On t (Installing given)) plain q → Plain
+  installed_right t plain same = on_named t (lays_in old now (Installing given) plain (table_in old q)).1 same (λ x. at_table old q (λ s. Both new q (updates_of b [] q) old.next s.versions (floor_of s.time now s.horizon)) (λ o e. happens old new store now (max_left old.clock moment) q o e (Installing given) plain x tt))
+
   -- ---- act by act
   write_right : (t : List ℕ) (m : Mutation) (plain : Told) → tablets_in new q ≡ laid_by old now (On t (Writing m)) plain q → Fit (Write t m) Done → Goal (Write t m) Done
   unfolding next_number updates_of settings_of
@@ -134,10 +143,10 @@ module _ (old new : Held) (store : IsStore old) (user : List ℕ) (moment : ℤ)
   unfolding next_number updates_of settings_of
   create_right t time n plain same s e = go (bytes_eq t q) same e
     where
-      go : (v : Bool) → tablets_in new q ≡ cond v (new_tablet None ∷ []) (tablets_in old q) → cond v (Some (made_with time n)) (settings_of b [] q) ≡ Some s → Both new q (cond v [] (updates_of b [] q)) old.next s.versions (floor_of s.time now s.horizon)
+      go : (v : Bool) → tablets_in new q ≡ cond v (new_tablet old.tablet None ∷ []) (tablets_in old q) → cond v (Some (made_with time n)) (settings_of b [] q) ≡ Some s → Both new q (cond v [] (updates_of b [] q)) old.next s.versions (floor_of s.time now s.horizon)
       go true x k = record {
         refines = subst (λ l. RefinesTable l [] old.next s.versions (floor_of s.time now s.horizon)) (sym ((bases_read new q).1 ∙ ap (λ ts. sorted (records_of_all ts)) x)) (holds_nothing old.next s.versions (floor_of s.time now s.horizon));
-        sound = subst (λ ts. AreSound ts old.next s.versions (floor_of s.time now s.horizon)) (sym x) (new_tables_are_sound old.next s.versions (floor_of s.time now s.horizon));
+        sound = subst (λ ts. AreSound ts old.next s.versions (floor_of s.time now s.horizon)) (sym x) (new_tables_are_sound old.tablet old.next s.versions (floor_of s.time now s.horizon));
       }
       go false x k = kept x s k
 
@@ -174,7 +183,7 @@ module _ (old new : Held) (store : IsStore old) (user : List ℕ) (moment : ℤ)
   revoke_right n (OfSystem p) same = kept same
   revoke_right n (OfTable p t) same = kept same
 
-  granted_right : (c : Caller) (act : Act) → tablets_in new q ≡ laid_by old now (work_of act) (granted c act) q → Fit act (granted c act) → Goal act (granted c act)
+  granted_right : (c : Caller) (act : Act) → tablets_in new q ≡ laid_by old now (work_of given act) (granted c act) q → Fit act (granted c act) → Goal act (granted c act)
   unfolding next_number updates_of settings_of
   granted_right c (Open scan) same fits = frozen_right scan.table told_opened same
   granted_right c (Write t m) same fits = write_right t m Done same fits
@@ -195,9 +204,11 @@ module _ (old new : Held) (store : IsStore old) (user : List ℕ) (moment : ℤ)
   granted_right c (Splits t) same fits = listed_right t Done same
   granted_right c Save same fits = kept same
   granted_right c Load same fits = kept same
+  granted_right c (Begin t row kind) same fits = begun_right t row kind Done same
+  granted_right c (Install t by) same fits = installed_right t Done same
 
   -- what is told where it is left open changes nothing that is read
-  open_right : (c : Caller) (act : Act) (r : Told) → MayTell act (granted c act) r → tablets_in new q ≡ laid_by old now (work_of act) (granted c act) q → leaves_open act ≡ true → Goal act r
+  open_right : (c : Caller) (act : Act) (r : Told) → MayTell act (granted c act) r → tablets_in new q ≡ laid_by old now (work_of given act) (granted c act) q → leaves_open act ≡ true → Goal act r
   unfolding next_number updates_of settings_of
   open_right c (Status t) r m same o = subst (Goal (Status t)) (sym m.1) (counted_right t Done same)
   open_right c (AddSplit t row) r (inl e) same o = subst (Goal (AddSplit t row)) (sym e) (split_right t row Done same)
@@ -208,51 +219,61 @@ module _ (old new : Held) (store : IsStore old) (user : List ℕ) (moment : ℤ)
   open_right c (SplitBySize t row limit) r (inr (inr (inl e))) same o = subst (Goal (SplitBySize t row limit)) (sym e) (halved_right t row limit Done same)
   open_right c (SplitBySize t row limit) r (inr (inr (inr e))) same o = subst (Goal (SplitBySize t row limit)) (sym e) (halved_right t row limit Done same)
   open_right c (Splits t) r m same o = subst (Goal (Splits t)) (sym m.1) (listed_right t Done same)
+  open_right c (Begin t row kind) r (inl e) same o = subst (Goal (Begin t row kind)) (sym e) (begun_right t row kind Done same)
+  open_right c (Begin t row kind) r (inr (inl e)) same o = subst (Goal (Begin t row kind)) (sym e) (begun_right t row kind Done same)
+  open_right c (Begin t row kind) r (inr (inr e)) same o = subst (Goal (Begin t row kind)) (sym e) (begun_right t row kind Done same)
+  open_right c (Install t by) r (inl e) same o = subst (Goal (Install t by)) (sym e) (installed_right t Done same)
+  open_right c (Install t by) r (inr m) same o = subst (Goal (Install t by)) (sym m.1) (installed_right t Done same)
   open_right c act r m same o = absurd (true≢false (sym o))
 
   -- whatever may be told of an act that no check refuses
-  accepted_right : (c : Caller) (act : Act) (r : Told) → MayTell act (granted c act) r → tablets_in new q ≡ laid_by old now (work_of act) (granted c act) q → Fit act r → Goal act r
+  accepted_right : (c : Caller) (act : Act) (r : Told) → MayTell act (granted c act) r → tablets_in new q ≡ laid_by old now (work_of given act) (granted c act) q → Fit act r → Goal act r
   accepted_right c act r m same = of_told (λ z. Fit act z → Goal act z) act (granted c act) r m (granted_right c act same) (λ o fits. open_right c act r m same o)
 
   -- ---- what was told, and so what was laid
-  laid_refused : (act : Act) (r k : Refusal) → laid_told (Refused r) old now act (Refused k) q ≡ tablets_in old q
+  laid_refused : (act : Act) (r k : Refusal) → laid_told (Refused r) old now given act (Refused k) q ≡ tablets_in old q
   laid_refused act NoMemory k = refl
   laid_refused act _ k = refl
 
-  told_plain : (c : Caller) (act : Act) → laid_told (granted c act) old now act (granted c act) q ≡ laid_by old now (work_of act) (granted c act) q
+  told_plain : (c : Caller) (act : Act) → laid_told (granted c act) old now given act (granted c act) q ≡ laid_by old now (work_of given act) (granted c act) q
   told_plain c (Open scan) = refl
   told_plain c _ = refl
 
-  open_laid : (c : Caller) (act : Act) (r : Told) → MayTell act (granted c act) r → leaves_open act ≡ true → laid_told r old now act (granted c act) q ≡ laid_by old now (work_of act) (granted c act) q
-  open_laid c (Status t) r m o = ap (λ z. laid_told z old now (Status t) Done q) m.1
-  open_laid c (AddSplit t row) r (inl e) o = ap (λ z. laid_told z old now (AddSplit t row) Done q) e
-  open_laid c (AddSplit t row) r (inr (inl e)) o = ap (λ z. laid_told z old now (AddSplit t row) Done q) e
-  open_laid c (AddSplit t row) r (inr (inr e)) o = ap (λ z. laid_told z old now (AddSplit t row) Done q) e
-  open_laid c (SplitBySize t row limit) r (inl e) o = ap (λ z. laid_told z old now (SplitBySize t row limit) Done q) e
-  open_laid c (SplitBySize t row limit) r (inr (inl e)) o = ap (λ z. laid_told z old now (SplitBySize t row limit) Done q) e
-  open_laid c (SplitBySize t row limit) r (inr (inr (inl e))) o = ap (λ z. laid_told z old now (SplitBySize t row limit) Done q) e
-  open_laid c (SplitBySize t row limit) r (inr (inr (inr e))) o = ap (λ z. laid_told z old now (SplitBySize t row limit) Done q) e
-  open_laid c (Splits t) r m o = ap (λ z. laid_told z old now (Splits t) Done q) m.1
+  open_laid : (c : Caller) (act : Act) (r : Told) → MayTell act (granted c act) r → leaves_open act ≡ true → laid_told r old now given act (granted c act) q ≡ laid_by old now (work_of given act) (granted c act) q
+  open_laid c (Status t) r m o = ap (λ z. laid_told z old now given (Status t) Done q) m.1
+  open_laid c (AddSplit t row) r (inl e) o = ap (λ z. laid_told z old now given (AddSplit t row) Done q) e
+  open_laid c (AddSplit t row) r (inr (inl e)) o = ap (λ z. laid_told z old now given (AddSplit t row) Done q) e
+  open_laid c (AddSplit t row) r (inr (inr e)) o = ap (λ z. laid_told z old now given (AddSplit t row) Done q) e
+  open_laid c (SplitBySize t row limit) r (inl e) o = ap (λ z. laid_told z old now given (SplitBySize t row limit) Done q) e
+  open_laid c (SplitBySize t row limit) r (inr (inl e)) o = ap (λ z. laid_told z old now given (SplitBySize t row limit) Done q) e
+  open_laid c (SplitBySize t row limit) r (inr (inr (inl e))) o = ap (λ z. laid_told z old now given (SplitBySize t row limit) Done q) e
+  open_laid c (SplitBySize t row limit) r (inr (inr (inr e))) o = ap (λ z. laid_told z old now given (SplitBySize t row limit) Done q) e
+  open_laid c (Splits t) r m o = ap (λ z. laid_told z old now given (Splits t) Done q) m.1
+  open_laid c (Begin t row kind) r (inl e) o = ap (λ z. laid_told z old now given (Begin t row kind) Done q) e
+  open_laid c (Begin t row kind) r (inr (inl e)) o = ap (λ z. laid_told z old now given (Begin t row kind) Done q) e
+  open_laid c (Begin t row kind) r (inr (inr e)) o = ap (λ z. laid_told z old now given (Begin t row kind) Done q) e
+  open_laid c (Install t by) r (inl e) o = ap (λ z. laid_told z old now given (Install t by) Done q) e
+  open_laid c (Install t by) r (inr m) o = ap (λ z. laid_told z old now given (Install t by) Done q) m.1
   open_laid c act r m o = absurd (true≢false (sym o))
 
-  was_laid : (c : Caller) (act : Act) (r : Told) → MayTell act (granted c act) r → laid_told r old now act (granted c act) q ≡ laid_by old now (work_of act) (granted c act) q
-  was_laid c act r m = of_told (λ z. laid_told z old now act (granted c act) q ≡ laid_by old now (work_of act) (granted c act) q) act (granted c act) r m (told_plain c act) (open_laid c act r m)
+  was_laid : (c : Caller) (act : Act) (r : Told) → MayTell act (granted c act) r → laid_told r old now given act (granted c act) q ≡ laid_by old now (work_of given act) (granted c act) q
+  was_laid c act r m = of_told (λ z. laid_told z old now given act (granted c act) q ≡ laid_by old now (work_of given act) (granted c act) q) act (granted c act) r m (told_plain c act) (open_laid c act r m)
 
-  was_told : (c : Caller) (act : Act) → told_exactly old now act (granted c act) ≡ told_by old now (work_of act) (granted c act)
+  was_told : (c : Caller) (act : Act) → told_exactly old now given act (granted c act) ≡ told_by old now (work_of given act) (granted c act)
   was_told c (Open scan) = refl
   was_told c _ = refl
 
-  may_tell : (c : Caller) (act : Act) (r : Told) → r ≡ told_exactly old now act (granted c act) → MayTell act (granted c act) r
-  may_tell c act r e = subst (MayTell act (granted c act)) (sym (e ∙ was_told c act)) (tells_legally old now act (granted c act))
+  may_tell : (c : Caller) (act : Act) (r : Told) → r ≡ told_exactly old now given act (granted c act) → MayTell act (granted c act) r
+  may_tell c act r e = subst (MayTell act (granted c act)) (sym (e ∙ was_told c act)) (tells_legally old now given act (granted c act))
 
   abbrev Answers : Act → Told → Told → Type 0
-  Answers act plain r = (r ≡ told_exactly old now act plain) ⊎ ((takes_memory act ≡ true) × (r ≡ Refused NoMemory))
+  Answers act plain r = (r ≡ told_exactly old now given act plain) ⊎ ((takes_memory act ≡ true) × (r ≡ Refused NoMemory))
 
-  goal_from : (c : Caller) (act : Act) (o : Option Refusal) (used_up : Bool) (r : Told) → Answers act (told o (numbered used_up (granted c act))) r → tablets_in new q ≡ laid_told r old now act (told o (numbered used_up (granted c act))) q → Fit act r → Goal act r
+  goal_from : (c : Caller) (act : Act) (o : Option Refusal) (used_up : Bool) (r : Told) → Answers act (told o (numbered used_up (granted c act))) r → tablets_in new q ≡ laid_told r old now given act (told o (numbered used_up (granted c act))) q → Fit act r → Goal act r
   goal_from c act None false r (inl e) same fits = let m : MayTell act (granted c act) r = may_tell c act r e in accepted_right c act r m (same ∙ was_laid c act r m) fits
-  goal_from c act None true r (inl e) same fits = subst (λ z. tablets_in new q ≡ laid_told z old now act (Refused (TooLarge Numbers)) q → Goal act z) (sym e) (λ x. refused_right act (TooLarge Numbers) (x ∙ laid_refused act (TooLarge Numbers) (TooLarge Numbers))) same
-  goal_from c act (Some k) used_up r (inl e) same fits = subst (λ z. tablets_in new q ≡ laid_told z old now act (Refused k) q → Goal act z) (sym e) (λ x. refused_right act k (x ∙ laid_refused act k k)) same
-  goal_from c act o used_up r (inr e) same fits = subst (λ z. tablets_in new q ≡ laid_told z old now act (told o (numbered used_up (granted c act))) q → Goal act z) (sym e.1) (λ x. refused_right act NoMemory x) same
+  goal_from c act None true r (inl e) same fits = subst (λ z. tablets_in new q ≡ laid_told z old now given act (Refused (TooLarge Numbers)) q → Goal act z) (sym e) (λ x. refused_right act (TooLarge Numbers) (x ∙ laid_refused act (TooLarge Numbers) (TooLarge Numbers))) same
+  goal_from c act (Some k) used_up r (inl e) same fits = subst (λ z. tablets_in new q ≡ laid_told z old now given act (Refused k) q → Goal act z) (sym e) (λ x. refused_right act k (x ∙ laid_refused act k k)) same
+  goal_from c act o used_up r (inr e) same fits = subst (λ z. tablets_in new q ≡ laid_told z old now given act (told o (numbered used_up (granted c act))) q → Goal act z) (sym e.1) (λ x. refused_right act NoMemory x) same
 
   -- ---- the reply is an answer
   as_reply : (c : Caller) (act : Act) (r : Told) → MayTell act (granted c act) r → IsReply (step act) (granted c act) r
@@ -266,14 +287,22 @@ module _ (old new : Held) (store : IsStore old) (user : List ℕ) (moment : ℤ)
   replied c act o used_up r (inr e) = inr e
 
 -- ---- the whole core
--- the answer of a run is the answer to the event by itself
-plainly : (old : Held) (user : List ℕ) (moment : ℤ) (act : Act) → answer_at (world_of (base_of old)) [] [] (IsEvent (record { user = user; moment = moment; act = act })) ≡ event_answer (base_of old) [] (int_max old.clock moment) user act
-unfolding answer opened closed clock_of journal moves_of
-plainly old user moment act = go (is_open act)
+-- the answer of a run is the answer to the event by itself, where that names no slot
+no_slot : (act : Act) → NamesNoSlot act → None ≡ empty_slot [] act
+no_slot (Install t (InSlot slot)) none = absurd none
+no_slot (Install t (ByHand job)) none = refl
+no_slot act none = refl
+
+plainly : (old : Held) (user : List ℕ) (moment : ℤ) (act : Act) → NamesNoSlot act → event_answer (base_of old) [] (int_max old.clock moment) user act ≡ answer_at (world_of (base_of old)) [] [] (IsEvent (record { user = user; moment = moment; act = act }))
+unfolding answer opened closed clock_of journal moves_of jobs_of
+plainly old user moment act none = go (is_open act)
   where
-    go : (v : Bool) → cond (v && is_full []) (Refused (TooLarge Sessions)) (event_answer (base_of old) [] (int_max old.clock moment) user act) ≡ event_answer (base_of old) [] (int_max old.clock moment) user act
-    go true = refl
-    go false = refl
+    plain : Told
+    plain = event_answer (base_of old) [] (int_max old.clock moment) user act
+
+    go : (v : Bool) → plain ≡ cond (v && is_full []) (Refused (TooLarge Sessions)) (slotted (empty_slot [] act) plain)
+    go true = ap (λ o. slotted o plain) (no_slot act none)
+    go false = ap (λ o. slotted o plain) (no_slot act none)
 
 module _ (old : Held) (event : Event) where
   abbrev at : ℤ
@@ -292,35 +321,35 @@ module _ (old : Held) (event : Event) where
   plain = told refusal (numbered spent (granted who event.act))
 
   -- the reply is an answer, or memory lacked
-  legal_at : (r : Told) → IsReply (IsEvent event) plain r ⊎ LacksMemory (IsEvent event) r → IsAnswer (world_of (base_of old)) [] [] (IsEvent event) r ⊎ LacksMemory (IsEvent event) r
-  legal_at r (inl h) = inl (subst (λ x. IsReply (IsEvent event) x r) (sym (plainly old event.user event.moment event.act)) h)
-  legal_at r (inr x) = inr x
+  legal_at : NamesNoSlot event.act → (r : Told) → IsReply (IsEvent event) plain r ⊎ LacksMemory (IsEvent event) r → IsAnswer (world_of (base_of old)) [] [] (IsEvent event) r ⊎ LacksMemory (IsEvent event) r
+  legal_at none r (inl h) = inl (subst (λ x. IsReply (IsEvent event) x r) (plainly old event.user event.moment event.act none) h)
+  legal_at none r (inr x) = inr x
 
-module _ (old new : Held) (store : IsStore old) (event : Event) (r : Told) (leaves : LeavesExactly old event r new) where
+module _ (old new : Held) (given job : Option TabletMerge) (event : Event) (r : Told) (store : IsStore old) (none : NamesNoSlot event.act) (leaves : LeavesExactly old given event r job new) where
   legal : IsAnswer (world_of (base_of old)) [] [] (IsEvent event) r ⊎ LacksMemory (IsEvent event) r
-  legal = legal_at old event r (replied old new store event.user event.moment [] (who old event) event.act (refusal old event) (spent old event) r leaves.exact.answers)
+  legal = legal_at old event none r (replied old new store given event.user event.moment [] (who old event) event.act (refusal old event) (spent old event) r leaves.exact.answers)
 
   fits : FitAll (base_of old) [] (at old event) (changes_by (at old event) (IsEvent event) r)
   unfolding journal clock_of
   fits = fits_legal (world_of (base_of old)) [] [] (IsEvent event) r legal
 
-  all_goals : (q : List ℕ) → Goal old new store event.user event.moment q event.act r
-  all_goals q = goal_from old new store event.user event.moment q (who old event) event.act (refusal old event) (spent old event) r leaves.exact.answers (leaves.exact.tablets q) fits
+  all_goals : (q : List ℕ) → Goal old new store given event.user event.moment q event.act r
+  all_goals q = goal_from old new store given event.user event.moment q (who old event) event.act (refusal old event) (spent old event) r leaves.exact.answers (leaves.exact.tablets q) fits
 
 pub steps_are_right : StepsAreRight
 unfolding journal clock_of
-steps_are_right old new event r store leaves = record {
-  legal = (tt, legal old new store event r leaves);
-  refines = record { reads = leaves.reads; tables = λ q s e. (all_goals old new store event r leaves q s e).refines };
+steps_are_right old new given job event r store none leaves = record {
+  legal = (tt, legal old new given job event r store none leaves);
+  refines = record { reads = leaves.reads; tables = λ q s e. (all_goals old new given job event r store none leaves q s e).refines };
 }
 
 -- the tablets of each table are sound still
-pub soundness_stays : (old new : Held) (event : Event) (r : Told) → IsStore old → LeavesExactly old event r new → (q : List ℕ) (t : HeldTable) → table_in new q ≡ Some t
+pub soundness_stays : (old new : Held) (given job : Option TabletMerge) (event : Event) (r : Told) → IsStore old → NamesNoSlot event.act → LeavesExactly old given event r job new → (q : List ℕ) (t : HeldTable) → table_in new q ≡ Some t
     → AreSound t.tablets new.next t.settings.versions (floor_of t.settings.time new.clock t.settings.horizon)
 unfolding journal clock_of next_number
-soundness_stays old new event r store leaves q t e =
+soundness_stays old new given job event r store none leaves q t e =
     let settings : settings_of (base_of old) (changes_by (at old event) (IsEvent event) r ++ []) q ≡ Some t.settings = sym (leaves.reads.settings q) ∙ ((bases_read new q).0 ∙ ap settings_in e) in
-    let both = all_goals old new store event r leaves q t.settings settings in
+    let both = all_goals old new given job event r store none leaves q t.settings settings in
     subst (λ ts. AreSound ts new.next t.settings.versions (floor_of t.settings.time new.clock t.settings.horizon)) (ap tablets_found e)
     (subst (λ k. AreSound (tablets_in new q) k t.settings.versions (floor_of t.settings.time new.clock t.settings.horizon)) (sym leaves.reads.next)
     (subst (λ c. AreSound (tablets_in new q) (next_number (base_of old) (changes_by (at old event) (IsEvent event) r ++ [])) t.settings.versions (floor_of t.settings.time c t.settings.horizon)) (sym leaves.reads.clock) both.sound))

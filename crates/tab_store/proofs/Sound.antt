@@ -19,9 +19,10 @@ use Rattle.tab_history.proofs.HeldWrite.{covers, column_itself, le_itself_z, del
 use Rattle.tab_history.proofs.Holds.{holds_nothing}
 use Rattle.tab_tablets.specs.ByRow.{records_of_all, AreWhole}
 use Rattle.tab_tablets.specs.Places.{HoldOwnRows}
-use Rattle.tab_store.specs.Stepping.{TabletWork, Freezing, Writing, Compacting, Counting, Splitting, Halving, Listing, Place, floor_at, lays}
+use Rattle.tab_store.specs.Stepping.{TabletWork, Freezing, Writing, Compacting, Counting, Splitting, Halving, Listing, Beginning, Installing, Place, floor_at, lays}
 use Rattle.tab_store.specs.Keeping.{TabletRefines, is_low, is_high, TabletsRefine, AreSound, updates_after, next_after, WorkStaysSound, NewTablesAreSound, SoundLater}
 use Rattle.tab_store.proofs.OneTablet.{permuted_refines, later_keeps}
+use Rattle.tab_store.proofs.CutTablet.{none_under_way}
 use Rattle.tab_store.proofs.Accepted.{own_rows}
 use Rattle.tab_store.proofs.AllTablets.{work_keeps, stays_whole, tablets_hold_all}
 
@@ -47,7 +48,7 @@ alone : (ts : List Tablet) (us xs : List Record) (next n : ℕ) (floor : ℤ) �
 alone [] us [] next n floor a f g once numbers = refl
 alone [] us (x ∷ xs) next n floor a f g once numbers = absurd (f x (inl refl))
 alone (t ∷ ts) us xs next n floor a f g once numbers = (
-  record { refines = same_refines (records_in t) (filter (is_low t.end) xs) next n floor here back a.0.refines.held_once (distinct_filter (is_low t.end) xs once) (λ u h. numbers u (in_filter (is_low t.end) xs u h).0) },
+  record { refines = same_refines (records_in t) (filter (is_low t.end) xs) next n floor here back a.0.refines.held_once (distinct_filter (is_low t.end) xs once) (λ u h. numbers u (in_filter (is_low t.end) xs u h).0); jobs = a.0.jobs },
   alone ts (filter (is_high t.end) us) (filter (is_high t.end) xs) next n floor a.1 there behind (distinct_filter (is_high t.end) xs once) (λ u h. numbers u (in_filter (is_high t.end) xs u h).0),
 )
   where
@@ -98,6 +99,8 @@ fine_after p Counting us f = f
 fine_after p (Splitting row) us f = f
 fine_after p (Halving row limit) us f = f
 fine_after p Listing us f = f
+fine_after p (Beginning row kind) us f = f
+fine_after p (Installing given) us f = f
 
 -- ---- sound tablets
 in_all : (ts : List Tablet) (u : Record) → Contains (sorted (records_of_all ts)) u → Contains (records_of_all ts) u
@@ -135,11 +138,11 @@ self_refines ts next n floor s = permuted_refines (records_of_all ts) (sorted (r
 
 -- ---- a new table, and time that passes
 pub new_tables_are_sound : NewTablesAreSound
-new_tables_are_sound next n floor = record {
+new_tables_are_sound number next n floor = record {
   whole = refl;
   once = tt;
   numbered = λ u c. absurd (in_from [] u c);
-  refines = (record { refines = holds_nothing next n floor }, refl);
+  refines = (record { refines = holds_nothing next n floor; jobs = none_under_way [] n floor }, refl);
 }
 
 lt_more : (a b c : ℕ) → a < b → a < b + c
@@ -147,8 +150,9 @@ lt_more a b c le = omega (arith, le)
 
 one_later : (t : Tablet) (us : List Record) (next more n : ℕ) (floor higher : ℤ) → int_le floor higher ≡ true → TabletRefines t us next n floor → TabletRefines t us (next + more) n higher
 one_later t us next more n floor higher le h =
-    let l : RefinesTable (records_in t) us next n higher = (later_keeps t us next n floor higher le h).refines in
-    record { refines = record { refines = l.refines; held_once = l.held_once; updates_once = l.updates_once; numbered = λ u c. lt_more u.seq next more (l.numbered u c) } }
+    let later : TabletRefines t us next n higher = later_keeps t us next n floor higher le h in
+    let l : RefinesTable (records_in t) us next n higher = later.refines in
+    record { refines = record { refines = l.refines; held_once = l.held_once; updates_once = l.updates_once; numbered = λ u c. lt_more u.seq next more (l.numbered u c) }; jobs = later.jobs }
 
 all_later : (ts : List Tablet) (us : List Record) (next more n : ℕ) (floor higher : ℤ) → int_le floor higher ≡ true → TabletsRefine ts us next n floor → TabletsRefine ts us (next + more) n higher
 all_later [] us next more n floor higher le a = a

@@ -15,6 +15,7 @@ use Rattle.tab_cells.proofs.Lists.{in_append}
 use Rattle.tab_policy.specs.declared.permission.Permission.TheVariants.{OfSystem, OfTable}
 use Rattle.tab_tablets.specs.Tablets.{Tablet, new_tablet}
 use Rattle.tab_tablets.specs.ByRow.{records_of_all}
+use Rattle.tab_tablets.specs.Parts.{TabletMerge}
 use Rattle.tab_history.specs.Settings.{Settings}
 use Rattle.tab_history.specs.Bases.{Base}
 use Rattle.tab_history.specs.Changes.{Change, changes_of}
@@ -22,8 +23,9 @@ use Rattle.tab_history.specs.Readings.{settings_of, next_number, updates_of}
 use Rattle.tab_history.specs.Checks.{Caller, standing, shape_refusal, malformed, mutation_checks}
 use Rattle.tab_history.specs.Answers.{Told, told, numbered, granted, changes_by}
 use Rattle.tab_history.specs.Histories.{clock_of, journal}
+use Rattle.tab_history.specs.Chains.{NamesNoSlot}
 use Rattle.tab_history.specs.declared.event.Act.{Act}
-use Rattle.tab_history.specs.declared.event.Act.TheVariants.{Open, Write, CreateTable, DropTable, SetConstraints, CreateUser, DropUser, SetAuths, Grant, Revoke, Rights as AsksRights, Status, Flush, Compact, AddSplit, SplitBySize, Splits, Save, Load}
+use Rattle.tab_history.specs.declared.event.Act.TheVariants.{Open, Write, CreateTable, DropTable, SetConstraints, CreateUser, DropUser, SetAuths, Grant, Revoke, Rights as AsksRights, Status, Flush, Compact, AddSplit, SplitBySize, Splits, Save, Load, Begin, Install}
 use Rattle.tab_history.specs.declared.event.Event.{Event}
 use Rattle.tab_history.specs.declared.event.Step.TheVariants.{Event as IsEvent}
 use Rattle.tab_history.specs.declared.reply.Refusal.{Refusal}
@@ -104,16 +106,18 @@ module _ (P : Record → Type 0) (old : Held) (has : EachHas P old) where
     act_has (Splits t) a q s e u i = had q u i
     act_has Save a q s e u i = had q u i
     act_has Load a q s e u i = had q u i
+    act_has (Begin t row kind) a q s e u i = had q u i
+    act_has (Install t by) a q s e u i = had q u i
 
 -- What each record of a store has, and each that an event adds, each has afterwards.
-pub each_stays : (P : Record → Type 0) (old new : Held) (event : Event) (r : Told) → IsStore old → LeavesExactly old event r new → EachHas P old → (refusal old event ≡ None → AddedHave P old (now_at old event) event.act) → EachHas P new
+pub each_stays : (P : Record → Type 0) (old new : Held) (given job : Option TabletMerge) (event : Event) (r : Told) → IsStore old → NamesNoSlot event.act → LeavesExactly old given event r job new → EachHas P old → (refusal old event ≡ None → AddedHave P old (now_at old event) event.act) → EachHas P new
 unfolding journal clock_of
-each_stays P old new event r store leaves has added q t e u c =
+each_stays P old new given job event r store none leaves has added q t e u c =
     let settings : settings_of (base_of old) (changes_by (now_at old event) (IsEvent event) r ++ []) q ≡ Some t.settings = sym (leaves.reads.settings q) ∙ ((bases_read new q).0 ∙ ap settings_in e) in
     let held : IsIn (updates_of (base_of new) [] q) u = subst (λ us. IsIn us u) (sym (bases_read new q).1)
     (sorted_in (records_of_all (tablets_in new q)) u (subst (λ ts. IsIn (records_of_all ts) u) (sym (ap tablets_found e)) (in_from (records_of_all t.tablets) u c))) in
-    let accepted = ((steps_are_right old new event r store leaves).refines.tables q t.settings settings).refines.accepted u (in_to _ u held) in
-    of_passed old event (HaveAfter P old has) (λ s w f v i. had P old has s v i) r (λ passed left. act_has P old has (now_at old event) event.user event.act (added passed)) leaves.exact.answers q t.settings settings u (in_from _ u accepted)
+    let accepted = ((steps_are_right old new given job event r store none leaves).refines.tables q t.settings settings).refines.accepted u (in_to _ u held) in
+    of_passed old event (HaveAfter P old has) (λ s w f v i. had P old has s v i) given r (λ passed left. act_has P old has (now_at old event) event.user event.act (added passed)) leaves.exact.answers q t.settings settings u (in_from _ u accepted)
 
 -- ---- an event that has passed its checks
 module _ (old : Held) (user : List ℕ) (moment : ℤ) where
@@ -133,26 +137,28 @@ module _ (old : Held) (user : List ℕ) (moment : ℤ) where
   added_well _ passed = tt
 
   -- the row of a split is within its limit
-  split_passed : (act : Act) → refusal old (event_of act) ≡ None → WorkFits (work_of act)
-  split_passed (AddSplit t row) passed = short row (unmet (is_too_long row) (TooLarge Row) (none_left _ None (own_pass (caller old (event_of (AddSplit t row))) true (int_max old.clock moment) user (AddSplit t row) passed)))
-  split_passed (Open scan) passed = tt
-  split_passed (Write t m) passed = tt
-  split_passed (CreateTable t time n) passed = tt
-  split_passed (DropTable t) passed = tt
-  split_passed (SetConstraints t cs) passed = tt
-  split_passed (CreateUser n) passed = tt
-  split_passed (DropUser n) passed = tt
-  split_passed (SetAuths n auths) passed = tt
-  split_passed (Grant n p) passed = tt
-  split_passed (Revoke n p) passed = tt
-  split_passed (AsksRights t) passed = tt
-  split_passed (Status t) passed = tt
-  split_passed (Flush t) passed = tt
-  split_passed (Compact t e) passed = tt
-  split_passed (SplitBySize t row limit) passed = tt
-  split_passed (Splits t) passed = tt
-  split_passed Save passed = tt
-  split_passed Load passed = tt
+  split_passed : (given : Option TabletMerge) (act : Act) → refusal old (event_of act) ≡ None → WorkFits (work_of given act)
+  split_passed given (AddSplit t row) passed = short row (unmet (is_too_long row) (TooLarge Row) (none_left _ None (own_pass (caller old (event_of (AddSplit t row))) true (int_max old.clock moment) user (AddSplit t row) passed)))
+  split_passed given (Open scan) passed = tt
+  split_passed given (Write t m) passed = tt
+  split_passed given (CreateTable t time n) passed = tt
+  split_passed given (DropTable t) passed = tt
+  split_passed given (SetConstraints t cs) passed = tt
+  split_passed given (CreateUser n) passed = tt
+  split_passed given (DropUser n) passed = tt
+  split_passed given (SetAuths n auths) passed = tt
+  split_passed given (Grant n p) passed = tt
+  split_passed given (Revoke n p) passed = tt
+  split_passed given (AsksRights t) passed = tt
+  split_passed given (Status t) passed = tt
+  split_passed given (Flush t) passed = tt
+  split_passed given (Compact t e) passed = tt
+  split_passed given (SplitBySize t row limit) passed = tt
+  split_passed given (Splits t) passed = tt
+  split_passed given Save passed = tt
+  split_passed given Load passed = tt
+  split_passed given (Begin t row kind) passed = tt
+  split_passed given (Install t by) passed = tt
 
 -- ---- end rows
 -- those of no table, and of a new one
@@ -189,34 +195,35 @@ module _ (old : Held) (store : IsStore old) (q : List ℕ) where
 
     laid_fits : (work : TableWork) (plain : Told) → WorkFits work → EndsFit (laid_by old now work plain q)
     laid_fits Aside plain w = ends_had
-    laid_fits (Making t) plain w = on_named t (new_tablet None ∷ []) no_ends
+    laid_fits (Making t) plain w = on_named t (new_tablet old.tablet None ∷ []) no_ends
     laid_fits (Dropping t) plain w = on_named t [] no_ends
     laid_fits (On t work) plain w = on_named t (lays_in old now work plain (table_in old q)).1 (work_fits (place_of old now (table_in old q)) work plain (tablets_in old q) middles_had w ends_had)
 
-    exactly_fits : (act : Act) (plain : Told) → EndsFit (laid_by old now (work_of act) plain q) → EndsFit (laid_exactly old now act plain q)
-    exactly_fits act (Refused r) fit = ends_had
-    exactly_fits act _ fit = fit
+    module _ (given : Option TabletMerge) where
+      exactly_fits : (act : Act) (plain : Told) → EndsFit (laid_by old now (work_of given act) plain q) → EndsFit (laid_exactly old now given act plain q)
+      exactly_fits act (Refused r) fit = ends_had
+      exactly_fits act _ fit = fit
 
-    told_fits : (act : Act) (r plain : Told) → EndsFit (laid_exactly old now act plain q) → EndsFit (laid_told r old now act plain q)
-    told_fits act (Refused NoMemory) plain fit = ends_had
-    told_fits act _ plain fit = fit
+      told_fits : (act : Act) (r plain : Told) → EndsFit (laid_exactly old now given act plain q) → EndsFit (laid_told r old now given act plain q)
+      told_fits act (Refused NoMemory) plain fit = ends_had
+      told_fits act _ plain fit = fit
 
-    answer_fits : (c : Caller) (act : Act) (o : Option Refusal) (used_up : Bool) → (o ≡ None → WorkFits (work_of act)) → EndsFit (laid_exactly old now act (told o (numbered used_up (granted c act))) q)
-    answer_fits c act None false f = exactly_fits act (granted c act) (laid_fits (work_of act) (granted c act) (f refl))
-    answer_fits c act None true f = ends_had
-    answer_fits c act (Some k) used_up f = ends_had
+      answer_fits : (c : Caller) (act : Act) (o : Option Refusal) (used_up : Bool) → (o ≡ None → WorkFits (work_of given act)) → EndsFit (laid_exactly old now given act (told o (numbered used_up (granted c act))) q)
+      answer_fits c act None false f = exactly_fits act (granted c act) (laid_fits (work_of given act) (granted c act) (f refl))
+      answer_fits c act None true f = ends_had
+      answer_fits c act (Some k) used_up f = ends_had
 
-ends_stay : (old new : Held) (event : Event) (r : Told) → IsStore old → LeavesExactly old event r new → (q : List ℕ) → EndsFit (tablets_in new q)
-ends_stay old new event r store leaves q = subst EndsFit (sym (leaves.exact.tablets q))
-    (told_fits old store q (now_at old event) event.act r _ (answer_fits old store q (now_at old event) (caller old event) event.act (refusal old event) (spent old event) (split_passed old event.user event.moment event.act)))
+ends_stay : (old new : Held) (given job : Option TabletMerge) (event : Event) (r : Told) → IsStore old → LeavesExactly old given event r job new → (q : List ℕ) → EndsFit (tablets_in new q)
+ends_stay old new given job event r store leaves q = subst EndsFit (sym (leaves.exact.tablets q))
+    (told_fits old store q (now_at old event) given event.act r _ (answer_fits old store q (now_at old event) given (caller old event) event.act (refusal old event) (spent old event) (split_passed old event.user event.moment given event.act)))
 
 -- ---- stores
 pub stores_stay : StoresStay
-stores_stay old new event r store leaves = record {
+stores_stay old new given job event r store none leaves = record {
   names = leaves.exact.names;
-  tables = soundness_stays old new event r store leaves;
+  tables = soundness_stays old new given job event r store none leaves;
   limits = λ q t e. record {
-    records = each_stays IsWellFormed old new event r store leaves (λ p x f u c. (store.limits p x f).records u c) (added_well old event.user event.moment event.act) q t e;
-    ends = subst EndsFit (ap tablets_found e) (ends_stay old new event r store leaves q);
+    records = each_stays IsWellFormed old new given job event r store none leaves (λ p x f u c. (store.limits p x f).records u c) (added_well old event.user event.moment event.act) q t e;
+    ends = subst EndsFit (ap tablets_found e) (ends_stay old new given job event r store leaves q);
   };
 }

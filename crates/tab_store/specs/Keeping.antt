@@ -1,10 +1,13 @@
 -- When tablets refine the updates of their table, and that whatever is done to them leaves them so.
-use Rattle.std.specs.Prelude.{◌≡◌, ℕ, ℤ, ◌+◌, ◌<◌, List, [], ◌∷◌, ◌++◌, Bool, true, false, not, int_le, filter, Contains, Option, Some, None}
+use Rattle.std.specs.Prelude.{◌≡◌, ◌⊎◌, ℕ, ℤ, ◌+◌, ◌≤◌, ◌<◌, List, [], ◌∷◌, ◌++◌, Bool, true, false, not, int_le, filter, Contains, Option, Some, None}
 use Rattle.tab_key.specs.Records.{Record}
 use Rattle.tab_key.specs.Sorted.{sorted, IsDistinct}
 use Rattle.tab_cells.specs.Written.{TimedUpdate, records_of, mutation_records}
 use Rattle.tab_cells.specs.declared.compaction.Compaction.{Compaction}
-use Rattle.tab_tablets.specs.Tablets.{Tablet, is_up_to, new_tablet, records_in, written, frozen, compacted}
+use Rattle.tab_cells.specs.Compactions.{is_full}
+use Rattle.tab_tablets.specs.Merges.{Merge}
+use Rattle.tab_tablets.specs.Sources.{records_of as records_in_sources}
+use Rattle.tab_tablets.specs.Tablets.{Jobs, Tablet, job_of, is_up_to, new_tablet, records_in, written, frozen, compacted, begins, installed}
 use Rattle.tab_tablets.specs.Splitting.{lower_at, upper_at, middle_row, rows_in}
 use Rattle.tab_tablets.specs.ByRow.{AreWhole, tablet_of, records_of_all, LieApart, is_end}
 use Rattle.tab_history.specs.Settings.{Settings}
@@ -12,12 +15,24 @@ use Rattle.tab_history.specs.Readings.{settings_of, updates_of}
 use Rattle.tab_history.specs.Held.{RefinesTable}
 use Rattle.tab_history.specs.Answers.{Told}
 use Rattle.tab_store.specs.Stores.{HeldTable, Held, base_of, table_in, tablets_in}
-use Rattle.tab_store.specs.Stepping.{TabletWork, Freezing, Writing, Compacting, Counting, Splitting, Halving, Listing, Place, floor_at, lays}
+use Rattle.tab_store.specs.Stepping.{TabletWork, Freezing, Writing, Compacting, Counting, Splitting, Halving, Listing, Beginning, Installing, Place, floor_at, lays}
 
 -- ---- one tablet
--- what a tablet holds refines the updates in its rows
+-- A merge under way may still be installed, as far as its table's deletes and versions go: it keeps enough versions, its floor isn't above
+-- the present one, and if it is a full one, whatever is held beside its inputs lies at or above its floor.
+pub record MayInstall (kind : Compaction) (m : Merge) (held : List Record) (n : ℕ) (floor : ℤ) : Type 0 where
+  pub enough : n ≤ m.versions
+  pub lower : int_le m.floor floor ≡ true
+  pub above : is_full kind ≡ true → (u : Record) → Contains held u → Contains (records_in_sources m.inputs) u ⊎ (int_le m.floor u.key.timestamp ≡ true)
+
+-- each merge under way may
+abbrev pub MayAllInstall : Jobs → List Record → ℕ → ℤ → Type 0
+MayAllInstall jobs held n floor = (kind : Compaction) (m : Merge) → job_of kind jobs ≡ Some m → MayInstall kind m held n floor
+
+-- what a tablet holds refines the updates in its rows, and its merges under way may still be installed
 pub record TabletRefines (t : Tablet) (us : List Record) (next n : ℕ) (floor : ℤ) : Type 0 where
   pub refines : RefinesTable (records_in t) us next n floor
+  pub jobs : MayAllInstall t.jobs (records_in t) n floor
 
 -- ---- The laws of one tablet: each thing that is done to it leaves it so.
 abbrev pub FreezesKeep : Type 0
@@ -32,6 +47,14 @@ WritesKeep = (t : Tablet) (us : List Record) (next n : ℕ) (floor : ℤ) (row :
 abbrev pub CompactionsKeep : Type 0
 CompactionsKeep = (kind : Compaction) (t : Tablet) (us : List Record) (next n : ℕ) (floor : ℤ) → TabletRefines t us next n floor → TabletRefines (compacted kind floor n t) us next n floor
 
+-- a merge that begins
+abbrev pub BeginningsKeep : Type 0
+BeginningsKeep = (number : ℕ) (kind : Compaction) (t : Tablet) (us : List Record) (next n : ℕ) (floor : ℤ) → TabletRefines t us next n floor → TabletRefines (begins number kind floor n t) us next n floor
+
+-- a merge that is installed, whichever came
+abbrev pub InstallsKeep : Type 0
+InstallsKeep = (m : Merge) (t : Tablet) (us : List Record) (next n : ℕ) (floor : ℤ) → TabletRefines t us next n floor → TabletRefines (installed m t).1 us next n floor
+
 -- a clock or a horizon that rises
 abbrev pub LaterKeeps : Type 0
 LaterKeeps = (t : Tablet) (us : List Record) (next n : ℕ) (floor higher : ℤ) → int_le floor higher ≡ true → TabletRefines t us next n floor → TabletRefines t us next n higher
@@ -45,8 +68,8 @@ is_high end u = not (is_up_to end u.key.row)
 
 -- a split, whose two tablets refine the updates in their rows each
 abbrev pub SplitsKeep : Type 0
-SplitsKeep = (row : List ℕ) (t : Tablet) (us : List Record) (next n : ℕ) (floor : ℤ) → TabletRefines t us next n floor
-    → TabletRefines (lower_at row t) (filter (is_low (Some row)) us) next n floor × TabletRefines (upper_at row t) (filter (is_high (Some row)) us) next n floor
+SplitsKeep = (row : List ℕ) (lower upper : ℕ) (t : Tablet) (us : List Record) (next n : ℕ) (floor : ℤ) → TabletRefines t us next n floor
+    → TabletRefines (lower_at row lower t) (filter (is_low (Some row)) us) next n floor × TabletRefines (upper_at row upper t) (filter (is_high (Some row)) us) next n floor
 
 -- ---- all tablets of a table
 -- Each tablet refines the updates in its rows: those up to its end row, and not up to the end row of one before it.
@@ -68,6 +91,8 @@ updates_after p Counting us = us
 updates_after p (Splitting row) us = us
 updates_after p (Halving row limit) us = us
 updates_after p Listing us = us
+updates_after p (Beginning row kind) us = us
+updates_after p (Installing given) us = us
 
 -- the number of the next write afterwards
 abbrev pub next_after : Place → TabletWork → ℕ
@@ -78,6 +103,8 @@ next_after p Counting = p.next
 next_after p (Splitting row) = p.next
 next_after p (Halving row limit) = p.next
 next_after p Listing = p.next
+next_after p (Beginning row kind) = p.next
+next_after p (Installing given) = p.next
 
 -- a write has no timestamp below the floor
 abbrev pub IsRecent : Place → TabletWork → Type 0
@@ -88,6 +115,8 @@ IsRecent p Counting = Unit {0}
 IsRecent p (Splitting row) = Unit {0}
 IsRecent p (Halving row limit) = Unit {0}
 IsRecent p Listing = Unit {0}
+IsRecent p (Beginning row kind) = Unit {0}
+IsRecent p (Installing given) = Unit {0}
 
 abbrev pub WorkKeeps : Type 0
 WorkKeeps = (p : Place) (work : TabletWork) (plain : Told) (ts : List Tablet) (us : List Record) → AreWhole ts → IsRecent p work
@@ -125,7 +154,7 @@ WorkStaysSound = (p : Place) (work : TabletWork) (plain : Told) (ts : List Table
 
 -- ---- The law: a table begins so.
 abbrev pub NewTablesAreSound : Type 0
-NewTablesAreSound = (next n : ℕ) (floor : ℤ) → AreSound (new_tablet None ∷ []) next n floor
+NewTablesAreSound = (number next n : ℕ) (floor : ℤ) → AreSound (new_tablet number None ∷ []) next n floor
 
 -- ---- The law: it stays so while the clock or the horizon rises, and where other tables are written.
 abbrev pub SoundLater : Type 0

@@ -1,11 +1,12 @@
 -- The laws that join a core's exact steps to histories: each is a right step, and keeps the core a store.
-use Rattle.std.specs.Prelude.{◌≡◌, ℕ, List, [], ◌∷◌, Some}
+use Rattle.std.specs.Prelude.{◌≡◌, ℕ, List, [], ◌∷◌, Option, Some}
 use Rattle.tab_history.specs.Held.{floor_of}
 use Rattle.tab_history.specs.Answers.{Told}
 use Rattle.tab_history.specs.Histories.{world_of, world_after}
 use Rattle.tab_history.specs.Refinement.{ReadsAlike, IsSound}
-use Rattle.tab_history.specs.Chains.{GoesRight}
+use Rattle.tab_history.specs.Chains.{GoesRight, NamesNoSlot}
 use Rattle.tab_history.specs.declared.event.Event.{Event}
+use Rattle.tab_tablets.specs.Parts.{TabletMerge}
 use Rattle.tab_store.specs.Stores.{HeldTable, Held, NamesRise, base_of, table_in, IsNewStore}
 use Rattle.tab_store.specs.Stepping.{LaysExactly, now_at, plain_answer, entry_of}
 use Rattle.tab_store.specs.Keeping.{AreSound}
@@ -28,14 +29,14 @@ StoresAreSound = (h : Held) → IsStore h → IsSound (world_of (base_of h))
 
 -- ---- The laws of one step.
 -- an event leaves the tablets of a store exactly so, and all that is read beside records as its entry says
-pub record LeavesExactly (old : Held) (event : Event) (told : Told) (new : Held) : Type 0 where
-  pub exact : LaysExactly old (now_at old event) event.act (plain_answer old event) told new
+pub record LeavesExactly (old : Held) (given : Option TabletMerge) (event : Event) (told : Told) (job : Option TabletMerge) (new : Held) : Type 0 where
+  pub exact : LaysExactly old (now_at old event) given event.act (plain_answer old event) told job new
   pub reads : ReadsAlike (world_of (base_of new)) (world_after (world_of (base_of old)) (entry_of event told ∷ []))
 
 -- then it is a right step
 abbrev pub StepsAreRight : Type 0
-StepsAreRight = (old new : Held) (event : Event) (told : Told) → IsStore old → LeavesExactly old event told new → GoesRight (base_of old) (entry_of event told) (base_of new)
+StepsAreRight = (old new : Held) (given job : Option TabletMerge) (event : Event) (told : Told) → IsStore old → NamesNoSlot event.act → LeavesExactly old given event told job new → GoesRight (base_of old) (entry_of event told) (base_of new)
 
 -- and the new core is a store
 abbrev pub StoresStay : Type 0
-StoresStay = (old new : Held) (event : Event) (told : Told) → IsStore old → LeavesExactly old event told new → IsStore new
+StoresStay = (old new : Held) (given job : Option TabletMerge) (event : Event) (told : Told) → IsStore old → NamesNoSlot event.act → LeavesExactly old given event told job new → IsStore new

@@ -1,5 +1,5 @@
 -- What a core holds: tables of tablets, beside the clock, the number of the next write, and the users with their rights.
-use Rattle.std.specs.Prelude.{ℕ, ℤ, List, [], Option, Some, None, find, length, map, min, sum, bytes_eq}
+use Rattle.std.specs.Prelude.{◌≡◌, ℕ, ℤ, List, [], Option, Some, None, find, length, map, min, sum, bytes_eq}
 use Rattle.std.specs.List.Sorted.{IsStrictlySortedBy}
 use Rattle.tab_key.specs.Bytes.{bytes_cmp}
 use Rattle.tab_key.specs.Sorted.{sorted}
@@ -18,12 +18,15 @@ pub record HeldTable : Type 0 where
   pub settings : Settings
   pub tablets : List Tablet
 
--- all that a core holds: the clock, the number that the next accepted write gets, users and rights, and the tables
+-- all that a core holds: the clock, the number that the next accepted write gets, users and rights, the tables, and the numbers that the
+-- next tablet and the next job get
 pub record Held : Type 0 where
   pub clock : ℤ
   pub next : ℕ
   pub policy : State
   pub tables : List HeldTable
+  pub tablet : ℕ
+  pub job : ℕ
 
 -- the names of these tables rise strictly
 abbrev pub RiseByName : List HeldTable → Type 0
@@ -38,13 +41,15 @@ NamesRise h = RiseByName h.tables
 abbrev pub base_table_of : HeldTable → BaseTable
 base_table_of t = record { name = t.name; settings = t.settings; records = sorted (records_of_all t.tablets) }
 
--- where records lie is left out
+-- where records lie, and what is under way, is left out
 abbrev pub base_of : Held → Base
 base_of h = record { clock = h.clock; next = h.next; policy = h.policy; tables = map base_table_of h.tables }
 
--- a new core, to whoever reads it: no time has passed, there is no table, and of users there is root
-abbrev pub IsNewStore : Held → Type 0
-IsNewStore h = IsNewCore (base_of h)
+-- a new core, to whoever reads it: no time has passed, there is no table, and of users there is root; no tablet and no job was numbered
+pub record IsNewStore (h : Held) : Type 0 where
+  pub base : IsNewCore (base_of h)
+  pub tablet : h.tablet ≡ 0
+  pub job : h.job ≡ 0
 
 -- ---- tables and tablets
 -- the table of this name

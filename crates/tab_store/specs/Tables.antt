@@ -1,11 +1,14 @@
 -- Tables by name, and what calls change of them.
-use Rattle.std.specs.Prelude.{ℕ, List, [], ◌∷◌, Option, Some, None, cond, find, bytes_eq}
+use Rattle.std.specs.Prelude.{ℕ, ℤ, List, [], ◌∷◌, Option, Some, None, cond, find, bytes_eq}
 use Rattle.std.specs.Option.{option_map}
 use Rattle.tab_key.specs.Records.{Record}
 use Rattle.tab_rules.specs.declared.constraint.Constraint.{Constraint}
 use Rattle.tab_tablets.specs.Tablets.{Tablet, new_tablet}
+use Rattle.tab_cells.specs.declared.compaction.Compaction.{Compaction}
+use Rattle.tab_tablets.specs.Parts.{TabletMerge, begun_at}
 use Rattle.tab_tablets.specs.Restored.{restored}
 use Rattle.tab_history.specs.Settings.{Settings, made_with, least}
+use Rattle.tab_history.specs.Held.{floor_of}
 use Rattle.tab_history.specs.declared.event.TimeMode.{TimeMode}
 use Rattle.tab_store.specs.Stores.{HeldTable}
 
@@ -18,13 +21,13 @@ pub record TableState : Type 0 where
 abbrev pub named_table : List ℕ × TableState → HeldTable
 named_table e = record { name = e.0; settings = e.1.settings; tablets = e.1.tablets }
 
--- a table as it is made: one tablet, that of all rows
-abbrev pub made_table : TimeMode → ℕ → TableState
-made_table time versions = record { settings = made_with time versions; tablets = new_tablet None ∷ [] }
+-- a table as it is made: one tablet with this number, that of all rows
+abbrev pub made_table : TimeMode → ℕ → ℕ → TableState
+made_table time versions number = record { settings = made_with time versions; tablets = new_tablet number None ∷ [] }
 
--- a table as it is restored: without horizon, with tablets that end at these rows and hold these records
-abbrev pub restored_table : TimeMode → ℕ → List Constraint → List (List ℕ) → List Record → TableState
-restored_table time versions constraints ends us = record { settings = record { time = time; versions = versions; constraints = constraints; horizon = least }; tablets = restored ends us }
+-- a table as it is restored: without horizon, with tablets that are numbered from this number on, end at these rows and hold these records
+abbrev pub restored_table : TimeMode → ℕ → List Constraint → ℕ → List (List ℕ) → List Record → TableState
+restored_table time versions constraints number ends us = record { settings = record { time = time; versions = versions; constraints = constraints; horizon = least }; tablets = restored number ends us }
 
 -- the table with its tablets changed so
 abbrev pub with_tablets : (List Tablet → List Tablet) → TableState → TableState
@@ -53,3 +56,8 @@ settings_at o = option_map (λ (t : TableState). t.settings) o
 abbrev pub tablets_of : Option TableState → List Tablet
 tablets_of None = []
 tablets_of (Some t) = t.tablets
+
+-- the merge that begins in the tablet of a table that holds the row, at this moment; none of a table that is missing
+abbrev pub begun_in : List ℕ → ℕ → Compaction → ℤ → Option TableState → Option TabletMerge
+begun_in row number kind now None = None
+begun_in row number kind now (Some t) = begun_at row number kind (floor_of t.settings.time now t.settings.horizon) t.settings.versions t.tablets

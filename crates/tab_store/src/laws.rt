@@ -1,10 +1,10 @@
 //! Laws of the definitions. Each is the contract of a function that does nothing, so that it is proved.
 ghost use Rattle.tab_store.specs.Stepping.{TellsLegally, CapturesAreThere};
-ghost use Rattle.tab_store.specs.Keeping.{FreezesKeep, WritesKeep, CompactionsKeep, SplitsKeep, LaterKeeps, WorkKeeps, StaysWhole, TabletsHoldAll, SoundTabletsLieApart, MiddlesLieInside, WorkStaysSound, NewTablesAreSound, SoundLater, BasesRead};
+ghost use Rattle.tab_store.specs.Keeping.{FreezesKeep, WritesKeep, CompactionsKeep, BeginningsKeep, InstallsKeep, SplitsKeep, LaterKeeps, WorkKeeps, StaysWhole, TabletsHoldAll, SoundTabletsLieApart, MiddlesLieInside, WorkStaysSound, NewTablesAreSound, SoundLater, BasesRead};
 ghost use Rattle.tab_store.specs.Rightness.{NewStoresAreStores, StoresAreSound, StepsAreRight, StoresStay};
 ghost use Rattle.tab_store.specs.Chains.{ChainsStay, ChainsAreLegal};
 
-/// A freeze leaves a tablet refining the updates in its rows.
+/// A freeze leaves a tablet refining the updates in its rows, and its merges under way such that they may be installed.
 pub fn freezes_keep()
     ensures { FreezesKeep }
 {}
@@ -17,6 +17,16 @@ pub fn writes_keep()
 /// So does a whole compaction of any kind.
 pub fn compactions_keep()
     ensures { CompactionsKeep }
+{}
+
+/// So does a merge that begins.
+pub fn beginnings_keep()
+    ensures { BeginningsKeep }
+{}
+
+/// So does a merge that is installed, whichever came.
+pub fn installs_keep()
+    ensures { InstallsKeep }
 {}
 
 /// So does a split, of both its tablets.

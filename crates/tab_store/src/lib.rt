@@ -11,12 +11,15 @@
 //! | `specs/Chains` | chains of exact steps |
 //! | `specs/Examples` | worked examples, computed |
 //! | `specs/Tables` | tables by name, and what calls change of them |
+//! | `specs/Due` | which work is due, and where it is to be done |
 //! | `table` | one table: its settings, and its tablets |
 //! | `tables` | tables by name |
+//! | `due` | work that is due, and where it is to be done |
 //! | `laws` | the laws of the definitions, each the contract of a function that does nothing |
 //! | `proofs/HeldMerge` | held records still refine the updates once some of them are merged |
 //! | `proofs/ByRows`, `OneTablet`, `AllTablets` | what is done to tablets leaves them refining the updates, row by row, and each row has one tablet still |
 //! | `proofs/CutTablet`, `SplitTablets`, `SplitCases` | a split leaves them so too |
+//! | `proofs/InstallCases` | how an install may end |
 //! | `proofs/Accepted` | what tablets hold was accepted, and lies in their rows |
 //! | `proofs/Sound`, `OneTable` | what a core keeps of a table by itself |
 //! | `proofs/Apart` | its tablets hold what they hold one behind the other |
@@ -27,18 +30,22 @@
 //! | `proofs/Missing` | what is read of a table that is missing |
 //! | `proofs/Named` | tables by name, as the map has them |
 //! | `proofs/Changed` | a change of one table, as an exact step and as histories read it |
+//! | `proofs/DueTables` | work that is due, table by table |
 #![tactic(auto)]
 
+mod due;
 mod laws;
 mod table;
 mod tables;
 
+pub use due::Due;
 pub use laws::{
-    bases_read, captures_are_there, chains_are_legal, chains_stay, compactions_keep, freezes_keep,
-    later_keeps, middles_lie_inside, new_stores_are_stores, new_tables_are_sound, sound_later,
-    sound_tablets_lie_apart, splits_keep, stays_whole, steps_are_right, stores_are_sound,
-    stores_stay, tablets_hold_all, tells_legally, work_keeps, work_stays_sound, writes_keep,
+    bases_read, beginnings_keep, captures_are_there, chains_are_legal, chains_stay,
+    compactions_keep, freezes_keep, installs_keep, later_keeps, middles_lie_inside,
+    new_stores_are_stores, new_tables_are_sound, sound_later, sound_tablets_lie_apart, splits_keep,
+    stays_whole, steps_are_right, stores_are_sound, stores_stay, tablets_hold_all, tells_legally,
+    work_keeps, work_stays_sound, writes_keep,
 };
-pub use tab_tablets::Split;
+pub use tab_tablets::{DueKind, FinishedJob, Installed, Split, TabletJob};
 pub use table::Table;
 pub use tables::Tables;

@@ -13,6 +13,8 @@ ghost use Rattle.tab_tablets.specs.ByRow.{at_row, records_of_all, LieApart, ends
 ghost use Rattle.tab_tablets.specs.Places.{tablet_at};
 ghost use Rattle.tab_tablets.specs.Restored.{EndRowsRise};
 ghost use Rattle.tab_tablets.specs.Splits.{splits, halves};
+ghost use Rattle.tab_tablets.specs.Parts.{begun_at, begins_at, installs_in};
+ghost use Rattle.tab_tablets.specs.Due.{first_due, start_of};
 ghost use Rattle.tab_store.specs.Stores.{told_count, counts_of};
 ghost use Rattle.tab_store.specs.Tables.{made_table, restored_table, with_tablets, with_constraints};
 
@@ -25,7 +27,7 @@ use tab_key::{Bounds, ByteString, Items};
 use tab_mem::Records;
 use tab_mutation::Mutation;
 use tab_rules::ConstraintSet;
-use tab_tablets::{Split, Tablets, Version};
+use tab_tablets::{DueKind, FinishedJob, Installed, Split, TabletJob, Tablets, Version};
 
 /// What a table is set to, and its tablets.
 #[derive(Drop)]
@@ -46,15 +48,16 @@ impl Model for Table {
 }
 
 impl Table {
-    /// A table without records, constraints and horizon. It takes no memory.
-    pub fn new(alloc: Global, time: TimeMode, versions: Versions) -> Table
-        ensures { result ≡ made_table time versions }
+    /// A table without records, constraints and horizon, whose one tablet has this number. It takes no memory.
+    pub fn new(alloc: Global, time: TimeMode, versions: Versions, number: u64) -> Table
+        ensures { result ≡ made_table time versions number }
     {
-        Table::holding(time, versions, ConstraintSet::none(), Tablets::new(alloc))
+        let tablets = Tablets::new(alloc, number);
+        Table::holding(time, versions, ConstraintSet::none(), tablets)
     }
 
-    /// A table with these settings and no horizon, whose tablets end at these rows and hold these records: each those of its rows, as
-    /// one sorted table, or no source where there are none.
+    /// A table with these settings and no horizon, whose tablets are numbered from this number on, end at these rows and hold these
+    /// records: each those of its rows, as one sorted table, or no source where there are none.
     ///
     /// It takes time linear in the records. Beside the records, which are given back once it is done, it takes the memory that the sorted
     /// tables keep; NoMemory says that it lacked.
@@ -63,14 +66,15 @@ impl Table {
         time: TimeMode,
         versions: Versions,
         constraints: ConstraintSet,
+        number: u64,
         ends: Items<ByteString>,
         records: Records,
     ) -> Result<Table, NoMemory>
         requires ends { EndRowsRise ends }
         requires records { IsRising records }
-        ensures { IfOk result (λ t. t ≡ restored_table time versions constraints ends records) }
+        ensures { IfOk result (λ t. t ≡ restored_table time versions constraints number ends records) }
     {
-        let tablets = Tablets::restored(alloc, ends, records)?;
+        let tablets = Tablets::restored(alloc, number, ends, records)?;
         Ok(Table::holding(time, versions, constraints, tablets))
     }
 
@@ -171,24 +175,85 @@ impl Table {
     ///
     /// Both tablets share the sources of the one that was split, which is frozen first; no record is copied but what was written since
     /// its last freeze. `AllocError` leaves the table as it was. (Accumulo user manual: tablets, splitting)
-    pub fn split(&mut self, alloc: Global, row: ByteString) -> Result<Split, AllocError>
-        ensures told { IfOk result (λ told. told ≡ (splits row self.old.tablets).0) }
-        ensures ok { OnOk result (self.new ≡ with_tablets (λ ts. (splits row ts).1) self.old) }
+    pub fn split(
+        &mut self,
+        alloc: Global,
+        row: ByteString,
+        number: u64,
+    ) -> Result<Split, AllocError>
+        ensures told { IfOk result (λ told. told ≡ (splits row number self.old.tablets).0) }
+        ensures ok { OnOk result (self.new ≡ with_tablets (λ ts. (splits row number ts).1) self.old) }
         ensures err { OnErr result (self.new ≡ self.old) }
     {
-        self.tablets.split(alloc, row)
+        self.tablets.split(alloc, row, number)
     }
 
     /// Splits the tablet that holds the row in the middle of what it holds, where its sorted tables come to the limit, in bytes. Where
     /// they are smaller, where it holds no two rows, or where the table has 4,294,967,295 end rows, nothing changes.
     ///
     /// `AllocError` leaves the table as it was.
-    pub fn halve(&mut self, alloc: Global, row: &[u8], limit: u64) -> Result<Split, AllocError>
-        ensures told { IfOk result (λ told. told ≡ (halves row.now limit self.old.tablets).0) }
-        ensures ok { OnOk result (self.new ≡ with_tablets (λ ts. (halves row.now limit ts).1) self.old) }
+    pub fn halve(
+        &mut self,
+        alloc: Global,
+        row: &[u8],
+        limit: u64,
+        number: u64,
+    ) -> Result<Split, AllocError>
+        ensures told { IfOk result (λ told. told ≡ (halves row.now limit number self.old.tablets).0) }
+        ensures ok { OnOk result (self.new ≡ with_tablets (λ ts. (halves row.now limit number ts).1) self.old) }
         ensures err { OnErr result (self.new ≡ self.old) }
     {
-        self.tablets.halve(alloc, row, limit)
+        self.tablets.halve(alloc, row, limit, number)
+    }
+
+    /// Begins a compaction of the tablet that holds the row, as the merge with this number, with the floor of this moment and as many
+    /// versions as the table keeps. None where there is nothing to merge; the tablet is frozen either way.
+    ///
+    /// NoMemory leaves the table as it was. (Accumulo user manual: minor and major compactions)
+    pub fn begin(
+        &mut self,
+        alloc: Global,
+        row: ByteString,
+        kind: Compaction,
+        now: i64,
+        number: u64,
+    ) -> Result<Option<TabletJob>, NoMemory>
+        ensures job { IfOk result (λ j. j ≡ begun_at row number kind (floor_of self.old.settings.time now self.old.settings.horizon) self.old.settings.versions self.old.tablets) }
+        ensures ok { OnOk result (self.new ≡ with_tablets (begins_at row number kind (floor_of self.old.settings.time now self.old.settings.horizon) self.old.settings.versions) self.old) }
+        ensures err { OnErr result (self.new ≡ self.old) }
+    {
+        let floor = self.floor(now);
+        let versions = self.versions.get();
+        self.tablets
+            .begin(alloc, row, kind, floor, versions, number)
+    }
+
+    /// Installs a finished merge in the tablet that it was begun in. It is stale where that tablet is gone, where the merge of its kind
+    /// that is under way there isn't this one, and where not all that it read is there.
+    ///
+    /// NoMemory leaves the table as it was; the merge is lost then. (Accumulo user manual: minor and major compactions)
+    pub fn install(&mut self, alloc: Global, finished: FinishedJob) -> Result<Installed, NoMemory>
+        ensures told { IfOk result (λ told. told ≡ (installs_in finished self.old.tablets).0) }
+        ensures ok { OnOk result (self.new ≡ with_tablets (λ ts. (installs_in finished ts).1) self.old) }
+        ensures err { OnErr result (self.new ≡ self.old) }
+    {
+        self.tablets.install(alloc, finished)
+    }
+
+    /// The number of the first of its tablets, in the order of rows, that is due for work of this kind. It takes no memory.
+    pub fn due(&self, kind: DueKind) -> Option<u64>
+        ensures { result ≡ first_due kind self.now.tablets }
+    {
+        self.tablets.due(kind)
+    }
+
+    /// The least row of its tablet with this number, if there is one: the end row before it and a zero byte, or the empty row.
+    ///
+    /// It takes memory for the row. `AllocError` says that it lacked.
+    pub fn start_of(&self, alloc: Global, number: u64) -> Result<Option<ByteString>, AllocError>
+        ensures { IfOk result (λ row. row ≡ start_of number None self.now.tablets) }
+    {
+        self.tablets.start_of(alloc, number)
     }
 
     /// The end rows of its tablets, rising.

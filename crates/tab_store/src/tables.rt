@@ -13,8 +13,9 @@ ghost use Rattle.tab_tablets.specs.Tablets.{written, frozen, compacted};
 ghost use Rattle.tab_history.specs.Held.{floor_of};
 ghost use Rattle.tab_tablets.specs.ByRow.{at_row, records_of_all, LieApart};
 ghost use Rattle.tab_tablets.specs.Splits.{splits, halves};
+ghost use Rattle.tab_tablets.specs.Parts.{begins_at, installs_in};
 ghost use Rattle.tab_store.specs.Stores.{RiseByName};
-ghost use Rattle.tab_store.specs.Tables.{TableState, named_table, made_table, with_tablets, with_constraints, table_at, changed_table, tablets_of};
+ghost use Rattle.tab_store.specs.Tables.{TableState, named_table, made_table, with_tablets, with_constraints, table_at, changed_table, tablets_of, begun_in};
 
 use crate::Table;
 use std::alloc::{AllocError, Global};
@@ -28,7 +29,7 @@ use tab_key::{Bounds, ByteString, Name};
 use tab_mutation::Mutation;
 use tab_policy::NameKey;
 use tab_rules::ConstraintSet;
-use tab_tablets::{Split, Version};
+use tab_tablets::{FinishedJob, Installed, Split, TabletJob, Version};
 
 /// The tables that there are, in the order of their names. A contract sees them as definitions have them, with their tablets.
 #[derive(Drop)]
@@ -86,14 +87,16 @@ impl Tables {
         self.by_name.get(name)
     }
 
-    /// Makes a table of this name, in the place of one that there is. An error leaves the tables as they were.
+    /// Makes a table of this name, whose one tablet has this number, in the place of one that there is. An error leaves the tables as they
+    /// were.
     pub fn insert(
         &mut self,
         name: Name,
         time: TimeMode,
         versions: Versions,
+        number: u64,
     ) -> Result<(), AllocError>
-        ensures tables { OnOk result ((q : List ℕ) → table_at self.new q ≡ cond (bytes_eq name q) (Some (made_table time versions)) (table_at self.old q)) }
+        ensures tables { OnOk result ((q : List ℕ) → table_at self.new q ≡ cond (bytes_eq name q) (Some (made_table time versions number)) (table_at self.old q)) }
         ensures count { OnOk result (length self.new ≡ cond (is_some (table_at self.old name)) (length self.old) (length self.old + 1)) }
         ensures names { RiseByName self.new }
         ensures err { OnErr result (self.new ≡ self.old) }
@@ -102,7 +105,7 @@ impl Tables {
             &mut self.by_name,
             self.alloc,
             name,
-            Table::new(self.alloc, time, versions),
+            Table::new(self.alloc, time, versions, number),
         )
     }
 
@@ -201,14 +204,15 @@ impl Tables {
         alloc: Global,
         name: &Name,
         row: ByteString,
+        number: u64,
     ) -> Result<Split, AllocError>
-        ensures told { IfOk result (λ told. told ≡ (splits row (tablets_of (table_at self.old name.now))).0) }
-        ensures ok { OnOk result ((q : List ℕ) → table_at self.new q ≡ changed_table name.now (with_tablets (λ ts. (splits row ts).1)) self.old q) }
+        ensures told { IfOk result (λ told. told ≡ (splits row number (tablets_of (table_at self.old name.now))).0) }
+        ensures ok { OnOk result ((q : List ℕ) → table_at self.new q ≡ changed_table name.now (with_tablets (λ ts. (splits row number ts).1)) self.old q) }
         ensures count { length self.new ≡ length self.old }
         ensures names { RiseByName self.new }
         ensures err { OnErr result (self.new ≡ self.old) }
     {
-        split(&mut self.by_name, alloc, name, row)
+        split(&mut self.by_name, alloc, name, row, number)
     }
 
     /// Splits the tablet of the table that holds the row in the middle of what it holds, where its sorted tables come to the limit, in
@@ -221,14 +225,56 @@ impl Tables {
         name: &Name,
         row: &[u8],
         limit: u64,
+        number: u64,
     ) -> Result<Split, AllocError>
-        ensures told { IfOk result (λ told. told ≡ (halves row.now limit (tablets_of (table_at self.old name.now))).0) }
-        ensures ok { OnOk result ((q : List ℕ) → table_at self.new q ≡ changed_table name.now (with_tablets (λ ts. (halves row.now limit ts).1)) self.old q) }
+        ensures told { IfOk result (λ told. told ≡ (halves row.now limit number (tablets_of (table_at self.old name.now))).0) }
+        ensures ok { OnOk result ((q : List ℕ) → table_at self.new q ≡ changed_table name.now (with_tablets (λ ts. (halves row.now limit number ts).1)) self.old q) }
         ensures count { length self.new ≡ length self.old }
         ensures names { RiseByName self.new }
         ensures err { OnErr result (self.new ≡ self.old) }
     {
-        halve(&mut self.by_name, alloc, name, row, limit)
+        halve(&mut self.by_name, alloc, name, row, limit, number)
+    }
+
+    /// Begins a compaction of the tablet of the table that holds the row, as the merge with this number, at this moment; none where there
+    /// is no such table.
+    ///
+    /// NoMemory leaves the tables as they were.
+    pub fn begin(
+        &mut self,
+        alloc: Global,
+        name: &Name,
+        row: ByteString,
+        kind: Compaction,
+        now: i64,
+        number: u64,
+    ) -> Result<Option<TabletJob>, NoMemory>
+        ensures job { IfOk result (λ j. j ≡ begun_in row number kind now (table_at self.old name.now)) }
+        ensures ok { OnOk result ((q : List ℕ) → table_at self.new q
+            ≡ changed_table name.now (λ t. with_tablets (begins_at row number kind (floor_of t.settings.time now t.settings.horizon) t.settings.versions) t) self.old q) }
+        ensures count { length self.new ≡ length self.old }
+        ensures names { RiseByName self.new }
+        ensures err { OnErr result (self.new ≡ self.old) }
+    {
+        begin(&mut self.by_name, alloc, name, row, kind, now, number)
+    }
+
+    /// Installs a finished merge in the tablet of the table that it was begun in. It is stale, with 0, where there is no such table.
+    ///
+    /// NoMemory leaves the tables as they were; the merge is lost then.
+    pub fn install(
+        &mut self,
+        alloc: Global,
+        name: &Name,
+        finished: FinishedJob,
+    ) -> Result<Installed, NoMemory>
+        ensures told { IfOk result (λ told. told ≡ (installs_in finished (tablets_of (table_at self.old name.now))).0) }
+        ensures ok { OnOk result ((q : List ℕ) → table_at self.new q ≡ changed_table name.now (with_tablets (λ ts. (installs_in finished ts).1)) self.old q) }
+        ensures count { length self.new ≡ length self.old }
+        ensures names { RiseByName self.new }
+        ensures err { OnErr result (self.new ≡ self.old) }
+    {
+        install(&mut self.by_name, alloc, name, finished)
     }
 }
 
@@ -343,15 +389,16 @@ fn split(
     alloc: Global,
     name: &Name,
     row: ByteString,
+    number: u64,
 ) -> Result<Split, AllocError>
-    ensures told { IfOk result (λ told. told ≡ (splits row (tablets_of (at_name name.now tables.old.entries))).0) }
-    ensures ok { OnOk result ((q : List ℕ) → at_name q tables.new.entries ≡ changed_at name.now (with_tablets (λ ts. (splits row ts).1)) tables.old.entries q) }
+    ensures told { IfOk result (λ told. told ≡ (splits row number (tablets_of (at_name name.now tables.old.entries))).0) }
+    ensures ok { OnOk result ((q : List ℕ) → at_name q tables.new.entries ≡ changed_at name.now (with_tablets (λ ts. (splits row number ts).1)) tables.old.entries q) }
     ensures count { length tables.new.entries ≡ length tables.old.entries }
     ensures ordered { IsOrdered bytes_cmp tables.new }
     ensures err { OnErr result (tables.new.entries ≡ tables.old.entries) }
 {
     match tables.get_mut(name) {
-        Some(table) => table.split(alloc, row),
+        Some(table) => table.split(alloc, row, number),
         None => Ok(Split::Done),
     }
 }
@@ -363,15 +410,58 @@ fn halve(
     name: &Name,
     row: &[u8],
     limit: u64,
+    number: u64,
 ) -> Result<Split, AllocError>
-    ensures told { IfOk result (λ told. told ≡ (halves row.now limit (tablets_of (at_name name.now tables.old.entries))).0) }
-    ensures ok { OnOk result ((q : List ℕ) → at_name q tables.new.entries ≡ changed_at name.now (with_tablets (λ ts. (halves row.now limit ts).1)) tables.old.entries q) }
+    ensures told { IfOk result (λ told. told ≡ (halves row.now limit number (tablets_of (at_name name.now tables.old.entries))).0) }
+    ensures ok { OnOk result ((q : List ℕ) → at_name q tables.new.entries ≡ changed_at name.now (with_tablets (λ ts. (halves row.now limit number ts).1)) tables.old.entries q) }
     ensures count { length tables.new.entries ≡ length tables.old.entries }
     ensures ordered { IsOrdered bytes_cmp tables.new }
     ensures err { OnErr result (tables.new.entries ≡ tables.old.entries) }
 {
     match tables.get_mut(name) {
-        Some(table) => table.halve(alloc, row, limit),
+        Some(table) => table.halve(alloc, row, limit, number),
         None => Ok(Split::OneRow),
+    }
+}
+
+// Begins a compaction of the tablet that holds the row, in the table under the name, if there is one.
+fn begin(
+    tables: &mut BTreeMap<NameKey, Table>,
+    alloc: Global,
+    name: &Name,
+    row: ByteString,
+    kind: Compaction,
+    now: i64,
+    number: u64,
+) -> Result<Option<TabletJob>, NoMemory>
+    ensures job { IfOk result (λ j. j ≡ begun_in row number kind now (at_name name.now tables.old.entries)) }
+    ensures ok { OnOk result ((q : List ℕ) → at_name q tables.new.entries
+        ≡ changed_at name.now (λ t. with_tablets (begins_at row number kind (floor_of t.settings.time now t.settings.horizon) t.settings.versions) t) tables.old.entries q) }
+    ensures count { length tables.new.entries ≡ length tables.old.entries }
+    ensures ordered { IsOrdered bytes_cmp tables.new }
+    ensures err { OnErr result (tables.new.entries ≡ tables.old.entries) }
+{
+    match tables.get_mut(name) {
+        Some(table) => table.begin(alloc, row, kind, now, number),
+        None => Ok(None),
+    }
+}
+
+// Installs a finished merge in the table under the name, if there is one.
+fn install(
+    tables: &mut BTreeMap<NameKey, Table>,
+    alloc: Global,
+    name: &Name,
+    finished: FinishedJob,
+) -> Result<Installed, NoMemory>
+    ensures told { IfOk result (λ told. told ≡ (installs_in finished (tablets_of (at_name name.now tables.old.entries))).0) }
+    ensures ok { OnOk result ((q : List ℕ) → at_name q tables.new.entries ≡ changed_at name.now (with_tablets (λ ts. (installs_in finished ts).1)) tables.old.entries q) }
+    ensures count { length tables.new.entries ≡ length tables.old.entries }
+    ensures ordered { IsOrdered bytes_cmp tables.new }
+    ensures err { OnErr result (tables.new.entries ≡ tables.old.entries) }
+{
+    match tables.get_mut(name) {
+        Some(table) => table.install(alloc, finished),
+        None => Ok(Installed::Stale(0)),
     }
 }

@@ -12,7 +12,7 @@ returns-in-Some-clause-ok c =
     let had : at_name c.args.name.now c.args.tables.now.entries ≡ Some c.in-Some.table.now = search rules in
     let after = (c.get_mut.follows.holds c.halve.new.self).3 (search rules) in
     on_ok_weaker c.halve.result
-    (λ is q. changed_is c.args.name.now q c.args.tables.now.entries _ c.in-Some.table.now c.halve.new.self (with_tablets (λ ts. (halves c.args.row.now c.args.limit ts).1)) had is (after.0 q))
+    (λ is q. changed_is c.args.name.now q c.args.tables.now.entries _ c.in-Some.table.now c.halve.new.self (with_tablets (λ ts. (halves c.args.row.now c.args.limit c.args.number ts).1)) had is (after.0 q))
     c.halve.ensures.ok
 
 pub returns-in-Some-clause-err : goal.returns-in-Some-clause-err

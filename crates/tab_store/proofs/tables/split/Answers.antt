@@ -12,7 +12,7 @@ returns-in-Some-clause-ok c =
     let had : at_name c.args.name.now c.args.tables.now.entries ≡ Some c.in-Some.table.now = search rules in
     let after = (c.get_mut.follows.holds c.split.new.self).3 (search rules) in
     on_ok_weaker c.split.result
-    (λ is q. changed_is c.args.name.now q c.args.tables.now.entries _ c.in-Some.table.now c.split.new.self (with_tablets (λ ts. (splits c.args.row ts).1)) had is (after.0 q))
+    (λ is q. changed_is c.args.name.now q c.args.tables.now.entries _ c.in-Some.table.now c.split.new.self (with_tablets (λ ts. (splits c.args.row c.args.number ts).1)) had is (after.0 q))
     c.split.ensures.ok
 
 pub returns-in-Some-clause-err : goal.returns-in-Some-clause-err

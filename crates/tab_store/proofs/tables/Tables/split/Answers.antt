@@ -10,11 +10,11 @@ use Rattle.tab_store.proofs.tables.Tables.split.Goals as goal
 
 pub returns-clause-told : goal.returns-clause-told
 returns-clause-told c =
-    subst (λ (ts : List HeldTable). IfOk c.split.result (λ (told : Split). told ≡ (splits c.args.row (tablets_of (table_at ts c.args.name.now))).0)) c.self.view_is
-    (subst (λ o. IfOk c.split.result (λ (told : Split). told ≡ (splits c.args.row (tablets_of o)).0)) (sym (table_found c.self.inside.by_name.entries c.args.name.now)) c.split.ensures.told)
+    subst (λ (ts : List HeldTable). IfOk c.split.result (λ (told : Split). told ≡ (splits c.args.row c.args.number (tablets_of (table_at ts c.args.name.now))).0)) c.self.view_is
+    (subst (λ o. IfOk c.split.result (λ (told : Split). told ≡ (splits c.args.row c.args.number (tablets_of o)).0)) (sym (table_found c.self.inside.by_name.entries c.args.name.now)) c.split.ensures.told)
 
 pub returns-clause-ok : goal.returns-clause-ok
-returns-clause-ok c = rw (← c.self.view_is) (on_ok_weaker c.split.result (table_changed c.self.inside.by_name.entries c.split.new.tables.entries c.args.name.now (with_tablets (λ ts. (splits c.args.row ts).1))) c.split.ensures.ok)
+returns-clause-ok c = rw (← c.self.view_is) (on_ok_weaker c.split.result (table_changed c.self.inside.by_name.entries c.split.new.tables.entries c.args.name.now (with_tablets (λ ts. (splits c.args.row c.args.number ts).1))) c.split.ensures.ok)
 
 pub returns-clause-names : goal.returns-clause-names
 returns-clause-names c = rises c.split.new.tables.entries c.split.ensures.ordered

@@ -1,0 +1,21 @@
+use Rattle.std.proofs.Common.{◌≡◌, Some, sym, ap, ◌∙◌, rules}
+use Rattle.std.proofs.lemmas.Map.Steps.{set_value_same}
+use Rattle.std.proofs.lemmas.Result.{on_ok_weaker, on_err_weaker}
+use Rattle.tab_policy.specs.Entries.{at_name}
+use Rattle.tab_policy.proofs.EntryLemmas.{changed_is}
+use Rattle.tab_tablets.specs.Parts.{installs_in}
+use Rattle.tab_store.specs.Tables.{with_tablets}
+use Rattle.tab_store.proofs.tables.install.Goals as goal
+
+pub returns-in-Some-clause-ok : goal.returns-in-Some-clause-ok
+returns-in-Some-clause-ok c =
+    let had : at_name c.args.name.now c.args.tables.now.entries ≡ Some c.in-Some.table.now = search rules in
+    let after = (c.get_mut.follows.holds c.install.new.self).3 (search rules) in
+    on_ok_weaker c.install.result
+    (λ is q. changed_is c.args.name.now q c.args.tables.now.entries _ c.in-Some.table.now c.install.new.self (with_tablets (λ ts. (installs_in c.args.finished ts).1)) had is (after.0 q))
+    c.install.ensures.ok
+
+pub returns-in-Some-clause-err : goal.returns-in-Some-clause-err
+returns-in-Some-clause-err c =
+    let had : at_name c.args.name.now c.args.tables.now.entries ≡ Some c.in-Some.table.now = search rules in
+    on_err_weaker c.install.result (λ same. (c.get_mut.follows.holds c.install.new.self).0 ∙ set_value_same _ c.args.tables.now.entries c.install.new.self (had ∙ ap Some (sym same))) c.install.ensures.err
