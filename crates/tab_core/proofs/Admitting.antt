@@ -18,9 +18,10 @@ use Rattle.tab_history.specs.Bases.{Base}
 use Rattle.tab_history.specs.Readings.{has_user, has_system_right, has_table_right}
 use Rattle.tab_history.specs.Checks.{standing, exists_in, user_named, own_checks, action_of, denial, refusal_of}
 use Rattle.tab_history.specs.Answers.{told, are_used_up, numbered, granted, event_answer}
+use Rattle.tab_store.specs.Parts.{TabletMerge}
 use Rattle.tab_store.specs.Stores.{Held, base_of}
 use Rattle.tab_core.specs.Stepping.{Acts, own_answer, IsAdmitted, IsCore}
-use Rattle.tab_core.proofs.Acting.{refused}
+use Rattle.tab_core.proofs.Acting.{given_refused}
 
 -- ---- what the policy decides
 standing_same : (h : Held) → IsCore h → (user : List ℕ) → standing_of h.policy user ≡ (standing (base_of h) [] user).policy
@@ -41,19 +42,19 @@ unfolding refusal_of
 answer_is b now user act d e = ap (λ o. told (or_else o (first_some (own_checks (standing b [] user) (exists_in b [] (user_named act)) now act))) (numbered (are_used_up b [] act) (granted (standing b [] user) act))) e
 
 -- an act that it denies
-pub denied : (h : Held) (now : ℤ) (user : List ℕ) (act : Act) (r : Refusal) → IsCore h → denial user (decision (standing_of h.policy user) (action_of act)) ≡ Some r → Acts (event_answer (base_of h) [] now user act) h now user act (Refused r) h
-denied h now user act r core e = refused (event_answer (base_of h) [] now user act) h now user act r core (inl (sym (answer_is (base_of h) now user act (Some r) (sym (decided h core user act) ∙ e))))
+pub denied : (h : Held) (now : ℤ) (given : Option TabletMerge) (user : List ℕ) (act : Act) (r : Refusal) → IsCore h → denial user (decision (standing_of h.policy user) (action_of act)) ≡ Some r → Acts (event_answer (base_of h) [] now user act) h now given user act (Refused r) h
+denied h now given user act r core e = given_refused (event_answer (base_of h) [] now user act) h now given user act r core (inl (sym (answer_is (base_of h) now user act (Some r) (sym (decided h core user act) ∙ e))))
 
 -- what it was asked it doesn't deny
 undenied : (h : Held) (user : List ℕ) (act : Act) (asked : Action) → asked ≡ action_of act → None ≡ decision (standing_of h.policy user) asked → denial user (decision (standing_of h.policy user) (action_of act)) ≡ None
 undenied h user act asked is e = sym (ap (denial user) (e ∙ ap (decision (standing_of h.policy user)) is))
 
 -- an act that it admits, told by another name and at a clock that is told so
-pub admitted : (old new : Held) (now t : ℤ) (user : List ℕ) (act named : Act) (asked : Action) (reply : Reply SessionState) → IsCore old → asked ≡ action_of act → None ≡ decision (standing_of old.policy user) asked → act ≡ named → t ≡ now
-    → Acts (own_answer (base_of old) t user named) old t user named reply new → Acts (event_answer (base_of old) [] now user act) old now user act reply new
-admitted old new now t user act named asked reply core asks e is trip acts =
-    subst (λ a. Acts a old now user act reply new) (sym (answer_is (base_of old) now user act None (sym (decided old core user act) ∙ undenied old user act asked asks e)))
-    (subst (λ (x : Act). Acts (own_answer (base_of old) now user x) old now user x reply new) (sym is) (subst (λ (c : ℤ). Acts (own_answer (base_of old) c user named) old c user named reply new) trip acts))
+pub admitted : (old new : Held) (now t : ℤ) (given : Option TabletMerge) (user : List ℕ) (act named : Act) (asked : Action) (reply : Reply SessionState TabletMerge) → IsCore old → asked ≡ action_of act → None ≡ decision (standing_of old.policy user) asked → act ≡ named → t ≡ now
+    → Acts (own_answer (base_of old) t user named) old t given user named reply new → Acts (event_answer (base_of old) [] now user act) old now given user act reply new
+admitted old new now t given user act named asked reply core asks e is trip acts =
+    subst (λ a. Acts a old now given user act reply new) (sym (answer_is (base_of old) now user act None (sym (decided old core user act) ∙ undenied old user act asked asks e)))
+    (subst (λ (x : Act). Acts (own_answer (base_of old) now user x) old now given user x reply new) (sym is) (subst (λ (c : ℤ). Acts (own_answer (base_of old) c user named) old c given user named reply new) trip acts))
 
 -- ---- who is admitted is known, and the table that he names is there
 none_denied : (user : List ℕ) (d : Option Denial) → denial user d ≡ None → d ≡ None

@@ -23,15 +23,16 @@ use Rattle.tab_history.specs.Answers.{Told, changes_by}
 use Rattle.tab_history.specs.Histories.{World, world_of, world_after, clock_of, journal}
 use Rattle.tab_history.specs.Refinement.{ReadsAlike}
 use Rattle.tab_history.specs.Rooted.{IsRooted}
-use Rattle.tab_history.specs.Chains.{GoesRight}
+use Rattle.tab_history.specs.Chains.{GoesRight, NamesNoSlot}
 use Rattle.tab_history.specs.declared.event.Act.{Act}
-use Rattle.tab_history.specs.declared.event.Act.TheVariants.{Open, Write, CreateTable, DropTable, SetConstraints, CreateUser, DropUser, SetAuths, Grant, Revoke, Rights, Status, Flush, Compact, AddSplit, SplitBySize, Splits, Save, Load}
+use Rattle.tab_history.specs.declared.event.Act.TheVariants.{Open, Write, CreateTable, DropTable, SetConstraints, CreateUser, DropUser, SetAuths, Grant, Revoke, Rights, Status, Flush, Compact, AddSplit, SplitBySize, Splits, Save, Load, Begin, Install}
 use Rattle.tab_history.specs.declared.event.Event.{Event}
 use Rattle.tab_history.specs.declared.event.Step.TheVariants.{Event as IsEvent}
 use Rattle.tab_history.specs.declared.reply.Refusal.TheVariants.{TooLarge, NoUser, UserExists, RootFixed, GrantInvalid}
 use Rattle.tab_history.proofs.Accepted.{own_pass}
 use Rattle.tab_history.proofs.NewCore.{new_core_refines}
 use Rattle.tab_history.proofs.RootStays.{root_stays}
+use Rattle.tab_store.specs.Parts.{TabletMerge}
 use Rattle.tab_store.specs.Stores.{HeldTable, Held, base_table_of, base_of, IsNewStore}
 use Rattle.tab_store.specs.Stepping.{now_at, entry_of}
 use Rattle.tab_store.specs.Rightness.{IsStore, LeavesExactly}
@@ -161,6 +162,8 @@ module _ (old : Held) (user : List ℕ) (moment : ℤ) (h : IsBounded old) where
   act_keeps now (Splits t) passed left = kept
   act_keeps now Save passed left = kept
   act_keeps now Load passed left = kept
+  act_keeps now (Begin t row kind) passed left = kept
+  act_keeps now (Install t by) passed left = kept
 
   -- the checks of an event passed that are its own
   own : (now : ℤ) (act : Act) → refusal old (event_of act) ≡ None → first_some (own_checks (caller old (event_of act)) (exists_in b [] (user_named act)) (int_max old.clock moment) act) ≡ None
@@ -190,25 +193,27 @@ module _ (old : Held) (user : List ℕ) (moment : ℤ) (h : IsBounded old) where
   act_spares now (Splits t) passed = tt
   act_spares now Save passed = tt
   act_spares now Load passed = tt
+  act_spares now (Begin t row kind) passed = tt
+  act_spares now (Install t by) passed = tt
 
 -- ---- worlds that read alike
 rooted_alike : (v w : World) → ReadsAlike v w → IsRooted w.base w.changes → IsRooted v.base v.changes
 rooted_alike v w alike h = record { known = alike.known root ∙ h.known; alone = λ n. ap (λ r. bytes_eq n root || r) (alike.system n system.Grant) ∙ h.alone n }
 
 -- ---- a step
-pub limits_stay : (old new : Held) (event : Event) (r : Told) → IsStore old → WritesBare event.act → IsBounded old → LeavesExactly old event r new → GoesRight (base_of old) (entry_of event r) (base_of new) → IsBounded new
+pub limits_stay : (old new : Held) (given job : Option TabletMerge) (event : Event) (r : Told) → IsStore old → NamesNoSlot event.act → WritesBare event.act → IsBounded old → LeavesExactly old given event r job new → GoesRight (base_of old) (entry_of event r) (base_of new) → IsBounded new
 unfolding held_auths user_count table_count has_system_right journal clock_of
-limits_stay old new event r store bare h leaves right =
+limits_stay old new given job event r store named bare h leaves right =
     let keep : KeepTo (base_of old) (changes_by (now_at old event) (IsEvent event) r ++ []) =
-    of_passed old event (λ j. KeepTo (base_of old) (j ++ [])) (kept old event.user event.moment h) r (act_keeps old event.user event.moment h (now_at old event) event.act) leaves.exact.answers in
+    of_passed old event (λ j. KeepTo (base_of old) (j ++ [])) (kept old event.user event.moment h) given r (act_keeps old event.user event.moment h (now_at old event) event.act) leaves.exact.answers in
     let spared : SpareAll (changes_by (now_at old event) (IsEvent event) r) =
-    of_passed old event SpareAll tt r (λ passed left. act_spares old event.user event.moment h (now_at old event) event.act passed) leaves.exact.answers in
+    of_passed old event SpareAll tt given r (λ passed left. act_spares old event.user event.moment h (now_at old event) event.act passed) leaves.exact.answers in
     record {
       auths = λ n. ap too_many_auths (leaves.reads.auths n) ∙ keep.auths n;
       rooted = rooted_alike (world_of (base_of new)) (world_after (world_of (base_of old)) (entry_of event r ∷ [])) leaves.reads ((root_stays.1 (world_of (base_of old)) h.rooted (entry_of event r ∷ [])).1 right.legal);
       root_has_all = λ p. leaves.reads.system root p ∙ all_has_all (base_of old) (changes_by (now_at old event) (IsEvent event) r) spared h.root_has_all p;
       no_horizon = λ q s e. all_no_horizon (base_of old) (changes_by (now_at old event) (IsEvent event) r) h.no_horizon q s (sym (leaves.reads.settings q) ∙ e);
-      markers = each_stays IsBareRecord old new event r store leaves h.markers (λ passed. added_bare old (now_at old event) event.act bare);
+      markers = each_stays IsBareRecord old new given job event r store named leaves h.markers (λ passed. added_bare old (now_at old event) event.act bare);
       users = subst (λ n. n < 2 ^ 32) (sym leaves.reads.users) keep.users;
       tables = subst (λ n. n < 2 ^ 32) (sym leaves.reads.tables ∙ count_read new) keep.tables;
     }
@@ -225,11 +230,11 @@ no_table (x ∷ xs) q t none e = cc
 pub new_is_bounded : (h : Held) → IsNewStore h → IsBounded h
 unfolding table_count settings_of
 new_is_bounded h new = record {
-  auths = λ n. ap too_many_auths (new.auths n);
-  rooted = rooted_alike (world_of (base_of h)) (world_of new_core) (new_core_refines (base_of h) new).reads root_stays.0;
-  root_has_all = λ p. new.system root p;
-  no_horizon = λ q s e. no_settings (base_of h).tables q s new.tables e;
-  markers = λ q t e. absurd (no_table h.tables q t new.tables e);
-  users = subst (λ n. n < 2 ^ 32) (sym new.count) (omega arith);
-  tables = subst (λ n. n < 2 ^ 32) (ap length (sym new.tables) ∙ count_read h) (omega arith);
+  auths = λ n. ap too_many_auths (new.base.auths n);
+  rooted = rooted_alike (world_of (base_of h)) (world_of new_core) (new_core_refines (base_of h) new.base).reads root_stays.0;
+  root_has_all = λ p. new.base.system root p;
+  no_horizon = λ q s e. no_settings (base_of h).tables q s new.base.tables e;
+  markers = λ q t e. absurd (no_table h.tables q t new.base.tables e);
+  users = subst (λ n. n < 2 ^ 32) (sym new.base.count) (omega arith);
+  tables = subst (λ n. n < 2 ^ 32) (ap length (sym new.base.tables) ∙ count_read h) (omega arith);
 }

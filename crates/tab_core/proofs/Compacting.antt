@@ -1,5 +1,5 @@
 -- Compactions, and counts that are told.
-use Rattle.std.proofs.Common.{◌≡◌, inl, ℕ, List, [], true, refl, sym, ap, subst, length, map, Result, Ok, Err}
+use Rattle.std.proofs.Common.{◌≡◌, inl, ℕ, List, [], true, refl, sym, ap, subst, length, map, Result, Ok, Err, None}
 use Rattle.std.specs.Prelude.{ℤ, OnOk, OnErr}
 use Rattle.tab_cells.specs.declared.compaction.Compaction.{Compaction}
 use Rattle.tab_cells.specs.SessionState.{SessionState}
@@ -13,6 +13,7 @@ use Rattle.tab_history.specs.Held.{floor_of}
 use Rattle.tab_history.specs.Changes.{changes_of}
 use Rattle.tab_history.specs.Readings.{settings_of}
 use Rattle.tab_history.specs.Legal.{takes_memory}
+use Rattle.tab_store.specs.Parts.{TabletMerge}
 use Rattle.tab_store.specs.Stores.{HeldTable, Held, RiseByName, base_of, counts_of}
 use Rattle.tab_store.specs.Stepping.{Compacting, On, work_of, lays}
 use Rattle.tab_store.specs.Tables.{TableState, with_tablets, table_at, changed_table, tablets_of}
@@ -32,37 +33,40 @@ pub record Compacted (t : List ℕ) (kind : Compaction) (now : ℤ) (ts new : Li
   pub changed : (q : List ℕ) → table_at new q ≡ changed_table t (compacted_at kind now) ts q
 
 -- an act that compacts and changes nothing that histories read
-compaction_done : (h : Held) (ts : List HeldTable) (now : ℤ) (user t : List ℕ) (a : Act) (kind : Compaction) → IsCore h → work_of a ≡ On t (Compacting kind) → Done ≡ own_answer (base_of h) now user a → changes_of now user a ≡ [] → Compacted t kind now h.tables ts
-    → Acts (own_answer (base_of h) now user a) h now user a Done (record h { tables = ts })
+compaction_done : (h : Held) (ts : List HeldTable) (now : ℤ) (user t : List ℕ) (a : Act) (kind : Compaction) → IsCore h → work_of None a ≡ On t (Compacting kind) → Done ≡ own_answer (base_of h) now user a → changes_of now user a ≡ [] → Compacted t kind now h.tables ts
+    → Acts (own_answer (base_of h) now user a) h now None user a Done (record h { tables = ts })
 unfolding lays
 compaction_done h ts now user t a kind core is passes none after =
     let new : Held = record h { tables = ts } in
     let settings : (q : List ℕ) → settings_of (base_of new) [] q ≡ settings_of (base_of h) [] q = settings_kept h new t (compacted_at kind now) (λ s. refl) after.changed in
     record {
-      exact = done_exactly h new now a (own_answer (base_of h) now user a) (On t (Compacting kind)) is passes refl (table_compacted h new t now Done kind after.changed) after.names;
+      exact = done_exactly h new now a (own_answer (base_of h) now user a) (On t (Compacting kind)) is passes refl (table_compacted h new t now Done kind after.changed) after.names refl refl;
       becomes = subst (λ j. Becomes (base_of h) j (base_of new)) (sym none) (becomes_alike h ts after.count settings);
       hands = tt;
       knows = knows_alike h ts core settings;
     }
 
 -- whether there was memory for it or not
-pub compacts : {T E : Type 0} (h : Held) (ts : List HeldTable) (now : ℤ) (user t : List ℕ) (a : Act) (kind : Compaction) (done : Result T E) (reply : Reply SessionState) → IsCore h → takes_memory a ≡ true → work_of a ≡ On t (Compacting kind) → Done ≡ own_answer (base_of h) now user a → changes_of now user a ≡ []
+pub compacts : {T E : Type 0} (h : Held) (ts : List HeldTable) (now : ℤ) (user t : List ℕ) (a : Act) (kind : Compaction) (done : Result T E) (reply : Reply SessionState TabletMerge) → IsCore h → takes_memory a ≡ true → work_of None a ≡ On t (Compacting kind) → Done ≡ own_answer (base_of h) now user a → changes_of now user a ≡ []
     → OnOk done (Compacted t kind now h.tables ts) → OnErr done (ts ≡ h.tables) → OnOk done (reply ≡ Done) → OnErr done (reply ≡ Refused NoMemory)
-    → Acts (own_answer (base_of h) now user a) h now user a reply (record h { tables = ts })
+    → Acts (own_answer (base_of h) now user a) h now None user a reply (record h { tables = ts })
 compacts h ts now user t a kind (Ok u) reply core takes is passes none after same ok err =
-    subst (λ r. Acts (own_answer (base_of h) now user a) h now user a r (record h { tables = ts })) (sym ok) (compaction_done h ts now user t a kind core is passes none after)
+    subst (λ r. Acts (own_answer (base_of h) now user a) h now None user a r (record h { tables = ts })) (sym ok) (compaction_done h ts now user t a kind core is passes none after)
 compacts h ts now user t a kind (Err e) reply core takes is passes none after same ok err =
-    subst (λ r. Acts (own_answer (base_of h) now user a) h now user a r (record h { tables = ts })) (sym err)
-    (subst (λ (us : List HeldTable). Acts (own_answer (base_of h) now user a) h now user a (Refused NoMemory) (record h { tables = us })) (sym same) (lacked (own_answer (base_of h) now user a) h now user a takes core))
+    subst (λ r. Acts (own_answer (base_of h) now user a) h now None user a r (record h { tables = ts })) (sym err)
+    (subst (λ (us : List HeldTable). Acts (own_answer (base_of h) now user a) h now None user a (Refused NoMemory) (record h { tables = us })) (sym same) (lacked (own_answer (base_of h) now user a) h now user a takes core))
 
 -- ---- counts
-pub counted : (h : Held) (now : ℤ) (user t : List ℕ) (reply : Reply SessionState) → IsCore h → reply ≡ Counted (counts_of (tablets_of (table_at h.tables t))) → Acts (own_answer (base_of h) now user (act.Status t)) h now user (act.Status t) reply h
+pub counted : (h : Held) (now : ℤ) (user t : List ℕ) (reply : Reply SessionState TabletMerge) → IsCore h → reply ≡ Counted (counts_of (tablets_of (table_at h.tables t))) → Acts (own_answer (base_of h) now user (act.Status t)) h now None user (act.Status t) reply h
 unfolding lays
-counted h now user t reply core is = subst (λ r. Acts (own_answer (base_of h) now user (act.Status t)) h now user (act.Status t) r h) (sym is) (record {
+counted h now user t reply core is = subst (λ r. Acts (own_answer (base_of h) now user (act.Status t)) h now None user (act.Status t) r h) (sym is) (record {
   exact = record {
     answers = inl (ap (λ ts. Counted (counts_of ts)) (sym (tablets_read h t)));
+    hands = refl;
     tablets = table_counted h h t now Done (λ q. refl);
     names = core.store.names;
+    tablet = refl;
+    number = refl;
   };
   becomes = becomes_alike h h.tables refl (λ q. refl);
   hands = tt;

@@ -1,4 +1,6 @@
 pub mod Acting
+pub mod Beginning
+pub mod JobLemmas
 pub mod Admitting
 pub mod Markers
 pub mod Bounded
@@ -16,4 +18,5 @@ pub mod Forgetting
 pub mod TableActs
 pub mod Writing
 pub mod Picked
+pub use Rattle.tab_store.proofs.ChainLaws
 pub use Rattle.tab_store.proofs.Joining

@@ -26,6 +26,7 @@ use Rattle.tab_history.specs.Answers.{told, told_opened, session_list, listed, q
 use Rattle.tab_history.proofs.RightsTold.{rights_are_told}
 use Rattle.tab_iter.proofs.ListLaws.{rises_none}
 use Rattle.tab_store.specs.ByRow.{records_of_all, LieApart}
+use Rattle.tab_store.specs.Parts.{TabletMerge}
 use Rattle.tab_store.specs.Stores.{HeldTable, Held, RiseByName, base_of, table_in}
 use Rattle.tab_store.specs.Stepping.{lays, told_exactly, laid_told}
 use Rattle.tab_store.specs.Tables.{TableState, with_tablets, state_of, table_at, changed_table, settings_at, tablets_of}
@@ -64,7 +65,7 @@ unfolding standing held_auths
 own_open h now user scan auths held = λ i. told (first_some (scan_checks (held i) scan)) told_opened
 
 open_refused : (h : Held) (now : ℤ) (user : List ℕ) (scan : Scan) (auths : List (List ℕ)) (r : Refusal) → IsCore h → auths_of h.policy user ≡ auths
-    → (Some r ≡ first_some (scan_checks auths scan)) ⊎ (Some r ≡ Some NoMemory) → Acts (own_answer (base_of h) now user (act.Open scan)) h now user (act.Open scan) (Refused r) h
+    → (Some r ≡ first_some (scan_checks auths scan)) ⊎ (Some r ≡ Some NoMemory) → Acts (own_answer (base_of h) now user (act.Open scan)) h now None user (act.Open scan) (Refused r) h
 open_refused h now user scan auths r core held fails = refused (own_answer (base_of h) now user (act.Open scan)) h now user (act.Open scan) r core (go fails)
   where
     go : (Some r ≡ first_some (scan_checks auths scan)) ⊎ (Some r ≡ Some NoMemory) → (Refused r ≡ own_answer (base_of h) now user (act.Open scan)) ⊎ ((true ≡ true) × (r ≡ NoMemory))
@@ -83,7 +84,7 @@ pub record Froze (t : List ℕ) (ts new : List HeldTable) : Type 0 where
 
 open_done : (h : Held) (ts : List HeldTable) (now : ℤ) (user : List ℕ) (scan : Scan) (auths : List (List ℕ)) (session : SessionState) → IsCore h → auths_of h.policy user ≡ auths
     → (None ≡ first_some (scan_checks auths scan)) ⊎ (None ≡ Some NoMemory) → session ≡ session_in h.tables scan → Froze scan.table h.tables ts
-    → Acts (own_answer (base_of h) now user (act.Open scan)) h now user (act.Open scan) (Opened session) (record h { tables = ts })
+    → Acts (own_answer (base_of h) now user (act.Open scan)) h now None user (act.Open scan) (Opened session) (record h { tables = ts })
 unfolding lays session_list
 open_done h ts now user scan auths session core held passes is after =
     let new : Held = record h { tables = ts } in
@@ -91,9 +92,12 @@ open_done h ts now user scan auths session core held passes is after =
     let settings : (q : List ℕ) → settings_of (base_of new) [] q ≡ settings_of (base_of h) [] q = settings_kept h new scan.table (with_tablets (map frozen)) (λ s. refl) after.changed in
     record {
       exact = record {
-        answers = inl (ap (told_exactly h now (act.Open scan)) answer);
-        tablets = λ q. table_frozen h new scan.table now told_opened after.changed q ∙ ap (λ a. laid_told told_opened h now (act.Open scan) a q) answer;
+        answers = inl (ap (told_exactly h now None (act.Open scan)) answer);
+        hands = refl;
+        tablets = λ q. table_frozen h new scan.table now told_opened after.changed q ∙ ap (λ a. laid_told told_opened h now None (act.Open scan) a q) answer;
         names = after.names;
+        tablet = refl;
+        number = refl;
       };
       becomes = becomes_alike h ts after.count settings;
       hands = is ∙ sym (λ i. record { all = listed (records_read h scan.table i) (query_of scan) (settings_read h scan.table i); given = 0 });
@@ -108,30 +112,30 @@ open_done h ts now user scan auths session core held passes is after =
 -- an act that leaves the tables as they were
 pub leaves_tables : (auths : List (List ℕ)) (now : ℤ) (scan : Scan) (ts : List HeldTable) (next : ℕ) (r : Refusal) → (Some r ≡ first_some (scan_checks auths scan)) ⊎ (Some r ≡ Some NoMemory) → ActsOnTables auths now (act.Open scan) ts next (Refused r) ts next
 leaves_tables auths now scan ts next r fails h user core tables numbered held =
-    subst (λ (x : Held). Acts (own_answer (base_of h) now user (act.Open scan)) h now user (act.Open scan) (Refused r) x) (λ i. record h { next = numbered i; tables = tables i }) (open_refused h now user scan auths r core held fails)
+    subst (λ (x : Held). Acts (own_answer (base_of h) now user (act.Open scan)) h now None user (act.Open scan) (Refused r) x) (λ i. record h { next = numbered i; tables = tables i }) (open_refused h now user scan auths r core held fails)
 
 -- whether there was memory for it or not
-pub open_either : {E : Type 0} (auths : List (List ℕ)) (now : ℤ) (scan : Scan) (ts new : List HeldTable) (next : ℕ) (made : Result SessionState E) (reply : Reply SessionState) → (None ≡ first_some (scan_checks auths scan)) ⊎ (None ≡ Some NoMemory)
+pub open_either : {E : Type 0} (auths : List (List ℕ)) (now : ℤ) (scan : Scan) (ts new : List HeldTable) (next : ℕ) (made : Result SessionState E) (reply : Reply SessionState TabletMerge) → (None ≡ first_some (scan_checks auths scan)) ⊎ (None ≡ Some NoMemory)
     → IfOk made (λ session. session ≡ session_in ts scan) → OnOk made (Froze scan.table ts new) → OnErr made (new ≡ ts) → IfOk made (λ session. reply ≡ Opened session) → OnErr made (reply ≡ Refused NoMemory)
     → ActsOnTables auths now (act.Open scan) ts next reply new next
 open_either auths now scan ts new next (Ok session) reply passes is after same opened failed h user core tables numbered held =
-    subst (λ r. Acts (own_answer (base_of h) now user (act.Open scan)) h now user (act.Open scan) r (record h { next = next; tables = new })) (sym opened)
-    (subst (λ (n : ℕ). Acts (own_answer (base_of h) now user (act.Open scan)) h now user (act.Open scan) (Opened session) (record h { next = n; tables = new })) numbered
+    subst (λ r. Acts (own_answer (base_of h) now user (act.Open scan)) h now None user (act.Open scan) r (record h { next = next; tables = new })) (sym opened)
+    (subst (λ (n : ℕ). Acts (own_answer (base_of h) now user (act.Open scan)) h now None user (act.Open scan) (Opened session) (record h { next = n; tables = new })) numbered
     (open_done h new now user scan auths session core held passes (is ∙ ap (λ us. session_in us scan) (sym tables)) (subst (λ (us : List HeldTable). Froze scan.table us new) (sym tables) after)))
 open_either auths now scan ts new next (Err e) reply passes is after same opened failed h user core tables numbered held =
-    subst (λ r. Acts (own_answer (base_of h) now user (act.Open scan)) h now user (act.Open scan) r (record h { next = next; tables = new })) (sym failed)
-    (subst (λ (x : Held). Acts (own_answer (base_of h) now user (act.Open scan)) h now user (act.Open scan) (Refused NoMemory) x) (λ i. record h { next = numbered i; tables = (tables ∙ sym same) i })
+    subst (λ r. Acts (own_answer (base_of h) now user (act.Open scan)) h now None user (act.Open scan) r (record h { next = next; tables = new })) (sym failed)
+    (subst (λ (x : Held). Acts (own_answer (base_of h) now user (act.Open scan)) h now None user (act.Open scan) (Refused NoMemory) x) (λ i. record h { next = numbered i; tables = (tables ∙ sym same) i })
     (lacked (own_answer (base_of h) now user (act.Open scan)) h now user (act.Open scan) refl core))
 
 -- ---- rights told
 pub rights_told : (h : Held) (now : ℤ) (user t : List ℕ) (system : SystemPermissions) (table : TablePermissions) (auths : List (List ℕ)) → IsCore h
     → ((p : SystemPermission) → system_contains system p ≡ has_system h.policy user p) → ((p : TablePermission) → table_contains table p ≡ table_granted h.policy user p t) → auths ≡ auths_of h.policy user
-    → Acts (own_answer (base_of h) now user (act.Rights t)) h now user (act.Rights t) (TellsRights (record { system = system; table = table; authorizations = auths })) h
+    → Acts (own_answer (base_of h) now user (act.Rights t)) h now None user (act.Rights t) (TellsRights (record { system = system; table = table; authorizations = auths })) h
 unfolding held_auths has_system_right has_table_right
 rights_told h now user t system table auths core may on_table held =
     let rights : Rights = record { system = system; table = table; authorizations = auths } in
     record {
-      exact = record { answers = inl (ap TellsRights ((rights_are_told (base_of h) [] user t rights).0 (record { system = may; table = on_table; authorizations = held }))); tablets = λ q. refl; names = core.store.names };
+      exact = record { answers = inl (ap TellsRights ((rights_are_told (base_of h) [] user t rights).0 (record { system = may; table = on_table; authorizations = held }))); hands = refl; tablets = λ q. refl; names = core.store.names; tablet = refl; number = refl };
       becomes = becomes_alike h h.tables refl (λ q. refl);
       hands = tt;
       knows = core.knows;

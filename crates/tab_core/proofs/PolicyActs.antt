@@ -33,11 +33,11 @@ record IsRuling (b : Base) (j : List Change) : Type 0 where
   settings : (t : List ℕ) → settings_of b j t ≡ settings_of b [] t
 
 -- an act that asks nothing of the tables, passes its checks and leaves a policy which reads as the act's changes say
-ruled : (h : Held) (p : State) (now : ℤ) (user : List ℕ) (a : Act) → IsCore h → work_of a ≡ Aside → own_answer (base_of h) now user a ≡ Done → readings p ≡ read_after (base_of h) (changes_of now user a) (table_exists h.policy)
-    → IsRuling (base_of h) (changes_of now user a) → Acts (own_answer (base_of h) now user a) h now user a Done (record h { policy = p })
+ruled : (h : Held) (p : State) (now : ℤ) (user : List ℕ) (a : Act) → IsCore h → work_of None a ≡ Aside → own_answer (base_of h) now user a ≡ Done → readings p ≡ read_after (base_of h) (changes_of now user a) (table_exists h.policy)
+    → IsRuling (base_of h) (changes_of now user a) → Acts (own_answer (base_of h) now user a) h now None user a Done (record h { policy = p })
 unfolding readings settings_of
 ruled h p now user a core aside passes read ruling = record {
-  exact = done_exactly h (record h { policy = p }) now a (own_answer (base_of h) now user a) Aside aside (sym passes) refl (λ q. refl) core.store.names;
+  exact = done_exactly h (record h { policy = p }) now a (own_answer (base_of h) now user a) Aside aside (sym passes) refl (λ q. refl) core.store.names refl refl;
   becomes = becomes h h.next p h.tables (changes_of now user a) (table_exists h.policy) (sym ruling.numbers) read (sym (count_read h) ∙ sym ruling.tables) (λ t. sym (ruling.settings t));
   hands = tt;
   knows = λ t. ap (λ (r : Readings). r.tables t) read ∙ core.knows t;
@@ -45,20 +45,20 @@ ruled h p now user a core aside passes read ruling = record {
 
 -- ---- authorizations
 pub too_many : (h : Held) (now : ℤ) (user n : List ℕ) (auths : List (List ℕ)) → IsCore h → too_many_auths auths ≡ true
-    → Acts (own_answer (base_of h) now user (act.SetAuths n auths)) h now user (act.SetAuths n auths) (Refused (TooLarge Authorizations)) h
+    → Acts (own_answer (base_of h) now user (act.SetAuths n auths)) h now None user (act.SetAuths n auths) (Refused (TooLarge Authorizations)) h
 unfolding has_user
 too_many h now user n auths core e = own_refused h now user (act.SetAuths n auths) (TooLarge Authorizations) core
     (ap (λ v. first_some (when v (TooLarge Authorizations) ∷ when (not (user_exists h.policy n)) (NoUser n) ∷ [])) e)
 
 pub no_user : (h : Held) (now : ℤ) (user n : List ℕ) (auths : List (List ℕ)) → IsCore h → too_many_auths auths ≡ false → user_exists h.policy n ≡ false
-    → Acts (own_answer (base_of h) now user (act.SetAuths n auths)) h now user (act.SetAuths n auths) (Refused (NoUser n)) h
+    → Acts (own_answer (base_of h) now user (act.SetAuths n auths)) h now None user (act.SetAuths n auths) (Refused (NoUser n)) h
 unfolding has_user
 no_user h now user n auths core fits absent = own_refused h now user (act.SetAuths n auths) (NoUser n) core
     (λ i. first_some (when (fits i) (TooLarge Authorizations) ∷ when (not (absent i)) (NoUser n) ∷ []))
 
 pub auths_set : (h : Held) (p : State) (now : ℤ) (user n : List ℕ) (auths : List (List ℕ)) → IsCore h → too_many_auths auths ≡ false → user_exists h.policy n ≡ true
     → readings p ≡ record (readings h.policy) { auths = λ q. cond (user_exists h.policy n && bytes_eq n q) auths (auths_of h.policy q) }
-    → Acts (own_answer (base_of h) now user (act.SetAuths n auths)) h now user (act.SetAuths n auths) Done (record h { policy = p })
+    → Acts (own_answer (base_of h) now user (act.SetAuths n auths)) h now None user (act.SetAuths n auths) Done (record h { policy = p })
 unfolding readings next_number has_user user_count held_auths has_system_right has_table_right table_count settings_of
 auths_set h p now user n auths core fits there read = ruled h p now user (act.SetAuths n auths) core refl
     (λ i. told (first_some (when (fits i) (TooLarge Authorizations) ∷ when (not (there i)) (NoUser n) ∷ [])) Done)
@@ -66,12 +66,12 @@ auths_set h p now user n auths core fits there read = ruled h p now user (act.Se
     (record { numbers = refl; tables = refl; settings = λ t. refl })
 
 -- ---- a new user
-pub user_there : (h : Held) (now : ℤ) (user n : List ℕ) → IsCore h → user_exists h.policy n ≡ true → Acts (own_answer (base_of h) now user (act.CreateUser n)) h now user (act.CreateUser n) (Refused (UserExists n)) h
+pub user_there : (h : Held) (now : ℤ) (user n : List ℕ) → IsCore h → user_exists h.policy n ≡ true → Acts (own_answer (base_of h) now user (act.CreateUser n)) h now None user (act.CreateUser n) (Refused (UserExists n)) h
 unfolding has_user
 user_there h now user n core there = own_refused h now user (act.CreateUser n) (UserExists n) core (ap (λ v. first_some (when v (UserExists n) ∷ [])) there)
 
 pub users_used_up : (h : Held) (now : ℤ) (user n : List ℕ) → IsCore h → user_exists h.policy n ≡ false → nat_le 4294967295 (policy_users h.policy) ≡ true
-    → Acts (own_answer (base_of h) now user (act.CreateUser n)) h now user (act.CreateUser n) (Refused (TooLarge Numbers)) h
+    → Acts (own_answer (base_of h) now user (act.CreateUser n)) h now None user (act.CreateUser n) (Refused (TooLarge Numbers)) h
 unfolding has_user user_count
 users_used_up h now user n core absent full = refused (own_answer (base_of h) now user (act.CreateUser n)) h now user (act.CreateUser n) (TooLarge Numbers) core
     (inl (sym (λ i. told (first_some (when (absent i) (UserExists n) ∷ [])) (numbered (full i) Done))))
@@ -84,7 +84,7 @@ pub user_made : (h : Held) (p : State) (now : ℤ) (user n : List ℕ) → IsCor
       system = λ q x. cond (bytes_eq n q) false (system_granted h.policy q x);
       rights = λ q x t. cond (bytes_eq n q) false (table_granted h.policy q x t);
     }
-    → Acts (own_answer (base_of h) now user (act.CreateUser n)) h now user (act.CreateUser n) Done (record h { policy = p })
+    → Acts (own_answer (base_of h) now user (act.CreateUser n)) h now None user (act.CreateUser n) Done (record h { policy = p })
 unfolding readings next_number has_user user_count held_auths has_system_right has_table_right table_count settings_of
 user_made h p now user n core absent room read =
     ruled h p now user (act.CreateUser n) core refl (λ i. told (first_some (when (absent i) (UserExists n) ∷ [])) (numbered (room i) Done))
@@ -97,11 +97,11 @@ user_made h p now user n core absent room read =
     }) absent) (record { numbers = refl; tables = refl; settings = λ t. refl })
 
 -- ---- a user who is dropped
-pub no_user_drops : (h : Held) (now : ℤ) (user n : List ℕ) → IsCore h → user_exists h.policy n ≡ false → Acts (own_answer (base_of h) now user (act.DropUser n)) h now user (act.DropUser n) (Refused (NoUser n)) h
+pub no_user_drops : (h : Held) (now : ℤ) (user n : List ℕ) → IsCore h → user_exists h.policy n ≡ false → Acts (own_answer (base_of h) now user (act.DropUser n)) h now None user (act.DropUser n) (Refused (NoUser n)) h
 unfolding has_user
 no_user_drops h now user n core absent = own_refused h now user (act.DropUser n) (NoUser n) core (ap (λ v. first_some (when (not v) (NoUser n) ∷ when (bytes_eq n root) RootFixed ∷ [])) absent)
 
-pub root_stays_user : (h : Held) (now : ℤ) (user n : List ℕ) → IsCore h → user_exists h.policy n ≡ true → bytes_eq n root ≡ true → Acts (own_answer (base_of h) now user (act.DropUser n)) h now user (act.DropUser n) (Refused RootFixed) h
+pub root_stays_user : (h : Held) (now : ℤ) (user n : List ℕ) → IsCore h → user_exists h.policy n ≡ true → bytes_eq n root ≡ true → Acts (own_answer (base_of h) now user (act.DropUser n)) h now None user (act.DropUser n) (Refused RootFixed) h
 unfolding has_user
 root_stays_user h now user n core there is = own_refused h now user (act.DropUser n) RootFixed core (λ i. first_some (when (not (there i)) (NoUser n) ∷ when (is i) RootFixed ∷ []))
 
@@ -113,7 +113,7 @@ pub user_dropped : (h : Held) (p : State) (now : ℤ) (user n : List ℕ) → Is
       system = λ q x. cond (bytes_eq n q) false (system_granted h.policy q x);
       rights = λ q x t. cond (bytes_eq n q) false (table_granted h.policy q x t);
     }
-    → Acts (own_answer (base_of h) now user (act.DropUser n)) h now user (act.DropUser n) Done (record h { policy = p })
+    → Acts (own_answer (base_of h) now user (act.DropUser n)) h now None user (act.DropUser n) Done (record h { policy = p })
 unfolding readings next_number has_user user_count held_auths has_system_right has_table_right table_count settings_of
 user_dropped h p now user n core there other read =
     ruled h p now user (act.DropUser n) core refl (λ i. told (first_some (when (not (there i)) (NoUser n) ∷ when (other i) RootFixed ∷ [])) Done)
@@ -127,12 +127,12 @@ user_dropped h p now user n core there other read =
 
 -- ---- a grant or a revocation that is refused
 pub grant_refused : (h : Held) (now : ℤ) (user n : List ℕ) (x : Permission) (r : Refusal) → IsCore h → first_some (right_checks (user_exists h.policy n) n x) ≡ Some r
-    → Acts (own_answer (base_of h) now user (act.Grant n x)) h now user (act.Grant n x) (Refused r) h
+    → Acts (own_answer (base_of h) now user (act.Grant n x)) h now None user (act.Grant n x) (Refused r) h
 unfolding has_user
 grant_refused h now user n x r core e = own_refused h now user (act.Grant n x) r core e
 
 pub revoke_refused : (h : Held) (now : ℤ) (user n : List ℕ) (x : Permission) (r : Refusal) → IsCore h → first_some (right_checks (user_exists h.policy n) n x) ≡ Some r
-    → Acts (own_answer (base_of h) now user (act.Revoke n x)) h now user (act.Revoke n x) (Refused r) h
+    → Acts (own_answer (base_of h) now user (act.Revoke n x)) h now None user (act.Revoke n x) (Refused r) h
 unfolding has_user
 revoke_refused h now user n x r core e = own_refused h now user (act.Revoke n x) r core e
 
@@ -182,7 +182,7 @@ pub right_given : (h : Held) (p : State) (now : ℤ) (user n : List ℕ) (x : Pe
       system = λ q y. cond (can_hold h.policy n x && is_system_right n x q y) true (system_granted h.policy q y);
       rights = λ q y t. cond (can_hold h.policy n x && is_table_right n x q y t) true (table_granted h.policy q y t);
     }
-    → Acts (own_answer (base_of h) now user (act.Grant n x)) h now user (act.Grant n x) Done (record h { policy = p })
+    → Acts (own_answer (base_of h) now user (act.Grant n x)) h now None user (act.Grant n x) Done (record h { policy = p })
 unfolding has_user
 right_given h p now user n x core admitted passes read =
     ruled h p now user (act.Grant n x) core refl (ap (λ o. told o Done) passes)
@@ -197,15 +197,15 @@ pub right_taken : (h : Held) (p : State) (now : ℤ) (user n : List ℕ) (x : Pe
       system = λ q y. cond (is_system_right n x q y) false (system_granted h.policy q y);
       rights = λ q y t. cond (is_table_right n x q y t) false (table_granted h.policy q y t);
     }
-    → Acts (own_answer (base_of h) now user (act.Revoke n x)) h now user (act.Revoke n x) Done (record h { policy = p })
+    → Acts (own_answer (base_of h) now user (act.Revoke n x)) h now None user (act.Revoke n x) Done (record h { policy = p })
 unfolding has_user
 right_taken h p now user n x core passes read = ruled h p now user (act.Revoke n x) core refl (ap (λ o. told o Done) passes) (read ∙ taken_reads h n x) (taken_ruling h n x)
 
 -- ---- saves and loads, which change nothing
-pub saved : (h : Held) (now : ℤ) (user : List ℕ) → IsCore h → Acts (own_answer (base_of h) now user act.Save) h now user act.Save Done h
+pub saved : (h : Held) (now : ℤ) (user : List ℕ) → IsCore h → Acts (own_answer (base_of h) now user act.Save) h now None user act.Save Done h
 unfolding readings next_number has_user user_count held_auths has_system_right has_table_right table_count settings_of
 saved h now user core = ruled h h.policy now user act.Save core refl refl refl (record { numbers = refl; tables = refl; settings = λ t. refl })
 
-pub loaded : (h : Held) (now : ℤ) (user : List ℕ) → IsCore h → Acts (own_answer (base_of h) now user act.Load) h now user act.Load Done h
+pub loaded : (h : Held) (now : ℤ) (user : List ℕ) → IsCore h → Acts (own_answer (base_of h) now user act.Load) h now None user act.Load Done h
 unfolding readings next_number has_user user_count held_auths has_system_right has_table_right table_count settings_of
 loaded h now user core = ruled h h.policy now user act.Load core refl refl refl (record { numbers = refl; tables = refl; settings = λ t. refl })

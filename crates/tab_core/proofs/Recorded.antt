@@ -1,19 +1,18 @@
 -- From a step to what it means for a recorded history.
-use Rattle.std.proofs.Common.{List, []}
+use Rattle.std.proofs.Common.{List, [], Option}
 use Rattle.tab_cells.specs.SessionState.{SessionState}
 use Rattle.tab_history.specs.Bases.{Base}
 use Rattle.tab_history.specs.Answers.{session_of, session_list}
-use Rattle.tab_history.specs.Histories.{Entry, world_of, journal, clock_of}
+use Rattle.tab_history.specs.Histories.{Entry, world_of, journal}
 use Rattle.tab_history.specs.declared.event.Act.{Act}
 use Rattle.tab_history.specs.declared.event.Event.{Event}
 use Rattle.tab_history.specs.declared.reply.Reply.{Reply}
-use Rattle.tab_history.specs.declared.reply.Reply.TheVariants.{Done, Refused, Opened, Batch, Ranges, Rights, Counted, Rows}
-use Rattle.tab_history.proofs.Chains.{sound_refines_itself}
+use Rattle.tab_history.specs.declared.reply.Reply.TheVariants.{Done, Refused, Opened, Batch, Ranges, Rights, Counted, Rows, Begun, Nothing}
+use Rattle.tab_store.specs.Parts.{TabletMerge}
 use Rattle.tab_store.specs.Stores.{Held, base_of}
-use Rattle.tab_store.proofs.ChainLaws.{stores_are_sound}
-use Rattle.tab_core.specs.Stepping.{HandsOut, IsCore}
+use Rattle.tab_core.specs.Stepping.{HandsOut, Steps, StepsWith, IsCore}
 use Rattle.tab_core.specs.Recording.{RefinesHistory, IsLegalFrom, ShowsAnswer, StepsOn}
-use Rattle.tab_core.proofs.Steps.{StepsWell}
+use Rattle.tab_core.proofs.Steps.{itself}
 
 -- no event is a legal history
 pub legal_empty : (base : Base) → IsLegalFrom base []
@@ -22,10 +21,10 @@ legal_empty base = tt
 
 -- what a core holds is refined by it
 pub begun : (h : Held) → IsCore h → RefinesHistory h (base_of h) []
-unfolding RefinesHistory journal clock_of
-begun h core = sound_refines_itself (world_of (base_of h)) (stores_are_sound h core.store)
+unfolding RefinesHistory
+begun h core = itself h core
 
-shown : (base : Base) (h : List Entry) (act : Act) (reply : Reply SessionState) → HandsOut reply (session_list base (journal (world_of base) h) act) → ShowsAnswer base h act (session_of reply)
+shown : (base : Base) (h : List Entry) (act : Act) (reply : Reply SessionState TabletMerge) → HandsOut reply (session_list base (journal (world_of base) h) act) → ShowsAnswer base h act (session_of reply)
 unfolding ShowsAnswer
 shown base h act Done hands = tt
 shown base h act (Refused r) hands = tt
@@ -35,13 +34,15 @@ shown base h act (Ranges ranges) hands = tt
 shown base h act (Rights rights) hands = tt
 shown base h act (Counted counts) hands = tt
 shown base h act (Rows rows) hands = tt
+shown base h act (Begun job) hands = tt
+shown base h act Nothing hands = tt
 
 -- both sides of a step, in those words
-pub steps_on : (old new : Held) (e : Event) (reply : Reply SessionState) → StepsWell old e reply new → StepsOn old e reply new
+pub steps_on : (old new : Held) (given : Option TabletMerge) (e : Event) (reply : Reply SessionState TabletMerge) → Steps (base_of old) e reply (base_of new) → StepsWith old given e reply new → StepsOn old given e reply new
 unfolding RefinesHistory IsLegalFrom
-steps_on old new e reply well = record {
-  legal = λ base h refines legal. well.steps.legal (world_of base) h refines legal;
-  refines = λ base h refines. well.steps.refines (world_of base) h refines;
-  hands = λ base h refines. shown base h e.act reply (well.steps.hands (world_of base) h refines);
-  exact = record { right = well.steps.right; exact = well.exact };
+steps_on old new given e reply steps exact = record {
+  legal = λ base h refines legal. steps.legal (world_of base) h refines legal;
+  refines = λ base h refines. steps.refines (world_of base) h refines;
+  hands = λ base h refines. shown base h e.act reply (steps.hands (world_of base) h refines);
+  exact = exact;
 }

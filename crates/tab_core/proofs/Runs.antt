@@ -10,26 +10,33 @@ use Rattle.tab_history.specs.declared.event.Act.{Act}
 use Rattle.tab_history.specs.declared.event.Act.TheVariants.{Open}
 use Rattle.tab_history.specs.declared.event.Event.{Event}
 use Rattle.tab_history.specs.declared.event.Step.{Step}
-use Rattle.tab_history.specs.declared.event.Step.TheVariants.{Event as IsEvent, Next, Many, Close}
+use Rattle.tab_history.specs.declared.event.Step.TheVariants.{Event as IsEvent, Next, Many, Close, Merge}
 use Rattle.tab_history.specs.declared.reply.Refusal.{Refusal}
 use Rattle.tab_history.specs.declared.reply.Refusal.TheVariants.{NoMemory, TooLarge, NoSession}
 use Rattle.tab_history.specs.declared.reply.Reply.{Reply}
-use Rattle.tab_history.specs.declared.reply.Reply.TheVariants.{Done, Refused, Opened, Batch, Ranges, Rights, Counted, Rows}
+use Rattle.tab_history.specs.declared.reply.Reply.TheVariants.{Done, Refused, Opened, Batch, Ranges, Rights, Counted, Rows, Begun, Nothing}
 use Rattle.tab_history.specs.Bases.{Base}
-use Rattle.tab_history.specs.Answers.{Told, told_of, session_of, answer, event_answer, IsEventReply, next_answer, many_answer, close_answer, is_open, moves_by, session_list}
+use Rattle.tab_history.specs.Answers.{Told, told_of, session_of, job_of, answer, event_answer, IsEventReply, empty_slot, slotted, next_answer, many_answer, close_answer, is_open, moves_by, session_list}
 use Rattle.tab_cells.specs.SessionState.{SessionState}
 use Rattle.tab_history.specs.Sessions.{Move, Opening, Taking, Closing, is_full}
-use Rattle.tab_history.specs.Histories.{Entry, World, world_of, world_after, clock_of, clock_at, journal, user_of, moves_of}
+use Rattle.tab_history.specs.Histories.{Entry, World, world_of, world_after, clock_of, clock_at, journal, user_of, moves_of, jobs_of}
 use Rattle.tab_history.specs.Legal.{IsAnswer, LacksMemory, takes_memory}
 use Rattle.tab_history.specs.Refinement.{Refines}
 use Rattle.tab_history.specs.Runs.{IsNoEvent}
 use Rattle.tab_history.proofs.Playing.{unmoved}
+use Rattle.tab_store.specs.Parts.{TabletMerge}
 use Rattle.tab_store.specs.Stores.{Held, base_of}
-use Rattle.tab_store.specs.Stepping.{LaysExactly, now_at, plain_answer, StepsExactly}
-use Rattle.tab_core.specs.Stepping.{Steps, HandsOut}
+use Rattle.tab_store.specs.Stepping.{StepsExactly}
+use Rattle.tab_store.specs.Chains.{EntryGoes, starting}
+use Rattle.tab_store.proofs.Joining.{chain_join}
+use Rattle.tab_history.specs.Chains.{IsChain}
+use Rattle.tab_core.specs.declared.job_slots.JobSlot.{JobSlot}
+use Rattle.tab_core.specs.JobSlots.{JobsAre, HoldMerges, GoesExactly, MergesIn, StepsIn}
+use Rattle.tab_core.specs.Stepping.{Steps, StepsWith, HandsOut}
 use Rattle.tab_core.specs.Slots.{slot_at, are_full, NextFrom, ManyFrom, CloseFrom, SlotsAre, entries_of, history_of}
 use Rattle.tab_core.specs.Owners.{Owners, slots_of, LeavesOthers, OwnersRefine, Lengthens, RunsOn, kept_with, OpensIn}
 use Rattle.tab_core.proofs.SlotLemmas.{slots_none, slots_opened, slots_taken, slots_closed, full_alike}
+use Rattle.tab_core.proofs.JobLemmas.{jobs_none, Lengthened, steps_lengthen, steps_exact, merge_lengthens, merge_exact, stays_exact, alone_exact, no_job, open_job_moves, open_alone, open_begins_none}
 
 -- ---- whose slots they are
 own_more : (w : World) (h : List Entry) (step : Step) (reply : Told) (os os' : Owners) → SlotsAre (moves_by w.base (journal w h) step reply ++ moves_of w (user_of step) h) (slots_of os' (user_of step)) → LeavesOthers (user_of step) os os' → OwnersRefine os w h
@@ -55,6 +62,8 @@ next_slots w j b h user slot n (Rights r) ss ss' from are = subst (λ (l : List 
 next_slots w j b h user slot n (Counted counts) ss ss' from are = subst (λ (l : List (Option SessionState)). SlotsAre j l) (sym from.after) are
 next_slots w j b h user slot n (Rows rows) ss ss' from are = subst (λ (l : List (Option SessionState)). SlotsAre j l) (sym from.after) are
 next_slots w j b h user slot n (Opened s) ss ss' from are = subst (λ (l : List (Option SessionState)). SlotsAre j l) (sym from.after) are
+next_slots w j b h user slot n (Begun u) ss ss' from are = subst (λ (l : List (Option SessionState)). SlotsAre j l) (sym from.after) are
+next_slots w j b h user slot n Nothing ss ss' from are = subst (λ (l : List (Option SessionState)). SlotsAre j l) (sym from.after) are
 
 next_answers : (w : World) (h : List Entry) (user : List ℕ) (slot n : ℕ) (reply : Told) (ss ss' : List (Option SessionState)) → NextFrom ss slot n reply ss' → SlotsAre (moves_of w user h) ss → IsAnswer w h h (Next user slot n) reply ⊎ LacksMemory (Next user slot n) reply
 unfolding answer
@@ -64,15 +73,17 @@ next_answers w h user slot n reply ss ss' from are = go from.answers
     go (inl is) = inl (is ∙ ap (λ (s : Option SessionState). next_answer s slot n) (sym (are.sessions slot)))
     go (inr is) = inr (refl, is)
 
-next_longer : (core : Base) (os os' : Owners) (user : List ℕ) (slot n : ℕ) (reply : Told) → NextFrom (slots_of os user) slot n reply (slots_of os' user) → LeavesOthers user os os' → Lengthens core os (Next user slot n) reply core os'
-next_longer core os os' user slot n reply from others w h refines stand legal = (
+next_longer : (core : Base) (os os' : Owners) (user : List ℕ) (slot n : ℕ) (reply : Told) → NextFrom (slots_of os user) slot n reply (slots_of os' user) → LeavesOthers user os os' → (jobs : List JobSlot) → Lengthens core os jobs (Next user slot n) reply core os' jobs
+unfolding jobs_of
+next_longer core os os' user slot n reply from others jobs w h refines stand are legal = (
   still w h core (Next user slot n) reply tt refines,
   own_more w h (Next user slot n) reply os os' (next_slots w (moves_of w user h) w.base h user slot n reply (slots_of os user) (slots_of os' user) from (stand user)) others stand,
+  are,
   (legal, next_answers w h user slot n reply (slots_of os user) (slots_of os' user) from (stand user)),
 )
 
-pub runs_next : (core : Held) (os os' : Owners) (user : List ℕ) (slot n : ℕ) (reply : Told) → NextFrom (slots_of os user) slot n reply (slots_of os' user) → LeavesOthers user os os' → RunsOn core os (Next user slot n) reply core os'
-runs_next core os os' user slot n reply from others = record { histories = next_longer (base_of core) os os' user slot n reply from others; exact = inr (tt, refl) }
+pub runs_next : (core : Held) (os os' : Owners) (jobs : List JobSlot) (user : List ℕ) (slot n : ℕ) (reply : Told) → NextFrom (slots_of os user) slot n reply (slots_of os' user) → LeavesOthers user os os' → RunsOn core os jobs (Next user slot n) reply core os' jobs
+runs_next core os os' jobs user slot n reply from others = record { histories = next_longer (base_of core) os os' user slot n reply from others jobs; exact = stays_exact core jobs (Next user slot n) reply tt }
 
 -- ---- a Many
 many_answers : (w : World) (h : List Entry) (user : List ℕ) (slot : ℕ) (ranges : List Bounds) (reply : Told) (ss : List (Option SessionState)) → ManyFrom ss slot ranges reply → SlotsAre (moves_of w user h) ss → IsAnswer w h h (Many user slot ranges) reply ⊎ LacksMemory (Many user slot ranges) reply
@@ -80,15 +91,17 @@ unfolding answer
 many_answers w h user slot ranges reply ss (inl is) are = inl (is ∙ ap (λ (s : Option SessionState). many_answer s slot ranges) (sym (are.sessions slot)))
 many_answers w h user slot ranges reply ss (inr is) are = inr (refl, is)
 
-many_longer : (core : Base) (os : Owners) (user : List ℕ) (slot : ℕ) (ranges : List Bounds) (reply : Told) → ManyFrom (slots_of os user) slot ranges reply → Lengthens core os (Many user slot ranges) reply core os
-many_longer core os user slot ranges reply from w h refines stand legal = (
+many_longer : (core : Base) (os : Owners) (user : List ℕ) (slot : ℕ) (ranges : List Bounds) (reply : Told) → ManyFrom (slots_of os user) slot ranges reply → (jobs : List JobSlot) → Lengthens core os jobs (Many user slot ranges) reply core os jobs
+unfolding jobs_of
+many_longer core os user slot ranges reply from jobs w h refines stand are legal = (
   still w h core (Many user slot ranges) reply tt refines,
   own_more w h (Many user slot ranges) reply os os (stand user) (λ u other. refl) stand,
+  are,
   (legal, many_answers w h user slot ranges reply (slots_of os user) from (stand user)),
 )
 
-pub runs_many : (core : Held) (os : Owners) (user : List ℕ) (slot : ℕ) (ranges : List Bounds) (reply : Told) → ManyFrom (slots_of os user) slot ranges reply → RunsOn core os (Many user slot ranges) reply core os
-runs_many core os user slot ranges reply from = record { histories = many_longer (base_of core) os user slot ranges reply from; exact = inr (tt, refl) }
+pub runs_many : (core : Held) (os : Owners) (jobs : List JobSlot) (user : List ℕ) (slot : ℕ) (ranges : List Bounds) (reply : Told) → ManyFrom (slots_of os user) slot ranges reply → RunsOn core os jobs (Many user slot ranges) reply core os jobs
+runs_many core os jobs user slot ranges reply from = record { histories = many_longer (base_of core) os user slot ranges reply from jobs; exact = stays_exact core jobs (Many user slot ranges) reply tt }
 
 -- ---- a Close
 close_slots : (w : World) (j : List Move) (b : Base) (h : List Entry) (user : List ℕ) (slot : ℕ) (reply : Told) (ss ss' : List (Option SessionState)) → CloseFrom ss slot reply ss' → SlotsAre j ss → SlotsAre (moves_by b (journal w h) (Close user slot) reply ++ j) ss'
@@ -104,20 +117,37 @@ close_slots w j b h user slot (Rights r) ss ss' from are = subst (λ (l : List (
 close_slots w j b h user slot (Counted counts) ss ss' from are = subst (λ (l : List (Option SessionState)). SlotsAre j l) (sym from.after) are
 close_slots w j b h user slot (Rows rows) ss ss' from are = subst (λ (l : List (Option SessionState)). SlotsAre j l) (sym from.after) are
 close_slots w j b h user slot (Opened s) ss ss' from are = subst (λ (l : List (Option SessionState)). SlotsAre j l) (sym from.after) are
+close_slots w j b h user slot (Begun u) ss ss' from are = subst (λ (l : List (Option SessionState)). SlotsAre j l) (sym from.after) are
+close_slots w j b h user slot Nothing ss ss' from are = subst (λ (l : List (Option SessionState)). SlotsAre j l) (sym from.after) are
 
 close_answers : (w : World) (h : List Entry) (user : List ℕ) (slot : ℕ) (reply : Told) (ss ss' : List (Option SessionState)) → CloseFrom ss slot reply ss' → SlotsAre (moves_of w user h) ss → IsAnswer w h h (Close user slot) reply ⊎ LacksMemory (Close user slot) reply
 unfolding answer
 close_answers w h user slot reply ss ss' from are = inl (from.answers ∙ ap (λ (s : Option SessionState). close_answer s slot) (sym (are.sessions slot)))
 
-close_longer : (core : Base) (os os' : Owners) (user : List ℕ) (slot : ℕ) (reply : Told) → CloseFrom (slots_of os user) slot reply (slots_of os' user) → LeavesOthers user os os' → Lengthens core os (Close user slot) reply core os'
-close_longer core os os' user slot reply from others w h refines stand legal = (
+close_longer : (core : Base) (os os' : Owners) (user : List ℕ) (slot : ℕ) (reply : Told) → CloseFrom (slots_of os user) slot reply (slots_of os' user) → LeavesOthers user os os' → (jobs : List JobSlot) → Lengthens core os jobs (Close user slot) reply core os' jobs
+unfolding jobs_of
+close_longer core os os' user slot reply from others jobs w h refines stand are legal = (
   still w h core (Close user slot) reply tt refines,
   own_more w h (Close user slot) reply os os' (close_slots w (moves_of w user h) w.base h user slot reply (slots_of os user) (slots_of os' user) from (stand user)) others stand,
+  are,
   (legal, close_answers w h user slot reply (slots_of os user) (slots_of os' user) from (stand user)),
 )
 
-pub runs_close : (core : Held) (os os' : Owners) (user : List ℕ) (slot : ℕ) (reply : Told) → CloseFrom (slots_of os user) slot reply (slots_of os' user) → LeavesOthers user os os' → RunsOn core os (Close user slot) reply core os'
-runs_close core os os' user slot reply from others = record { histories = close_longer (base_of core) os os' user slot reply from others; exact = inr (tt, refl) }
+pub runs_close : (core : Held) (os os' : Owners) (jobs : List JobSlot) (user : List ℕ) (slot : ℕ) (reply : Told) → CloseFrom (slots_of os user) slot reply (slots_of os' user) → LeavesOthers user os os' → RunsOn core os jobs (Close user slot) reply core os' jobs
+runs_close core os os' jobs user slot reply from others = record { histories = close_longer (base_of core) os os' user slot reply from others jobs; exact = stays_exact core jobs (Close user slot) reply tt }
+
+-- ---- a Merge
+merge_longer : (core : Base) (os : Owners) (jobs jobs' : List JobSlot) (slot : ℕ) (reply : Told) → MergesIn jobs slot reply jobs' → Lengthens core os jobs (Merge slot) reply core os jobs'
+merge_longer core os jobs jobs' slot reply from w h refines stand are legal =
+    let l : Lengthened w h (Merge slot) reply core jobs' = merge_lengthens core jobs jobs' slot reply from w h refines are in (
+      l.refines,
+      own_more w h (Merge slot) reply os os (stand []) (λ u other. refl) stand,
+      l.jobs,
+      (legal, l.answers),
+    )
+
+pub runs_merge : (core : Held) (os : Owners) (jobs jobs' : List JobSlot) (slot : ℕ) (reply : Told) → MergesIn jobs slot reply jobs' → RunsOn core os jobs (Merge slot) reply core os jobs'
+runs_merge core os jobs jobs' slot reply from = record { histories = merge_longer (base_of core) os jobs jobs' slot reply from; exact = merge_exact core jobs jobs' slot reply from }
 
 -- ---- an event
 -- an Open takes memory
@@ -125,19 +155,26 @@ pub open_takes : (act : Act) → is_open act ≡ true → takes_memory act ≡ t
 open_takes (Open scan) e = refl
 open_takes _ e = absurd (cc)
 
-nowhere_longer : (core : Base) (os os' : Owners) (event : Event) → takes_memory event.act ≡ true → ((u : List ℕ) → slots_of os' u ≡ slots_of os u) → Lengthens core os (IsEvent event) (Refused NoMemory) core os'
-nowhere_longer core os os' event takes same w h refines stand legal = (
+-- it moves no job
+pub open_jobs : (w : World) (h : List Entry) (event : Event) (reply : Told) (jobs : List JobSlot) → is_open event.act ≡ true → JobsAre (jobs_of h) jobs → JobsAre (jobs_of (record { step = IsEvent event; reply = reply } ∷ h)) jobs
+unfolding jobs_of
+open_jobs w h event reply jobs opens are = subst (λ j. JobsAre (j ++ jobs_of h) jobs) (sym (open_job_moves event.act reply opens)) are
+
+nowhere_longer : (core : Base) (os os' : Owners) (jobs : List JobSlot) (event : Event) → is_open event.act ≡ true → ((u : List ℕ) → slots_of os' u ≡ slots_of os u) → Lengthens core os jobs (IsEvent event) (Refused NoMemory) core os' jobs
+nowhere_longer core os os' jobs event opens same w h refines stand are legal = (
   still w h core (IsEvent event) (Refused NoMemory) tt refines,
   own_more w h (IsEvent event) (Refused NoMemory) os os' (subst (λ (l : List (Option SessionState)). SlotsAre (moves_of w event.user h) l) (sym (same event.user)) (stand event.user)) (λ u away. same u) stand,
-  (legal, inr (takes, refl)),
+  open_jobs w h event (Refused NoMemory) jobs opens are,
+  (legal, inr (open_takes event.act opens, refl)),
 )
 
-pub runs_nowhere : (core : Held) (os os' : Owners) (event : Event) → takes_memory event.act ≡ true → ((u : List ℕ) → slots_of os' u ≡ slots_of os u) → RunsOn core os (IsEvent event) (Refused NoMemory) core os'
-runs_nowhere core os os' event takes same = record { histories = nowhere_longer (base_of core) os os' event takes same; exact = inr (tt, refl) }
+pub runs_nowhere : (core : Held) (os os' : Owners) (jobs : List JobSlot) (event : Event) → is_open event.act ≡ true → ((u : List ℕ) → slots_of os' u ≡ slots_of os u) → RunsOn core os jobs (IsEvent event) (Refused NoMemory) core os' jobs
+runs_nowhere core os os' jobs event opens same = record { histories = nowhere_longer (base_of core) os os' jobs event opens same; exact = stays_exact core jobs (IsEvent event) (Refused NoMemory) tt }
 
--- what the core answered, it did exactly
-pub did_exactly : (old new : Held) (event : Event) (r : Reply SessionState) → Steps (base_of old) event r (base_of new) → LaysExactly old (now_at old event) event.act (plain_answer old event) (told_of r) new → StepsExactly old event (told_of r) new
-did_exactly old new event r steps exact = record { right = steps.right; exact = exact }
+-- an Open was an exact step
+pub open_exactly : (old new : Held) (given : Option TabletMerge) (event : Event) (r : Reply SessionState TabletMerge) → is_open event.act ≡ true → StepsWith old given event r new → StepsExactly old given event (told_of r) (job_of r) new
+open_exactly old new given event r opens (inl x) = x.1
+open_exactly old new given event r opens (inr x) = absurd (cc (sym opens ∙ ap is_open x.1.1))
 
 -- an event that opens no session
 other_slots : (w : World) (j : List Move) (h : List Entry) (event : Event) (reply : Told) (ss : List (Option SessionState)) → is_open event.act ≡ false → SlotsAre j ss → SlotsAre (moves_by w.base (journal w h) (IsEvent event) reply ++ j) ss
@@ -148,22 +185,24 @@ other_slots w j h event (Ranges ranges) ss none_opens are = are
 other_slots w j h event (Rights r) ss none_opens are = are
 other_slots w j h event (Counted counts) ss none_opens are = are
 other_slots w j h event (Rows rows) ss none_opens are = are
+other_slots w j h event (Begun u) ss none_opens are = are
+other_slots w j h event Nothing ss none_opens are = are
 other_slots w j h event (Opened s) ss none_opens are = subst (λ (b : Bool). SlotsAre (cond b (Opening (session_list w.base (journal w h) event.act) ∷ []) [] ++ j) ss) (sym none_opens) are
 
-other_longer : (old new : Base) (os : Owners) (event : Event) (r : Reply SessionState) → is_open event.act ≡ false → Steps old event r new → Lengthens old os (IsEvent event) (told_of r) new os
-other_longer old new os event r none_opens steps w h refines stand legal = (
-  steps.refines w h refines,
-  own_more w h (IsEvent event) (told_of r) os os (other_slots w (moves_of w event.user h) h event (told_of r) (slots_of os event.user) none_opens (stand event.user)) (λ u away. refl) stand,
-  (legal, steps.answers w h refines h (λ opens. absurd (cc (sym none_opens ∙ opens)))),
-)
+event_longer : (old new : Held) (os : Owners) (jobs jobs' : List JobSlot) (event : Event) (reply : Told) → is_open event.act ≡ false → StepsIn old jobs event reply new jobs' → Lengthens (base_of old) os jobs (IsEvent event) reply (base_of new) os jobs'
+event_longer old new os jobs jobs' event reply none_opens steps w h refines stand are legal =
+    let l : Lengthened w h (IsEvent event) reply (base_of new) jobs' = steps_lengthen old new jobs jobs' event reply none_opens steps w h refines are in (
+      l.refines,
+      own_more w h (IsEvent event) reply os os (other_slots w (moves_of w event.user h) h event reply (slots_of os event.user) none_opens (stand event.user)) (λ u away. refl) stand,
+      l.jobs,
+      (legal, l.answers),
+    )
 
-pub runs_other : (old new : Held) (os : Owners) (event : Event) (r : Reply SessionState) (reply : Told) → is_open event.act ≡ false → Steps (base_of old) event r (base_of new) → StepsExactly old event (told_of r) new → reply ≡ told_of r → RunsOn old os (IsEvent event) reply new os
-runs_other old new os event r reply none_opens steps exact is =
-    let there : RunsOn old os (IsEvent event) (told_of r) new os = record { histories = other_longer (base_of old) (base_of new) os event r none_opens steps; exact = inl exact } in
-    subst (λ (x : Told). RunsOn old os (IsEvent event) x new os) (sym is) there
+pub runs_event : (old new : Held) (os : Owners) (jobs jobs' : List JobSlot) (event : Event) (reply : Told) → is_open event.act ≡ false → StepsIn old jobs event reply new jobs' → RunsOn old os jobs (IsEvent event) reply new os jobs'
+runs_event old new os jobs jobs' event reply none_opens steps = record { histories = event_longer old new os jobs jobs' event reply none_opens steps; exact = steps_exact old new jobs jobs' event reply steps }
 
 -- a session that is handed out is kept
-kept_slots : (w : World) (j : List Move) (h : List Entry) (event : Event) (r : Reply SessionState) (ss : List (Option SessionState)) → is_open event.act ≡ true → HandsOut r (session_list w.base (journal w h) event.act) → SlotsAre j ss
+kept_slots : (w : World) (j : List Move) (h : List Entry) (event : Event) (r : Reply SessionState TabletMerge) (ss : List (Option SessionState)) → is_open event.act ≡ true → HandsOut r (session_list w.base (journal w h) event.act) → SlotsAre j ss
     → SlotsAre (moves_by w.base (journal w h) (IsEvent event) (told_of r) ++ j) (kept_with ss (session_of r))
 kept_slots w j h event (Batch cells) ss opens hands are = are
 kept_slots w j h event Done ss opens hands are = are
@@ -172,6 +211,8 @@ kept_slots w j h event (Ranges ranges) ss opens hands are = are
 kept_slots w j h event (Rights x) ss opens hands are = are
 kept_slots w j h event (Counted counts) ss opens hands are = are
 kept_slots w j h event (Rows rows) ss opens hands are = are
+kept_slots w j h event (Begun u) ss opens hands are = are
+kept_slots w j h event Nothing ss opens hands are = are
 kept_slots w j h event (Opened s) ss opens hands are =
     let list : List Cell = session_list w.base (journal w h) event.act in
     let there : SlotsAre (Opening list ∷ j) (ss ++ Some s ∷ []) = subst (λ (x : SessionState). SlotsAre (Opening list ∷ j) (ss ++ Some x ∷ [])) (sym hands) (slots_opened j ss list are) in
@@ -180,30 +221,32 @@ kept_slots w j h event (Opened s) ss opens hands are =
 full_answer : (w : World) (h : List Entry) (event : Event) → is_open event.act ≡ true → is_full (moves_of w event.user h) ≡ true → IsAnswer w h h (IsEvent event) (Refused (TooLarge Sessions))
 unfolding answer
 full_answer w h event opens full =
-    subst (λ (x : Told). IsEventReply event.act x (Refused (TooLarge Sessions))) (sym ((λ i. cond (opens i && full i) (Refused (TooLarge Sessions)) (event_answer w.base (journal w h) (clock_at (clock_of w h) (IsEvent event)) event.user event.act)))) refl
+    subst (λ (x : Told). IsEventReply event.act x (Refused (TooLarge Sessions))) (sym ((λ i. cond (opens i && full i) (Refused (TooLarge Sessions)) (slotted (empty_slot (jobs_of h) event.act) (event_answer w.base (journal w h) (clock_at (clock_of w h) (IsEvent event)) event.user event.act))))) refl
 
 -- where the slots are full, where memory lacked, and where the core answered
-open_stays : (core : Base) (os os' : Owners) (event : Event) (x : Refusal) → is_open event.act ≡ true → IsNoEvent (IsEvent event) (Refused x) → ((u : List ℕ) → slots_of os' u ≡ slots_of os u)
-    → ((w : World) (h : List Entry) → OwnersRefine os w h → IsAnswer w h h (IsEvent event) (Refused x) ⊎ LacksMemory (IsEvent event) (Refused x)) → Lengthens core os (IsEvent event) (Refused x) core os'
-open_stays core os os' event x opens none_opens same answers w h refines stand legal = (
+open_stays : (core : Base) (os os' : Owners) (jobs : List JobSlot) (event : Event) (x : Refusal) → is_open event.act ≡ true → IsNoEvent (IsEvent event) (Refused x) → ((u : List ℕ) → slots_of os' u ≡ slots_of os u)
+    → ((w : World) (h : List Entry) → OwnersRefine os w h → IsAnswer w h h (IsEvent event) (Refused x) ⊎ LacksMemory (IsEvent event) (Refused x)) → Lengthens core os jobs (IsEvent event) (Refused x) core os' jobs
+open_stays core os os' jobs event x opens none_opens same answers w h refines stand are legal = (
   still w h core (IsEvent event) (Refused x) none_opens refines,
   own_more w h (IsEvent event) (Refused x) os os' (subst (λ (l : List (Option SessionState)). SlotsAre (moves_of w event.user h) l) (sym (same event.user)) (stand event.user)) (λ u away. same u) stand,
+  open_jobs w h event (Refused x) jobs opens are,
   (legal, answers w h stand),
 )
 
-open_answered : (old new : Base) (os os' : Owners) (event : Event) (r : Reply SessionState) → is_open event.act ≡ true → are_full (slots_of os event.user) ≡ false → Steps old event r new → slots_of os' event.user ≡ kept_with (slots_of os event.user) (session_of r)
-    → LeavesOthers event.user os os' → Lengthens old os (IsEvent event) (told_of r) new os'
-open_answered old new os os' event r opens room steps slots others w h refines stand legal =
+open_answered : (old new : Base) (os os' : Owners) (jobs : List JobSlot) (event : Event) (r : Reply SessionState TabletMerge) → is_open event.act ≡ true → are_full (slots_of os event.user) ≡ false → Steps old event r new → slots_of os' event.user ≡ kept_with (slots_of os event.user) (session_of r)
+    → LeavesOthers event.user os os' → Lengthens old os jobs (IsEvent event) (told_of r) new os' jobs
+open_answered old new os os' jobs event r opens room steps slots others w h refines stand are legal =
     let ss : List (Option SessionState) = slots_of os event.user in
     let own : SlotsAre (moves_by w.base (journal w h) (IsEvent event) (told_of r) ++ moves_of w event.user h) (kept_with ss (session_of r)) = kept_slots w (moves_of w event.user h) h event r ss opens (steps.hands w h refines) (stand event.user) in (
       steps.refines w h refines,
       own_more w h (IsEvent event) (told_of r) os os' (subst (λ (l : List (Option SessionState)). SlotsAre (moves_by w.base (journal w h) (IsEvent event) (told_of r) ++ moves_of w event.user h) l) (sym slots) own) others stand,
-      (legal, steps.answers w h refines h (λ opens. full_alike (moves_of w event.user h) ss (stand event.user) ∙ room)),
+      open_jobs w h event (told_of r) jobs opens are,
+      (legal, steps.answers w h refines h (λ opens. full_alike (moves_of w event.user h) ss (stand event.user) ∙ room, open_alone event.act opens)),
     )
 
 -- of the same slots for all, as of an owner who was added with none
-moved_on : (core new : Base) (os mid os' : Owners) (step : Step) (reply : Told) → ((u : List ℕ) → slots_of mid u ≡ slots_of os u) → Lengthens core mid step reply new os' → Lengthens core os step reply new os'
-moved_on core new os mid os' step reply same longer w h refines stand legal = longer w h refines (λ u. subst (λ (l : List (Option SessionState)). SlotsAre (moves_of w u h) l) (sym (same u)) (stand u)) legal
+moved_on : (core new : Base) (os mid os' : Owners) (jobs : List JobSlot) (step : Step) (reply : Told) → ((u : List ℕ) → slots_of mid u ≡ slots_of os u) → Lengthens core mid jobs step reply new os' jobs → Lengthens core os jobs step reply new os' jobs
+moved_on core new os mid os' jobs step reply same longer w h refines stand are legal = longer w h refines (λ u. subst (λ (l : List (Option SessionState)). SlotsAre (moves_of w u h) l) (sym (same u)) (stand u)) are legal
 
 same_slots : (mid os' : Owners) (user : List ℕ) (slots' : List (Option SessionState)) → slots_of os' user ≡ slots' → slots' ≡ slots_of mid user → LeavesOthers user mid os' → (u : List ℕ) → slots_of os' u ≡ slots_of mid u
 same_slots mid os' user slots' now same others u = go (bytes_eq user u) refl
@@ -212,28 +255,33 @@ same_slots mid os' user slots' now same others u = go (bytes_eq user u) refl
     go true is = subst (λ (n : List ℕ). slots_of os' n ≡ slots_of mid n) ((bytes_eq-Decides user u).0 is) (now ∙ same)
     go false away = others u away
 
-pub runs_open : (old new : Held) (os mid os' : Owners) (event : Event) (reply : Told) (slots slots' : List (Option SessionState)) → is_open event.act ≡ true → ((u : List ℕ) → slots_of mid u ≡ slots_of os u)
-    → slots_of mid event.user ≡ slots → slots_of os' event.user ≡ slots' → LeavesOthers event.user mid os' → OpensIn old slots event reply new slots' → RunsOn old os (IsEvent event) reply new os'
-runs_open old new os mid os' event reply slots slots' opens same was now others (inl full) =
+pub runs_open : (old new : Held) (os mid os' : Owners) (jobs : List JobSlot) (event : Event) (reply : Told) (slots slots' : List (Option SessionState)) → is_open event.act ≡ true → ((u : List ℕ) → slots_of mid u ≡ slots_of os u)
+    → slots_of mid event.user ≡ slots → slots_of os' event.user ≡ slots' → LeavesOthers event.user mid os' → OpensIn old slots event reply new slots' → RunsOn old os jobs (IsEvent event) reply new os' jobs
+runs_open old new os mid os' jobs event reply slots slots' opens same was now others (inl full) =
     let b : Base = base_of old in
     let r : Told = Refused (TooLarge Sessions) in
     let all : (u : List ℕ) → slots_of os' u ≡ slots_of mid u = same_slots mid os' event.user slots' now (full.3 ∙ sym was) others in
-    let longer : Lengthens b mid (IsEvent event) r b os' =
-    open_stays b mid os' event (TooLarge Sessions) opens tt all (λ w h stand. inl (full_answer w h event opens (full_alike (moves_of w event.user h) (slots_of mid event.user) (stand event.user) ∙ ap are_full was ∙ full.0))) in
-    let there : RunsOn old os (IsEvent event) r old os' = record { histories = moved_on b b os mid os' (IsEvent event) r same longer; exact = inr (tt, refl) } in
-    subst (λ (core : Held). RunsOn old os (IsEvent event) reply core os') (sym full.2) (subst (λ (x : Told). RunsOn old os (IsEvent event) x old os') (sym full.1) there)
-runs_open old new os mid os' event reply slots slots' opens same was now others (inr (inl lacks)) =
+    let longer : Lengthens b mid jobs (IsEvent event) r b os' jobs =
+    open_stays b mid os' jobs event (TooLarge Sessions) opens tt all (λ w h stand. inl (full_answer w h event opens (full_alike (moves_of w event.user h) (slots_of mid event.user) (stand event.user) ∙ ap are_full was ∙ full.0))) in
+    let there : RunsOn old os jobs (IsEvent event) r old os' jobs = record { histories = moved_on b b os mid os' jobs (IsEvent event) r same longer; exact = stays_exact old jobs (IsEvent event) r tt } in
+    subst (λ (core : Held). RunsOn old os jobs (IsEvent event) reply core os' jobs) (sym full.2) (subst (λ (x : Told). RunsOn old os jobs (IsEvent event) x old os' jobs) (sym full.1) there)
+runs_open old new os mid os' jobs event reply slots slots' opens same was now others (inr (inl lacks)) =
     let b : Base = base_of old in
     let r : Told = Refused NoMemory in
     let all : (u : List ℕ) → slots_of os' u ≡ slots_of mid u = same_slots mid os' event.user slots' now (lacks.2 ∙ sym was) others in
-    let longer : Lengthens b mid (IsEvent event) r b os' = nowhere_longer b mid os' event (open_takes event.act opens) all in
-    let there : RunsOn old os (IsEvent event) r old os' = record { histories = moved_on b b os mid os' (IsEvent event) r same longer; exact = inr (tt, refl) } in
-    subst (λ (core : Held). RunsOn old os (IsEvent event) reply core os') (sym lacks.1) (subst (λ (x : Told). RunsOn old os (IsEvent event) x old os') (sym lacks.0) there)
-runs_open old new os mid os' event reply slots slots' opens same was now others (inr (inr (room, (r, steps, exact, is, kept)))) =
-    let longer : Lengthens (base_of old) mid (IsEvent event) (told_of r) (base_of new) os' =
-    open_answered (base_of old) (base_of new) mid os' event r opens (ap are_full was ∙ room) steps (now ∙ kept ∙ ap (λ l. kept_with l (session_of r)) (sym was)) others in
-    let there : RunsOn old os (IsEvent event) (told_of r) new os' = record { histories = moved_on (base_of old) (base_of new) os mid os' (IsEvent event) (told_of r) same longer; exact = inl exact } in
-    subst (λ (x : Told). RunsOn old os (IsEvent event) x new os') (sym is) there
+    let longer : Lengthens b mid jobs (IsEvent event) r b os' jobs = nowhere_longer b mid os' jobs event opens all in
+    let there : RunsOn old os jobs (IsEvent event) r old os' jobs = record { histories = moved_on b b os mid os' jobs (IsEvent event) r same longer; exact = stays_exact old jobs (IsEvent event) r tt } in
+    subst (λ (core : Held). RunsOn old os jobs (IsEvent event) reply core os' jobs) (sym lacks.1) (subst (λ (x : Told). RunsOn old os jobs (IsEvent event) x old os' jobs) (sym lacks.0) there)
+runs_open old new os mid os' jobs event reply slots slots' opens same was now others (inr (inr (room, (r, steps, exact, is, kept)))) =
+    let did : StepsExactly old None event (told_of r) (job_of r) new = open_exactly old new None event r opens exact in
+    let none : job_of r ≡ None = no_job old new None event (told_of r) (job_of r) (open_begins_none event.act opens) did in
+    let longer : Lengthens (base_of old) mid jobs (IsEvent event) (told_of r) (base_of new) os' jobs =
+    open_answered (base_of old) (base_of new) mid os' jobs event r opens (ap are_full was ∙ room) steps (now ∙ kept ∙ ap (λ l. kept_with l (session_of r)) (sym was)) others in
+    let there : RunsOn old os jobs (IsEvent event) (told_of r) new os' jobs = record {
+      histories = moved_on (base_of old) (base_of new) os mid os' jobs (IsEvent event) (told_of r) same longer;
+      exact = alone_exact old new jobs event (told_of r) (open_alone event.act opens) (subst (λ (o : Option TabletMerge). StepsExactly old None event (told_of r) o new) none did);
+    } in
+    subst (λ (x : Told). RunsOn old os jobs (IsEvent event) x new os' jobs) (sym is) there
 
 -- ---- the list of entries
 entries_push : (steps : List Step) (replies : List Told) (step : Step) (reply : Told) → length steps ≡ length replies
@@ -256,3 +304,14 @@ owners_none w user = slots_none
 pub after_none : (w : World) → world_after w [] ≡ w
 unfolding journal clock_of
 after_none w = refl
+
+pub none_before : (jobs : List JobSlot) → jobs ≡ [] → JobsAre (jobs_of []) jobs
+unfolding jobs_of
+none_before jobs none = subst (λ (ss : List JobSlot). JobsAre [] ss) (sym none) jobs_none
+
+-- a chain goes on by one more entry
+pub goes_on_chain : (first : Held) (merges : List TabletMerge) (core new : Held) (jobs jobs' : List JobSlot) (es : List Entry) (e : Entry) → HoldMerges jobs merges → IsChain EntryGoes (starting first) es (record { held = core; begun = merges })
+    → GoesExactly core jobs (e ∷ []) new jobs' → (merges' : List TabletMerge) × HoldMerges jobs' merges' × IsChain EntryGoes (starting first) (e ∷ es) (record { held = new; begun = merges' })
+goes_on_chain first merges core new jobs jobs' es e hold chain goes =
+    let last = goes merges hold in
+    (last.0, last.1, chain_join EntryGoes (starting first) (record { held = core; begun = merges }) (record { held = new; begun = last.0 }) es (e ∷ []) chain last.2)

@@ -1,11 +1,11 @@
 -- Splits of a table's tablets, and end rows that are told.
-use Rattle.std.proofs.Common.{◌≡◌, inl, ℕ, List, [], ◌∷◌, true, false, refl, sym, ◌∙◌, ap, subst, length, Result, Ok, Err}
+use Rattle.std.proofs.Common.{◌≡◌, inl, ℕ, List, [], ◌∷◌, true, false, refl, sym, ◌∙◌, ap, subst, length, Option, None, Result, Ok, Err}
 use Rattle.std.specs.Prelude.{ℤ, IfOk, OnOk, OnErr}
 use Rattle.tab_key.specs.Records.{Cell}
 use Rattle.tab_key.specs.declared.part.Part.TheVariants.{Row}
 use Rattle.tab_mutation.specs.Shape.{first_some, when, is_too_long}
 use Rattle.tab_cells.specs.SessionState.{SessionState}
-use Rattle.tab_store.specs.Tablets.{Tablet}
+use Rattle.tab_store.specs.Tablets.{Tablet, next_number}
 use Rattle.tab_store.specs.ByRow.{ends_of}
 use Rattle.tab_store.specs.Splits.{splits, halves}
 use Rattle.tab_store.specs.SplitType.{Split}
@@ -14,14 +14,15 @@ use Rattle.tab_history.specs.declared.event.Act.{Act}
 use Rattle.tab_history.specs.declared.event.Act.TheVariants as act
 use Rattle.tab_history.specs.declared.reply.Refusal.TheVariants.{NoMemory, TooLarge}
 use Rattle.tab_history.specs.declared.reply.Reply.{Reply}
-use Rattle.tab_history.specs.declared.reply.Reply.TheVariants.{Done, Refused, Opened, Batch, Ranges, Rights, Counted, Rows}
-use Rattle.tab_history.specs.Answers.{told, told_of}
+use Rattle.tab_history.specs.declared.reply.Reply.TheVariants.{Done, Refused, Opened, Batch, Ranges, Rights, Counted, Rows, Begun, Nothing}
+use Rattle.tab_history.specs.Answers.{Told, told, told_of, job_of}
 use Rattle.tab_history.specs.Checks.{standing, exists_in, user_named, row_checks, own_checks}
 use Rattle.tab_history.specs.Changes.{changes_of}
 use Rattle.tab_history.specs.Readings.{settings_of}
 use Rattle.tab_history.specs.Legal.{takes_memory}
+use Rattle.tab_store.specs.Parts.{TabletMerge}
 use Rattle.tab_store.specs.Stores.{HeldTable, Held, RiseByName, base_of, tablets_in}
-use Rattle.tab_store.specs.Stepping.{TabletWork, Splitting, Halving, On, work_of, lays, told_split, told_by, laid_by, told_exactly, laid_exactly, laid_told}
+use Rattle.tab_store.specs.Stepping.{TabletWork, TableWork, Splitting, Halving, On, work_of, lays, told_split, told_by, laid_by, told_exactly, laid_exactly, laid_told, job_by, handed, tablets_numbered, tablet_told, job_told}
 use Rattle.tab_store.specs.Tables.{with_tablets, table_at, changed_table, tablets_of}
 use Rattle.tab_store.proofs.Changed.{tablets_read, settings_kept, table_split, table_halved, table_listed}
 use Rattle.tab_core.specs.Stepping.{HandsOut, Acts, Becomes, changes_told, own_answer, IsCore}
@@ -29,7 +30,7 @@ use Rattle.tab_core.proofs.Acting.{becomes_alike, knows_alike, own_refused, lack
 
 -- ---- what is told of a split
 -- it hands out no session
-none_handed : (r : Reply SessionState) (s : Split) (all : List Cell) → told_of r ≡ told_split Done s → HandsOut r all
+none_handed : (r : Reply SessionState TabletMerge) (s : Split) (all : List Cell) → told_of r ≡ told_split Done s → HandsOut r all
 none_handed (Opened u) split.Done all e = absurd (cc)
 none_handed (Opened u) split.Present all e = absurd (cc)
 none_handed (Opened u) split.Small all e = absurd (cc)
@@ -42,6 +43,45 @@ none_handed (Ranges ranges) s all e = tt
 none_handed (Rights rights) s all e = tt
 none_handed (Counted counts) s all e = tt
 none_handed (Rows rows) s all e = tt
+none_handed (Begun m) s all e = tt
+none_handed Nothing s all e = tt
+
+-- and no job
+none_begun : (r : Reply SessionState TabletMerge) (s : Split) → told_of r ≡ told_split Done s → job_of r ≡ None
+none_begun (Begun m) split.Done e = absurd (cc)
+none_begun (Begun m) split.Present e = absurd (cc)
+none_begun (Begun m) split.Small e = absurd (cc)
+none_begun (Begun m) split.OneRow e = absurd (cc)
+none_begun (Begun m) split.Full e = absurd (cc)
+none_begun Done s e = refl
+none_begun (Refused r) s e = refl
+none_begun (Opened u) s e = refl
+none_begun (Batch cells) s e = refl
+none_begun (Ranges ranges) s e = refl
+none_begun (Rights rights) s e = refl
+none_begun (Counted counts) s e = refl
+none_begun (Rows rows) s e = refl
+none_begun Nothing s e = refl
+
+-- no job is numbered
+same_jobs : (s : Split) (n : ℕ) → n ≡ job_told (told_split Done s) n
+same_jobs split.Done n = refl
+same_jobs split.Present n = refl
+same_jobs split.Small n = refl
+same_jobs split.OneRow n = refl
+same_jobs split.Full n = refl
+
+never_handed : (s : Split) (o : Option TabletMerge) → None ≡ handed (told_split Done s) o
+never_handed split.Done o = refl
+never_handed split.Present o = refl
+never_handed split.Small o = refl
+never_handed split.OneRow o = refl
+never_handed split.Full o = refl
+
+-- work that numbers as many tablets
+numbered_alike : (r : Told) (w w' : TableWork) (n : ℕ) → tablets_numbered w n ≡ tablets_numbered w' n → tablet_told r w n ≡ tablet_told r w' n
+numbered_alike Done w w' n e = e
+numbered_alike _ w w' n e = refl
 
 -- histories read no change
 none_changed : (now : ℤ) (user : List ℕ) (a : Act) (s : Split) → changes_of now user a ≡ [] → changes_told now user a (told_split Done s) ≡ []
@@ -52,7 +92,7 @@ none_changed now user a split.OneRow none = refl
 none_changed now user a split.Full none = refl
 
 -- memory didn't lack
-laid_so : (h : Held) (now : ℤ) (a : Act) (s : Split) (q : List ℕ) → laid_exactly h now a Done q ≡ laid_told (told_split Done s) h now a Done q
+laid_so : (h : Held) (now : ℤ) (a : Act) (s : Split) (q : List ℕ) → laid_exactly h now None a Done q ≡ laid_told (told_split Done s) h now None a Done q
 laid_so h now a split.Done q = refl
 laid_so h now a split.Present q = refl
 laid_so h now a split.Small q = refl
@@ -67,33 +107,45 @@ pub record SplitSo (t : List ℕ) (f : List Tablet → Split × List Tablet) (ts
   pub told_so : told ≡ (f (tablets_of (table_at ts t))).0
   pub changed : (q : List ℕ) → table_at new q ≡ changed_table t (with_tablets (λ us. (f us).1)) ts q
 
--- an act that splits so
-pub record Splits (a : Act) (t : List ℕ) (work : TabletWork) (f : List Tablet → Split × List Tablet) : Type 0 where
+-- an act that splits so in this core
+pub record Splits (h : Held) (a : Act) (t : List ℕ) (work : TabletWork) (f : List Tablet → Split × List Tablet) : Type 0 where
   pub takes : takes_memory a ≡ true
-  pub works : work_of a ≡ On t work
+  pub works : work_of None a ≡ On t work
   pub changes : (now : ℤ) (user : List ℕ) → changes_of now user a ≡ []
-  pub tells : (h : Held) (now : ℤ) → told_by h now (On t work) Done ≡ told_split Done (f (tablets_in h t)).0
-  pub lies : (h new : Held) (now : ℤ) → ((q : List ℕ) → table_at new.tables q ≡ changed_table t (with_tablets (λ us. (f us).1)) h.tables q) → (q : List ℕ) → tablets_in new q ≡ laid_by h now (On t work) Done q
+  pub tells : (now : ℤ) → told_by h now (On t work) Done ≡ told_split Done (f (tablets_in h t)).0
+  pub lies : (new : Held) (now : ℤ) → ((q : List ℕ) → table_at new.tables q ≡ changed_table t (with_tablets (λ us. (f us).1)) h.tables q) → (q : List ℕ) → tablets_in new q ≡ laid_by h now (On t work) Done q
+  pub numbers : tablets_numbered (On t work) h.tablet ≡ next_number (next_number h.tablet)
 
-pub adds_split : (t row : List ℕ) → Splits (act.AddSplit t row) t (Splitting row) (splits row)
+pub adds_split : (h : Held) (t row : List ℕ) → Splits h (act.AddSplit t row) t (Splitting row) (splits row h.tablet)
 unfolding lays
-adds_split t row = record { takes = refl; works = refl; changes = λ now user. refl; tells = λ h now. refl; lies = λ h new now. table_split h new t now Done row }
+adds_split h t row = record { takes = refl; works = refl; changes = λ now user. refl; tells = λ now. refl; lies = λ new now. table_split h new t now Done row; numbers = refl }
 
-pub splits_by_size : (t row : List ℕ) (limit : ℕ) → Splits (act.SplitBySize t row limit) t (Halving row limit) (halves row limit)
+pub splits_by_size : (h : Held) (t row : List ℕ) (limit : ℕ) → Splits h (act.SplitBySize t row limit) t (Halving row limit) (halves row limit h.tablet)
 unfolding lays
-splits_by_size t row limit = record { takes = refl; works = refl; changes = λ now user. refl; tells = λ h now. refl; lies = λ h new now. table_halved h new t now Done row limit }
+splits_by_size h t row limit = record { takes = refl; works = refl; changes = λ now user. refl; tells = λ now. refl; lies = λ new now. table_halved h new t now Done row limit; numbers = refl }
 
-module _ (h : Held) (now : ℤ) (user t : List ℕ) (a : Act) (work : TabletWork) (f : List Tablet → Split × List Tablet) (core : IsCore h) (is : Splits a t work f) (passes : Done ≡ own_answer (base_of h) now user a) where
-  split_done : (ts : List HeldTable) (s : Split) (reply : Reply SessionState) → SplitSo t f h.tables ts s → told_of reply ≡ told_split Done s → Acts (own_answer (base_of h) now user a) h now user a reply (record h { tables = ts })
-  split_done ts s reply after told =
-      let new : Held = record h { tables = ts } in
+-- the number of the next tablet behind what is told of a split
+abbrev pub NumbersSplit : Reply SessionState TabletMerge → ℕ → ℕ → Type 0
+NumbersSplit reply n n' = (t row : List ℕ) → n' ≡ tablet_told (told_of reply) (On t (Splitting row)) n
+
+module _ (h : Held) (now : ℤ) (user t : List ℕ) (a : Act) (work : TabletWork) (f : List Tablet → Split × List Tablet) (core : IsCore h) (is : Splits h a t work f) (passes : Done ≡ own_answer (base_of h) now user a) where
+  numbers_done : (reply : Reply SessionState TabletMerge) (n : ℕ) → NumbersSplit reply h.tablet n → n ≡ tablet_told (told_of reply) (work_of None a) h.tablet
+  numbers_done reply n numbered = numbered t [] ∙ numbered_alike (told_of reply) (On t (Splitting [])) (On t work) h.tablet (sym is.numbers) ∙ ap (λ w. tablet_told (told_of reply) w h.tablet) (sym is.works)
+
+  split_done : (ts : List HeldTable) (n : ℕ) (s : Split) (reply : Reply SessionState TabletMerge) → SplitSo t f h.tables ts s → told_of reply ≡ told_split Done s → NumbersSplit reply h.tablet n
+      → Acts (own_answer (base_of h) now user a) h now None user a reply (record h { tables = ts; tablet = n })
+  split_done ts n s reply after told numbered =
+      let new : Held = record h { tables = ts; tablet = n } in
       let settings : (q : List ℕ) → settings_of (base_of new) [] q ≡ settings_of (base_of h) [] q = settings_kept h new t (with_tablets (λ us. (f us).1)) (λ x. refl) after.changed in
       let none : changes_told now user a (told_of reply) ≡ [] = ap (changes_told now user a) told ∙ none_changed now user a s (is.changes now user) in
       record {
         exact = record {
-          answers = inl (told ∙ ap (told_split Done) (after.told_so ∙ ap (λ us. (f us).0) (sym (tablets_read h t))) ∙ sym (is.tells h now) ∙ ap (λ w. told_by h now w Done) (sym is.works) ∙ ap (told_exactly h now a) passes);
-          tablets = λ q. is.lies h new now after.changed q ∙ ap (λ w. laid_by h now w Done q) (sym is.works) ∙ laid_so h now a s q ∙ ap (λ r. laid_told r h now a Done q) (sym told) ∙ ap (λ p. laid_told (told_of reply) h now a p q) passes;
+          answers = inl (told ∙ ap (told_split Done) (after.told_so ∙ ap (λ us. (f us).0) (sym (tablets_read h t))) ∙ sym (is.tells now) ∙ ap (λ w. told_by h now w Done) (sym is.works) ∙ ap (told_exactly h now None a) passes);
+          hands = none_begun reply s told ∙ never_handed s (job_by h now (work_of None a)) ∙ ap (λ r. handed r (job_by h now (work_of None a))) (sym told);
+          tablets = λ q. is.lies new now after.changed q ∙ ap (λ w. laid_by h now w Done q) (sym is.works) ∙ laid_so h now a s q ∙ ap (λ r. laid_told r h now None a Done q) (sym told) ∙ ap (λ p. laid_told (told_of reply) h now None a p q) passes;
           names = after.names;
+          tablet = numbers_done reply n numbered;
+          number = same_jobs s h.job ∙ ap (λ r. job_told r h.job) (sym told);
         };
         becomes = subst (λ j. Becomes (base_of h) j (base_of new)) (sym none) (becomes_alike h ts after.count settings);
         hands = none_handed reply s _ told;
@@ -101,12 +153,13 @@ module _ (h : Held) (now : ℤ) (user t : List ℕ) (a : Act) (work : TabletWork
       }
 
   -- whether there was memory for it or not
-  pub splits_or_lacks : {E : Type 0} (ts : List HeldTable) (made : Result Split E) (reply : Reply SessionState) → IfOk made (SplitSo t f h.tables ts) → OnErr made (ts ≡ h.tables) → IfOk made (λ s. told_of reply ≡ told_split Done s) → OnErr made (reply ≡ Refused NoMemory)
-      → Acts (own_answer (base_of h) now user a) h now user a reply (record h { tables = ts })
-  splits_or_lacks ts (Ok s) reply after same told err = split_done ts s reply after told
-  splits_or_lacks ts (Err e) reply after same told err =
-      subst (λ r. Acts (own_answer (base_of h) now user a) h now user a r (record h { tables = ts })) (sym err)
-      (subst (λ (us : List HeldTable). Acts (own_answer (base_of h) now user a) h now user a (Refused NoMemory) (record h { tables = us })) (sym same) (lacked (own_answer (base_of h) now user a) h now user a is.takes core))
+  pub splits_or_lacks : {E : Type 0} (ts : List HeldTable) (n : ℕ) (made : Result Split E) (reply : Reply SessionState TabletMerge) → IfOk made (SplitSo t f h.tables ts) → OnErr made (ts ≡ h.tables) → IfOk made (λ s. told_of reply ≡ told_split Done s)
+      → OnErr made (reply ≡ Refused NoMemory) → NumbersSplit reply h.tablet n → Acts (own_answer (base_of h) now user a) h now None user a reply (record h { tables = ts; tablet = n })
+  splits_or_lacks ts n (Ok s) reply after same told err numbered = split_done ts n s reply after told numbered
+  splits_or_lacks ts n (Err e) reply after same told err numbered =
+      let kept : n ≡ h.tablet = numbered t [] ∙ ap (λ r. tablet_told (told_of r) (On t (Splitting [])) h.tablet) err in
+      subst (λ r. Acts (own_answer (base_of h) now user a) h now None user a r (record h { tables = ts; tablet = n })) (sym err)
+      (subst (λ (new : Held). Acts (own_answer (base_of h) now user a) h now None user a (Refused NoMemory) new) (λ i. record h { tables = sym same i; tablet = sym kept i }) (lacked (own_answer (base_of h) now user a) h now user a is.takes core))
 
 -- what a call that splits so ensures
 pub split_so : {E : Type 0} (t : List ℕ) (f : List Tablet → Split × List Tablet) (ts new : List HeldTable) (made : Result Split E) → RiseByName new → length new ≡ length ts → IfOk made (λ s. s ≡ (f (tablets_of (table_at ts t))).0)
@@ -117,7 +170,7 @@ split_so t f ts new (Err e) names count told changed = tt
 -- ---- the row
 -- it is too long
 pub row_refused : (h : Held) (now : ℤ) (user row : List ℕ) (a : Act) → IsCore h → own_checks (standing (base_of h) [] user) (exists_in (base_of h) [] (user_named a)) now a ≡ row_checks row → is_too_long row ≡ true
-    → Acts (own_answer (base_of h) now user a) h now user a (Refused (TooLarge Row)) h
+    → Acts (own_answer (base_of h) now user a) h now None user a (Refused (TooLarge Row)) h
 row_refused h now user row a core checks long = own_refused h now user a (TooLarge Row) core (ap first_some checks ∙ ap (λ b. first_some (when b (TooLarge Row) ∷ [])) long)
 
 -- or not
@@ -128,13 +181,16 @@ pub halve_passes : (h : Held) (now : ℤ) (user t row : List ℕ) (limit : ℕ) 
 halve_passes h now user t row limit short = ap (λ b. told (first_some (when b (TooLarge Row) ∷ [])) Done) (sym short)
 
 -- ---- end rows
-pub ends_told : (h : Held) (now : ℤ) (user t : List ℕ) (reply : Reply SessionState) → IsCore h → reply ≡ Rows (ends_of (tablets_of (table_at h.tables t))) → Acts (own_answer (base_of h) now user (act.Splits t)) h now user (act.Splits t) reply h
+pub ends_told : (h : Held) (now : ℤ) (user t : List ℕ) (reply : Reply SessionState TabletMerge) → IsCore h → reply ≡ Rows (ends_of (tablets_of (table_at h.tables t))) → Acts (own_answer (base_of h) now user (act.Splits t)) h now None user (act.Splits t) reply h
 unfolding lays
-ends_told h now user t reply core is = subst (λ r. Acts (own_answer (base_of h) now user (act.Splits t)) h now user (act.Splits t) r h) (sym is) (record {
+ends_told h now user t reply core is = subst (λ r. Acts (own_answer (base_of h) now user (act.Splits t)) h now None user (act.Splits t) r h) (sym is) (record {
   exact = record {
     answers = inl (ap (λ ts. Rows (ends_of ts)) (sym (tablets_read h t)));
+    hands = refl;
     tablets = table_listed h h t now Done (λ q. refl);
     names = core.store.names;
+    tablet = refl;
+    number = refl;
   };
   becomes = becomes_alike h h.tables refl (λ q. refl);
   hands = tt;

@@ -19,6 +19,7 @@ use Rattle.tab_history.specs.Checks.{standing}
 use Rattle.tab_history.specs.Answers.{told, numbered}
 use Rattle.tab_store.specs.Stores.{HeldTable, Held, RiseByName, base_of}
 use Rattle.tab_store.specs.Stepping.{Aside, Making, Dropping}
+use Rattle.tab_store.specs.Tablets.{next_number as next_tablet}
 use Rattle.tab_store.specs.Tables.{TableState, made_table, with_constraints, table_at, changed_table, settings_at}
 use Rattle.tab_store.proofs.Changed.{settings_read, count_read, tablets_kept, settings_constrained, settings_made, settings_dropped}
 use Rattle.tab_store.proofs.Changed as changed
@@ -35,13 +36,13 @@ there_alike h t = ap is_some (settings_read h t) ∙ go (table_at h.tables t)
 
 -- ---- constraints
 pub constraints_set : (h : Held) (ts : List HeldTable) (now : ℤ) (user t : List ℕ) (cs : List Constraint) → IsCore h → RiseByName ts → length ts ≡ length h.tables → ((q : List ℕ) → table_at ts q ≡ changed_table t (with_constraints cs) h.tables q)
-    → Acts (own_answer (base_of h) now user (act.SetConstraints t cs)) h now user (act.SetConstraints t cs) Done (record h { tables = ts })
+    → Acts (own_answer (base_of h) now user (act.SetConstraints t cs)) h now None user (act.SetConstraints t cs) Done (record h { tables = ts })
 unfolding readings next_number has_user user_count held_auths has_system_right has_table_right table_count settings_of
 constraints_set h ts now user t cs core names count sets =
     let new : Held = record h { tables = ts } in
     let settings : (q : List ℕ) → settings_of (base_of new) [] q ≡ cond (bytes_eq t q) (constrained cs (settings_of (base_of h) [] q)) (settings_of (base_of h) [] q) = settings_constrained h new t cs sets in
     record {
-      exact = done_exactly h new now (act.SetConstraints t cs) Done Aside refl refl refl (tablets_kept h new t (with_constraints cs) (λ s. refl) sets) names;
+      exact = done_exactly h new now (act.SetConstraints t cs) Done Aside refl refl refl (tablets_kept h new t (with_constraints cs) (λ s. refl) sets) names refl refl;
       becomes = becomes h h.next h.policy ts (changes_of now user (act.SetConstraints t cs)) (table_exists h.policy) refl refl (count ∙ sym (count_read h)) settings;
       hands = tt;
       knows = λ q. core.knows q ∙ sym (ap is_some (settings q) ∙ go (bytes_eq t q) (settings_of (base_of h) [] q));
@@ -54,13 +55,13 @@ constraints_set h ts now user t cs core names count sets =
 
 -- ---- a table made
 pub table_exists_already : (h : Held) (now : ℤ) (user t : List ℕ) (time : TimeMode) (v : ℕ) → IsCore h → is_some (table_at h.tables t) ≡ true
-    → Acts (own_answer (base_of h) now user (act.CreateTable t time v)) h now user (act.CreateTable t time v) (Refused (TableExists t)) h
+    → Acts (own_answer (base_of h) now user (act.CreateTable t time v)) h now None user (act.CreateTable t time v) (Refused (TableExists t)) h
 unfolding standing
 table_exists_already h now user t time v core there = own_refused h now user (act.CreateTable t time v) (TableExists t) core (ap (λ x. first_some (when x (TableExists t) ∷ [])) (there_alike h t ∙ there))
 
 -- where the names are free, and there are as many tables as there may be
 pub tables_used_up : (h : Held) (now : ℤ) (user t : List ℕ) (time : TimeMode) (v : ℕ) → IsCore h → is_some (table_at h.tables t) ≡ false → nat_le 4294967295 (length h.tables) ≡ true
-    → Acts (own_answer (base_of h) now user (act.CreateTable t time v)) h now user (act.CreateTable t time v) (Refused (TooLarge Numbers)) h
+    → Acts (own_answer (base_of h) now user (act.CreateTable t time v)) h now None user (act.CreateTable t time v) (Refused (TooLarge Numbers)) h
 unfolding standing
 tables_used_up h now user t time v core absent full = refused (own_answer (base_of h) now user (act.CreateTable t time v)) h now user (act.CreateTable t time v) (TooLarge Numbers) core
     (inl (sym (λ i. told (first_some (when ((there_alike h t ∙ absent) i) (TableExists t) ∷ [])) (numbered ((ap (nat_le 4294967295) (count_read h) ∙ full) i) Done))))
@@ -105,19 +106,19 @@ made_by old new user t known made = made ∙ ap (λ b. record (readings old) {
 }) known
 
 pub table_made : (h : Held) (p : State) (ts : List HeldTable) (now : ℤ) (user t : List ℕ) (time : TimeMode) (v : ℕ) → IsCore h → is_some (table_at h.tables t) ≡ false → nat_le 4294967295 (length h.tables) ≡ false → RiseByName ts
-    → length ts ≡ cond (is_some (table_at h.tables t)) (length h.tables) (length h.tables + 1) → ((q : List ℕ) → table_at ts q ≡ cond (bytes_eq t q) (Some (made_table time v)) (table_at h.tables q))
+    → length ts ≡ cond (is_some (table_at h.tables t)) (length h.tables) (length h.tables + 1) → ((q : List ℕ) → table_at ts q ≡ cond (bytes_eq t q) (Some (made_table time v h.tablet)) (table_at h.tables q))
     → readings p ≡ record (readings h.policy) {
       rights = λ n x s. cond (bytes_eq t s) (bytes_eq user n) (table_granted h.policy n x s);
       tables = λ s. cond (bytes_eq t s) true (table_exists h.policy s);
     }
-    → Acts (own_answer (base_of h) now user (act.CreateTable t time v)) h now user (act.CreateTable t time v) Done (record h { policy = p; tables = ts })
+    → Acts (own_answer (base_of h) now user (act.CreateTable t time v)) h now None user (act.CreateTable t time v) Done (record h { policy = p; tables = ts; tablet = next_tablet h.tablet })
 unfolding standing readings next_number has_user user_count held_auths has_system_right has_table_right table_count settings_of
 table_made h p ts now user t time v core absent room names count made read =
-    let new : Held = record h { policy = p; tables = ts } in
-    let settings : (q : List ℕ) → settings_of (base_of new) [] q ≡ cond (bytes_eq t q) (Some (made_with time v)) (settings_of (base_of h) [] q) = settings_made h new t time v made in
+    let new : Held = record h { policy = p; tables = ts; tablet = next_tablet h.tablet } in
+    let settings : (q : List ℕ) → settings_of (base_of new) [] q ≡ cond (bytes_eq t q) (Some (made_with time v)) (settings_of (base_of h) [] q) = settings_made h new t time v h.tablet made in
     record {
       exact = done_exactly h new now (act.CreateTable t time v) (own_answer (base_of h) now user (act.CreateTable t time v)) (Making t) refl
-          (sym (λ i. told (first_some (when ((there_alike h t ∙ absent) i) (TableExists t) ∷ [])) (numbered ((ap (nat_le 4294967295) (count_read h) ∙ room) i) Done))) refl (changed.table_made h new t now Done time v made) names;
+          (sym (λ i. told (first_some (when ((there_alike h t ∙ absent) i) (TableExists t) ∷ [])) (numbered ((ap (nat_le 4294967295) (count_read h) ∙ room) i) Done))) refl (changed.table_made h new t now Done time v made) names refl refl;
       becomes = becomes h h.next p ts (changes_of now user (act.CreateTable t time v)) (λ s. cond (bytes_eq t s) true (table_exists h.policy s)) refl
           (read ∙ (λ i. record (readings h.policy) { rights = λ n x s. rights_made user t n s x (table_granted h.policy n x s) i; tables = λ s. cond (bytes_eq t s) true (table_exists h.policy s) }))
           (count ∙ ap (λ x. cond x (length h.tables) (length h.tables + 1)) absent ∙ ap (λ n. n + 1) (sym (count_read h))) settings;
@@ -140,13 +141,13 @@ pub table_dropped : (h : Held) (p : State) (ts : List HeldTable) (now : ℤ) (us
       rights = λ n x s. cond (bytes_eq t s) false (table_granted h.policy n x s);
       tables = λ s. cond (bytes_eq t s) false (table_exists h.policy s);
     }
-    → Acts (own_answer (base_of h) now user (act.DropTable t)) h now user (act.DropTable t) Done (record h { policy = p; tables = ts })
+    → Acts (own_answer (base_of h) now user (act.DropTable t)) h now None user (act.DropTable t) Done (record h { policy = p; tables = ts })
 unfolding readings next_number has_user user_count held_auths has_system_right has_table_right table_count settings_of
 table_dropped h p ts now user t core admitted names count dropped read =
     let new : Held = record h { policy = p; tables = ts } in
     let settings : (q : List ℕ) → settings_of (base_of new) [] q ≡ cond (bytes_eq t q) None (settings_of (base_of h) [] q) = settings_dropped h new t dropped in
     record {
-      exact = done_exactly h new now (act.DropTable t) Done (Dropping t) refl refl refl (changed.table_dropped h new t now Done dropped) names;
+      exact = done_exactly h new now (act.DropTable t) Done (Dropping t) refl refl refl (changed.table_dropped h new t now Done dropped) names refl refl;
       becomes = becomes h h.next p ts (changes_of now user (act.DropTable t)) (λ s. cond (bytes_eq t s) false (table_exists h.policy s)) refl read
           (count ∙ ap (λ x. cond x (length h.tables - 1) (length h.tables)) (dropped_is h user t admitted) ∙ ap (λ n. n - 1) (sym (count_read h))) settings;
       hands = tt;

@@ -50,7 +50,7 @@ abbrev pub Checks : List (List ℕ) → ℤ → List ℕ → Mutation → List H
 Checks auths now t m ts nx o = (o ≡ first_some (write_checks (settings_at (table_at ts t)) auths now m nx)) ⊎ (o ≡ Some NoMemory)
 
 write_refused : (h : Held) (now : ℤ) (user t : List ℕ) (m : Mutation) (auths : List (List ℕ)) (r : Refusal) → IsCore h → auths_of h.policy user ≡ auths → Checks auths now t m h.tables h.next (Some r)
-    → Acts (own_answer (base_of h) now user (act.Write t m)) h now user (act.Write t m) (Refused r) h
+    → Acts (own_answer (base_of h) now user (act.Write t m)) h now None user (act.Write t m) (Refused r) h
 write_refused h now user t m auths r core held fails = refused (own_answer (base_of h) now user (act.Write t m)) h now user (act.Write t m) r core (go fails)
   where
     go : Checks auths now t m h.tables h.next (Some r) → (Refused r ≡ own_answer (base_of h) now user (act.Write t m)) ⊎ ((true ≡ true) × (r ≡ NoMemory))
@@ -68,13 +68,13 @@ pub record Wrote (t : List ℕ) (m : Mutation) (now : ℤ) (next : ℕ) (ts new 
   pub changed : (q : List ℕ) → table_at new q ≡ changed_table t (written_at m now next) ts q
 
 write_done : (h : Held) (ts : List HeldTable) (now : ℤ) (user t : List ℕ) (m : Mutation) (auths : List (List ℕ)) → IsCore h → auths_of h.policy user ≡ auths → Checks auths now t m h.tables h.next None → Wrote t m now h.next h.tables ts
-    → Acts (own_answer (base_of h) now user (act.Write t m)) h now user (act.Write t m) Done (record h { next = h.next + 1; tables = ts })
+    → Acts (own_answer (base_of h) now user (act.Write t m)) h now None user (act.Write t m) Done (record h { next = h.next + 1; tables = ts })
 unfolding lays readings next_number has_user user_count held_auths has_system_right has_table_right table_count settings_of
 write_done h ts now user t m auths core held passes after =
     let new : Held = record h { next = h.next + 1; tables = ts } in
     let settings : (q : List ℕ) → settings_of (base_of (record h { tables = ts })) [] q ≡ settings_of (base_of h) [] q = settings_kept h (record h { tables = ts }) t (written_at m now h.next) (λ s. refl) after.changed in
     record {
-      exact = done_exactly h new now (act.Write t m) (own_answer (base_of h) now user (act.Write t m)) (On t (Writing m)) refl (go passes ∙ sym (own_write h now user t m auths held)) refl (table_written h new t now Done m after.changed) after.names;
+      exact = done_exactly h new now (act.Write t m) (own_answer (base_of h) now user (act.Write t m)) (On t (Writing m)) refl (go passes ∙ sym (own_write h now user t m auths held)) refl (table_written h new t now Done m after.changed) after.names refl refl;
       becomes = becomes h (h.next + 1) h.policy ts (changes_of now user (act.Write t m)) (table_exists h.policy) refl refl (after.count ∙ sym (count_read h)) settings;
       hands = tt;
       knows = knows_alike h ts core settings;
@@ -87,13 +87,13 @@ write_done h ts now user t m auths core held passes after =
 -- ---- the same of whichever core has these tables and this next number
 pub refuses : (auths : List (List ℕ)) (now : ℤ) (t : List ℕ) (m : Mutation) (ts : List HeldTable) (nx : ℕ) (r : Refusal) → Checks auths now t m ts nx (Some r) → ActsOnTables auths now (act.Write t m) ts nx (Refused r) ts nx
 refuses auths now t m ts nx r fails h user core tables next held =
-    subst (λ (us : List HeldTable). Acts (own_answer (base_of h) now user (act.Write t m)) h now user (act.Write t m) (Refused r) (record h { next = nx; tables = us })) tables
-    (subst (λ (n : ℕ). Acts (own_answer (base_of h) now user (act.Write t m)) h now user (act.Write t m) (Refused r) (record h { next = n })) next
+    subst (λ (us : List HeldTable). Acts (own_answer (base_of h) now user (act.Write t m)) h now None user (act.Write t m) (Refused r) (record h { next = nx; tables = us })) tables
+    (subst (λ (n : ℕ). Acts (own_answer (base_of h) now user (act.Write t m)) h now None user (act.Write t m) (Refused r) (record h { next = n })) next
     (write_refused h now user t m auths r core held (subst (λ (n : ℕ). Checks auths now t m h.tables n (Some r)) (sym next) (subst (λ (us : List HeldTable). Checks auths now t m us nx (Some r)) (sym tables) fails))))
 
 pub wrote : (auths : List (List ℕ)) (now : ℤ) (t : List ℕ) (m : Mutation) (ts new : List HeldTable) (nx : ℕ) → Checks auths now t m ts nx None → Wrote t m now nx ts new → ActsOnTables auths now (act.Write t m) ts nx Done new (nx + 1)
 wrote auths now t m ts new nx passes after h user core tables next held =
-    subst (λ (n : ℕ). Acts (own_answer (base_of h) now user (act.Write t m)) h now user (act.Write t m) Done (record h { next = n + 1; tables = new })) next
+    subst (λ (n : ℕ). Acts (own_answer (base_of h) now user (act.Write t m)) h now None user (act.Write t m) Done (record h { next = n + 1; tables = new })) next
     (write_done h new now user t m auths core held
     (subst (λ (n : ℕ). Checks auths now t m h.tables n None) (sym next) (subst (λ (us : List HeldTable). Checks auths now t m us nx None) (sym tables) passes))
     (subst (λ (n : ℕ). Wrote t m now n h.tables new) (sym next) (subst (λ (us : List HeldTable). Wrote t m now nx us new) (sym tables) after)))

@@ -1,9 +1,9 @@
 -- What an event is told, as it is copied.
 use Rattle.std.specs.Prelude.{Bool, true, false}
-use Rattle.tab_history.specs.Answers.{Told, told_opened}
+use Rattle.tab_history.specs.Answers.{Told, told_opened, told_begun}
 use Rattle.tab_history.specs.declared.reply.Refusal.{Refusal}
 use Rattle.tab_history.specs.declared.reply.Refusal.TheVariants.{BadAuthorizations, ConstraintViolation}
-use Rattle.tab_history.specs.declared.reply.Reply.TheVariants.{Done, Refused, Opened, Batch, Ranges, Rights, Counted, Rows}
+use Rattle.tab_history.specs.declared.reply.Reply.TheVariants.{Done, Refused, Opened, Batch, Ranges, Rights, Counted, Rows, Begun, Nothing}
 use Rattle.tab_core.specs.declared.event_reply.EventReply.{EventReply}
 use Rattle.tab_core.specs.declared.event_reply.EventReply.TheVariants as event
 
@@ -15,6 +15,8 @@ told_in event.Opened = told_opened
 told_in (event.Rights r) = Rights r
 told_in (event.Counted counts) = Counted counts
 told_in (event.Rows rows) = Rows rows
+told_in event.Begun = told_begun
+told_in event.Nothing = Nothing
 
 -- whether a copy of the refusal takes memory
 abbrev pub is_long_refusal : Refusal → Bool
@@ -32,3 +34,5 @@ is_long (Ranges ranges) = true
 is_long (Rights r) = true
 is_long (Counted counts) = false
 is_long (Rows rows) = true
+is_long (Begun u) = false
+is_long Nothing = false

@@ -6,7 +6,7 @@ use Rattle.tab_core.specs.declared.store.Store.{Store}
 
 -- all that it holds
 abbrev pub held : Store → Held
-held s = record { clock = s.clock; next = s.next; policy = s.policy; tables = s.tables }
+held s = record { clock = s.clock; next = s.next; policy = s.policy; tables = s.tables; tablet = s.tablet; job = s.job }
 
 -- how many versions a table with these settings shows, none where there is no table
 abbrev pub versions_shown : Option Settings → ℕ

@@ -2,16 +2,20 @@ pub mod Owners
 pub mod Holding
 pub mod Bounded
 pub mod Slots
+pub mod JobSlots
 pub mod Stepping
 pub mod EventReplies
 pub mod Recording
 pub mod Comparing
 pub mod ComparingExamples
 pub use Rattle.tab_store.specs.Stores
+pub use Rattle.tab_store.specs.Parts
 pub use Rattle.tab_store.specs.Tables
 pub use Rattle.tab_store.specs.Keeping
 pub use Rattle.tab_store.specs.Limits
 pub use Rattle.tab_store.specs.Rightness
 pub use Rattle.tab_store.specs.Chains
+pub use Rattle.tab_store.specs.Due
+pub use Rattle.tab_store.specs.declared.due.Due as DueType
 pub use Rattle.tab_mutation.specs.Shape
 pub use Rattle.tab_cells.specs.SessionState

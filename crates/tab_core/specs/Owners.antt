@@ -1,4 +1,4 @@
--- The sessions that a run keeps for its users, and what each step does to them.
+-- The sessions that a run keeps for its users, and what each step does to them and to the jobs.
 use Rattle.std.specs.Prelude.{ℕ, ◌≡◌, ◌⊎◌, true, false, List, [], ◌∷◌, ◌++◌, Option, Some, None, bytes_eq}
 use Rattle.tab_policy.specs.Entries.{at_name}
 use Rattle.tab_key.specs.declared.part.Part.TheVariants.{Sessions}
@@ -10,14 +10,15 @@ use Rattle.tab_history.specs.declared.reply.Reply.TheVariants.{Refused}
 use Rattle.tab_history.specs.Bases.{Base}
 use Rattle.tab_history.specs.Answers.{Told, told_of, session_of}
 use Rattle.tab_cells.specs.SessionState.{SessionState}
-use Rattle.tab_history.specs.Histories.{Entry, World, world_of, world_after, moves_of}
+use Rattle.tab_history.specs.Histories.{Entry, World, world_of, world_after, moves_of, jobs_of}
 use Rattle.tab_history.specs.Legal.{Legal}
 use Rattle.tab_history.specs.Refinement.{Refines}
 use Rattle.tab_store.specs.Stores.{Held, base_of}
-use Rattle.tab_store.specs.Stepping.{StepsExactly}
-use Rattle.tab_store.specs.Chains.{EntryGoes}
+use Rattle.tab_store.specs.Parts.{TabletMerge}
 use Rattle.tab_core.specs.Slots.{SlotsAre, are_full}
-use Rattle.tab_core.specs.Stepping.{Steps}
+use Rattle.tab_core.specs.declared.job_slots.JobSlot.{JobSlot}
+use Rattle.tab_core.specs.JobSlots.{JobsAre, GoesExactly}
+use Rattle.tab_core.specs.Stepping.{Steps, StepsWith}
 
 -- users, each with the slots of his sessions
 abbrev pub Owners : Type 0
@@ -40,17 +41,17 @@ LeavesOthers user old new = (other : List ℕ) → bytes_eq user other ≡ false
 abbrev pub OwnersRefine : Owners → World → List Entry → Type 0
 OwnersRefine os w h = (user : List ℕ) → SlotsAre (moves_of w user h) (slots_of os user)
 
--- Whatever legal history core and slots refined, they refine the one with this entry, which is legal.
-abbrev pub Lengthens : Base → Owners → Step → Told → Base → Owners → Type 0
-Lengthens old os step reply new os' = (w : World) (h : List Entry) → Refines (world_of old) (world_after w h) → OwnersRefine os w h → Legal w h
-    → let longer : List Entry = record { step = step; reply = reply } ∷ h in Refines (world_of new) (world_after w longer) × OwnersRefine os' w longer × Legal w longer
+-- Whatever legal history core, sessions and jobs refined, they refine the one with this entry, which is legal.
+abbrev pub Lengthens : Base → Owners → List JobSlot → Step → Told → Base → Owners → List JobSlot → Type 0
+Lengthens old os jobs step reply new os' jobs' = (w : World) (h : List Entry) → Refines (world_of old) (world_after w h) → OwnersRefine os w h → JobsAre (jobs_of h) jobs → Legal w h
+    → let longer : List Entry = record { step = step; reply = reply } ∷ h in Refines (world_of new) (world_after w longer) × OwnersRefine os' w longer × JobsAre (jobs_of longer) jobs' × Legal w longer
 
 -- A step of a run: histories go on by it, and so does the core, exactly.
-pub record RunsOn (old : Held) (os : Owners) (step : Step) (reply : Told) (new : Held) (os' : Owners) : Type 0 where
-  -- each legal history that core and slots refined
-  pub histories : Lengthens (base_of old) os step reply (base_of new) os'
-  -- an event is an exact step, and what is none leaves the core as it was
-  pub exact : EntryGoes old (record { step = step; reply = reply }) new
+pub record RunsOn (old : Held) (os : Owners) (jobs : List JobSlot) (step : Step) (reply : Told) (new : Held) (os' : Owners) (jobs' : List JobSlot) : Type 0 where
+  -- each legal history that core, sessions and jobs refined
+  pub histories : Lengthens (base_of old) os jobs step reply (base_of new) os' jobs'
+  -- an event is an exact step, with the merge of its slot's job if it names one; and what is none leaves the core as it was
+  pub exact : GoesExactly old jobs (record { step = step; reply = reply } ∷ []) new jobs'
 
 -- the slots with the session that was handed out, if there is one
 abbrev pub kept_with : List (Option SessionState) → Option SessionState → List (Option SessionState)
@@ -59,7 +60,7 @@ kept_with slots (Some session) = slots ++ Some session ∷ []
 
 -- the core answered the event, exactly, and a session that it handed out is kept
 abbrev pub AnswersIn : Held → List (Option SessionState) → Event → Told → Held → List (Option SessionState) → Type 0
-AnswersIn old slots event reply new slots' = (r : Reply SessionState) × Steps (base_of old) event r (base_of new) × StepsExactly old event (told_of r) new × (reply ≡ told_of r) × (slots' ≡ kept_with slots (session_of r))
+AnswersIn old slots event reply new slots' = (r : Reply SessionState TabletMerge) × Steps (base_of old) event r (base_of new) × StepsWith old None event r new × (reply ≡ told_of r) × (slots' ≡ kept_with slots (session_of r))
 
 -- an Open of a user with these slots: all stays where they are full or memory lacks, and otherwise the core answers
 abbrev pub OpensIn : Held → List (Option SessionState) → Event → Told → Held → List (Option SessionState) → Type 0

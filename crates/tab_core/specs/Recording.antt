@@ -10,8 +10,10 @@ use Rattle.tab_history.specs.Refinement.{Refines}
 use Rattle.tab_history.specs.declared.event.Act.{Act}
 use Rattle.tab_history.specs.declared.event.Event.{Event}
 use Rattle.tab_history.specs.declared.reply.Reply.{Reply}
+use Rattle.tab_store.specs.Parts.{TabletMerge}
 use Rattle.tab_store.specs.Stores.{Held, base_of}
 pub use Rattle.tab_store.specs.Stepping.{StepsExactly, entry_of}
+pub use Rattle.tab_core.specs.Stepping.{StepsWith}
 
 -- the core refines what these events leave of the base
 unfoldable pub RefinesHistory : Held → Base → List Entry → Type 0
@@ -26,13 +28,13 @@ unfoldable pub ShowsAnswer : Base → List Entry → Act → Option SessionState
 ShowsAnswer base h act None = Unit {0}
 ShowsAnswer base h act (Some session) = session ≡ record { all = session_list base (journal (world_of base) h) act; given = 0 }
 
--- What an event did to a core, for each history that the core refined.
-pub record StepsOn (old : Held) (event : Event) (reply : Reply SessionState) (new : Held) : Type 0 where
+-- What an event, with the merge that came with it, did to a core, for each history that the core refined.
+pub record StepsOn (old : Held) (given : Option TabletMerge) (event : Event) (reply : Reply SessionState TabletMerge) (new : Held) : Type 0 where
   -- a legal history stays legal with this entry
   pub legal : (base : Base) (h : List Entry) → RefinesHistory old base h → IsLegalFrom base h → IsLegalFrom base (entry_of event (told_of reply) ∷ h)
   -- the core refines the history with this entry
   pub refines : (base : Base) (h : List Entry) → RefinesHistory old base h → RefinesHistory new base (entry_of event (told_of reply) ∷ h)
   -- a session that is handed out shows the answer that is defined there
   pub hands : (base : Base) (h : List Entry) → RefinesHistory old base h → ShowsAnswer base h event.act (session_of reply)
-  -- and the core goes on exactly
-  pub exact : StepsExactly old event (told_of reply) new
+  -- and it was an exact step, or none
+  pub exact : StepsWith old given event reply new

@@ -1,5 +1,5 @@
 -- What one step of a core does, seen from the core alone and from every history that it refined.
-use Rattle.std.specs.Prelude.{ℕ, ℤ, ◌≡◌, ◌⊎◌, Bool, true, false, List, [], ◌∷◌, ◌++◌, nat_le, is_some, IfSome, Option, Some}
+use Rattle.std.specs.Prelude.{ℕ, ℤ, ◌≡◌, ◌⊎◌, Bool, true, false, List, [], ◌∷◌, ◌++◌, nat_le, is_some, IfSome, Option, Some, None}
 use Rattle.tab_key.specs.Records.{Cell}
 use Rattle.tab_key.specs.declared.part.Part.TheVariants.{Sessions, Numbers}
 use Rattle.tab_mutation.specs.Shape.{first_some, when}
@@ -9,23 +9,25 @@ use Rattle.tab_policy.specs.State.{table_exists, auths_of, IsCaller}
 use Rattle.tab_policy.specs.declared.decision.Caller.{Caller}
 use Rattle.tab_cells.specs.SessionState.{SessionState}
 use Rattle.tab_history.specs.declared.event.Act.{Act}
-use Rattle.tab_history.specs.declared.event.Act.TheVariants.{Rights as OwnRights}
+use Rattle.tab_history.specs.declared.event.Act.TheVariants.{Rights as OwnRights, Install}
+use Rattle.tab_history.specs.declared.event.Given.TheVariants.{InSlot, ByHand}
 use Rattle.tab_history.specs.declared.event.Event.{Event}
 use Rattle.tab_history.specs.declared.event.Step.TheVariants.{Event as IsEvent}
 use Rattle.tab_history.specs.declared.reply.Refusal.{Refusal}
-use Rattle.tab_history.specs.declared.reply.Refusal.TheVariants.{NoMemory, TooLarge, NoSession}
+use Rattle.tab_history.specs.declared.reply.Refusal.TheVariants.{NoMemory, TooLarge, NoSession, NoJob}
 use Rattle.tab_history.specs.declared.reply.Reply.{Reply}
-use Rattle.tab_history.specs.declared.reply.Reply.TheVariants.{Done, Refused, Opened, Batch, Ranges, Rights, Counted, Rows}
+use Rattle.tab_history.specs.declared.reply.Reply.TheVariants.{Done, Refused, Opened, Batch, Ranges, Rights, Counted, Rows, Begun, Nothing}
 use Rattle.tab_history.specs.Bases.{Base}
 use Rattle.tab_history.specs.Settings.{Settings}
 use Rattle.tab_history.specs.Changes.{Change, changes_of}
 use Rattle.tab_history.specs.Readings.{has_user, settings_of}
 use Rattle.tab_history.specs.Checks.{standing, exists_in, user_named, mutation_checks, own_checks, action_of}
-use Rattle.tab_history.specs.Answers.{Told, told_of, told, are_used_up, numbered, granted, session_list}
+use Rattle.tab_history.specs.Answers.{Told, told_of, job_of, told, are_used_up, numbered, granted, session_list}
 use Rattle.tab_history.specs.Histories.{Entry, World, world_of, world_after, journal}
 use Rattle.tab_history.specs.Legal.{IsAnswer, LegalAlone, LacksMemory, takes_memory}
 use Rattle.tab_history.specs.Refinement.{ReadsAlike, Refines}
-use Rattle.tab_history.specs.Chains.{GoesRight, HasRoom}
+use Rattle.tab_history.specs.Chains.{GoesRight, HasRoom, NamesNoSlot}
+use Rattle.tab_store.specs.Parts.{TabletMerge}
 use Rattle.tab_store.specs.Stores.{HeldTable, Held, base_of}
 use Rattle.tab_store.specs.Stepping.{entry_of as entry}
 pub use Rattle.tab_store.specs.Stepping.{LaysExactly, StepsExactly, now_at, plain_answer}
@@ -38,8 +40,12 @@ use Rattle.tab_core.specs.Bounded.{IsBounded}
 abbrev pub asked_at : List ℕ → ℤ → Act → Event
 asked_at user moment act = record { user = user; moment = moment; act = act }
 
+-- that this merge be installed in the table t: it comes by hand, and its number is told
+abbrev pub installs_at : List ℕ → ℤ → List ℕ → TabletMerge → Event
+installs_at user moment t m = asked_at user moment (Install t (ByHand m.merge.number))
+
 -- a session that is handed out shows these cells, and none of them was given
-abbrev pub HandsOut : Reply SessionState → List Cell → Type 0
+abbrev pub HandsOut : Reply SessionState TabletMerge → List Cell → Type 0
 HandsOut (Opened session) all = session ≡ record { all = all; given = 0 }
 HandsOut Done all = Unit {0}
 HandsOut (Refused refusal) all = Unit {0}
@@ -48,9 +54,11 @@ HandsOut (Ranges ranges) all = Unit {0}
 HandsOut (Rights rights) all = Unit {0}
 HandsOut (Counted counts) all = Unit {0}
 HandsOut (Rows rows) all = Unit {0}
+HandsOut (Begun job) all = Unit {0}
+HandsOut Nothing all = Unit {0}
 
 -- What an event did to a core that was old before, as every history sees it that the core refined.
-pub record Steps (old : Base) (event : Event) (reply : Reply SessionState) (new : Base) : Type 0 where
+pub record Steps (old : Base) (event : Event) (reply : Reply SessionState TabletMerge) (new : Base) : Type 0 where
   -- seen from the core alone
   pub right : GoesRight old (entry event (told_of reply)) new
   -- a legal history stays legal with this entry
@@ -66,6 +74,17 @@ pub record Steps (old : Base) (event : Event) (reply : Reply SessionState) (new 
   -- where it lacked, the core refines what it refined
   pub unchanged : told_of reply ≡ Refused NoMemory → (w : World) (h : List Entry) → Refines (world_of old) (world_after w h) → Refines (world_of new) (world_after w h)
 
+-- the act installs the merge of this slot
+abbrev pub IsBySlot : Act → ℕ → Type 0
+IsBySlot act slot = (t : List ℕ) × (act ≡ Install t (InSlot slot))
+
+-- What an event, with the merge that came with it, did to a core: it was an exact step; or it named a slot, of which a core knows none, and was
+-- no event.
+abbrev pub StepsWith : Held → Option TabletMerge → Event → Reply SessionState TabletMerge → Held → Type 0
+StepsWith old given event reply new =
+    (NamesNoSlot event.act × StepsExactly old given event (told_of reply) (job_of reply) new)
+    ⊎ ((slot : ℕ) × IsBySlot event.act slot × (reply ≡ Refused (NoJob slot)) × (new ≡ old))
+
 -- ---- inside the core
 -- what an act changes, if it isn't refused
 abbrev pub changes_told : ℤ → List ℕ → Act → Told → List Change
@@ -77,6 +96,7 @@ abbrev pub moves_clock : Told → Bool
 moves_clock (Refused NoMemory) = false
 moves_clock (Refused (TooLarge Sessions)) = false
 moves_clock (Refused (NoSession slot)) = false
+moves_clock (Refused (NoJob slot)) = false
 moves_clock _ = true
 
 -- all but records is read as of the old core after the changes, of which the newest stands first
@@ -93,10 +113,11 @@ pub record IsCore (h : Held) : Type 0 where
   pub knows : KnowsTables h
   pub limits : IsBounded h
 
--- What an act of this user at this clock does, whose answer is this one by what histories see; the core's own clock is set afterwards.
-pub record Acts (answer : Told) (old : Held) (now : ℤ) (user : List ℕ) (act : Act) (reply : Reply SessionState) (new : Held) : Type 0 where
-  -- it is told so, and leaves the tablets so
-  pub exact : LaysExactly old now act answer (told_of reply) new
+-- What an act of this user at this clock does, whose answer is this one by what histories see; with an Install came this merge. The core's
+-- own clock is set afterwards.
+pub record Acts (answer : Told) (old : Held) (now : ℤ) (given : Option TabletMerge) (user : List ℕ) (act : Act) (reply : Reply SessionState TabletMerge) (new : Held) : Type 0 where
+  -- it is told so, hands out its job, and leaves the tablets so
+  pub exact : LaysExactly old now given act answer (told_of reply) (job_of reply) new
   -- all but records is then as its changes say
   pub becomes : Becomes (base_of old) (changes_told now user act (told_of reply)) (base_of new)
   -- a session that is handed out has the list that is defined
@@ -113,17 +134,21 @@ abbrev pub IsAdmitted : Base → List ℕ → Act → Type 0
 IsAdmitted b user act = (has_user b [] user ≡ true) × IfSome (table_named (action_of act)) (λ t. is_some (settings_of b [] t) ≡ true)
 
 -- what an act that the policy admits does to a store
-abbrev pub Does : Store → ℤ → List ℕ → Act → Reply SessionState → Store → Type 0
-Does old now user act reply new = Acts (own_answer (base_of (held old)) now user act) (held old) now user act reply (held new)
+abbrev pub Does : Store → ℤ → List ℕ → Act → Reply SessionState TabletMerge → Store → Type 0
+Does old now user act reply new = Acts (own_answer (base_of (held old)) now user act) (held old) now None user act reply (held new)
+
+-- the same of an Install into this table, with which this merge came
+abbrev pub Installs : Store → ℤ → List ℕ → List ℕ → TabletMerge → Reply SessionState TabletMerge → Store → Type 0
+Installs old now user t m reply new = let act : Act = Install t (ByHand m.merge.number) in Acts (own_answer (base_of (held old)) now user act) (held old) now (Some m) user act reply (held new)
 
 -- What an act of a user with these authorizations does to the tables and to the next number of a core, whatever else the core is.
-abbrev pub ActsOnTables : List (List ℕ) → ℤ → Act → List HeldTable → ℕ → Reply SessionState → List HeldTable → ℕ → Type 0
+abbrev pub ActsOnTables : List (List ℕ) → ℤ → Act → List HeldTable → ℕ → Reply SessionState TabletMerge → List HeldTable → ℕ → Type 0
 ActsOnTables auths now act tables next reply tables' next' = (h : Held) (user : List ℕ) → IsCore h → h.tables ≡ tables → h.next ≡ next → auths_of h.policy user ≡ auths
-    → Acts (own_answer (base_of h) now user act) h now user act reply (record h { next = next'; tables = tables' })
+    → Acts (own_answer (base_of h) now user act) h now None user act reply (record h { next = next'; tables = tables' })
 
 -- A caller is told what he holds and may do, on each table of which this is found of him.
-abbrev pub Tells : Caller → Reply SessionState → Type 0
-Tells caller reply = (h : Held) (now : ℤ) (user t : List ℕ) → IsCore h → IsCaller caller h.policy user (Some t) → Acts (own_answer (base_of h) now user (OwnRights t)) h now user (OwnRights t) reply h
+abbrev pub Tells : Caller → Reply SessionState TabletMerge → Type 0
+Tells caller reply = (h : Held) (now : ℤ) (user t : List ℕ) → IsCore h → IsCaller caller h.policy user (Some t) → Acts (own_answer (base_of h) now user (OwnRights t)) h now None user (OwnRights t) reply h
 
 -- the checks of a write that gets this number, the last of them that the numbers aren't used up
 abbrev pub write_checks : Option Settings → List (List ℕ) → ℤ → Mutation → ℕ → List (Option Refusal)

@@ -3,8 +3,9 @@ ghost use Rattle.tab_store.specs.Stores.{base_of};
 ghost use Rattle.tab_core.specs.Holding.{held};
 ghost use Rattle.tab_core.specs.Stepping.{Does, IsCore, IsAdmitted};
 
-use crate::Session;
 use crate::checking::too_many_auths;
+use crate::numbering::next_number;
+use crate::reply::Answer;
 use crate::store::Store;
 use std::alloc::AllocError;
 use tab_history::{Act, Refusal, Reply, TimeMode, Versions};
@@ -24,7 +25,7 @@ impl Store {
         table: &Name,
         time: TimeMode,
         versions: Versions,
-    ) -> Reply<Session>
+    ) -> Answer
         requires core { IsCore (held self.old) }
         requires admitted { IsAdmitted (base_of (held self.old)) user.now (Act.CreateTable table.now time versions) }
         ensures { Does self.old now user.now (Act.CreateTable table.now time versions) result self.new }
@@ -35,12 +36,15 @@ impl Store {
         if self.tables.len() >= MAX_TABLES {
             return Reply::Refused(Refusal::TooLarge(Part::Numbers));
         }
-        match self.tables.insert(*table, time, versions) {
+        match self.tables.insert(*table, time, versions, self.tablet) {
             Ok(()) => {}
             Err(AllocError) => return Reply::Refused(Refusal::NoMemory),
         }
         match self.policy.create_table(user, table) {
-            Ok(()) => Reply::Done,
+            Ok(()) => {
+                self.tablet = next_number(self.tablet);
+                Reply::Done
+            }
             Err(AllocError) => {
                 self.tables.remove(table);
                 Reply::Refused(Refusal::NoMemory)
@@ -49,7 +53,7 @@ impl Store {
     }
 
     // A table taken away, with its records and all rights on it. It takes no memory.
-    pub(crate) fn drop_table(&mut self, now: i64, user: &Name, table: &Name) -> Reply<Session>
+    pub(crate) fn drop_table(&mut self, now: i64, user: &Name, table: &Name) -> Answer
         requires core { IsCore (held self.old) }
         requires admitted { IsAdmitted (base_of (held self.old)) user.now (Act.DropTable table.now) }
         ensures { Does self.old now user.now (Act.DropTable table.now) result self.new }
@@ -66,7 +70,7 @@ impl Store {
         user: &Name,
         table: &Name,
         constraints: ConstraintSet,
-    ) -> Reply<Session>
+    ) -> Answer
         requires { IsCore (held self.old) }
         ensures { Does self.old now user.now (Act.SetConstraints table.now constraints) result self.new }
     {
@@ -75,13 +79,7 @@ impl Store {
     }
 
     // The authorizations of a user.
-    pub(crate) fn set_auths(
-        &mut self,
-        now: i64,
-        user: &Name,
-        name: &Name,
-        auths: AuthSet,
-    ) -> Reply<Session>
+    pub(crate) fn set_auths(&mut self, now: i64, user: &Name, name: &Name, auths: AuthSet) -> Answer
         requires { IsCore (held self.old) }
         ensures { Does self.old now user.now (Act.SetAuths name.now auths) result self.new }
     {

@@ -77,6 +77,7 @@ fn copy_of(step: &Step) -> Result<Step, AllocError>
             user: *user,
             slot: *slot,
         }),
+        Step::Merge { slot } => Ok(Step::Merge { slot: *slot }),
     }
 }
 
@@ -107,17 +108,18 @@ fn pick(
 fn is_by(step: &Step, user: &Name) -> bool
     ensures { result ≡ is_by user.now step.now }
 {
-    asker(step).as_bytes() == user.as_bytes()
+    asker(step) == user.as_bytes()
 }
 
-// Whose step it is.
-fn asker(step: &Step) -> &Name
+// The name of him whose step it is; no bytes, if it is nobody's.
+fn asker(step: &Step) -> &[u8]
     ensures { result.now ≡ user_of step.now }
 {
     match step {
-        Step::Event(event) => &event.user,
-        Step::Next { user, .. } => user,
-        Step::Many { user, .. } => user,
-        Step::Close { user, .. } => user,
+        Step::Event(event) => event.user.as_bytes(),
+        Step::Next { user, .. } => user.as_bytes(),
+        Step::Many { user, .. } => user.as_bytes(),
+        Step::Close { user, .. } => user.as_bytes(),
+        Step::Merge { .. } => b"",
     }
 }

@@ -3,12 +3,12 @@ ghost use Rattle.std.specs.Prelude.{◌≡◌, IfOk, OnErr, true};
 ghost use Rattle.tab_history.specs.Answers.{told_of};
 ghost use Rattle.tab_core.specs.EventReplies.{told_in, is_long};
 
-use crate::Session;
+use crate::reply::Answer;
 use std::alloc::AllocError;
 use tab_history::{Counts, Refusal, Reply, Rights};
 use tab_key::{ByteString, Items};
 
-/// What an event is told: a reply without the session that it hands out, and never the cells of one.
+/// What an event is told: a reply without what it hands out, and never the cells of a session.
 #[derive(Drop)]
 pub enum EventReply {
     /// The event was done.
@@ -23,11 +23,15 @@ pub enum EventReply {
     Counted(Counts),
     /// The end rows of a table's tablets, rising.
     Rows(Items<ByteString>),
+    /// A job was begun.
+    Begun,
+    /// There was nothing to merge.
+    Nothing,
 }
 
 impl EventReply {
     /// A copy of what is told. Memory lacks only where a copy takes some; a reply with cells isn't copied.
-    pub fn of(reply: &Reply<Session>) -> Result<EventReply, AllocError>
+    pub fn of(reply: &Answer) -> Result<EventReply, AllocError>
         ensures ok { IfOk result (λ copy. told_in copy ≡ told_of reply.now) }
         ensures err { OnErr result (is_long (told_of reply.now) ≡ true) }
     {
@@ -40,6 +44,8 @@ impl EventReply {
             Reply::Rights(rights) => Ok(EventReply::Rights(rights.clone()?)),
             Reply::Counted(counts) => Ok(EventReply::Counted(*counts)),
             Reply::Rows(rows) => Ok(EventReply::Rows(rows.clone()?)),
+            Reply::Begun(_) => Ok(EventReply::Begun),
+            Reply::Nothing => Ok(EventReply::Nothing),
         }
     }
 }
@@ -65,7 +71,9 @@ fn refused(refusal: &Refusal) -> Result<EventReply, AllocError>
         Refusal::UserExists(name) => Refusal::UserExists(*name),
         Refusal::NoUser(name) => Refusal::NoUser(*name),
         Refusal::BadRange => Refusal::BadRange,
+        Refusal::Stale(count) => Refusal::Stale(*count),
         Refusal::NoSession(slot) => Refusal::NoSession(*slot),
+        Refusal::NoJob(slot) => Refusal::NoJob(*slot),
         Refusal::NoMemory => Refusal::NoMemory,
         Refusal::RootFixed => Refusal::RootFixed,
         Refusal::GrantInvalid => Refusal::GrantInvalid,

@@ -3,8 +3,8 @@ ghost use Rattle.tab_store.specs.Stores.{base_of};
 ghost use Rattle.tab_core.specs.Holding.{held};
 ghost use Rattle.tab_core.specs.Stepping.{Does, IsAdmitted, IsCore, Tells};
 
-use crate::Session;
 use crate::checking::right_refusal;
+use crate::reply::Answer;
 use crate::store::Store;
 use std::alloc::AllocError;
 use tab_history::{Act, Refusal, Reply, Rights};
@@ -19,7 +19,7 @@ impl Store {
         user: &Name,
         name: &Name,
         permission: &Permission,
-    ) -> Reply<Session>
+    ) -> Answer
         requires core { IsCore (held self.old) }
         requires admitted { IsAdmitted (base_of (held self.old)) user.now (Act.Grant name.now permission.now) }
         ensures { Does self.old now user.now (Act.Grant name.now permission.now) result self.new }
@@ -41,7 +41,7 @@ impl Store {
         user: &Name,
         name: &Name,
         permission: &Permission,
-    ) -> Reply<Session>
+    ) -> Answer
         requires { IsCore (held self.old) }
         ensures { Does self.old now user.now (Act.Revoke name.now permission.now) result self.new }
     {
@@ -55,7 +55,7 @@ impl Store {
 }
 
 /// What the caller may do, on the table that was named too, and holds.
-pub fn rights(caller: Caller<'_>) -> Reply<Session>
+pub fn rights(caller: Caller<'_>) -> Answer
     ensures { Tells caller.entry result }
 {
     match caller.authorizations.clone() {

@@ -2,14 +2,14 @@
 ghost use Rattle.tab_core.specs.Holding.{held};
 ghost use Rattle.tab_core.specs.Stepping.{Does, IsCore};
 
-use crate::Session;
+use crate::reply::Answer;
 use crate::store::Store;
 use tab_history::{Act, Reply};
 use tab_key::Name;
 
 impl Store {
     // A save. It takes no memory.
-    pub(crate) fn save(&self, now: i64, user: &Name) -> Reply<Session>
+    pub(crate) fn save(&self, now: i64, user: &Name) -> Answer
         requires { IsCore (held self.now) }
         ensures { Does self.now now user.now Act.Save result self.now }
     {
@@ -17,7 +17,7 @@ impl Store {
     }
 
     // A load. It takes no memory.
-    pub(crate) fn load(&self, now: i64, user: &Name) -> Reply<Session>
+    pub(crate) fn load(&self, now: i64, user: &Name) -> Answer
         requires { IsCore (held self.now) }
         ensures { Does self.now now user.now Act.Load result self.now }
     {

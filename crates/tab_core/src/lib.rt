@@ -8,17 +8,18 @@
 //! |---|---|
 //! | `state` | the core, and its step |
 //! | `store` | what a core holds, and what an event does to it: the policy decides once, then the act is done |
-//! | `policing` | what the policy is asked, and the refusal of whom it doesn't admit |
-//! | `acts`, `users`, `granting`, `writes`, `scans`, `tablets`, `splits`, `images` | what each act does |
+//! | `policing` | what the policy is asked, the refusal of whom it doesn't admit, and which acts name a slot |
+//! | `acts`, `users`, `granting`, `writes`, `scans`, `tablets`, `splits`, `jobs`, `images` | what each act does |
+//! | `numbering` | the numbers of tablets and jobs |
 //! | `checking` | the checks that are an event's own, and those of a request for ranges |
-//! | `reply` | replies without what they hand out |
+//! | `reply` | replies with and without what they hand out |
 //! | `event_reply`, `recording` | what an event is told, copied, and the step whose history is recorded |
-//! | `slots`, `running` | the sessions of one user in a run, and runs of steps |
+//! | `slots`, `job_slots`, `running` | the sessions of one user in a run, the jobs of all, and runs of steps |
 //! | `comparing` | two runs compared by what one user is told in them |
 //!
 //! Of the definitions in `specs`, `Stepping` says what a step does, `Holding` what a store holds, `Bounded` which limits a core keeps to
 //! beside those of its tables, `EventReplies` what an event is told, `Recording` what a step means for a history that is recorded beside
-//! the core, `Slots` and `Owners` what a run keeps, and `Comparing` what two runs tell; `ComparingExamples` computes it for a small history.
+//! the core, `Slots`, `JobSlots` and `Owners` what a run keeps, and `Comparing` what two runs tell; `ComparingExamples` computes it for a small history.
 #![tactic(auto)]
 
 mod acts;
@@ -27,6 +28,9 @@ mod comparing;
 mod event_reply;
 mod granting;
 mod images;
+mod job_slots;
+mod jobs;
+mod numbering;
 mod policing;
 mod recording;
 mod reply;
@@ -42,8 +46,10 @@ mod writes;
 
 pub use comparing::{Compared, compare_runs};
 pub use event_reply::EventReply;
-pub use reply::told;
+pub use job_slots::{JobSlot, JobSlots};
+pub use reply::{Answer, told};
 pub use running::run;
 pub use slots::Slots;
 pub use state::Core;
 pub use tab_session::Session;
+pub use tab_store::{Due, DueKind, FinishedJob, TabletJob};

@@ -1,9 +1,10 @@
-//! What the policy is asked, and what its decision refuses.
-ghost use Rattle.std.specs.Prelude.{◌≡◌, Some};
+//! What the policy is asked, what its decision refuses, and which acts name a slot.
+ghost use Rattle.std.specs.Prelude.{◌≡◌, Some, IfSome, IfNone};
 ghost use Rattle.tab_policy.specs.Actions.{asked_for};
 ghost use Rattle.tab_history.specs.Checks.{action_of, denial};
+ghost use Rattle.tab_history.specs.Chains.{NamesNoSlot};
 
-use tab_history::{Act, Refusal};
+use tab_history::{Act, Given, Refusal};
 use tab_key::Name;
 use tab_policy::{Action, Denial, ServerAction, TableAction};
 
@@ -31,6 +32,22 @@ pub fn action_of(act: &Act) -> Action<'_>
         Act::Splits(table) => Action::OnTable(TableAction::Splits, table),
         Act::Save => Action::OnServer(ServerAction::Save),
         Act::Load => Action::OnServer(ServerAction::Load),
+        Act::Begin(table, _, _) => Action::OnTable(TableAction::Begin, table),
+        Act::Install(table, _) => Action::OnTable(TableAction::Install, table),
+    }
+}
+
+/// The table and the slot of an Install by a slot.
+pub fn named_slot(act: &Act) -> Option<(&Name, u64)>
+    ensures some { IfSome result (λ named. act.now ≡ Act.Install named.0.now (Given.InSlot named.1)) }
+    ensures none { IfNone result (NamesNoSlot act.now) }
+{
+    match act {
+        Act::Install(table, given) => match given {
+            Given::InSlot(slot) => Some((table, *slot)),
+            Given::ByHand(_) => None,
+        },
+        _ => None,
     }
 }
 

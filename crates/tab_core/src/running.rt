@@ -7,9 +7,10 @@ ghost use Rattle.tab_history.specs.Legal.{Legal, LacksWhereItMay};
 ghost use Rattle.tab_history.specs.Answers.{is_open};
 ghost use Rattle.tab_store.specs.Chains.{IsExactRun};
 ghost use Rattle.tab_core.specs.Slots.{history_of, NextFrom, ManyFrom, CloseFrom};
+ghost use Rattle.tab_core.specs.declared.job_slots.JobSlot.{JobSlot};
 ghost use Rattle.tab_core.specs.Owners.{RunsOn, LeavesOthers, slots_of};
 
-use crate::reply::told;
+use crate::job_slots::JobSlots;
 use crate::slots::Slots;
 use crate::state::Core;
 use std::alloc::{AllocError, Global};
@@ -21,16 +22,18 @@ use tab_policy::NameKey;
 // The sessions that a run keeps for each user, by his name.
 type Owners = BTreeMap<NameKey, Slots>;
 
-/// Answers the steps in order, beginning with a new core, and keeps each user's sessions.
+/// Answers the steps in order, beginning with a new core, and keeps each user's sessions, and the jobs.
 ///
 /// Each event is one step of that core, exactly: a Flush, a Compact and a split lay its records otherwise, a Status counts them as they
-/// lie, and a Splits tells the end rows that there are. What is no event leaves the core as it was: a Next, a Many, a Close, and what is
-/// refused for want of memory or by a full list of sessions.
+/// lie, a Splits tells the end rows that there are, a Begin begins a job wherever there is anything to merge, and an Install of a slot is
+/// given the merge of the job in it. What is no event leaves the core as it was: a Next, a Many, a Close, a Merge, and what is refused for
+/// want of memory, by a full list of sessions, or by a slot without a finished merge.
 ///
 /// The k-th session opened for a user, counted from 0, has the slot k, which closing it empties for good. Past 65,536
-/// open sessions of one user an Open is refused. Where memory lacks for a step, that step is refused and the run goes on;
-/// it can lack only for a Next, a Many, and for an event that takes some. An error means that there was none for the list of replies,
-/// or for the core itself.
+/// open sessions of one user an Open is refused. The k-th job begun, by whomever, has the slot k of the jobs, which an Install of it empties
+/// for good once its merge was made, whatever that Install is told. Where memory lacks for a step, that step is refused and the run goes on;
+/// it can lack only for a Next, a Many, a Merge, and for an event that takes some. An error means that there was none for the list of
+/// replies, or for the core itself.
 pub fn run(alloc: Global, steps: Vec<Step>) -> Result<Vec<Reply>, AllocError>
     ensures length { IfOk result (λ replies. length replies.items ≡ length steps.items) }
     ensures legal { IfOk result (λ replies. Legal (world_of new_core) (history_of steps.items replies.items)) }
@@ -39,35 +42,49 @@ pub fn run(alloc: Global, steps: Vec<Step>) -> Result<Vec<Reply>, AllocError>
 {
     let mut core = Core::new(alloc)?;
     let mut owners = BTreeMap::new(alloc);
+    let mut jobs = JobSlots::new(alloc);
     let mut replies = Vec::new(alloc);
     for step in steps {
         replies.reserve(1)?;
-        let reply = run_step(alloc, &mut core, &mut owners, step);
+        let reply = run_step(alloc, &mut core, &mut owners, &mut jobs, step);
         replies.push_reserved(reply);
     }
     Ok(replies)
 }
 
 // One step.
-fn run_step(alloc: Global, core: &mut Core, owners: &mut Owners, step: Step) -> Reply
-    ensures { RunsOn core.old owners.old.entries step result core.new owners.new.entries }
+fn run_step(
+    alloc: Global,
+    core: &mut Core,
+    owners: &mut Owners,
+    jobs: &mut JobSlots,
+    step: Step,
+) -> Reply
+    ensures { RunsOn core.old owners.old.entries jobs.old step result core.new owners.new.entries jobs.new }
 {
     match step {
-        Step::Event(event) => run_event(alloc, core, owners, event),
+        Step::Event(event) => run_event(alloc, core, owners, jobs, event),
         Step::Next { user, slot, count } => run_next(alloc, owners, &user, slot, count),
         Step::Many { user, slot, ranges } => run_many(alloc, owners, &user, slot, ranges),
         Step::Close { user, slot } => run_close(owners, &user, slot),
+        Step::Merge { slot } => jobs.merge(alloc, slot),
     }
 }
 
 // An event. An Open past the limit of sessions is refused, and doesn't happen.
-fn run_event(alloc: Global, core: &mut Core, owners: &mut Owners, event: Event) -> Reply
-    ensures { RunsOn core.old owners.old.entries (Step.Event event) result core.new owners.new.entries }
+fn run_event(
+    alloc: Global,
+    core: &mut Core,
+    owners: &mut Owners,
+    jobs: &mut JobSlots,
+    event: Event,
+) -> Reply
+    ensures { RunsOn core.old owners.old.entries jobs.old (Step.Event event) result core.new owners.new.entries jobs.new }
 {
     if opens(&event.act) {
         run_open(alloc, core, owners, event)
     } else {
-        told(core.step(alloc, event))
+        jobs.step(alloc, core, event)
     }
 }
 
@@ -81,7 +98,7 @@ fn opens(act: &Act) -> bool
 // An Open, whose session is kept in its user's next slot.
 fn run_open(alloc: Global, core: &mut Core, owners: &mut Owners, event: Event) -> Reply
     requires { is_open event.act ≡ true }
-    ensures { RunsOn core.old owners.old.entries (Step.Event event) result core.new owners.new.entries }
+    ensures { (jobs : List JobSlot) → RunsOn core.old owners.old.entries jobs (Step.Event event) result core.new owners.new.entries jobs }
 {
     if make_owner(alloc, owners, &event.user).is_err() {
         return Reply::Refused(Refusal::NoMemory);

@@ -11,6 +11,7 @@ ghost use Rattle.tab_core.specs.Stepping.{ActsOnTables};
 
 use crate::Session;
 use crate::checking::scan_refusal;
+use crate::reply::Answer;
 use std::alloc::{AllocError, Global};
 use std::mem;
 use tab_history::{Act, Refusal, Reply, Scan};
@@ -19,12 +20,7 @@ use tab_label::AuthSet;
 use tab_store::Tables;
 
 /// A session on a scan's answer, for a caller with these authorizations. It takes the scan's columns and authorizations.
-pub fn open(
-    alloc: Global,
-    tables: &mut Tables,
-    authorizations: &AuthSet,
-    scan: &mut Scan,
-) -> Reply<Session>
+pub fn open(alloc: Global, tables: &mut Tables, authorizations: &AuthSet, scan: &mut Scan) -> Answer
     requires { LieApart (tablets_of (table_at tables.old scan.old.table)) }
     ensures { (now : ℤ) (next : ℕ) → ActsOnTables authorizations.now now (Act.Open scan.old) tables.old next result tables.new next }
 {
@@ -62,7 +58,7 @@ fn versions_of(tables: &Tables, name: &Name) -> u32
 }
 
 // The session is handed out, if it could be made.
-fn handed(made: Result<Session, AllocError>) -> Reply<Session>
+fn handed(made: Result<Session, AllocError>) -> Answer
     ensures ok { IfOk made (λ session. result ≡ Reply.Opened session) }
     ensures err { OnErr made (result ≡ Reply.Refused Refusal.NoMemory) }
 {

@@ -8,6 +8,7 @@ ghost use Rattle.tab_core.specs.Owners.{kept_with, OpensIn};
 
 use crate::Session;
 use crate::checking::ranges_refusal;
+use crate::reply::with_session;
 use crate::state::Core;
 use std::alloc::{AllocError, Global};
 use std::marker::Model;
@@ -80,7 +81,7 @@ impl Slots {
         if self.slots.reserve(1).is_err() {
             return Reply::Refused(Refusal::NoMemory);
         }
-        let (reply, session) = core.step(alloc, event).into_parts();
+        let (reply, session) = with_session(core.step(alloc, event));
         keep(&mut self.slots, &mut self.open, session);
         reply
     }
@@ -191,7 +192,7 @@ fn in_ranges(alloc: Global, session: &Session, ranges: &[Bounds]) -> Reply
 }
 
 // Puts the value into the place, and drops what stood there.
-fn put<T: Drop>(place: &mut T, value: T)
+pub(crate) fn put<T: Drop>(place: &mut T, value: T)
     ensures { place.new ≡ value }
 {
     let _ = mem::replace(place, value);

@@ -8,7 +8,8 @@ ghost use Rattle.tab_store.specs.Tables.{table_at, tablets_of};
 ghost use Rattle.tab_core.specs.Holding.{held};
 ghost use Rattle.tab_core.specs.Stepping.{Does, IsCore};
 
-use crate::Session;
+use crate::numbering::number_split;
+use crate::reply::Answer;
 use crate::store::Store;
 use std::alloc::{AllocError, Global};
 use tab_history::{Act, Refusal, Reply, SplitFault};
@@ -24,14 +25,16 @@ impl Store {
         user: &Name,
         table: &Name,
         row: ByteString,
-    ) -> Reply<Session>
+    ) -> Answer
         requires { IsCore (held self.old) }
         ensures { Does self.old now user.now (Act.AddSplit table.now row) result self.new }
     {
         if is_too_long(&row) {
             return Reply::Refused(Refusal::TooLarge(Part::Row));
         }
-        split_reply(self.tables.split(alloc, table, row))
+        let told = split_reply(self.tables.split(alloc, table, row, self.tablet));
+        number_split(&mut self.tablet, &told);
+        told
     }
 
     // A table's tablet that holds this row split in the middle of what it holds, where its sorted tables come to the limit, in bytes.
@@ -43,24 +46,24 @@ impl Store {
         table: &Name,
         row: &ByteString,
         limit: u64,
-    ) -> Reply<Session>
+    ) -> Answer
         requires { IsCore (held self.old) }
         ensures { Does self.old now user.now (Act.SplitBySize table.now row.now limit) result self.new }
     {
         if is_too_long(row) {
             return Reply::Refused(Refusal::TooLarge(Part::Row));
         }
-        split_reply(self.tables.halve(alloc, table, row.as_bytes(), limit))
+        let number = self.tablet;
+        let told = split_reply(
+            self.tables
+                .halve(alloc, table, row.as_bytes(), limit, number),
+        );
+        number_split(&mut self.tablet, &told);
+        told
     }
 
     // The rows at which a table is split.
-    pub(crate) fn splits(
-        &self,
-        alloc: Global,
-        now: i64,
-        user: &Name,
-        table: &Name,
-    ) -> Reply<Session>
+    pub(crate) fn splits(&self, alloc: Global, now: i64, user: &Name, table: &Name) -> Answer
         requires { IsCore (held self.now) }
         ensures { Does self.now now user.now (Act.Splits table.now) result self.now }
     {
@@ -89,7 +92,7 @@ fn ends_in(alloc: Global, tables: &Tables, name: &Name) -> Result<Items<ByteStri
 }
 
 // What is told of a split, whether there was memory for it or not.
-fn split_reply(made: Result<Split, AllocError>) -> Reply<Session>
+fn split_reply(made: Result<Split, AllocError>) -> Answer
     ensures ok { IfOk made (λ split. told_of result ≡ told_split Reply.Done split) }
     ensures err { OnErr made (result ≡ Reply.Refused Refusal.NoMemory) }
 {
@@ -100,7 +103,7 @@ fn split_reply(made: Result<Split, AllocError>) -> Reply<Session>
 }
 
 // What is told of what became of a split.
-fn told_split(split: Split) -> Reply<Session>
+fn told_split(split: Split) -> Answer
     ensures { told_of result ≡ told_split Reply.Done split }
 {
     match split {

@@ -1,26 +1,28 @@
 //! The core, and its step.
-ghost use Rattle.std.specs.Prelude.{◌≡◌, IfOk};
+ghost use Rattle.std.specs.Prelude.{◌≡◌, Some, None, IfOk};
 ghost use Rattle.std.specs.Int.{int_max};
 ghost use Rattle.tab_history.specs.Bases.{new_core};
-ghost use Rattle.tab_history.specs.Answers.{told_of};
+ghost use Rattle.tab_history.specs.Answers.{told_of, job_of};
 ghost use Rattle.tab_history.specs.Histories.{world_of};
 ghost use Rattle.tab_history.specs.Refinement.{Refines};
+ghost use Rattle.tab_store.specs.Due.{due_in, target_of};
 ghost use Rattle.tab_store.specs.Stores.{base_of, IsNewStore};
-ghost use Rattle.tab_store.specs.Stepping.{LaysExactly, now_at, plain_answer};
+ghost use Rattle.tab_store.specs.Stepping.{StepsExactly};
 ghost use Rattle.tab_core.specs.Bounded.{WritesBare};
-ghost use Rattle.tab_core.specs.Stepping.{Steps, IsCore, asked_at};
+ghost use Rattle.tab_core.specs.Stepping.{Steps, StepsWith, IsCore, asked_at, installs_at};
 
-use crate::Session;
-use crate::reply::moves_clock;
+use crate::policing::named_slot;
+use crate::reply::{Answer, move_clock};
 use crate::store::Store;
 use std::alloc::{AllocError, Global};
 use std::marker::Model;
-use tab_history::{Act, Event, Reply};
-use tab_key::Name;
+use tab_history::{Act, Event, Refusal, Reply};
+use tab_key::{ByteString, Name};
 use tab_policy::Policy;
-use tab_store::Tables;
+use tab_store::{Due, FinishedJob, Tables};
 
-/// Users with their rights, tables with their cells, the clock, and the number that the next accepted write gets.
+/// Users with their rights, tables with their cells, the clock, and the numbers that the next accepted write, the next tablet and the next
+/// job get.
 #[derive(Drop)]
 pub struct Core {
     pub(crate) store: Store,
@@ -50,14 +52,16 @@ impl Core {
                 next: 0,
                 policy: Policy::new(alloc)?,
                 tables: Tables::new(alloc),
+                tablet: 0,
+                job: 0,
             },
         })
     }
 
-    /// A core that holds this, as an image of it has it. It takes no memory.
-    pub fn restored(clock: i64, next: u64, policy: Policy, tables: Tables) -> Core
-        requires { IsCore (record { clock = clock; next = next; policy = policy; tables = tables }) }
-        ensures { result ≡ record { clock = clock; next = next; policy = policy; tables = tables } }
+    /// A core that holds this, as an image of it has it; the next tablet gets this number, and the next job the number 0. It takes no memory.
+    pub fn restored(clock: i64, next: u64, policy: Policy, tables: Tables, tablet: u64) -> Core
+        requires { IsCore (record { clock = clock; next = next; policy = policy; tables = tables; tablet = tablet; job = 0 }) }
+        ensures { result ≡ record { clock = clock; next = next; policy = policy; tables = tables; tablet = tablet; job = 0 } }
     {
         Core {
             store: Store {
@@ -65,6 +69,8 @@ impl Core {
                 next,
                 policy,
                 tables,
+                tablet,
+                job: 0,
             },
         }
     }
@@ -97,6 +103,21 @@ impl Core {
         &self.store.tables
     }
 
+    /// The first compaction or split that is due, none where nothing is: all minor ones before partial ones before splits, tables by name,
+    /// tablets by end row. It takes no memory.
+    pub fn due(&self) -> Option<Due>
+        ensures { result ≡ due_in self.now.tables }
+    {
+        self.store.tables.due()
+    }
+
+    /// The table and the least row of the tablet that is due, none where that is gone.
+    pub fn target(&self, alloc: Global, due: &Due) -> Result<Option<(Name, ByteString)>, AllocError>
+        ensures { IfOk result (λ target. target ≡ target_of due.now self.now.tables) }
+    {
+        self.store.tables.target(alloc, due)
+    }
+
     /// What each core keeps: nothing is done, and it is known afterwards.
     pub fn keeps(&self)
         ensures { IsCore self.now }
@@ -109,36 +130,65 @@ impl Core {
     /// The first failing check gives the refusal: the caller is unknown; a table that is named doesn't exist; a permission
     /// is missing; then the event's own checks. A refused event changes no user, cell, right or table, and freezes no tablet; it moves
     /// the clock to its moment unless it was refused for memory, when the core stands as before. Memory lacks only for acts that take
-    /// some. A session that is handed out shows the scan's answer as it is now, for good. Where records lie after a flush, a compaction
-    /// or a split, which splits are refused, and what a status counts, is said exactly.
-    pub fn step(&mut self, alloc: Global, event: Event) -> Reply<Session>
+    /// some. A session that is handed out shows the scan's answer as it is now, for good. Where records lie after a flush, a compaction,
+    /// a split or the beginning of a merge, which splits are refused, what a status counts, and which job is handed out, is said exactly.
+    ///
+    /// An Install by hand came without its merge here (`install` takes one), and is stale where no check refuses it. One by a slot is refused
+    /// before all checks, since a core has no slots, and nothing happens.
+    pub fn step(&mut self, alloc: Global, event: Event) -> Answer
         ensures steps { Steps (base_of self.old) event result (base_of self.new) }
-        ensures exact { LaysExactly self.old (now_at self.old event) event.act (plain_answer self.old event) (told_of result) self.new }
+        ensures exact { StepsWith self.old None event result self.new }
     {
         let mut event = event;
         self.step_lent(alloc, &event.user, event.moment, &mut event.act)
     }
 
     /// The same for an event whose parts are lent, so that none of it is moved. What the core keeps of an event it may take out of the
-    /// act: the columns and the authorizations of an Open, the authorizations of a SetAuths, the constraints of a SetConstraints, the row
-    /// of an AddSplit. The rest of the act is copied or only read.
-    pub fn step_lent(
+    /// act: the columns and the authorizations of an Open, the authorizations of a SetAuths, the constraints of a SetConstraints, the rows
+    /// of an AddSplit and of a Begin. The rest of the act is copied or only read.
+    pub fn step_lent(&mut self, alloc: Global, user: &Name, moment: i64, act: &mut Act) -> Answer
+        ensures steps { Steps (base_of self.old) (asked_at user.now moment act.old) result (base_of self.new) }
+        ensures exact { StepsWith self.old None (asked_at user.now moment act.old) result self.new }
+    {
+        if let Some((_, slot)) = named_slot(act) {
+            return self.no_job(slot);
+        }
+        keep_markers(act);
+        let now = later(self.store.clock, moment);
+        let reply = self.store.answer(alloc, now, user, act);
+        move_clock(&mut self.store.clock, now, &reply);
+        reply
+    }
+
+    /// Applies the user's Install of a finished merge into the table, by hand, and answers it: as `step` does, but with the merge.
+    ///
+    /// It is done where all that was merged stands in the merge's tablet, and the compaction of its kind that is under way there is this one;
+    /// else it is stale, and so it is where the tablet is gone or isn't the named table's. The merge is given up where it isn't done. Where
+    /// memory lacks, the core stands as before.
+    pub fn install(
         &mut self,
         alloc: Global,
         user: &Name,
         moment: i64,
-        act: &mut Act,
-    ) -> Reply<Session>
-        ensures steps { Steps (base_of self.old) (asked_at user.now moment act.old) result (base_of self.new) }
-        ensures exact { LaysExactly self.old (now_at self.old (asked_at user.now moment act.old)) act.old (plain_answer self.old (asked_at user.now moment act.old)) (told_of result) self.new }
+        table: &Name,
+        finished: FinishedJob,
+    ) -> Answer
+        ensures steps { Steps (base_of self.old) (installs_at user.now moment table.now finished) result (base_of self.new) }
+        ensures exact { StepsExactly self.old (Some finished) (installs_at user.now moment table.now finished) (told_of result) (job_of result) self.new }
     {
-        keep_markers(act);
         let now = later(self.store.clock, moment);
-        let reply = self.store.answer(alloc, now, user, act);
-        if moves_clock(&reply) {
-            self.store.clock = now;
-        }
-        reply
+        let answer = self.store.answer_install(alloc, now, user, table, finished);
+        move_clock(&mut self.store.clock, now, &answer);
+        answer
+    }
+
+    // The refusal of an Install by this slot: a core has none. What each core keeps is known afterwards.
+    pub(crate) fn no_job(&self, slot: u64) -> Answer
+        ensures core { IsCore self.now }
+        ensures reply { result ≡ Reply.Refused (Refusal.NoJob slot) }
+    {
+        self.keeps();
+        Reply::Refused(Refusal::NoJob(slot))
     }
 }
 

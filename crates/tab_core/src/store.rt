@@ -1,13 +1,13 @@
 //! What a core holds, and what an event does to it.
-ghost use Rattle.std.specs.Prelude.{◌≡◌, []};
+ghost use Rattle.std.specs.Prelude.{◌≡◌, [], None};
 ghost use Rattle.tab_history.specs.Answers.{event_answer};
 ghost use Rattle.tab_store.specs.Stores.{base_of};
 ghost use Rattle.tab_core.specs.Holding.{held};
 ghost use Rattle.tab_core.specs.Stepping.{Acts, IsCore};
 
-use crate::Session;
 use crate::granting::rights;
 use crate::policing::{action_of, refusal_of};
+use crate::reply::Answer;
 use crate::scans::open;
 use crate::writes::write;
 use std::alloc::Global;
@@ -19,7 +19,8 @@ use tab_policy::Policy;
 use tab_rules::ConstraintSet;
 use tab_store::Tables;
 
-/// The clock, the number that the next accepted write gets, users with their rights, and tables.
+/// The clock, the number that the next accepted write gets, users with their rights, tables, and the numbers that the next tablet and the next
+/// job get.
 #[derive(Drop)]
 pub struct Store {
     /// The greatest moment so far.
@@ -30,14 +31,19 @@ pub struct Store {
     pub policy: Policy,
     /// The tables.
     pub tables: Tables,
+    /// The number of the next tablet.
+    pub tablet: u64,
+    /// The number of the next job.
+    pub job: u64,
 }
 
 impl Store {
     /// Answers the event, and does what the answer says; the clock is set afterwards. `now` is the clock with the event's moment in it.
-    /// What is done with an act's columns, authorizations, constraints or row may take them out of it.
-    pub fn answer(&mut self, alloc: Global, now: i64, user: &Name, act: &mut Act) -> Reply<Session>
+    /// What is done with an act's columns, authorizations, constraints or row may take them out of it. An Install came without its merge here,
+    /// and names no slot.
+    pub fn answer(&mut self, alloc: Global, now: i64, user: &Name, act: &mut Act) -> Answer
         requires { IsCore (held self.old) }
-        ensures { Acts (event_answer (base_of (held self.old)) [] now user.now act.old) (held self.old) now user.now act.old result (held self.new) }
+        ensures { Acts (event_answer (base_of (held self.old)) [] now user.now act.old) (held self.old) now None user.now act.old result (held self.new) }
     {
         let caller = match self.policy.decide(user, &action_of(act)) {
             Ok(caller) => caller,
@@ -78,12 +84,12 @@ impl Store {
             Act::Status(table) => self.status(now, user, table),
             Act::Flush(table) => self.flush(alloc, now, user, table),
             Act::Compact(table, extent) => self.compact(alloc, now, user, table, *extent),
-            Act::AddSplit(table, row) => self.add_split(
+            Act::AddSplit(table, end) => self.add_split(
                 alloc,
                 now,
                 user,
                 table,
-                mem::replace(row, ByteString::new(alloc)),
+                mem::replace(end, ByteString::new(alloc)),
             ),
             Act::SplitBySize(table, row, limit) => self.split_by_size(
                 alloc, now, user, table, row, *limit,
@@ -91,6 +97,15 @@ impl Store {
             Act::Splits(table) => self.splits(alloc, now, user, table),
             Act::Save => self.save(now, user),
             Act::Load => self.load(now, user),
+            Act::Begin(table, row, kind) => self.begin(
+                alloc,
+                now,
+                user,
+                table,
+                mem::replace(row, ByteString::new(alloc)),
+                *kind,
+            ),
+            Act::Install(table, given) => self.install_none(now, user, table, *given),
         }
     }
 }

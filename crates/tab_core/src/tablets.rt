@@ -6,7 +6,7 @@ ghost use Rattle.tab_store.specs.Tables.{table_at, tablets_of};
 ghost use Rattle.tab_core.specs.Holding.{held};
 ghost use Rattle.tab_core.specs.Stepping.{Does, IsCore};
 
-use crate::Session;
+use crate::reply::Answer;
 use crate::store::Store;
 use std::alloc::{AllocError, Global};
 use tab_cells::Compaction;
@@ -17,7 +17,7 @@ use tab_store::Tables;
 
 impl Store {
     // How much the tablets of a table hold. It takes no memory.
-    pub(crate) fn status(&self, now: i64, user: &Name, table: &Name) -> Reply<Session>
+    pub(crate) fn status(&self, now: i64, user: &Name, table: &Name) -> Answer
         requires { IsCore (held self.now) }
         ensures { Does self.now now user.now (Act.Status table.now) result self.now }
     {
@@ -25,13 +25,7 @@ impl Store {
     }
 
     // What was written to a table since the last flush, merged in each of its tablets.
-    pub(crate) fn flush(
-        &mut self,
-        alloc: Global,
-        now: i64,
-        user: &Name,
-        table: &Name,
-    ) -> Reply<Session>
+    pub(crate) fn flush(&mut self, alloc: Global, now: i64, user: &Name, table: &Name) -> Answer
         requires { IsCore (held self.old) }
         ensures { Does self.old now user.now (Act.Flush table.now) result self.new }
     {
@@ -46,7 +40,7 @@ impl Store {
         user: &Name,
         table: &Name,
         extent: Extent,
-    ) -> Reply<Session>
+    ) -> Answer
         requires { IsCore (held self.old) }
         ensures { Does self.old now user.now (Act.Compact table.now extent) result self.new }
     {
@@ -79,7 +73,7 @@ fn kind_of(extent: Extent) -> Compaction
 }
 
 // What is told of a compaction.
-fn compacted(done: Result<(), NoMemory>) -> Reply<Session>
+fn compacted(done: Result<(), NoMemory>) -> Answer
     ensures ok { OnOk done (result ≡ Reply.Done) }
     ensures err { OnErr done (result ≡ Reply.Refused Refusal.NoMemory) }
 {

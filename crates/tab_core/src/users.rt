@@ -2,7 +2,7 @@
 ghost use Rattle.tab_core.specs.Holding.{held};
 ghost use Rattle.tab_core.specs.Stepping.{Does, IsCore};
 
-use crate::Session;
+use crate::reply::Answer;
 use crate::store::Store;
 use std::alloc::AllocError;
 use tab_history::{Act, Refusal, Reply};
@@ -14,7 +14,7 @@ const MAX_USERS: usize = u32::MAX as usize;
 
 impl Store {
     // A new user, without rights and authorizations.
-    pub(crate) fn create_user(&mut self, now: i64, user: &Name, name: &Name) -> Reply<Session>
+    pub(crate) fn create_user(&mut self, now: i64, user: &Name, name: &Name) -> Answer
         requires { IsCore (held self.old) }
         ensures { Does self.old now user.now (Act.CreateUser name.now) result self.new }
     {
@@ -31,7 +31,7 @@ impl Store {
     }
 
     // A user taken away, with his rights and authorizations. It takes no memory.
-    pub(crate) fn drop_user(&mut self, now: i64, user: &Name, name: &Name) -> Reply<Session>
+    pub(crate) fn drop_user(&mut self, now: i64, user: &Name, name: &Name) -> Answer
         requires { IsCore (held self.old) }
         ensures { Does self.old now user.now (Act.DropUser name.now) result self.new }
     {

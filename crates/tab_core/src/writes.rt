@@ -6,8 +6,8 @@ ghost use Rattle.tab_store.specs.ByRow.{records_of_all};
 ghost use Rattle.tab_store.specs.Tables.{table_at, settings_at, tablets_of};
 ghost use Rattle.tab_core.specs.Stepping.{ActsOnTables, write_checks};
 
-use crate::Session;
 use crate::checking::mutation_refusal;
+use crate::reply::Answer;
 use std::alloc::{AllocError, Global};
 use tab_history::{Act, Refusal, Reply};
 use tab_key::{Name, Part};
@@ -24,7 +24,7 @@ pub fn write(
     now: i64,
     table: &Name,
     mutation: &Mutation,
-) -> Reply<Session>
+) -> Answer
     requires there { is_some (table_at tables.old table.now) ≡ true }
     requires unused { (u : Record) → Contains (records_of_all (tablets_of (table_at tables.old table.now))) u → u.seq < next.old }
     ensures { ActsOnTables authorizations.now now (Act.Write table.now mutation.now) tables.old next.old result tables.new next.new }

@@ -15,6 +15,6 @@ returns-then-is_too_long c =
 pub returns : goal.returns
 returns c =
     let short : is_too_long c.args.row ≡ false = search rules in
-    splits_or_lacks (held c.args.self.now) c.args.now c.args.user.now c.args.table.now (act.AddSplit c.args.table.now c.args.row) (Splitting c.args.row) (splits c.args.row) c.requires (adds_split c.args.table.now c.args.row)
-    (add_passes (held c.args.self.now) c.args.now c.args.user.now c.args.table.now c.args.row short) c.split.new.self c.split.result c.split_reply.result
-    (split_so c.args.table.now (splits c.args.row) c.args.self.now.tables c.split.new.self c.split.result c.split.ensures.names c.split.ensures.count c.split.ensures.told c.split.ensures.ok) c.split.ensures.err c.split_reply.ensures.ok c.split_reply.ensures.err
+    splits_or_lacks (held c.args.self.now) c.args.now c.args.user.now c.args.table.now (act.AddSplit c.args.table.now c.args.row) (Splitting c.args.row) (splits c.args.row c.args.self.now.tablet) c.requires (adds_split (held c.args.self.now) c.args.table.now c.args.row)
+    (add_passes (held c.args.self.now) c.args.now c.args.user.now c.args.table.now c.args.row short) c.split.new.self c.number_split.new.tablet c.split.result c.split_reply-told.result
+    (split_so c.args.table.now (splits c.args.row c.args.self.now.tablet) c.args.self.now.tables c.split.new.self c.split.result c.split.ensures.names c.split.ensures.count c.split.ensures.told c.split.ensures.ok) c.split.ensures.err c.split_reply-told.ensures.ok c.split_reply-told.ensures.err c.number_split.ensures

@@ -1,4 +1,4 @@
-use Rattle.std.proofs.Common.{◌≡◌, [], Some, refl, sym, ap, ◌∙◌, subst, rules, to_z, of_z, w64}
+use Rattle.std.proofs.Common.{◌≡◌, [], Some, None, refl, sym, ap, ◌∙◌, subst, rules, to_z, of_z, w64}
 use Rattle.tab_policy.specs.Actions.{Action, table_named}
 use Rattle.tab_policy.specs.Decisions.{decision}
 use Rattle.tab_policy.specs.State.{standing_of, IsCaller}
@@ -19,7 +19,7 @@ use Rattle.tab_core.proofs.store.Store.answer.Goals as goal
 pub returns-in-Err : goal.returns-in-Err
 returns-in-Err c =
     let d : Some c.in-Err.denial ≡ decision (standing_of c.args.self.now.policy c.args.user.now) (action_of c.args.act.now) = c.in-Err.ensures.decided ∙ ap (decision (standing_of c.args.self.now.policy c.args.user.now)) c.action_of.ensures in
-    denied (held c.args.self.now) c.args.now c.args.user.now c.args.act.now c.refusal_of.result c.requires (sym (c.refusal_of.ensures ∙ ap (denial c.args.user.now) d))
+    denied (held c.args.self.now) c.args.now None c.args.user.now c.args.act.now c.refusal_of.result c.requires (sym (c.refusal_of.ensures ∙ ap (denial c.args.user.now) d))
 
 pub grant-requires-clause-admitted : goal.grant-requires-clause-admitted
 grant-requires-clause-admitted c = is_admitted (held c.args.self.now) c.args.user.now c.args.act.now _ _ c.requires c.action_of.ensures c.in-Ok.ensures.decided c.in-Grant.is
@@ -41,98 +41,108 @@ open-requires c = tablets_apart (held c.args.self.now) c.requires.store c.in-Ope
 
 pub returns-in-Open : goal.returns-in-Open
 returns-in-Open c =
-    admitted (held c.args.self.now) _ c.args.now c.args.now c.args.user.now c.args.act.now _ _ c.open.result c.requires c.action_of.ensures c.in-Ok.ensures.decided c.in-Open.is refl
+    admitted (held c.args.self.now) _ c.args.now c.args.now None c.args.user.now c.args.act.now _ _ c.open.result c.requires c.action_of.ensures c.in-Ok.ensures.decided c.in-Open.is refl
     (c.open.ensures c.args.now c.args.self.now.next (held c.args.self.now) c.args.user.now c.requires refl refl (sym c.in-Ok.ensures.caller.authorizations))
 
 pub returns-in-Write : goal.returns-in-Write
 returns-in-Write c =
     let trip : to_z w64 (of_z w64 c.args.now) ≡ c.args.now = search rules in
-    admitted (held c.args.self.now) _ c.args.now _ c.args.user.now c.args.act.now _ _ c.write.result c.requires c.action_of.ensures c.in-Ok.ensures.decided c.in-Write.is trip
+    admitted (held c.args.self.now) _ c.args.now _ None c.args.user.now c.args.act.now _ _ c.write.result c.requires c.action_of.ensures c.in-Ok.ensures.decided c.in-Write.is trip
     (c.write.ensures (held c.args.self.now) c.args.user.now c.requires refl refl (sym c.in-Ok.ensures.caller.authorizations))
 
 pub returns-in-Rights : goal.returns-in-Rights
 returns-in-Rights c =
     let caller : IsCaller c.in-Ok.caller c.args.self.now.policy c.args.user.now (Some c.in-Rights.field-0) =
     subst (λ (a : Action). IsCaller c.in-Ok.caller c.args.self.now.policy c.args.user.now (table_named a)) (c.action_of.ensures ∙ ap action_of c.in-Rights.is) c.in-Ok.ensures.caller in
-    admitted (held c.args.self.now) (held c.args.self.now) c.args.now c.args.now c.args.user.now c.args.act.now _ _ c.rights.result c.requires c.action_of.ensures c.in-Ok.ensures.decided c.in-Rights.is refl
+    admitted (held c.args.self.now) (held c.args.self.now) c.args.now c.args.now None c.args.user.now c.args.act.now _ _ c.rights.result c.requires c.action_of.ensures c.in-Ok.ensures.decided c.in-Rights.is refl
     (c.rights.ensures (held c.args.self.now) c.args.now c.args.user.now c.in-Rights.field-0 c.requires caller)
 
 pub returns-in-Status : goal.returns-in-Status
 returns-in-Status c =
     let trip : to_z w64 (of_z w64 c.args.now) ≡ c.args.now = search rules in
-    admitted (held c.args.self.now) (held c.args.self.now) c.args.now _ c.args.user.now c.args.act.now _ _ c.status.result c.requires c.action_of.ensures c.in-Ok.ensures.decided c.in-Status.is trip c.status.ensures
+    admitted (held c.args.self.now) (held c.args.self.now) c.args.now _ None c.args.user.now c.args.act.now _ _ c.status.result c.requires c.action_of.ensures c.in-Ok.ensures.decided c.in-Status.is trip c.status.ensures
 
 pub returns-in-CreateTable : goal.returns-in-CreateTable
 returns-in-CreateTable c =
     let trip : to_z w64 (of_z w64 c.args.now) ≡ c.args.now = search rules in
-    admitted (held c.args.self.now) (held c.create_table.new.self) c.args.now _ c.args.user.now c.args.act.now _ _ c.create_table.result c.requires c.action_of.ensures c.in-Ok.ensures.decided c.in-CreateTable.is trip c.create_table.ensures
+    admitted (held c.args.self.now) (held c.create_table.new.self) c.args.now _ None c.args.user.now c.args.act.now _ _ c.create_table.result c.requires c.action_of.ensures c.in-Ok.ensures.decided c.in-CreateTable.is trip c.create_table.ensures
 
 pub returns-in-DropTable : goal.returns-in-DropTable
 returns-in-DropTable c =
     let trip : to_z w64 (of_z w64 c.args.now) ≡ c.args.now = search rules in
-    admitted (held c.args.self.now) (held c.drop_table.new.self) c.args.now _ c.args.user.now c.args.act.now _ _ c.drop_table.result c.requires c.action_of.ensures c.in-Ok.ensures.decided c.in-DropTable.is trip c.drop_table.ensures
+    admitted (held c.args.self.now) (held c.drop_table.new.self) c.args.now _ None c.args.user.now c.args.act.now _ _ c.drop_table.result c.requires c.action_of.ensures c.in-Ok.ensures.decided c.in-DropTable.is trip c.drop_table.ensures
 
 pub returns-in-SetConstraints : goal.returns-in-SetConstraints
 returns-in-SetConstraints c =
     let trip : to_z w64 (of_z w64 c.args.now) ≡ c.args.now = search rules in
-    admitted (held c.args.self.now) (held c.set_constraints.new.self) c.args.now _ c.args.user.now c.args.act.now _ _ c.set_constraints.result c.requires c.action_of.ensures c.in-Ok.ensures.decided (c.in-SetConstraints.is ∙ ap (λ x. act.SetConstraints c.in-SetConstraints.table x) (sym c.replace.ensures.value)) trip c.set_constraints.ensures
+    admitted (held c.args.self.now) (held c.set_constraints.new.self) c.args.now _ None c.args.user.now c.args.act.now _ _ c.set_constraints.result c.requires c.action_of.ensures c.in-Ok.ensures.decided (c.in-SetConstraints.is ∙ ap (λ x. act.SetConstraints c.in-SetConstraints.table x) (sym c.replace.ensures.value)) trip c.set_constraints.ensures
 
 pub returns-in-CreateUser : goal.returns-in-CreateUser
 returns-in-CreateUser c =
     let trip : to_z w64 (of_z w64 c.args.now) ≡ c.args.now = search rules in
-    admitted (held c.args.self.now) (held c.create_user.new.self) c.args.now _ c.args.user.now c.args.act.now _ _ c.create_user.result c.requires c.action_of.ensures c.in-Ok.ensures.decided c.in-CreateUser.is trip c.create_user.ensures
+    admitted (held c.args.self.now) (held c.create_user.new.self) c.args.now _ None c.args.user.now c.args.act.now _ _ c.create_user.result c.requires c.action_of.ensures c.in-Ok.ensures.decided c.in-CreateUser.is trip c.create_user.ensures
 
 pub returns-in-DropUser : goal.returns-in-DropUser
 returns-in-DropUser c =
     let trip : to_z w64 (of_z w64 c.args.now) ≡ c.args.now = search rules in
-    admitted (held c.args.self.now) (held c.drop_user.new.self) c.args.now _ c.args.user.now c.args.act.now _ _ c.drop_user.result c.requires c.action_of.ensures c.in-Ok.ensures.decided c.in-DropUser.is trip c.drop_user.ensures
+    admitted (held c.args.self.now) (held c.drop_user.new.self) c.args.now _ None c.args.user.now c.args.act.now _ _ c.drop_user.result c.requires c.action_of.ensures c.in-Ok.ensures.decided c.in-DropUser.is trip c.drop_user.ensures
 
 pub returns-in-SetAuths : goal.returns-in-SetAuths
 returns-in-SetAuths c =
     let trip : to_z w64 (of_z w64 c.args.now) ≡ c.args.now = search rules in
-    admitted (held c.args.self.now) (held c.set_auths.new.self) c.args.now _ c.args.user.now c.args.act.now _ _ c.set_auths.result c.requires c.action_of.ensures c.in-Ok.ensures.decided (c.in-SetAuths.is ∙ ap (λ x. act.SetAuths c.in-SetAuths.name x) (sym c.replace-in-SetAuths.ensures.value)) trip c.set_auths.ensures
+    admitted (held c.args.self.now) (held c.set_auths.new.self) c.args.now _ None c.args.user.now c.args.act.now _ _ c.set_auths.result c.requires c.action_of.ensures c.in-Ok.ensures.decided (c.in-SetAuths.is ∙ ap (λ x. act.SetAuths c.in-SetAuths.name x) (sym c.replace-in-SetAuths.ensures.value)) trip c.set_auths.ensures
 
 pub returns-in-Grant : goal.returns-in-Grant
 returns-in-Grant c =
     let trip : to_z w64 (of_z w64 c.args.now) ≡ c.args.now = search rules in
-    admitted (held c.args.self.now) (held c.grant.new.self) c.args.now _ c.args.user.now c.args.act.now _ _ c.grant.result c.requires c.action_of.ensures c.in-Ok.ensures.decided c.in-Grant.is trip c.grant.ensures
+    admitted (held c.args.self.now) (held c.grant.new.self) c.args.now _ None c.args.user.now c.args.act.now _ _ c.grant.result c.requires c.action_of.ensures c.in-Ok.ensures.decided c.in-Grant.is trip c.grant.ensures
 
 pub returns-in-Revoke : goal.returns-in-Revoke
 returns-in-Revoke c =
     let trip : to_z w64 (of_z w64 c.args.now) ≡ c.args.now = search rules in
-    admitted (held c.args.self.now) (held c.revoke.new.self) c.args.now _ c.args.user.now c.args.act.now _ _ c.revoke.result c.requires c.action_of.ensures c.in-Ok.ensures.decided c.in-Revoke.is trip c.revoke.ensures
+    admitted (held c.args.self.now) (held c.revoke.new.self) c.args.now _ None c.args.user.now c.args.act.now _ _ c.revoke.result c.requires c.action_of.ensures c.in-Ok.ensures.decided c.in-Revoke.is trip c.revoke.ensures
 
 pub returns-in-Flush : goal.returns-in-Flush
 returns-in-Flush c =
     let trip : to_z w64 (of_z w64 c.args.now) ≡ c.args.now = search rules in
-    admitted (held c.args.self.now) (held c.flush.new.self) c.args.now _ c.args.user.now c.args.act.now _ _ c.flush.result c.requires c.action_of.ensures c.in-Ok.ensures.decided c.in-Flush.is trip c.flush.ensures
+    admitted (held c.args.self.now) (held c.flush.new.self) c.args.now _ None c.args.user.now c.args.act.now _ _ c.flush.result c.requires c.action_of.ensures c.in-Ok.ensures.decided c.in-Flush.is trip c.flush.ensures
 
 pub returns-in-Compact : goal.returns-in-Compact
 returns-in-Compact c =
     let trip : to_z w64 (of_z w64 c.args.now) ≡ c.args.now = search rules in
-    admitted (held c.args.self.now) (held c.compact.new.self) c.args.now _ c.args.user.now c.args.act.now _ _ c.compact.result c.requires c.action_of.ensures c.in-Ok.ensures.decided c.in-Compact.is trip c.compact.ensures
+    admitted (held c.args.self.now) (held c.compact.new.self) c.args.now _ None c.args.user.now c.args.act.now _ _ c.compact.result c.requires c.action_of.ensures c.in-Ok.ensures.decided c.in-Compact.is trip c.compact.ensures
 
 pub returns-in-AddSplit : goal.returns-in-AddSplit
 returns-in-AddSplit c =
     let trip : to_z w64 (of_z w64 c.args.now) ≡ c.args.now = search rules in
-    admitted (held c.args.self.now) (held c.add_split.new.self) c.args.now _ c.args.user.now c.args.act.now _ _ c.add_split.result c.requires c.action_of.ensures c.in-Ok.ensures.decided (c.in-AddSplit.is ∙ ap (λ x. act.AddSplit c.in-AddSplit.table x) (sym c.replace-in-AddSplit.ensures.value)) trip c.add_split.ensures
+    admitted (held c.args.self.now) (held c.add_split.new.self) c.args.now _ None c.args.user.now c.args.act.now _ _ c.add_split.result c.requires c.action_of.ensures c.in-Ok.ensures.decided (c.in-AddSplit.is ∙ ap (λ x. act.AddSplit c.in-AddSplit.table x) (sym c.replace-in-AddSplit.ensures.value)) trip c.add_split.ensures
 
 pub returns-in-SplitBySize : goal.returns-in-SplitBySize
 returns-in-SplitBySize c =
     let trip : to_z w64 (of_z w64 c.args.now) ≡ c.args.now = search rules in
-    admitted (held c.args.self.now) (held c.split_by_size.new.self) c.args.now _ c.args.user.now c.args.act.now _ _ c.split_by_size.result c.requires c.action_of.ensures c.in-Ok.ensures.decided c.in-SplitBySize.is trip c.split_by_size.ensures
+    admitted (held c.args.self.now) (held c.split_by_size.new.self) c.args.now _ None c.args.user.now c.args.act.now _ _ c.split_by_size.result c.requires c.action_of.ensures c.in-Ok.ensures.decided c.in-SplitBySize.is trip c.split_by_size.ensures
 
 pub returns-in-Splits : goal.returns-in-Splits
 returns-in-Splits c =
     let trip : to_z w64 (of_z w64 c.args.now) ≡ c.args.now = search rules in
-    admitted (held c.args.self.now) (held c.args.self.now) c.args.now _ c.args.user.now c.args.act.now _ _ c.splits.result c.requires c.action_of.ensures c.in-Ok.ensures.decided c.in-Splits.is trip c.splits.ensures
+    admitted (held c.args.self.now) (held c.args.self.now) c.args.now _ None c.args.user.now c.args.act.now _ _ c.splits.result c.requires c.action_of.ensures c.in-Ok.ensures.decided c.in-Splits.is trip c.splits.ensures
 
 pub returns-in-Save : goal.returns-in-Save
 returns-in-Save c =
     let trip : to_z w64 (of_z w64 c.args.now) ≡ c.args.now = search rules in
-    admitted (held c.args.self.now) (held c.args.self.now) c.args.now _ c.args.user.now c.args.act.now _ _ c.save.result c.requires c.action_of.ensures c.in-Ok.ensures.decided c.in-Save.is trip c.save.ensures
+    admitted (held c.args.self.now) (held c.args.self.now) c.args.now _ None c.args.user.now c.args.act.now _ _ c.save.result c.requires c.action_of.ensures c.in-Ok.ensures.decided c.in-Save.is trip c.save.ensures
 
 pub returns-in-Load : goal.returns-in-Load
 returns-in-Load c =
     let trip : to_z w64 (of_z w64 c.args.now) ≡ c.args.now = search rules in
-    admitted (held c.args.self.now) (held c.args.self.now) c.args.now _ c.args.user.now c.args.act.now _ _ c.load.result c.requires c.action_of.ensures c.in-Ok.ensures.decided c.in-Load.is trip c.load.ensures
+    admitted (held c.args.self.now) (held c.args.self.now) c.args.now _ None c.args.user.now c.args.act.now _ _ c.load.result c.requires c.action_of.ensures c.in-Ok.ensures.decided c.in-Load.is trip c.load.ensures
+
+pub returns-in-Begin : goal.returns-in-Begin
+returns-in-Begin c =
+    let trip : to_z w64 (of_z w64 c.args.now) ≡ c.args.now = search rules in
+    admitted (held c.args.self.now) (held c.begin.new.self) c.args.now _ None c.args.user.now c.args.act.now _ _ c.begin.result c.requires c.action_of.ensures c.in-Ok.ensures.decided (c.in-Begin.is ∙ ap (λ x. act.Begin c.in-Begin.table x c.in-Begin.kind) (sym c.replace-in-Begin.ensures.value)) trip c.begin.ensures
+
+pub returns-in-Install : goal.returns-in-Install
+returns-in-Install c =
+    let trip : to_z w64 (of_z w64 c.args.now) ≡ c.args.now = search rules in
+    admitted (held c.args.self.now) (held c.args.self.now) c.args.now _ None c.args.user.now c.args.act.now _ _ c.install_none.result c.requires c.action_of.ensures c.in-Ok.ensures.decided c.in-Install.is trip c.install_none.ensures
