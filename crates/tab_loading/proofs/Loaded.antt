@@ -1,5 +1,5 @@
 -- A core that is made of an image: what it holds is what a core keeps, and the image is that of the core.
-use Rattle.std.proofs.Common.{◌≡◌, ℕ, ◌<◌, ◌^◌, Bool, true, false, cond, ◌&&◌, ◌||◌, List, [], ◌∷◌, map, length, refl, sym, ap, ◌∙◌, subst}
+use Rattle.std.proofs.Common.{◌≡◌, ℕ, suc, ◌<◌, ◌^◌, Bool, true, false, cond, ◌&&◌, ◌||◌, List, [], ◌∷◌, map, length, refl, sym, ap, ◌∙◌, subst}
 use Rattle.std.specs.Prelude.{ℤ, Option, Some, None, is_some, bytes_eq, Contains}
 use Rattle.std.specs.List.{AllByRecursion, fold, list_all}
 use Rattle.std.proofs.lemmas.List.{length-map}
@@ -36,11 +36,11 @@ use Rattle.tab_image.specs.declared.table.ImageTable.{ImageTable}
 use Rattle.tab_image.specs.declared.user.ImageUser.{ImageUser}
 use Rattle.tab_saving.specs.ImageOf.{user_of, rights_of, table_of, IsImageOf}
 use Rattle.tab_saving.proofs.OneList.{rights_are}
-use Rattle.tab_loading.specs.Loading.{AreLaid}
+use Rattle.tab_loading.specs.Loading.{AreLaid, CountsOn}
 use Rattle.tab_loading.specs.Policies.{new_readings, with_user, with_table}
-use Rattle.tab_loading.specs.Tables.{held_table_of}
+use Rattle.tab_loading.specs.Tables.{NumberedTable, number_behind, numbered_from, held_table_of}
 use Rattle.tab_loading.proofs.Found.{itself, same_by, found_or, found, each_found, found_named, found_all, has_found, any_named, any_found}
-use Rattle.tab_loading.proofs.Placing.{held_name, names_held}
+use Rattle.tab_loading.proofs.Placing.{held_name, names_said}
 use Rattle.tab_loading.proofs.Policies.{user_name, users_read, auths_read, system_read, no_rights_yet, no_tables_yet, count_read, others_gone, table_name, gives, same_users, same_count, same_auths, same_system, tables_read, rights_read, all_give}
 use Rattle.tab_loading.proofs.Restoring.{records_are, ends_are, all_held, restored_sound, restored_limited}
 
@@ -53,9 +53,21 @@ both_of : {A : Type 0} (P Q R : A → Type 0) → ((x : A) → P x → Q x → R
 both_of P Q R f [] a b = tt
 both_of P Q R f (x ∷ xs) a b = (f x a.0 b.0, both_of P Q R f xs a.1 b.1)
 
-mapped : {A B : Type 0} (P : B → Type 0) (f : A → B) (xs : List A) → AllByRecursion (λ x. P (f x)) xs → AllByRecursion P (map f xs)
-mapped P f [] a = tt
-mapped P f (x ∷ xs) a = (a.0, mapped P f xs a.1)
+-- tables as they are held, numbered from this number on: what holds of each whatever its number
+abbrev table_held : ℕ → ImageTable → HeldTable
+table_held number t = held_table_of (record { number = number; table = t })
+
+each_held : (P : HeldTable → Type 0) (number : ℕ) (ts : List ImageTable) → AllByRecursion (λ t. (k : ℕ) → P (table_held k t)) ts → AllByRecursion P (map held_table_of (numbered_from number ts))
+each_held P number [] a = tt
+each_held P number (t ∷ ts) a = (a.0 number, each_held P (number_behind number t) ts a.1)
+
+held_again : (g : HeldTable → ImageTable) (number : ℕ) (ts : List ImageTable) → AllByRecursion (λ t. (k : ℕ) → g (table_held k t) ≡ t) ts → map g (map held_table_of (numbered_from number ts)) ≡ ts
+held_again g number [] a = refl
+held_again g number (t ∷ ts) a = λ i. a.0 number i ∷ held_again g (number_behind number t) ts a.1 i
+
+held_count : (number : ℕ) (ts : List ImageTable) → length (map held_table_of (numbered_from number ts)) ≡ length ts
+held_count number [] = refl
+held_count number (t ∷ ts) = ap suc (held_count (number_behind number t) ts)
 
 -- a list that is made of parts of its own is the list
 made_of : {A B : Type 0} (f : A → B) (g : B → A) (xs : List A) → AllByRecursion (λ x. g (f x) ≡ x) xs → map g (map f xs) ≡ xs
@@ -177,23 +189,23 @@ module _ (image : Image) (sane : IsSane image) where
         ∙ all_give first.users t.head.rights n p (each_of (λ (r : ImageRight). has_user us r.user ≡ true) (λ (r : ImageRight). first.users r.user ≡ true) (λ r known. known_first r.user ∙ sym (any_named user_name us r.user) ∙ known) t.head.rights is.known)
         )))
 
-    table_is : (t : ImageTable) → IsSaneTable us image.next t → found table_name t.head.name ts ≡ Some t → table_of policy names (held_table_of t) ≡ t
-    table_is t is there = λ i. record {
-      head = record (t.head) { rights = rights_again t is there i; ends = ends_are t.head.ends t.records is.ends is.records i };
-      records = records_are t.head.ends t.records is.ends is.records i;
+    table_is : (t : ImageTable) → IsSaneTable us image.next t → found table_name t.head.name ts ≡ Some t → (number : ℕ) → table_of policy names (table_held number t) ≡ t
+    table_is t is there number = λ i. record {
+      head = record (t.head) { rights = rights_again t is there i; ends = ends_are number t.head.ends t.records is.ends is.records i };
+      records = records_are number t.head.ends t.records is.ends is.records i;
     }
 
     abbrev pub made : Held
-    made = record { clock = image.clock; next = image.next; policy = policy; tables = map held_table_of ts }
+    made = record { clock = image.clock; next = image.next; policy = policy; tables = map held_table_of (numbered_from 0 ts); tablet = fold number_behind 0 ts; job = 0 }
 
     users_again : map (user_of policy) (map user_name us) ≡ us
     users_again = made_of user_name (user_of policy) us (each_of (λ u. found user_name u.name us ≡ Some u) (λ u. user_of policy u.name ≡ u) user_is us (each_found user_name us sane.users))
 
-    tables_again : map (table_of policy names) (map held_table_of ts) ≡ ts
-    tables_again = made_of held_table_of (table_of policy names) ts
-        (both_of (IsSaneTable us image.next) (λ t. found table_name t.head.name ts ≡ Some t) (λ t. table_of policy names (held_table_of t) ≡ t) table_is ts sane.each_table (each_found table_name ts sane.tables))
+    tables_again : map (table_of policy names) (map held_table_of (numbered_from 0 ts)) ≡ ts
+    tables_again = held_again (table_of policy names) 0 ts
+        (both_of (IsSaneTable us image.next) (λ t. found table_name t.head.name ts ≡ Some t) (λ t. (number : ℕ) → table_of policy names (table_held number t) ≡ t) table_is ts sane.each_table (each_found table_name ts sane.tables))
 
-    horizons : (xs : List ImageTable) → AllByRecursion (λ (t : HeldTable). t.settings.horizon ≡ least) (map held_table_of xs)
+    horizons : (xs : List NumberedTable) → AllByRecursion (λ (t : HeldTable). t.settings.horizon ≡ least) (map held_table_of xs)
     horizons [] = tt
     horizons (t ∷ xs) = (refl, horizons xs)
 
@@ -201,21 +213,24 @@ module _ (image : Image) (sane : IsSane image) where
     is_image_of = record {
       names = names;
       users = users_are;
-      no_horizon = horizons ts;
+      no_horizon = horizons (numbered_from 0 ts);
       says = λ i. record { clock = image.clock; next = image.next; users = sym users_again i; tables = sym tables_again i };
     }
 
-    laid : (xs : List ImageTable) → AreLaid (map held_table_of xs) xs
+    laid : (xs : List NumberedTable) → map (λ (t : HeldTable). t.tablets) (map held_table_of xs) ≡ map (λ (t : NumberedTable). restored t.number t.table.head.ends t.table.records) xs
     laid [] = refl
-    laid (t ∷ xs) = ap (λ l. restored t.head.ends t.records ∷ l) (laid xs)
+    laid (t ∷ xs) = ap (λ l. restored t.number t.table.head.ends t.table.records ∷ l) (laid xs)
 
     pub is_laid : AreLaid made.tables ts
-    is_laid = laid ts
+    is_laid = laid (numbered_from 0 ts)
+
+    pub counts_on : CountsOn made ts
+    counts_on = record { tablet = refl; job = refl }
 
     -- ---- what a core keeps
     -- what holds of each table as it was made
-    each_made : (P : HeldTable → Type 0) → ((t : ImageTable) → IsSaneTable us image.next t → P (held_table_of t)) → (q : List ℕ) (t : HeldTable) → table_in made q ≡ Some t → P t
-    each_made P f q t e = found_all held_name P (map held_table_of ts) (mapped P held_table_of ts (each_of (IsSaneTable us image.next) (λ x. P (held_table_of x)) f ts sane.each_table)) q t e
+    each_made : (P : HeldTable → Type 0) → ((t : ImageTable) → IsSaneTable us image.next t → (number : ℕ) → P (table_held number t)) → (q : List ℕ) (t : HeldTable) → table_in made q ≡ Some t → P t
+    each_made P f q t e = found_all held_name P (map held_table_of (numbered_from 0 ts)) (each_held P 0 ts (each_of (IsSaneTable us image.next) (λ x. (number : ℕ) → P (table_held number x)) f ts sane.each_table)) q t e
 
     numbers : (t : ImageTable) → IsSaneTable us image.next t → AllByRecursion (λ (u : Record). u.seq < image.next) t.records
     numbers t is = each_of (IsSaneRecord image.next) (λ u. u.seq < image.next) (λ u sane. sane.seq) t.records is.each
@@ -228,21 +243,24 @@ module _ (image : Image) (sane : IsSane image) where
 
     is_store : IsStore made
     is_store = record {
-      names = subst IsRising (sym (names_held ts)) sane.tables;
+      names = subst IsRising (sym (names_said 0 ts)) sane.tables;
       tables = each_made (λ t. AreSound t.tablets image.next t.settings.versions (floor_of t.settings.time image.clock t.settings.horizon))
-          (λ t is. restored_sound t.head.ends t.records is.ends is.records image.next t.head.versions (floor_of t.head.time image.clock least) (numbers t is));
-      limits = each_made (λ t. AreLimited t.tablets) (λ t is. restored_limited t.head.ends t.records is.ends is.records (well t is) (record { short = is.ends_short; few = is.ends_few }));
+          (λ t is number. restored_sound number t.head.ends t.records is.ends is.records image.next t.head.versions (floor_of t.head.time image.clock least) (numbers t is));
+      limits = each_made (λ t. AreLimited t.tablets) (λ t is number. restored_limited number t.head.ends t.records is.ends is.records (well t is) (record { short = is.ends_short; few = is.ends_few }));
     }
 
     known_tables : KnowsTables made
-    known_tables t = tables_are t ∙ sym (ap is_some (bases_read made t).0 ∙ go ts)
+    known_tables t = tables_are t ∙ sym (ap is_some (bases_read made t).0 ∙ go 0 ts)
       where
-        go : (xs : List ImageTable) → is_some (settings_in (found held_name t (map held_table_of xs))) ≡ is_some (found table_name t xs)
-        go [] = refl
-        go (x ∷ xs) = one (bytes_eq x.head.name t) (go xs)
+        go : (number : ℕ) (xs : List ImageTable) → is_some (settings_in (found held_name t (map held_table_of (numbered_from number xs)))) ≡ is_some (found table_name t xs)
+        go number [] = refl
+        go number (x ∷ xs) = one (bytes_eq x.head.name t) (go (number_behind number x) xs)
           where
-            one : (v : Bool) → is_some (settings_in (found held_name t (map held_table_of xs))) ≡ is_some (found table_name t xs)
-                → is_some (settings_in (cond v (Some (held_table_of x)) (found held_name t (map held_table_of xs)))) ≡ is_some (cond v (Some x) (found table_name t xs))
+            later : List HeldTable
+            later = map held_table_of (numbered_from (number_behind number x) xs)
+
+            one : (v : Bool) → is_some (settings_in (found held_name t later)) ≡ is_some (found table_name t xs)
+                → is_some (settings_in (cond v (Some (table_held number x)) (found held_name t later))) ≡ is_some (cond v (Some x) (found table_name t xs))
             one true e = refl
             one false e = e
 
@@ -283,14 +301,14 @@ module _ (image : Image) (sane : IsSane image) where
       root_has_all = λ p. granted_are root p ∙ ap (found_or (λ (u : ImageUser). system_contains u.system p) false) root_in.1
           ∙ all_in_list (system_contains root_in.0.system) (both_true (bytes_eq root_in.0.name root) (list_all (system_contains root_in.0.system) all_system) root_in.2).1 p;
       no_horizon = λ q s e. go q s (table_in made q) refl (sym (bases_read made q).0 ∙ e);
-      markers = each_made (λ t. (u : Record) → Contains (records_of_all t.tablets) u → IsBareRecord u) (λ t is. all_held t.head.ends t.records is.ends is.records IsBareRecord (bare t is));
+      markers = each_made (λ t. (u : Record) → Contains (records_of_all t.tablets) u → IsBareRecord u) (λ t is number. all_held number t.head.ends t.records is.ends is.records IsBareRecord (bare t is));
       users = subst (λ n. n < 2 ^ 32) (sym count_is) sane.users_few;
-      tables = subst (λ n. n < 2 ^ 32) (sym (length-map ts held_table_of)) sane.tables_few;
+      tables = subst (λ n. n < 2 ^ 32) (sym (held_count 0 ts)) sane.tables_few;
     }
       where
         go : (q : List ℕ) (s : Settings) (o : Option HeldTable) → table_in made q ≡ o → settings_in o ≡ Some s → s.horizon ≡ least
         go q s None e f = absurd (none-some s f)
-        go q s (Some t) e f = ap (λ x. x.horizon) (sym (some_inj t.settings s f)) ∙ each_made (λ t. t.settings.horizon ≡ least) (λ t is. refl) q t e
+        go q s (Some t) e f = ap (λ x. x.horizon) (sym (some_inj t.settings s f)) ∙ each_made (λ t. t.settings.horizon ≡ least) (λ t is number. refl) q t e
 
     pub is_core : IsCore made
     is_core = record { store = is_store; knows = known_tables; limits = is_bounded }
@@ -300,17 +318,21 @@ pub record IsLoaded (image : Image) (h : Held) : Type 0 where
   pub core : IsCore h
   pub of : IsImageOf h image
   pub laid : AreLaid h.tables image.tables
+  pub counts : CountsOn h image.tables
 
-is_loaded : (image : Image) → IsSane image → (h : Held) → h.clock ≡ image.clock → h.next ≡ image.next → readings h.policy ≡ fold with_table (fold with_user new_readings image.users) image.tables → h.tables ≡ map held_table_of image.tables → IsLoaded image h
-is_loaded image sane h clock next reads tables =
-    let same : made image sane h.policy reads ≡ h = λ i. record { clock = sym clock i; next = sym next i; policy = h.policy; tables = sym tables i } in
-    subst (IsLoaded image) same (record { core = is_core image sane h.policy reads; of = is_image_of image sane h.policy reads; laid = is_laid image sane h.policy reads })
+is_loaded : (image : Image) → IsSane image → (h : Held) → h.clock ≡ image.clock → h.next ≡ image.next → readings h.policy ≡ fold with_table (fold with_user new_readings image.users) image.tables
+    → h.tables ≡ map held_table_of (numbered_from 0 image.tables) → h.tablet ≡ fold number_behind 0 image.tables → h.job ≡ 0 → IsLoaded image h
+is_loaded image sane h clock next reads tables tablet job =
+    let same : made image sane h.policy reads ≡ h = λ i. record { clock = sym clock i; next = sym next i; policy = h.policy; tables = sym tables i; tablet = sym tablet i; job = sym job i } in
+    subst (IsLoaded image) same (record { core = is_core image sane h.policy reads; of = is_image_of image sane h.policy reads; laid = is_laid image sane h.policy reads; counts = counts_on image sane h.policy reads })
 
 -- .. by what each of the calls leaves that made it
-pub made_by_calls : (image : Image) → IsSane image → (clock : ℤ) → clock ≡ image.clock → (users : List ImageUser) (begun policy : State) (heads moved : List ImageTable) (tables : List HeldTable)
-    → users ≡ image.users → readings begun ≡ fold with_user new_readings users → heads ≡ image.tables → readings policy ≡ fold with_table (readings begun) heads → moved ≡ image.tables → tables ≡ map held_table_of moved
-    → IsLoaded image (record { clock = clock; next = image.next; policy = policy; tables = tables })
-made_by_calls image sane clock same users begun policy heads moved tables us one hs two ms three =
-    is_loaded image sane (record { clock = clock; next = image.next; policy = policy; tables = tables }) same refl
+pub made_by_calls : (image : Image) → IsSane image → (clock : ℤ) → clock ≡ image.clock → (users : List ImageUser) (begun policy : State) (heads moved : List ImageTable) (tables : List HeldTable) (tablet : ℕ)
+    → users ≡ image.users → readings begun ≡ fold with_user new_readings users → heads ≡ image.tables → readings policy ≡ fold with_table (readings begun) heads → moved ≡ image.tables → tables ≡ map held_table_of (numbered_from 0 moved) → tablet ≡ fold number_behind 0 moved
+    → IsLoaded image (record { clock = clock; next = image.next; policy = policy; tables = tables; tablet = tablet; job = 0 })
+made_by_calls image sane clock same users begun policy heads moved tables tablet us one hs two ms three four =
+    is_loaded image sane (record { clock = clock; next = image.next; policy = policy; tables = tables; tablet = tablet; job = 0 }) same refl
     (two ∙ (λ i. fold with_table ((one ∙ ap (fold with_user new_readings) us) i) (hs i)))
-    (three ∙ ap (map held_table_of) ms)
+    (three ∙ ap (λ ts. map held_table_of (numbered_from 0 ts)) ms)
+    (four ∙ ap (fold number_behind 0) ms)
+    refl

@@ -1,5 +1,6 @@
 -- What loading a core does.
 use Rattle.std.specs.Prelude.{◌≡◌, List, map, Result, Ok, Err, ⊤}
+use Rattle.std.specs.List.{fold}
 use Rattle.tab_io.specs.declared.reading.Input.{Ghosts}
 use Rattle.tab_store.specs.Restored.{restored}
 use Rattle.tab_store.specs.Stores.{HeldTable, Held}
@@ -11,11 +12,17 @@ use Rattle.tab_image.specs.declared.fault.LoadFault.TheVariants as load
 use Rattle.tab_image.specs.declared.image.Image.{Image}
 use Rattle.tab_image.specs.declared.table.ImageTable.{ImageTable}
 use Rattle.tab_saving.specs.ImageOf.{IsImageOf}
+use Rattle.tab_loading.specs.Tables.{NumberedTable, number_behind, numbered_from}
 
--- of each table the tablets end at the rows that the image says, and each holds the records of its rows as one sorted table, or has no
--- source where there are none
+-- Of each table the tablets end at the rows that the image says, and each holds the records of its rows as one sorted table, or has no
+-- source where there are none. They are numbered from 0 on, table after table, and no merge of them is under way.
 abbrev pub AreLaid : List HeldTable → List ImageTable → Type 0
-AreLaid tables said = map (λ (t : HeldTable). t.tablets) tables ≡ map (λ (t : ImageTable). restored t.head.ends t.records) said
+AreLaid tables said = map (λ (t : HeldTable). t.tablets) tables ≡ map (λ (t : NumberedTable). restored t.number t.table.head.ends t.table.records) (numbered_from 0 said)
+
+-- the next tablet gets the number behind all of theirs, and the next job the first one
+pub record CountsOn (h : Held) (said : List ImageTable) : Type 0 where
+  pub tablet : h.tablet ≡ fold number_behind 0 said
+  pub job : h.job ≡ 0
 
 -- A core was made: the bytes, if they are known, spell an image, and it is the image of the core. No read failed.
 pub record HasLoaded {R : Type 0} (g : Ghosts R) (old new : R) (h : Held) : Type 0 where
@@ -23,6 +30,7 @@ pub record HasLoaded {R : Type 0} (g : Ghosts R) (old new : R) (h : Held) : Type
   pub read : AreRead (g.remaining old) (Ok image)
   pub of : IsImageOf h image
   pub laid : AreLaid h.tables image.tables
+  pub counts : CountsOn h image.tables
   pub faults : g.faults new ≡ g.faults old
 
 -- a core was made; or the bytes are no image, and it is told why; or a read failed; or memory lacked, which says nothing of the bytes

@@ -2,7 +2,7 @@
 ghost use Rattle.std.specs.Prelude.{◌≡◌, IfOk};
 ghost use Rattle.tab_image.specs.Images.{IsSane};
 ghost use Rattle.tab_saving.specs.ImageOf.{IsImageOf};
-ghost use Rattle.tab_loading.specs.Loading.{AreLaid, LoadsCore};
+ghost use Rattle.tab_loading.specs.Loading.{AreLaid, CountsOn, LoadsCore};
 
 use crate::rights::put_tables;
 use crate::tables::tables_of;
@@ -31,6 +31,7 @@ fn core_of(alloc: Global, image: Image) -> Result<Core, AllocError>
     requires { IsSane image }
     ensures of { IfOk result (λ core. IsImageOf core image) }
     ensures laid { IfOk result (λ core. AreLaid core.tables image.tables) }
+    ensures counts { IfOk result (λ core. CountsOn core image.tables) }
 {
     let Image {
         clock,
@@ -40,6 +41,6 @@ fn core_of(alloc: Global, image: Image) -> Result<Core, AllocError>
     } = image;
     let mut policy = policy_of(alloc, users.into_vec())?;
     put_tables(&mut policy, tables.as_slice())?;
-    let tables = tables_of(alloc, tables.into_vec())?;
-    Ok(Core::restored(clock, next, policy, tables))
+    let (tables, number) = tables_of(alloc, tables.into_vec())?;
+    Ok(Core::restored(clock, next, policy, tables, number))
 }

@@ -2,9 +2,9 @@ use Rattle.std.proofs.Common.{◌≡◌, [], ◌∷◌, ◌∙◌, sym, ap, subs
 use Rattle.std.specs.List.{AllByRecursion, fold}
 use Rattle.std.specs.Vec.Iter.{into_iter_items}
 use Rattle.tab_store.specs.Tables.{table_at}
-use Rattle.tab_loading.specs.Tables.{IsOrdered}
+use Rattle.tab_loading.specs.Tables.{IsOrdered, number_behind, numbered_from}
 use Rattle.tab_loading.proofs.Found.{nothing_left}
-use Rattle.tab_loading.proofs.Placing.{placed, all_made}
+use Rattle.tab_loading.proofs.Placing.{placed, all_said}
 use Rattle.tab_loading.proofs.tables.tables_of.Goals as goal
 
 pub loop-table-preserved : goal.loop-table-preserved
@@ -19,11 +19,24 @@ loop-table-preserved c =
           omega (arith, was, gone, short);
       each = (subst (AllByRecursion IsOrdered) steps at.invariant.each).1;
       names = c.in-Ok.ensures.names;
-      read = ap (λ f. fold placed f (into_iter_items c.next.new.self)) (λ i q. c.in-Ok.ensures.tables q i) ∙ ap (fold placed (table_at at.made)) (sym steps) ∙ at.invariant.read;
+      read =
+          (λ i. fold placed (λ q. c.in-Ok.ensures.tables q i) (numbered_from (c.in-Ok.ensures.number i) (into_iter_items c.next.new.self)))
+          ∙ ap (λ ts. fold placed (table_at at.made) (numbered_from at.number ts)) (sym steps)
+          ∙ at.invariant.read;
+      number =
+          ap (λ n. fold number_behind n (into_iter_items c.next.new.self)) c.in-Ok.ensures.number
+          ∙ ap (fold number_behind at.number) (sym steps)
+          ∙ at.invariant.number;
     }
 
-pub returns : goal.returns
-returns c =
+pub returns-clause-tables : goal.returns-clause-tables
+returns-clause-tables c =
     let at = c.loop-table in
     let empty : into_iter_items at.table-iterator ≡ [] = nothing_left _ (sym at.invariant.left ∙ c.in-None.ensures.steps.0) in
-    all_made c.args.tables.items c.requires.names at.made at.invariant.names (ap (fold placed (table_at at.made)) (sym empty) ∙ at.invariant.read)
+    all_said c.args.tables.items c.requires.names at.made at.invariant.names (ap (λ ts. fold placed (table_at at.made) (numbered_from at.number ts)) (sym empty) ∙ at.invariant.read)
+
+pub returns-clause-number : goal.returns-clause-number
+returns-clause-number c =
+    let at = c.loop-table in
+    let empty : into_iter_items at.table-iterator ≡ [] = nothing_left _ (sym at.invariant.left ∙ c.in-None.ensures.steps.0) in
+    ap (fold number_behind at.number) (sym empty) ∙ at.invariant.number
