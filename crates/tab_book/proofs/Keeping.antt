@@ -1,14 +1,14 @@
 -- What is kept tells what it was made of: no two kept acts are kept as one.
-use Rattle.std.proofs.Common.{◌≡◌, refl, sym, ap, ◌∙◌}
+use Rattle.std.proofs.Common.{◌≡◌, false, refl, sym, ap, ◌∙◌}
 use Rattle.tab_policy.specs.declared.permission.Permission.{Permission}
 use Rattle.tab_policy.specs.declared.permission.Permission.TheVariants.{OfSystem, OfTable}
 use Rattle.tab_history.specs.declared.event.Act.{Act}
-use Rattle.tab_history.specs.declared.event.Act.TheVariants.{CreateTable, DropTable, CreateUser, DropUser, Grant, Revoke, Rights, Status, Flush, Compact, AddSplit, SplitBySize, Splits, Load}
+use Rattle.tab_history.specs.declared.event.Act.TheVariants.{CreateTable, DropTable, CreateUser, DropUser, Grant, Revoke, Rights, Status, Flush, Compact, AddSplit, SplitBySize, Splits, Load, Begin, Install}
 use Rattle.tab_book.specs.declared.act.KeptPermission.{KeptPermission}
 use Rattle.tab_book.specs.declared.act.KeptPermission.TheVariants as permission
 use Rattle.tab_book.specs.declared.act.PlainAct.{PlainAct}
 use Rattle.tab_book.specs.declared.act.PlainAct.TheVariants as plain
-use Rattle.tab_book.specs.Acts.{permission_in, plain_in}
+use Rattle.tab_book.specs.Acts.{permission_in, plain_in, is_write}
 
 abbrev permission_of : Permission → KeptPermission
 permission_of (OfSystem p) = permission.OfSystem p
@@ -34,6 +34,8 @@ plain_of (AddSplit t row) = plain.AddSplit t row
 plain_of (SplitBySize t row limit) = plain.SplitBySize t row limit
 plain_of (Splits t) = plain.Splits t
 plain_of Load = plain.Load
+plain_of (Begin t row kind) = plain.Begin t row kind
+plain_of (Install t given) = plain.Install t given
 plain_of _ = plain.Save
 
 plain_back : (a : PlainAct) → plain_of (plain_in a) ≡ a
@@ -52,7 +54,29 @@ plain_back (plain.SplitBySize t row limit) = refl
 plain_back (plain.Splits t) = refl
 plain_back plain.Save = refl
 plain_back plain.Load = refl
+plain_back (plain.Begin t row kind) = refl
+plain_back (plain.Install t given) = refl
 
 -- two plain acts that are kept as one are one
 pub plain_apart : (a b : PlainAct) → plain_in a ≡ plain_in b → a ≡ b
 plain_apart a b same = sym (plain_back a) ∙ ap plain_of same ∙ plain_back b
+
+-- and none is kept as a Write
+pub plain_writes_none : (a : PlainAct) → is_write (plain_in a) ≡ false
+plain_writes_none (plain.CreateTable t time n) = refl
+plain_writes_none (plain.DropTable t) = refl
+plain_writes_none (plain.CreateUser n) = refl
+plain_writes_none (plain.DropUser n) = refl
+plain_writes_none (plain.Grant n p) = refl
+plain_writes_none (plain.Revoke n p) = refl
+plain_writes_none (plain.Rights t) = refl
+plain_writes_none (plain.Status t) = refl
+plain_writes_none (plain.Flush t) = refl
+plain_writes_none (plain.Compact t extent) = refl
+plain_writes_none (plain.AddSplit t row) = refl
+plain_writes_none (plain.SplitBySize t row limit) = refl
+plain_writes_none (plain.Splits t) = refl
+plain_writes_none plain.Save = refl
+plain_writes_none plain.Load = refl
+plain_writes_none (plain.Begin t row kind) = refl
+plain_writes_none (plain.Install t given) = refl

@@ -2,3 +2,4 @@ pub mod Keeping
 pub mod InBlocks
 pub mod Whole
 pub mod Growing
+pub mod Handing

@@ -8,7 +8,7 @@ use Rattle.std.proofs.lemmas.Map.Steps.{length-le_from_distinct_below}
 use Rattle.std.proofs.lemmas.Option.{slice_get_within}
 use Rattle.tab_book.specs.Entries.{Posted, Record}
 use Rattle.tab_book.specs.Receipts.{Slip, Has}
-use Rattle.tab_book.specs.Wholeness.{AreApart, IsAlone, IsWhole}
+use Rattle.tab_book.specs.Wholeness.{AreApart, IsWhole}
 
 or_false : (a b : Bool) → (a || b) ≡ false → (a ≡ false) × (b ≡ false)
 or_false true b e = cc

@@ -1,10 +1,10 @@
 -- Which act is kept.
-use Rattle.std.specs.Prelude.{ℕ}
+use Rattle.std.specs.Prelude.{Bool, true, false}
 use Rattle.tab_policy.specs.declared.permission.Permission.{Permission}
 use Rattle.tab_policy.specs.declared.permission.Permission.TheVariants.{OfSystem, OfTable}
 use Rattle.tab_history.specs.declared.event.Scan.{Scan}
 use Rattle.tab_history.specs.declared.event.Act.{Act}
-use Rattle.tab_history.specs.declared.event.Act.TheVariants.{Open, Write, CreateTable, DropTable, SetConstraints, CreateUser, DropUser, SetAuths, Grant, Revoke, Rights, Status, Flush, Compact, AddSplit, SplitBySize, Splits, Save, Load}
+use Rattle.tab_history.specs.declared.event.Act.TheVariants.{Open, Write, CreateTable, DropTable, SetConstraints, CreateUser, DropUser, SetAuths, Grant, Revoke, Rights, Status, Flush, Compact, AddSplit, SplitBySize, Splits, Save, Load, Begin, Install}
 use Rattle.tab_book.specs.declared.act.KeptPermission.{KeptPermission}
 use Rattle.tab_book.specs.declared.act.KeptPermission.TheVariants as permission
 use Rattle.tab_book.specs.declared.act.KeptScan.{KeptScan}
@@ -39,6 +39,8 @@ plain_in (plain.SplitBySize t row limit) = SplitBySize t row limit
 plain_in (plain.Splits t) = Splits t
 plain_in plain.Save = Save
 plain_in plain.Load = Load
+plain_in (plain.Begin t row kind) = Begin t row kind
+plain_in (plain.Install t given) = Install t given
 
 -- the act
 abbrev pub act_in : KeptAct → Act
@@ -47,3 +49,9 @@ act_in (kept.Write t m) = Write t m
 act_in (kept.SetConstraints t cs) = SetConstraints t cs
 act_in (kept.SetAuths n auths) = SetAuths n auths
 act_in (kept.Plain act) = plain_in act
+
+-- ---- what a kept act is
+-- whether the act is a Write
+abbrev pub is_write : Act → Bool
+is_write (Write t m) = true
+is_write _ = false

@@ -1,5 +1,5 @@
 -- Entries that lie in blocks of 1,024.
-use Rattle.std.specs.Prelude.{ℕ, ◌≡◌, ◌≤◌, ◌<◌, ◌^◌, ◌-◌, min, List, ◌++◌, length, slice_get, option_map, unwrap_or, Option, Vec, vec_len, vec_capacity}
+use Rattle.std.specs.Prelude.{ℕ, ◌≡◌, ◌≤◌, ◌<◌, ◌^◌, ◌-◌, min, List, ◌++◌, length, slice_get, option_map, unwrap_or, Vec, vec_len, vec_capacity}
 use Rattle.std.specs.declared.alloc.Global.{Global}
 use Rattle.std.specs.List.{flat_map, AllByRecursion}
 use Rattle.tab_book.specs.Entries.{Posted}

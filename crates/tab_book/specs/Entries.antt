@@ -13,6 +13,9 @@ pub record Posted : Type 0 where
   pub event : Event
   pub reply : Told
 
+abbrev pub posted : ℕ → Event → Told → Posted
+posted seat event reply = record { seat = seat; event = event; reply = reply }
+
 -- a history, the newest entry first, with later ones, the oldest first
 abbrev pub extend : List Entry → List Posted → List Entry
 extend h [] = h

@@ -37,9 +37,9 @@ order core = refl
 numbered : (core : Held) → next_of (three core) ≡ 3
 numbered core = refl
 
--- a receipt of nothing that was handed out
+-- a receipt of which nothing can be taken
 abbrev slip : ℕ → Posted → Slip
-slip number entry = record { number = number; entry = entry; session = None }
+slip number entry = record { number = number; entry = entry; held = None }
 
 -- the second entry stands at 1, whatever was taken from its receipt
 stands : (core : Held) → Has (three core) (slip 1 dropped)

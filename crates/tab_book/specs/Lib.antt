@@ -3,6 +3,8 @@ pub mod KeptReplies
 pub mod Notes
 pub mod Entries
 pub mod Blocks
+pub mod HandedOut
+pub mod Installs
 pub mod Receipts
 pub mod Wholeness
 pub mod Examples

@@ -1,17 +1,20 @@
 -- Receipts, and what an event does to a book.
 use Rattle.std.specs.Prelude.{ℕ, ◌≡◌, ◌+◌, ◌≤◌, [], ◌∷◌, ◌++◌, Option, Some, slice_get}
-use Rattle.tab_history.specs.Answers.{told_of, session_of}
+use Rattle.tab_history.specs.Answers.{told_of}
 use Rattle.tab_history.specs.declared.event.Event.{Event}
 use Rattle.tab_history.specs.declared.reply.Reply.{Reply}
 use Rattle.tab_core.specs.SessionState.{SessionState}
+use Rattle.tab_core.specs.Parts.{TabletMerge}
 use Rattle.tab_core.specs.Recording.{StepsOn}
-use Rattle.tab_book.specs.Entries.{Posted, Place, place, Record, next_of}
+use Rattle.tab_book.specs.declared.held.Held.{Held}
+use Rattle.tab_book.specs.HandedOut.{held_of}
+use Rattle.tab_book.specs.Entries.{Posted, posted, Place, place, Record, next_of}
 
--- a receipt: the number of an entry, the entry, and the session that was handed out and not taken yet
+-- a receipt: the number of an entry, the entry, and the session or the job that was handed out and not taken yet
 pub record Slip : Type 0 where
   pub number : ℕ
   pub entry : Posted
-  pub session : Option SessionState
+  pub held : Option Held
 
 -- the receipt's entry stands in the book at its number
 abbrev pub Has : Record → Slip → Type 0
@@ -20,15 +23,15 @@ Has book slip = slice_get book.entries slip.number ≡ Some slip.entry
 -- The receipt of a seat's event: it names the seat and the event, its number is above all that the seat has seen, nothing was taken from it,
 -- and the seat counts one entry more.
 pub record Receives (seat : Place) (event : Event) (slip : Slip) (seat' : Place) : Type 0 where
-  pub entry : slip.entry ≡ record { seat = seat.number; event = event; reply = slip.entry.reply }
+  pub entry : slip.entry ≡ posted seat.number event slip.entry.reply
   pub above : seat.seen ≤ slip.number
   pub counts : seat' ≡ place seat.number (slip.number + 1) (seat.count + 1)
-  pub whole : (reply : Reply SessionState) × (slip.entry.reply ≡ told_of reply) × (slip.session ≡ session_of reply)
+  pub whole : (reply : Reply SessionState TabletMerge) × (slip.entry.reply ≡ told_of reply) × (slip.held ≡ held_of reply)
 
--- An event of a seat: the history grows by the receipt's entry, and the core goes on by its step, whose reply the entry has and whose session
--- the receipt.
-pub record Applies (book : Record) (seat : Place) (event : Event) (slip : Slip) (book' : Record) (seat' : Place) : Type 0 where
+-- An event of a seat, and the merge that came with it: the history grows by the receipt's entry, and the core goes on by its step, whose reply
+-- the entry has, and whose session or job the receipt.
+pub record Applies (book : Record) (seat : Place) (given : Option TabletMerge) (event : Event) (slip : Slip) (book' : Record) (seat' : Place) : Type 0 where
   pub receives : Receives seat event slip seat'
   pub number : slip.number ≡ next_of book
   pub grows : book' ≡ record book { entries = book.entries ++ slip.entry ∷ []; core = book'.core }
-  pub steps : (reply : Reply SessionState) × (slip.entry.reply ≡ told_of reply) × (slip.session ≡ session_of reply) × StepsOn book.core event reply book'.core
+  pub steps : (reply : Reply SessionState TabletMerge) × (slip.entry.reply ≡ told_of reply) × (slip.held ≡ held_of reply) × StepsOn book.core given event reply book'.core

@@ -1,12 +1,13 @@
 //! Acts as a history keeps them.
 ghost use Rattle.std.specs.Prelude.{◌≡◌, ◌↔◌, IsTrue, IfOk};
-ghost use Rattle.tab_book.specs.Acts.{permission_in, plain_in, scan_in, act_in};
+ghost use Rattle.tab_book.specs.Acts.{permission_in, plain_in, scan_in, act_in, is_write};
 
 use crate::equal::{same_auths, same_bounds, same_columns, same_constraints, same_mutation};
 use crate::text::Text;
 use std::alloc::{AllocError, Global};
-use tab_history::{Act, Extent, Scan, TimeMode};
-use tab_key::{Bounds, Column, Items, Name};
+use tab_cells::Compaction;
+use tab_history::{Act, Extent, Given, Scan, TimeMode};
+use tab_key::{Bounds, ByteString, Column, Items, Name};
 use tab_label::AuthSet;
 use tab_mutation::Mutation;
 use tab_policy::{Permission, SystemPermission, TablePermission};
@@ -52,6 +53,8 @@ pub enum PlainAct {
     Splits(Text),
     Save,
     Load,
+    Begin(Text, Text, Compaction),
+    Install(Text, Given),
 }
 
 /// An act, each name in as many bytes as it has. It takes 88 bytes in place.
@@ -74,6 +77,13 @@ fn text(alloc: Global, name: &Name) -> Result<Text, AllocError>
     ensures { IfOk result (λ text. text ≡ name.now) }
 {
     Text::of(alloc, name.as_bytes())
+}
+
+// A row in the bytes that it has.
+fn row_text(alloc: Global, row: &ByteString) -> Result<Text, AllocError>
+    ensures { IfOk result (λ text. text ≡ row.now) }
+{
+    Text::of(alloc, row.as_bytes())
 }
 
 // The permission, kept.
@@ -125,18 +135,30 @@ impl KeptAct {
             Act::Flush(table) => PlainAct::Flush(text(alloc, table)?),
             Act::Compact(table, extent) => PlainAct::Compact(text(alloc, table)?, *extent),
             Act::AddSplit(table, row) => {
-                PlainAct::AddSplit(text(alloc, table)?, Text::of(alloc, row.as_bytes())?)
+                PlainAct::AddSplit(text(alloc, table)?, row_text(alloc, row)?)
             }
             Act::SplitBySize(table, row, limit) => PlainAct::SplitBySize(
                 text(alloc, table)?,
-                Text::of(alloc, row.as_bytes())?,
+                row_text(alloc, row)?,
                 *limit,
             ),
             Act::Splits(table) => PlainAct::Splits(text(alloc, table)?),
             Act::Save => PlainAct::Save,
             Act::Load => PlainAct::Load,
+            Act::Begin(table, row, kind) => {
+                PlainAct::Begin(text(alloc, table)?, row_text(alloc, row)?, *kind)
+            }
+            Act::Install(table, given) => PlainAct::Install(text(alloc, table)?, *given),
         };
         Ok(KeptAct::Plain(plain))
+    }
+
+    /// Whether it is a Write.
+    #[tactic(auto, using(crate::proofs::Keeping::plain_writes_none))]
+    pub fn is_write(&self) -> bool
+        ensures { result ≡ is_write (act_in self.now) }
+    {
+        matches!(self, KeptAct::Write(_, _))
     }
 
     /// Whether the two are one act.

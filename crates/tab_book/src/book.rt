@@ -1,5 +1,5 @@
 //! Books.
-ghost use Rattle.std.specs.Prelude.{◌≡◌, ◌+◌, ◌^◌, ◌<◌, ◌≤◌, [], IfOk, IfErr, IfSome, IfNone, IsTrue, ◌↔◌, All, length, nat_le, sum_by, vec_len};
+ghost use Rattle.std.specs.Prelude.{◌≡◌, ◌+◌, ◌^◌, ◌<◌, ◌≤◌, [], None, IfOk, IfErr, IfSome, IfNone, IsTrue, ◌↔◌, All, length, nat_le, sum_by, vec_len};
 ghost use Rattle.tab_core.specs.Stores.{base_of};
 ghost use Rattle.tab_core.specs.Recording.{RefinesHistory, IsLegalFrom};
 ghost use Rattle.tab_book.specs.Entries.{place, next_of, past};
@@ -7,8 +7,7 @@ ghost use Rattle.tab_book.specs.Receipts.{Applies, Has};
 ghost use Rattle.tab_book.specs.Wholeness.{AreApart, IsWhole};
 
 use crate::blocks::Blocks;
-use crate::entry::{Entry, KeptEntry};
-use crate::kept_reply::KeptReply;
+use crate::posting::post;
 use crate::receipt::Receipt;
 use crate::reservation::Reservation;
 use crate::seat::Seat;
@@ -40,11 +39,11 @@ pub struct SeatsOut(pub u32);
 /// It grows with every event: nothing takes an entry away.
 #[derive(Drop)]
 pub struct Book<L: Origin> {
-    entries: Blocks,
-    core: Core,
+    pub(crate) entries: Blocks,
+    pub(crate) core: Core,
     joined: u32,
     out: u32,
-    tickets: Tickets<L>,
+    pub(crate) tickets: Tickets<L>,
     // the parts of the ledger that no seat has
     rest: Share<L>,
 }
@@ -121,6 +120,9 @@ impl<L: Origin> Book<L> {
 
     /// Does an event, and gives the receipt of its entry. Where the history can't grow the event is handed back, and nothing was done or
     /// counted: for want of memory, or with 2^64 - 1 entries.
+    ///
+    /// A finished merge is installed by [`Book::install`]. Here none comes with an Install, which is told at best that it is stale; and a book
+    /// has no slots, so one by a slot is told that no job is there, and changes nothing.
     pub fn apply(
         &mut self,
         alloc: Global,
@@ -128,7 +130,7 @@ impl<L: Origin> Book<L> {
         event: Event,
     ) -> Result<Receipt<L>, (Event, AllocError)>
         requires { seat.old.seen ≤ next_of self.old }
-        ensures ok { IfOk result (λ r. Applies self.old seat.old event r self.new seat.new) }
+        ensures ok { IfOk result (λ r. Applies self.old seat.old None event r self.new seat.new) }
         ensures err { IfErr result (λ r. (r.0 ≡ event) × (self.new ≡ self.old) × (seat.new ≡ seat.old)) }
     {
         let Ok(reservation) = Reservation::of(alloc, &event) else {
@@ -147,22 +149,15 @@ impl<L: Origin> Book<L> {
     ) -> Result<Receipt<L>, (Event, AllocError)>
         requires ready { seat.old.seen ≤ next_of self.old }
         requires reserved { reservation ≡ event }
-        ensures ok { IfOk result (λ r. Applies self.old seat.old event r self.new seat.new) }
+        ensures ok { IfOk result (λ r. Applies self.old seat.old None event r self.new seat.new) }
         ensures err { IfErr result (λ r. (r.0 ≡ event) × (self.new ≡ self.old) × (seat.new ≡ seat.old)) }
     {
-        let number = self.next();
         if self.entries.reserve(alloc).is_err() {
             return Err((event, AllocError));
         }
-        let (note, copy, place) = reservation.into_parts();
-        let (reply, told) = self.core.step_told(alloc, event);
-        let (answer, session) = reply.into_parts();
-        let kept = KeptEntry::new(seat.number, note, KeptReply::of(told, place));
-        self.entries.push_reserved(kept);
-        self.tickets.add(&mut seat.share, 1);
-        seat.seen = number + 1;
-        let entry = Entry::new(seat.number, copy, answer);
-        Ok(Receipt::new(number, entry, session))
+        let (answer, told) = self.core.step_told(alloc, event);
+        let (entries, tickets) = (&mut self.entries, &mut self.tickets);
+        Ok(post(entries, tickets, seat, reservation, answer, told))
     }
 
     // Whether the receipt's entry stands at its number.

@@ -65,6 +65,8 @@ fn is_told(reply: &Reply, told: &EventReply) -> bool
         EventReply::Rights(rights) => is_rights(reply, rights),
         EventReply::Counted(counts) => is_counted(reply, *counts),
         EventReply::Rows(rows) => is_rows(reply, rows),
+        EventReply::Begun => matches!(reply, Reply::Begun(_)),
+        EventReply::Nothing => matches!(reply, Reply::Nothing),
     }
 }
 

@@ -1,5 +1,6 @@
 //! Events as a history keeps them.
 ghost use Rattle.std.specs.Prelude.{◌≡◌, ◌↔◌, IsTrue, IfOk};
+ghost use Rattle.tab_book.specs.Acts.{is_write};
 
 use crate::act::KeptAct;
 use crate::text::Text;
@@ -48,6 +49,13 @@ impl Note {
         ensures { result ≡ self.now.moment }
     {
         self.moment
+    }
+
+    /// Whether it is a Write.
+    pub fn is_write(&self) -> bool
+        ensures { result ≡ is_write self.now.act }
+    {
+        self.act.is_write()
     }
 
     /// Whether the two are one event.

@@ -2,17 +2,17 @@
 ghost use Rattle.std.specs.Prelude.{◌≡◌, None};
 
 use crate::entry::Entry;
+use crate::held::Held;
 use std::marker::{Model, PhantomData};
 use std::sync::ledger::Ledger;
-use tab_core::Session;
 
-/// What a book gives for an event: the number of its entry, the entry, and the session that was handed out. Only a book makes one, and
-/// nothing is put back into it.
+/// What a book gives for an event: the number of its entry, the entry, and the session or the job that was handed out. Only a book makes
+/// one, and nothing is put back into it.
 #[derive(Drop)]
 pub struct Receipt<L: Ledger> {
     pub(crate) number: u64,
     pub(crate) entry: Entry,
-    pub(crate) session: Option<Session>,
+    pub(crate) held: Option<Held>,
     pub(crate) of: PhantomData<L>,
 }
 
@@ -21,18 +21,18 @@ impl<L: Ledger> Model for Receipt<L> {
 
     ghost Value = { Slip };
 
-    ghost view = { λ r. record { number = r.number; entry = r.entry; session = r.session } };
+    ghost view = { λ r. record { number = r.number; entry = r.entry; held = r.held } };
 }
 
 impl<L: Ledger> Receipt<L> {
     // The receipt of the entry at this number, with what was handed out.
-    pub(crate) fn new(number: u64, entry: Entry, session: Option<Session>) -> Receipt<L>
-        ensures { result ≡ record { number = number; entry = entry; session = session } }
+    pub(crate) fn new(number: u64, entry: Entry, held: Option<Held>) -> Receipt<L>
+        ensures { result ≡ record { number = number; entry = entry; held = held } }
     {
         Receipt {
             number,
             entry,
-            session,
+            held,
             of: PhantomData,
         }
     }
@@ -51,11 +51,11 @@ impl<L: Ledger> Receipt<L> {
         &self.entry
     }
 
-    /// Takes out the session that was handed out, once.
-    pub fn take(&mut self) -> Option<Session>
-        ensures session { result ≡ self.old.session }
-        ensures rest { self.new ≡ record self.old { session = None } }
+    /// Takes out what was handed out, once.
+    pub fn take(&mut self) -> Option<Held>
+        ensures held { result ≡ self.old.held }
+        ensures rest { self.new ≡ record self.old { held = None } }
     {
-        self.session.take()
+        self.held.take()
     }
 }

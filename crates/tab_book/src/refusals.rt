@@ -22,7 +22,9 @@ pub fn same_refusal(a: &Refusal, b: &Refusal) -> bool
         Refusal::TableExists(table) => is_table_exists(b, table),
         Refusal::UserExists(name) => is_user_exists(b, name),
         Refusal::NoUser(name) => is_no_user(b, name),
+        Refusal::Stale(count) => is_stale(b, *count),
         Refusal::NoSession(slot) => is_no_session(b, *slot),
+        Refusal::NoJob(slot) => is_no_job(b, *slot),
         Refusal::BelowHorizon(index) => is_below_horizon(b, *index),
         Refusal::BadSplit(fault) => is_bad_split(b, *fault),
         Refusal::MalformedVisibility(index, offset) => is_malformed(b, *index, *offset),
@@ -134,12 +136,32 @@ fn is_no_user(refusal: &Refusal, name: &Name) -> bool
     }
 }
 
-// Whether the refusal names this slot.
+// Whether the refusal counts so many sources.
+fn is_stale(refusal: &Refusal, count: u64) -> bool
+    ensures { IsTrue result ↔ (Refusal.Stale count ≡ refusal.now) }
+{
+    match refusal {
+        Refusal::Stale(other) => count == *other,
+        _ => false,
+    }
+}
+
+// Whether the refusal names this slot of sessions.
 fn is_no_session(refusal: &Refusal, slot: u32) -> bool
     ensures { IsTrue result ↔ (Refusal.NoSession slot ≡ refusal.now) }
 {
     match refusal {
         Refusal::NoSession(other) => slot == *other,
+        _ => false,
+    }
+}
+
+// Whether the refusal names this slot of jobs.
+fn is_no_job(refusal: &Refusal, slot: u64) -> bool
+    ensures { IsTrue result ↔ (Refusal.NoJob slot ≡ refusal.now) }
+{
+    match refusal {
+        Refusal::NoJob(other) => slot == *other,
         _ => false,
     }
 }

@@ -1,4 +1,4 @@
-use Rattle.std.proofs.Common.{rules, ◌≡◌, ◌<◌, length, arith}
+use Rattle.std.proofs.Common.{rules, ◌≡◌, length, arith}
 use Rattle.std.proofs.lemmas.List.{same_lists}
 use Rattle.tab_book.proofs.equal.each_same.Goals as goal
 

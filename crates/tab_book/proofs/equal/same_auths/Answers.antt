@@ -1,4 +1,4 @@
-use Rattle.std.proofs.Common.{rules, ◌≡◌, ◌∙◌, sym, subst, ℕ, List, nat_eq, Vec}
+use Rattle.std.proofs.Common.{◌≡◌, ◌∙◌, sym, subst, ℕ, List, nat_eq, Vec}
 use Rattle.std.specs.Bool.{Decides}
 use Rattle.std.specs.declared.alloc.Global.{Global}
 use Rattle.std.specs.Cmp.Lexicographic.{pointwise}

@@ -1,4 +1,4 @@
-use Rattle.std.proofs.Common.{rules, ◌≡◌, [], subst}
+use Rattle.std.proofs.Common.{rules, [], subst}
 use Rattle.tab_history.specs.Bases.{Base}
 use Rattle.tab_core.specs.Recording.{RefinesHistory}
 use Rattle.tab_book.proofs.Growing.{kept_empty}
