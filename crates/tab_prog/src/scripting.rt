@@ -41,7 +41,7 @@ impl From<ScriptFault> for ProgramFault {
 /// Answers the lines of the input on the output, beginning with a new core, until the input ends.
 ///
 /// What an accepted `save` or `load` asks of its file, `files` does; what came of it is answered as `ok`, or as `fault`, the command
-/// and why. A core that was loaded takes the place of the one before, whose sessions are dropped.
+/// and why. A core that was loaded takes the place of the one before, whose sessions and jobs are dropped.
 ///
 /// An error says which side failed in the call, or that there was no memory for a core.
 pub fn script<F: Files, R: Input, W: Output>(

@@ -64,8 +64,8 @@ impl From<ReadFault> for ShellFault {
 
 /// Sends what the lines ask to a server, as one user, and prints what it tells, until the lines end.
 ///
-/// The lines are those of a script, and so are the texts of their replies, but for the lines that a script alone has: `as`, `at`, `splitsize`,
-/// `save` and `load` are answered `line fault`, as what is no line. Sessions have the numbers that the server gives them; a `scan` opens one
+/// The lines are those of a script, and so are the texts of their replies, but for the lines that a script alone has: `as`, `at`, `begin`,
+/// `merge`, `install`, `splitsize`, `save` and `load` are answered `line fault`, as what is no line. Sessions have the numbers that the server gives them; a `scan` opens one
 /// too, reads it in batches of 1,000 and closes it. A line whose request no frame holds is answered `refused 16 BadFrame toolong`, and not
 /// sent.
 ///
@@ -141,7 +141,7 @@ fn answer_line<O: Output, R: Input, W: Output>(
 ) -> Result<(), ShellFault> {
     match line {
         Line::Blank => Ok(()),
-        Line::As(_) | Line::At(_) | Line::File(_) => put_fault(out),
+        Line::As(_) | Line::At(_) | Line::Merge(_) | Line::File(_) => put_fault(out),
         Line::Act(act) => answer_act(act, out, asking),
         Line::Scan(scan) => answer_scan(scan, out, asking),
         Line::Open(scan) => tell(out, asking.ask(&Request::Act(Act::Open(scan)))),
@@ -156,14 +156,14 @@ fn put_fault<O: Output>(out: &mut O) -> Result<(), ShellFault> {
     Ok(out.put(b"line fault\n")?)
 }
 
-// Prints what was told of an act. No frame asks a split by size.
+// Prints what was told of an act. No frame asks a split by size, or a part of a compaction.
 fn answer_act<O: Output, R: Input, W: Output>(
     act: Act,
     out: &mut O,
     asking: &mut Asking<'_, R, W>,
 ) -> Result<(), ShellFault> {
     match act {
-        Act::SplitBySize(..) => put_fault(out),
+        Act::SplitBySize(..) | Act::Begin(..) | Act::Install(..) => put_fault(out),
         Act::Splits(table) => answer_splits(table, out, asking),
         act => tell(out, asking.ask(&Request::Act(act))),
     }
@@ -262,7 +262,7 @@ fn read_batch<O: Output, R: Input, W: Output>(
 fn tell<O: Output>(out: &mut O, answer: Result<Answer, ShellFault>) -> Result<(), ShellFault> {
     match answer {
         Ok(Answer::Reply(reply)) => {
-            let (told, session) = reply.into_parts();
+            let (told, session, _) = reply.into_parts();
             Ok(put_opened(out, session.unwrap_or(0) as u64, &told)?)
         }
         Ok(Answer::BadFrame(reason)) => Ok(put_bad_frame(out, reason)?),

@@ -10,19 +10,20 @@ use Rattle.tab_history.specs.declared.event.Step.{Step}
 use Rattle.tab_history.specs.declared.event.Step.TheVariants as step
 use Rattle.tab_history.specs.declared.reply.Refusal.TheVariants.{NoMemory, TooLarge, NoSession}
 use Rattle.tab_history.specs.declared.reply.Reply.{Reply}
-use Rattle.tab_history.specs.declared.reply.Reply.TheVariants.{Done, Refused, Opened, Batch, Ranges, Rights, Counted, Rows}
-use Rattle.tab_history.specs.Answers.{Told, told_of, session_of, is_open, next_answer, many_answer, close_answer, session_list}
+use Rattle.tab_history.specs.declared.reply.Reply.TheVariants.{Done, Refused, Opened, Batch}
+use Rattle.tab_history.specs.Answers.{Told, told_of, session_of, job_of, is_open, next_answer, many_answer, close_answer, session_list}
 use Rattle.tab_history.specs.Sessions.{Move, Opening, Taking, Closing, opened, is_full, session_in}
 use Rattle.tab_history.specs.Histories.{Entry, World, world_of, world_after, journal, moves_of}
 use Rattle.tab_history.specs.Legal.{IsAnswer, LacksMemory}
 use Rattle.tab_history.specs.Refinement.{Refines}
-use Rattle.tab_history.specs.Chains.{IsChain}
+use Rattle.tab_history.specs.Chains.{IsChain, NamesNoSlot}
 use Rattle.tab_history.specs.Runs.{IsNoEvent}
 use Rattle.tab_history.proofs.GoOn.{list_same}
 use Rattle.tab_core.specs.SessionState.{SessionState}
 use Rattle.tab_core.specs.Stores.{Held, base_of}
-use Rattle.tab_core.specs.Chains.{EntryGoes}
-use Rattle.tab_core.specs.Stepping.{Steps}
+use Rattle.tab_core.specs.Parts.{TabletMerge}
+use Rattle.tab_core.specs.Chains.{ServedGoes}
+use Rattle.tab_core.specs.Stepping.{StepsExactly, Steps, StepsWith}
 use Rattle.tab_core.specs.Slots.{slot_at, NextFrom, ManyFrom, CloseFrom, SlotsAre}
 use Rattle.tab_core.specs.Owners.{kept_with, OpensIn}
 use Rattle.tab_core.proofs.SlotLemmas.{slots_opened, slots_taken, slots_closed, full_alike}
@@ -36,6 +37,7 @@ use Rattle.tab_wire.specs.Replies as sent
 use Rattle.tab_wire.specs.Replies.{Sent, sent_of}
 use Rattle.tab_wire.specs.Talking.{Talk, Exchange, Answers, moves_told}
 use Rattle.tab_wire.specs.TalkLaws.{KnowsSessions, IsRight}
+use Rattle.tab_wire.proofs.NoSlots.{AsksNoSlot}
 use Rattle.tab_serve.specs.Turns.{cells_asked}
 use Rattle.tab_serve.specs.Serves.{Served, KeepsCore, IsTooMany, OpensNext, Applies, Serves, asked_at}
 use Rattle.tab_serve.specs.Serving.{Gave}
@@ -48,23 +50,10 @@ entry s r = record { step = s; reply = r }
 -- ---- what steps do to slots
 next_slots : (moves : List Move) (user : List ℕ) (slot n : ℕ) (r : Told) (ss ss' : List (Option SessionState)) → NextFrom ss slot n r ss' → SlotsAre moves ss → SlotsAre (moves_told (step.Next user slot n) r [] ++ moves) ss'
 next_slots moves user slot n (Batch cells) ss ss' from are = subst (λ (l : List (Option SessionState)). SlotsAre (Taking slot (length cells) ∷ moves) l) (sym from.after) (slots_taken moves ss slot (length cells) are)
-next_slots moves user slot n Done ss ss' from are = subst (λ (l : List (Option SessionState)). SlotsAre moves l) (sym from.after) are
-next_slots moves user slot n (Refused r) ss ss' from are = subst (λ (l : List (Option SessionState)). SlotsAre moves l) (sym from.after) are
-next_slots moves user slot n (Opened s) ss ss' from are = subst (λ (l : List (Option SessionState)). SlotsAre moves l) (sym from.after) are
-next_slots moves user slot n (Ranges ranges) ss ss' from are = subst (λ (l : List (Option SessionState)). SlotsAre moves l) (sym from.after) are
-next_slots moves user slot n (Rights rights) ss ss' from are = subst (λ (l : List (Option SessionState)). SlotsAre moves l) (sym from.after) are
-next_slots moves user slot n (Counted counts) ss ss' from are = subst (λ (l : List (Option SessionState)). SlotsAre moves l) (sym from.after) are
-next_slots moves user slot n (Rows rows) ss ss' from are = subst (λ (l : List (Option SessionState)). SlotsAre moves l) (sym from.after) are
+next_slots moves user slot n _ ss ss' from are = subst (λ (l : List (Option SessionState)). SlotsAre moves l) (sym from.after) are
 
 many_slots : (moves : List Move) (user : List ℕ) (slot : ℕ) (ranges : List Bounds) (r : Told) (ss : List (Option SessionState)) → SlotsAre moves ss → SlotsAre (moves_told (step.Many user slot ranges) r [] ++ moves) ss
-many_slots moves user slot ranges (Batch cells) ss are = are
-many_slots moves user slot ranges Done ss are = are
-many_slots moves user slot ranges (Refused r) ss are = are
-many_slots moves user slot ranges (Opened s) ss are = are
-many_slots moves user slot ranges (Ranges answers) ss are = are
-many_slots moves user slot ranges (Rights rights) ss are = are
-many_slots moves user slot ranges (Counted counts) ss are = are
-many_slots moves user slot ranges (Rows rows) ss are = are
+many_slots moves user slot ranges _ ss are = are
 
 close_slots : (moves : List Move) (user : List ℕ) (slot : ℕ) (r : Told) (ss ss' : List (Option SessionState)) → CloseFrom ss slot r ss' → SlotsAre moves ss → SlotsAre (moves_told (step.Close user slot) r [] ++ moves) ss'
 close_slots moves user slot Done ss ss' from are = go (slot_at ss slot) refl
@@ -72,46 +61,26 @@ close_slots moves user slot Done ss ss' from are = go (slot_at ss slot) refl
     go : (s : Option SessionState) → slot_at ss slot ≡ s → SlotsAre (Closing slot ∷ moves) ss'
     go None none = let is : Done ≡ Refused (NoSession slot) = from.answers ∙ ap (λ (s : Option SessionState). close_answer s slot) none in absurd (cc is)
     go (Some held) some = subst (λ (l : List (Option SessionState)). SlotsAre (Closing slot ∷ moves) l) (sym from.after) (slots_closed moves ss slot held some are)
-close_slots moves user slot (Batch cells) ss ss' from are = subst (λ (l : List (Option SessionState)). SlotsAre moves l) (sym from.after) are
-close_slots moves user slot (Refused r) ss ss' from are = subst (λ (l : List (Option SessionState)). SlotsAre moves l) (sym from.after) are
-close_slots moves user slot (Opened s) ss ss' from are = subst (λ (l : List (Option SessionState)). SlotsAre moves l) (sym from.after) are
-close_slots moves user slot (Ranges ranges) ss ss' from are = subst (λ (l : List (Option SessionState)). SlotsAre moves l) (sym from.after) are
-close_slots moves user slot (Rights rights) ss ss' from are = subst (λ (l : List (Option SessionState)). SlotsAre moves l) (sym from.after) are
-close_slots moves user slot (Counted counts) ss ss' from are = subst (λ (l : List (Option SessionState)). SlotsAre moves l) (sym from.after) are
-close_slots moves user slot (Rows rows) ss ss' from are = subst (λ (l : List (Option SessionState)). SlotsAre moves l) (sym from.after) are
+close_slots moves user slot _ ss ss' from are = subst (λ (l : List (Option SessionState)). SlotsAre moves l) (sym from.after) are
 
 -- an event that opens no session
 shut_slots : (moves : List Move) (e : Event) (r : Told) (all : List Cell) (ss : List (Option SessionState)) → is_open e.act ≡ false → SlotsAre moves ss → SlotsAre (moves_told (step.Event e) r all ++ moves) ss
 shut_slots moves e (Opened s) all ss shut are = subst (λ (b : Bool). SlotsAre (cond b (Opening all ∷ []) [] ++ moves) ss) (sym shut) are
-shut_slots moves e Done all ss shut are = are
-shut_slots moves e (Refused r) all ss shut are = are
-shut_slots moves e (Batch cells) all ss shut are = are
-shut_slots moves e (Ranges ranges) all ss shut are = are
-shut_slots moves e (Rights rights) all ss shut are = are
-shut_slots moves e (Counted counts) all ss shut are = are
-shut_slots moves e (Rows rows) all ss shut are = are
+shut_slots moves e _ all ss shut are = are
 
 -- an Open that the core answered, and the list that its session has
-kept_slots : (moves : List Move) (old new : Held) (e : Event) (r : Reply SessionState) (ss : List (Option SessionState)) → is_open e.act ≡ true → Steps (base_of old) e r (base_of new) → SlotsAre moves ss
+kept_slots : (moves : List Move) (old new : Held) (e : Event) (r : Reply SessionState TabletMerge) (ss : List (Option SessionState)) → is_open e.act ≡ true → Steps (base_of old) e r (base_of new) → SlotsAre moves ss
     → SlotsAre (moves_told (step.Event e) (told_of r) (session_list (base_of old) [] e.act) ++ moves) (kept_with ss (session_of r))
 kept_slots moves old new e (Opened s) ss opens steps are =
     let all : List Cell = session_list (base_of old) [] e.act in
     let there : SlotsAre (Opening all ∷ moves) (ss ++ Some s ∷ []) = subst (λ (x : SessionState). SlotsAre (Opening all ∷ moves) (ss ++ Some x ∷ [])) (sym (opened_list (base_of old) (base_of new) e s opens steps)) (slots_opened moves ss all are) in
     subst (λ (b : Bool). SlotsAre (cond b (Opening all ∷ []) [] ++ moves) (ss ++ Some s ∷ [])) (sym opens) there
-kept_slots moves old new e Done ss opens steps are = are
-kept_slots moves old new e (Refused r) ss opens steps are = are
-kept_slots moves old new e (Batch cells) ss opens steps are = are
-kept_slots moves old new e (Ranges ranges) ss opens steps are = are
-kept_slots moves old new e (Rights rights) ss opens steps are = are
-kept_slots moves old new e (Counted counts) ss opens steps are = are
-kept_slots moves old new e (Rows rows) ss opens steps are = are
+kept_slots moves old new e _ ss opens steps are = are
 
 -- ---- which event an entry is
 abbrev event_of : Event → Step → Event
 event_of other (step.Event e) = e
-event_of other (step.Next user slot n) = other
-event_of other (step.Many user slot ranges) = other
-event_of other (step.Close user slot) = other
+event_of other _ = other
 
 abbrev event_in : Event → List Entry → Event
 event_in other [] = other
@@ -130,6 +99,11 @@ is_right w h x e r one all fits moment e' r' ms es =
     subst (λ (v : Event). (IsAnswer w h h (step.Event v) r' ⊎ LacksMemory (step.Event v) r') × (x.all ≡ session_list w.base (journal w h) v.act)) same
     (subst (λ (t : Told). IsAnswer w h h (step.Event e) t ⊎ LacksMemory (step.Event e) t) also fits, all)
 
+-- an event that names no slot of a job is an exact step
+exactly : (old new : Held) (e : Event) (r : Reply SessionState TabletMerge) → NamesNoSlot e.act → StepsWith old None e r new → StepsExactly old None e (told_of r) (job_of r) new
+exactly old new e r names (inl did) = did.1
+exactly old new e r names (inr (slot, by, told, same)) = let never : ⊥ = subst NamesNoSlot by.1 names in absurd never
+
 -- ---- one exchange
 -- What is asked comes to this exchange, the core and the sessions stand where the connection does, and an event is answered right, whatever history the core refined.
 pub record Comes {M : Type 0} (gives : M → ℤ → M → Type 0) (old : Served M) (talk : Talk) (what : Asked) (told : Sent) (new : Served M) : Type 0 where
@@ -140,7 +114,7 @@ pub record Comes {M : Type 0} (gives : M → ℤ → M → Type 0) (old : Served
   pub does : Answers talk.moves x.what x after
   pub slots : SlotsAre after new.slots
   pub gave : Gave gives old.moments x.moments new.moments
-  pub exact : IsChain EntryGoes old.core x.entries new.core
+  pub exact : IsChain ServedGoes old.core x.entries new.core
   pub right : (w : World) (h : List Entry) → Refines (world_of (base_of old.core)) (world_after w h) → KnowsSessions w h talk → IsRight w h x
 
 module _ {M : Type 0} (gives : M → ℤ → M → Type 0) (old new : Served M) (talk : Talk) (are : SlotsAre talk.moves old.slots) where
@@ -205,7 +179,7 @@ module _ {M : Type 0} (gives : M → ℤ → M → Type 0) (old new : Served M) 
       (λ x moments entries told. (r, inl (from.answers ∙ ap (λ (s : Option SessionState). close_answer s slot) (sym (are.sessions slot))), record { moments = moments; entries = entries; told = told }, refl))
 
   -- ---- acts
-  module _ (user : List ℕ) (by : talk.user ≡ Some user) (act : Act) (told : Sent) where
+  module _ (user : List ℕ) (by : talk.user ≡ Some user) (act : Act) (names : NamesNoSlot act) (told : Sent) where
     -- an Open past the limit of sessions
     too_many : (r : Told) → IsTooMany old act r new → told ≡ sent_of (length old.slots) 0 r → Comes gives old talk (asked.Request user (asks.Act act)) told new
     too_many r many is =
@@ -224,7 +198,7 @@ module _ {M : Type 0} (gives : M → ℤ → M → Type 0) (old new : Served M) 
         }
 
     -- an event at the next moment
-    event_comes : (moment : ℤ) (r : Told) → (is_open act && is_full talk.moves) ≡ false → gives old.moments moment new.moments → EntryGoes old.core (entry (step.Event (asked_at user moment act)) r) new.core
+    event_comes : (moment : ℤ) (r : Told) → (is_open act && is_full talk.moves) ≡ false → gives old.moments moment new.moments → ServedGoes old.core (entry (step.Event (asked_at user moment act)) r) new.core
         → SlotsAre (moves_told (step.Event (asked_at user moment act)) r (session_list (base_of old.core) [] act) ++ talk.moves) new.slots
         → ((w : World) (h : List Entry) → Refines (world_of (base_of old.core)) (world_after w h) → moves_of w user h ≡ talk.moves → IsAnswer w h h (step.Event (asked_at user moment act)) r ⊎ LacksMemory (step.Event (asked_at user moment act)) r)
         → told ≡ sent_of (length old.slots) 0 r → Comes gives old talk (asked.Request user (asks.Act act)) told new
@@ -262,18 +236,18 @@ module _ {M : Type 0} (gives : M → ℤ → M → Type 0) (old new : Served M) 
             (λ w h refines knows. inr (open_takes act next.opens, refl)) (is ∙ ap (sent_of (length old.slots) 0) lacks.0)
         go (inr (inr (room', (answer, steps, exact, told_is, kept)))) =
             let e : Event = asked_at user next.moment act in
-            event_comes next.moment (told_of answer) room next.gave (inl exact)
+            event_comes next.moment (told_of answer) room next.gave (inl (job_of answer, exactly old.core new.core e answer names exact))
             (subst (λ (ss : List (Option SessionState)). SlotsAre (moves_told (step.Event e) (told_of answer) (session_list (base_of old.core) [] act) ++ talk.moves) ss) (sym kept) (kept_slots talk.moves old.core new.core e answer old.slots next.opens steps are))
-            (λ w h refines knows. steps.answers w h refines h (λ opens. ap is_full knows ∙ free)) (is ∙ ap (sent_of (length old.slots) 0) told_is)
+            (λ w h refines knows. steps.answers w h refines h (λ opens. ap is_full knows ∙ free, names)) (is ∙ ap (sent_of (length old.slots) 0) told_is)
 
     -- any other act
     applies : (r : Told) → Applies gives old user act r new → told ≡ sent_of (length old.slots) 0 r → Comes gives old talk (asked.Request user (asks.Act act)) told new
     applies r does is =
         let e : Event = asked_at user does.moment act in
-        event_comes does.moment (told_of does.answer) (ap (λ (b : Bool). b && is_full talk.moves) does.shut) does.gave (inl does.exact)
+        event_comes does.moment (told_of does.answer) (ap (λ (b : Bool). b && is_full talk.moves) does.shut) does.gave (inl (job_of does.answer, exactly old.core new.core e does.answer names does.exact))
         (subst (λ (ss : List (Option SessionState)). SlotsAre (moves_told (step.Event e) (told_of does.answer) (session_list (base_of old.core) [] act) ++ talk.moves) ss) (sym does.slots)
         (shut_slots talk.moves e (told_of does.answer) (session_list (base_of old.core) [] act) old.slots does.shut are))
-        (λ w h refines knows. does.steps.answers w h refines h (λ opens. absurd (true≢false (sym opens ∙ does.shut)))) (is ∙ ap (sent_of (length old.slots) 0) does.told)
+        (λ w h refines knows. does.steps.answers w h refines h (λ opens. absurd (true≢false (sym opens ∙ does.shut)), names)) (is ∙ ap (sent_of (length old.slots) 0) does.told)
 
     act_comes : (r : Told) → IsTooMany old act r new ⊎ OpensNext gives old user act r new ⊎ Applies gives old user act r new → told ≡ sent_of (length old.slots) 0 r → Comes gives old talk (asked.Request user (asks.Act act)) told new
     act_comes r (inl many) is = too_many r many is
@@ -281,11 +255,11 @@ module _ {M : Type 0} (gives : M → ℤ → M → Type 0) (old new : Served M) 
     act_comes r (inr (inr does)) is = applies r does is
 
   -- ---- any request
-  pub request_comes : (user : List ℕ) (request : Request) (r : Told) (told : Sent) → IsBy talk.user user request → Serves gives old user request r new → told ≡ sent_of (length old.slots) (cells_asked request) r
+  pub request_comes : (user : List ℕ) (request : Request) (r : Told) (told : Sent) → AsksNoSlot request → IsBy talk.user user request → Serves gives old user request r new → told ≡ sent_of (length old.slots) (cells_asked request) r
       → Comes gives old talk (asked.Request user request) told new
-  request_comes user (asks.Hello name) r told by says is =
+  request_comes user (asks.Hello name) r told names by says is =
       quiet (asked.Request user (asks.Hello name)) told says.1 (record { moments = refl; entries = refl; told = is ∙ ap (sent_of (length old.slots) 0) says.0 }, refl)
-  request_comes user (asks.Act act) r told by says is = act_comes user by act told r says is
-  request_comes user (asks.Next slot n) r told by says is = next_comes user slot n r told says.0 says.1 is
-  request_comes user (asks.Many slot ranges) r told by says is = many_comes user slot ranges r told says.0 says.1 is
-  request_comes user (asks.Close slot) r told by says is = close_comes user slot r told says.0 says.1 is
+  request_comes user (asks.Act act) r told names by says is = act_comes user by act names told r says is
+  request_comes user (asks.Next slot n) r told names by says is = next_comes user slot n r told says.0 says.1 is
+  request_comes user (asks.Many slot ranges) r told names by says is = many_comes user slot ranges r told says.0 says.1 is
+  request_comes user (asks.Close slot) r told names by says is = close_comes user slot r told says.0 says.1 is

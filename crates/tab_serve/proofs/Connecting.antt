@@ -1,22 +1,19 @@
 -- A whole connection over a core: from what comes of the pieces of its stream to the history that they make.
-use Rattle.std.proofs.Common.{◌≡◌, inl, inr, ℕ, ℤ, List, [], ◌∷◌, ◌++◌, length, Option, Some, None, refl, sym, ap, ◌∙◌, subst, append_assoc, append-nil}
+use Rattle.std.proofs.Common.{◌≡◌, ℕ, ℤ, Bool, List, [], ◌∷◌, ◌++◌, length, Option, Some, None, refl, sym, ap, ◌∙◌, subst, append_assoc, append-nil}
 use Rattle.std.specs.Prelude.{Result, Ok, Err, IfSome, is_some}
 use Rattle.tab_io.specs.declared.reading.Input.{Ghosts as InputGhosts}
 use Rattle.tab_io.specs.declared.writing.Output.{Ghosts as OutputGhosts}
-use Rattle.tab_history.specs.declared.event.Step.{Step}
-use Rattle.tab_history.specs.declared.event.Step.TheVariants.{Event, Next, Many, Close}
 use Rattle.tab_history.specs.Answers.{Told}
 use Rattle.tab_history.specs.Histories.{Entry, World, world_of, world_after, moves_of}
 use Rattle.tab_history.specs.Legal.{Legal}
 use Rattle.tab_history.specs.Refinement.{Refines}
 use Rattle.tab_history.specs.Chains.{IsChain}
-use Rattle.tab_history.proofs.GoesOnLemmas.{goes_on}
-use Rattle.tab_history.proofs.Playing.{unmoved}
 use Rattle.tab_core.specs.SessionState.{SessionState}
 use Rattle.tab_core.specs.Stores.{Held, base_of}
-use Rattle.tab_core.specs.Chains.{DoesExactly, EntryGoes}
+use Rattle.tab_core.specs.Chains.{ServedGoes}
 use Rattle.tab_core.specs.Slots.{SlotsAre}
 use Rattle.tab_core.proofs.SlotLemmas.{slots_none}
+use Rattle.tab_core.proofs.ChainLaws.{served_refines}
 use Rattle.tab_core.proofs.Runs.{after_none}
 use Rattle.tab_core.proofs.Joining.{chain_join}
 use Rattle.tab_wire.specs.declared.request.Request.{Request}
@@ -27,6 +24,7 @@ use Rattle.tab_wire.specs.Replies.{Sent, sent_of, sent_bytes}
 use Rattle.tab_wire.specs.Stream.{Piece, pieces_of}
 use Rattle.tab_wire.specs.Talking.{Talk, new_talk, Exchange, Speaks, Talks, entries_of, moments_of, replied}
 use Rattle.tab_wire.specs.TalkLaws.{KnowsSessions}
+use Rattle.tab_wire.proofs.NoSlots.{read_free}
 use Rattle.tab_wire.proofs.WholeTalks.{talks_stay}
 use Rattle.tab_serve.specs.declared.fault.ServeFault.{ServeFault}
 use Rattle.tab_serve.specs.declared.fault.ServeFault.TheVariants.{Read, Write}
@@ -38,20 +36,9 @@ use Rattle.tab_serve.specs.Serving.{Gave, ServesPieces, ServesAll}
 use Rattle.tab_serve.proofs.Carrying.{Comes, quiet, request_comes}
 
 -- ---- a chain of exact steps goes on with each history that its first core refined
-goes_further : (w : World) (h : List Entry) (before last : Held) (step : Step) (r : Told) → DoesExactly before step r last → Refines (world_of (base_of before)) (world_after w h) → Refines (world_of (base_of last)) (world_after w (record { step = step; reply = r } ∷ h))
-goes_further w h before last (Event e) r x refines = (goes_on w h (base_of before) (record { step = Event e; reply = r }) (base_of last) refines x.right).refines
-goes_further w h before last (Next user slot n) r x refines = absurd x
-goes_further w h before last (Many user slot ranges) r x refines = absurd x
-goes_further w h before last (Close user slot) r x refines = absurd x
-
-entry_further : (w : World) (h : List Entry) (before last : Held) (e : Entry) → EntryGoes before e last → Refines (world_of (base_of before)) (world_after w h) → Refines (world_of (base_of last)) (world_after w (e ∷ h))
-entry_further w h before last e (inl x) refines = goes_further w h before last e.step e.reply x refines
-entry_further w h before last e (inr x) refines =
-    subst (λ (v : World). Refines (world_of (base_of last)) v) (sym (unmoved w h e x.0)) (subst (λ (c : Held). Refines (world_of (base_of c)) (world_after w h)) (sym x.1) refines)
-
-chain_further : (w : World) (h : List Entry) (first last : Held) (es : List Entry) → IsChain EntryGoes first es last → Refines (world_of (base_of first)) (world_after w h) → Refines (world_of (base_of last)) (world_after w (es ++ h))
+chain_further : (w : World) (h : List Entry) (first last : Held) (es : List Entry) → IsChain ServedGoes first es last → Refines (world_of (base_of first)) (world_after w h) → Refines (world_of (base_of last)) (world_after w (es ++ h))
 chain_further w h first last [] same refines = subst (λ (c : Held). Refines (world_of (base_of c)) (world_after w h)) same refines
-chain_further w h first last (e ∷ es) chain refines = entry_further w (es ++ h) chain.0 last e chain.2 (chain_further w h first chain.0 es chain.1 refines)
+chain_further w h first last (e ∷ es) chain refines = served_refines w (es ++ h) chain.0 last e chain.2 (chain_further w h first chain.0 es chain.1 refines)
 
 -- ---- moments, one after another
 gave_join : {M : Type 0} (gives : M → ℤ → M → Type 0) (a b c : M) (xs ys : List ℤ) → Gave gives a xs b → Gave gives b ys c → Gave gives a (xs ++ ys) c
@@ -67,15 +54,15 @@ knows_none w user by = refl
 module _ {S M : Type 0} (s : Ghosts S) (gives : M → ℤ → M → Type 0) (view : S → Served M) (Lent : S → S → Type 0) (itself : (x : S) → Lent x x) (along : (x y z : S) → Lent x y → Lent y z → Lent x z)
     (says : (x : S) (user : List ℕ) (request : Request) (r : Told) (y : S) → s.answers x user request r y → Serves gives (view x) user request r (view y) × Lent x y) (counts : (x : S) → s.opened x ≡ length (view x).slots) where
   -- what one piece comes to
-  told_comes : (old new : S) (talk : Talk) (what : Asked) (told : Sent) (user : Option (List ℕ)) → SlotsAre talk.moves (view old).slots → Hears talk.user what user → Tells s old what told new → Comes gives (view old) talk what told (view new) × Lent old new
-  told_comes old new talk (asked.Request user request) told after are hears tells =
+  told_comes : (old new : S) (talk : Talk) (greeted : Bool) (piece : Piece) (what : Asked) (told : Sent) (user : Option (List ℕ)) → IsRead greeted piece what → SlotsAre talk.moves (view old).slots → Hears talk.user what user → Tells s old what told new → Comes gives (view old) talk what told (view new) × Lent old new
+  told_comes old new talk greeted piece (asked.Request user request) told after read are hears tells =
       let said = says old user request tells.0 new tells.1 in
-      (request_comes gives (view old) (view new) talk are user request tells.0 told hears.0 said.0 (tells.2 ∙ ap (λ (n : ℕ). sent_of n (cells_asked request) tells.0) (counts old)), said.1)
-  told_comes old new talk (asked.Bad reason) told after are hears tells =
+      (request_comes gives (view old) (view new) talk are user request tells.0 told (read_free greeted piece user request read) hears.0 said.0 (tells.2 ∙ ap (λ (n : ℕ). sent_of n (cells_asked request) tells.0) (counts old)), said.1)
+  told_comes old new talk greeted piece (asked.Bad reason) told after read are hears tells =
       (quiet gives (view old) (view new) talk are (asked.Bad reason) told (ap view tells.0) (record { moments = refl; entries = refl; told = tells.1 }, refl), subst (λ (z : S). Lent old z) (sym tells.0) (itself old))
-  told_comes old new talk (asked.Broken reason) told after are hears tells =
+  told_comes old new talk greeted piece (asked.Broken reason) told after read are hears tells =
       (quiet gives (view old) (view new) talk are (asked.Broken reason) told (ap view tells.0) (record { moments = refl; entries = refl; told = tells.1 }, refl), subst (λ (z : S). Lent old z) (sym tells.0) (itself old))
-  told_comes old new talk asked.NoMemory told after are hears tells =
+  told_comes old new talk greeted piece asked.NoMemory told after read are hears tells =
       (quiet gives (view old) (view new) talk are asked.NoMemory told (ap view tells.0) (record { moments = refl; entries = refl; told = tells.1 }, refl), subst (λ (z : S). Lent old z) (sym tells.0) (itself old))
 
   -- what some pieces come to, from a talk on
@@ -85,7 +72,7 @@ module _ {S M : Type 0} (s : Ghosts S) (gives : M → ℤ → M → Type 0) (vie
     talks : Talks talk pieces exchanges last
     replies : text ≡ replied exchanges
     gave : Gave gives (view old.service).moments (moments_of exchanges) (view new.service).moments
-    exact : IsChain EntryGoes (view old.service).core (entries_of exchanges) (view new.service).core
+    exact : IsChain ServedGoes (view old.service).core (entries_of exchanges) (view new.service).core
     histories : (w : World) (h : List Entry) → Refines (world_of (base_of (view old.service).core)) (world_after w h) → Legal w h → KnowsSessions w h talk
         → Legal w (entries_of exchanges ++ h) × KnowsSessions w (entries_of exchanges ++ h) last
     lent : Lent old.service new.service
@@ -105,7 +92,7 @@ module _ {S M : Type 0} (s : Ghosts S) (gives : M → ℤ → M → Type 0) (vie
       let mid : Side S = turns.2 in
       let turn : Turn s old piece turns.0 mid = turns.3 in
       let hears : Hears talk.user turn.what mid.user = subst (λ (u : Option (List ℕ)). Hears u turn.what mid.user) by turn.by in
-      let both = told_comes old.service mid.service talk turn.what turn.told mid.user are hears turn.tells in
+      let both = told_comes old.service mid.service talk (is_some old.user) piece turn.what turn.told mid.user turn.read are hears turn.tells in
       let one : Comes gives (view old.service) talk turn.what turn.told (view mid.service) = both.0 in
       let x : Exchange = one.x in
       let next : Talk = record { user = mid.user; moves = one.after } in
@@ -118,7 +105,7 @@ module _ {S M : Type 0} (s : Ghosts S) (gives : M → ℤ → M → Type 0) (vie
         talks = (next, read, speaks, rest.talks);
         replies = turns.5 ∙ (λ i. (turn.bytes ∙ ap sent_bytes (sym one.tells)) i ++ rest.replies i);
         gave = gave_join gives (view old.service).moments (view mid.service).moments (view new.service).moments x.moments (moments_of rest.exchanges) one.gave rest.gave;
-        exact = chain_join EntryGoes (view old.service).core (view mid.service).core (view new.service).core x.entries (entries_of rest.exchanges) one.exact rest.exact;
+        exact = chain_join ServedGoes (view old.service).core (view mid.service).core (view new.service).core x.entries (entries_of rest.exchanges) one.exact rest.exact;
         histories = λ w h refines legal knows.
             let stays = talks_stay w h talk (piece ∷ []) (x ∷ []) next legal knows (next, read, speaks, refl) (one.right w h refines knows, tt) in
             let further = chain_further w h (view old.service).core (view mid.service).core x.entries one.exact refines in

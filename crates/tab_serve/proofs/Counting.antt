@@ -7,12 +7,13 @@ use Rattle.tab_history.specs.declared.event.Act.{Act}
 use Rattle.tab_history.specs.declared.reply.Refusal.{Refusal}
 use Rattle.tab_history.specs.declared.reply.Refusal.TheVariants.{NoMemory}
 use Rattle.tab_history.specs.declared.reply.Reply.{Reply}
-use Rattle.tab_history.specs.declared.reply.Reply.TheVariants.{Done, Refused, Opened, Batch, Ranges, Rights, Counted, Rows}
+use Rattle.tab_history.specs.declared.reply.Reply.TheVariants.{Done, Refused, Opened, Batch, Ranges}
 use Rattle.tab_history.specs.Answers.{Told, told, told_of, session_of, next_answer, many_answer, close_answer}
 use Rattle.tab_history.specs.Histories.{world_of}
 use Rattle.tab_history.specs.Checks.{many_checks}
 use Rattle.tab_key.specs.declared.range.Bounds.{Bounds}
 use Rattle.tab_core.specs.Shape.{first_some}
+use Rattle.tab_core.specs.Parts.{TabletMerge}
 use Rattle.tab_core.specs.SessionState.{SessionState, in_ranges}
 use Rattle.tab_core.specs.Stores.{base_of}
 use Rattle.tab_core.specs.Slots.{slot_at, are_full, NextFrom, ManyFrom, CloseFrom}
@@ -32,13 +33,7 @@ pub record Counts (old : List (Option SessionState)) (reply : Told) (new : List 
 -- nothing is opened
 pub none_counted : (old new : List (Option SessionState)) (reply : Told) → opens reply ≡ false → length new ≡ length old → Counts old reply new
 none_counted old new (Opened s) shut same = absurd cc
-none_counted old new Done shut same = record { room = λ opening. absurd cc; opened = same }
-none_counted old new (Refused r) shut same = record { room = λ opening. absurd cc; opened = same }
-none_counted old new (Batch cells) shut same = record { room = λ opening. absurd cc; opened = same }
-none_counted old new (Ranges ranges) shut same = record { room = λ opening. absurd cc; opened = same }
-none_counted old new (Rights rights) shut same = record { room = λ opening. absurd cc; opened = same }
-none_counted old new (Counted counts) shut same = record { room = λ opening. absurd cc; opened = same }
-none_counted old new (Rows rows) shut same = record { room = λ opening. absurd cc; opened = same }
+none_counted old new _ shut same = record { room = λ opening. absurd cc; opened = same }
 
 -- ---- steps on a session
 next_shut : (s : Option SessionState) (slot n : ℕ) → opens (next_answer s slot n) ≡ false
@@ -47,13 +42,7 @@ next_shut (Some held) slot n = refl
 
 next_length : (old new : List (Option SessionState)) (slot n : ℕ) (reply : Told) → NextFrom old slot n reply new → length new ≡ length old
 next_length old new slot n (Batch cells) from = ap (λ (ss : List (Option SessionState)). length ss) from.after ∙ length_changed old slot _
-next_length old new slot n (Opened s) from = ap (λ (ss : List (Option SessionState)). length ss) from.after
-next_length old new slot n Done from = ap (λ (ss : List (Option SessionState)). length ss) from.after
-next_length old new slot n (Refused r) from = ap (λ (ss : List (Option SessionState)). length ss) from.after
-next_length old new slot n (Ranges ranges) from = ap (λ (ss : List (Option SessionState)). length ss) from.after
-next_length old new slot n (Rights rights) from = ap (λ (ss : List (Option SessionState)). length ss) from.after
-next_length old new slot n (Counted counts) from = ap (λ (ss : List (Option SessionState)). length ss) from.after
-next_length old new slot n (Rows rows) from = ap (λ (ss : List (Option SessionState)). length ss) from.after
+next_length old new slot n _ from = ap (λ (ss : List (Option SessionState)). length ss) from.after
 
 next_counted : (old new : List (Option SessionState)) (slot n : ℕ) (reply : Told) → NextFrom old slot n reply new → Counts old reply new
 next_counted old new slot n reply from = none_counted old new reply (shut from.answers) (next_length old new slot n reply from)
@@ -80,13 +69,7 @@ close_shut (Some held) slot = refl
 
 close_length : (old new : List (Option SessionState)) (slot : ℕ) (reply : Told) → CloseFrom old slot reply new → length new ≡ length old
 close_length old new slot Done from = ap (λ (ss : List (Option SessionState)). length ss) from.after ∙ length_changed old slot _
-close_length old new slot (Opened s) from = ap (λ (ss : List (Option SessionState)). length ss) from.after
-close_length old new slot (Batch cells) from = ap (λ (ss : List (Option SessionState)). length ss) from.after
-close_length old new slot (Refused r) from = ap (λ (ss : List (Option SessionState)). length ss) from.after
-close_length old new slot (Ranges ranges) from = ap (λ (ss : List (Option SessionState)). length ss) from.after
-close_length old new slot (Rights rights) from = ap (λ (ss : List (Option SessionState)). length ss) from.after
-close_length old new slot (Counted counts) from = ap (λ (ss : List (Option SessionState)). length ss) from.after
-close_length old new slot (Rows rows) from = ap (λ (ss : List (Option SessionState)). length ss) from.after
+close_length old new slot _ from = ap (λ (ss : List (Option SessionState)). length ss) from.after
 
 close_counted : (old new : List (Option SessionState)) (slot : ℕ) (reply : Told) → CloseFrom old slot reply new → Counts old reply new
 close_counted old new slot reply from = none_counted old new reply (ap opens from.answers ∙ close_shut (slot_at old slot) slot) (close_length old new slot reply from)
@@ -100,15 +83,9 @@ few_opened ss room = go (nat_le 65536 (count_by is_some ss)) room
     go true room = absurd (true≢false room)
     go false room = grind (arith, nat_tests)
 
-pub kept_counted : (ss : List (Option SessionState)) (r : Reply SessionState) → are_full ss ≡ false → Counts ss (told_of r) (kept_with ss (session_of r))
+pub kept_counted : (ss : List (Option SessionState)) (r : Reply SessionState TabletMerge) → are_full ss ≡ false → Counts ss (told_of r) (kept_with ss (session_of r))
 kept_counted ss (Opened s) room = record { room = λ opening. few_opened ss room; opened = length-append ss (Some s ∷ []) }
-kept_counted ss Done room = none_counted ss ss Done refl refl
-kept_counted ss (Refused r) room = none_counted ss ss (Refused r) refl refl
-kept_counted ss (Batch cells) room = none_counted ss ss (Batch cells) refl refl
-kept_counted ss (Ranges ranges) room = none_counted ss ss (Ranges ranges) refl refl
-kept_counted ss (Rights rights) room = none_counted ss ss (Rights rights) refl refl
-kept_counted ss (Counted counts) room = none_counted ss ss (Counted counts) refl refl
-kept_counted ss (Rows rows) room = none_counted ss ss (Rows rows) refl refl
+kept_counted ss _ room = none_counted ss ss _ refl refl
 
 -- ---- any request
 module _ {M : Type 0} (gives : M → ℤ → M → Type 0) (old : Served M) (user : List ℕ) (reply : Told) (new : Served M) where

@@ -1,5 +1,5 @@
 -- One request of a connection over a core: what it is told, and what it leaves.
-use Rattle.std.specs.Prelude.{ℕ, ℤ, ◌≡◌, ◌⊎◌, true, false, List, Option}
+use Rattle.std.specs.Prelude.{ℕ, ℤ, ◌≡◌, ◌⊎◌, true, false, List, Option, None}
 use Rattle.tab_key.specs.declared.part.Part.TheVariants.{Sessions}
 use Rattle.tab_history.specs.declared.event.Act.{Act}
 use Rattle.tab_history.specs.declared.event.Event.{Event}
@@ -9,7 +9,8 @@ use Rattle.tab_history.specs.declared.reply.Reply.TheVariants.{Done, Refused}
 use Rattle.tab_history.specs.Answers.{Told, told_of, is_open}
 use Rattle.tab_core.specs.SessionState.{SessionState}
 use Rattle.tab_core.specs.Stores.{Held, base_of}
-use Rattle.tab_core.specs.Stepping.{Steps, StepsExactly}
+use Rattle.tab_core.specs.Parts.{TabletMerge}
+use Rattle.tab_core.specs.Stepping.{Steps, StepsWith}
 use Rattle.tab_core.specs.Slots.{are_full, NextFrom, ManyFrom, CloseFrom}
 use Rattle.tab_core.specs.Owners.{OpensIn}
 use Rattle.tab_wire.specs.declared.request.Request.{Request}
@@ -45,14 +46,15 @@ pub record OpensNext {M : Type 0} (gives : M → ℤ → M → Type 0) (old : Se
   pub gave : gives old.moments moment new.moments
   pub does : OpensIn old.core old.slots (asked_at user moment act) reply new.core new.slots
 
--- any other act is an event at the next moment, which the core answers by one exact step
+-- Any other act is an event at the next moment, which the core answers by one exact step: no merge comes with it, and a job that it begins is
+-- dropped. Only what names the slot of a job is no event, since a connection has none.
 pub record Applies {M : Type 0} (gives : M → ℤ → M → Type 0) (old : Served M) (user : List ℕ) (act : Act) (reply : Told) (new : Served M) : Type 0 where
   pub shut : is_open act ≡ false
   pub moment : ℤ
   pub gave : gives old.moments moment new.moments
-  pub answer : Reply SessionState
+  pub answer : Reply SessionState TabletMerge
   pub steps : Steps (base_of old.core) (asked_at user moment act) answer (base_of new.core)
-  pub exact : StepsExactly old.core (asked_at user moment act) (told_of answer) new.core
+  pub exact : StepsWith old.core None (asked_at user moment act) answer new.core
   pub told : reply ≡ told_of answer
   pub slots : new.slots ≡ old.slots
 

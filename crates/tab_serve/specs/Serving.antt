@@ -7,7 +7,7 @@ use Rattle.tab_history.specs.Legal.{Legal}
 use Rattle.tab_history.specs.Refinement.{Refines}
 use Rattle.tab_history.specs.Chains.{IsChain}
 use Rattle.tab_core.specs.Stores.{Held, base_of}
-use Rattle.tab_core.specs.Chains.{EntryGoes}
+use Rattle.tab_core.specs.Chains.{ServedGoes}
 use Rattle.tab_wire.specs.Stream.{Piece, pieces_of}
 use Rattle.tab_wire.specs.Talking.{Talk, new_talk, Exchange, Talks, entries_of, moments_of, replied}
 use Rattle.tab_wire.specs.TalkLaws.{KnowsSessions}
@@ -37,8 +37,8 @@ pub record ServesPieces {M : Type 0} (gives : M → ℤ → M → Type 0) (old :
   pub replies : text ≡ replied exchanges
   -- the moments of the events, in order
   pub moments : Gave gives m (moments_of exchanges) m'
-  -- the events are a chain of exact steps, from the core before to the core left
-  pub exact : IsChain EntryGoes old (entries_of exchanges) new
+  -- the events are a chain of exact steps, from the core before to the core left; no merge comes with any of them
+  pub exact : IsChain ServedGoes old (entries_of exchanges) new
   -- from each world that the core refined, whatever history led there, the entries are a legal history; no session that was opened before counts in it
   pub histories : (w : World) → Refines (world_of (base_of old)) w → IsHistoryFrom w (entries_of exchanges) new last
 

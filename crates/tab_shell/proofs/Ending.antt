@@ -10,7 +10,6 @@ use Rattle.tab_io.specs.declared.writing.Output.{Ghosts}
 use Rattle.tab_io.proofs.Putting.{put_more, put_part_more, all_written, part_written}
 use Rattle.tab_lines.specs.declared.file_line.FileLine.{FileLine}
 use Rattle.tab_lines.specs.declared.line.Line.{Line}
-use Rattle.tab_lines.specs.declared.line.Line.TheVariants as line
 use Rattle.tab_lines.specs.declared.line_error.LineError.{LineError}
 use Rattle.tab_shell.specs.declared.pending.Pending.{Pending}
 use Rattle.tab_shell.specs.declared.script.Ended.TheVariants.{Input, File}

@@ -2,6 +2,7 @@ pub mod PendingLemmas
 pub mod Taking
 pub mod ProgressLemmas
 pub mod Reading
+pub mod JobSteps
 pub mod Saying
 pub mod Batching
 pub mod Keeping

@@ -10,19 +10,21 @@ use Rattle.tab_history.specs.declared.event.Scan.{Scan}
 use Rattle.tab_history.specs.declared.event.Act.TheVariants.{Open}
 use Rattle.tab_history.specs.declared.reply.Refusal.TheVariants.{NoMemory}
 use Rattle.tab_history.specs.declared.reply.Reply.{Reply}
-use Rattle.tab_history.specs.declared.reply.Reply.TheVariants.{Done, Refused, Opened, Batch, Ranges, Rights as OwnRights, Counted, Rows}
+use Rattle.tab_history.specs.declared.reply.Reply.TheVariants.{Done, Refused, Opened, Batch, Ranges, Rights as OwnRights, Counted, Rows, Begun, Nothing}
 use Rattle.tab_history.specs.Answers.{Told, session_list, told_of, session_of}
 use Rattle.tab_history.specs.Sessions.{Move, Opening, opened}
 use Rattle.tab_history.specs.Histories.{Entry, World, journal, moves_of}
 use Rattle.tab_core.specs.Stores.{Held, base_of}
-use Rattle.tab_core.specs.Stepping.{Steps, StepsExactly}
+use Rattle.tab_core.specs.Parts.{TabletMerge}
+use Rattle.tab_core.specs.Stepping.{Steps}
 use Rattle.tab_core.specs.Slots.{are_full}
 use Rattle.tab_core.specs.Owners.{kept_with}
 use Rattle.tab_lines.specs.declared.line.Line.TheVariants as line
 use Rattle.tab_shell.specs.Sessions.{Kept, Keeping, Numbers, kept_of, opened_in, is_spent, with_number, KeptAre, KeepsFor, OpenIn}
 use Rattle.tab_shell.specs.Texts.{refusal_text, opened_text}
 use Rattle.tab_shell.specs.Scripts.{Asker, ScriptState, ScriptRefines, ScriptAnswersLine, numbers_told, event_by, entry}
-use Rattle.tab_shell.proofs.Saying.{same_cond, one_step}
+use Rattle.tab_shell.proofs.Saying.{same_cond}
+use Rattle.tab_shell.proofs.JobSteps.{OpensExactly, opens_exactly, jobs_stay}
 use Rattle.tab_shell.proofs.Keeping.{kept_opened}
 use Rattle.tab_shell.proofs.Scanning.{own_kept, with_sessions, bytes_self, open_moves, other_moves, kept_by_user, legal_open, starved_opens, kept_counts, with_kept}
 
@@ -53,8 +55,8 @@ kept_same s kept slots keeps same n = go (bytes_eq s.asker.user n) refl
     go false away = keeps n ∙ ap (λ (b : Bool). cond b (with_slots (own_kept s) slots) (kept_of s.kept n)) away
 
 -- the core answered, and opened no session
-quiet_answered : (s : ScriptState) (core : Held) (kept : Keeping) (slots : List (Option SessionState)) (scan : Scan) (r : Reply SessionState) → is_spent (own_kept s) ≡ false
-    → Steps (base_of s.core) (event_by s.asker (Open scan)) r (base_of core) → StepsExactly s.core (event_by s.asker (Open scan)) (told_of r) core
+quiet_answered : (s : ScriptState) (core : Held) (kept : Keeping) (slots : List (Option SessionState)) (scan : Scan) (r : Reply SessionState TabletMerge) → is_spent (own_kept s) ≡ false
+    → Steps (base_of s.core) (event_by s.asker (Open scan)) r (base_of core) → OpensExactly s core scan (told_of r)
     → KeepsFor s.asker.user (with_slots (own_kept s) slots) s.kept kept → slots ≡ (own_kept s).numbered → IsQuiet scan (told_of r)
     → ((numbers : Numbers) (user : List ℕ) (slot : ℕ) → numbers_told numbers user slot (told_of r) ≡ numbers) → ((a b : ℕ) → opened_text a (told_of r) ≡ opened_text b (told_of r))
     → ScriptAnswersLine s (Ok (line.Open scan)) (opened_text 0 (told_of r)) (with_sessions s core kept)
@@ -66,12 +68,13 @@ quiet_answered s core kept slots scan r room steps exact keeps same quiet still 
       let stands : ScriptRefines (with_sessions s core kept) numbers w (e ∷ h) = record {
         core = steps.refines w h refines.core;
         sessions = λ n. subst (λ (k : Kept). KeptAre (moves_of w n (e ∷ h)) (numbers n) k) (sym (kept_same s kept slots keeps same n)) (subst (λ (ms : List Move). KeptAre ms (numbers n) (kept_of s.kept n)) (sym (quiet w s.asker h n)) (refines.sessions n));
+        jobs = jobs_stay s.jobs e h refl refines.jobs;
       } in (
         e ∷ [],
         (reply, refl, plain 0 (length (numbers s.asker.user))),
         record {
           legal = (legal, legal_open s core scan r w h numbers room steps refines);
-          exact = one_step s.core core (event_by s.asker (Open scan)) reply exact;
+          exact = exact;
           refines = subst (λ (n : Numbers). ScriptRefines (with_sessions s core kept) n w (e ∷ h)) (sym (still numbers s.asker.user (opened (moves_of w s.asker.user h)))) stands;
         },
       );
@@ -79,7 +82,7 @@ quiet_answered s core kept slots scan r room steps exact keeps same quiet still 
 
 -- the core opened a session, which is kept
 session_kept : (s : ScriptState) (core : Held) (kept : Keeping) (slots : List (Option SessionState)) (scan : Scan) (session : SessionState) → is_spent (own_kept s) ≡ false
-    → Steps (base_of s.core) (event_by s.asker (Open scan)) (Opened session) (base_of core) → StepsExactly s.core (event_by s.asker (Open scan)) (Opened tt) core
+    → Steps (base_of s.core) (event_by s.asker (Open scan)) (Opened session) (base_of core) → OpensExactly s core scan (Opened tt)
     → KeepsFor s.asker.user (with_slots (own_kept s) slots) s.kept kept → slots ≡ (own_kept s).numbered ++ Some session ∷ []
     → ScriptAnswersLine s (Ok (line.Open scan)) (opened_text (length (own_kept s).numbered) (Opened tt)) (with_sessions s core kept)
 session_kept s core kept slots scan session room steps exact keeps more = record {
@@ -103,19 +106,20 @@ session_kept s core kept slots scan session room steps exact keeps more = record
         (Opened tt, refl, ap (λ n. opened_text n (Opened tt)) (sym are.given)),
         record {
           legal = (legal, legal_open s core scan (Opened session) w h numbers room steps refines);
-          exact = one_step s.core core (event_by s.asker (Open scan)) (Opened tt) exact;
+          exact = exact;
           refines = record {
             core = steps.refines w h refines.core;
             sessions = kept_by_user w user h (e ∷ h) numbers after s.kept kept (with_slots own slots) keeps (λ n away. other_moves w n e h away)
                 (λ n away. ap (λ (b : Bool). cond b (numbers n ++ opened before ∷ []) (numbers n)) away) own_now refines.sessions;
+            jobs = jobs_stay s.jobs e h refl refines.jobs;
           };
         },
       );
 }
 
 -- each answer of the core
-core_answered : (s : ScriptState) (core : Held) (kept : Keeping) (slots : List (Option SessionState)) (scan : Scan) (r : Reply SessionState) → is_spent (own_kept s) ≡ false
-    → Steps (base_of s.core) (event_by s.asker (Open scan)) r (base_of core) → StepsExactly s.core (event_by s.asker (Open scan)) (told_of r) core
+core_answered : (s : ScriptState) (core : Held) (kept : Keeping) (slots : List (Option SessionState)) (scan : Scan) (r : Reply SessionState TabletMerge) → is_spent (own_kept s) ≡ false
+    → Steps (base_of s.core) (event_by s.asker (Open scan)) r (base_of core) → OpensExactly s core scan (told_of r)
     → KeepsFor s.asker.user (with_slots (own_kept s) slots) s.kept kept → slots ≡ kept_with (own_kept s).numbered (session_of r)
     → ScriptAnswersLine s (Ok (line.Open scan)) (opened_text (length (own_kept s).numbered) (told_of r)) (with_sessions s core kept)
 unfolding moves_of
@@ -134,6 +138,10 @@ core_answered s core kept slots scan (Counted counts) room steps exact keeps sam
     quiet_answered s core kept slots scan (Counted counts) room steps exact keeps same (λ w who h n. same_cond (bytes_eq who.user n) (moves_of w n h)) (λ ns u k. refl) (λ a b. refl)
 core_answered s core kept slots scan (Rows rows) room steps exact keeps same =
     quiet_answered s core kept slots scan (Rows rows) room steps exact keeps same (λ w who h n. same_cond (bytes_eq who.user n) (moves_of w n h)) (λ ns u k. refl) (λ a b. refl)
+core_answered s core kept slots scan (Begun job) room steps exact keeps same =
+    quiet_answered s core kept slots scan (Begun job) room steps exact keeps same (λ w who h n. same_cond (bytes_eq who.user n) (moves_of w n h)) (λ ns u k. refl) (λ a b. refl)
+core_answered s core kept slots scan Nothing room steps exact keeps same =
+    quiet_answered s core kept slots scan Nothing room steps exact keeps same (λ w who h n. same_cond (bytes_eq who.user n) (moves_of w n h)) (λ ns u k. refl) (λ a b. refl)
 
 -- a session is opened, or the Open is refused
 pub open_answered : (s : ScriptState) (core : Held) (kept : Keeping) (scan : Scan) (reply : Told) → is_spent (own_kept s) ≡ false → OpenIn s.core s.kept s.asker.user (event_by s.asker (Open scan)) reply core kept
@@ -145,4 +153,4 @@ open_answered s core kept scan reply room (slots, inr (inl (lacks, still, same))
     (subst (λ (x : Held). ScriptAnswersLine s (Ok (line.Open scan)) (refusal_text NoMemory) (with_sessions s x kept)) (sym still) starved)
 open_answered s core kept scan reply room (slots, inr (inr (free, (r, steps, exact, is, more))), keeps) =
     subst (λ (t : Told). ScriptAnswersLine s (Ok (line.Open scan)) (opened_text (length (own_kept s).numbered) t) (with_sessions s core kept)) (sym is)
-    (core_answered s core kept slots scan r room steps exact keeps more)
+    (core_answered s core kept slots scan r room steps (opens_exactly s core scan r exact) keeps more)

@@ -12,7 +12,7 @@ use Rattle.tab_history.specs.declared.reply.Refusal.{Refusal}
 use Rattle.tab_history.specs.declared.reply.Refusal.TheVariants.{NoMemory, NoSession, TooLarge, BadRange}
 use Rattle.tab_history.specs.declared.reply.Reply.TheVariants.{Done, Refused, Batch, Ranges}
 use Rattle.tab_history.specs.Checks.{has_bad_range}
-use Rattle.tab_history.specs.Answers.{Told, told, answer, next_answer, ranges_told, many_answer, close_answer}
+use Rattle.tab_history.specs.Answers.{Told, told, answer, next_answer, ranges_told, many_answer, close_answer, job_moves_by}
 use Rattle.tab_history.specs.Sessions.{Move, Taking, Closing, session_in}
 use Rattle.tab_history.specs.Histories.{Entry, World, world_of, is_by, moves_of}
 use Rattle.tab_history.specs.Legal.{Legal, IsAnswer, LacksMemory}
@@ -27,21 +27,24 @@ use Rattle.tab_shell.specs.Sessions.{Kept, Keeping, Numbers, kept_of, KeptAre, K
 use Rattle.tab_shell.specs.Texts.{reply_text, next_text, renumbered}
 use Rattle.tab_shell.specs.Scripts.{ScriptState, ScriptRefines, ScriptGoes, ScriptAnswersLine, slot_of, own_entry}
 use Rattle.tab_shell.proofs.Saying.{same_cond}
+use Rattle.tab_core.proofs.JobLemmas.{stays_exact}
+use Rattle.tab_shell.proofs.JobSteps.{jobs_stay}
 use Rattle.tab_shell.proofs.Keeping.{kept_taken, kept_closed}
 use Rattle.tab_shell.proofs.Scanning.{own_kept, with_kept, bytes_self, other_moves, kept_by_user}
 
 -- ---- one step, which is no event
 one_more : (s : ScriptState) (kept : Keeping) (own : Kept) (w : World) (h : List Entry) (numbers : Numbers) (step : Step) (reply : Told) → ((n : List ℕ) → is_by n step ≡ bytes_eq s.asker.user n) → ScriptRefines s numbers w h → Legal w h
-    → IsAnswer w h h step reply ⊎ LacksMemory step reply → IsNoEvent step reply → KeepsFor s.asker.user own s.kept kept → KeptAre (moves_of w s.asker.user (own_entry step reply ∷ h)) (numbers s.asker.user) own
+    → IsAnswer w h h step reply ⊎ LacksMemory step reply → IsNoEvent step reply → job_moves_by step reply ≡ [] → KeepsFor s.asker.user own s.kept kept → KeptAre (moves_of w s.asker.user (own_entry step reply ∷ h)) (numbers s.asker.user) own
     → ScriptGoes s w h (own_entry step reply ∷ []) numbers (with_kept s kept)
-one_more s kept own w h numbers step reply by refines legal right still keeps are =
+one_more s kept own w h numbers step reply by refines legal right still none keeps are =
     let e : Entry = own_entry step reply in
     record {
       legal = (legal, right);
-      exact = (s.core, refl, inr (still, refl));
+      exact = stays_exact s.core s.jobs step reply still;
       refines = record {
         core = subst (λ (v : World). Refines (world_of (base_of s.core)) v) (sym (unmoved w h e still)) refines.core;
         sessions = kept_by_user w s.asker.user h (e ∷ h) numbers numbers s.kept kept own keeps (λ n away. other_moves w n e h (by n ∙ away)) (λ n away. refl) are refines.sessions;
+        jobs = jobs_stay s.jobs e h none refines.jobs;
       };
     }
 
@@ -110,7 +113,7 @@ next_answered s kept number count reply (slots, from, keeps) = record {
         | inr lacks ↦
             let same : slots ≡ own.numbered = from.after ∙ ap (after_next own.numbered number) lacks in
             let are = same_moves s w h numbers (own_entry step (Refused NoMemory)) (with_slots own slots) (next_refused w user h k count NoMemory) (ap (with_slots own) same) refines in
-            (own_entry step (Refused NoMemory) ∷ [], (Refused NoMemory, refl, ap (next_text count) lacks), one_more s kept (with_slots own slots) w h numbers step (Refused NoMemory) (λ n. refl) refines legal (inr (refl, refl)) tt keeps are)
+            (own_entry step (Refused NoMemory) ∷ [], (Refused NoMemory, refl, ap (next_text count) lacks), one_more s kept (with_slots own slots) w h numbers step (Refused NoMemory) (λ n. refl) refines legal (inr (refl, refl)) tt refl keeps are)
         | inl is ↦ by_slot w h numbers refines legal (slot_at own.numbered number) refl is
       ];
 }
@@ -125,7 +128,7 @@ next_answered s kept number count reply (slots, from, keeps) = record {
         let same : slots ≡ own.numbered = from.after ∙ ap (after_next own.numbered number) is in
         let are = same_moves s w h numbers (own_entry step (Refused (NoSession k))) (with_slots own slots) (next_refused w user h k count (NoSession k)) (ap (with_slots own) same) refines in
         let right : IsAnswer w h h step (Refused (NoSession k)) = next_right s w h numbers number count None (held_alike s w h numbers number None found refines) in
-        (own_entry step (Refused (NoSession k)) ∷ [], (Refused (NoSession k), refl, ap (next_text count) is), one_more s kept (with_slots own slots) w h numbers step (Refused (NoSession k)) (λ n. refl) refines legal (inl right) tt keeps are)
+        (own_entry step (Refused (NoSession k)) ∷ [], (Refused (NoSession k), refl, ap (next_text count) is), one_more s kept (with_slots own slots) w h numbers step (Refused (NoSession k)) (λ n. refl) refines legal (inl right) tt refl keeps are)
     by_slot w h numbers refines legal (Some held) found is =
         let user : List ℕ = s.asker.user in
         let own : Kept = own_kept s in
@@ -137,7 +140,7 @@ next_answered s kept number count reply (slots, from, keeps) = record {
         subst (λ (ss : List (Option SessionState)). KeptAre (Taking k (length cells) ∷ moves_of w user h) (numbers user) (with_slots own ss)) (sym after) (kept_taken (moves_of w user h) (numbers user) own number (length cells) held (refines.sessions user) found) in
         let are = subst (λ (ms : List Move). KeptAre ms (numbers user) (with_slots own slots)) (sym (next_taken w user h k count cells)) taken in
         let right : IsAnswer w h h step (Batch cells) = next_right s w h numbers number count (Some held) (held_alike s w h numbers number (Some held) found refines) in
-        (own_entry step (Batch cells) ∷ [], (Batch cells, refl, ap (next_text count) is), one_more s kept (with_slots own slots) w h numbers step (Batch cells) (λ n. refl) refines legal (inl right) tt keeps are)
+        (own_entry step (Batch cells) ∷ [], (Batch cells, refl, ap (next_text count) is), one_more s kept (with_slots own slots) w h numbers step (Batch cells) (λ n. refl) refines legal (inl right) tt refl keeps are)
 
 -- ---- close
 pub close_answered : (s : ScriptState) (kept : Keeping) (number : ℕ) (reply : Told) → CloseIn s.kept s.asker.user number reply kept → ScriptAnswersLine s (Ok (line.Close number)) (reply_text reply) (with_kept s kept)
@@ -156,7 +159,7 @@ close_answered s kept number reply (slots, from, keeps) = record {
         let same : slots ≡ own.numbered = from.after ∙ ap (after_close own.numbered number) is in
         let are = same_moves s w h numbers (own_entry step (Refused (NoSession k))) (with_slots own slots) (close_refused w user h k (NoSession k)) (ap (with_slots own) same) refines in
         let right : IsAnswer w h h step (Refused (NoSession k)) = close_right s w h numbers number None (held_alike s w h numbers number None found refines) in
-        (own_entry step (Refused (NoSession k)) ∷ [], (Refused (NoSession k), refl, ap reply_text is), one_more s kept (with_slots own slots) w h numbers step (Refused (NoSession k)) (λ n. refl) refines legal (inl right) tt keeps are)
+        (own_entry step (Refused (NoSession k)) ∷ [], (Refused (NoSession k), refl, ap reply_text is), one_more s kept (with_slots own slots) w h numbers step (Refused (NoSession k)) (λ n. refl) refines legal (inl right) tt refl keeps are)
     by_slot w h numbers refines legal (Some held) found is =
         let user : List ℕ = s.asker.user in
         let own : Kept = own_kept s in
@@ -167,7 +170,7 @@ close_answered s kept number reply (slots, from, keeps) = record {
         subst (λ (ss : List (Option SessionState)). KeptAre (Closing k ∷ moves_of w user h) (numbers user) (with_slots own ss)) (sym after) (kept_closed (moves_of w user h) (numbers user) own number held (refines.sessions user) found) in
         let are = subst (λ (ms : List Move). KeptAre ms (numbers user) (with_slots own slots)) (sym (close_done w user h k)) closed in
         let right : IsAnswer w h h step Done = close_right s w h numbers number (Some held) (held_alike s w h numbers number (Some held) found refines) in
-        (own_entry step Done ∷ [], (Done, refl, ap reply_text is), one_more s kept (with_slots own slots) w h numbers step Done (λ n. refl) refines legal (inl right) tt keeps are)
+        (own_entry step Done ∷ [], (Done, refl, ap reply_text is), one_more s kept (with_slots own slots) w h numbers step Done (λ n. refl) refines legal (inl right) tt refl keeps are)
 
 -- ---- many
 -- what refuses ranges says nothing of a session
@@ -189,7 +192,7 @@ many_answered s number ranges reply from = record {
       elim from as (λ x. (es : List Entry) × ((r : Told) × (es ≡ own_entry step r ∷ []) × (reply_text reply ≡ reply_text (renumbered number r))) × ScriptGoes s w h es numbers s) [
         | inr lacks ↦
             let are = same_moves s w h numbers (own_entry step (Refused NoMemory)) (own_kept s) (many_still w user h k ranges (Refused NoMemory)) refl refines in
-            (own_entry step (Refused NoMemory) ∷ [], (Refused NoMemory, refl, ap reply_text lacks), one_more s s.kept (own_kept s) w h numbers step (Refused NoMemory) (λ n. refl) refines legal (inr (refl, refl)) tt (keeps_own s) are)
+            (own_entry step (Refused NoMemory) ∷ [], (Refused NoMemory, refl, ap reply_text lacks), one_more s s.kept (own_kept s) w h numbers step (Refused NoMemory) (λ n. refl) refines legal (inr (refl, refl)) tt refl (keeps_own s) are)
         | inl is ↦ by_slot w h numbers refines legal (slot_at (own_kept s).numbered number) refl is
       ];
 }
@@ -210,7 +213,7 @@ many_answered s number ranges reply from = record {
         let r : Told = many_answer o k ranges in
         let are = same_moves s w h numbers (own_entry step r) (own_kept s) (many_still w user h k ranges r) refl refines in
         let right : IsAnswer w h h step r = many_right s w h numbers number ranges o (held_alike s w h numbers number o found refines) in
-        (own_entry step r ∷ [], (r, refl, ap reply_text (is ∙ named o k)), one_more s s.kept (own_kept s) w h numbers step r (λ n. refl) refines legal (inl right) tt (keeps_own s) are)
+        (own_entry step r ∷ [], (r, refl, ap reply_text (is ∙ named o k)), one_more s s.kept (own_kept s) w h numbers step r (λ n. refl) refines legal (inl right) tt refl (keeps_own s) are)
       where
         named : (o : Option SessionState) (k : ℕ) → many_answer o number ranges ≡ renumbered number (many_answer o k ranges)
         named None k = refl

@@ -5,8 +5,6 @@ use Rattle.std.specs.Io.KnownBytes.{Keeps}
 use Rattle.std.proofs.lemmas.List.{append-nil}
 use Rattle.tab_history.specs.Histories.{Entry, World}
 use Rattle.tab_history.specs.Legal.{Legal}
-use Rattle.tab_core.specs.Chains.{EntryGoes}
-use Rattle.tab_core.proofs.Joining.{chain_join}
 use Rattle.tab_io.specs.Streams.{IsEnd, Fills}
 use Rattle.tab_io.specs.Writing.{HasPut, HasPutPart, WriteFailed}
 use Rattle.tab_io.specs.declared.reading.Input.{Ghosts as InputGhosts}
@@ -22,6 +20,8 @@ use Rattle.tab_shell.specs.Sessions.{Numbers}
 use Rattle.tab_shell.specs.Scripts.{Asker, ScriptState, ScriptRefines, asker_after, numbers_after, ScriptAnswersLine, LinesAnswered, ScriptAnswersLines, IsInside}
 use Rattle.tab_shell.specs.Ahead.{Pends, ReadsLine, Ahead, IsNext, AtEnd, TakesLine, TakesOn}
 use Rattle.tab_shell.specs.Progress.{AnswersWhole, AnswersToFile, BeginsWithFile, IsAccepted, HasAnswered, HasAnsweredPart, HasAccepted, HasAcceptedPart, HasFailed, HasEnded, IsEmptied, ComesFurther}
+use Rattle.tab_core.proofs.JobLemmas.{goes_on_exactly}
+use Rattle.tab_shell.proofs.JobSteps.{goes_nowhere}
 use Rattle.tab_shell.proofs.Taking.{lines_cut, lines_none, lines_join, ends_both}
 
 -- lines, and then more lines
@@ -52,7 +52,7 @@ lines_both who mid last n m after w h (l ∷ ls) ms es fs t u a b =
     )
 
 pub ran_none : (s : ScriptState) → ScriptAnswersLines s [] [] s
-ran_none s w h numbers refines legal = ([], numbers, (refl, refl, refl, refl), record { legal = legal; exact = refl; refines = refines })
+ran_none s w h numbers refines legal = ([], numbers, (refl, refl, refl, refl), record { legal = legal; exact = goes_nowhere s.core s.jobs; refines = refines })
 
 pub ran_both : (a b c : ScriptState) (ls ms : List (List ℕ)) (t u : List ℕ) → ScriptAnswersLines a ls t b → ScriptAnswersLines b ms u c → ScriptAnswersLines a (ls ++ ms) (t ++ u) c
 ran_both a b c ls ms t u f g w h numbers refines legal =
@@ -64,7 +64,7 @@ ran_both a b c ls ms t u f g w h numbers refines legal =
       lines_both a.asker b.asker c.asker numbers x.1 y.1 w h ls ms x.0 y.0 t u x.2 y.2,
       record {
         legal = subst (λ (e : List Entry). Legal w e) (sym es) y.3.legal;
-        exact = chain_join EntryGoes a.core b.core c.core x.0 y.0 x.3.exact y.3.exact;
+        exact = goes_on_exactly a.core b.core c.core a.jobs b.jobs c.jobs x.0 y.0 x.3.exact y.3.exact;
         refines = subst (λ (e : List Entry). ScriptRefines c y.1 w e) (sym es) y.3.refines;
       },
     )

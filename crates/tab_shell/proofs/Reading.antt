@@ -11,10 +11,10 @@ use Rattle.tab_lines.specs.declared.file_line.FileKind.TheVariants.{Save, Load}
 use Rattle.tab_lines.specs.declared.updates.TimestampForm.TheVariants.{Optional}
 use Rattle.tab_lines.specs.Gives.{◌>>=◌, Gives, field, ends}
 use Rattle.tab_lines.specs.Words.{words_of}
-use Rattle.tab_lines.specs.Fields.{name_of, unsigned_of, small_of, signed_of, extent_word, file_name_of, list_of, constraints_of}
+use Rattle.tab_lines.specs.Fields.{name_of, unsigned_of, small_of, signed_of, extent_word, compaction_word, file_name_of, list_of, constraints_of}
 use Rattle.tab_lines.specs.Updates.{row_of, put_of, delete_of, updates_of}
 use Rattle.tab_text.specs.Reading.{bytes_of}
-use Rattle.tab_lines.specs.Lines.{settings, createtable_of, setauths_of, constraints_line_of, insert_of, delete_line_of, mutate_of, scan_words, next_of, ranges_of, many_of, close_of, compact_of, addsplit_of, splitsize_of, file_of, at_of, name_alone, grant_of, command_of, commanded, said, is_comment, line_of}
+use Rattle.tab_lines.specs.Lines.{settings, createtable_of, setauths_of, constraints_line_of, insert_of, delete_line_of, mutate_of, scan_words, next_of, ranges_of, many_of, close_of, compact_of, begin_of, merge_of, install_of, addsplit_of, splitsize_of, file_of, at_of, name_alone, grant_of, command_of, commanded, said, is_comment, line_of}
 use Rattle.tab_shell.specs.Ahead.{OpensNoSession}
 
 -- nothing is read, or what is read is no bare act that opens a session
@@ -70,6 +70,18 @@ compact_shut : (words : List (List ℕ)) → IsShut (compact_of words)
 unfolding compact_of
 compact_shut words = after (field name_of words) _ (λ t. after (field extent_word t.1) _ (λ x. after (ends x.1) _ (λ e. refl)))
 
+begin_shut : (words : List (List ℕ)) → IsShut (begin_of words)
+unfolding begin_of
+begin_shut words = after (field name_of words) _ (λ t. after (field bytes_of t.1) _ (λ r. after (field compaction_word r.1) _ (λ k. after (ends k.1) _ (λ e. refl))))
+
+merge_shut : (words : List (List ℕ)) → IsShut (merge_of words)
+unfolding merge_of
+merge_shut words = after (field unsigned_of words) _ (λ k. after (ends k.1) _ (λ e. tt))
+
+install_shut : (words : List (List ℕ)) → IsShut (install_of words)
+unfolding install_of
+install_shut words = after (field name_of words) _ (λ t. after (field unsigned_of t.1) _ (λ k. after (ends k.1) _ (λ e. refl)))
+
 addsplit_shut : (words : List (List ℕ)) → IsShut (addsplit_of words)
 unfolding addsplit_of
 addsplit_shut words = after (field name_of words) _ (λ t. after (field bytes_of t.1) _ (λ r. after (ends r.1) _ (λ e. refl)))
@@ -107,6 +119,9 @@ commanded_shut command.Many words = many_shut words
 commanded_shut command.Close words = close_shut words
 commanded_shut command.Flush words = mapped (name_alone words) _ (λ table. refl)
 commanded_shut command.Compact words = compact_shut words
+commanded_shut command.Begin words = begin_shut words
+commanded_shut command.Merge words = merge_shut words
+commanded_shut command.Install words = install_shut words
 commanded_shut command.Status words = mapped (name_alone words) _ (λ table. refl)
 commanded_shut command.AddSplit words = addsplit_shut words
 commanded_shut command.SplitSize words = splitsize_shut words

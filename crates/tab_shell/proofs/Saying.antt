@@ -1,24 +1,21 @@
 -- What one line does and prints.
-use Rattle.std.proofs.Common.{ℕ, ℤ, ◌≡◌, ◌⊎◌, inl, inr, Bool, true, false, cond, List, [], ◌∷◌, ◌++◌, refl, sym, ap, ◌∙◌, subst, Option, Some, None, Result, Ok, Err}
+use Rattle.std.proofs.Common.{ℕ, ℤ, ◌≡◌, ◌⊎◌, inl, inr, Bool, true, false, cond, List, [], ◌∷◌, ◌++◌, length, refl, sym, ap, ◌∙◌, subst, Option, Some, None, Result, Ok, Err}
 use Rattle.std.specs.Prelude.{Result, codes, MatchResult}
 use mathlib.Core.Bool.{true≢false}
 use Rattle.tab_history.specs.declared.event.Act.{Act}
 use Rattle.tab_history.specs.declared.event.Event.{Event}
-use Rattle.tab_history.specs.declared.event.Step.TheVariants.{Event as IsEvent}
-use Rattle.tab_history.specs.declared.reply.Reply.{Reply}
-use Rattle.tab_history.specs.declared.reply.Reply.TheVariants.{Done, Refused, Opened, Batch, Ranges, Rights as OwnRights, Counted, Rows}
+use Rattle.tab_history.specs.declared.event.Step.TheVariants.{Event as IsEvent, Merge}
+use Rattle.tab_history.specs.declared.reply.Reply.TheVariants.{Done, Refused, Opened, Batch, Ranges, Rights as OwnRights, Counted, Rows, Begun, Nothing}
 use Rattle.tab_history.specs.declared.reply.Refusal.{Refusal}
 use Rattle.tab_history.specs.declared.reply.Refusal.TheVariants as refusal
-use Rattle.tab_history.specs.Answers.{Told, told, is_open, answer, IsEventReply, session_list, told_of}
-use Rattle.tab_cells.specs.SessionState.{SessionState}
+use Rattle.tab_history.specs.Answers.{Told, told, is_open, answer, IsEventReply, session_list}
 use Rattle.tab_history.specs.Sessions.{Move, Opening}
 use Rattle.tab_history.specs.Histories.{Entry, World, is_by, journal, moves_of}
 use Rattle.tab_history.specs.Legal.{Legal, IsAnswer, LacksMemory}
-use Rattle.tab_history.specs.Chains.{IsChain}
 use Rattle.tab_core.specs.Stores.{Held, base_of}
-use Rattle.tab_core.specs.Stepping.{StepsExactly}
-use Rattle.tab_core.specs.Chains.{EntryGoes}
-use Rattle.tab_core.specs.Stepping.{Steps}
+use Rattle.tab_core.specs.JobSlots.{StepsIn, MergesIn}
+use Rattle.tab_core.specs.declared.job_slots.JobSlot.{JobSlot}
+use Rattle.tab_core.proofs.JobLemmas.{Lengthened, steps_lengthen, steps_exact, merge_lengthens, merge_exact}
 use Rattle.tab_io.specs.Writing.{HasPut, Puts}
 use Rattle.tab_io.specs.declared.writing.Output.{Ghosts}
 use Rattle.tab_io.proofs.Putting.{put_none}
@@ -29,10 +26,11 @@ use Rattle.tab_lines.specs.declared.line.Line.{Line}
 use Rattle.tab_lines.specs.declared.line.Line.TheVariants as line
 use Rattle.tab_lines.specs.declared.line_error.LineError.{LineError}
 use Rattle.tab_lines.specs.declared.line_error.LineError.TheVariants as stop
-use Rattle.tab_shell.specs.Texts.{reply_text, refusal_text, fault_text}
+use Rattle.tab_shell.specs.Texts.{reply_text, begun_text, refusal_text, fault_text}
 use Rattle.tab_shell.specs.Sessions.{Numbers, kept_of, KeptAre}
-use Rattle.tab_shell.specs.Scripts.{Asker, ScriptState, ScriptRefines, ScriptGoes, LineAnswered, ScriptAnswersLine, ScriptAcceptsFile, asker_after, numbers_after, event_by, entry, file_act}
+use Rattle.tab_shell.specs.Scripts.{Asker, ScriptState, ScriptRefines, ScriptGoes, LineAnswered, ScriptAnswersLine, ScriptAcceptsFile, asker_after, numbers_after, event_by, entry, own_entry, file_act}
 use Rattle.tab_shell.specs.Progress.{PrintsAnswer, IsAccepted, AnswersOrAccepts, HandsBack}
+use Rattle.tab_shell.proofs.JobSteps.{goes_nowhere}
 
 -- ---- lines without a step
 silent : (s : ScriptState) (said : Result Line LineError) (text : List ℕ) → s.asker ≡ asker_after s.asker said → ((w : World) (h : List Entry) (numbers : Numbers) → LineAnswered s.asker numbers w h said [] text)
@@ -41,7 +39,7 @@ silent s said text same says kept = record {
   asker = same;
   extends = λ w h numbers refines legal.
       let stands : ScriptRefines s (numbers_after s.asker numbers w h said []) w h = subst (λ (n : Numbers). ScriptRefines s n w h) (sym (kept w h numbers)) refines in
-      ([], says w h numbers, record { legal = legal; exact = refl; refines = stands });
+      ([], says w h numbers, record { legal = legal; exact = goes_nowhere s.core s.jobs; refines = stands });
 }
 
 blank_answered : (s : ScriptState) → ScriptAnswersLine s (Ok line.Blank) [] s
@@ -57,7 +55,7 @@ with_user s user = record s { asker = record s.asker { user = user } }
 user_answered : (s : ScriptState) (user : List ℕ) → ScriptAnswersLine s (Ok (line.As user)) [] (with_user s user)
 user_answered s user = record {
   asker = refl;
-  extends = λ w h numbers refines legal. ([], (refl, refl), record { legal = legal; exact = refl; refines = record { core = refines.core; sessions = refines.sessions } });
+  extends = λ w h numbers refines legal. ([], (refl, refl), record { legal = legal; exact = goes_nowhere s.core s.jobs; refines = record { core = refines.core; sessions = refines.sessions; jobs = refines.jobs } });
 }
 
 pub user_prints : {W : Type 0} (g : Ghosts W) (s : ScriptState) (user : List ℕ) (o : W) → (text : List ℕ) × ScriptAnswersLine s (Ok (line.As user)) text (with_user s user) × HasPut g o o text
@@ -70,7 +68,7 @@ at_moment s moment = record s { asker = record s.asker { moment = moment } }
 moment_answered : (s : ScriptState) (moment : ℤ) → ScriptAnswersLine s (Ok (line.At moment)) [] (at_moment s moment)
 moment_answered s moment = record {
   asker = refl;
-  extends = λ w h numbers refines legal. ([], (refl, refl), record { legal = legal; exact = refl; refines = record { core = refines.core; sessions = refines.sessions } });
+  extends = λ w h numbers refines legal. ([], (refl, refl), record { legal = legal; exact = goes_nowhere s.core s.jobs; refines = record { core = refines.core; sessions = refines.sessions; jobs = refines.jobs } });
 }
 
 pub moment_prints : {W : Type 0} (g : Ghosts W) (s : ScriptState) (moment : ℤ) (o : W) → (text : List ℕ) × ScriptAnswersLine s (Ok (line.At moment)) text (at_moment s moment) × HasPut g o o text
@@ -108,37 +106,64 @@ act_moves w user h event (Ranges ranges) shut = same_cond (is_by user (IsEvent e
 act_moves w user h event (OwnRights rights) shut = same_cond (is_by user (IsEvent event)) (moves_of w user h)
 act_moves w user h event (Counted counts) shut = same_cond (is_by user (IsEvent event)) (moves_of w user h)
 act_moves w user h event (Rows rows) shut = same_cond (is_by user (IsEvent event)) (moves_of w user h)
+act_moves w user h event (Begun job) shut = same_cond (is_by user (IsEvent event)) (moves_of w user h)
+act_moves w user h event Nothing shut = same_cond (is_by user (IsEvent event)) (moves_of w user h)
 
--- the script with another core
-abbrev pub with_core : ScriptState → Held → ScriptState
-with_core s core = record s { core = core }
-
--- an event that was done exactly is a chain of one step
-pub one_step : (old new : Held) (event : Event) (told : Told) → StepsExactly old event told new → IsChain EntryGoes old (entry event told ∷ []) new
-one_step old new event told exact = (old, refl, inl exact)
+-- the script with another core, and these jobs
+abbrev pub with_core : ScriptState → Held → List JobSlot → ScriptState
+with_core s core jobs = record s { core = core; jobs = jobs }
 
 -- an act that opens no session makes the history longer by its entry
-pub act_goes : (s : ScriptState) (core : Held) (act : Act) (reply : Reply SessionState) → is_open act ≡ false → Steps (base_of s.core) (event_by s.asker act) reply (base_of core) → StepsExactly s.core (event_by s.asker act) (told_of reply) core
-    → (w : World) (h : List Entry) (numbers : Numbers) → ScriptRefines s numbers w h → Legal w h → ScriptGoes s w h (entry (event_by s.asker act) (told_of reply) ∷ []) numbers (with_core s core)
-act_goes s core act reply shut steps exact w h numbers refines legal =
+pub act_goes : (s : ScriptState) (core : Held) (jobs : List JobSlot) (act : Act) (reply : Told) → is_open act ≡ false → StepsIn s.core s.jobs (event_by s.asker act) reply core jobs
+    → (w : World) (h : List Entry) (numbers : Numbers) → ScriptRefines s numbers w h → Legal w h → ScriptGoes s w h (entry (event_by s.asker act) reply ∷ []) numbers (with_core s core jobs)
+act_goes s core jobs act reply shut steps w h numbers refines legal =
     let event : Event = event_by s.asker act in
-    let moves = λ (user : List ℕ). act_moves w user h event (told_of reply) shut in record {
-      legal = (legal, steps.answers w h refines.core h (λ opening. absurd (clash act opening shut)));
-      exact = one_step s.core core event (told_of reply) exact;
+    let longer : Lengthened w h (IsEvent event) reply (base_of core) jobs = steps_lengthen s.core core s.jobs jobs event reply shut steps w h refines.core refines.jobs in
+    record {
+      legal = (legal, longer.answers);
+      exact = steps_exact s.core core s.jobs jobs event reply steps;
       refines = record {
-        core = steps.refines w h refines.core;
-        sessions = λ user. subst (λ (ms : List Move). KeptAre ms (numbers user) (kept_of s.kept user)) (sym (moves user)) (refines.sessions user);
+        core = longer.refines;
+        sessions = λ user. subst (λ (ms : List Move). KeptAre ms (numbers user) (kept_of s.kept user)) (sym (act_moves w user h event reply shut)) (refines.sessions user);
+        jobs = longer.jobs;
       };
     }
-  where
-    clash : (a : Act) → is_open a ≡ true → is_open a ≡ false → ⊥
-    clash a opening shut = cc
 
-pub act_answered : (s : ScriptState) (core : Held) (act : Act) (reply : Reply SessionState) → is_open act ≡ false → Steps (base_of s.core) (event_by s.asker act) reply (base_of core) → StepsExactly s.core (event_by s.asker act) (told_of reply) core
-    → ScriptAnswersLine s (Ok (line.Act act)) (reply_text (told_of reply)) (with_core s core)
-act_answered s core act reply shut steps exact = record {
+pub act_answered : (s : ScriptState) (core : Held) (jobs : List JobSlot) (act : Act) (reply : Told) → is_open act ≡ false → StepsIn s.core s.jobs (event_by s.asker act) reply core jobs
+    → ScriptAnswersLine s (Ok (line.Act act)) (begun_text (length s.jobs) reply) (with_core s core jobs)
+act_answered s core jobs act reply shut steps = record {
   asker = refl;
-  extends = λ w h numbers refines legal. (entry (event_by s.asker act) (told_of reply) ∷ [], (told_of reply, refl, refl), act_goes s core act reply shut steps exact w h numbers refines legal);
+  extends = λ w h numbers refines legal.
+      (entry (event_by s.asker act) reply ∷ [], (reply, refl, ap (λ (n : ℕ). begun_text n reply) (sym refines.jobs.count)), act_goes s core jobs act reply shut steps w h numbers refines legal);
+}
+
+-- ---- the merge of a job is one step of its slot
+-- it is no step of anyone's
+merge_moves : (w : World) (user : List ℕ) (h : List Entry) (job : ℕ) (reply : Told) → moves_of w user (own_entry (Merge job) reply ∷ h) ≡ moves_of w user h
+unfolding moves_of
+merge_moves w user h job reply = same_cond (is_by user (Merge job)) (moves_of w user h)
+
+-- the script with these jobs
+abbrev pub with_jobs : ScriptState → List JobSlot → ScriptState
+with_jobs s jobs = record s { jobs = jobs }
+
+pub merge_answered : (s : ScriptState) (jobs : List JobSlot) (job : ℕ) (reply : Told) → MergesIn s.jobs job reply jobs → ScriptAnswersLine s (Ok (line.Merge job)) (reply_text reply) (with_jobs s jobs)
+merge_answered s jobs job reply merges = record {
+  asker = refl;
+  extends = λ w h numbers refines legal.
+      let longer : Lengthened w h (Merge job) reply (base_of s.core) jobs = merge_lengthens (base_of s.core) s.jobs jobs job reply merges w h refines.core refines.jobs in (
+        own_entry (Merge job) reply ∷ [],
+        (reply, refl, refl),
+        record {
+          legal = (legal, longer.answers);
+          exact = merge_exact s.core s.jobs jobs job reply merges;
+          refines = record {
+            core = longer.refines;
+            sessions = λ user. subst (λ (ms : List Move). KeptAre ms (numbers user) (kept_of s.kept user)) (sym (merge_moves w user h job reply)) (refines.sessions user);
+            jobs = longer.jobs;
+          };
+        },
+      );
 }
 
 -- ---- so is what a file line asks
@@ -162,26 +187,25 @@ file_told w h who kind.Save reply (inr lacks) = absurd (true≢false (sym lacks.
 file_told w h who kind.Load reply (inr lacks) = absurd (true≢false (sym lacks.0))
 
 -- one that is done is accepted
-pub file_accepted : (s : ScriptState) (core : Held) (file : FileLine) (reply : Reply SessionState) → told_of reply ≡ Done → Steps (base_of s.core) (event_by s.asker (file_act file.kind)) reply (base_of core)
-    → StepsExactly s.core (event_by s.asker (file_act file.kind)) (told_of reply) core → ScriptAcceptsFile s file (with_core s core)
-file_accepted s core file reply done steps exact = record {
+pub file_accepted : (s : ScriptState) (core : Held) (jobs : List JobSlot) (file : FileLine) (reply : Told) → reply ≡ Done → StepsIn s.core s.jobs (event_by s.asker (file_act file.kind)) reply core jobs → ScriptAcceptsFile s file (with_core s core jobs)
+file_accepted s core jobs file reply done steps = record {
   asker = refl;
   extends = λ w h numbers refines legal.
-      subst (λ (t : Told). ScriptGoes s w h (entry (event_by s.asker (file_act file.kind)) t ∷ []) numbers (with_core s core)) done (act_goes s core (file_act file.kind) reply (file_shut file.kind) steps exact w h numbers refines legal);
+      subst (λ (t : Told). ScriptGoes s w h (entry (event_by s.asker (file_act file.kind)) t ∷ []) numbers (with_core s core jobs)) done (act_goes s core jobs (file_act file.kind) reply (file_shut file.kind) steps w h numbers refines legal);
 }
 
 -- any other is refused
-pub file_refused : (s : ScriptState) (core : Held) (file : FileLine) (reply : Reply SessionState) → (told_of reply ≡ Done → ⊥) → Steps (base_of s.core) (event_by s.asker (file_act file.kind)) reply (base_of core)
-    → StepsExactly s.core (event_by s.asker (file_act file.kind)) (told_of reply) core → ScriptAnswersLine s (Ok (line.File file)) (reply_text (told_of reply)) (with_core s core)
-file_refused s core file reply not steps exact = record {
+pub file_refused : (s : ScriptState) (core : Held) (jobs : List JobSlot) (file : FileLine) (reply : Told) → (reply ≡ Done → ⊥) → StepsIn s.core s.jobs (event_by s.asker (file_act file.kind)) reply core jobs
+    → ScriptAnswersLine s (Ok (line.File file)) (reply_text reply) (with_core s core jobs)
+file_refused s core jobs file reply not steps = record {
   asker = refl;
   extends = λ w h numbers refines legal.
-      let goes : ScriptGoes s w h (entry (event_by s.asker (file_act file.kind)) (told_of reply) ∷ []) numbers (with_core s core) = act_goes s core (file_act file.kind) reply (file_shut file.kind) steps exact w h numbers refines legal in
-      (entry (event_by s.asker (file_act file.kind)) (told_of reply) ∷ [], says (file_told w h s.asker file.kind (told_of reply) goes.legal.1), goes);
+      let goes : ScriptGoes s w h (entry (event_by s.asker (file_act file.kind)) reply ∷ []) numbers (with_core s core jobs) = act_goes s core jobs (file_act file.kind) reply (file_shut file.kind) steps w h numbers refines legal in
+      (entry (event_by s.asker (file_act file.kind)) reply ∷ [], says (file_told w h s.asker file.kind reply goes.legal.1), goes);
 }
   where
-    says : (told_of reply ≡ Done) ⊎ ((r : Refusal) × (told_of reply ≡ Refused r))
-        → (r : Refusal) × (entry (event_by s.asker (file_act file.kind)) (told_of reply) ∷ [] ≡ entry (event_by s.asker (file_act file.kind)) (Refused r) ∷ []) × (reply_text (told_of reply) ≡ refusal_text r)
+    says : (reply ≡ Done) ⊎ ((r : Refusal) × (reply ≡ Refused r))
+        → (r : Refusal) × (entry (event_by s.asker (file_act file.kind)) reply ∷ [] ≡ entry (event_by s.asker (file_act file.kind)) (Refused r) ∷ []) × (reply_text reply ≡ refusal_text r)
     says (inl done) = absurd (not done)
     says (inr (r, is)) = (r, ap (λ (t : Told). entry (event_by s.asker (file_act file.kind)) t ∷ []) is, ap reply_text is)
 

@@ -12,20 +12,22 @@ use Rattle.tab_history.specs.declared.event.Step.TheVariants.{Event as IsEvent, 
 use Rattle.tab_history.specs.declared.reply.Refusal.{Refusal}
 use Rattle.tab_history.specs.declared.reply.Refusal.TheVariants.{NoMemory, TooLarge}
 use Rattle.tab_history.specs.declared.reply.Reply.{Reply}
-use Rattle.tab_history.specs.declared.reply.Reply.TheVariants.{Done, Refused, Opened, Batch, Ranges, Rights as OwnRights, Counted, Rows}
+use Rattle.tab_history.specs.declared.reply.Reply.TheVariants.{Done, Refused, Opened, Batch, Ranges, Rights as OwnRights, Counted, Rows, Begun, Nothing}
 use Rattle.tab_history.specs.Checks.{standing, refusal_of, exists_in, user_named}
 use Rattle.tab_history.specs.Answers.{Told, told, answer, event_answer, IsEventReply, moves_by, session_list, next_answer, close_answer, told_of}
 use Rattle.tab_cells.specs.SessionState.{SessionState, gave}
 use Rattle.tab_history.specs.Sessions.{Move, Opening, Taking, Closing, opened, closed, is_full, session_in}
-use Rattle.tab_history.specs.Histories.{Entry, World, world_of, world_after, clock_of, clock_at, journal, is_by, moves_of}
+use Rattle.tab_history.specs.Jobs.{JobMove}
+use Rattle.tab_history.specs.Histories.{Entry, World, world_of, world_after, clock_of, clock_at, journal, is_by, moves_of, jobs_of}
 use Rattle.tab_history.specs.Legal.{answer_at, Legal, IsAnswer, LacksMemory}
 use Rattle.tab_history.specs.Refinement.{Refines}
 use Rattle.tab_history.specs.Chains.{IsChain}
 use Rattle.tab_history.proofs.LeftOpen.{closed_reply}
 use Rattle.tab_history.proofs.Playing.{unmoved}
+use Rattle.tab_core.specs.Parts.{TabletMerge}
 use Rattle.tab_core.specs.Stores.{Held, base_of}
-use Rattle.tab_core.specs.Stepping.{StepsExactly}
-use Rattle.tab_core.specs.Chains.{EntryGoes}
+use Rattle.tab_core.specs.Chains.{Running, EntryGoes}
+use Rattle.tab_core.specs.JobSlots.{JobsAre}
 use Rattle.tab_core.specs.Stepping.{Steps}
 use Rattle.tab_lines.specs.declared.line.Line.TheVariants as line
 use Rattle.tab_shell.specs.Texts.{reply_text, refusal_text}
@@ -33,7 +35,9 @@ use Rattle.tab_shell.specs.Batches.{left_of}
 use Rattle.tab_shell.specs.Readings.{ReadingEnd, AllRead, Lacking, CanEnd, IsReadingText, reading_text, reading_steps, batch_at, batches}
 use Rattle.tab_shell.specs.Sessions.{Kept, Keeping, Numbers, kept_of, is_spent, KeptAre, KeepsFor}
 use Rattle.tab_shell.proofs.Keeping.{kept_scanned, spent_alike, differ}
-use Rattle.tab_shell.proofs.Saying.{same_cond, one_step}
+use Rattle.tab_shell.proofs.Saying.{same_cond}
+use Rattle.tab_core.proofs.JobLemmas.{stays_exact}
+use Rattle.tab_shell.proofs.JobSteps.{run_of, OpensExactly, jobs_stay}
 use Rattle.tab_lines.specs.declared.line.Line.{Line}
 use Rattle.tab_lines.specs.declared.line_error.LineError.{LineError}
 use Rattle.tab_shell.specs.Scripts.{Asker, ScriptState, ScriptRefines, ScanSteps, ScriptAnswersLine, numbers_after, event_by, entry}
@@ -164,9 +168,15 @@ module _ (w : World) (user : List ℕ) (slot : ℕ) (all : List Cell) where
   batches_unmoved (suc k) es = unmoved w (batches user slot all k ++ es) (taken k) tt ∙ batches_unmoved k es
 
   -- and leave the core as it was
-  batches_exact : (k : ℕ) (first last : Held) (es : List Entry) → IsChain EntryGoes first es last → IsChain EntryGoes first (batches user slot all k ++ es) last
+  batches_exact : (k : ℕ) (first last : Running) (es : List Entry) → IsChain EntryGoes first es last → IsChain EntryGoes first (batches user slot all k ++ es) last
   batches_exact zero first last es chain = chain
   batches_exact (suc k) first last es chain = (last, batches_exact k first last es chain, inr (tt, refl))
+
+  -- and all jobs
+  batches_jobs : (k : ℕ) (es : List Entry) → jobs_of (batches user slot all k ++ es) ≡ jobs_of es
+  unfolding jobs_of
+  batches_jobs zero es = refl
+  batches_jobs (suc k) es = batches_jobs k es
 
   -- they are none of another user's
   batches_others : (other : List ℕ) (k : ℕ) (es : List Entry) → bytes_eq user other ≡ false → moves_of w other (batches user slot all k ++ es) ≡ moves_of w other es
@@ -211,8 +221,12 @@ module _ (w : World) (user : List ℕ) (slot : ℕ) (all : List Cell) where
   read_unmoved : (es : List Entry) → world_after w (reading_steps user slot all AllRead ++ es) ≡ world_after w es
   read_unmoved es = unmoved w (batches user slot all (suc (length all / 1000)) ++ es) (record { step = Close user slot; reply = Done }) tt ∙ batches_unmoved (suc (length all / 1000)) es
 
-  read_exact : (first last : Held) (es : List Entry) → IsChain EntryGoes first es last → IsChain EntryGoes first (reading_steps user slot all AllRead ++ es) last
+  read_exact : (first last : Running) (es : List Entry) → IsChain EntryGoes first es last → IsChain EntryGoes first (reading_steps user slot all AllRead ++ es) last
   read_exact first last es chain = (last, batches_exact (suc (length all / 1000)) first last es chain, inr (tt, refl))
+
+  read_jobs : (es : List Entry) → jobs_of (reading_steps user slot all AllRead ++ es) ≡ jobs_of es
+  unfolding jobs_of
+  read_jobs es = batches_jobs (suc (length all / 1000)) es
 
   -- the batch for which memory lacked
   abbrev lacked : Entry
@@ -257,8 +271,12 @@ module _ (w : World) (user : List ℕ) (slot : ℕ) (all : List Cell) where
       let before : List Entry = batches user slot all k ++ es in
       unmoved w (lacked ∷ before) (record { step = Close user slot; reply = Done }) tt ∙ unmoved w before lacked tt ∙ batches_unmoved k es
 
-  part_exact : (k : ℕ) (first last : Held) (es : List Entry) → IsChain EntryGoes first es last → IsChain EntryGoes first (reading_steps user slot all (Lacking k) ++ es) last
+  part_exact : (k : ℕ) (first last : Running) (es : List Entry) → IsChain EntryGoes first es last → IsChain EntryGoes first (reading_steps user slot all (Lacking k) ++ es) last
   part_exact k first last es chain = (last, (last, batches_exact k first last es chain, inr (tt, refl)), inr (tt, refl))
+
+  part_jobs : (k : ℕ) (es : List Entry) → jobs_of (reading_steps user slot all (Lacking k) ++ es) ≡ jobs_of es
+  unfolding jobs_of
+  part_jobs k es = batches_jobs k es
 
   -- entries that read the session and close it
   record Reads (out : List Entry) : Type 0 where
@@ -268,13 +286,14 @@ module _ (w : World) (user : List ℕ) (slot : ℕ) (all : List Cell) where
     others : (other : List ℕ) (es : List Entry) → bytes_eq user other ≡ false → moves_of w other (out ++ es) ≡ moves_of w other es
     apart : (s : ℕ) → (slot == s) ≡ false → (es : List Entry) → session_in (moves_of w user (out ++ es)) s ≡ session_in (moves_of w user es) s
     unmoved : (es : List Entry) → world_after w (out ++ es) ≡ world_after w es
-    exact : (first last : Held) (es : List Entry) → IsChain EntryGoes first es last → IsChain EntryGoes first (out ++ es) last
+    exact : (first last : Running) (es : List Entry) → IsChain EntryGoes first es last → IsChain EntryGoes first (out ++ es) last
+    jobs : (es : List Entry) → jobs_of (out ++ es) ≡ jobs_of es
 
   reads_whole : Reads (reading_steps user slot all AllRead)
-  reads_whole = record { legal = read_legal; opened = read_opened; closed = read_closed; others = read_others; apart = read_apart; unmoved = read_unmoved; exact = read_exact }
+  reads_whole = record { legal = read_legal; opened = read_opened; closed = read_closed; others = read_others; apart = read_apart; unmoved = read_unmoved; exact = read_exact; jobs = read_jobs }
 
   reads_part : (k : ℕ) → 1000 * k ≤ length all → Reads (reading_steps user slot all (Lacking k))
-  reads_part k fits = record { legal = λ es. part_legal k es fits; opened = part_opened k; closed = part_closed k; others = λ other. part_others other k; apart = λ s away. part_apart s away k; unmoved = part_unmoved k; exact = part_exact k }
+  reads_part k fits = record { legal = λ es. part_legal k es fits; opened = part_opened k; closed = part_closed k; others = λ other. part_others other k; apart = λ s away. part_apart s away k; unmoved = part_unmoved k; exact = part_exact k; jobs = part_jobs k }
 
   reads_to : (end : ReadingEnd) → CanEnd all end → Reads (reading_steps user slot all end)
   reads_to AllRead fits = reads_whole
@@ -283,7 +302,7 @@ module _ (w : World) (user : List ℕ) (slot : ℕ) (all : List Cell) where
 -- ---- the Open
 -- the script with another core, and this kept for its users
 abbrev pub with_sessions : ScriptState → Held → Keeping → ScriptState
-with_sessions s core kept = record { core = core; asker = s.asker; kept = kept }
+with_sessions s core kept = record { core = core; asker = s.asker; kept = kept; jobs = s.jobs }
 
 -- what is kept for the asker
 abbrev pub own_kept : ScriptState → Kept
@@ -293,9 +312,9 @@ own_kept s = kept_of s.kept s.asker.user
 room_alike : (s : ScriptState) (w : World) (h : List Entry) (numbers : Numbers) → ScriptRefines s numbers w h → is_full (moves_of w s.asker.user h) ≡ is_spent (own_kept s)
 room_alike s w h numbers refines = spent_alike (moves_of w s.asker.user h) (numbers s.asker.user) (own_kept s) (refines.sessions s.asker.user)
 
-pub legal_open : (s : ScriptState) (core : Held) (scan : Scan) (reply : Reply SessionState) (w : World) (h : List Entry) (numbers : Numbers) → is_spent (own_kept s) ≡ false → Steps (base_of s.core) (event_by s.asker (Open scan)) reply (base_of core)
+pub legal_open : (s : ScriptState) (core : Held) (scan : Scan) (reply : Reply SessionState TabletMerge) (w : World) (h : List Entry) (numbers : Numbers) → is_spent (own_kept s) ≡ false → Steps (base_of s.core) (event_by s.asker (Open scan)) reply (base_of core)
     → ScriptRefines s numbers w h → IsAnswer w h h (IsEvent (event_by s.asker (Open scan))) (told_of reply) ⊎ LacksMemory (IsEvent (event_by s.asker (Open scan))) (told_of reply)
-legal_open s core scan reply w h numbers room steps refines = steps.answers w h refines.core h (λ yes. room_alike s w h numbers refines ∙ room)
+legal_open s core scan reply w h numbers room steps refines = steps.answers w h refines.core h (λ yes. room_alike s w h numbers refines ∙ room, tt)
 
 -- the session's cells are those that are defined
 scanned_text : (session : SessionState) (all : List Cell) (text : List ℕ) → session ≡ record { all = all; given = 0 } → IsReadingText (left_of session) text → IsReadingText all text
@@ -356,7 +375,7 @@ module _ (w : World) (who : Asker) (h : List Entry) (scan : Scan) (out : List En
       reads.apart s away begins ∙ ap (λ ms. session_in ms s) moved ∙ opening_apart before all_cells s away)
 
 pub scan_answered : (s : ScriptState) (core : Held) (kept : Keeping) (scan : Scan) (session : SessionState) (text : List ℕ) → is_spent (own_kept s) ≡ false → Steps (base_of s.core) (event_by s.asker (Open scan)) (Opened session) (base_of core)
-    → StepsExactly s.core (event_by s.asker (Open scan)) (Opened tt) core
+    → OpensExactly s core scan (Opened tt)
     → KeepsFor s.asker.user (record (own_kept s) { scanned = (own_kept s).scanned + 1 }) s.kept kept
     → IsReadingText (left_of session) text → ScriptAnswersLine s (Ok (line.Scan scan)) text (with_sessions s core kept)
 scan_answered s core kept scan session text room steps exact keeps rest = record {
@@ -380,12 +399,13 @@ scan_answered s core kept scan session text room steps exact keeps rest = record
       let stood : ScriptRefines new numbers w (out ++ first) = record {
         core = after;
         sessions = kept_by_user w user h (out ++ first) numbers numbers s.kept kept (record (own_kept s) { scanned = (own_kept s).scanned + 1 }) keeps (others_unmoved w s.asker h scan out reads) (λ n away. refl) own refines.sessions;
+        jobs = subst (λ (ms : List JobMove). JobsAre ms s.jobs) (sym (reads.jobs first)) (jobs_stay s.jobs e h refl refines.jobs);
       } in (
         out ++ e ∷ [],
         (Opened tt, opened_scans s.asker w h scan all read.0 text refl read.1 read.2),
         record {
           legal = subst (λ (es : List Entry). Legal w es) (sym whole) (reads.legal first begun held);
-          exact = reads.exact s.core core (e ∷ []) (one_step s.core core (event_by s.asker (Open scan)) (Opened tt) exact);
+          exact = λ merges holds. let x = exact merges holds in (x.0, x.1, reads.exact (run_of s.core merges) (run_of core x.0) (e ∷ []) x.2);
           refines = subst (λ (es : List Entry). ScriptRefines new numbers w es) (sym whole) stood;
         },
       );
@@ -418,9 +438,13 @@ pub refused_stands : (s : ScriptState) (core : Held) (scan : Scan) (r : Refusal)
     → ScriptRefines (with_new_core s core) numbers w (entry (event_by s.asker (Open scan)) (Refused r) ∷ h)
 refused_stands s core scan r w h numbers after refines =
     let moves = λ (n : List ℕ). refused_moves w n s.asker h scan r in
-    record { core = after; sessions = λ n. subst (λ (ms : List Move). KeptAre ms (numbers n) (kept_of s.kept n)) (sym (moves n)) (refines.sessions n) }
+    record {
+      core = after;
+      sessions = λ n. subst (λ (ms : List Move). KeptAre ms (numbers n) (kept_of s.kept n)) (sym (moves n)) (refines.sessions n);
+      jobs = jobs_stay s.jobs (entry (event_by s.asker (Open scan)) (Refused r)) h refl refines.jobs;
+    }
 
-refused_answered : (s : ScriptState) (core : Held) (scan : Scan) (r : Refusal) → is_spent (own_kept s) ≡ false → Steps (base_of s.core) (event_by s.asker (Open scan)) (Refused r) (base_of core) → StepsExactly s.core (event_by s.asker (Open scan)) (Refused r) core
+refused_answered : (s : ScriptState) (core : Held) (scan : Scan) (r : Refusal) → is_spent (own_kept s) ≡ false → Steps (base_of s.core) (event_by s.asker (Open scan)) (Refused r) (base_of core) → OpensExactly s core scan (Refused r)
     → ScriptAnswersLine s (Ok (line.Scan scan)) (refusal_text r) (with_new_core s core)
 refused_answered s core scan r room steps exact = record {
   asker = refl;
@@ -429,7 +453,7 @@ refused_answered s core scan r room steps exact = record {
     (Refused r, (refl, refl)),
     record {
       legal = (legal, legal_open s core scan (Refused r) w h numbers room steps refines);
-      exact = one_step s.core core (event_by s.asker (Open scan)) (Refused r) exact;
+      exact = exact;
       refines = refused_stands s core scan r w h numbers (steps.refines w h refines.core) refines;
     },
   );
@@ -445,6 +469,8 @@ Opens (Ranges ranges) = ⊥
 Opens (OwnRights rights) = ⊥
 Opens (Counted counts) = ⊥
 Opens (Rows rows) = ⊥
+Opens (Begun job) = ⊥
+Opens Nothing = ⊥
 
 opens : (reply : Told) → (reply ≡ Opened tt) ⊎ ((r : Refusal) × (reply ≡ Refused r)) → Opens reply
 opens reply (inl e) = subst Opens (sym e) tt
@@ -455,7 +481,7 @@ never : (s : ScriptState) (core : Held) (scan : Scan) (text : List ℕ) → ((w 
 never s core scan text nowhere = record { asker = refl; extends = λ w h numbers refines legal. absurd (nowhere w h numbers refines) }
 
 -- each reply but an opened session
-pub kept_answered : (s : ScriptState) (core : Held) (scan : Scan) (reply : Reply SessionState) → is_spent (own_kept s) ≡ false → Steps (base_of s.core) (event_by s.asker (Open scan)) reply (base_of core) → StepsExactly s.core (event_by s.asker (Open scan)) (told_of reply) core → ((session : SessionState) → reply ≡ Opened session → ⊥)
+pub kept_answered : (s : ScriptState) (core : Held) (scan : Scan) (reply : Reply SessionState TabletMerge) → is_spent (own_kept s) ≡ false → Steps (base_of s.core) (event_by s.asker (Open scan)) reply (base_of core) → OpensExactly s core scan (told_of reply) → ((session : SessionState) → reply ≡ Opened session → ⊥)
     → ScriptAnswersLine s (Ok (line.Scan scan)) (reply_text (told_of reply)) (with_new_core s core)
 kept_answered s core scan (Refused r) lt steps exact other = refused_answered s core scan r lt steps exact
 kept_answered s core scan (Opened session) lt steps exact other = absurd (other session refl)
@@ -465,6 +491,8 @@ kept_answered s core scan (Ranges ranges) lt steps exact other = never s core sc
 kept_answered s core scan (OwnRights rights) lt steps exact other = never s core scan (reply_text (OwnRights rights)) (λ w h numbers refines. opens (OwnRights rights) (not_done w h s.asker scan (OwnRights rights) (legal_open s core scan (OwnRights rights) w h numbers lt steps refines)))
 kept_answered s core scan (Counted counts) lt steps exact other = never s core scan (reply_text (Counted counts)) (λ w h numbers refines. opens (Counted counts) (not_done w h s.asker scan (Counted counts) (legal_open s core scan (Counted counts) w h numbers lt steps refines)))
 kept_answered s core scan (Rows rows) lt steps exact other = never s core scan (reply_text (Rows rows)) (λ w h numbers refines. opens (Rows rows) (not_done w h s.asker scan (Rows rows) (legal_open s core scan (Rows rows) w h numbers lt steps refines)))
+kept_answered s core scan (Begun job) lt steps exact other = never s core scan (reply_text (Begun tt)) (λ w h numbers refines. opens (Begun tt) (not_done w h s.asker scan (Begun tt) (legal_open s core scan (Begun job) w h numbers lt steps refines)))
+kept_answered s core scan Nothing lt steps exact other = never s core scan (reply_text Nothing) (λ w h numbers refines. opens Nothing (not_done w h s.asker scan Nothing (legal_open s core scan Nothing w h numbers lt steps refines)))
 
 -- ---- a full list of sessions
 spent_right : (w : World) (h : List Entry) (who : Asker) (scan : Scan) → is_full (moves_of w who.user h) ≡ true → IsAnswer w h h (IsEvent (event_by who (Open scan))) (Refused (TooLarge Sessions))
@@ -484,7 +512,7 @@ spent_answered s scan spent = record {
         (Refused (TooLarge Sessions), (refl, refl)),
         record {
           legal = (legal, inl (spent_right w h s.asker scan (room_alike s w h numbers refines ∙ spent)));
-          exact = (s.core, refl, inr (tt, refl));
+          exact = stays_exact s.core s.jobs e.step e.reply tt;
           refines = refused_stands s s.core scan (TooLarge Sessions) w h numbers after refines;
         },
       );
@@ -500,7 +528,7 @@ spent_opens s scan spent = record {
         (Refused (TooLarge Sessions), refl, refl),
         record {
           legal = (legal, inl (spent_right w h s.asker scan (room_alike s w h numbers refines ∙ spent)));
-          exact = (s.core, refl, inr (tt, refl));
+          exact = stays_exact s.core s.jobs e.step e.reply tt;
           refines = refused_stands s s.core scan (TooLarge Sessions) w h numbers after refines;
         },
       );
@@ -517,7 +545,7 @@ starved_answered s scan = record {
         (Refused NoMemory, (refl, refl)),
         record {
           legal = (legal, inr (refl, refl));
-          exact = (s.core, refl, inr (tt, refl));
+          exact = stays_exact s.core s.jobs e.step e.reply tt;
           refines = refused_stands s s.core scan NoMemory w h numbers after refines;
         },
       );
@@ -533,7 +561,7 @@ starved_opens s scan = record {
         (Refused NoMemory, refl, refl),
         record {
           legal = (legal, inr (refl, refl));
-          exact = (s.core, refl, inr (tt, refl));
+          exact = stays_exact s.core s.jobs e.step e.reply tt;
           refines = refused_stands s s.core scan NoMemory w h numbers after refines;
         },
       );
@@ -546,7 +574,7 @@ with_kept s kept = record s { kept = kept }
 
 -- a script that reads the same refines the same
 rekept : (s : ScriptState) (kept : Keeping) (numbers : Numbers) (w : World) (h : List Entry) → ((n : List ℕ) → kept_of kept n ≡ kept_of s.kept n) → ScriptRefines s numbers w h → ScriptRefines (with_kept s kept) numbers w h
-rekept s kept numbers w h same refines = record { core = refines.core; sessions = λ n. subst (λ (k : Kept). KeptAre (moves_of w n h) (numbers n) k) (sym (same n)) (refines.sessions n) }
+rekept s kept numbers w h same refines = record { core = refines.core; sessions = λ n. subst (λ (k : Kept). KeptAre (moves_of w n h) (numbers n) k) (sym (same n)) (refines.sessions n); jobs = refines.jobs }
 
 pub recounted : (s : ScriptState) (kept : Keeping) (said : Result Line LineError) (text : List ℕ) (new : ScriptState) → ((n : List ℕ) → kept_of kept n ≡ kept_of s.kept n)
     → ScriptAnswersLine (with_kept s kept) said text new → ScriptAnswersLine s said text new

@@ -60,5 +60,6 @@ OpensNoSession (Ok (line.Open scan)) = Unit {0}
 OpensNoSession (Ok (line.Next number count)) = Unit {0}
 OpensNoSession (Ok (line.Many number ranges)) = Unit {0}
 OpensNoSession (Ok (line.Close number)) = Unit {0}
+OpensNoSession (Ok (line.Merge job)) = Unit {0}
 OpensNoSession (Ok (line.File file)) = Unit {0}
 OpensNoSession (Err stop) = Unit {0}

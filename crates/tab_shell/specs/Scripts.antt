@@ -7,18 +7,19 @@ use Rattle.tab_history.specs.declared.event.Act.{Act}
 use Rattle.tab_history.specs.declared.event.Act.TheVariants.{Open, Save, Load}
 use Rattle.tab_history.specs.declared.event.Event.{Event}
 use Rattle.tab_history.specs.declared.event.Step.{Step}
-use Rattle.tab_history.specs.declared.event.Step.TheVariants.{Event as IsEvent, Next, Many, Close}
+use Rattle.tab_history.specs.declared.event.Step.TheVariants.{Event as IsEvent, Next, Many, Close, Merge}
 use Rattle.tab_history.specs.declared.reply.Refusal.{Refusal}
 use Rattle.tab_history.specs.declared.reply.Refusal.TheVariants as refusal
-use Rattle.tab_history.specs.declared.reply.Reply.TheVariants.{Done, Refused, Opened, Batch, Ranges, Rights as OwnRights, Counted, Rows}
+use Rattle.tab_history.specs.declared.reply.Reply.TheVariants.{Done, Refused, Opened, Batch, Ranges, Rights as OwnRights, Counted, Rows, Begun, Nothing}
 use Rattle.tab_history.specs.Answers.{Told, session_list}
 use Rattle.tab_history.specs.Sessions.{opened}
-use Rattle.tab_history.specs.Histories.{Entry, World, world_of, world_after, journal, moves_of}
+use Rattle.tab_history.specs.Jobs.{begun}
+use Rattle.tab_history.specs.Histories.{Entry, World, world_of, world_after, journal, moves_of, jobs_of}
 use Rattle.tab_history.specs.Legal.{Legal}
 use Rattle.tab_history.specs.Refinement.{Refines}
-use Rattle.tab_history.specs.Chains.{IsChain}
 use Rattle.tab_core.specs.Stores.{Held, base_of}
-use Rattle.tab_core.specs.Chains.{EntryGoes}
+use Rattle.tab_core.specs.JobSlots.{JobsAre, GoesExactly}
+use Rattle.tab_core.specs.declared.job_slots.JobSlot.{JobSlot}
 use Rattle.tab_lines.specs.declared.file_line.FileKind.{FileKind}
 use Rattle.tab_lines.specs.declared.file_line.FileKind.TheVariants as kind
 use Rattle.tab_lines.specs.declared.file_line.FileLine.{FileLine}
@@ -29,7 +30,7 @@ use Rattle.tab_lines.specs.declared.line_error.LineError.TheVariants as line_err
 use Rattle.tab_lines.specs.Gives.{Gives}
 use Rattle.tab_lines.specs.Lines.{line_of}
 use Rattle.tab_shell.specs.Sessions.{Keeping, Numbers, kept_of, with_number, slot_named, KeptAre}
-use Rattle.tab_shell.specs.Texts.{reply_text, opened_text, next_text, renumbered, refusal_text, fault_text}
+use Rattle.tab_shell.specs.Texts.{reply_text, opened_text, begun_text, next_text, renumbered, refusal_text, fault_text}
 use Rattle.tab_shell.specs.Readings.{ReadingEnd, CanEnd, reading_text, reading_steps}
 
 -- ---- what a script holds between lines
@@ -38,31 +39,34 @@ pub record Asker : Type 0 where
   pub user : List ℕ
   pub moment : ℤ
 
--- the core, who asks, and the sessions that are kept for each user
+-- the core, who asks, the sessions that are kept for each user, and the jobs that all users share, by their numbers
 pub record ScriptState : Type 0 where
   pub core : Held
   pub asker : Asker
   pub kept : Keeping
+  pub jobs : List JobSlot
 
--- a script over this core: root asks at moment 0, and no session was opened
+-- a script over this core: root asks at moment 0, no session was opened, and no job begun
 abbrev pub new_script : Held → ScriptState
-new_script core = record { core = core; asker = record { user = root; moment = pos 0 }; kept = [] }
+new_script core = record { core = core; asker = record { user = root; moment = pos 0 }; kept = []; jobs = [] }
 
--- the script over another core: no session is kept, and none was opened; who asks, and when, stays
+-- the script over another core: no session or job is kept, and none was opened or begun; who asks, and when, stays
 abbrev pub replaced : ScriptState → Held → ScriptState
-replaced s core = record { core = core; asker = s.asker; kept = [] }
+replaced s core = record { core = core; asker = s.asker; kept = []; jobs = [] }
 
--- The script refines the history h of w: its core does, and for each user it keeps the sessions of h, under numbers that stand for these slots.
+-- The script refines the history h of w: its core does, for each user it keeps the sessions of h, under numbers that stand for these slots,
+-- and its jobs are those of h.
 pub record ScriptRefines (s : ScriptState) (numbers : Numbers) (w : World) (h : List Entry) : Type 0 where
   pub core : Refines (world_of (base_of s.core)) (world_after w h)
   pub sessions : (user : List ℕ) → KeptAre (moves_of w user h) (numbers user) (kept_of s.kept user)
+  pub jobs : JobsAre (jobs_of h) s.jobs
 
 -- From the history h of w, which it refined, the script went on by these entries, and its numbers stand for these slots now.
 pub record ScriptGoes (old : ScriptState) (w : World) (h es : List Entry) (numbers : Numbers) (new : ScriptState) : Type 0 where
   -- they make the history longer, legally
   pub legal : Legal w (es ++ h)
-  -- their events are a chain of exact steps, from the core before to the core left
-  pub exact : IsChain EntryGoes old.core es new.core
+  -- their events are a chain of exact steps, from the core before to the core left, each Install with the merge of its slot's job
+  pub exact : GoesExactly old.core old.jobs es new.core new.jobs
   -- the script left refines the longer history
   pub refines : ScriptRefines new numbers w (es ++ h)
 
@@ -88,12 +92,14 @@ ScanSteps who w h event (Ranges ranges) es text = ⊥
 ScanSteps who w h event (OwnRights rights) es text = ⊥
 ScanSteps who w h event (Counted counts) es text = ⊥
 ScanSteps who w h event (Rows rows) es text = ⊥
+ScanSteps who w h event (Begun job) es text = ⊥
+ScanSteps who w h event Nothing es text = ⊥
 
 -- the slot that a number of the asker's stands for
 abbrev pub slot_of : Asker → Numbers → World → List Entry → ℕ → ℕ
 slot_of who numbers w h number = slot_named (moves_of w who.user h) (numbers who.user) number
 
--- a step of a session, and what was answered
+-- a step of a session or a merge, and what was answered
 abbrev pub own_entry : Step → Told → Entry
 own_entry step reply = record { step = step; reply = reply }
 
@@ -107,7 +113,8 @@ abbrev pub LineSteps : Asker → Numbers → World → List Entry → Line → L
 LineSteps who numbers w h line.Blank es text = (es ≡ []) × (text ≡ [])
 LineSteps who numbers w h (line.As user) es text = (es ≡ []) × (text ≡ [])
 LineSteps who numbers w h (line.At moment) es text = (es ≡ []) × (text ≡ [])
-LineSteps who numbers w h (line.Act act) es text = (reply : Told) × (es ≡ entry (event_by who act) reply ∷ []) × (text ≡ reply_text reply)
+-- a job that is begun gets the number of its slot
+LineSteps who numbers w h (line.Act act) es text = (reply : Told) × (es ≡ entry (event_by who act) reply ∷ []) × (text ≡ begun_text (begun (jobs_of h)) reply)
 LineSteps who numbers w h (line.Scan scan) es text = (reply : Told) × ScanSteps who w h (event_by who (Open scan)) reply es text
 LineSteps who numbers w h (line.Open scan) es text =
     (reply : Told) × (es ≡ entry (event_by who (Open scan)) reply ∷ []) × (text ≡ opened_text (length (numbers who.user)) reply)
@@ -117,6 +124,7 @@ LineSteps who numbers w h (line.Many number ranges) es text =
     (reply : Told) × (es ≡ own_entry (Many who.user (slot_of who numbers w h number) ranges) reply ∷ []) × (text ≡ reply_text (renumbered number reply))
 LineSteps who numbers w h (line.Close number) es text =
     (reply : Told) × (es ≡ own_entry (Close who.user (slot_of who numbers w h number)) reply ∷ []) × (text ≡ reply_text (renumbered number reply))
+LineSteps who numbers w h (line.Merge job) es text = (reply : Told) × (es ≡ own_entry (Merge job) reply ∷ []) × (text ≡ reply_text reply)
 -- a file line that is answered was refused: one that is accepted ends a run (`ScriptAcceptsFile`)
 LineSteps who numbers w h (line.File file) es text = (r : Refusal) × (es ≡ entry (event_by who (file_act file.kind)) (Refused r) ∷ []) × (text ≡ refusal_text r)
 
@@ -147,6 +155,7 @@ asker_after who (Ok (line.Open scan)) = who
 asker_after who (Ok (line.Next number count)) = who
 asker_after who (Ok (line.Many number ranges)) = who
 asker_after who (Ok (line.Close number)) = who
+asker_after who (Ok (line.Merge job)) = who
 asker_after who (Ok (line.File file)) = who
 asker_after who (Err error) = who
 

@@ -7,7 +7,7 @@ use Rattle.tab_key.specs.declared.part.Part.{Part}
 use Rattle.tab_key.specs.declared.part.Part.TheVariants as part
 use Rattle.tab_history.specs.declared.reply.Refusal.{Refusal}
 use Rattle.tab_history.specs.declared.reply.Refusal.TheVariants as refusal
-use Rattle.tab_history.specs.declared.reply.Reply.TheVariants.{Done, Refused, Opened, Batch, Ranges, Rights as OwnRights, Counted, Rows}
+use Rattle.tab_history.specs.declared.reply.Reply.TheVariants.{Done, Refused, Opened, Batch, Ranges, Rights as OwnRights, Counted, Rows, Begun, Nothing}
 use Rattle.tab_history.specs.declared.rights.Rights.{Rights}
 use Rattle.tab_history.specs.declared.counts.Counts.{Counts}
 use Rattle.tab_history.specs.declared.split_fault.SplitFault.{SplitFault}
@@ -93,7 +93,9 @@ refusal_words (refusal.TableExists t) = codes "10" ∷ codes "TableExists" ∷ w
 refusal_words (refusal.UserExists user) = codes "11" ∷ codes "UserExists" ∷ word user ∷ []
 refusal_words (refusal.NoUser user) = codes "12" ∷ codes "NoUser" ∷ word user ∷ []
 refusal_words refusal.BadRange = codes "13" ∷ codes "BadRange" ∷ []
+refusal_words (refusal.Stale count) = codes "14" ∷ codes "Stale" ∷ decimal count ∷ []
 refusal_words (refusal.NoSession slot) = codes "15" ∷ codes "NoSession" ∷ decimal slot ∷ []
+refusal_words (refusal.NoJob slot) = codes "15" ∷ codes "NoSession" ∷ decimal slot ∷ []
 refusal_words refusal.NoMemory = codes "17" ∷ codes "NoMemory" ∷ []
 refusal_words refusal.RootFixed = codes "18" ∷ codes "RootFixed" ∷ []
 refusal_words refusal.GrantInvalid = codes "19" ∷ codes "GrantInvalid" ∷ []
@@ -138,7 +140,8 @@ rows_text rows = flat_map row_text rows ++ codes "end\n"
 abbrev pub range_text : List Cell → List ℕ
 range_text cells = flat_map cell_text cells ++ codes "range\n"
 
--- The text of a reply. An opened session has none: the line that opened it says what is printed of it. Nor does a batch say whether more comes.
+-- The text of a reply. An opened session has none, nor has a job that was begun: the lines that ask for them say what is printed of them. Nor
+-- does a batch say whether more comes.
 abbrev pub reply_text : Told → List ℕ
 reply_text Done = codes "ok\n"
 reply_text (Refused r) = refusal_text r
@@ -148,6 +151,8 @@ reply_text (Ranges ranges) = flat_map range_text ranges
 reply_text (OwnRights rights) = rights_text rights
 reply_text (Counted counts) = counts_text counts
 reply_text (Rows rows) = rows_text rows
+reply_text (Begun job) = []
+reply_text Nothing = codes "nothing\n"
 
 -- the number of a session that was opened and kept
 abbrev pub session_text : ℕ → List ℕ
@@ -157,6 +162,15 @@ session_text number = line_text (codes "session" ∷ decimal number ∷ [])
 abbrev pub opened_text : ℕ → Told → List ℕ
 opened_text number (Opened session) = session_text number
 opened_text number reply = reply_text reply
+
+-- the number of a job that was begun and kept
+abbrev pub job_text : ℕ → List ℕ
+job_text number = line_text (codes "job" ∷ decimal number ∷ [])
+
+-- the reply to a line that may begin a job, which gets this number
+abbrev pub begun_text : ℕ → Told → List ℕ
+begun_text number (Begun job) = job_text number
+begun_text number reply = reply_text reply
 
 -- whether more may come behind a batch
 abbrev pub mark_text : Bool → List ℕ

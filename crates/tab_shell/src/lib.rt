@@ -16,7 +16,7 @@
 //!
 //! `specs/Texts` has the lines of a text and the texts of replies, `specs/Sessions` the sessions that
 //! are kept and what their numbers stand for, `specs/Readings` how a
-//! scan reads its session, `specs/Scripts` what a line adds to every history that the script refines, how its core goes on,
+//! scan reads its session, `specs/Scripts` what a line adds to every history that the script refines, how its core and its jobs go on,
 //! and what is printed, `specs/Batches` what reading a session puts, `specs/Ahead` what is to come where a line has begun,
 //! and `specs/Progress` how far a run has come, also where the reader or the writer failed.
 #![tactic(auto)]
@@ -33,6 +33,6 @@ mod sessions;
 
 pub use laws::runs_are_one;
 pub use pending::{Pending, take_line};
-pub use reply::{put_cells, put_next, put_opened, write_reply};
+pub use reply::{put_begun, put_cells, put_next, put_opened, write_reply};
 pub use script::{Ended, Script, ScriptFault};
 pub use tab_lines::{FileKind, FileLine, FileName, Line, LineError, read_line};

@@ -31,7 +31,7 @@ pub fn put_refusal<W: Output>(output: &mut W, refusal: &Refusal) -> Result<(), W
         Refusal::MalformedVisibility(update, offset) => put_malformed(output, *update, *offset),
         Refusal::ConstraintViolation(violations) => put_violation(output, violations.as_slice()),
         Refusal::TimestampNotAllowed(update) => {
-            put_number(output, b"7", b"TimestampNotAllowed", *update)
+            put_number(output, b"7", b"TimestampNotAllowed", *update as u64)
         }
         Refusal::EmptyMutation => put_bare(output, b"8", b"EmptyMutation"),
         Refusal::TooLarge(part) => put_text(output, b"9", b"TooLarge", part_name(*part)),
@@ -39,12 +39,14 @@ pub fn put_refusal<W: Output>(output: &mut W, refusal: &Refusal) -> Result<(), W
         Refusal::UserExists(user) => put_name(output, b"11", b"UserExists", user),
         Refusal::NoUser(user) => put_name(output, b"12", b"NoUser", user),
         Refusal::BadRange => put_bare(output, b"13", b"BadRange"),
-        Refusal::NoSession(slot) => put_number(output, b"15", b"NoSession", *slot),
+        Refusal::Stale(count) => put_number(output, b"14", b"Stale", *count),
+        Refusal::NoSession(slot) => put_number(output, b"15", b"NoSession", *slot as u64),
+        Refusal::NoJob(slot) => put_number(output, b"15", b"NoSession", *slot),
         Refusal::NoMemory => put_bare(output, b"17", b"NoMemory"),
         Refusal::RootFixed => put_bare(output, b"18", b"RootFixed"),
         Refusal::GrantInvalid => put_bare(output, b"19", b"GrantInvalid"),
         Refusal::BadSplit(fault) => put_text(output, b"20", b"BadSplit", split_word(*fault)),
-        Refusal::BelowHorizon(update) => put_number(output, b"22", b"BelowHorizon", *update),
+        Refusal::BelowHorizon(update) => put_number(output, b"22", b"BelowHorizon", *update as u64),
     }
 }
 
@@ -77,11 +79,11 @@ fn put_number<'a, W: Output>(
     output: &mut W,
     number: &'a [u8],
     name: &'a [u8],
-    told: u32,
+    told: u64,
 ) -> Result<(), WriteFault>
     ensures { Puts W.Output output.old output.new (line_text (codes "refused" ∷ number.now ∷ name.now ∷ decimal told ∷ [])) result }
 {
-    put_named(output, number, name, Word::Number(told as u64))
+    put_named(output, number, name, Word::Number(told))
 }
 
 // A refusal without words.

@@ -5,7 +5,7 @@ ghost use Rattle.std.specs.Prelude.{◌≡◌, ◌++◌, ◌==◌, length};
 ghost use Rattle.std.specs.List.{flat_map};
 ghost use Rattle.tab_io.specs.Writing.{Puts};
 ghost use Rattle.tab_text.specs.Lines.{cell_text};
-ghost use Rattle.tab_shell.specs.Texts.{reply_text, session_text, opened_text, mark_text, next_text, range_text, counts_text, row_text, rows_text};
+ghost use Rattle.tab_shell.specs.Texts.{reply_text, session_text, opened_text, job_text, begun_text, mark_text, next_text, range_text, counts_text, row_text, rows_text};
 
 use crate::refusal::put_refusal;
 use crate::rights::put_rights;
@@ -18,9 +18,9 @@ use tab_text::{PutCell, PutItem, Word, put_cell, put_each, put_each_cell, put_li
 ///
 /// `ok`; `refused`, the refusal's number, its name and its words; a batch's cells, each on a line of its own; the same of
 /// each of several ranges, and behind each `range`; one's own rights, a line for each kind of permission and for each
-/// authorization, and `end`; counts, each behind its name; or end rows, each on a line of its own, and `end`. An opened session has
-/// no text of its own, and a batch none that says whether more comes: the lines that ask for them have. After an error a beginning of
-/// the text may have been written.
+/// authorization, and `end`; counts, each behind its name; end rows, each on a line of its own, and `end`; or `nothing`, where there was
+/// nothing to merge. An opened session and a job that was begun have no text of their own, and a batch none that says whether more comes:
+/// the lines that ask for them have. After an error a beginning of the text may have been written.
 pub fn write_reply<W: Output>(output: &mut W, reply: &Reply) -> Result<(), WriteFault>
     ensures { Puts W.Output output.old output.new (reply_text reply.now) result }
 {
@@ -33,6 +33,8 @@ pub fn write_reply<W: Output>(output: &mut W, reply: &Reply) -> Result<(), Write
         Reply::Rights(rights) => put_rights(output, rights),
         Reply::Counted(counts) => put_counts(output, *counts),
         Reply::Rows(rows) => put_rows(output, rows.as_slice()),
+        Reply::Begun(_) => output.put(b""),
+        Reply::Nothing => output.put(b"nothing\n"),
     }
 }
 
@@ -41,15 +43,31 @@ pub fn put_opened<W: Output>(output: &mut W, number: u64, reply: &Reply) -> Resu
     ensures { Puts W.Output output.old output.new (opened_text number reply.now) result }
 {
     match reply {
-        Reply::Opened(_) => put_number(output, number),
+        Reply::Opened(_) => put_session_number(output, number),
         _ => write_reply(output, reply),
     }
 }
 
-fn put_number<W: Output>(output: &mut W, number: u64) -> Result<(), WriteFault>
+fn put_session_number<W: Output>(output: &mut W, number: u64) -> Result<(), WriteFault>
     ensures { Puts W.Output output.old output.new (session_text number) result }
 {
     put_line(output, &[Word::Text(b"session"), Word::Number(number)])
+}
+
+/// Writes the reply to a line that may begin a job, which gets this number: `job` and the number; else as `write_reply`.
+pub fn put_begun<W: Output>(output: &mut W, number: u64, reply: &Reply) -> Result<(), WriteFault>
+    ensures { Puts W.Output output.old output.new (begun_text number reply.now) result }
+{
+    match reply {
+        Reply::Begun(_) => put_job_number(output, number),
+        _ => write_reply(output, reply),
+    }
+}
+
+fn put_job_number<W: Output>(output: &mut W, number: u64) -> Result<(), WriteFault>
+    ensures { Puts W.Output output.old output.new (job_text number) result }
+{
+    put_line(output, &[Word::Text(b"job"), Word::Number(number)])
 }
 
 /// Writes the reply to a line that asks for so many cells: the cells, and `more` where there are as many, or `end`; else as

@@ -14,11 +14,11 @@ ghost use Rattle.tab_shell.specs.Progress.{PrintsAnswer, AnswersOrAccepts, Answe
 use crate::batches::put_session;
 use crate::file_lines::{file_act, hand_back, is_done, printed};
 use crate::pending::{Pending, take_line};
-use crate::reply::{put_next, put_opened, write_reply};
+use crate::reply::{put_begun, put_next, put_opened, write_reply};
 use crate::sessions::Sessions;
 use std::alloc::Global;
 use std::marker::Model;
-use tab_core::{Core, Session, told};
+use tab_core::{Answer, Core, JobSlots, told};
 use tab_history::{Act, Event, Refusal, Reply, Scan};
 use tab_io::{Input, Output, WriteFault};
 use tab_key::{Bounds, Items, Name, Part};
@@ -47,11 +47,11 @@ pub enum ScriptFault {
     Write,
 }
 
-/// A core, who asks it, and the sessions that its lines opened for each user.
+/// A core, who asks it, the sessions that its lines opened for each user, and the jobs that they began.
 ///
 /// Lines are asked by one user at one moment, `root` at 0 until a line says otherwise. A line may name a user who isn't there:
 /// what he then asks is refused. Each user's open lines number their sessions from 0; a closed number isn't given again. A scan's
-/// session has no number.
+/// session has no number. The jobs of all users are numbered from 0 in one row.
 #[derive(Drop)]
 pub struct Script {
     alloc: Global,
@@ -59,6 +59,7 @@ pub struct Script {
     user: Name,
     moment: i64,
     sessions: Sessions,
+    jobs: JobSlots,
 }
 
 impl Model for Script {
@@ -66,7 +67,7 @@ impl Model for Script {
 
     ghost Value = { ScriptState };
 
-    ghost view = { λ s. record { core = s.core; asker = record { user = s.user; moment = s.moment }; kept = s.sessions } };
+    ghost view = { λ s. record { core = s.core; asker = record { user = s.user; moment = s.moment }; kept = s.sessions; jobs = s.jobs } };
 }
 
 // `root`, the user that is there from the first.
@@ -77,7 +78,7 @@ fn root_name() -> Name
 }
 
 // Writes what is told of the reply.
-fn write_told<W: Output>(output: &mut W, reply: Reply<Session>) -> Result<(), WriteFault>
+fn write_told<W: Output>(output: &mut W, reply: Answer) -> Result<(), WriteFault>
     ensures { Puts W.Output output.old output.new (reply_text (told_of reply)) result }
 {
     let reply = told(reply);
@@ -95,6 +96,7 @@ impl Script {
             user: root_name(),
             moment: 0,
             sessions: Sessions::new(alloc),
+            jobs: JobSlots::new(alloc),
         }
     }
 
@@ -105,12 +107,13 @@ impl Script {
         &self.core
     }
 
-    /// Puts this core in place of the script's. Its sessions are dropped, and their numbers begin anew; who asks, and when, stays.
+    /// Puts this core in place of the script's. Its sessions and jobs are dropped, and their numbers begin anew; who asks, and when, stays.
     pub fn replace(&mut self, core: Core)
         ensures { self.new ≡ replaced self.old core }
     {
         self.core = core;
         self.sessions = Sessions::new(self.alloc);
+        self.jobs = JobSlots::new(self.alloc);
     }
 
     // Does what the line says, and prints the replies. A file line that the core accepts is handed back.
@@ -148,6 +151,7 @@ impl Script {
             Line::Next(number, count) => printed(self.next(number, count, output)),
             Line::Many(number, ranges) => printed(self.many(number, ranges, output)),
             Line::Close(number) => printed(self.close(number, output)),
+            Line::Merge(job) => printed(self.merge(job, output)),
             Line::File(file) => self.file(file, output),
         }
     }
@@ -161,7 +165,7 @@ impl Script {
         ensures { AnswersOrAccepts W.Output self.old (Ok (Line.File file)) self.new output.old output.new result }
     {
         let event = self.event(file_act(file.kind));
-        let answer = told(self.core.step(self.alloc, event));
+        let answer = self.jobs.step(self.alloc, &mut self.core, event);
         if is_done(&answer) {
             return hand_back(file, output);
         }
@@ -204,13 +208,15 @@ impl Script {
         output.put(b"refused 17 NoMemory\n")
     }
 
+    // One step of the core. A job that it begins is kept under the next number, and the merge that it installs is taken from its slot.
     fn act<W: Output>(&mut self, act: Act, output: &mut W) -> Result<(), WriteFault>
         requires { is_open act ≡ false }
         ensures { PrintsAnswer W.Output self.old (Ok (Line.Act act)) self.new output.old output.new result }
     {
         let event = self.event(act);
-        let reply = told(self.core.step(self.alloc, event));
-        write_reply(output, &reply)
+        let number = self.jobs.begun();
+        let reply = self.jobs.step(self.alloc, &mut self.core, event);
+        put_begun(output, number, &reply)
     }
 
     // What the script's user asks now.
@@ -308,6 +314,14 @@ impl Script {
         write_reply(output, &reply)
     }
 
+    // Makes the merge of a job, which stays in its slot.
+    fn merge<W: Output>(&mut self, job: u64, output: &mut W) -> Result<(), WriteFault>
+        ensures { PrintsAnswer W.Output self.old (Ok (Line.Merge job)) self.new output.old output.new result }
+    {
+        let reply = self.jobs.merge(self.alloc, job);
+        write_reply(output, &reply)
+    }
+
     // Answers the lines that the front has, up to a file line that the core accepts.
     #[tactic(auto, using(crate::proofs::ProgressLemmas::goes_none, crate::proofs::ProgressLemmas::goes_on))]
     fn answer_front<R: Input, W: Output>(
@@ -368,6 +382,9 @@ impl Script {
     /// Each act that a line asks for is one exact step of the script's core, in the order of the lines, and nothing else touches the core.
     /// So is what a `save` or `load` asks: a refusal is printed, and the run goes on. One that is accepted ends the run, as [`Ended::File`]
     /// says.
+    ///
+    /// A `begin` that finds something to merge keeps its job under the next number, for which there was room before the event was done. A
+    /// `merge` makes the merge of a job, which waits on where memory lacks; an `install` uses a finished merge up, whatever it is answered.
     ///
     /// Replies are flushed whenever no more input is here, before the reader is asked for more, and at the end. A line for which memory
     /// lacks is read to its end and answered by its refusal. A fault of the reader or the writer ends the run; the

@@ -30,3 +30,6 @@ returns-in-NoSession g c = subst (λ (x : Refusal). Puts g.W.Output c.args.outpu
 
 pub returns-in-BelowHorizon : goal.returns-in-BelowHorizon
 returns-in-BelowHorizon g c = subst (λ (x : Refusal). Puts g.W.Output c.args.output.now c.put_number-in-BelowHorizon.new.output (refusal_text x) c.put_number-in-BelowHorizon.result) (sym c.in-BelowHorizon.is) c.put_number-in-BelowHorizon.ensures
+
+pub returns-in-NoJob : goal.returns-in-NoJob
+returns-in-NoJob g c = subst (λ (x : Refusal). Puts g.W.Output c.args.output.now c.put_number-in-NoJob.new.output (refusal_text x) c.put_number-in-NoJob.result) (sym c.in-NoJob.is) c.put_number-in-NoJob.ensures

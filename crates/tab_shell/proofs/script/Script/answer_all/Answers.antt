@@ -1,4 +1,4 @@
-use Rattle.std.proofs.Common.{◌≡◌, ◌<◌, inl, List, ℕ, Option, Some, None, Ok, rules, subst}
+use Rattle.std.proofs.Common.{◌<◌, inl, List, ℕ, Option, Some, Ok, rules, subst}
 use Rattle.tab_io.proofs.Putting.{flush_put, flush_part}
 use Rattle.tab_io.specs.declared.writing.WriteFault.{WriteFault}
 use Rattle.tab_lines.specs.declared.file_line.FileLine.{FileLine}

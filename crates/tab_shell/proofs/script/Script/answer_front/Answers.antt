@@ -1,4 +1,4 @@
-use Rattle.std.proofs.Common.{◌≡◌, ◌<◌, length, rules, arith, ap, ◌∙◌, subst, Option, Some, None, Ok}
+use Rattle.std.proofs.Common.{◌<◌, length, rules, arith, ◌∙◌, subst, Option, Some, None, Ok}
 use Rattle.tab_io.specs.declared.writing.WriteFault.{WriteFault}
 use Rattle.tab_lines.specs.declared.file_line.FileLine.{FileLine}
 use Rattle.tab_shell.specs.Ahead.{TakesLine}

@@ -10,7 +10,7 @@ use Rattle.tab_shell.proofs.script.Script.close.Goals as goal
 
 pub returns : goal.returns
 returns g c =
-    let v : ScriptState = record { core = c.self.inside.core; asker = record { user = c.self.inside.user; moment = c.self.inside.moment }; kept = c.self.inside.sessions } in
+    let v : ScriptState = record { core = c.self.inside.core; asker = record { user = c.self.inside.user; moment = c.self.inside.moment }; kept = c.self.inside.sessions; jobs = c.self.inside.jobs } in
     let kept : Keeping = c.close-reply.new.self in
     let text : List ℕ = reply_text c.close-reply.result in
     let answered : ScriptAnswersLine v (Ok (line.Close c.args.number)) text (with_kept v kept) = close_answered v kept c.args.number c.close-reply.result c.close-reply.ensures in

@@ -47,3 +47,8 @@ pub returns-in-Close : goal.returns-in-Close
 returns-in-Close g c =
     let prints : PrintsAnswer g.W.Output c.args.self.now (Ok c.args.line) c.close.new.self c.args.output.now c.close.new.output c.close.result = search rules in
     printed_answers g.W.Output c.args.self.now c.close.new.self (Ok c.args.line) c.args.output.now c.close.new.output c.close.result c.printed-in-Close.result c.printed-in-Close.ensures prints
+
+pub returns-in-Merge : goal.returns-in-Merge
+returns-in-Merge g c =
+    let prints : PrintsAnswer g.W.Output c.args.self.now (Ok c.args.line) c.merge.new.self c.args.output.now c.merge.new.output c.merge.result = search rules in
+    printed_answers g.W.Output c.args.self.now c.merge.new.self (Ok c.args.line) c.args.output.now c.merge.new.output c.merge.result c.printed-in-Merge.result c.printed-in-Merge.ensures prints

@@ -13,7 +13,7 @@ use Rattle.tab_shell.proofs.script.Script.keep.Goals as goal
 
 pub returns : goal.returns
 returns g c =
-    let v : ScriptState = record { core = c.self.inside.core; asker = record { user = c.self.inside.user; moment = c.self.inside.moment }; kept = c.self.inside.sessions } in
+    let v : ScriptState = record { core = c.self.inside.core; asker = record { user = c.self.inside.user; moment = c.self.inside.moment }; kept = c.self.inside.sessions; jobs = c.self.inside.jobs } in
     let new : Held = c.open-reply.new.core in
     let kept : Keeping = c.open-reply.new.self in
     let room : is_spent (own_kept v) ≡ false = subst (λ (s : ScriptState). is_spent (own_kept s) ≡ false) (sym c.self.view_is) c.requires.few in

@@ -10,7 +10,7 @@ use Rattle.tab_shell.proofs.script.Script.many.Goals as goal
 
 pub returns : goal.returns
 returns g c =
-    let v : ScriptState = record { core = c.self.inside.core; asker = record { user = c.self.inside.user; moment = c.self.inside.moment }; kept = c.self.inside.sessions } in
+    let v : ScriptState = record { core = c.self.inside.core; asker = record { user = c.self.inside.user; moment = c.self.inside.moment }; kept = c.self.inside.sessions; jobs = c.self.inside.jobs } in
     let text : List ℕ = reply_text c.many-reply.result in
     let same : c.as_slice.result.now ≡ c.args.ranges = search rules in
     let many : ManyIn v.kept v.asker.user c.args.number c.args.ranges c.many-reply.result = subst (λ (rs : List Bounds). ManyIn v.kept v.asker.user c.args.number rs c.many-reply.result) same c.many-reply.ensures in

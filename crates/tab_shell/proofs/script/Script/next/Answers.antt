@@ -10,7 +10,7 @@ use Rattle.tab_shell.proofs.script.Script.next.Goals as goal
 
 pub returns : goal.returns
 returns g c =
-    let v : ScriptState = record { core = c.self.inside.core; asker = record { user = c.self.inside.user; moment = c.self.inside.moment }; kept = c.self.inside.sessions } in
+    let v : ScriptState = record { core = c.self.inside.core; asker = record { user = c.self.inside.user; moment = c.self.inside.moment }; kept = c.self.inside.sessions; jobs = c.self.inside.jobs } in
     let kept : Keeping = c.next-reply.new.self in
     let text : List ℕ = next_text c.args.count c.next-reply.result in
     let answered : ScriptAnswersLine v (Ok (line.Next c.args.number c.args.count)) text (with_kept v kept) = next_answered v kept c.args.number c.args.count c.next-reply.result c.next-reply.ensures in

@@ -11,7 +11,7 @@ use Rattle.tab_shell.proofs.script.Script.open.Goals as goal
 
 pub returns-then-is_err : goal.returns-then-is_err
 returns-then-is_err g c =
-    let v : ScriptState = record { core = c.self.inside.core; asker = record { user = c.self.inside.user; moment = c.self.inside.moment }; kept = c.self.inside.sessions } in
+    let v : ScriptState = record { core = c.self.inside.core; asker = record { user = c.self.inside.user; moment = c.self.inside.moment }; kept = c.self.inside.sessions; jobs = c.self.inside.jobs } in
     let kept : Keeping = c.ready.new.self in
     let text : List ℕ = refusal_text NoMemory in
     let answered : ScriptAnswersLine v (Ok (line.Open c.args.scan)) text (with_kept v kept) = kept_counts v kept (Ok (line.Open c.args.scan)) text c.ready.ensures.same (starved_opens v c.args.scan) in
@@ -19,7 +19,7 @@ returns-then-is_err g c =
 
 pub returns-then-is_spent : goal.returns-then-is_spent
 returns-then-is_spent g c =
-    let v : ScriptState = record { core = c.self.inside.core; asker = record { user = c.self.inside.user; moment = c.self.inside.moment }; kept = c.self.inside.sessions } in
+    let v : ScriptState = record { core = c.self.inside.core; asker = record { user = c.self.inside.user; moment = c.self.inside.moment }; kept = c.self.inside.sessions; jobs = c.self.inside.jobs } in
     let kept : Keeping = c.ready.new.self in
     let text : List ℕ = refusal_text (TooLarge Sessions) in
     let yes : c.is_spent.result ≡ true = search rules in
@@ -29,7 +29,7 @@ returns-then-is_spent g c =
 
 pub returns : goal.returns
 returns g c =
-    let v : ScriptState = record { core = c.self.inside.core; asker = record { user = c.self.inside.user; moment = c.self.inside.moment }; kept = c.self.inside.sessions } in
+    let v : ScriptState = record { core = c.self.inside.core; asker = record { user = c.self.inside.user; moment = c.self.inside.moment }; kept = c.self.inside.sessions; jobs = c.self.inside.jobs } in
     let kept : Keeping = c.ready.new.self in
     let prints = c.keep.ensures in
     let answered : ScriptAnswersLine v (Ok (line.Open c.args.scan)) prints.0 c.keep.new.self = recounted v kept (Ok (line.Open c.args.scan)) prints.0 c.keep.new.self c.ready.ensures.same prints.1 in

@@ -7,7 +7,7 @@ use Rattle.tab_shell.proofs.script.Script.sets_moment.Goals as goal
 
 pub returns : goal.returns
 returns g c =
-    let v : ScriptState = record { core = c.self.inside.core; asker = record { user = c.self.inside.user; moment = c.self.inside.moment }; kept = c.self.inside.sessions } in
+    let v : ScriptState = record { core = c.self.inside.core; asker = record { user = c.self.inside.user; moment = c.self.inside.moment }; kept = c.self.inside.sessions; jobs = c.self.inside.jobs } in
     let o = c.args.output.now in
     let trip : to_z w64 (of_z w64 c.args.moment) ≡ c.args.moment = search rules in
     subst (λ (s : ScriptState). (text : List ℕ) × ScriptAnswersLine s (Ok (line.At c.args.moment)) text (at_moment v (to_z w64 (of_z w64 c.args.moment))) × HasPut g.W.Output o o text) c.self.view_is

@@ -7,6 +7,6 @@ use Rattle.tab_shell.proofs.script.Script.sets_user.Goals as goal
 
 pub returns : goal.returns
 returns g c =
-    let v : ScriptState = record { core = c.self.inside.core; asker = record { user = c.self.inside.user; moment = c.self.inside.moment }; kept = c.self.inside.sessions } in
+    let v : ScriptState = record { core = c.self.inside.core; asker = record { user = c.self.inside.user; moment = c.self.inside.moment }; kept = c.self.inside.sessions; jobs = c.self.inside.jobs } in
     let o = c.args.output.now in
     subst (λ (s : ScriptState). (text : List ℕ) × ScriptAnswersLine s (Ok (line.As c.args.user)) text (with_user v c.args.user) × HasPut g.W.Output o o text) c.self.view_is (user_prints g.W.Output v c.args.user o)
