@@ -7,17 +7,20 @@ use Rattle.tab_history.specs.declared.event.Event.{Event}
 use Rattle.tab_history.specs.declared.event.Step.TheVariants as step
 use Rattle.tab_history.specs.declared.reply.Refusal.TheVariants.{NoMemory, TooLarge}
 use Rattle.tab_history.specs.declared.reply.Reply.{Reply}
-use Rattle.tab_history.specs.declared.reply.Reply.TheVariants.{Done, Refused, Opened, Batch, Ranges, Rights, Counted, Rows}
+use Rattle.tab_history.specs.declared.reply.Reply.TheVariants.{Refused, Opened}
 use Rattle.tab_history.specs.Answers.{Told, told_of, session_of, is_open}
 use Rattle.tab_history.specs.Sessions.{Move, Opening, opened, is_full}
 use Rattle.tab_history.specs.Bases.{new_core}
 use Rattle.tab_core.specs.SessionState.{SessionState}
+use Rattle.tab_core.specs.Parts.{TabletMerge}
 use Rattle.tab_core.specs.Stores.{Held}
 use Rattle.tab_core.specs.Slots.{are_full, SlotsAre}
 use Rattle.tab_core.specs.Owners.{kept_with}
 use Rattle.tab_core.specs.Recording.{entry_of}
 use Rattle.tab_core.proofs.SlotLemmas.{slots_opened, full_alike}
+use Rattle.tab_book.specs.HandedOut.{session_in}
 use Rattle.tab_book.specs.Receipts.{Slip}
+use Rattle.tab_book.proofs.Handing.{session_held}
 use Rattle.tab_wire.specs.declared.request.Request.{Request}
 use Rattle.tab_wire.specs.declared.request.Request.TheVariants as asks
 use Rattle.tab_wire.specs.declared.asked.Asked.{Asked}
@@ -30,6 +33,7 @@ use Rattle.tab_serve.specs.Turns.{cells_asked}
 use Rattle.tab_serve.specs.Serves.{Serves, asked_at}
 use Rattle.tab_serve.specs.Serving.{Gave}
 use Rattle.tab_serve.proofs.Carrying.{Comes as ComesOver, quiet, request_comes}
+use Rattle.tab_wire.proofs.NoSlots.{AsksNoSlot}
 use Rattle.tab_work.specs.Receiving.{HandsOut, spent, Follows}
 use Rattle.tab_work.specs.Shares.{Seated, IsTooMany, Lacks, Books, DoesAct, Shares}
 use Rattle.tab_work.specs.Sharing.{HasList, AreBooked}
@@ -73,7 +77,7 @@ no_moment moves asked.NoMemory x after none_acts does = does.0.moments
 
 -- any core will do where none is asked
 pub bare : Held
-bare = record { clock = pos 0; next = 0; policy = new_core.policy; tables = [] }
+bare = record { clock = pos 0; next = 0; policy = new_core.policy; tables = []; tablet = 0; job = 0 }
 
 module _ {M : Type 0} (gives : M → ℤ → M → Type 0) (old new : Seated M) (slots slots' : List (Option SessionState)) (talk : Talk) (are : SlotsAre talk.moves slots) where
   -- what takes no moment has no receipt
@@ -161,31 +165,27 @@ module _ {M : Type 0} (gives : M → ℤ → M → Type 0) (old new : Seated M) 
     has_list (Some session) hands = λ i. record { all = session.all; given = hands.1 i }
 
     -- the sessions of the connection, with the one that was handed out
-    kept_slots : (e : Event) → e.act ≡ act → (r : Reply SessionState) → HandsOut act (session_of r) → SlotsAre (moves_told (step.Event e) (told_of r) (list_of (session_of r)) ++ talk.moves) (kept_with slots (session_of r))
+    kept_slots : (e : Event) → e.act ≡ act → (r : Reply SessionState TabletMerge) → HandsOut act (session_of r) → SlotsAre (moves_told (step.Event e) (told_of r) (list_of (session_of r)) ++ talk.moves) (kept_with slots (session_of r))
     kept_slots e is (Opened session) hands =
         let there : SlotsAre (Opening session.all ∷ talk.moves) (slots ++ Some session ∷ []) = subst (λ (s : SessionState). SlotsAre (Opening session.all ∷ talk.moves) (slots ++ Some s ∷ [])) (sym (has_list (Some session) hands)) (slots_opened talk.moves slots session.all are) in
         subst (λ (b : Bool). SlotsAre (cond b (Opening session.all ∷ []) [] ++ talk.moves) (slots ++ Some session ∷ [])) (sym (ap is_open is ∙ hands.0)) there
-    kept_slots e is Done hands = are
-    kept_slots e is (Refused r) hands = are
-    kept_slots e is (Batch cells) hands = are
-    kept_slots e is (Ranges ranges) hands = are
-    kept_slots e is (Rights rights) hands = are
-    kept_slots e is (Counted counts) hands = are
-    kept_slots e is (Rows rows) hands = are
+    kept_slots e is _ hands = are
 
     -- the seat's next event
     books : (r : Told) → Books gives old slots user act r new slots' → told ≡ sent_of (length slots) 0 r → Comes gives old talk (asked.Request user (asks.Act act)) told new slots'
     books r does is =
         let e : Event = asked_at user does.moment act in
         let slip : Slip = does.slip in
-        let reply : Reply SessionState = does.receives.whole.0 in
-        let all : List Cell = list_of slip.session in
+        let reply : Reply SessionState TabletMerge = does.receives.whole.0 in
+        let session : Option SessionState = session_in slip.held in
+        let is_its : session ≡ session_of reply = ap session_in does.receives.whole.2 ∙ session_held reply in
+        let all : List Cell = list_of session in
         let x : Exchange = record { what = asked.Request user (asks.Act act); moments = does.moment ∷ []; entries = entry_of e slip.entry.reply ∷ []; all = all; told = sent_of (opened talk.moves) 0 slip.entry.reply } in
         let there : SlotsAre (moves_told (step.Event e) (told_of reply) (list_of (session_of reply)) ++ talk.moves) (kept_with slots (session_of reply)) =
-        kept_slots e refl reply (subst (λ (s : Option SessionState). HandsOut act s) does.receives.whole.2 does.hands) in
-        let here : SlotsAre (moves_told (step.Event e) slip.entry.reply (list_of slip.session) ++ talk.moves) (kept_with slots slip.session) =
-        subst (λ (t : Told). SlotsAre (moves_told (step.Event e) t (list_of slip.session) ++ talk.moves) (kept_with slots slip.session)) (sym does.receives.whole.1)
-        (subst (λ (s : Option SessionState). SlotsAre (moves_told (step.Event e) (told_of reply) (list_of s) ++ talk.moves) (kept_with slots s)) (sym does.receives.whole.2) there) in
+        kept_slots e refl reply (subst (λ (s : Option SessionState). HandsOut act s) is_its does.hands) in
+        let here : SlotsAre (moves_told (step.Event e) slip.entry.reply (list_of session) ++ talk.moves) (kept_with slots session) =
+        subst (λ (t : Told). SlotsAre (moves_told (step.Event e) t (list_of session) ++ talk.moves) (kept_with slots session)) (sym does.receives.whole.1)
+        (subst (λ (s : Option SessionState). SlotsAre (moves_told (step.Event e) (told_of reply) (list_of s) ++ talk.moves) (kept_with slots s)) (sym is_its) there) in
         record {
           x = x;
           after = moves_told (step.Event e) slip.entry.reply all ++ talk.moves;
@@ -196,7 +196,7 @@ module _ {M : Type 0} (gives : M → ℤ → M → Type 0) (old new : Seated M) 
           gave = (new.moments, does.gave, refl);
           events = e ∷ [];
           slips = slip ∷ [];
-          booked = inr (inr (e, slip, [], [], refl, refl, record { moment = refl; step = refl; list = has_list slip.session does.hands }, (refl, refl)));
+          booked = inr (inr (e, slip, [], [], refl, refl, record { moment = refl; step = refl; list = has_list session does.hands }, (refl, refl)));
           follows = (new.seat, does.receives, refl);
           receipts = does.receipts;
         }
@@ -207,11 +207,11 @@ module _ {M : Type 0} (gives : M → ℤ → M → Type 0) (old new : Seated M) 
     act_comes r (inr (inr does)) is = books r does is
 
   -- ---- a step on a session
-  own_comes : (user : List ℕ) (request : Request) (r : Told) (told : Sent) → IsNoAct (asked.Request user request) → IsBy talk.user user request → new ≡ old
+  own_comes : (user : List ℕ) (request : Request) (r : Told) (told : Sent) → IsNoAct (asked.Request user request) → AsksNoSlot request → IsBy talk.user user request → new ≡ old
       → Serves gives (record { core = bare; slots = slots; moments = old.moments }) user request r (record { core = bare; slots = slots'; moments = new.moments }) → told ≡ sent_of (length slots) (cells_asked request) r
       → Comes gives old talk (asked.Request user request) told new slots'
-  own_comes user request r told none_acts by same serves is =
-      still (asked.Request user request) told none_acts same (request_comes gives (record { core = bare; slots = slots; moments = old.moments }) (record { core = bare; slots = slots'; moments = new.moments }) talk are user request r told by serves is)
+  own_comes user request r told none_acts names by same serves is =
+      still (asked.Request user request) told none_acts same (request_comes gives (record { core = bare; slots = slots; moments = old.moments }) (record { core = bare; slots = slots'; moments = new.moments }) talk are user request r told names by serves is)
 
   -- ---- any request
   pub request_shares : (user : List ℕ) (request : Request) (r : Told) (told : Sent) → IsBy talk.user user request → Shares gives old slots user request r new slots' → told ≡ sent_of (length slots) (cells_asked request) r
@@ -219,7 +219,7 @@ module _ {M : Type 0} (gives : M → ℤ → M → Type 0) (old new : Seated M) 
   request_shares user (asks.Hello name) r told by says is =
       silent (asked.Request user (asks.Hello name)) told tt says.1 says.2 (record { moments = refl; entries = refl; told = is ∙ ap (sent_of (length slots) 0) says.0 }, refl)
   request_shares user (asks.Act act) r told by says is = act_comes user act told r says is
-  request_shares user (asks.Next slot n) r told by says is = own_comes user (asks.Next slot n) r told tt by says.1 (says.0, record { core = refl; moments = ap (λ (s : Seated M). s.moments) says.1 }) is
+  request_shares user (asks.Next slot n) r told by says is = own_comes user (asks.Next slot n) r told tt tt by says.1 (says.0, record { core = refl; moments = ap (λ (s : Seated M). s.moments) says.1 }) is
   request_shares user (asks.Many slot ranges) r told by says is =
-      own_comes user (asks.Many slot ranges) r told tt by says.1 (says.0, (λ i. record { core = bare; slots = says.2 i; moments = (says.1 i).moments })) is
-  request_shares user (asks.Close slot) r told by says is = own_comes user (asks.Close slot) r told tt by says.1 (says.0, record { core = refl; moments = ap (λ (s : Seated M). s.moments) says.1 }) is
+      own_comes user (asks.Many slot ranges) r told tt tt by says.1 (says.0, (λ i. record { core = bare; slots = says.2 i; moments = (says.1 i).moments })) is
+  request_shares user (asks.Close slot) r told by says is = own_comes user (asks.Close slot) r told tt tt by says.1 (says.0, record { core = refl; moments = ap (λ (s : Seated M). s.moments) says.1 }) is

@@ -2,9 +2,10 @@
 use Rattle.std.proofs.Common.{◌≡◌, inl, inr, ℕ, ℤ, ◌<◌, Bool, true, false, ◌&&◌, List, length, Option, refl, sym, ap, ◌∙◌, subst}
 use Rattle.tab_history.specs.declared.event.Act.{Act}
 use Rattle.tab_history.specs.declared.reply.Reply.{Reply}
-use Rattle.tab_history.specs.declared.reply.Reply.TheVariants.{Done, Refused, Opened, Batch, Ranges, Rights, Counted, Rows}
+use Rattle.tab_history.specs.declared.reply.Reply.TheVariants.{Opened}
 use Rattle.tab_history.specs.Answers.{Told, told_of, session_of, is_open}
 use Rattle.tab_core.specs.SessionState.{SessionState}
+use Rattle.tab_core.specs.Parts.{TabletMerge}
 use Rattle.tab_core.specs.Slots.{are_full}
 use Rattle.tab_core.specs.Owners.{kept_with}
 use Rattle.tab_wire.specs.declared.request.Request.{Request}
@@ -12,20 +13,16 @@ use Rattle.tab_wire.specs.declared.request.Request.TheVariants as asks
 use Rattle.tab_wire.specs.Asking.{opens, opened_by}
 use Rattle.tab_serve.specs.Serves.{Serves}
 use Rattle.tab_serve.proofs.Counting.{Counts, none_counted, kept_counted, counted}
+use Rattle.tab_book.specs.HandedOut.{session_in}
+use Rattle.tab_book.proofs.Handing.{session_held}
 use Rattle.tab_work.specs.Receiving.{HandsOut}
 use Rattle.tab_work.specs.Shares.{Seated, DoesAct, Shares}
 use Rattle.tab_work.proofs.Booking.{bare}
 
 -- ---- a session that was handed out, for which there was room
-kept : (act : Act) (slots : List (Option SessionState)) (r : Reply SessionState) → (is_open act && are_full slots) ≡ false → HandsOut act (session_of r) → Counts slots (told_of r) (kept_with slots (session_of r))
+kept : (act : Act) (slots : List (Option SessionState)) (r : Reply SessionState TabletMerge) → (is_open act && are_full slots) ≡ false → HandsOut act (session_of r) → Counts slots (told_of r) (kept_with slots (session_of r))
 kept act slots (Opened s) room hands = kept_counted slots (Opened s) (ap (λ (b : Bool). b && are_full slots) (sym hands.0) ∙ room)
-kept act slots Done room hands = none_counted slots slots Done refl refl
-kept act slots (Refused r) room hands = none_counted slots slots (Refused r) refl refl
-kept act slots (Batch cells) room hands = none_counted slots slots (Batch cells) refl refl
-kept act slots (Ranges ranges) room hands = none_counted slots slots (Ranges ranges) refl refl
-kept act slots (Rights rights) room hands = none_counted slots slots (Rights rights) refl refl
-kept act slots (Counted counts) room hands = none_counted slots slots (Counted counts) refl refl
-kept act slots (Rows rows) room hands = none_counted slots slots (Rows rows) refl refl
+kept act slots _ room hands = none_counted slots slots _ refl refl
 
 -- ---- any request
 module _ {M : Type 0} (gives : M → ℤ → M → Type 0) (old : Seated M) (slots : List (Option SessionState)) (user : List ℕ) (reply : Told) (new : Seated M) (slots' : List (Option SessionState)) where
@@ -33,11 +30,12 @@ module _ {M : Type 0} (gives : M → ℤ → M → Type 0) (old : Seated M) (slo
   act_counted act (inl full) = none_counted slots slots' reply (ap opens full.told) (ap (λ (ss : List (Option SessionState)). length ss) full.kept)
   act_counted act (inr (inl lacks)) = none_counted slots slots' reply (ap opens lacks.told) (ap (λ (ss : List (Option SessionState)). length ss) lacks.kept)
   act_counted act (inr (inr does)) =
-      let r : Reply SessionState = does.receives.whole.0 in
+      let r : Reply SessionState TabletMerge = does.receives.whole.0 in
+      let is_its : session_in does.slip.held ≡ session_of r = ap session_in does.receives.whole.2 ∙ session_held r in
       let told : reply ≡ told_of r = does.told ∙ does.receives.whole.1 in
-      let after : slots' ≡ kept_with slots (session_of r) = does.kept ∙ ap (kept_with slots) does.receives.whole.2 in
+      let after : slots' ≡ kept_with slots (session_of r) = does.kept ∙ ap (kept_with slots) is_its in
       subst (λ (ss : List (Option SessionState)). Counts slots reply ss) (sym after)
-      (subst (λ (t : Told). Counts slots t (kept_with slots (session_of r))) (sym told) (kept act slots r does.room (subst (λ (s : Option SessionState). HandsOut act s) does.receives.whole.2 does.hands)))
+      (subst (λ (t : Told). Counts slots t (kept_with slots (session_of r))) (sym told) (kept act slots r does.room (subst (λ (s : Option SessionState). HandsOut act s) is_its does.hands)))
 
   own_counted : (request : Request) → Serves gives (record { core = bare; slots = slots; moments = old.moments }) user request reply (record { core = bare; slots = slots'; moments = new.moments }) → Counts slots reply slots'
   own_counted request says = counted gives (record { core = bare; slots = slots; moments = old.moments }) user reply (record { core = bare; slots = slots'; moments = new.moments }) request says

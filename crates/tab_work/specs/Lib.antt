@@ -1,4 +1,8 @@
 pub mod Receiving
+pub mod Writes
+pub mod Dues
+pub mod Ends
+pub mod Compacting
 pub mod Shares
 pub mod SharedAnswers
 pub mod Sharing

@@ -12,9 +12,9 @@ abbrev pub HandsOut : Act → Option SessionState → Type 0
 HandsOut act None = Unit {0}
 HandsOut act (Some session) = (is_open act ≡ true) × (session.given ≡ 0)
 
--- the receipt, once its session was taken out
+-- the receipt, once what was handed out was taken
 abbrev pub spent : Slip → Slip
-spent slip = record slip { session = None }
+spent slip = record slip { held = None }
 
 -- the receipts that the seat got for these events, one after another
 abbrev pub Follows : Place → List Event → List Slip → Place → Type 0

@@ -7,6 +7,7 @@ use Rattle.tab_history.specs.declared.reply.Reply.TheVariants.{Refused}
 use Rattle.tab_history.specs.Answers.{Told}
 use Rattle.tab_core.specs.SessionState.{SessionState}
 use Rattle.tab_book.specs.declared.book.Origin.{Ghosts}
+use Rattle.tab_book.specs.HandedOut.{session_in}
 use Rattle.tab_book.specs.Receipts.{Slip, Receives}
 use Rattle.tab_wire.specs.declared.request.Request.{Request}
 use Rattle.tab_serve.specs.Serves.{asked_at}
@@ -61,13 +62,13 @@ pub record Takes {M : Type 0} (gives : M → ℤ → M → Type 0) (old : Seated
   pub seat : new.seat ≡ old.seat
   pub receipts : new.receipts ≡ old.receipts
 
--- The event was the seat's next one: its reply is told, its session handed on, and the receipt without it was added.
+-- The event was the seat's next one: its reply is told, its session handed on, and the receipt was added, with nothing to be taken.
 pub record Adds {M : Type 0} (old : Seated M) (event : Event) (reply : Told) (session : Option SessionState) (new : Seated M) : Type 0 where
   pub slip : Slip
   pub receives : Receives old.seat event slip new.seat
-  pub hands : HandsOut event.act slip.session
+  pub hands : HandsOut event.act (session_in slip.held)
   pub told : reply ≡ slip.entry.reply
-  pub handed : session ≡ slip.session
+  pub handed : session ≡ session_in slip.held
   pub receipts : new.receipts ≡ old.receipts ++ spent slip ∷ []
   pub moments : new.moments ≡ old.moments
 

@@ -9,6 +9,7 @@ use Rattle.tab_core.specs.SessionState.{SessionState}
 use Rattle.tab_core.specs.Slots.{are_full, NextFrom, ManyFrom, CloseFrom}
 use Rattle.tab_core.specs.Owners.{kept_with}
 use Rattle.tab_book.specs.Entries.{Place}
+use Rattle.tab_book.specs.HandedOut.{session_in}
 use Rattle.tab_book.specs.Receipts.{Slip, Receives}
 use Rattle.tab_wire.specs.declared.request.Request.{Request}
 use Rattle.tab_wire.specs.declared.request.Request.TheVariants as asks
@@ -46,10 +47,10 @@ pub record Books {M : Type 0} (gives : M → ℤ → M → Type 0) (old : Seated
   pub gave : gives old.moments moment new.moments
   pub slip : Slip
   pub receives : Receives old.seat (asked_at user moment act) slip new.seat
-  pub hands : HandsOut act slip.session
+  pub hands : HandsOut act (session_in slip.held)
   pub told : reply ≡ slip.entry.reply
   pub receipts : new.receipts ≡ old.receipts ++ spent slip ∷ []
-  pub kept : slots' ≡ kept_with slots slip.session
+  pub kept : slots' ≡ kept_with slots (session_in slip.held)
 
 -- what an act of this user may be told, and what it leaves
 abbrev pub DoesAct : {M : Type 0} → (M → ℤ → M → Type 0) → Seated M → List (Option SessionState) → List ℕ → Act → Told → Seated M → List (Option SessionState) → Type 0

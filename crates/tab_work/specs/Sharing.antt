@@ -8,6 +8,7 @@ use Rattle.tab_history.specs.declared.reply.Refusal.TheVariants.{NoMemory}
 use Rattle.tab_history.specs.declared.reply.Reply.TheVariants.{Refused}
 use Rattle.tab_core.specs.SessionState.{SessionState}
 use Rattle.tab_core.specs.Recording.{entry_of}
+use Rattle.tab_book.specs.HandedOut.{session_in}
 use Rattle.tab_book.specs.Receipts.{Slip}
 use Rattle.tab_wire.specs.Stream.{Piece, pieces_of}
 use Rattle.tab_wire.specs.Talking.{Talk, new_talk, Exchange, Talks, moments_of, replied}
@@ -28,7 +29,7 @@ HasList all (Some session) = session ≡ record { all = all; given = 0 }
 pub record IsBooked (x : Exchange) (event : Event) (slip : Slip) : Type 0 where
   pub moment : x.moments ≡ event.moment ∷ []
   pub step : x.entries ≡ entry_of event slip.entry.reply ∷ []
-  pub list : HasList x.all slip.session
+  pub list : HasList x.all (session_in slip.held)
 
 -- the exchange is an event that took its moment, and for which memory lacked
 pub record IsLacking (x : Exchange) : Type 0 where
@@ -54,7 +55,7 @@ pub record SharesPieces {M : Type 0} (gives : M → ℤ → M → Type 0) (old :
   pub replies : text ≡ replied exchanges
   -- the moments of the events, in order
   pub moments : Gave gives old.moments (moments_of exchanges) new.moments
-  -- the events, with the receipts that the seat got for them, one after another; these were added, without their sessions
+  -- the events, with the receipts that the seat got for them, one after another; these were added, with nothing to be taken
   pub events : List Event
   pub slips : List Slip
   pub booked : AreBooked exchanges events slips

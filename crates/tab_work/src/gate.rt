@@ -1,12 +1,21 @@
-//! Where work that takes long may be held up.
+//! Where work that takes long may be held up, and what follows a write.
+ghost use Rattle.std.specs.Prelude.{◌≡◌, true};
+ghost use Rattle.tab_work.specs.Writes.{is_done_write};
 
-/// What is asked before work that takes long, done outside of the lock: an observer, or in a test whoever holds it up.
+use std::sync::ledger::Ledger;
+use tab_book::Receipt;
+use tab_history::Reply;
+
+/// What is asked before work that takes long, done outside of the lock, and told of writes: an observer, or in a test whoever holds work up.
 pub trait Gate {
     /// Before the sources of a compaction are merged.
     fn before_merge(&self);
 
     /// Before a batch of a session is cut.
     fn before_batch(&self);
+
+    /// Behind each Write that was done.
+    fn after_write(&self);
 }
 
 /// It holds nothing up.
@@ -17,4 +26,28 @@ impl Gate for OpenGate {
     fn before_merge(&self) {}
 
     fn before_batch(&self) {}
+
+    fn after_write(&self) {}
+}
+
+/// Tells the gate of the event, if it is a Write that was done.
+pub(crate) fn tell_if_written<L: Ledger, G: Gate>(gate: &G, receipt: &Receipt<L>) {
+    if is_done_write(receipt) {
+        tell_written(gate, receipt);
+    }
+}
+
+// Tells the gate of a Write that was done.
+fn tell_written<L: Ledger, G: Gate>(gate: &G, _written: &Receipt<L>)
+    requires { is_done_write _written.now.entry ≡ true }
+{
+    gate.after_write();
+}
+
+// Whether the event is a Write that was done.
+fn is_done_write<L: Ledger>(receipt: &Receipt<L>) -> bool
+    ensures { result ≡ is_done_write receipt.now.entry }
+{
+    let entry = receipt.entry();
+    entry.event().is_write() && matches!(entry.reply(), Reply::Done)
 }

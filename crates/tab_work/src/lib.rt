@@ -1,33 +1,49 @@
-//! Many clients at once: a book under a lock, connections over it, and the threads that serve them.
+//! Many clients at once: a book under a lock, connections over it, the threads that serve them, and those that compact beside them.
 //!
-//! A [`Shared`] book is used by threads, each with a seat of its own. What happens under the lock is one step of the book. [`serve_shared`]
-//! serves a connection by a seat, and [`run_server`] the connections of a listener by several workers.
+//! A [`Shared`] book is used by threads, each with a seat of its own. What happens under the lock is one step of the book, or a look at what
+//! is due. [`serve_shared`] serves a connection by a seat, a [`Compactor`] compacts what is due by another one, and [`run_server`] serves the
+//! connections of a listener by several workers, with compactors beside them.
 //!
 //! | File | What |
 //! |---|---|
 //! | `shared` | the book under its lock |
-//! | `gate` | where work that takes long may be held up |
+//! | `dues` | what is due in a book |
+//! | `gate` | where work that takes long may be held up, and what follows a write |
 //! | `shared_service` | a seat that answers the requests of one connection |
 //! | `serving` | a whole connection over a shared book: `serve_shared` |
 //! | `clock` | moments of the machine's clock |
-//! | `accepting`, `workers`, `server` | the server: who accepts, who serves, and how it begins and ends |
+//! | `ends` | end rows of tablets, as a reply tells them |
+//! | `asker`, `claims`, `compactor` | a seat that asks by itself, what compactors are at work on, and what they do |
+//! | `requests` | requests to the compactors |
+//! | `accepting`, `crew`, `workers`, `server` | the server: who accepts, who is at work, its threads, and how it begins and ends |
 //!
 //! In `specs`, `Receiving` says what a seat receives, `Shares` what one request does, `SharedAnswers` the same of the service over a seat, and
-//! `Sharing` what a whole connection does. In `proofs`, `Handing` says which sessions a book hands out, `Booking` what exchange a request comes
-//! to, and `Joining` puts all exchanges of a connection together.
+//! `Sharing` what a whole connection does; `Writes` says which entries a gate is told of, `Dues` what is due, `Ends` which end row is a row's,
+//! and `Compacting` what a compactor asks. In `proofs`, `Handing` says which sessions a book hands out, `Booking` what exchange a request comes
+//! to, and `Joining` puts all exchanges of a connection together; `Following` does so for what a compactor asks.
 #![tactic(auto)]
 
 mod accepting;
+mod asker;
+mod claims;
 mod clock;
+mod compactor;
+mod crew;
+mod dues;
+mod ends;
 mod gate;
+mod requests;
 mod server;
 mod serving;
 mod shared;
 mod shared_service;
 mod workers;
 
+pub use claims::Claims;
 pub use clock::WallClock;
+pub use compactor::Compactor;
 pub use gate::{Gate, OpenGate};
+pub use requests::{Requests, wait_for_requests};
 pub use server::{Options, ServerFault, run_server};
 pub use serving::serve_shared;
 pub use shared::Shared;

@@ -3,6 +3,7 @@ ghost use Rattle.std.specs.Prelude.{◌≡◌, ◌^◌, ◌≤◌};
 ghost use Rattle.tab_core.specs.Stores.{base_of};
 
 use crate::Shared;
+use crate::crew::crew_of;
 use crate::workers::serve_all;
 use std::alloc::{AllocError, Global};
 use std::marker::Brand;
@@ -11,7 +12,7 @@ use std::sync::Wait;
 use std::sync::ledger::Blank;
 use std::thread::Threads;
 use std::time::Clock;
-use tab_book::{Book, Origin, Seat};
+use tab_book::{Book, Origin};
 use tab_core::Core;
 
 /// How many threads and connections a server has.
@@ -19,7 +20,7 @@ use tab_core::Core;
 pub struct Options {
     /// Threads that serve connections, one connection each at a time: 1 to 64.
     pub workers: u32,
-    /// Threads that compact tablets: 0 to 16. Nothing is started for them yet.
+    /// Threads that compact and split tablets beside those that serve: 0 to 16. Without them tablets change by commands alone.
     pub compactors: u32,
     /// After how many connections the server ends; 0 is never.
     pub accept: u32,
@@ -43,6 +44,9 @@ impl From<AllocError> for ServerFault {
 }
 
 /// Serves the connections of the listener over the core, each by one of the workers, and ends once as many as `accept` says have ended.
+///
+/// Behind a write the compactors look for what is due, and compact or split it as root; connections are answered meanwhile, and what they
+/// are told isn't otherwise. Once no worker is left they end too.
 ///
 /// A fault of a connection ends that one alone. A worker serves one connection at a time: further ones wait until a worker is free.
 /// Moments are milliseconds since the beginning of 1970 by the machine's clock, 0 where it gives none.
@@ -71,25 +75,8 @@ fn serve_book<L: Origin + Send + Sync, R: Threads + Wait + Clock + Sync>(
     requires enough { 2 ^ 32 ≤ blank.parts }
 {
     let shared = Shared::new(Book::<L>::new(alloc, core, blank));
-    let seats = seats_for(rt, alloc, &shared, options.workers)?;
-    let seats = serve_all(rt, alloc, &shared, seats, listener, options.accept)?;
+    let crew = crew_of(rt, alloc, &shared, options)?;
+    let seats = serve_all(rt, alloc, &shared, crew, listener, options)?;
     let _ = shared.end(seats);
     Ok(())
-}
-
-// So many seats. There are always as many.
-fn seats_for<L: Origin>(
-    rt: &impl Wait,
-    alloc: Global,
-    shared: &Shared<L>,
-    workers: u32,
-) -> Result<Vec<Seat<L>>, ServerFault> {
-    let mut seats = Vec::new(alloc);
-    for _ in 0..workers {
-        if let Some(seat) = shared.join(rt) {
-            seats.reserve(1)?;
-            seats.push_reserved(seat);
-        }
-    }
-    Ok(seats)
 }

@@ -15,10 +15,10 @@ use tab_serve::{Moments, ServeFault, converse};
 /// Answers each frame that is read, until the input ends between two frames, or in what is no frame: one that is empty, too long or cut.
 ///
 /// Each event is the seat's next one, at the next moment, in the order of the frames: the book does it, and its receipt, without its
-/// session, is added to those that are lent. Its reply is what is told. The connection begins without sessions, which end with it; a batch is cut
-/// from the session that came with the receipt of its Open, outside of the book's lock, once the gate was asked. Hello, what is asked of a session, what
-/// is no request, and an Open past the limit of sessions take no moment. Where the receipts, the sessions or the book's history can't
-/// grow, the event is refused for want of memory, and doesn't happen.
+/// session, is added to those that are lent. Its reply is what is told, and the gate is told of a Write that was done. The connection begins
+/// without sessions, which end with it; a batch is cut from the session that came with the receipt of its Open, outside of the book's lock,
+/// once the gate was asked. Hello, what is asked of a session, what is no request, and an Open past the limit of sessions take no moment.
+/// Where the receipts, the sessions or the book's history can't grow, the event is refused for want of memory, and doesn't happen.
 ///
 /// How the input is cut into reads makes no difference. Replies are written before a read that may wait. After an error the requests
 /// that were answered have taken effect.

@@ -1,28 +1,27 @@
 //! A book that threads share.
 ghost use Rattle.std.specs.Prelude.{◌≡◌, ◌≤◌, ◌<◌, IfOk, IfErr, IfSome, sum_by};
+ghost use Rattle.std.specs.Sync.Mutex.{mutex_guard_value};
 ghost use Rattle.tab_book.specs.Entries.{next_of};
+ghost use Rattle.tab_book.specs.HandedOut.{session_in};
+ghost use Rattle.tab_book.specs.Installs.{event_of};
 ghost use Rattle.tab_book.specs.Receipts.{Receives};
+ghost use Rattle.tab_work.specs.Dues.{IsDue};
 ghost use Rattle.tab_work.specs.Receiving.{HandsOut};
 
+use crate::dues::due_in;
 use std::alloc::{AllocError, Global};
-use std::sync::{Mutex, Wait};
+use std::sync::{Mutex, MutexGuard, Wait};
 use std::thread;
-use tab_book::{Book, Origin, Receipt, Reservation, Seat, SeatsOut, book_is_legal};
+use tab_book::{Book, Installation, Origin, Receipt, Reservation, Seat, SeatsOut, book_is_legal};
+use tab_core::Due;
 use tab_history::Event;
+use tab_key::{ByteString, Name};
 
 // What lies under the lock: a book to which no seat came back yet.
 #[derive(Drop)]
 struct Desk<L: Origin> {
     book: Book<L>,
     ghost fresh: { book.back ≡ 0 },
-}
-
-// An event, with the memory that its entry takes.
-#[derive(Drop)]
-struct Prepared {
-    event: Event,
-    memory: Reservation,
-    ghost fits: { memory ≡ event },
 }
 
 // Has the book do the event.
@@ -36,7 +35,7 @@ fn apply_to<L: Origin>(
     requires ready { seat.old.seen ≤ next_of book.old }
     requires fits { memory ≡ event }
     ensures ok { IfOk result (λ r. Receives seat.old event r seat.new) }
-    ensures hands { IfOk result (λ r. HandsOut event.act r.session) }
+    ensures hands { IfOk result (λ r. HandsOut event.act (session_in r.held)) }
     ensures err { IfErr result (λ r. (r.0 ≡ event) × (seat.new ≡ seat.old)) }
     ensures back { book.new.back ≡ book.old.back }
 {
@@ -44,35 +43,25 @@ fn apply_to<L: Origin>(
     book.apply_reserved(alloc, seat, event, memory)
 }
 
-impl<L: Origin> Desk<L> {
-    // A new seat.
-    fn join(&mut self) -> Option<Seat<L>>
-        ensures { IfSome result (λ s. (s.seen ≡ 0) × (s.count ≡ 0)) }
-    {
-        self.book.join()
-    }
-
-    // Does the event where the seat has seen nothing later, and else gives it back.
-    fn try_apply(
-        &mut self,
-        alloc: Global,
-        seat: &mut Seat<L>,
-        asked: Prepared,
-    ) -> Result<Result<Receipt<L>, (Event, AllocError)>, Prepared>
-        ensures ok { IfOk result (λ done. IfOk done (λ r. Receives seat.old asked.event r seat.new)) }
-        ensures hands { IfOk result (λ done. IfOk done (λ r. HandsOut asked.event.act r.session)) }
-        ensures err { IfOk result (λ done. IfErr done (λ r. (r.0 ≡ asked.event) × (seat.new ≡ seat.old))) }
-        ensures wait { IfErr result (λ back. (back.event ≡ asked.event) × (seat.new ≡ seat.old)) }
-    {
-        if !self.book.ready(seat) {
-            return Err(asked);
-        }
-        let Prepared { event, memory } = asked;
-        Ok(apply_to(alloc, &mut self.book, seat, event, memory))
-    }
+// Has the book install the finished merge.
+fn install_to<L: Origin>(
+    alloc: Global,
+    book: &mut Book<L>,
+    seat: &mut Seat<L>,
+    asked: Installation,
+    memory: Reservation,
+) -> Result<Receipt<L>, (Installation, AllocError)>
+    requires ready { seat.old.seen ≤ next_of book.old }
+    requires fits { memory ≡ event_of asked }
+    ensures ok { IfOk result (λ r. Receives seat.old (event_of asked) r seat.new) }
+    ensures err { IfErr result (λ r. (r.0 ≡ asked) × (seat.new ≡ seat.old)) }
+    ensures back { book.new.back ≡ book.old.back }
+{
+    book.install_reserved(alloc, seat, asked, memory)
 }
 
-/// A book under a lock. Each event of each thread is one step of the book; nothing is read, written or waited for while it is locked.
+/// A book under a lock. Each event of each thread is one step of the book; nothing is read, written, merged or waited for while it is
+/// locked.
 #[derive(Drop)]
 pub struct Shared<L: Origin> {
     desk: Mutex<Desk<L>>,
@@ -92,12 +81,28 @@ impl<L: Origin> Shared<L> {
     pub fn join(&self, rt: &impl Wait) -> Option<Seat<L>>
         ensures { IfSome result (λ s. (s.seen ≡ 0) × (s.count ≡ 0)) }
     {
-        self.desk.lock(rt).join()
+        let mut desk = self.desk.lock(rt);
+        desk.book.join()
     }
 
-    /// Does an event, and gives its receipt: it names this seat and this event, and its number is above all that the seat has seen. Its
-    /// session, which only an Open has, is untouched. Where the book's history can't grow the event is handed back, and nothing was done
-    /// or counted. The memory for the entry is found before the book is locked.
+    // The book, locked, once its next entry's number is above all that the seat has seen. So it always is.
+    fn ready<'a, R: Wait>(&'a self, rt: &R, seat: &Seat<L>) -> MutexGuard<'a, Desk<L>>
+        ensures { seat.now.seen ≤ next_of (mutex_guard_value result).book }
+    {
+        for _ in rt.forever() {
+            let desk = self.desk.lock(rt);
+            if desk.book.ready(seat) {
+                return desk;
+            }
+            drop(desk);
+            thread::yield_now();
+        }
+        unreachable!()
+    }
+
+    /// Does an event, and gives its receipt: it names this seat and this event, and its number is above all that the seat has seen. What
+    /// was handed out, a session by an Open alone, is untouched. Where the book's history can't grow the event is handed back, and nothing
+    /// was done or counted. The memory for the entry is found before the book is locked.
     pub fn apply<R: Wait>(
         &self,
         rt: &R,
@@ -106,36 +111,46 @@ impl<L: Origin> Shared<L> {
         event: Event,
     ) -> Result<Receipt<L>, (Event, AllocError)>
         ensures ok { IfOk result (λ r. Receives seat.old event r seat.new) }
-        ensures hands { IfOk result (λ r. HandsOut event.act r.session) }
+        ensures hands { IfOk result (λ r. HandsOut event.act (session_in r.held)) }
         ensures err { IfErr result (λ r. (r.0 ≡ event) × (seat.new ≡ seat.old)) }
     {
         let Ok(memory) = Reservation::of(alloc, &event) else {
             return Err((event, AllocError));
         };
-        self.apply_prepared(rt, alloc, seat, Prepared { event, memory })
+        let mut desk = self.ready(rt, seat);
+        apply_to(alloc, &mut desk.book, seat, event, memory)
     }
 
-    // The same with the memory that was found.
-    fn apply_prepared<R: Wait>(
+    /// Installs a finished merge, as [`Shared::apply`] does an event. Where the book's history can't grow the Install is handed back with
+    /// its merge, and nothing was done or counted.
+    pub fn install<R: Wait>(
         &self,
         rt: &R,
         alloc: Global,
         seat: &mut Seat<L>,
-        asked: Prepared,
-    ) -> Result<Receipt<L>, (Event, AllocError)>
-        ensures ok { IfOk result (λ r. Receives seat.old asked.event r seat.new) }
-        ensures hands { IfOk result (λ r. HandsOut asked.event.act r.session) }
-        ensures err { IfErr result (λ r. (r.0 ≡ asked.event) × (seat.new ≡ seat.old)) }
+        asked: Installation,
+    ) -> Result<Receipt<L>, (Installation, AllocError)>
+        ensures ok { IfOk result (λ r. Receives seat.old (event_of asked) r seat.new) }
+        ensures err { IfErr result (λ r. (r.0 ≡ asked) × (seat.new ≡ seat.old)) }
     {
-        let mut asked = asked;
-        for _ in rt.forever() {
-            match self.desk.lock(rt).try_apply(alloc, seat, asked) {
-                Ok(done) => return done,
-                Err(back) => asked = back,
-            }
-            thread::yield_now();
-        }
-        unreachable!()
+        let Ok(memory) = Reservation::of(alloc, &asked.event()) else {
+            return Err((asked, AllocError));
+        };
+        let mut desk = self.ready(rt, seat);
+        install_to(alloc, &mut desk.book, seat, asked, memory)
+    }
+
+    /// What is due first, with the table and the least row of its tablet: none where nothing is. It takes time linear in the tablets, and
+    /// memory for the row alone.
+    pub fn due(
+        &self,
+        rt: &impl Wait,
+        alloc: Global,
+    ) -> Result<Option<(Due, Name, ByteString)>, AllocError>
+        ensures { IfOk result (λ found. IsDue L.base found) }
+    {
+        let desk = self.desk.lock(rt);
+        due_in(alloc, &desk.book)
     }
 
     /// Ends it, where all seats are back. The book has as many entries as they counted.

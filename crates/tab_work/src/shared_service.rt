@@ -2,14 +2,16 @@
 ghost use Rattle.std.specs.Prelude.{◌≡◌, ◌<◌, true, false, [], ◌∷◌, ◌++◌, None, vec_len, vec_capacity};
 ghost use Rattle.tab_history.specs.Answers.{is_open};
 ghost use Rattle.tab_core.specs.Slots.{are_full, ManyFrom};
+ghost use Rattle.tab_book.specs.HandedOut.{session_in};
 ghost use Rattle.tab_work.specs.Receiving.{spent};
 ghost use Rattle.tab_work.specs.SharedAnswers.{seated, slots_of, told_by, LentSame, SharedAnswers, Tells, Takes, Tries};
 
+use crate::gate::tell_if_written;
 use crate::{Gate, Shared};
 use std::alloc::{AllocError, Global};
 use std::mem;
 use std::sync::Wait;
-use tab_book::{Origin, Receipt, Seat};
+use tab_book::{Held, Origin, Receipt, Seat};
 use tab_core::{Session, Slots};
 use tab_history::{Act, Event, Refusal, Reply};
 use tab_key::{Bounds, Items, Name, Part};
@@ -186,17 +188,18 @@ impl<'a, L: Origin, R: Wait, M: Moments, G: Gate> SharedService<'a, L, R, M, G> 
         }
     }
 
-    // Adds the receipt without its session, and tells its reply.
+    // Adds the receipt without what was handed out, tells its reply, and the gate of a Write that was done.
     fn add(&mut self, receipt: Receipt<L>) -> Option<Session>
         requires { vec_len self.old.receipts.now < vec_capacity self.old.receipts.now }
         ensures adds { seated self.new ≡ record (seated self.old) { receipts = self.old.receipts.now.items ++ spent receipt ∷ [] } }
         ensures told { told_by self.new ≡ receipt.entry.reply }
-        ensures session { result ≡ receipt.session }
+        ensures session { result ≡ session_in receipt.held }
         ensures slots { slots_of self.new ≡ slots_of self.old }
         ensures lent { LentSame self.old self.new }
     {
         let mut receipt = receipt;
-        let session = receipt.take();
+        let session = session_of(receipt.take());
+        tell_if_written(self.gate, &receipt);
         self.receipts.push_reserved(receipt);
         self.booked = true;
         session
@@ -216,6 +219,16 @@ impl<'a, L: Origin, R: Wait, M: Moments, G: Gate> SharedService<'a, L, R, M, G> 
         ensures { Tells self.old (Reply.Refused Refusal.NoMemory) self.new }
     {
         self.tell(Reply::Refused(Refusal::NoMemory));
+    }
+}
+
+// The session that was handed out, if one was.
+fn session_of(held: Option<Held>) -> Option<Session>
+    ensures { result ≡ session_in held }
+{
+    match held {
+        Some(held) => held.into_session(),
+        None => None,
     }
 }
 

@@ -1,8 +1,11 @@
-//! Workers, each with a seat for its life.
+//! The threads of a server.
 
 use crate::accepting::accept_all;
+use crate::claims::Claims;
 use crate::clock::WallClock;
-use crate::{OpenGate, ServerFault, Shared, serve_shared};
+use crate::crew::{Member, Role};
+use crate::requests::{Requests, wait_for_requests};
+use crate::{Compactor, OpenGate, Options, ServerFault, Shared, serve_shared};
 use crossbeam_channel::Receiver;
 use std::alloc::{AllocError, Global};
 use std::net::{TcpListener, TcpStream};
@@ -12,53 +15,73 @@ use std::thread::{JoinHandle, Threads};
 use std::time::Clock;
 use tab_book::{Origin, Seat};
 use tab_io::{BlockReader, BlockWriter};
+use tab_key::Name;
 
-/// Has a thread for each seat serve the connections that are accepted, up to so many, and gives the seats back.
+/// Has a thread for each of the crew: the workers serve the connections that are accepted, and the compactors compact beside them. Gives the
+/// seats back.
 pub(crate) fn serve_all<L: Origin + Send + Sync, R: Threads + Wait + Clock + Sync>(
     rt: &R,
     alloc: Global,
     shared: &Shared<L>,
-    seats: Vec<Seat<L>>,
+    crew: Vec<Member<'_, L, R>>,
     listener: &TcpListener,
-    accept: u32,
+    options: Options,
 ) -> Result<Vec<Seat<L>>, ServerFault> {
-    let (to, from) = crossbeam_channel::bounded(alloc, seats.len())?;
-    let from = &from;
+    let (to, from) = crossbeam_channel::bounded(alloc, options.workers as usize)?;
+    let claims = Claims::new(alloc);
+    let (from, claims) = (&from, &claims);
     thread::scope(thread::scope_env(), rt, |scope| {
-        let mut workers = Vec::new(alloc);
-        for seat in seats {
-            workers.reserve(1)?;
-            match scope.spawn(move || work(rt, alloc, shared, seat, from)) {
-                Ok(worker) => workers.push_reserved(worker),
+        let mut threads = Vec::new(alloc);
+        for member in crew {
+            threads.reserve(1)?;
+            match scope.spawn(move || work(rt, alloc, shared, member, from, claims)) {
+                Ok(thread) => threads.push_reserved(thread),
                 Err(_) => return Err(ServerFault::NoThread),
             }
         }
-        accept_all(rt, listener, to, accept);
-        seats_of(rt, alloc, workers)
+        accept_all(rt, listener, to, options.accept);
+        seats_of(rt, alloc, threads)
     })
 }
 
-// The seats of the workers, once they have ended.
+// The seats of the threads, once they have ended.
 fn seats_of<L: Origin>(
     rt: &impl Threads,
     alloc: Global,
-    workers: Vec<JoinHandle<Seat<L>>>,
+    threads: Vec<JoinHandle<Seat<L>>>,
 ) -> Result<Vec<Seat<L>>, ServerFault> {
     let mut seats = Vec::new(alloc);
-    for worker in workers {
+    for thread in threads {
         seats.reserve(1)?;
-        seats.push_reserved(worker.join(rt));
+        seats.push_reserved(thread.join(rt));
     }
     Ok(seats)
 }
 
-// Serves one connection after another, until the channel is closed. Nothing that happens to one of them stops the next.
+// What one of the crew does, to its end.
 fn work<L: Origin, R: Wait + Clock>(
+    rt: &R,
+    alloc: Global,
+    shared: &Shared<L>,
+    member: Member<'_, L, R>,
+    from: &Receiver<TcpStream>,
+    claims: &Claims,
+) -> Seat<L> {
+    let Member { role, seat } = member;
+    match role {
+        Role::Worker(requests) => serve(rt, alloc, shared, seat, from, requests),
+        Role::Compactor(requests) => compact(rt, alloc, shared, seat, requests, claims),
+    }
+}
+
+// Serves one connection after another, until the channel is closed. Nothing that happens to one of them stops the next.
+fn serve<L: Origin, R: Wait + Clock>(
     rt: &R,
     alloc: Global,
     shared: &Shared<L>,
     seat: Seat<L>,
     from: &Receiver<TcpStream>,
+    requests: Requests<'_, R>,
 ) -> Seat<L> {
     let mut seat = seat;
     for _ in rt.forever() {
@@ -66,7 +89,7 @@ fn work<L: Origin, R: Wait + Clock>(
             break;
         };
         // A connection without memory for its blocks is dropped.
-        let _ = serve_stream(rt, alloc, shared, &mut seat, &stream);
+        let _ = serve_stream(rt, alloc, shared, &mut seat, &stream, &requests);
     }
     seat
 }
@@ -78,6 +101,7 @@ fn serve_stream<L: Origin, R: Wait + Clock>(
     shared: &Shared<L>,
     seat: &mut Seat<L>,
     stream: &TcpStream,
+    requests: &Requests<'_, R>,
 ) -> Result<(), AllocError> {
     // Without it replies may only come later.
     let _ = stream.set_nodelay(true);
@@ -94,7 +118,33 @@ fn serve_stream<L: Origin, R: Wait + Clock>(
         shared,
         seat,
         &mut receipts,
-        &OpenGate,
+        requests,
     );
     Ok(())
+}
+
+// Compacts what is due at each request, as root, until nobody can send any more.
+fn compact<L: Origin, R: Wait + Clock>(
+    rt: &R,
+    alloc: Global,
+    shared: &Shared<L>,
+    seat: Seat<L>,
+    requests: Receiver<()>,
+    claims: &Claims,
+) -> Seat<L> {
+    let moments = WallClock::new(rt);
+    let mut compactor = Compactor::new(rt, alloc, shared, seat, root(), moments, claims, &OpenGate);
+    for _ in rt.forever() {
+        if !wait_for_requests(rt, &requests) {
+            break;
+        }
+        compactor.compact();
+        compactor.forget_receipts();
+    }
+    compactor.into_parts().0
+}
+
+// Who compacts.
+fn root() -> Name {
+    Name::new(b"root").unwrap()
 }

@@ -127,7 +127,7 @@ fn serve_command<'a>(alloc: Global) -> Result<Command<'a>, Error> {
         .value_name("C")
         .value_parser(value_parser!(u32).range(0..17))
         .default_value("1")
-        .help("How many threads compact, 0 to 16");
+        .help("How many threads compact and split tablets beside them, 0 to 16");
     let accept = Arg::new(alloc, "accept")
         .long("accept")
         .value_name("K")

@@ -1,0 +1,22 @@
+-- What is due in a book that threads share.
+use Rattle.std.specs.Prelude.{ℕ, ◌≡◌, List, Option, Some, None}
+use Rattle.std.specs.Option.{option_map}
+use Rattle.tab_history.specs.Bases.{Base}
+use Rattle.tab_history.specs.Histories.{Entry}
+use Rattle.tab_core.specs.DueType.{Due}
+use Rattle.tab_core.specs.Due.{due_in, target_of}
+use Rattle.tab_core.specs.Stores.{HeldTable, Held}
+use Rattle.tab_core.specs.Recording.{RefinesHistory, IsLegalFrom}
+
+-- what is due, with the table and the least row of its tablet
+abbrev pub aimed : List HeldTable → Option Due → Option (Due × List ℕ × List ℕ)
+aimed tables None = None
+aimed tables (Some due) = option_map (λ at. (due, at.0, at.1)) (target_of due tables)
+
+-- It is what is due first in a core that refines a history, legal from this base: that of the book, as long as it is locked.
+pub record IsDue (base : Base) (found : Option (Due × List ℕ × List ℕ)) : Type 0 where
+  pub core : Held
+  pub history : List Entry
+  pub legal : IsLegalFrom base history
+  pub refines : RefinesHistory core base history
+  pub is : found ≡ aimed core.tables (due_in core.tables)
