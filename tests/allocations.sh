@@ -74,6 +74,13 @@ splits t
 splitsize t z 1
 scan t A [b \0
 splits t
+createtable j
+insert j r f q \e v 7
+begin j r full
+insert j r f q \e w 8
+merge 0
+install j 0
+scan j \0
 createuser bob
 setauths bob A
 grant bob READ t

@@ -156,10 +156,11 @@ name="name: 1 to 128 of a-z A-Z 0-9 _ - ."
 byte_word='a byte word: ! to ~ as they are but \\ for \, \xHH (H of 0-9 a-f) for any byte, \e for none'
 number='a whole number of 64 bits with its sign, as 7 or -7'
 versions='VERSIONS (versions=N with N from 1 to 1000)'
-commands='a command, one of as at createtable droptable createuser dropuser setauths grant revoke rights constraints insert delete mutate scan open next many close flush compact status addsplit splitsize splits save load'
+commands='a command, one of as at createtable droptable createuser dropuser setauths grant revoke rights constraints insert delete mutate scan open next many close flush compact begin merge install status addsplit splitsize splits save load'
 system='SYSTEM_PERMISSION (GRANT, CREATE_TABLE, DROP_TABLE, ALTER_TABLE, CREATE_USER, DROP_USER, ALTER_USER or SYSTEM)'
 high='[ and a byte word (up to this row), ( and a byte word (before it), or \0 for no bound'
 session='SESSION (the number that an open gave: a whole number of 32 bits without a sign, as 0)'
+job='JOB (the number that a begin gave: a whole number of 64 bits without a sign, as 0)'
 bound='[ and a byte word (from this row on), ( and a byte word (behind it), or \0 for no bound'
 sixty=$(printf 'x%.0s' $(seq 60))
 cat >table <<E
@@ -203,6 +204,18 @@ flush t
 compact t	word 3 is missing: expected EXTENT (partial or full)
 compact t all	word 3, "all": expected EXTENT (partial or full)
 compact t full x	word 4, "x": expected the end of the line
+begin t r	word 4 is missing: expected KIND (minor, partial or full)
+begin t r all	word 4, "all": expected KIND (minor, partial or full)
+begin t r full x	word 5, "x": expected the end of the line
+begin t r minor	
+merge	word 2 is missing: expected $job
+merge -1	word 2, "-1": expected $job
+merge 18446744073709551616	word 2, "18446744073709551616": expected $job
+merge 18446744073709551615	
+install t	word 3 is missing: expected $job
+install t r 0	word 3, "r": expected $job
+install t 0 x	word 4, "x": expected the end of the line
+install t 0	
 status t x	word 3, "x": expected the end of the line
 scan t \\0 \\0 \\0 f:	word 6, "f:": expected COLS (FAM or FAM:QUAL, with commas between them, or \\0 for all) or the end of the line
 E

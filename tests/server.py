@@ -1,5 +1,6 @@
 """What tests/server.sh tests. Its last line counts what passed and failed."""
 
+import concurrent.futures
 import os
 import select
 import socket
@@ -236,6 +237,29 @@ def own_write_is_read():
         count("own_write_is_read", told == wanted)
 
 
+def compacted_beside():
+    """Compactors beside shells that write: all that was written is scanned, and most of it lies in sorted tables before long."""
+    def rows(writer):
+        return [b"%d%04d" % (writer, number) for number in range(2500)]
+
+    def writes(writer):
+        return server.shell(b"".join(b"insert t r%s f q \\e v%s 7\n" % (row, row) for row in rows(writer))).stdout
+
+    for compactors, shows in (("4", "sorted tables"), ("0", "none without compactors")):
+        with Server("--compactors", compactors) as server:
+            server.shell(b"createtable t time=any\n")
+            with concurrent.futures.ThreadPoolExecutor(4) as pool:
+                told = list(pool.map(writes, range(4)))
+            count("writers beside compactors: " + compactors, told == 4 * [2500 * b"ok\n"])
+            end, status = time.monotonic() + PATIENCE, b""
+            while time.monotonic() < end and (not status or compactors != "0" and b"sources 0 " in status):
+                status = server.shell(b"status t\n").stdout
+            count("what they leave: " + shows, (b"sources 0 " in status) == (compactors == "0"), status)
+            scanned = server.shell(b"scan t \\0\n").stdout
+            cells = [b"r%s f q \\e 7 v%s\n" % (row, row) for writer in range(4) for row in rows(writer)]
+            count("a scan behind compactors: " + compactors, scanned == b"".join(cells) + b"end\n", scanned[:200])
+
+
 # ---- The shell.
 def shell_lines(lines):
     """The lines that a shell has too, and whether a script answers them alike: one user, no moments, no files."""
@@ -318,7 +342,7 @@ def shells():
             count("status 0 behind %s" % name, server.ends() == 0)
     count("there are cases", found > 10, found)
     with Server() as server:
-        for line in (b"as root", b"at 5", b"save x", b"load x", b"splitsize t r 1", b"bogus"):
+        for line in (b"as root", b"at 5", b"save x", b"load x", b"splitsize t r 1", b"begin t r full", b"merge 0", b"install t 0", b"bogus"):
             ran = server.shell(line + b"\n")
             count("a shell has no %s" % line.decode(), ran.stdout == b"line fault\n" and ran.returncode == 0, ran)
         ran = server.shell(b"insert t r f q \\e " + 9_000_000 * b"v" + b"\nrights t\n")
@@ -388,7 +412,8 @@ def goes_away():
 
 with tempfile.TemporaryDirectory() as work:
     os.chdir(work)
-    for part in (refused_command_lines, statuses, frames, side_by_side, stuck_peers, own_write_is_read, shell_over_loopback, shells):
+    for part in (refused_command_lines, statuses, frames, side_by_side, stuck_peers, own_write_is_read, compacted_beside,
+                 shell_over_loopback, shells):
         try:
             part()
         except Exception as fault:  # a part that doesn't come to its end is one failure

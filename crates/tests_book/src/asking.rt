@@ -4,9 +4,11 @@ ghost use Rattle.tab_book.specs.Entries.{next_of};
 
 use std::alloc::{AllocError, Global};
 use std::process::Abort;
-use tab_book::{Book, Origin, Receipt, Seat};
-use tab_history::{Act, Event, Scan, TimeMode, Versions};
-use tab_key::{Bound, Bounds, Items, Name};
+use tab_book::{Book, Installation, Origin, Receipt, Seat};
+use tab_cells::Compaction;
+use tab_core::FinishedJob;
+use tab_history::{Act, Event, Given, Scan, TimeMode, Versions};
+use tab_key::{Bound, Bounds, ByteString, Items, Name};
 use tab_label::AuthSet;
 use tab_mutation::Mutation;
 
@@ -60,6 +62,42 @@ pub fn scans(rt: &impl Abort, alloc: Global, moment: i64) -> Event {
         authorizations: AuthSet::empty(alloc),
     };
     asks(rt, moment, Act::Open(scan))
+}
+
+/// A full compaction of the table's one tablet begins.
+pub fn begins(rt: &impl Abort, alloc: Global) -> Event {
+    let row = ByteString::new(alloc);
+    asks(rt, 0, Act::Begin(named(rt, b"t"), row, Compaction::Full))
+}
+
+/// An Install that comes without its merge.
+pub fn asks_install(rt: &impl Abort, given: Given) -> Event {
+    asks(rt, 0, Act::Install(named(rt, b"t"), given))
+}
+
+/// An Install of the merge.
+pub fn installs(rt: &impl Abort, finished: FinishedJob) -> Installation {
+    Installation {
+        user: named(rt, b"root"),
+        moment: 0,
+        table: named(rt, b"t"),
+        finished,
+    }
+}
+
+/// The merge is installed, by the seat.
+pub fn installed<L: Origin, R: Abort>(
+    rt: &R,
+    alloc: Global,
+    book: &mut Book<L>,
+    seat: &mut Seat<L>,
+    finished: FinishedJob,
+) -> Receipt<L> {
+    assert!(rt; book.ready(seat));
+    match book.install(alloc, seat, installs(rt, finished)) {
+        Ok(receipt) => receipt,
+        Err(_) => panic!(rt; "memory"),
+    }
 }
 
 /// The event is done by the seat.

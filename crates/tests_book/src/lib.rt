@@ -4,7 +4,8 @@
 //! |---|---|
 //! | `settling` | receipts that settle, seats that are out, and a history past its blocks |
 //! | `receipts` | what a receipt says, its session, and that an own write is read |
-//! | `memory` | events for which memory may lack (`rt try --test --fail-alloc N` lets it) |
+//! | `jobs` | jobs, and finished merges that are installed |
+//! | `memory` | events and merges for which memory may lack (`rt try --test --fail-alloc N` lets it) |
 //! | `asking` | helpers: events in short, done by a seat |
 //!
 //! That `settle` is no where a receipt was changed is tested inside `tab_book`: outside no one can change one.
@@ -12,6 +13,8 @@
 
 #[cfg(test)]
 mod asking;
+#[cfg(test)]
+mod jobs;
 #[cfg(test)]
 mod memory;
 #[cfg(test)]

@@ -7,9 +7,10 @@ use std::alloc::Global;
 use std::marker::Brand;
 use std::process::Abort;
 use std::sync::ledger::Blank;
-use tab_book::{Book, Origin, Receipt, Seat};
-use tab_core::Core;
+use tab_book::{Book, Held, Origin, Receipt, Seat};
+use tab_core::{Core, Session};
 use tab_history::Reply;
+use tab_key::Cells;
 
 // Of a write and a scan behind it the scan has the greater number, and its session has the cell; it is taken out once.
 #[test]
@@ -64,11 +65,19 @@ fn says_who_wrote<L: Origin, R: Abort>(rt: &R, wrote: &Receipt<L>) {
 fn has_one_cell<L: Origin, R: Abort>(rt: &R, alloc: Global, scan: Receipt<L>) {
     let mut scan = scan;
     assert!(rt; matches!(scan.entry().reply(), Reply::Opened(_)));
-    let mut session = scan.take().expect(rt, "a session");
-    let cells = session.next_batch(alloc, 5).expect(rt, "memory");
+    let cells = match scan.take() {
+        Some(Held::Session(session)) => batch(rt, alloc, session),
+        _ => panic!(rt; "a session"),
+    };
     assert_eq!(rt; cells.len(), 1);
     assert_eq!(rt; cells.get(0).value(), b"x".as_slice());
     assert!(rt; scan.take().is_none());
+}
+
+// The first five cells of the session.
+fn batch(rt: &impl Abort, alloc: Global, session: Session) -> Cells {
+    let mut session = session;
+    session.next_batch(alloc, 5).expect(rt, "memory")
 }
 
 // A book, its seats and its receipts may go into other threads.

@@ -1,6 +1,6 @@
 //! Merges of random sources, beside the model.
 
-use crate::sources::{Numbered, random_sources};
+use crate::sources::{JOB, Numbered, TABLET, random_sources};
 use std::alloc::Global;
 use std::process::Abort;
 use tab_cells::Compaction;
@@ -83,4 +83,35 @@ fn sixty_four_sources_are_merged(rt: HostRuntime) {
         let kept = compare_all(&rt, alloc, kind, 12, 64);
         assert!(rt; kept > 100, "{kept} updates were kept");
     }
+}
+
+// The full merge of these sources, with this floor and so many versions.
+fn full_merge(
+    rt: &impl Abort,
+    alloc: Global,
+    numbered: &Numbered,
+    floor: i64,
+    versions: u32,
+) -> Job {
+    let job = numbered.captured(alloc, Compaction::Full, floor, versions);
+    let job = job.expect(rt, "memory");
+    job.expect(rt, "there are sources")
+}
+
+#[test]
+fn jobs_are_told_apart(rt: HostRuntime) {
+    let alloc = rt.alloc();
+    let mut random = Random::new(9);
+    let mut holding = Holding::new(alloc);
+    let numbered = random_sources(&rt, alloc, &mut random, 6, &mut holding);
+    let job = full_merge(&rt, alloc, &numbered, 4, 2);
+    assert_eq!(rt; (job.tablet(), job.number()), (TABLET, JOB));
+    assert_eq!(rt; (job.floor(), job.versions()), (4, 2));
+    assert!(rt; job.kind().is_full());
+    let share = job.share(alloc).expect(&rt, "memory");
+    assert!(rt; job.is_like(&share));
+    assert!(rt; !job.is_like(&full_merge(&rt, alloc, &numbered, 5, 2)));
+    assert!(rt; !job.is_like(&full_merge(&rt, alloc, &numbered, 4, 3)));
+    let others = random_sources(&rt, alloc, &mut random, 6, &mut holding);
+    assert!(rt; !job.is_like(&full_merge(&rt, alloc, &others, 4, 2)))
 }

@@ -20,6 +20,11 @@ const ROWS: [&[u8]; 2] = [b"k", b"l"];
 // The moment of all writes.
 const CLOCK: i64 = 2;
 
+/// The numbers of the tablet and of the merge that are captured.
+pub const TABLET: u64 = 7;
+
+pub const JOB: u64 = 3;
+
 /// Sources, the records of the first of which have the number 0, those of the next 1, and so on.
 #[derive(Drop)]
 pub struct Numbered {
@@ -76,7 +81,7 @@ impl Numbered {
         Ok(())
     }
 
-    /// The merge that a compaction of this kind begins.
+    /// The merge that a compaction of this kind begins, with the numbers `TABLET` and `JOB`.
     pub fn captured(
         &self,
         alloc: Global,
@@ -84,7 +89,7 @@ impl Numbered {
         floor: i64,
         versions: u32,
     ) -> Result<Option<Job>, NoMemory> {
-        capture(alloc, kind, &self.sources, floor, versions)
+        capture(alloc, TABLET, JOB, kind, &self.sources, floor, versions)
     }
 }
 

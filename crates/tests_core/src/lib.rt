@@ -7,12 +7,15 @@
 //! |---|---|
 //! | `runs` | runs of steps, and their sessions |
 //! | `comparing` | pairs of runs that look alike to one user, and what he is told |
+//! | `jobs` | compactions in three parts, in runs and in cores |
 //! | `modelling` | random writes, scans and compactions, beside the model |
 //! | `steps` | helpers: steps in short, and replies as text |
 #![tactic(auto)]
 
 #[cfg(test)]
 mod comparing;
+#[cfg(test)]
+mod jobs;
 #[cfg(test)]
 mod modelling;
 #[cfg(test)]

@@ -3,7 +3,7 @@
 use crate::steps::named;
 use std::alloc::Global;
 use std::process::Abort;
-use tab_core::{Core, Session};
+use tab_core::{Answer, Core, Session};
 use tab_history::{Act, Event, Extent, Refusal, Reply, Scan, SplitFault, TimeMode, Versions};
 use tab_key::{ByteString, Cells, Items};
 use tab_testing::{Query, Random, Update, auths_of, mutation_of, scanned};
@@ -11,7 +11,7 @@ use tab_testing::{Query, Random, Update, auths_of, mutation_of, scanned};
 const ROWS: [&[u8]; 3] = [b"k", b"l", b"m"];
 
 // What root is answered.
-fn asked(rt: &impl Abort, core: &mut Core, alloc: Global, moment: u8, act: Act) -> Reply<Session> {
+fn asked(rt: &impl Abort, core: &mut Core, alloc: Global, moment: u8, act: Act) -> Answer {
     let user = named(rt, b"root");
     let moment = i64::from(moment);
     core.step(alloc, Event { user, moment, act })

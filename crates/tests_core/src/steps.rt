@@ -2,7 +2,8 @@
 
 use std::alloc::Global;
 use std::process::Abort;
-use tab_history::{Act, Event, Refusal, Reply, Scan, Step, TimeMode, Versions};
+use tab_cells::Compaction;
+use tab_history::{Act, Counts, Event, Given, Refusal, Reply, Scan, Step, TimeMode, Versions};
 use tab_key::{Bound, Bounds, ByteString, Cells, Items, Name};
 use tab_label::AuthSet;
 use tab_mutation::Mutation;
@@ -38,6 +39,22 @@ pub fn many(rt: &impl Abort, alloc: Global, user: &[u8], slot: u32, lows: &[&[u8
 pub fn close(rt: &impl Abort, user: &[u8], slot: u32) -> Step {
     let user = named(rt, user);
     Step::Close { user, slot }
+}
+
+// A merge of this kind begins in t's one tablet.
+pub fn begins(rt: &impl Abort, alloc: Global, user: &[u8], kind: Compaction) -> Step {
+    let row = ByteString::new(alloc);
+    event(rt, user, 0, Act::Begin(named(rt, b"t"), row, kind))
+}
+
+pub fn merges(slot: u64) -> Step {
+    Step::Merge { slot }
+}
+
+// The slot's merge is installed in t.
+pub fn installs(rt: &impl Abort, user: &[u8], moment: i64, slot: u64) -> Step {
+    let act = Act::Install(named(rt, b"t"), Given::InSlot(slot));
+    event(rt, user, moment, act)
 }
 
 // Puts the step behind the others.
@@ -127,10 +144,24 @@ fn add_cells(rt: &impl Abort, alloc: Global, text: &mut Vec<u8>, cells: &Cells) 
     }
 }
 
+// Tablets, sources and records.
+fn add_counts(rt: &impl Abort, alloc: Global, text: &mut Vec<u8>, counts: &Counts) {
+    let Counts {
+        tablets,
+        sources,
+        records,
+    } = *counts;
+    let told = format!(in alloc; "{tablets}/{sources}/{records}").expect(rt, "memory");
+    text.extend_from_slice(told.as_bytes()).expect(rt, "memory");
+}
+
 fn word_of(refusal: &Refusal) -> &'static [u8] {
     match refusal {
         Refusal::BadAuthorizations(_) => b"unheld",
         Refusal::NoSession(_) => b"unopened",
+        Refusal::NoJob(_) => b"nojob",
+        Refusal::Stale(0) => b"stale0",
+        Refusal::Stale(1) => b"stale1",
         Refusal::TooLarge(_) => b"toolarge",
         Refusal::BadRange => b"badrange",
         Refusal::PermissionDenied(_) => b"denied",
@@ -161,8 +192,10 @@ pub fn text_of(rt: &impl Abort, alloc: Global, replies: &[Reply]) -> Vec<u8> {
                     text.extend_from_slice(term).expect(rt, "memory");
                 }
             }
-            Reply::Counted(_) => text.extend_from_slice(b"counted").expect(rt, "memory"),
+            Reply::Counted(counts) => add_counts(rt, alloc, &mut text, counts),
             Reply::Rows(_) => text.extend_from_slice(b"rows").expect(rt, "memory"),
+            Reply::Begun(_) => text.extend_from_slice(b"begun").expect(rt, "memory"),
+            Reply::Nothing => text.extend_from_slice(b"nothing").expect(rt, "memory"),
         }
         text.push(b' ').expect(rt, "memory");
     }

@@ -8,11 +8,14 @@
 //! | `runs` | writing, freezing, and cursors over parts of a run |
 //! | `tables` | tables of what was written, and cursors over them that borrow and that share |
 //! | `versions` | clips of runs and of tables, and the stack over several; `cuts`: over many tablets |
+//! | `inputs` | sources that are compared and taken out by their contents |
 //! | `sessions` | batches of every size |
-//! | `tablets` | scans of what was written, beside the model; `stories`: a tablet through writes, freezes and compactions |
+//! | `tablets` | scans of what was written, beside the model; `stories`: a tablet through writes, freezes and compactions; `parts`: compactions in parts |
 //! | `writing`, `reading` | helpers: runs and versions of what is written, and what a source has left |
 #![tactic(auto)]
 
+#[cfg(test)]
+mod inputs;
 #[cfg(test)]
 mod layers;
 #[cfg(test)]

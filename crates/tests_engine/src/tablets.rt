@@ -9,6 +9,7 @@ use tab_tablet::Tablet;
 use tab_testing::{Columns, Query, Random, Update, mutation_of, scanned};
 use tab_version::Version;
 
+mod parts;
 mod stories;
 
 const ROWS: [&[u8]; 2] = [b"k", b"l"];
@@ -25,7 +26,7 @@ fn random_update(random: &mut Random) -> Update {
 #[tactic(auto, using(crate::proofs::Later::nothing_older))]
 fn written(rt: &impl Abort, alloc: Global, mutation: &Mutation) -> Tablet {
     assert!(rt; mutation.shape().is_none());
-    let mut tablet = Tablet::new(alloc);
+    let mut tablet = Tablet::new(alloc, 0);
     tablet.write(mutation, 0, CLOCK).expect(rt, "memory");
     tablet
 }

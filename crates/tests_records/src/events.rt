@@ -1,6 +1,7 @@
 //! Copies of events, parts of replies, and numbers of versions.
 use std::process::Abort;
-use tab_history::{Act, Counts, Event, Extent, Reply, Versions, copied};
+use tab_cells::Compaction;
+use tab_history::{Act, Counts, Event, Extent, Given, Reply, Versions, copied};
 use tab_key::{ByteString, Items, Name};
 use tab_mutation::Mutation;
 
@@ -106,6 +107,34 @@ fn copies_splits(rt: HostRuntime) {
     assert!(rt; is_split(&copy, Some(9)));
 }
 
+// Whether the act begins a partial compaction at the row m.
+fn is_begin(act: &Act) -> bool {
+    match act {
+        Act::Begin(_, row, Compaction::Partial) => row.as_bytes() == b"m".as_slice(),
+        _ => false,
+    }
+}
+
+// Where the merge is that the act installs.
+fn given_of(act: &Act) -> Option<Given> {
+    match act {
+        Act::Install(_, given) => Some(*given),
+        _ => None,
+    }
+}
+
+#[test]
+fn copies_parts_of_compactions(rt: HostRuntime) {
+    let table = name(&rt, b"t");
+    let row = ByteString::from_slice(rt.alloc(), b"m").expect(&rt, "memory");
+    let copy = copy_of(&rt, Act::Begin(table, row, Compaction::Partial));
+    assert!(rt; is_begin(&copy));
+    let copy = copy_of(&rt, Act::Install(table, Given::InSlot(u64::MAX)));
+    assert_eq!(rt; given_of(&copy), Some(Given::InSlot(u64::MAX)));
+    let copy = copy_of(&rt, Act::Install(table, Given::ByHand(7)));
+    assert_eq!(rt; given_of(&copy), Some(Given::ByHand(7)));
+}
+
 #[test]
 fn counts_versions_from_1_to_1000(rt: HostRuntime) {
     assert_eq!(rt; Versions::one().get(), 1);
@@ -120,30 +149,47 @@ fn counts_versions_from_1_to_1000(rt: HostRuntime) {
     }
 }
 
-// The session of a reply that is taken apart, once what is told without it has this text.
-fn session_of(rt: &impl Abort, reply: Reply<u8>, want: &'static str) -> Option<u8> {
-    let (told, session) = reply.into_parts();
+// The session and the job of a reply that is taken apart, once what is told without them has this text.
+fn handed_out(
+    rt: &impl Abort,
+    reply: Reply<u8, u16>,
+    want: &'static str,
+) -> (Option<u8>, Option<u16>) {
+    let (told, session, job) = reply.into_parts();
     let text = match told {
         Reply::Done => "done",
         Reply::Opened(()) => "opened",
         Reply::Ranges(_) => "ranges",
         Reply::Counted(_) => "counted",
+        Reply::Begun(()) => "begun",
+        Reply::Nothing => "nothing",
         _ => "something else",
     };
     assert_eq!(rt; text, want);
-    session
+    (session, job)
+}
+
+// A reply with this text hands out nothing.
+fn expect_none(rt: &impl Abort, reply: Reply<u8, u16>, want: &'static str) {
+    let (session, job) = handed_out(rt, reply, want);
+    assert!(rt; session.is_none() && job.is_none());
 }
 
 #[test]
-fn parts_a_reply_and_its_session(rt: HostRuntime) {
-    assert_eq!(rt; session_of(&rt, Reply::Opened(3), "opened"), Some(3));
-    assert_eq!(rt; session_of(&rt, Reply::Done, "done"), None);
-    let ranges = Reply::Ranges(Items::new(rt.alloc()));
-    assert_eq!(rt; session_of(&rt, ranges, "ranges"), None);
+fn parts_a_reply_and_what_it_hands_out(rt: HostRuntime) {
+    let (session, job) = handed_out(&rt, Reply::Opened(3), "opened");
+    assert_eq!(rt; session, Some(3));
+    assert_eq!(rt; job, None);
+    let (session, job) = handed_out(&rt, Reply::Begun(4), "begun");
+    assert_eq!(rt; session, None);
+    assert_eq!(rt; job, Some(4));
+    expect_none(&rt, Reply::Nothing, "nothing");
+    expect_none(&rt, Reply::Done, "done");
+    expect_none(&rt, Reply::Ranges(Items::new(rt.alloc())), "ranges");
     let counts = Counts {
         tablets: 1,
         sources: 2,
         records: u64::MAX,
     };
-    assert_eq!(rt; session_of(&rt, Reply::Counted(counts), "counted"), None);
+    expect_none(&rt, Reply::Counted(counts), "counted");
 }

@@ -52,6 +52,8 @@ fn writes_replies(rt: HostRuntime) {
     for (reply, want) in [
         (Reply::Done, b"ok\n".as_slice()),
         (Reply::Opened(()), b"".as_slice()),
+        (Reply::Begun(()), b"".as_slice()),
+        (Reply::Nothing, b"nothing\n".as_slice()),
         (
             Reply::Refused(Refusal::MalformedVisibility(3, 14)),
             b"refused 5 MalformedVisibility 3 14\n".as_slice(),
@@ -71,6 +73,14 @@ fn writes_replies(rt: HostRuntime) {
         (
             Reply::Refused(Refusal::NoSession(4_294_967_295)),
             b"refused 15 NoSession 4294967295\n".as_slice(),
+        ),
+        (
+            Reply::Refused(Refusal::Stale(u64::MAX)),
+            b"refused 14 Stale 18446744073709551615\n".as_slice(),
+        ),
+        (
+            Reply::Refused(Refusal::NoJob(u64::MAX)),
+            b"refused 15 NoSession 18446744073709551615\n".as_slice(),
         ),
         (
             Reply::Counted(Counts {

@@ -92,9 +92,10 @@ fn refusal(name: Name, at: usize) -> Refusal {
         2 => Refusal::PermissionDenied(Permission::OfTable(TablePermission::Write, name)),
         3 => Refusal::MalformedVisibility(1, 64),
         4 => Refusal::TooLarge(Part::Ranges),
-        5 => Refusal::NoSession(1),
-        6 => Refusal::NoMemory,
-        7 => Refusal::BadSplit(SplitFault::OneRow),
+        5 => Refusal::Stale(258),
+        6 => Refusal::NoSession(1),
+        7 => Refusal::NoMemory,
+        8 => Refusal::BadSplit(SplitFault::OneRow),
         _ => Refusal::BelowHorizon(0),
     }
 }
@@ -108,6 +109,7 @@ fn writes_refusals(rt: HostRuntime) {
         b"\0\0\0\x09\x81\x03\x01\x01\0\0\0\x01t",
         b"\0\0\0\x0a\x81\x05\0\0\0\x01\0\0\0\x40",
         b"\0\0\0\x03\x81\x09\x09",
+        b"\0\0\0\x0a\x81\x0e\0\0\0\0\0\0\x01\x02",
         b"\0\0\0\x06\x81\x0f\0\0\0\x01",
         b"\0\0\0\x02\x81\x11",
         b"\0\0\0\x03\x81\x14\x02",

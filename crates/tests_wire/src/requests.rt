@@ -23,7 +23,7 @@ fn opcode_of_act(act: &Act) -> u8 {
         Act::Splits(_) => 0x12,
         Act::Status(_) => 0x13,
         Act::Rights(_) => 0x14,
-        Act::SplitBySize(..) | Act::Save | Act::Load => 0,
+        Act::SplitBySize(..) | Act::Save | Act::Load | Act::Begin(..) | Act::Install(..) => 0,
     }
 }
 

@@ -6,9 +6,19 @@
 //! | `serving` | these served whole, in pieces, cut anywhere, and where reading or writing fails; the receipts settle afterwards |
 //! | `settling` | threads that use one book by seats of their own, and its end |
 //! | `own_writes` | a connection that writes and then reads, and the numbers of its receipts |
+//! | `gates` | which events a gate is told of |
 //! | `overlapping` | a batch that is held up until another connection's write was answered |
+//! | `merging` | the same of a merge, until a write and a scan were answered |
+//! | `under_load` | writers beside compactors, all that was written afterwards, and the receipts of all |
+//! | `asking`, `signs` | helpers: events in short, and signs between threads |
 #![tactic(auto)]
 
+#[cfg(test)]
+mod asking;
+#[cfg(test)]
+mod gates;
+#[cfg(test)]
+mod merging;
 #[cfg(test)]
 mod overlapping;
 #[cfg(test)]
@@ -18,4 +28,8 @@ mod serving;
 #[cfg(test)]
 mod settling;
 #[cfg(test)]
+mod signs;
+#[cfg(test)]
 mod talks;
+#[cfg(test)]
+mod under_load;

@@ -3,45 +3,20 @@ ghost use Rattle.std.specs.Prelude.{◌≡◌, ◌^◌, ◌≤◌};
 ghost use Rattle.tab_core.specs.Stores.{base_of};
 
 use crate::serving::served_by;
+use crate::signs::Signs;
 use crate::talks::{WRITES, WRITES_TOLD, asked, told};
 use std::alloc::Global;
 use std::marker::Brand;
 use std::process::Abort;
 use std::sync::Wait;
-use std::sync::atomic::{AtomicBool, Ordering};
 use std::sync::ledger::Blank;
 use std::thread;
 use std::thread::Threads;
-use std::time::{Clock, Duration};
+use std::time::Clock;
 use tab_book::{Book, Origin, Seat};
 use tab_core::Core;
 use tab_io::memory::{PieceReader, PieceWriter};
 use tab_work::{Gate, OpenGate, Shared};
-
-// How often a thread looks, a millisecond apart, before it gives up.
-const TURNS: u32 = 10_000;
-
-// What the two connections wait for.
-#[derive(Drop)]
-struct Signs {
-    // the first one is about to cut a batch
-    held: AtomicBool,
-    // the second one was answered
-    answered: AtomicBool,
-    // the first one gave up waiting for that
-    late: AtomicBool,
-}
-
-// Whether the sign was seen in time.
-fn is_seen<R: Clock>(rt: &R, sign: &AtomicBool) -> bool {
-    for _ in 0..TURNS {
-        if sign.load(Ordering::SeqCst) {
-            return true;
-        }
-        thread::sleep(rt, Duration::from_millis(1));
-    }
-    false
-}
 
 // It holds a batch up until the other connection was answered.
 #[derive(Drop)]
@@ -54,11 +29,10 @@ impl<R: Clock> Gate for Held<'_, R> {
     fn before_merge(&self) {}
 
     fn before_batch(&self) {
-        self.signs.held.store(true, Ordering::SeqCst);
-        if !is_seen(self.rt, &self.signs.answered) {
-            self.signs.late.store(true, Ordering::SeqCst);
-        }
+        self.signs.hold(self.rt);
     }
+
+    fn after_write(&self) {}
 }
 
 // What a connection is told that makes a table and reads it, its batch held up.
@@ -95,7 +69,7 @@ fn writes_meanwhile<L: Origin, R: Wait + Abort + Clock>(
     seat: Seat<L>,
     signs: &Signs,
 ) -> (bool, Vec<u8>) {
-    let held = is_seen(rt, &signs.held);
+    let held = signs.is_held(rt);
     let mut seat = seat;
     let mut receipts = Vec::new(alloc);
     let reader = PieceReader::new(WRITES, 64);
@@ -110,7 +84,7 @@ fn writes_meanwhile<L: Origin, R: Wait + Abort + Clock>(
         reader,
         writer,
     );
-    signs.answered.store(true, Ordering::SeqCst);
+    signs.answer();
     (held, bytes)
 }
 
@@ -126,11 +100,7 @@ fn overlaps<L: Origin + Send + Sync, R: Threads + Wait + Abort + Clock + Sync>(
     requires enough { 2 ^ 32 ≤ blank.parts }
 {
     let shared = Shared::new(Book::<L>::new(alloc, core, blank));
-    let signs = Signs {
-        held: AtomicBool::new(false),
-        answered: AtomicBool::new(false),
-        late: AtomicBool::new(false),
-    };
+    let signs = Signs::none();
     let first = shared.join(rt).expect(rt, "a seat");
     let second = shared.join(rt).expect(rt, "a seat");
     let (lent, seen) = (&shared, &signs);
@@ -140,7 +110,7 @@ fn overlaps<L: Origin + Send + Sync, R: Threads + Wait + Abort + Clock + Sync>(
         move || writes_meanwhile(rt, alloc, lent, second, seen),
     );
     assert!(rt; held);
-    assert!(rt; !signs.late.load(Ordering::SeqCst));
+    assert!(rt; !signs.are_late());
     assert_eq!(rt; written.as_slice(), WRITES_TOLD);
     assert_eq!(rt; read.as_slice(), told(1));
 }

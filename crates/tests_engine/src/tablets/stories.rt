@@ -38,7 +38,7 @@ impl Story {
     #[tactic(auto, using(crate::proofs::Later::nothing_older))]
     fn new(alloc: Global) -> Story {
         Story {
-            tablet: Tablet::new(alloc),
+            tablet: Tablet::new(alloc, 0),
             seq: 0,
         }
     }

@@ -1,0 +1,101 @@
+//! Compactions of a tablet in parts: begun, merged beside it, and installed.
+
+use super::{CLOCK, written};
+use std::alloc::Global;
+use std::process::Abort;
+use tab_cells::Compaction;
+use tab_tablet::{Finished, Installed, Job, Tablet};
+use tab_testing::{Random, mutation_of};
+
+// A tablet to which a random mutation was written, that of every tablet of this seed.
+fn tablet_of(rt: &impl Abort, alloc: Global, seed: u64) -> Tablet {
+    let mut random = Random::new(seed);
+    let mut updates = Vec::new(alloc);
+    updates
+        .push(random.update(b"k", 0, 0, CLOCK))
+        .expect(rt, "memory");
+    updates
+        .push(random.update(b"k", 0, 1, CLOCK))
+        .expect(rt, "memory");
+    let mutation = mutation_of(alloc, b"k", &updates).expect(rt, "memory");
+    written(rt, alloc, &mutation)
+}
+
+// The merge that begins in the tablet, which has something to merge.
+fn begun(
+    rt: &impl Abort,
+    alloc: Global,
+    tablet: &mut Tablet,
+    kind: Compaction,
+    number: u64,
+) -> Job {
+    let job = tablet.begin(alloc, kind, 0, 1, number).expect(rt, "memory");
+    job.expect(rt, "there is something to merge")
+}
+
+fn merged(rt: &impl Abort, alloc: Global, job: Job) -> Finished {
+    match job.merge(alloc) {
+        Ok(finished) => finished,
+        Err(_) => panic!(rt; "memory"),
+    }
+}
+
+// The merge is made and installed, and this is told.
+fn expect_told(rt: &impl Abort, alloc: Global, tablet: &mut Tablet, job: Job, want: Installed) {
+    let finished = merged(rt, alloc, job);
+    let told = tablet.install(alloc, finished).expect(rt, "memory");
+    assert!(rt; told == want)
+}
+
+#[test]
+fn a_merge_is_installed_once(rt: HostRuntime) {
+    let alloc = rt.alloc();
+    let mut tablet = tablet_of(&rt, alloc, 1);
+    let job = begun(&rt, alloc, &mut tablet, Compaction::Minor, 5);
+    assert_eq!(rt; (job.tablet(), job.number()), (tablet.number(), 5));
+    let share = job.share(alloc).expect(&rt, "memory");
+    expect_told(&rt, alloc, &mut tablet, job, Installed::Done);
+    assert_eq!(rt; tablet.count_sources(), 1);
+    expect_told(&rt, alloc, &mut tablet, share, Installed::Stale(1))
+}
+
+#[test]
+fn an_equal_merge_is_as_good(rt: HostRuntime) {
+    let alloc = rt.alloc();
+    let mut tablet = tablet_of(&rt, alloc, 1);
+    let first = begun(&rt, alloc, &mut tablet, Compaction::Full, 5);
+    let second = begun(&rt, alloc, &mut tablet, Compaction::Full, 6);
+    expect_told(&rt, alloc, &mut tablet, first, Installed::Done);
+    expect_told(&rt, alloc, &mut tablet, second, Installed::Stale(1))
+}
+
+#[test]
+fn a_strangers_merge_is_stale(rt: HostRuntime) {
+    let alloc = rt.alloc();
+    let mut tablet = tablet_of(&rt, alloc, 1);
+    let mut other = tablet_of(&rt, alloc, 2);
+    let own = begun(&rt, alloc, &mut tablet, Compaction::Minor, 5);
+    let strange = begun(&rt, alloc, &mut other, Compaction::Minor, 5);
+    expect_told(&rt, alloc, &mut tablet, strange, Installed::Stale(1));
+    expect_told(&rt, alloc, &mut tablet, own, Installed::Stale(1))
+}
+
+#[test]
+fn kinds_are_apart(rt: HostRuntime) {
+    let alloc = rt.alloc();
+    let mut tablet = tablet_of(&rt, alloc, 1);
+    let minor = begun(&rt, alloc, &mut tablet, Compaction::Minor, 5);
+    let full = begun(&rt, alloc, &mut tablet, Compaction::Full, 6);
+    expect_told(&rt, alloc, &mut tablet, minor, Installed::Done);
+    expect_told(&rt, alloc, &mut tablet, full, Installed::Stale(1))
+}
+
+#[test]
+fn a_whole_compaction_ends_one_of_its_kind(rt: HostRuntime) {
+    let alloc = rt.alloc();
+    let mut tablet = tablet_of(&rt, alloc, 1);
+    let job = begun(&rt, alloc, &mut tablet, Compaction::Minor, 5);
+    let compacted = tablet.compacted(alloc, Compaction::Minor, 0, 1);
+    let mut tablet = compacted.expect(&rt, "memory");
+    expect_told(&rt, alloc, &mut tablet, job, Installed::Stale(1))
+}
