@@ -203,7 +203,7 @@ fn are_all(cells: &Cells) -> bool {
     let writer_cells = ROWS as usize * row_cells;
     for index in 0..cells.len() {
         let cell = cells.get(index);
-        let writer = (index / writer_cells) as u8;
+        let writer = (index / writer_cells % 256) as u8;
         let row = (index % writer_cells / row_cells) as u8;
         let number = ((index % row_cells) as u32).to_be_bytes();
         if cell.row() != [writer, row].as_slice()
