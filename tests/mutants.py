@@ -1,11 +1,14 @@
 """Sees that wrong bodies and turned definitions are refused, many in one check. crates/NAME/must-fail/mutants.md lists those of a
 crate, one function each. Mutants of different functions are applied to one copy of the crate, and the prover is asked for these
 functions: each must be left unproved, and for what it ensures, not for a name that a proof no longer finds. What a copy
-of many doesn't show is tried alone."""
+of many doesn't show is tried again, at last alone. A turned definition that no function is proved from is refused by an example of
+specs/, or by a lemma for the crates above: their file is named in the function's place."""
+import collections
 import concurrent.futures
 import glob
-import math
+import itertools
 import os
+import queue
 import re
 import shutil
 import subprocess
@@ -15,17 +18,19 @@ import time
 
 TOP = os.path.dirname(os.path.dirname(os.path.abspath(__file__)))
 KIT = os.path.dirname(subprocess.run(["rt", "doc"], capture_output=True, text=True, check=True).stdout.strip())
-# How many mutants of a crate are tried by one worker at most, so that those of a large crate go side by side.
-MOST = 12
+# What a copy of a crate gets, so that the prover reads a file of examples or lemmas.
+READS = "reads_it"
 # An error of a proof that no longer finds a name, or that stands on one that was rejected: it says nothing of the contract.
-NAMES = re.compile(r"has no field|is not in scope|has no `|was not admitted|which was rejected, were not checked")
+NAMES = re.compile(r"has no field|is not in scope|has no `|was not admitted|which was rejected, (was|were) not checked")
 
 
 class Mutant:
-    """A wrong body: the function that must be refused, and the texts of one file that it replaces."""
+    """A wrong body or turned definition: the function that must be refused, and the texts of one file that it replaces."""
 
     def __init__(self, crate, name):
         self.crate, self.name, self.function, self.file, self.pairs = crate, name, None, None, []
+        # how long the checks of its function took, of a processor, and how many they were
+        self.seconds, self.checks = 0, 0
 
     def spans(self, text):
         """Returns where the texts that it replaces stand in the file's, and what comes there."""
@@ -37,6 +42,10 @@ class Mutant:
     def turns_a_definition(self):
         """Returns whether it changes what contracts say, so that functions besides its own may be refused for it."""
         return self.file.startswith("specs/")
+
+    def names_a_file(self):
+        """Returns whether a file of examples, or of lemmas for the crates above, is named in the place of its function."""
+        return self.function.endswith(".antt")
 
     def __str__(self):
         return f"{self.crate}/{self.name}"
@@ -81,16 +90,17 @@ def mutants_of(crate):
 
 
 def batches_of(mutants):
-    """Parts mutants into batches in which each function stands once. One that turns a definition is alone in its batch."""
+    """Parts mutants into batches in which a function stands once. One that turns a definition is alone in its batch.
+
+    The first batch has every function: a function that is called has to be proved, in each batch in which it isn't wrong itself."""
     batches = []
-    for mutant in mutants:
-        together = [] if mutant.turns_a_definition() else [it for it in batches if not it[0].turns_a_definition()]
-        fits = next((it for it in together if all(other.function != mutant.function for other in it)), None)
+    for mutant in [it for it in mutants if not it.turns_a_definition()]:
+        fits = next((it for it in batches if all(other.function != mutant.function for other in it)), None)
         if fits is None:
             batches.append([mutant])
         else:
             fits.append(mutant)
-    return batches
+    return batches + [[it] for it in mutants if it.turns_a_definition()]
 
 
 def words_of(crate, named):
@@ -107,7 +117,8 @@ def words_of(crate, named):
 
 
 def check(batch, named, kept):
-    """Returns what the prover says of a copy of the crate with these mutants in it. What is the same in the next copy it keeps."""
+    """Returns what the prover says of a copy of the crate with these mutants in it, and how long each function took. What is the same
+    in the next copy it keeps."""
     crate = batch[0].crate
     with tempfile.TemporaryDirectory() as room:
         for part in ("src", "specs", "proofs"):
@@ -120,16 +131,54 @@ def check(batch, named, kept):
                 text = text[:start] + new + text[end:]
             with open(f"{room}/{path}", "w", encoding="utf-8") as file:
                 file.write(text)
-        words = [*words_of(crate, named), "--incremental", kept]
+        words = [*words_of(crate, named), "--incremental", kept, "--progress"]
         for mutant in batch:
-            words += ["--only", mutant.function]
-        ran = subprocess.run(words, cwd=room, stdin=subprocess.DEVNULL, stdout=subprocess.PIPE, stderr=subprocess.STDOUT,
-                             text=True, errors="replace", check=False)
-        return ran.stdout
+            if mutant.names_a_file():
+                have_read(mutant, room)
+            words += ["--only", READS if mutant.names_a_file() else mutant.function]
+        return told_by(words, room)
+
+
+def have_read(mutant, room):
+    """Adds a function to the copy of a crate that names what is added to a file of examples or lemmas, so that the prover reads it."""
+    at = mutant.function.removesuffix(".antt").split("/")
+    is_stated = at[0] == "specs"
+    naming = f"ghost use Rattle.{mutant.crate}.{'.'.join(at)}.{{{READS}}};\n" if is_stated else ""
+    using = "" if is_stated else f"#[tactic(auto, using(crate::{'::'.join(at)}::{READS}))]\n"
+    with open(f"{room}/{mutant.function}", "a", encoding="utf-8") as file:
+        file.write(f"\n{'abbrev ' if is_stated else ''}pub {READS} : {{A : Type 0}} → A → A\n{READS} x = x\n")
+    with open(f"{room}/src/{READS}.rt", "w", encoding="utf-8") as file:
+        file.write(f"{naming}ghost use Rattle.std.specs.Prelude.{{◌≡◌, true}};\n")
+        file.write(f"{using}pub fn {READS}()\n    ensures {{ true ≡ true }}\n{{\n}}\n")
+    with open(f"{room}/src/lib.rt", "a", encoding="utf-8") as file:
+        file.write(f"\nmod {READS};\n")
+
+
+def told_by(words, room):
+    """Returns what a prover says there, and the seconds of a processor that each function took, with what was read before it."""
+    said, took, before = [], {}, 0
+    how = {"stdin": subprocess.DEVNULL, "stdout": subprocess.PIPE, "stderr": subprocess.STDOUT, "text": True, "errors": "replace"}
+    with subprocess.Popen(words, cwd=room, **how) as ran:
+        for line in ran.stdout:
+            said.append(line)
+            found = re.match(r"checked \w+::(\S+), \d+ of \d+$", line)
+            if found:
+                now = processor_of(ran.pid)
+                took[found[1]], before = now - before, now
+    return "".join(said), took
+
+
+def processor_of(process):
+    """Returns the seconds of a processor that a process and those that it waited for have taken, of the system's too."""
+    fields = read(f"/proc/{process}/stat").rpartition(")")[2].split()
+    return sum(int(it) for it in fields[11:15]) / os.sysconf("SC_CLK_TCK")
 
 
 def refusal(mutant, said):
-    """Returns for what the mutant's function was refused, or None."""
+    """Returns for what the mutant's function, or the file in its place, was refused, or None."""
+    if mutant.names_a_file():
+        errors = re.findall(rf"^\./{re.escape(mutant.function)}:\S+ error: (.*)$", said, re.M)
+        return next((it for it in errors if not NAMES.search(it) and READS not in it), None)
     verdict = re.search(rf"^fn {re.escape(mutant.crate)}::({re.escape(mutant.function)}): (.*)$", said, re.M)
     if not verdict:
         return None
@@ -147,27 +196,57 @@ def refusal(mutant, said):
 
 
 def tried(batch, named, kept):
-    """Returns of each mutant for what it was refused. One that a check of many doesn't show is tried alone."""
-    said = check(batch, named, kept)
+    """Returns of each mutant for what it was refused. Those that a check of many doesn't show (a wrong function can hide the goals of
+    those that call it) are tried together once more, as long as that shows some, and then alone."""
+    said, took = check(batch, named, kept)
     found = {it: refusal(it, said) for it in batch}
+    for mutant in batch:
+        mutant.checks += 1
+        mutant.seconds += sum(took.values()) if len(batch) == 1 else took.get(mutant.function, 0)
     missed = [it for it in batch if not found[it]]
     if len(batch) == 1:
         if missed:
             print("\n".join(said.splitlines()[-40:]), flush=True)
         return found
-    for mutant in missed:
-        found |= tried([mutant], named, kept)
+    for again in [missed] if 0 < len(missed) < len(batch) else [[it] for it in missed]:
+        found |= tried(again, named, kept)
     return found
 
 
-def parts_of(mutants):
-    """Parts mutants into as few parts as MOST allows, of about the same size."""
-    size = math.ceil(len(mutants) / max(1, math.ceil(len(mutants) / MOST)))
-    return [mutants[at:at + size] for at in range(0, len(mutants), size)] if mutants else []
+def copied(kept):
+    """Returns a folder that begins as a copy of what the prover kept: it replaces what it proved, and changes none, so links do."""
+    copy = tempfile.TemporaryDirectory()
+    how = lambda one, other: os.link(one, other) if one.endswith(".oantt") else shutil.copy2(one, other)
+    shutil.copytree(kept.name, copy.name, dirs_exist_ok=True, copy_function=how)
+    return copy
 
 
-def tried_all(batches, named, kept):
-    """Returns of each mutant of some batches of a crate for what it was refused, and drops what the prover kept."""
+class Workers:
+    """As many at work at once as there are processors. Of what is left each takes what weighs most."""
+
+    def __init__(self, pool):
+        self.pool, self.left, self.numbers, self.begun = pool, queue.PriorityQueue(), itertools.count(), []
+
+    def add(self, weighs, call, *given):
+        """Has a worker do the call, once those that weigh more are begun."""
+        self.left.put((-weighs, next(self.numbers), call, given))
+        self.begun.append(self.pool.submit(self.heaviest))
+
+    def heaviest(self):
+        """Does the call that weighs most of those that are left, and returns its result."""
+        _, _, call, given = self.left.get()
+        return call(*given)
+
+    def results(self):
+        """Returns the calls' results as they come, also of those that are added meanwhile."""
+        at = 0
+        while at < len(self.begun):
+            yield self.begun[at].result()
+            at += 1
+
+
+def tried_over(batches, named, kept):
+    """Returns of each mutant of some batches for what it was refused, and drops what the prover kept."""
     found = {}
     with kept:
         for batch in batches:
@@ -175,26 +254,25 @@ def tried_all(batches, named, kept):
     return found
 
 
-def tried_of(mutants, named, pool):
-    """Returns of some of a crate's mutants for what they were refused, and what is begun for the others.
+def tried_of(mutants, named, workers):
+    """Returns of the first batch of a crate's mutants for what they were refused, and has the others tried.
 
-    What most checks of a crate have to read first is its lemmas: the first batch has them checked, and each other part begins with
-    a copy of what the prover kept of it."""
-    first, *others = parts_of(mutants)
-    batch, *rest = batches_of(first)
-    kept, begun = tempfile.TemporaryDirectory(), []
-    found = tried(batch, named, kept.name)
-    for part in others:
-        copy = tempfile.TemporaryDirectory()
-        shutil.copytree(kept.name, copy.name, dirs_exist_ok=True)
-        begun.append(pool.submit(tried_all, batches_of(part), named, copy))
-    return found | tried_all(rest, named, kept), begun
+    What most checks of a crate have to read first is its lemmas: the first batch has them checked. The other batches of wrong bodies go
+    on with what the prover kept, one after another, so that what they call is proved once; each turned definition begins with a copy."""
+    crate, (first, *others), kept = mutants[0].crate, batches_of(mutants), tempfile.TemporaryDirectory()
+    found = tried(first, named, kept.name)
+    for batch in others:
+        if batch[0].turns_a_definition():
+            workers.add(weight(crate, 1), tried_over, [batch], named, copied(kept))
+    bodies = [it for it in others if not it[0].turns_a_definition()]
+    workers.add(weight(crate, sum(len(it) for it in bodies)), tried_over, bodies, named, kept)
+    return found
 
 
-def weight(mutants):
-    """Returns about how long mutants of a crate take: by how much there is to load and to check, and by how many they are."""
-    files = [it for part in ("src", "proofs") for it in glob.glob(f"{folder(mutants[0].crate)}/{part}/**", recursive=True)]
-    return sum(read(it).count("\n") for it in files if os.path.isfile(it)) + 200 * len(mutants)
+def weight(crate, count):
+    """Returns about how long so many mutants of a crate take: by how much there is to load and to check, and by how many they are."""
+    files = [it for part in ("src", "proofs") for it in glob.glob(f"{folder(crate)}/{part}/**", recursive=True)]
+    return sum(read(it).count("\n") for it in files if os.path.isfile(it)) + 200 * count
 
 
 def are_ready(lists, log):
@@ -207,9 +285,10 @@ def are_ready(lists, log):
 
 
 def tell(found):
-    """Prints of each mutant for what it was refused, and returns how many were and how many weren't."""
+    """Prints of each mutant for what it was refused and how long that took, and returns how many were and how many weren't."""
     for mutant, why in found.items():
-        print(f"{mutant}: {'refused: ' + why[:120] if why else 'NOT REFUSED for what it ensures'}")
+        took = f"{mutant.seconds:.0f} s{f', in {mutant.checks} checks' if mutant.checks > 1 else ''}"
+        print(f"{mutant}: {'refused: ' + why[:120] if why else 'NOT REFUSED for what it ensures'} ({took})")
     refused = sum(bool(why) for why in found.values())
     return refused, len(found) - refused
 
@@ -220,20 +299,18 @@ def main(crates, log):
     lacking = {it for found in left for it in named[found[0].crate] if os.path.isdir(folder(it)) and not os.path.isdir(library(it))}
     if lacking and not log:
         sys.exit(f"mutants: {', '.join(sorted(lacking))}: not built yet (./tabd builds them)")
-    # those that take longest first
-    left.sort(key=weight, reverse=True)
-    counts = []
     with concurrent.futures.ThreadPoolExecutor(len(os.sched_getaffinity(0))) as pool:
-        begun = []
+        workers, weighs = Workers(pool), lambda found: weight(found[0].crate, len(found))
         while left:
             ready = are_ready(left, log)
-            begun += [pool.submit(tried_of, found, named[found[0].crate], pool) for found in ready]
+            for found in sorted(ready, key=weighs, reverse=True):
+                workers.add(weighs(found), tried_of, found, named[found[0].crate], workers)
             left = [it for it in left if it not in ready]
             time.sleep(5 if left else 0)
-        for crate in begun:
-            found, others = crate.result()
-            counts += [tell(found), *(tell(part.result()) for part in others)]
+        counts = [tell(found) for found in workers.results()]
     passed, failed = (sum(them) for them in zip(*counts, (0, 0)))
+    took = os.times()
+    print(f"{(took.children_user + took.children_system) / 60:.1f} minutes of a processor")
     print(f"{passed} passed, {failed} failed")
     return 1 if failed else 0
 
