@@ -1,12 +1,16 @@
 #!/usr/bin/env python3
-"""What compactors cost the others: `tabd serve` over loopback with several numbers of compactors, one server after another.
+"""What compactors cost the others: `tabd serve` over loopback with several numbers of compactors, a new server for each, by turns.
 
-1. Writes of one cell, pipelined by one connection: the seconds, and the speed beside that without compactors (aim: at least 0.7).
-2. A second and more of such writes, while another connection reads a session in batches of 100 and awaits each: the median of these, and the
-   slowest (aim: below ten times the median). The same without writes beside, for what the machine does by itself.
-3. Writes and short scans in turn, each awaited, 100,000 of both: the seconds of the first tenth and of the last one.
+1. Writes of one cell, pipelined by one connection: the seconds, the processor's seconds that the server used, and the speed beside that
+   with the first number of compactors (aim: at least 0.7 of the speed without).
+2. Another connection reads sessions of 100,000 cells in batches and awaits each of them (compactors/reader.rs, compiled by rustc -O), for
+   SECONDS by itself, and for as long while such writes go on: the median of these Nexts, and the slowest (aim: below ten times the median).
+3. Writes and short scans in turn, each awaited: the seconds of the first tenth and of the last one (aim: alike).
 
-Usage: bench/compactors.py [--writes N] [--turns N] [--compactors N,N,..]   (from anywhere; builds the program if it isn't built)
+Usage: bench/compactors.py [--writes N] [--turns N] [--batch N] [--seconds N] [--compactors N,N,..] [--rounds N] [--ahead]
+       (from anywhere; builds the program if it isn't built)
+  --ahead: all that is measured runs in the real-time class, ahead of the machine's other work (wants root). Without it the slowest
+           Next is mostly how long the scheduler let something else run.
   TABD in the environment: another built program, measured in place of this folder's
 """
 import argparse
@@ -17,12 +21,18 @@ import socket
 import struct
 import subprocess
 import sys
+import tempfile
 import time
 from pathlib import Path
 from statistics import median
 
 TOP = Path(__file__).resolve().parent.parent
+sys.dont_write_bytecode = True
+sys.path.insert(0, str(TOP / "bench" / "store"))
+from phases import processor_seconds  # noqa: E402
+
 HELLO, CREATE_TABLE, WRITE, OPEN, NEXT, CLOSE, STATUS = 0x01, 0x02, 0x0A, 0x0B, 0x0C, 0x0E, 0x13
+BLOCK, READ = 500, 100_000
 
 
 def text(value):
@@ -37,8 +47,8 @@ def write(table, row, moment):
     return frame(WRITE, text(table), text(row), struct.pack(">IB", 1, 1), text(b"f"), text(b"q"), text(b""), struct.pack(">Bq", 1, moment), text(b"value %05d" % (moment % 100000)))
 
 
-def opened(table, row=None):
-    bound = b"\0" if row is None else b"\1" + text(row)
+def opened(table, row):
+    bound = b"\1" + text(row)
     return frame(OPEN, text(table), bound, bound, struct.pack(">II", 0, 0))
 
 
@@ -47,8 +57,14 @@ def rows(seed, count):
     return [b"row%08d" % pick.randrange(10**7) for _ in range(count)]
 
 
+def blocks(table, seed, count, moment):
+    """Writes of so many random rows, some hundred together."""
+    requests = [write(table, row, moment) for row in rows(seed, count)]
+    return [b"".join(requests[at : at + BLOCK]) for at in range(0, count, BLOCK)]
+
+
 class Connection:
-    """Frames sent and replies counted."""
+    """Frames sent and replies read."""
 
     def __init__(self, port):
         self.socket = socket.create_connection(("127.0.0.1", port))
@@ -64,57 +80,43 @@ class Connection:
         self.socket.sendall(request)
         return self.reply()
 
-    def batch(self, request):
-        """The cells that are told, and whether there are more."""
-        self.socket.sendall(request)
-        count = 0
-        while True:
-            told = self.reply()
-            if told[0] == 0x83:
-                return count, told[1] == 0
-            if told[0] != 0x82:
-                sys.exit(f"a batch is told {told.hex()}")
-            count += 1
-
-
-def pipelined(port, requests, ready=None):
-    """The seconds in which these requests are answered by Ok, sent together in blocks by one connection."""
-    connection, blocks = Connection(port), [b"".join(requests[at : at + 500]) for at in range(0, len(requests), 500)]
-    if ready:
-        ready.set()
-    begun = time.perf_counter()
-    for at, block in enumerate(blocks):
-        connection.socket.sendall(block)
-        wanted = 5 * min(500, len(requests) - 500 * at)
-        told = connection.input.read(wanted)
-        if told != b"\0\0\0\1\x80" * (wanted // 5):
+    def write(self, block):
+        """Sends these writes together, and awaits that each is told Ok."""
+        self.socket.sendall(block)
+        if self.input.read(5 * BLOCK) != b"\0\0\0\1\x80" * BLOCK:
             sys.exit("a write isn't answered by Ok")
-    return time.perf_counter() - begun
+
+    def turn(self, table, row):
+        """A write of the row, and a scan of it."""
+        if self.ask(write(table, row, 1)) != b"\x80":
+            sys.exit("a write isn't answered by Ok")
+        session = self.ask(opened(table, row))[1:]
+        self.socket.sendall(frame(NEXT, session, struct.pack(">I", 10)))
+        while self.reply()[0] == 0x82:
+            pass
+        self.ask(frame(CLOSE, session))
+
+    def status(self, table):
+        return struct.unpack(">QQQ", self.ask(frame(STATUS, text(table)))[1:])
 
 
-def batches(connection, table, seconds):
-    """The times of Nexts of 100 for so long, session after session."""
-    times, until, session = [], time.perf_counter() + seconds, -1
-    while time.perf_counter() < until:
-        session = struct.unpack(">I", connection.ask(opened(table))[1:])[0]
-        more = True
-        while more and time.perf_counter() < until:
-            begun = time.perf_counter()
-            _, more = connection.batch(frame(NEXT, struct.pack(">II", session, 100)))
-            times.append(time.perf_counter() - begun)
-        connection.ask(frame(CLOSE, struct.pack(">I", session)))
-    return times
+def write_on(port, blocks, ready, stop):
+    """Writes these blocks again and again until it's to stop."""
+    connection, at = Connection(port), 0
+    ready.set()
+    while not stop.is_set():
+        connection.write(blocks[at % len(blocks)])
+        at += 1
 
 
-def load(port, requests, ready):
-    pipelined(port, requests, ready)
+def nexts(reader, port, asked):
+    """The seconds of each Next of a full batch."""
+    told = subprocess.run([reader, str(port), "u", str(asked.batch), str(asked.seconds)], stdout=subprocess.PIPE, text=True, check=True).stdout
+    pairs = (line.split() for line in told.splitlines())
+    return [int(nanoseconds) / 1e9 for nanoseconds, cells in pairs if int(cells) == asked.batch]
 
 
-def status(connection, table):
-    return struct.unpack(">QQQ", connection.ask(frame(STATUS, text(table)))[1:])
-
-
-def measure(program, compactors, asked):
+def measure(program, reader, compactors, asked):
     with socket.create_server(("127.0.0.1", 0)) as listener:
         port = listener.getsockname()[1]
     server = subprocess.Popen([program, "serve", "--port", str(port), "--compactors", str(compactors)], stdin=subprocess.DEVNULL, stdout=subprocess.PIPE)
@@ -123,59 +125,72 @@ def measure(program, compactors, asked):
         one = Connection(port)
         for table in (b"t", b"u", b"v"):
             one.ask(frame(CREATE_TABLE, text(table), struct.pack(">BI", 0, 1)))
-        told = {}
-        told["writes"] = pipelined(port, [write(b"t", row, 1) for row in rows(1, asked.writes)])
-        told["sources"] = status(one, b"t")
-        pipelined(port, [write(b"u", row, 1) for row in rows(2, 100_000)])
-        # by itself
-        batches(one, b"u", 0.3)
-        told["alone"] = batches(one, b"u", 1.0)
-        ready = multiprocessing.Event()
-        beside = multiprocessing.Process(target=load, args=(port, [write(b"t", row, 2) for row in rows(3, asked.writes)], ready))
+        told, first = {}, blocks(b"t", 1, asked.writes, 1)
+        used, begun = processor_seconds(server), time.perf_counter()
+        for block in first:
+            one.write(block)
+        told["writes"], told["used"] = time.perf_counter() - begun, processor_seconds(server) - used
+        told["sources"] = one.status(b"t")
+        for block in blocks(b"u", 2, READ, 1):
+            one.write(block)
+        time.sleep(0.5)
+        told["alone"] = nexts(reader, port, asked)
+        ready, stop = multiprocessing.Event(), multiprocessing.Event()
+        beside = multiprocessing.Process(target=write_on, args=(port, blocks(b"t", 3, asked.writes, 2), ready, stop))
         beside.start()
         ready.wait()
-        told["beside"] = batches(one, b"u", 1.5)
+        told["beside"] = nexts(reader, port, asked)
+        stop.set()
         beside.join()
-        # in turn
-        times, session = [], 0
-        begun = time.perf_counter()
-        for at, row in enumerate(rows(4, asked.turns), 1):
-            if one.ask(write(b"v", row, 1)) != b"\x80":
-                sys.exit("a write isn't answered by Ok")
-            session = struct.unpack(">I", one.ask(opened(b"v", row))[1:])[0]
-            one.batch(frame(NEXT, struct.pack(">II", session, 10)))
-            one.ask(frame(CLOSE, struct.pack(">I", session)))
-            if at % (asked.turns // 10) == 0:
-                times.append(time.perf_counter() - begun)
-                begun = time.perf_counter()
-        told["turns"], told["left"] = times, status(one, b"v")
+        told["turns"] = []
+        wanted = rows(4, asked.turns)
+        for tenth in range(10):
+            begun = time.perf_counter()
+            for row in wanted[tenth * asked.turns // 10 : (tenth + 1) * asked.turns // 10]:
+                one.turn(b"v", row)
+            told["turns"].append(time.perf_counter() - begun)
+        told["left"] = one.status(b"v")
         return told
     finally:
         server.kill()
         server.wait()
 
 
+def show(compactors, rounds, first, asked):
+    """What was measured with so many compactors: medians over the rounds, and of Nexts all of them together."""
+    print(f"compactors {compactors}")
+    speeds = [of_first["writes"] / told["writes"] for of_first, told in zip(first, rounds)]
+    print(f"  {asked.writes} writes     {median(told['writes'] for told in rounds):7.3f} s, of the processor {median(told['used'] for told in rounds):7.3f} s   speed to that of the first {median(speeds):.2f} ({min(speeds):.2f} to {max(speeds):.2f})   tablets, sources, records {rounds[-1]['sources']}")
+    for name in ("alone", "beside"):
+        times = sorted(seconds for told in rounds for seconds in told[name])
+        ratios = [max(told[name]) / median(told[name]) for told in rounds]
+        print(f"  {len(times):6} Nexts of {asked.batch} {name:6} median {median(times) * 1e6:6.0f} µs   slowest {times[-1] * 1e6:6.0f} µs, the next {times[-2] * 1e6:6.0f} µs   slowest to median, by rounds {' '.join(f'{ratio:.1f}' for ratio in ratios)}")
+    tenths = [median(tenth) for tenth in zip(*(told["turns"] for told in rounds))]
+    print(f"  {asked.turns} in turn    first tenth {tenths[0]:.3f} s, last {tenths[-1]:.3f} s   ratio {tenths[-1] / tenths[0]:.2f}   tablets, sources, records {rounds[-1]['left']}", flush=True)
+
+
 def main():
     parser = argparse.ArgumentParser(description=__doc__, formatter_class=argparse.RawDescriptionHelpFormatter)
-    parser.add_argument("--writes", type=int, default=400_000)
+    parser.add_argument("--writes", type=int, default=400_000, help="a multiple of 500")
     parser.add_argument("--turns", type=int, default=100_000)
+    parser.add_argument("--batch", type=int, default=1000, help="cells of a Next; the shell and the client in Python ask for 1,000")
+    parser.add_argument("--seconds", type=float, default=1.5, help="how long batches are read")
     parser.add_argument("--compactors", default="0,1,4")
+    parser.add_argument("--rounds", type=int, default=1)
+    parser.add_argument("--ahead", action="store_true", help="in the real-time class")
     asked = parser.parse_args()
     program = os.environ.get("TABD")
     if not program:
         subprocess.run([TOP / "tabd", "--version"], stdout=subprocess.DEVNULL, check=True)
         program = str(TOP / "crates/tabd/out/tabd")
-    first = None
-    for compactors in map(int, asked.compactors.split(",")):
-        told = measure(program, compactors, asked)
-        first = first or told
-        print(f"compactors {compactors}")
-        print(f"  {asked.writes} writes      {told['writes']:7.3f} s   speed to that of the first {first['writes'] / told['writes']:.2f}   tablets, sources, records {told['sources']}")
-        for name in ("alone", "beside"):
-            times = sorted(told[name])
-            print(f"  {len(times):6} Nexts {name:6} median {median(times) * 1e6:7.0f} µs   slowest {times[-1] * 1e6:8.0f} µs, the next {times[-2] * 1e6:8.0f} µs   ratio {times[-1] / median(times):.1f}")
-        turns = told["turns"]
-        print(f"  {asked.turns} in turn     first tenth {turns[0]:.3f} s, last {turns[-1]:.3f} s   ratio {turns[-1] / turns[0]:.2f}   tablets, sources, records {told['left']}", flush=True)
+    numbers = [int(number) for number in asked.compactors.split(",")]
+    with tempfile.TemporaryDirectory() as work:
+        subprocess.run(["rustc", "--edition=2021", "-O", "-o", f"{work}/reader", TOP / "bench/compactors/reader.rs"], check=True)
+        if asked.ahead:
+            os.sched_setscheduler(0, os.SCHED_FIFO, os.sched_param(1))
+        rounds = [{number: measure(program, f"{work}/reader", number, asked) for number in numbers} for _ in range(asked.rounds)]
+    for number in numbers:
+        show(number, [told[number] for told in rounds], [told[numbers[0]] for told in rounds], asked)
 
 
 main()

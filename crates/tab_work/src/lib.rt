@@ -14,7 +14,7 @@
 //! | `clock` | moments of the machine's clock |
 //! | `ends` | end rows of tablets, as a reply tells them |
 //! | `asker`, `claims`, `compactor` | a seat that asks by itself, what compactors are at work on, and what they do |
-//! | `requests` | requests to the compactors |
+//! | `requests`, `inbox` | requests to the compactors, and where they come in |
 //! | `accepting`, `crew`, `workers`, `server` | the server: who accepts, who is at work, its threads, and how it begins and ends |
 //!
 //! In `specs`, `Receiving` says what a seat receives, `Shares` what one request does, `SharedAnswers` the same of the service over a seat, and
@@ -32,6 +32,7 @@ mod crew;
 mod dues;
 mod ends;
 mod gate;
+mod inbox;
 mod requests;
 mod server;
 mod serving;

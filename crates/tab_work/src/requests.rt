@@ -4,7 +4,8 @@ use crate::Gate;
 use crossbeam_channel::{Receiver, Sender};
 use std::sync::Wait;
 
-/// The gate of a server's workers: behind each Write that was done it asks the compactors to look for what is due. It holds nothing up.
+/// The gate of a server's workers: behind each Write that was done it asks the compactors to look for what is due, unless they are asked
+/// already by a request that still waits. It holds nothing up.
 #[derive(Drop)]
 pub struct Requests<'a, R> {
     rt: &'a R,
@@ -24,8 +25,11 @@ impl<R: Wait> Gate for Requests<'_, R> {
     fn before_batch(&self) {}
 
     fn after_write(&self) {
-        // Where memory lacks for a request it's passed over: the next write sends another one.
-        let _ = self.to.send(self.rt, ());
+        // A request that waits is taken before the next look, which sees this write too. Where memory lacks for one it's passed over: the
+        // next write sends another one.
+        if self.to.is_empty() {
+            let _ = self.to.send(self.rt, ());
+        }
     }
 }
 

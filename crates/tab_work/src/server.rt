@@ -45,8 +45,9 @@ impl From<AllocError> for ServerFault {
 
 /// Serves the connections of the listener over the core, each by one of the workers, and ends once as many as `accept` says have ended.
 ///
-/// Behind a write the compactors look for what is due, and compact or split it as root; connections are answered meanwhile, and what they
-/// are told isn't otherwise. Once no worker is left they end too.
+/// Behind a write one of the compactors looks for what is due, and compacts or splits it as root; for writes that follow one another it
+/// looks once in a millisecond at most, and once more behind the last of them. Connections are answered meanwhile, and what they are told
+/// isn't otherwise. Once no worker is left the compactors end too.
 ///
 /// A fault of a connection ends that one alone. A worker serves one connection at a time: further ones wait until a worker is free.
 /// Moments are milliseconds since the beginning of 1970 by the machine's clock, 0 where it gives none.

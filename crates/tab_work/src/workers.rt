@@ -3,8 +3,9 @@
 use crate::accepting::accept_all;
 use crate::claims::Claims;
 use crate::clock::WallClock;
-use crate::crew::{Member, Role};
-use crate::requests::{Requests, wait_for_requests};
+use crate::crew::{Crew, Member, Role};
+use crate::inbox::Inbox;
+use crate::requests::Requests;
 use crate::{Compactor, OpenGate, Options, ServerFault, Shared, serve_shared};
 use crossbeam_channel::Receiver;
 use std::alloc::{AllocError, Global};
@@ -23,18 +24,19 @@ pub(crate) fn serve_all<L: Origin + Send + Sync, R: Threads + Wait + Clock + Syn
     rt: &R,
     alloc: Global,
     shared: &Shared<L>,
-    crew: Vec<Member<'_, L, R>>,
+    crew: Crew<'_, L, R>,
     listener: &TcpListener,
     options: Options,
 ) -> Result<Vec<Seat<L>>, ServerFault> {
     let (to, from) = crossbeam_channel::bounded(alloc, options.workers as usize)?;
     let claims = Claims::new(alloc);
-    let (from, claims) = (&from, &claims);
+    let Crew { members, inbox } = crew;
+    let (from, inbox, claims) = (&from, &inbox, &claims);
     thread::scope(thread::scope_env(), rt, |scope| {
         let mut threads = Vec::new(alloc);
-        for member in crew {
+        for member in members {
             threads.reserve(1)?;
-            match scope.spawn(move || work(rt, alloc, shared, member, from, claims)) {
+            match scope.spawn(move || work(rt, alloc, shared, member, from, inbox, claims)) {
                 Ok(thread) => threads.push_reserved(thread),
                 Err(_) => return Err(ServerFault::NoThread),
             }
@@ -65,12 +67,13 @@ fn work<L: Origin, R: Wait + Clock>(
     shared: &Shared<L>,
     member: Member<'_, L, R>,
     from: &Receiver<TcpStream>,
+    inbox: &Inbox,
     claims: &Claims,
 ) -> Seat<L> {
     let Member { role, seat } = member;
     match role {
         Role::Worker(requests) => serve(rt, alloc, shared, seat, from, requests),
-        Role::Compactor(requests) => compact(rt, alloc, shared, seat, requests, claims),
+        Role::Compactor => compact(rt, alloc, shared, seat, inbox, claims),
     }
 }
 
@@ -129,13 +132,13 @@ fn compact<L: Origin, R: Wait + Clock>(
     alloc: Global,
     shared: &Shared<L>,
     seat: Seat<L>,
-    requests: Receiver<()>,
+    inbox: &Inbox,
     claims: &Claims,
 ) -> Seat<L> {
     let moments = WallClock::new(rt);
     let mut compactor = Compactor::new(rt, alloc, shared, seat, root(), moments, claims, &OpenGate);
     for _ in rt.forever() {
-        if !wait_for_requests(rt, &requests) {
+        if !inbox.wait(rt) {
             break;
         }
         compactor.compact();

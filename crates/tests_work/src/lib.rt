@@ -7,6 +7,7 @@
 //! | `settling` | threads that use one book by seats of their own, and its end |
 //! | `own_writes` | a connection that writes and then reads, and the numbers of its receipts |
 //! | `gates` | which events a gate is told of |
+//! | `requests` | requests to the compactors, of which one at a time waits |
 //! | `overlapping` | a batch that is held up until another connection's write was answered |
 //! | `merging` | the same of a merge, until a write and a scan were answered |
 //! | `under_load` | writers beside compactors, all that was written afterwards, and the receipts of all |
@@ -23,6 +24,8 @@ mod merging;
 mod overlapping;
 #[cfg(test)]
 mod own_writes;
+#[cfg(test)]
+mod requests;
 #[cfg(test)]
 mod serving;
 #[cfg(test)]
