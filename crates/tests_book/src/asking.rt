@@ -1,10 +1,8 @@
-//! Events of root in short, over one table `t`, done by a seat.
-ghost use Rattle.std.specs.Prelude.{◌≤◌};
-ghost use Rattle.tab_book.specs.Entries.{next_of};
+//! Events of root in short, over one table `t`.
 
 use std::alloc::{AllocError, Global};
 use std::process::Abort;
-use tab_book::{Book, Installation, Origin, Receipt, Seat};
+use tab_book::Installation;
 use tab_cells::Compaction;
 use tab_core::FinishedJob;
 use tab_history::{Act, Event, Given, Scan, TimeMode, Versions};
@@ -82,35 +80,5 @@ pub fn installs(rt: &impl Abort, finished: FinishedJob) -> Installation {
         moment: 0,
         table: named(rt, b"t"),
         finished,
-    }
-}
-
-/// The merge is installed, by the seat.
-pub fn installed<L: Origin, R: Abort>(
-    rt: &R,
-    alloc: Global,
-    book: &mut Book<L>,
-    seat: &mut Seat<L>,
-    finished: FinishedJob,
-) -> Receipt<L> {
-    assert!(rt; book.ready(seat));
-    match book.install(alloc, seat, installs(rt, finished)) {
-        Ok(receipt) => receipt,
-        Err(_) => panic!(rt; "memory"),
-    }
-}
-
-/// The event is done by the seat.
-pub fn done<L: Origin, R: Abort>(
-    rt: &R,
-    alloc: Global,
-    book: &mut Book<L>,
-    seat: &mut Seat<L>,
-    event: Event,
-) -> Receipt<L> {
-    assert!(rt; book.ready(seat));
-    match book.apply(alloc, seat, event) {
-        Ok(receipt) => receipt,
-        Err(_) => panic!(rt; "memory"),
     }
 }

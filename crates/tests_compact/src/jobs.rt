@@ -10,7 +10,8 @@ use tab_testing::{Holding, Random, Update, table_len};
 
 // The table has the records of these updates, in their order, and their size.
 fn expect_table(rt: &impl Abort, table: &Table, want: &[Update]) {
-    assert_eq!(rt; (table.len(), table.size()), (want.len(), table_len(want)));
+    assert!(rt; table.len() == want.len());
+    assert!(rt; table.size() == table_len(want));
     for index in 0..table.len() {
         let entry = table.get(index);
         if let Some(update) = want.get(index) {
@@ -44,7 +45,7 @@ fn compare(
     let want = holding
         .output(alloc, kind, floor, versions)
         .expect(rt, "memory");
-    assert_eq!(rt; job.is_some(), want.is_some());
+    assert!(rt; job.is_some() == want.is_some());
     let Some(job) = job else {
         return 0;
     };
@@ -105,8 +106,10 @@ fn jobs_are_told_apart(rt: HostRuntime) {
     let mut holding = Holding::new(alloc);
     let numbered = random_sources(&rt, alloc, &mut random, 6, &mut holding);
     let job = full_merge(&rt, alloc, &numbered, 4, 2);
-    assert_eq!(rt; (job.tablet(), job.number()), (TABLET, JOB));
-    assert_eq!(rt; (job.floor(), job.versions()), (4, 2));
+    assert!(rt; job.tablet() == TABLET);
+    assert!(rt; job.number() == JOB);
+    assert!(rt; job.floor() == 4);
+    assert!(rt; job.versions() == 2);
     assert!(rt; job.kind().is_full());
     let share = job.share(alloc).expect(&rt, "memory");
     assert!(rt; job.is_like(&share));

@@ -102,8 +102,9 @@ fn expect_all<S: Source>(rt: &impl Abort, source: &mut S, count: u64) {
 
 // The table has so many records, of 56 bytes each, and a cursor goes to them.
 fn expect_table(rt: &impl Abort, table: &Table, count: u64) {
-    assert_eq!(rt; (table.len() as u64, table.is_empty()), (count, count == 0));
-    assert_eq!(rt; table.size(), count.saturating_mul(56));
+    assert!(rt; table.len() as u64 == count);
+    assert!(rt; table.is_empty() == (count == 0));
+    assert!(rt; table.size() == count.saturating_mul(56));
     let mut cursor = Cursor::new(table);
     expect_all(rt, &mut cursor, count);
     expect_seeks(rt, &mut cursor, count)

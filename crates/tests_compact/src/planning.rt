@@ -56,7 +56,7 @@ fn plans(rt: HostRuntime) {
         (&[u64::MAX, u64::MAX, u64::MAX], Some(3)),
     ];
     for (sizes, want) in cases {
-        assert_eq!(rt; plan_of(&rt, sizes), want);
+        assert!(rt; plan_of(&rt, sizes) == want);
     }
 }
 
@@ -79,7 +79,7 @@ fn a_plan_is_the_greatest_number(rt: HostRuntime) {
     for _ in 0..2000 {
         let sizes = random_sizes(alloc, &mut random).expect(&rt, "memory");
         let plan = plan_of(&rt, &sizes);
-        assert_eq!(rt; plan, tried(&sizes));
+        assert!(rt; plan == tried(&sizes));
         if plan.is_some() {
             found = found.saturating_add(1);
         }

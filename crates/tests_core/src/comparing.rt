@@ -1,225 +1,289 @@
 //! Pairs of runs that look alike to bob, who holds A and never B, and what he is told in them.
 
-use crate::steps::{
-    auths, close, deletes, event, makes_table, many, named, next, opens, push, puts, text_of,
-};
+use crate::steps::{expect_text, named, steps_of, text_of};
 use std::alloc::Global;
 use std::process::Abort;
-use tab_core::compare_runs;
-use tab_history::{Act, Step};
-use tab_policy::{Permission, TablePermission};
+use tab_core::{Compared, compare_runs};
+use tab_history::Step;
 use tab_testing::Random;
 
-// A user with permission to read t and to write to it.
-fn make_user(rt: &impl Abort, alloc: Global, steps: &mut Vec<Step>, user: &[u8], letters: &[u8]) {
-    let user = named(rt, user);
-    let read = Permission::OfTable(TablePermission::Read, named(rt, b"t"));
-    let write = Permission::OfTable(TablePermission::Write, named(rt, b"t"));
-    let held = auths(rt, alloc, letters);
-    push(rt, steps, event(rt, b"root", 0, Act::CreateUser(user)));
-    push(rt, steps, event(rt, b"root", 0, Act::SetAuths(user, held)));
-    push(rt, steps, event(rt, b"root", 0, Act::Grant(user, read)));
-    push(rt, steps, event(rt, b"root", 0, Act::Grant(user, write)));
-}
-
 // The table t of two versions; bob with A, eve and root with A and B.
-fn make_all(rt: &impl Abort, alloc: Global, steps: &mut Vec<Step>) {
-    push(rt, steps, makes_table(rt, 2));
-    let held = auths(rt, alloc, b"AB");
-    push(
-        rt,
-        steps,
-        event(rt, b"root", 0, Act::SetAuths(named(rt, b"root"), held)),
-    );
-    make_user(rt, alloc, steps, b"bob", b"A");
-    make_user(rt, alloc, steps, b"eve", b"AB")
-}
+const ALL: &[u8] = b"createtable t versions=2\nsetauths root A,B\n\
+createuser bob\nsetauths bob A\ngrant bob READ t\ngrant bob WRITE t\n\
+createuser eve\nsetauths eve A,B\ngrant eve READ t\ngrant eve WRITE t\n";
 
-fn add_copies(rt: &impl Abort, steps: &mut Vec<Step>, more: &[Step]) {
-    for step in more {
-        steps
-            .push(step.clone().expect(rt, "memory"))
-            .expect(rt, "memory");
-    }
-}
+// What bob sees of what others write.
+const SEEN: &[u8] = b"insert t r f q A x 5\nas eve\ninsert t r f q \\e v\n";
 
 // What others write under B, before bob's first scan.
-fn add_unseen(rt: &impl Abort, alloc: Global, steps: &mut Vec<Step>) {
-    push(rt, steps, puts(rt, alloc, b"root", 0, b"B", Some(6), b'y'));
-    push(rt, steps, puts(rt, alloc, b"eve", 0, b"B", Some(7), b'z'));
-    push(rt, steps, puts(rt, alloc, b"eve", 0, b"A&B", None, b'w'));
+const UNSEEN: &[u8] =
+    b"as root\ninsert t r f q B y 6\nas eve\ninsert t r f q B z 7\ninsert t r f q A&B w\n";
+
+// Two batches of one of bob's scans, and one of another.
+const FIRST_BATCH: &[u8] = b"as bob\nat 1\nopen t A\nnext 0 1\n";
+
+const UNSEEN_MEANWHILE: &[u8] = b"as eve\nat 0\ndelete t r f q B 7\n";
+
+const OTHER_BATCHES: &[u8] =
+    b"as bob\nat 1\nnext 0 9\nmany 0 [\\e \\0 [s \\0\nopen t A,B\nopen t A\nnext 1 9\nnext 2 9";
+
+// Two runs.
+#[derive(Drop)]
+struct Pair {
+    first: Vec<Step>,
+    second: Vec<Step>,
 }
 
-// Two batches of one of bob's scans, and one of another, with something unseen beside them or not.
-fn scanned(rt: &impl Abort, alloc: Global, has_more: bool) -> Vec<Step> {
-    let mut steps = Vec::new(alloc);
-    make_all(rt, alloc, &mut steps);
-    push(
-        rt,
-        &mut steps,
-        puts(rt, alloc, b"root", 0, b"A", Some(5), b'x'),
-    );
-    push(rt, &mut steps, puts(rt, alloc, b"eve", 0, b"", None, b'v'));
-    if has_more {
-        add_unseen(rt, alloc, &mut steps);
+fn add(rt: &impl Abort, lines: &mut Vec<u8>, text: &[u8]) {
+    lines.extend_from_slice(text).expect(rt, "memory");
+}
+
+// The steps of these texts, one behind the other.
+fn steps_in(rt: &impl Abort, alloc: Global, texts: &[&[u8]]) -> Vec<Step> {
+    let mut lines = Vec::new(alloc);
+    for text in texts {
+        add(rt, &mut lines, text);
     }
-    push(rt, &mut steps, opens(rt, alloc, b"bob", 1, b"A"));
-    push(rt, &mut steps, next(rt, b"bob", 0, 1));
-    if has_more {
-        push(rt, &mut steps, deletes(rt, alloc, b"eve", 0, b"B", Some(7)));
-    }
-    push(rt, &mut steps, next(rt, b"bob", 0, 9));
-    push(rt, &mut steps, many(rt, alloc, b"bob", 0, &[b"", b"s"]));
-    push(rt, &mut steps, opens(rt, alloc, b"bob", 1, b"AB"));
-    push(rt, &mut steps, opens(rt, alloc, b"bob", 1, b"A"));
-    push(rt, &mut steps, next(rt, b"bob", 1, 9));
-    push(rt, &mut steps, next(rt, b"bob", 2, 9));
-    steps
+    steps_of(rt, alloc, &lines)
+}
+
+// Scans of bob's, with something unseen beside them or not.
+fn scanned(rt: &impl Abort, alloc: Global) -> Pair {
+    let alone = [ALL, SEEN, FIRST_BATCH, OTHER_BATCHES];
+    let beside = [
+        ALL,
+        SEEN,
+        UNSEEN,
+        FIRST_BATCH,
+        UNSEEN_MEANWHILE,
+        OTHER_BATCHES,
+    ];
+    let first = steps_in(rt, alloc, &alone);
+    let second = steps_in(rt, alloc, &beside);
+    Pair { first, second }
 }
 
 // What the user is told in both runs.
-fn told_in(
-    rt: &impl Abort,
-    alloc: Global,
-    first: &[Step],
-    second: &[Step],
-    user: &[u8],
-) -> (Vec<u8>, Vec<u8>) {
-    let user = named(rt, user);
-    let told = compare_runs(alloc, first, second, &user).expect(rt, "memory");
-    let text = text_of(rt, alloc, &told.first);
-    (text, text_of(rt, alloc, &told.second))
+fn told_in(rt: &impl Abort, alloc: Global, pair: &Pair, user: &[u8]) -> Compared {
+    let told = compare_runs(alloc, &pair.first, &pair.second, &named(rt, user));
+    told.expect(rt, "memory")
 }
 
-// Whether he is told just that.
-fn is_told(
+// The user is told that in the first run, and this in the second.
+fn expect_told(
     rt: &impl Abort,
     alloc: Global,
-    first: &[Step],
-    second: &[Step],
+    pair: &Pair,
     user: &[u8],
-    want: (&[u8], &[u8]),
-) -> bool {
-    let told = told_in(rt, alloc, first, second, user);
-    told.0.as_slice() == want.0 && told.1.as_slice() == want.1
+    first: &[u8],
+    second: &[u8],
+) {
+    let told = told_in(rt, alloc, pair, user);
+    expect_text(rt, alloc, &told.first, first);
+    expect_text(rt, alloc, &told.second, second)
 }
+
+const TOLD: &[u8] = b"opened @0=v, A@5=x, @0=v,A@5=x,|| unheld opened @0=v,A@5=x, unopened ";
 
 #[test]
 fn tells_bob_the_same(rt: HostRuntime) {
     let alloc = rt.alloc();
-    let first = scanned(&rt, alloc, false);
-    let second = scanned(&rt, alloc, true);
-    let told = b"opened @0=v, A@5=x, @0=v,A@5=x,|| unheld opened @0=v,A@5=x, unopened ".as_slice();
-    assert!(rt; is_told(&rt, alloc, &first, &second, b"bob", (told, told)));
-    assert!(rt;
-        is_told(
-            &rt,
-            alloc,
-            &first,
-            &second,
-            b"eve",
-            (b"ok ", b"ok ok ok ok ")
-        )
-    );
-    assert!(rt; is_told(&rt, alloc, &first, &second, b"dan", (b"", b"")));
+    let pair = scanned(&rt, alloc);
+    expect_told(&rt, alloc, &pair, b"bob", TOLD, TOLD);
+    expect_told(&rt, alloc, &pair, b"eve", b"ok ", b"ok ok ok ok ");
+    expect_told(&rt, alloc, &pair, b"dan", b"", b"")
+}
+
+// What is drawn for a line.
+#[derive(Clone, Copy)]
+struct Drawn {
+    value: u8,
+    // a number, or nothing
+    timestamp: &'static [u8],
+    slot: [u8; 1],
+    count: [u8; 1],
+    // A, or none, as authorizations and as a label
+    auths: &'static [u8],
+    label: &'static [u8],
 }
 
 // One that is given, or none.
-fn random_timestamp(random: &mut Random) -> Option<i64> {
+fn random_timestamp(random: &mut Random) -> &'static [u8] {
     match random.below(5) {
-        0 => None,
-        given => Some(given as i64),
+        0 => b"",
+        1 => b"1",
+        2 => b"2",
+        3 => b"3",
+        _ => b"4",
     }
 }
 
-// A step of bob, or one of root that writes what he sees.
-fn random_step(rt: &impl Abort, alloc: Global, random: &mut Random, moment: i64) -> Step {
+fn random_words(random: &mut Random) -> Drawn {
     let value = b'a' + random.below(20) as u8;
     let timestamp = random_timestamp(random);
-    let slot = random.below(4) as u32;
-    let count = 1 + random.below(3) as u32;
-    let label: &[u8] = if random.below(2) == 0 { b"" } else { b"A" };
-    match random.below(13) {
-        12 => many(rt, alloc, b"bob", slot, &[b"a", b"r", b"s"]),
-        0..=1 => opens(rt, alloc, b"bob", moment, label),
-        2 => opens(rt, alloc, b"bob", moment, b"AB"),
-        3..=5 => next(rt, b"bob", slot, count),
-        6 => close(rt, b"bob", slot),
-        7 => event(rt, b"bob", moment, Act::Rights(named(rt, b"t"))),
-        8 => puts(rt, alloc, b"bob", moment, label, timestamp, value),
-        9 => deletes(rt, alloc, b"root", moment, label, timestamp),
-        _ => puts(rt, alloc, b"root", moment, label, timestamp, value),
+    let slot = [b'0' + random.below(4) as u8];
+    let count = [b'1' + random.below(3) as u8];
+    let is_plain = random.below(2) == 0;
+    Drawn {
+        value,
+        timestamp,
+        slot,
+        count,
+        auths: if is_plain { b"\\0" } else { b"A" },
+        label: if is_plain { b"\\e" } else { b"A" },
     }
 }
 
-// A step of eve of which bob sees nothing.
-fn random_unseen(rt: &impl Abort, alloc: Global, random: &mut Random) -> Step {
-    let value = b'A' + random.below(20) as u8;
-    let timestamp = random_timestamp(random);
-    let label: &[u8] = if random.below(2) == 0 { b"B" } else { b"A&B" };
-    match random.below(8) {
-        0 => opens(rt, alloc, b"eve", 0, b"AB"),
-        1 => next(rt, b"eve", random.below(4) as u32, 5),
-        2 => event(rt, b"eve", 0, Act::CreateUser(named(rt, b"dan"))),
-        3 => deletes(rt, alloc, b"eve", 0, label, timestamp),
-        _ => puts(rt, alloc, b"eve", 0, label, timestamp, value),
+fn add_insert(rt: &impl Abort, lines: &mut Vec<u8>, drawn: &Drawn) {
+    add(rt, lines, b"insert t r f q ");
+    add(rt, lines, drawn.label);
+    add(rt, lines, b" ");
+    add(rt, lines, &[drawn.value]);
+    add(rt, lines, b" ");
+    add(rt, lines, drawn.timestamp)
+}
+
+fn add_delete(rt: &impl Abort, lines: &mut Vec<u8>, drawn: &Drawn) {
+    add(rt, lines, b"delete t r f q ");
+    add(rt, lines, drawn.label);
+    add(rt, lines, b" ");
+    add(rt, lines, drawn.timestamp)
+}
+
+fn add_next(rt: &impl Abort, lines: &mut Vec<u8>, drawn: &Drawn) {
+    add(rt, lines, b"next ");
+    add(rt, lines, &drawn.slot);
+    add(rt, lines, b" ");
+    add(rt, lines, &drawn.count)
+}
+
+fn add_words(rt: &impl Abort, lines: &mut Vec<u8>, words: &[&[u8]]) {
+    for word in words {
+        add(rt, lines, word);
     }
+}
+
+// Who asks what the line of this number asks: bob, or root, who writes what bob sees.
+fn asker(kind: u64) -> &'static [u8] {
+    if kind > 8 && kind < 12 {
+        b"as root\n"
+    } else {
+        b"as bob\n"
+    }
+}
+
+fn add_line(rt: &impl Abort, lines: &mut Vec<u8>, kind: u64, drawn: &Drawn) {
+    match kind {
+        0..=1 => add_words(rt, lines, &[b"open t ", drawn.auths, b""]),
+        2 => add(rt, lines, b"open t A,B"),
+        3..=5 => add_next(rt, lines, drawn),
+        6 => add_words(rt, lines, &[b"close ", &drawn.slot, b""]),
+        7 => add(rt, lines, b"rights t"),
+        9 => add_delete(rt, lines, drawn),
+        12 => add_words(
+            rt,
+            lines,
+            &[b"many ", &drawn.slot, b" [a \\0 [r \\0 [s \\0"],
+        ),
+        _ => add_insert(rt, lines, drawn),
+    }
+}
+
+// At the moment, a line of bob, or one of root that writes what he sees.
+fn random_line(rt: &impl Abort, alloc: Global, random: &mut Random, moment: u8) -> Vec<u8> {
+    let drawn = random_words(random);
+    let kind = random.below(13);
+    let mut line = Vec::new(alloc);
+    add(rt, &mut line, asker(kind));
+    add(rt, &mut line, b"at ");
+    add(
+        rt,
+        &mut line,
+        &[b'0' + moment / 10 % 10, b'0' + moment % 10],
+    );
+    add(rt, &mut line, b"\n");
+    add_line(rt, &mut line, kind, &drawn);
+    add(rt, &mut line, b"\n");
+    line
+}
+
+// What eve does under B, of which bob sees nothing.
+fn add_hidden(rt: &impl Abort, lines: &mut Vec<u8>, kind: u64, drawn: &Drawn) {
+    match kind {
+        0 => add(rt, lines, b"open t A,B"),
+        1 => add_words(rt, lines, &[b"next ", &drawn.slot, b" 5"]),
+        2 => add(rt, lines, b"createuser dan"),
+        3 => add_delete(rt, lines, drawn),
+        _ => add_insert(rt, lines, drawn),
+    }
+}
+
+// A line of eve of which bob sees nothing.
+fn add_unseen(rt: &impl Abort, lines: &mut Vec<u8>, random: &mut Random) {
+    let plain = random_words(random);
+    let label: &[u8] = if plain.label == b"A".as_slice() {
+        b"A&B"
+    } else {
+        b"B"
+    };
+    let value = plain.value.to_ascii_uppercase();
+    let drawn = Drawn {
+        value,
+        label,
+        ..plain
+    };
+    let kind = random.below(8);
+    add(rt, lines, b"as eve\nat 0\n");
+    add_hidden(rt, lines, kind, &drawn);
+    add(rt, lines, b"\n")
 }
 
 // Root scans all.
-fn add_last_scan(rt: &impl Abort, alloc: Global, steps: &mut Vec<Step>) {
-    push(rt, steps, opens(rt, alloc, b"root", 30, b"AB"));
-    push(rt, steps, next(rt, b"root", 0, 100));
-}
+const LAST_SCAN: &[u8] = b"as root\nat 30\nopen t A,B\nnext 0 100";
 
 // Some steps, and the same with steps of eve among them. At the end root scans all.
-fn random_pair(rt: &impl Abort, alloc: Global, random: &mut Random) -> (Vec<Step>, Vec<Step>) {
+fn random_pair(rt: &impl Abort, alloc: Global, random: &mut Random) -> Pair {
     let mut first = Vec::new(alloc);
-    make_all(rt, alloc, &mut first);
     let mut second = Vec::new(alloc);
-    add_copies(rt, &mut second, &first);
-    for moment in 1..30i64 {
-        let step = random_step(rt, alloc, random, moment);
-        second
-            .push(step.clone().expect(rt, "memory"))
-            .expect(rt, "memory");
-        first.push(step).expect(rt, "memory");
+    for moment in 1..30u8 {
+        let line = random_line(rt, alloc, random, moment);
+        add(rt, &mut first, &line);
+        add(rt, &mut second, &line);
         if random.below(2) == 0 {
-            push(rt, &mut second, random_unseen(rt, alloc, random));
+            add_unseen(rt, &mut second, random);
         }
     }
-    add_last_scan(rt, alloc, &mut first);
-    add_last_scan(rt, alloc, &mut second);
-    (first, second)
+    let first = steps_in(rt, alloc, &[ALL, first.as_slice(), LAST_SCAN]);
+    let second = steps_in(rt, alloc, &[ALL, second.as_slice(), LAST_SCAN]);
+    Pair { first, second }
 }
 
 // Whether the user is told the same in both runs, and how much text that is in the first.
-fn is_alike(
-    rt: &impl Abort,
-    alloc: Global,
-    first: &[Step],
-    second: &[Step],
-    user: &[u8],
-) -> (bool, usize) {
-    let (text, other) = told_in(rt, alloc, first, second, user);
+fn is_alike(rt: &impl Abort, alloc: Global, pair: &Pair, user: &[u8]) -> (bool, usize) {
+    let told = told_in(rt, alloc, pair, user);
+    let text = text_of(rt, alloc, &told.first);
+    let other = text_of(rt, alloc, &told.second);
     (text == other, text.len())
+}
+
+// Bob is told the same in the pair, of this much text; whether root isn't.
+fn compare(rt: &impl Abort, alloc: Global, random: &mut Random) -> (usize, bool) {
+    let pair = random_pair(rt, alloc, random);
+    let (is_same, told) = is_alike(rt, alloc, &pair, b"bob");
+    assert!(rt; is_same);
+    let (is_same, _) = is_alike(rt, alloc, &pair, b"root");
+    (told, !is_same)
 }
 
 #[test]
 fn tells_bob_the_same_in_random_pairs(rt: HostRuntime) {
-    let alloc = rt.alloc();
     let mut random = Random::new(11);
     let mut len = 0usize;
     let mut differing = 0u32;
     for _ in 0..300 {
-        let (first, second) = random_pair(&rt, alloc, &mut random);
-        let (is_same, told) = is_alike(&rt, alloc, &first, &second, b"bob");
-        assert!(rt; is_same);
+        let (told, differs) = compare(&rt, rt.alloc(), &mut random);
         len = len.saturating_add(told);
-        let (is_same, _) = is_alike(&rt, alloc, &first, &second, b"root");
-        if !is_same {
-            differing = differing.saturating_add(1);
-        }
+        differing = differing.saturating_add(u32::from(differs));
     }
     assert!(rt; len > 30_000, "{len} bytes were told");
     assert!(rt; differing > 200, "{differing} pairs differ for root");

@@ -1,187 +1,83 @@
 //! Compactions in three parts: in runs, which keep their jobs, and in cores, to which merges are handed.
 
-use crate::steps::{
-    begins, event, installs, makes_table, merges, named, opens, push, puts, text_of,
-};
+use crate::steps::{expect_reply, expect_text, expect_told, named, push, run_of, steps_of};
 use std::alloc::Global;
 use std::process::Abort;
 use tab_cells::Compaction;
-use tab_core::{Core, DueKind, FinishedJob, told};
+use tab_core::{Answer, Core, Due, DueKind, FinishedJob, TabletJob, told};
 use tab_history::{Act, Event, Given, Reply, Step, TimeMode, Versions};
-use tab_key::ByteString;
+use tab_key::{ByteString, Name};
 use tab_mutation::Mutation;
 
-// A table with one put.
-fn begun(rt: &impl Abort, alloc: Global) -> Vec<Step> {
-    let mut steps = Vec::new(alloc);
-    push(rt, &mut steps, makes_table(rt, 1));
-    push(
-        rt,
-        &mut steps,
-        puts(rt, alloc, b"root", 0, b"", Some(1), b'v'),
-    );
-    steps
-}
-
-// What a run of the steps is told.
-fn told_of(rt: &impl Abort, alloc: Global, steps: Vec<Step>) -> Vec<u8> {
-    let replies = tab_core::run(alloc, steps).expect(rt, "memory");
-    text_of(rt, alloc, &replies)
-}
-
-fn status(rt: &impl Abort) -> Step {
-    event(rt, b"root", 0, Act::Status(named(rt, b"t")))
-}
+const WRITTEN_MEANWHILE: &[u8] = b"createtable t\ninsert t r f q \\e v 1\nbegin t \\e full\n\
+insert t r f q \\e w 2\ninsert t r f q \\e o 0\nmerge 0\ninstall t 0\nstatus t\nopen t \\0\nnext 0 5";
 
 #[test]
 fn a_merge_is_installed_beside_later_writes(rt: HostRuntime) {
-    let alloc = rt.alloc();
-    let mut steps = begun(&rt, alloc);
-    push(
-        &rt,
-        &mut steps,
-        begins(&rt, alloc, b"root", Compaction::Full),
-    );
-    for (timestamp, value) in [(2, b'w'), (0, b'o')] {
-        push(
-            &rt,
-            &mut steps,
-            puts(&rt, alloc, b"root", 0, b"", Some(timestamp), value),
-        );
-    }
-    push(&rt, &mut steps, merges(0));
-    push(&rt, &mut steps, installs(&rt, b"root", 0, 0));
-    push(&rt, &mut steps, status(&rt));
-    push(&rt, &mut steps, opens(&rt, alloc, b"root", 0, b""));
-    push(&rt, &mut steps, crate::steps::next(&rt, b"root", 0, 5));
-    assert_eq!(rt;
-        told_of(&rt, alloc, steps).as_slice(),
-        b"ok ok begun ok ok ok ok 1/1/3 opened @2=w, ".as_slice()
-    );
+    let told = b"ok ok begun ok ok ok ok 1/1/3 opened @2=w, ";
+    expect_told(&rt, rt.alloc(), WRITTEN_MEANWHILE, told)
 }
+
+const IN_ORDER: &[u8] =
+    b"createtable t\ninsert t r f q \\e v 1\nmerge 0\nbegin t \\e minor\ninstall t 0\n\
+merge 0\nmerge 0\ninstall t 1\ninstall t 0\ninstall t 0\nmerge 0";
 
 #[test]
 fn a_slot_takes_its_steps_in_order(rt: HostRuntime) {
-    let alloc = rt.alloc();
-    let mut steps = begun(&rt, alloc);
-    push(&rt, &mut steps, merges(0));
-    push(
-        &rt,
-        &mut steps,
-        begins(&rt, alloc, b"root", Compaction::Minor),
-    );
-    push(&rt, &mut steps, installs(&rt, b"root", 0, 0));
-    for _ in 0..2 {
-        push(&rt, &mut steps, merges(0));
-    }
-    push(&rt, &mut steps, installs(&rt, b"root", 0, 1));
-    for _ in 0..2 {
-        push(&rt, &mut steps, installs(&rt, b"root", 0, 0));
-    }
-    push(&rt, &mut steps, merges(0));
-    assert_eq!(rt;
-        told_of(&rt, alloc, steps).as_slice(),
-        b"ok ok nojob begun nojob ok nojob nojob ok nojob nojob ".as_slice()
-    );
+    let told = b"ok ok nojob begun nojob ok nojob nojob ok nojob nojob ";
+    expect_told(&rt, rt.alloc(), IN_ORDER, told)
 }
+
+const NOTHING_FIRST: &[u8] =
+    b"createtable t\nbegin t \\e minor\nbegin t \\e partial\nbegin t \\e full\n\
+insert t r f q \\e v 1\nbegin t \\e full\nmerge 0\ninstall t 0";
 
 #[test]
 fn where_there_is_nothing_to_merge_no_job_is_numbered(rt: HostRuntime) {
-    let alloc = rt.alloc();
-    let mut steps = Vec::new(alloc);
-    push(&rt, &mut steps, makes_table(&rt, 1));
-    for kind in [Compaction::Minor, Compaction::Partial, Compaction::Full] {
-        push(&rt, &mut steps, begins(&rt, alloc, b"root", kind));
-    }
-    push(
-        &rt,
-        &mut steps,
-        puts(&rt, alloc, b"root", 0, b"", Some(1), b'v'),
-    );
-    push(
-        &rt,
-        &mut steps,
-        begins(&rt, alloc, b"root", Compaction::Full),
-    );
-    push(&rt, &mut steps, merges(0));
-    push(&rt, &mut steps, installs(&rt, b"root", 0, 0));
-    assert_eq!(rt;
-        told_of(&rt, alloc, steps).as_slice(),
-        b"ok nothing nothing nothing ok begun ok ok ".as_slice()
-    );
+    let told = b"ok nothing nothing nothing ok begun ok ok ";
+    expect_told(&rt, rt.alloc(), NOTHING_FIRST, told)
 }
+
+const TWO_JOBS: &[u8] =
+    b"createtable t\ninsert t r f q \\e v 1\nbegin t \\e minor\nbegin t \\e full\n\
+merge 0\nmerge 1\ninstall t 0\ninstall t 1\ninstall t 0\ninstall t 1";
 
 // The second one merges what the first does, so that the first one's install leaves it without inputs.
 #[test]
 fn of_two_jobs_with_the_same_inputs_one_is_installed(rt: HostRuntime) {
-    let alloc = rt.alloc();
-    let mut steps = begun(&rt, alloc);
-    for kind in [Compaction::Minor, Compaction::Full] {
-        push(&rt, &mut steps, begins(&rt, alloc, b"root", kind));
-    }
-    for slot in [0, 1] {
-        push(&rt, &mut steps, merges(slot));
-    }
-    for slot in [0, 1, 0, 1] {
-        push(&rt, &mut steps, installs(&rt, b"root", 0, slot));
-    }
-    assert_eq!(rt;
-        told_of(&rt, alloc, steps).as_slice(),
-        b"ok ok begun begun ok ok ok stale1 nojob nojob ".as_slice()
-    );
+    let told = b"ok ok begun begun ok ok ok stale1 nojob nojob ";
+    expect_told(&rt, rt.alloc(), TWO_JOBS, told)
 }
+
+const REFUSED: &[u8] =
+    b"createtable t\ninsert t r f q \\e v 1\nbegin t \\e full\nas eve\nat 8\ninstall t 0\n\
+as root\nat 2\ninsert t r f q \\e w\nmerge 0\nas eve\nat 9\ninstall t 0\nas root\nat 0\ninstall t 0\n\
+open t \\0\nnext 0 5\nat 2\ninsert t r f q \\e x\nat 0\nopen t \\0\nnext 1 5";
 
 // It uses its merge up, too, where its user isn't known; and where its slot is empty it doesn't move the clock.
 #[test]
 fn a_refused_install_uses_its_merge_up(rt: HostRuntime) {
-    let alloc = rt.alloc();
-    let mut steps = begun(&rt, alloc);
-    push(
-        &rt,
-        &mut steps,
-        begins(&rt, alloc, b"root", Compaction::Full),
-    );
-    push(&rt, &mut steps, installs(&rt, b"eve", 8, 0));
-    push(
-        &rt,
-        &mut steps,
-        puts(&rt, alloc, b"root", 2, b"", None, b'w'),
-    );
-    push(&rt, &mut steps, merges(0));
-    push(&rt, &mut steps, installs(&rt, b"eve", 9, 0));
-    push(&rt, &mut steps, installs(&rt, b"root", 0, 0));
-    push(&rt, &mut steps, opens(&rt, alloc, b"root", 0, b""));
-    push(&rt, &mut steps, crate::steps::next(&rt, b"root", 0, 5));
-    push(
-        &rt,
-        &mut steps,
-        puts(&rt, alloc, b"root", 2, b"", None, b'x'),
-    );
-    push(&rt, &mut steps, opens(&rt, alloc, b"root", 0, b""));
-    push(&rt, &mut steps, crate::steps::next(&rt, b"root", 1, 5));
-    assert_eq!(rt;
-        told_of(&rt, alloc, steps).as_slice(),
-        b"ok ok begun nojob ok ok unknown nojob opened @2=w, ok opened @9=x, ".as_slice()
-    );
+    let told = b"ok ok begun nojob ok ok unknown nojob opened @2=w, ok opened @9=x, ";
+    expect_told(&rt, rt.alloc(), REFUSED, told)
+}
+
+const MERGED: &[u8] = b"createtable t\ninsert t r f q \\e v 1\nbegin t \\e full\nmerge 0";
+
+// No line says it: an install by hand, and one behind it from the slot.
+fn add_installs(rt: &impl Abort, steps: &mut Vec<Step>) {
+    for given in [Given::ByHand(0), Given::InSlot(0)] {
+        let act = Act::Install(named(rt, b"t"), given);
+        let (user, moment) = (named(rt, b"root"), 0);
+        push(rt, steps, Step::Event(Event { user, moment, act }));
+    }
 }
 
 #[test]
 fn an_install_by_hand_in_a_run_comes_without_a_merge(rt: HostRuntime) {
-    let alloc = rt.alloc();
-    let mut steps = begun(&rt, alloc);
-    push(
-        &rt,
-        &mut steps,
-        begins(&rt, alloc, b"root", Compaction::Full),
-    );
-    push(&rt, &mut steps, merges(0));
-    let by_hand = Act::Install(named(&rt, b"t"), Given::ByHand(0));
-    push(&rt, &mut steps, event(&rt, b"root", 0, by_hand));
-    push(&rt, &mut steps, installs(&rt, b"root", 0, 0));
-    assert_eq!(rt;
-        told_of(&rt, alloc, steps).as_slice(),
-        b"ok ok begun ok stale0 ok ".as_slice()
-    );
+    let mut steps = steps_of(&rt, rt.alloc(), MERGED);
+    add_installs(&rt, &mut steps);
+    let replies = run_of(&rt, rt.alloc(), steps);
+    expect_text(&rt, rt.alloc(), &replies, b"ok ok begun ok stale0 ok ")
 }
 
 // What root is answered by a core, without what is handed out.
@@ -191,22 +87,46 @@ fn asked(rt: &impl Abort, core: &mut Core, alloc: Global, act: Act) -> Reply {
     told(core.step(alloc, Event { user, moment, act }))
 }
 
+// The core does what is asked.
+fn does(rt: &impl Abort, core: &mut Core, alloc: Global, act: Act) {
+    assert!(rt; matches!(asked(rt, core, alloc, act), Reply::Done));
+}
+
+// A put of this value.
+fn put_of(rt: &impl Abort, alloc: Global, value: u8) -> Mutation {
+    let mut mutation = Mutation::new(alloc, b"r").expect(rt, "memory");
+    let added = mutation.put(b"f", b"q", b"", Some(1), &[value]);
+    added.expect(rt, "memory");
+    mutation
+}
+
+// Makes the table, with one put of this value.
+fn add_table(rt: &impl Abort, alloc: Global, core: &mut Core, table: Name, value: u8) {
+    let made = Act::CreateTable(table, TimeMode::Any, Versions::one());
+    does(rt, core, alloc, made);
+    does(rt, core, alloc, Act::Write(table, put_of(rt, alloc, value)))
+}
+
 // A core with the tables `t` and `u`, and one put of this value in each.
 fn core_with(rt: &impl Abort, alloc: Global, value: u8) -> Core {
     let mut core = Core::new(alloc).expect(rt, "memory");
-    for table in [b"t", b"u"] {
-        let table = named(rt, table);
-        let versions = Versions::new(1).expect(rt, "1 to 1,000");
-        let made = Act::CreateTable(table, TimeMode::Any, versions);
-        assert!(rt; matches!(asked(rt, &mut core, alloc, made), Reply::Done));
-        let mut mutation = Mutation::new(alloc, b"r").expect(rt, "memory");
-        mutation
-            .put(b"f", b"q", b"", Some(1), &[value])
-            .expect(rt, "memory");
-        let write = Act::Write(table, mutation);
-        assert!(rt; matches!(asked(rt, &mut core, alloc, write), Reply::Done));
-    }
+    add_table(rt, alloc, &mut core, named(rt, b"t"), value);
+    add_table(rt, alloc, &mut core, named(rt, b"u"), value);
     core
+}
+
+// The job that is handed out, with what is told.
+fn job_in(rt: &impl Abort, reply: Answer) -> TabletJob {
+    let (_told, _session, job) = reply.into_parts();
+    job.expect(rt, "a job")
+}
+
+// The merge of the job.
+fn finished(rt: &impl Abort, alloc: Global, job: TabletJob) -> FinishedJob {
+    match job.merge(alloc) {
+        Ok(finished) => finished,
+        Err(_) => panic!(rt; "memory"),
+    }
 }
 
 // The merge of a full compaction of t, made.
@@ -214,13 +134,8 @@ fn merged(rt: &impl Abort, alloc: Global, core: &mut Core) -> FinishedJob {
     let row = ByteString::new(alloc);
     let act = Act::Begin(named(rt, b"t"), row, Compaction::Full);
     let (user, moment) = (named(rt, b"root"), 0);
-    match core.step(alloc, Event { user, moment, act }) {
-        Reply::Begun(job) => match job.merge(alloc) {
-            Ok(finished) => finished,
-            Err(_) => panic!(rt; "memory"),
-        },
-        _ => panic!(rt; "a job"),
-    }
+    let reply = core.step(alloc, Event { user, moment, act });
+    finished(rt, alloc, job_in(rt, reply))
 }
 
 // What root is told of the merge's install into the table.
@@ -230,9 +145,21 @@ fn installed(
     core: &mut Core,
     table: &[u8],
     finished: FinishedJob,
-) -> Vec<u8> {
-    let reply = core.install(alloc, &named(rt, b"root"), 0, &named(rt, table), finished);
-    text_of(rt, alloc, std::slice::from_ref(&told(reply)))
+) -> Reply {
+    told(core.install(alloc, &named(rt, b"root"), 0, &named(rt, table), finished))
+}
+
+// That is what root is told of the merge's install into the table.
+fn expect_installed(
+    rt: &impl Abort,
+    alloc: Global,
+    core: &mut Core,
+    table: &[u8],
+    finished: FinishedJob,
+    want: &[u8],
+) {
+    let reply = installed(rt, alloc, core, table, finished);
+    expect_reply(rt, alloc, reply, want)
 }
 
 #[test]
@@ -242,15 +169,12 @@ fn a_merge_of_another_core_is_stale(rt: HostRuntime) {
     let mut other = core_with(&rt, alloc, b'w');
     let mine = merged(&rt, alloc, &mut core);
     let strange = merged(&rt, alloc, &mut other);
-    assert_eq!(rt; mine.number(), strange.number());
-    let told = installed(&rt, alloc, &mut core, b"t", strange);
-    assert_eq!(rt; told.as_slice(), b"stale1 ".as_slice());
+    assert!(rt; mine.number() == strange.number());
+    expect_installed(&rt, alloc, &mut core, b"t", strange, b"stale1");
     // it took the entry away
-    let told = installed(&rt, alloc, &mut core, b"t", mine);
-    assert_eq!(rt; told.as_slice(), b"stale1 ".as_slice());
+    expect_installed(&rt, alloc, &mut core, b"t", mine, b"stale1");
     let again = merged(&rt, alloc, &mut core);
-    let told = installed(&rt, alloc, &mut core, b"t", again);
-    assert_eq!(rt; told.as_slice(), b"ok ".as_slice());
+    expect_installed(&rt, alloc, &mut core, b"t", again, b"ok");
 }
 
 #[test]
@@ -259,11 +183,10 @@ fn a_merge_is_installed_in_its_own_table_alone(rt: HostRuntime) {
     let mut core = core_with(&rt, alloc, b'v');
     let first = merged(&rt, alloc, &mut core);
     let second = merged(&rt, alloc, &mut core);
-    assert_eq!(rt; (first.number(), second.number()), (0, 1));
-    let told = installed(&rt, alloc, &mut core, b"u", first);
-    assert_eq!(rt; told.as_slice(), b"stale0 ".as_slice());
-    let told = installed(&rt, alloc, &mut core, b"t", second);
-    assert_eq!(rt; told.as_slice(), b"ok ".as_slice());
+    assert!(rt; first.number() == 0);
+    assert!(rt; second.number() == 1);
+    expect_installed(&rt, alloc, &mut core, b"u", first, b"stale0");
+    expect_installed(&rt, alloc, &mut core, b"t", second, b"ok");
 }
 
 // A mutation with so many puts, in timestamps from this one on.
@@ -278,31 +201,52 @@ fn wide(rt: &impl Abort, alloc: Global, row: &[u8], first: u16, count: u16) -> M
     mutation
 }
 
+// Writes so many records to the table, half of them in each of two rows.
+fn write_wide(
+    rt: &impl Abort,
+    alloc: Global,
+    core: &mut Core,
+    table: Name,
+    first: u16,
+    count: u16,
+) {
+    let half = count / 2;
+    let rest = count.saturating_sub(half);
+    does(
+        rt,
+        core,
+        alloc,
+        Act::Write(table, wide(rt, alloc, b"a", first, half)),
+    );
+    does(
+        rt,
+        core,
+        alloc,
+        Act::Write(table, wide(rt, alloc, b"z", first, rest)),
+    )
+}
+
+// What is due is to be done in the table, in the tablet of the first rows.
+fn expect_target(rt: &impl Abort, alloc: Global, core: &Core, due: &Due, want: &[u8]) {
+    let target = core.target(alloc, due).expect(rt, "memory");
+    let (table, row) = target.expect(rt, "a target");
+    assert!(rt; table.as_bytes() == want);
+    assert!(rt; row.is_empty())
+}
+
 // 4,096 records that were written are due, in the first of two tables that has them.
 #[test]
 fn what_was_written_is_due(rt: HostRuntime) {
     let alloc = rt.alloc();
     let mut core = core_with(&rt, alloc, b'v');
     let u = named(&rt, b"u");
-    for first in [0u16, 1000, 2000, 3000] {
+    for (first, count) in [(0u16, 1000u16), (1000, 1000), (2000, 1000), (3000, 1095)] {
         assert!(rt; core.due().is_none());
-        let count = if first == 3000 { 1095 } else { 1000 };
-        for part in [0, 1] {
-            let half = count / 2 + count % 2 * part;
-            let row = if part == 0 { b"a" } else { b"z" };
-            let act = Act::Write(u, wide(&rt, alloc, row, first, half));
-            assert!(rt; matches!(asked(&rt, &mut core, alloc, act), Reply::Done));
-        }
+        write_wide(&rt, alloc, &mut core, u, first, count);
     }
     let due = core.due().expect(&rt, "due");
     assert!(rt; due.kind == DueKind::Minor);
-    let (table, row) = core
-        .target(alloc, &due)
-        .expect(&rt, "memory")
-        .expect(&rt, "a target");
-    assert_eq!(rt; table.as_bytes(), b"u".as_slice());
-    assert_eq!(rt; row.as_bytes(), b"".as_slice());
-    let flush = Act::Flush(u);
-    assert!(rt; matches!(asked(&rt, &mut core, alloc, flush), Reply::Done));
+    expect_target(&rt, alloc, &core, &due, b"u");
+    does(&rt, &mut core, alloc, Act::Flush(u));
     assert!(rt; core.due().is_none());
 }

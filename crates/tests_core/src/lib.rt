@@ -9,7 +9,7 @@
 //! | `comparing` | pairs of runs that look alike to one user, and what he is told |
 //! | `jobs` | compactions in three parts, in runs and in cores |
 //! | `modelling` | random writes, scans and compactions, beside the model |
-//! | `steps` | helpers: steps in short, and replies as text |
+//! | `steps` | helpers: steps from the lines of a script, and replies as text |
 #![tactic(auto)]
 
 #[cfg(test)]

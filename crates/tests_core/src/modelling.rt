@@ -17,15 +17,20 @@ fn asked(rt: &impl Abort, core: &mut Core, alloc: Global, moment: u8, act: Act) 
     core.step(alloc, Event { user, moment, act })
 }
 
+// Whether what root asks is done.
+fn is_done(rt: &impl Abort, core: &mut Core, alloc: Global, moment: u8, act: Act) -> bool {
+    matches!(asked(rt, core, alloc, moment, act), Reply::Done)
+}
+
 // A core with the table `t`, which shows so many versions, and with root's authorizations A and B.
 fn prepared(rt: &impl Abort, alloc: Global, versions: u32) -> Core {
     let mut core = Core::new(alloc).expect(rt, "memory");
     let versions = Versions::new(u64::from(versions)).expect(rt, "1 to 1,000");
     let made = Act::CreateTable(named(rt, b"t"), TimeMode::Any, versions);
-    let _ = asked(rt, &mut core, alloc, 0, made);
+    assert!(rt; is_done(rt, &mut core, alloc, 0, made));
     let held = auths_of(alloc, &[b"A", b"B"]).expect(rt, "memory");
     let held = Act::SetAuths(named(rt, b"root"), held);
-    let _ = asked(rt, &mut core, alloc, 0, held);
+    assert!(rt; is_done(rt, &mut core, alloc, 0, held));
     core
 }
 
@@ -60,9 +65,9 @@ fn write(
     let row = updates.first().map_or(b"k".as_slice(), |update| update.row);
     let mutation = mutation_of(alloc, row, updates).expect(rt, "memory");
     let act = Act::Write(named(rt, b"t"), mutation);
-    let is_done = matches!(asked(rt, core, alloc, moment, act), Reply::Done);
-    assert_eq!(rt; is_done, is_acceptable(updates));
-    if is_done {
+    let is_accepted = is_done(rt, core, alloc, moment, act);
+    assert!(rt; is_accepted == is_acceptable(updates));
+    if is_accepted {
         for update in updates {
             table.push(*update).expect(rt, "memory");
         }
@@ -76,7 +81,7 @@ fn expect_batch<'a>(
     count: u32,
     rest: &'a [Update],
 ) -> &'a [Update] {
-    assert_eq!(rt; batch.len(), rest.len().min(count as usize));
+    assert!(rt; batch.len() == rest.len().min(count as usize));
     for (index, update) in rest.iter().take(batch.len()).enumerate() {
         assert!(rt; update.is_cell(&batch.get(index)));
     }
@@ -103,6 +108,33 @@ fn scan_of(rt: &impl Abort, alloc: Global, query: &Query) -> Scan {
     }
 }
 
+// The session of the scan, unless it is refused.
+fn session_of(
+    rt: &impl Abort,
+    alloc: Global,
+    core: &mut Core,
+    moment: u8,
+    scan: Scan,
+) -> Option<Session> {
+    let answer = asked(rt, core, alloc, moment, Act::Open(scan));
+    let (_told, session, _job) = answer.into_parts();
+    session
+}
+
+// The session gives what the model shows; how many cells.
+fn expect_shown(
+    rt: &impl Abort,
+    alloc: Global,
+    session: Session,
+    table: &[Update],
+    moment: u8,
+    query: &Query,
+) -> usize {
+    let want = scanned(alloc, table, query).expect(rt, "memory");
+    expect_cells(rt, alloc, session, u64::from(moment), &want);
+    want.len()
+}
+
 // A session of the core gives what the model shows; how many cells. A range that is backwards is refused.
 fn expect_scan(
     rt: &impl Abort,
@@ -114,14 +146,10 @@ fn expect_scan(
 ) -> usize {
     let scan = scan_of(rt, alloc, query);
     let is_bad = scan.bounds.is_bad();
-    match asked(rt, core, alloc, moment, Act::Open(scan)) {
-        Reply::Opened(session) => {
-            let want = scanned(alloc, table, query).expect(rt, "memory");
-            expect_cells(rt, alloc, session, u64::from(moment), &want);
-            want.len()
-        }
-        _ => {
-            assert!(rt; is_bad, "a scan was refused");
+    match session_of(rt, alloc, core, moment, scan) {
+        Some(session) => expect_shown(rt, alloc, session, table, moment, query),
+        None => {
+            assert!(rt; is_bad);
             0
         }
     }
@@ -135,7 +163,7 @@ fn compact(rt: &impl Abort, alloc: Global, core: &mut Core, moment: u8, random: 
         1 => Act::Compact(table, Extent::Partial),
         _ => Act::Compact(table, Extent::Full),
     };
-    assert!(rt; matches!(asked(rt, core, alloc, moment, act), Reply::Done));
+    assert!(rt; is_done(rt, core, alloc, moment, act));
 }
 
 // A split of the table at one of the rows, at which it may be split already. It changes nothing that is shown.
@@ -150,29 +178,64 @@ fn split(rt: &impl Abort, alloc: Global, core: &mut Core, moment: u8, random: &m
     );
 }
 
-// Thirty writes, scans, compactions and splits of a new table; how many cells were shown.
+// A write of random updates.
+fn write_random(
+    rt: &impl Abort,
+    alloc: Global,
+    core: &mut Core,
+    table: &mut Vec<Update>,
+    moment: u8,
+    random: &mut Random,
+) {
+    let updates = random_updates(rt, alloc, random, moment);
+    write(rt, alloc, core, table, moment, &updates)
+}
+
+// A scan by a random query of so many versions; how many cells were shown.
+fn scan_random(
+    rt: &impl Abort,
+    alloc: Global,
+    core: &mut Core,
+    table: &[Update],
+    moment: u8,
+    versions: u32,
+    random: &mut Random,
+) -> usize {
+    let query = Query {
+        versions,
+        ..random.query(&ROWS)
+    };
+    expect_scan(rt, alloc, core, table, moment, &query)
+}
+
+// A write, a scan, a compaction or a split; how many cells were shown.
+fn step(
+    rt: &impl Abort,
+    alloc: Global,
+    core: &mut Core,
+    table: &mut Vec<Update>,
+    moment: u8,
+    versions: u32,
+    random: &mut Random,
+) -> usize {
+    match random.below(8) {
+        0..=1 => return scan_random(rt, alloc, core, table, moment, versions, random),
+        2..=3 => compact(rt, alloc, core, moment, random),
+        4 => split(rt, alloc, core, moment, random),
+        _ => write_random(rt, alloc, core, table, moment, random),
+    }
+    0
+}
+
+// Thirty of these over a new table; how many cells were shown.
 fn play(rt: &impl Abort, alloc: Global, random: &mut Random) -> usize {
     let versions = 1 + random.below(3) as u32;
     let mut core = prepared(rt, alloc, versions);
     let mut table = Vec::new(alloc);
     let mut shown = 0usize;
     for moment in 0..30u8 {
-        match random.below(8) {
-            0..=1 => {
-                let query = Query {
-                    versions,
-                    ..random.query(&ROWS)
-                };
-                let count = expect_scan(rt, alloc, &mut core, &table, moment, &query);
-                shown = shown.saturating_add(count);
-            }
-            2..=3 => compact(rt, alloc, &mut core, moment, random),
-            4 => split(rt, alloc, &mut core, moment, random),
-            _ => {
-                let updates = random_updates(rt, alloc, random, moment);
-                write(rt, alloc, &mut core, &mut table, moment, &updates);
-            }
-        }
+        let count = step(rt, alloc, &mut core, &mut table, moment, versions, random);
+        shown = shown.saturating_add(count);
     }
     shown
 }

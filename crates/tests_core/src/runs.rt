@@ -1,169 +1,149 @@
 //! Runs of steps, and the sessions that they keep.
 
-use crate::steps::{close, makes_table, many, named, next, opens, push, puts, text_of};
+use crate::steps::{expect_text, expect_told, run_of, steps_of};
 use std::alloc::Global;
 use std::process::Abort;
-use tab_core::run;
-use tab_history::Step;
-use tab_key::{Bound, Bounds, ByteString, Items};
+use tab_history::Reply;
 
-// The table with three puts, and a session of root's behind each of the last two.
-fn begun(rt: &impl Abort, alloc: Global) -> Vec<Step> {
-    let mut steps = Vec::new(alloc);
-    push(rt, &mut steps, makes_table(rt, 3));
-    for value in 1..4u8 {
-        let timestamp = Some(i64::from(value));
-        push(
-            rt,
-            &mut steps,
-            puts(rt, alloc, b"root", 0, b"", timestamp, b'0' + value),
-        );
-        if value > 1 {
-            push(rt, &mut steps, opens(rt, alloc, b"root", 0, b""));
-        }
-    }
-    steps
-}
+// A table with three puts, and a session of root's behind each of the last two.
+const NUMBERED: &[u8] =
+    b"createtable t versions=3\ninsert t r f q \\e 1 1\ninsert t r f q \\e 2 2\nopen t \\0\n\
+insert t r f q \\e 3 3\nopen t \\0\nnext 0 1\nnext 1 1\nnext 2 1\nnext 0 0\nnext 0 5\nnext 0 5\nnext 1 5";
 
 #[test]
 fn a_run_keeps_sessions_by_their_numbers(rt: HostRuntime) {
-    let alloc = rt.alloc();
-    let mut steps = begun(&rt, alloc);
-    for (slot, count) in [(0, 1), (1, 1), (2, 1), (0, 0), (0, 5), (0, 5), (1, 5)] {
-        push(&rt, &mut steps, next(&rt, b"root", slot, count));
-    }
-    let replies = run(alloc, steps).expect(&rt, "memory");
-    assert_eq!(rt;
-        text_of(&rt, alloc, &replies).as_slice(),
-        b"ok ok ok opened ok opened @2=2, @3=3, unopened  @1=1,  @2=2,@1=1, ".as_slice()
-    );
+    let told = b"ok ok ok opened ok opened @2=2, @3=3, unopened  @1=1,  @2=2,@1=1, ";
+    expect_told(&rt, rt.alloc(), NUMBERED, told)
 }
+
+const CLOSED: &[u8] =
+    b"createtable t versions=3\ninsert t r f q \\e 1 1\ninsert t r f q \\e 2 2\nopen t \\0\n\
+insert t r f q \\e 3 3\nopen t \\0\nclose 0\nnext 0 1\nclose 0\nopen t A\nopen t \\0\nas eve\nopen t \\0\n\
+as root\nnext 0 1\nnext 2 1\nas eve\nnext 2 1\nclose 0";
+
+const CLOSED_TOLD: &[u8] = b"ok ok ok opened ok opened ok unopened unopened unheld opened unknown \
+unopened @3=3, unopened unopened ";
 
 #[test]
 fn a_closed_session_is_gone_for_good(rt: HostRuntime) {
-    let alloc = rt.alloc();
-    let mut steps = begun(&rt, alloc);
-    push(&rt, &mut steps, close(&rt, b"root", 0));
-    push(&rt, &mut steps, next(&rt, b"root", 0, 1));
-    push(&rt, &mut steps, close(&rt, b"root", 0));
-    push(&rt, &mut steps, opens(&rt, alloc, b"root", 0, b"A"));
-    push(&rt, &mut steps, opens(&rt, alloc, b"root", 0, b""));
-    push(&rt, &mut steps, opens(&rt, alloc, b"eve", 0, b""));
-    for (user, slot) in [(b"root".as_slice(), 0), (b"root", 2), (b"eve", 2)] {
-        push(&rt, &mut steps, next(&rt, user, slot, 1));
-    }
-    push(&rt, &mut steps, close(&rt, b"eve", 0));
-    let replies = run(alloc, steps).expect(&rt, "memory");
-    assert_eq!(rt;
-        text_of(&rt, alloc, &replies).as_slice(),
-        b"ok ok ok opened ok opened ok unopened unopened unheld opened unknown unopened @3=3, unopened unopened ".as_slice()
-    );
+    expect_told(&rt, rt.alloc(), CLOSED, CLOSED_TOLD)
+}
+
+fn add(rt: &impl Abort, lines: &mut Vec<u8>, text: &[u8]) {
+    lines.extend_from_slice(text).expect(rt, "memory");
+}
+
+// A put of this timestamp and value, and a session behind it.
+fn add_session(rt: &impl Abort, alloc: Global, lines: &mut Vec<u8>, at: u32) {
+    let text = format!(in alloc; "insert t r f q \\e v {at}\nopen t \\0\n").expect(rt, "memory");
+    add(rt, lines, text.as_bytes())
+}
+
+// A batch of two of the session.
+fn add_next(rt: &impl Abort, alloc: Global, lines: &mut Vec<u8>, at: u32) {
+    let text = format!(in alloc; "next {at} 2\n").expect(rt, "memory");
+    add(rt, lines, text.as_bytes())
 }
 
 // So many sessions, each behind one more put of the same column, and all read at the end.
+fn many_sessions(rt: &impl Abort, alloc: Global, count: u32) -> Vec<u8> {
+    let mut lines = Vec::new(alloc);
+    add(rt, &mut lines, b"createtable t\n");
+    for at in 0..count {
+        add_session(rt, alloc, &mut lines, at);
+    }
+    for at in 0..count {
+        add_next(rt, alloc, &mut lines, at);
+    }
+    lines
+}
+
+// What the session of this number gives: the put before it.
+fn expect_put(rt: &impl Abort, alloc: Global, at: usize, reply: &Reply) {
+    let want = format!(in alloc; "@{at}=v, ").expect(rt, "memory");
+    expect_text(rt, alloc, std::slice::from_ref(reply), want.as_bytes())
+}
+
 #[test]
 fn a_run_keeps_many_sessions(rt: HostRuntime) {
     let alloc = rt.alloc();
-    let mut steps = Vec::new(alloc);
-    push(&rt, &mut steps, makes_table(&rt, 1));
-    for value in 0..150u8 {
-        let timestamp = Some(i64::from(value));
-        push(
-            &rt,
-            &mut steps,
-            puts(&rt, alloc, b"root", 0, b"", timestamp, value),
-        );
-        push(&rt, &mut steps, opens(&rt, alloc, b"root", 0, b""));
-    }
-    for slot in 0..150u32 {
-        push(&rt, &mut steps, next(&rt, b"root", slot, 2));
-    }
-    let replies = run(alloc, steps).expect(&rt, "memory");
+    let lines = many_sessions(&rt, alloc, 150);
+    let replies = run_of(&rt, alloc, steps_of(&rt, alloc, &lines));
     for (at, reply) in replies.iter().skip(301).enumerate() {
-        let want = format!(in alloc; "@{at}=").expect(&rt, "memory");
-        let text = text_of(&rt, alloc, std::slice::from_ref(reply));
-        assert!(rt;
-            text.as_slice().starts_with(want.as_bytes()),
-            "session {at}"
-        );
+        expect_put(&rt, alloc, at, reply);
     }
 }
+
+const IN_RANGES: &[u8] =
+    b"createtable t versions=3\ninsert t r f q \\e 1 1\ninsert t r f q \\e 2 2\nopen t \\0\n\
+insert t r f q \\e 3 3\nopen t \\0\nnext 1 2\nmany 1 [r \\0 [s \\0 [\\e \\0\nmany 0 [r \\0\nmany 0\nnext 1 2";
+
+const IN_RANGES_TOLD: &[u8] = b"ok ok ok opened ok opened @3=3,@2=2, \
+@3=3,@2=2,@1=1,||@3=3,@2=2,@1=1,| @2=2,@1=1,|  @1=1, ";
 
 #[test]
 fn a_run_answers_in_ranges(rt: HostRuntime) {
-    let alloc = rt.alloc();
-    let mut steps = begun(&rt, alloc);
-    push(&rt, &mut steps, next(&rt, b"root", 1, 2));
-    push(
-        &rt,
-        &mut steps,
-        many(&rt, alloc, b"root", 1, &[b"r", b"s", b""]),
-    );
-    push(&rt, &mut steps, many(&rt, alloc, b"root", 0, &[b"r"]));
-    push(&rt, &mut steps, many(&rt, alloc, b"root", 0, &[]));
-    push(&rt, &mut steps, next(&rt, b"root", 1, 2));
-    let replies = run(alloc, steps).expect(&rt, "memory");
-    assert_eq!(rt;
-        text_of(&rt, alloc, &replies).as_slice(),
-        b"ok ok ok opened ok opened @3=3,@2=2, @3=3,@2=2,@1=1,||@3=3,@2=2,@1=1,| @2=2,@1=1,|  @1=1, ".as_slice()
-    );
+    expect_told(&rt, rt.alloc(), IN_RANGES, IN_RANGES_TOLD)
 }
 
-// So many ranges without a row in session 0, each none if they are bad.
-fn ranges_of(rt: &impl Abort, alloc: Global, count: usize, is_bad: bool) -> Step {
-    let mut ranges = Vec::new(alloc);
+// Asks for so many times this range, in session 0.
+fn add_many(rt: &impl Abort, lines: &mut Vec<u8>, count: u32, range: &[u8]) {
+    add(rt, lines, b"many 0");
     for _ in 0..count {
-        let low = Bound::Inclusive(ByteString::from_slice(alloc, b"x").expect(rt, "memory"));
-        let high = if is_bad {
-            Bound::Exclusive(ByteString::from_slice(alloc, b"x").expect(rt, "memory"))
-        } else {
-            Bound::Unbounded
-        };
-        ranges.push(Bounds { low, high }).expect(rt, "memory");
+        add(rt, lines, range);
     }
-    let (user, slot) = (named(rt, b"root"), 0);
-    let ranges = Items::from_vec(ranges);
-    Step::Many { user, slot, ranges }
+    add(rt, lines, b"\n")
+}
+
+// Too many ranges of rows behind x, one less, and too many and less of a range that is none.
+fn ranges_at_limits(rt: &impl Abort, alloc: Global) -> Vec<u8> {
+    let mut lines = Vec::new(alloc);
+    add(rt, &mut lines, b"createtable t\n");
+    add_many(rt, &mut lines, 1001, b" [x (x");
+    add(rt, &mut lines, b"open t \\0\n");
+    add_many(rt, &mut lines, 1001, b" [x (x");
+    add_many(rt, &mut lines, 1001, b" [x \\0");
+    add_many(rt, &mut lines, 1000, b" [x (x");
+    add(
+        rt,
+        &mut lines,
+        b"many 0 [x (x\nmany 0 [x \\0 [x \\0\nclose 0\nmany 0 [x \\0\n",
+    );
+    lines
 }
 
 #[test]
 fn ranges_are_refused_in_their_order(rt: HostRuntime) {
-    let alloc = rt.alloc();
-    let mut steps = Vec::new(alloc);
-    push(&rt, &mut steps, makes_table(&rt, 1));
-    push(&rt, &mut steps, ranges_of(&rt, alloc, 1001, true));
-    push(&rt, &mut steps, opens(&rt, alloc, b"root", 0, b""));
-    for (count, is_bad) in [(1001, true), (1001, false), (1000, true), (1, true)] {
-        push(&rt, &mut steps, ranges_of(&rt, alloc, count, is_bad));
-    }
-    push(&rt, &mut steps, ranges_of(&rt, alloc, 2, false));
-    push(&rt, &mut steps, close(&rt, b"root", 0));
-    push(&rt, &mut steps, ranges_of(&rt, alloc, 1, false));
-    let replies = run(alloc, steps).expect(&rt, "memory");
-    assert_eq!(rt;
-        text_of(&rt, alloc, &replies).as_slice(),
-        b"ok unopened opened toolarge toolarge badrange badrange || ok unopened ".as_slice()
-    );
+    let lines = ranges_at_limits(&rt, rt.alloc());
+    let told = b"ok unopened opened toolarge toolarge badrange badrange || ok unopened ";
+    expect_told(&rt, rt.alloc(), &lines, told)
 }
 
 // As many sessions as may be open; one more is refused, and where one was closed there is room for one, under a number of its own.
+fn sessions_at_limit(rt: &impl Abort, alloc: Global) -> Vec<u8> {
+    let mut lines = Vec::new(alloc);
+    add(rt, &mut lines, b"createtable t\n");
+    for _ in 0..65_537u32 {
+        add(rt, &mut lines, b"open t \\0\n");
+    }
+    add(
+        rt,
+        &mut lines,
+        b"close 0\nopen t \\0\nnext 0 1\nnext 65536 1\nnext 65537 1",
+    );
+    lines
+}
+
 #[test]
 fn a_run_keeps_as_many_sessions_as_may_be_open(rt: HostRuntime) {
     let alloc = rt.alloc();
-    let mut steps = Vec::new(alloc);
-    push(&rt, &mut steps, makes_table(&rt, 1));
-    for _ in 0..65_537u32 {
-        push(&rt, &mut steps, opens(&rt, alloc, b"root", 0, b""));
-    }
-    push(&rt, &mut steps, close(&rt, b"root", 0));
-    push(&rt, &mut steps, opens(&rt, alloc, b"root", 0, b""));
-    for slot in [0, 65_536, 65_537] {
-        push(&rt, &mut steps, next(&rt, b"root", slot, 1));
-    }
-    let replies = run(alloc, steps).expect(&rt, "memory");
+    let lines = sessions_at_limit(&rt, alloc);
+    let replies = run_of(&rt, alloc, steps_of(&rt, alloc, &lines));
     let last = replies.get(65_536..).expect(&rt, "a reply to each step");
-    assert_eq!(rt;
-        text_of(&rt, alloc, last).as_slice(),
-        b"opened toolarge ok opened unopened  unopened ".as_slice()
-    );
+    expect_text(
+        &rt,
+        alloc,
+        last,
+        b"opened toolarge ok opened unopened  unopened ",
+    )
 }

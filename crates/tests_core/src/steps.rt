@@ -1,146 +1,139 @@
-//! Steps in short, over one table `t` with one column, and replies as text.
+//! Steps, from the lines of a script, and replies as text.
 
 use std::alloc::Global;
 use std::process::Abort;
-use tab_cells::Compaction;
-use tab_history::{Act, Counts, Event, Given, Refusal, Reply, Scan, Step, TimeMode, Versions};
-use tab_key::{Bound, Bounds, ByteString, Cells, Items, Name};
+use tab_core::run;
+use tab_history::{Act, Counts, Event, Refusal, Reply, Step};
+use tab_key::{Cells, Name};
 use tab_label::AuthSet;
-use tab_mutation::Mutation;
+use tab_lines::{Line, read_line};
+
+// Who asks, and when.
+#[derive(Clone, Copy)]
+struct Asker {
+    user: Name,
+    moment: i64,
+}
+
+impl Asker {
+    fn event(&self, act: Act) -> Option<Step> {
+        let (user, moment) = (self.user, self.moment);
+        Some(Step::Event(Event { user, moment, act }))
+    }
+
+    // The step of a line that asks for one.
+    fn step(&self, line: Line) -> Option<Step> {
+        let user = self.user;
+        match line {
+            Line::Act(act) => self.event(act),
+            Line::Open(scan) => self.event(Act::Open(scan)),
+            Line::Next(slot, count) => Some(Step::Next { user, slot, count }),
+            Line::Many(slot, ranges) => Some(Step::Many { user, slot, ranges }),
+            Line::Close(slot) => Some(Step::Close { user, slot }),
+            Line::Merge(slot) => Some(Step::Merge { slot }),
+            _ => None,
+        }
+    }
+
+    // Who asks behind the line, and when.
+    fn behind(&self, line: &Line) -> Asker {
+        match line {
+            Line::As(user) => Asker {
+                user: *user,
+                ..*self
+            },
+            Line::At(moment) => Asker {
+                moment: *moment,
+                ..*self
+            },
+            _ => *self,
+        }
+    }
+}
+
+fn line_of(rt: &impl Abort, alloc: Global, text: &[u8]) -> Line {
+    match read_line(alloc, text) {
+        Ok(line) => line,
+        Err(_) => panic!(rt; "no line"),
+    }
+}
+
+// Puts the line's step behind the others, if it asks for one, and tells who asks behind it.
+fn add_step(
+    rt: &impl Abort,
+    alloc: Global,
+    steps: &mut Vec<Step>,
+    asker: Asker,
+    text: &[u8],
+) -> Asker {
+    let line = line_of(rt, alloc, text);
+    let behind = asker.behind(&line);
+    if let Some(step) = asker.step(line) {
+        push(rt, steps, step);
+    }
+    behind
+}
+
+/// The steps of a script's lines, which root asks at the moment 0 until a line says otherwise.
+pub fn steps_of(rt: &impl Abort, alloc: Global, script: &[u8]) -> Vec<Step> {
+    let mut steps = Vec::new(alloc);
+    let (user, moment) = (named(rt, b"root"), 0);
+    let mut asker = Asker { user, moment };
+    for text in script.split(|byte| *byte == b'\n') {
+        asker = add_step(rt, alloc, &mut steps, asker, text);
+    }
+    steps
+}
+
+/// What a run of the steps is told.
+pub fn run_of(rt: &impl Abort, alloc: Global, steps: Vec<Step>) -> Vec<Reply> {
+    run(alloc, steps).expect(rt, "memory")
+}
+
+/// The replies have this text, with a blank after each.
+pub fn expect_text(rt: &impl Abort, alloc: Global, replies: &[Reply], want: &[u8]) {
+    let text = text_of(rt, alloc, replies);
+    assert!(rt; text.as_slice() == want)
+}
+
+/// A run of the script's steps is told this.
+pub fn expect_told(rt: &impl Abort, alloc: Global, script: &[u8], want: &[u8]) {
+    let replies = run_of(rt, alloc, steps_of(rt, alloc, script));
+    expect_text(rt, alloc, &replies, want)
+}
+
+/// The reply has this text.
+pub fn expect_reply(rt: &impl Abort, alloc: Global, reply: Reply, want: &[u8]) {
+    let mut text = Vec::new(alloc);
+    add_reply(rt, alloc, &mut text, &reply);
+    assert!(rt; text.as_slice() == want)
+}
 
 /// The name that these bytes are.
 pub fn named(rt: &impl Abort, bytes: &[u8]) -> Name {
     Name::new(bytes).expect(rt, "a name")
 }
 
-pub fn event(rt: &impl Abort, user: &[u8], moment: i64, act: Act) -> Step {
-    let user = named(rt, user);
-    Step::Event(Event { user, moment, act })
-}
-
-pub fn next(rt: &impl Abort, user: &[u8], slot: u32, count: u32) -> Step {
-    let user = named(rt, user);
-    Step::Next { user, slot, count }
-}
-
-// The session's cells with a row from each of these on.
-pub fn many(rt: &impl Abort, alloc: Global, user: &[u8], slot: u32, lows: &[&[u8]]) -> Step {
-    let user = named(rt, user);
-    let mut ranges = Vec::new(alloc);
-    for low in lows {
-        let row = ByteString::from_slice(alloc, low).expect(rt, "memory");
-        let (low, high) = (Bound::Inclusive(row), Bound::Unbounded);
-        ranges.push(Bounds { low, high }).expect(rt, "memory");
-    }
-    let ranges = Items::from_vec(ranges);
-    Step::Many { user, slot, ranges }
-}
-
-pub fn close(rt: &impl Abort, user: &[u8], slot: u32) -> Step {
-    let user = named(rt, user);
-    Step::Close { user, slot }
-}
-
-// A merge of this kind begins in t's one tablet.
-pub fn begins(rt: &impl Abort, alloc: Global, user: &[u8], kind: Compaction) -> Step {
-    let row = ByteString::new(alloc);
-    event(rt, user, 0, Act::Begin(named(rt, b"t"), row, kind))
-}
-
-pub fn merges(slot: u64) -> Step {
-    Step::Merge { slot }
-}
-
-// The slot's merge is installed in t.
-pub fn installs(rt: &impl Abort, user: &[u8], moment: i64, slot: u64) -> Step {
-    let act = Act::Install(named(rt, b"t"), Given::InSlot(slot));
-    event(rt, user, moment, act)
-}
-
-// Puts the step behind the others.
+/// Puts the step behind the others.
 pub fn push(rt: &impl Abort, steps: &mut Vec<Step>, step: Step) {
     steps.push(step).expect(rt, "memory");
 }
 
-// Root makes the table, which shows so many versions.
-pub fn makes_table(rt: &impl Abort, versions: u64) -> Step {
-    let versions = Versions::new(versions).expect(rt, "1 to 1,000");
-    event(
-        rt,
-        b"root",
-        0,
-        Act::CreateTable(named(rt, b"t"), TimeMode::Any, versions),
-    )
-}
-
-// Authorizations of one byte each.
-pub fn auths(rt: &impl Abort, alloc: Global, letters: &[u8]) -> AuthSet {
-    let mut terms = Vec::new(alloc);
-    for letter in letters {
-        let term = Vec::from_slice(alloc, &[*letter]).expect(rt, "memory");
-        terms.push(term).expect(rt, "memory");
-    }
-    AuthSet::new(terms)
-}
-
-// A scan of all of t.
-pub fn opens(rt: &impl Abort, alloc: Global, user: &[u8], moment: i64, letters: &[u8]) -> Step {
-    let scan = Scan {
-        table: named(rt, b"t"),
-        bounds: Bounds {
-            low: Bound::Unbounded,
-            high: Bound::Unbounded,
-        },
-        columns: Items::new(alloc),
-        authorizations: auths(rt, alloc, letters),
-    };
-    event(rt, user, moment, Act::Open(scan))
-}
-
-// A put of a value to the one column of t.
-pub fn puts(
-    rt: &impl Abort,
-    alloc: Global,
-    user: &[u8],
-    moment: i64,
-    label: &[u8],
-    timestamp: Option<i64>,
-    value: u8,
-) -> Step {
-    let mut mutation = Mutation::new(alloc, b"r").expect(rt, "memory");
-    mutation
-        .put(b"f", b"q", label, timestamp, &[value])
-        .expect(rt, "memory");
-    event(rt, user, moment, Act::Write(named(rt, b"t"), mutation))
-}
-
-pub fn deletes(
-    rt: &impl Abort,
-    alloc: Global,
-    user: &[u8],
-    moment: i64,
-    label: &[u8],
-    timestamp: Option<i64>,
-) -> Step {
-    let mut mutation = Mutation::new(alloc, b"r").expect(rt, "memory");
-    mutation
-        .delete(b"f", b"q", label, timestamp)
-        .expect(rt, "memory");
-    event(rt, user, moment, Act::Write(named(rt, b"t"), mutation))
+fn add_number(rt: &impl Abort, alloc: Global, text: &mut Vec<u8>, number: i64) {
+    let digits = format!(in alloc; "{number}").expect(rt, "memory");
+    add(rt, text, digits.as_bytes())
 }
 
 // The cells, as `label@timestamp=value` with a comma after each.
 fn add_cells(rt: &impl Abort, alloc: Global, text: &mut Vec<u8>, cells: &Cells) {
     for index in 0..cells.len() {
         let cell = cells.get(index);
-        text.extend_from_slice(cell.label()).expect(rt, "memory");
-        text.push(b'@').expect(rt, "memory");
-        let timestamp = format!(in alloc; "{}", cell.timestamp()).expect(rt, "memory");
-        text.extend_from_slice(timestamp.as_bytes())
-            .expect(rt, "memory");
-        text.push(b'=').expect(rt, "memory");
-        text.extend_from_slice(cell.value()).expect(rt, "memory");
-        text.push(b',').expect(rt, "memory");
+        add(rt, text, cell.label());
+        add(rt, text, b"@");
+        add_number(rt, alloc, text, cell.timestamp());
+        add(rt, text, b"=");
+        add(rt, text, cell.value());
+        add(rt, text, b",");
     }
 }
 
@@ -152,7 +145,7 @@ fn add_counts(rt: &impl Abort, alloc: Global, text: &mut Vec<u8>, counts: &Count
         records,
     } = *counts;
     let told = format!(in alloc; "{tablets}/{sources}/{records}").expect(rt, "memory");
-    text.extend_from_slice(told.as_bytes()).expect(rt, "memory");
+    add(rt, text, told.as_bytes())
 }
 
 fn word_of(refusal: &Refusal) -> &'static [u8] {
@@ -170,34 +163,44 @@ fn word_of(refusal: &Refusal) -> &'static [u8] {
     }
 }
 
-// The replies, with a blank after each.
+fn add(rt: &impl Abort, text: &mut Vec<u8>, word: &[u8]) {
+    text.extend_from_slice(word).expect(rt, "memory");
+}
+
+fn add_ranges(rt: &impl Abort, alloc: Global, text: &mut Vec<u8>, ranges: &[Cells]) {
+    for cells in ranges {
+        add_cells(rt, alloc, text, cells);
+        add(rt, text, b"|");
+    }
+}
+
+fn add_terms(rt: &impl Abort, text: &mut Vec<u8>, auths: &AuthSet) {
+    for term in auths.terms() {
+        add(rt, text, term);
+    }
+}
+
+fn add_reply(rt: &impl Abort, alloc: Global, text: &mut Vec<u8>, reply: &Reply) {
+    match reply {
+        Reply::Done => add(rt, text, b"ok"),
+        Reply::Refused(refusal) => add(rt, text, word_of(refusal)),
+        Reply::Opened(_) => add(rt, text, b"opened"),
+        Reply::Batch(cells) => add_cells(rt, alloc, text, cells),
+        Reply::Ranges(ranges) => add_ranges(rt, alloc, text, ranges.as_slice()),
+        Reply::Rights(rights) => add_terms(rt, text, &rights.authorizations),
+        Reply::Counted(counts) => add_counts(rt, alloc, text, counts),
+        Reply::Rows(_) => add(rt, text, b"rows"),
+        Reply::Begun(_) => add(rt, text, b"begun"),
+        Reply::Nothing => add(rt, text, b"nothing"),
+    }
+}
+
+/// The replies, with a blank after each.
 pub fn text_of(rt: &impl Abort, alloc: Global, replies: &[Reply]) -> Vec<u8> {
     let mut text = Vec::new(alloc);
     for reply in replies {
-        match reply {
-            Reply::Done => text.extend_from_slice(b"ok").expect(rt, "memory"),
-            Reply::Refused(refusal) => text
-                .extend_from_slice(word_of(refusal))
-                .expect(rt, "memory"),
-            Reply::Opened(_) => text.extend_from_slice(b"opened").expect(rt, "memory"),
-            Reply::Batch(cells) => add_cells(rt, alloc, &mut text, cells),
-            Reply::Ranges(ranges) => {
-                for cells in ranges.as_slice() {
-                    add_cells(rt, alloc, &mut text, cells);
-                    text.push(b'|').expect(rt, "memory");
-                }
-            }
-            Reply::Rights(rights) => {
-                for term in rights.authorizations.terms() {
-                    text.extend_from_slice(term).expect(rt, "memory");
-                }
-            }
-            Reply::Counted(counts) => add_counts(rt, alloc, &mut text, counts),
-            Reply::Rows(_) => text.extend_from_slice(b"rows").expect(rt, "memory"),
-            Reply::Begun(_) => text.extend_from_slice(b"begun").expect(rt, "memory"),
-            Reply::Nothing => text.extend_from_slice(b"nothing").expect(rt, "memory"),
-        }
-        text.push(b' ').expect(rt, "memory");
+        add_reply(rt, alloc, &mut text, reply);
+        add(rt, &mut text, b" ");
     }
     text
 }

@@ -12,8 +12,8 @@ ghost use Rattle.tab_iter.specs.Lists.{IsRising};
 use std::alloc::{AllocError, Global};
 use std::process::Abort;
 use tab_iter::{
-    DeletingRule, FetchingRule, Filtered, ListSource, Merging, Source, VersioningRule, VisibleRule,
-    is_rising, stack_of,
+    DeletingRule, FetchingRule, Filtered, ListSource, Merging, Rule, Source, VersioningRule,
+    VisibleRule, is_rising, stack_of,
 };
 use tab_key::{Column, Key, Kind, Record};
 use tab_testing::{auths_of, family, qualified};
@@ -127,7 +127,7 @@ fn from_key(alloc: Global, want: &[u64], key: Key<'_>) -> Result<Vec<u64>, Alloc
 fn expect_numbers<S: Source>(rt: &impl Abort, source: &mut S, want: &[u64]) {
     for seq in want {
         let number = source.top().map(|record| record.seq());
-        assert_eq!(rt; number, Some(*seq));
+        assert!(rt; number == Some(*seq));
         source.advance().expect(rt, "memory");
     }
     assert!(rt; source.top().is_none());
@@ -154,13 +154,30 @@ fn source_of(rt: &impl Abort, records: Vec<Record>) -> ListSource
     ListSource::new(records)
 }
 
+// All of the table, as a source at its start.
+fn whole_table(rt: &impl Abort, alloc: Global) -> ListSource
+    ensures { ⟦<ListSource as Source>⟧.rest result ≡ ⟦<ListSource as Source>⟧.whole result }
+{
+    source_of(rt, records_of(alloc, 1, 0).expect(rt, "memory"))
+}
+
+// A layer over the table, by this rule, has the records of these numbers.
+fn filters<R: Rule + Drop>(rt: &impl Abort, alloc: Global, rule: R, want: &[u64]) {
+    let layer = Filtered::new(whole_table(rt, alloc), rule);
+    let mut layer = layer.expect(rt, "memory");
+    reads(rt, alloc, &mut layer, want)
+}
+
 #[test]
 fn lists(rt: HostRuntime) {
-    let alloc = rt.alloc();
-    let mut source = source_of(&rt, records_of(alloc, 1, 0).expect(&rt, "memory"));
+    let mut source = whole_table(&rt, rt.alloc());
     let all = [7, 6, 8, 5, 4, 10, 9, 3, 11, 12, 14, 13, 15, 16, 17];
-    reads(&rt, alloc, &mut source, &all);
-    let mut records = records_of(alloc, 1, 0).expect(&rt, "memory");
+    reads(&rt, rt.alloc(), &mut source, &all);
+}
+
+#[test]
+fn falling_records_do_not_rise(rt: HostRuntime) {
+    let mut records = records_of(rt.alloc(), 1, 0).expect(&rt, "memory");
     records.reverse();
     assert!(rt; !is_rising(&records));
 }
@@ -173,10 +190,7 @@ fn deletes(rt: HostRuntime) {
         (true, &[7, 6, 10, 9, 3, 11, 12, 14, 13, 16, 17]),
     ];
     for (keeps, want) in cases {
-        let source = source_of(&rt, records_of(alloc, 1, 0).expect(&rt, "memory"));
-        let layer = Filtered::new(source, DeletingRule::new(alloc, keeps));
-        let mut layer = layer.expect(&rt, "memory");
-        reads(&rt, alloc, &mut layer, want);
+        filters(&rt, alloc, DeletingRule::new(alloc, keeps), want);
     }
 }
 
@@ -189,18 +203,12 @@ fn counts_versions(rt: HostRuntime) {
         (2, &[7, 6, 8, 10, 9, 11, 12, 14, 13, 15, 16, 17]),
     ];
     for (most, want) in cases {
-        let source = source_of(&rt, records_of(alloc, 1, 0).expect(&rt, "memory"));
-        let layer = Filtered::new(source, VersioningRule::new(alloc, most, true));
-        let mut layer = layer.expect(&rt, "memory");
-        reads(&rt, alloc, &mut layer, want);
+        filters(&rt, alloc, VersioningRule::new(alloc, most, true), want);
     }
 }
 
 fn fetches(rt: &impl Abort, alloc: Global, columns: &[Column], want: &[u64]) {
-    let source = source_of(rt, records_of(alloc, 1, 0).expect(rt, "memory"));
-    let layer = Filtered::new(source, FetchingRule::new(alloc, columns));
-    let mut layer = layer.expect(rt, "memory");
-    reads(rt, alloc, &mut layer, want)
+    filters(rt, alloc, FetchingRule::new(alloc, columns), want)
 }
 
 #[test]
@@ -214,21 +222,19 @@ fn fetches_columns(rt: HostRuntime) {
     fetches(&rt, alloc, &columns, &[12, 14, 13, 15, 16]);
 }
 
+// One who holds these authorizations sees the records of these numbers.
+fn sees(rt: &impl Abort, alloc: Global, terms: &[&[u8]], want: &[u64]) {
+    let auths = auths_of(alloc, terms).expect(rt, "memory");
+    filters(rt, alloc, VisibleRule::new(alloc, &auths), want)
+}
+
 #[test]
 fn sees_labels(rt: HostRuntime) {
     let alloc = rt.alloc();
-    let cases: [(&[&[u8]], &[u64]); 3] = [
-        (&[], &[7, 6, 8, 5, 4, 12]),
-        (&[b"A"], &[7, 6, 8, 5, 4, 10, 9, 3, 12, 14, 13, 15, 16]),
-        (&[b"B"], &[7, 6, 8, 5, 4, 11, 12, 16]),
-    ];
-    for (terms, want) in cases {
-        let auths = auths_of(alloc, terms).expect(&rt, "memory");
-        let source = source_of(&rt, records_of(alloc, 1, 0).expect(&rt, "memory"));
-        let layer = Filtered::new(source, VisibleRule::new(alloc, &auths));
-        let mut layer = layer.expect(&rt, "memory");
-        reads(&rt, alloc, &mut layer, want);
-    }
+    sees(&rt, alloc, &[], &[7, 6, 8, 5, 4, 12]);
+    let of_a = [7, 6, 8, 5, 4, 10, 9, 3, 12, 14, 13, 15, 16];
+    sees(&rt, alloc, &[b"A"], &of_a);
+    sees(&rt, alloc, &[b"B"], &[7, 6, 8, 5, 4, 11, 12, 16])
 }
 
 // Whether no record of the list stands at the place of this one.
@@ -279,22 +285,29 @@ fn merges(rt: HostRuntime) {
     reads(&rt, alloc, &mut merged, &all);
 }
 
+// The whole stack over the table, dealt to three sources, has the records of these numbers.
+fn stacks_up(
+    rt: &impl Abort,
+    alloc: Global,
+    terms: &[&[u8]],
+    versions: u32,
+    columns: &[Column],
+    want: &[u64],
+) {
+    let auths = auths_of(alloc, terms).expect(rt, "memory");
+    let merged = Merging::new(dealt(rt, alloc).expect(rt, "memory"));
+    let merged = merged.expect(rt, "memory");
+    let stack = stack_of(alloc, merged, columns, &auths, versions);
+    let mut stack = stack.expect(rt, "memory");
+    reads(rt, alloc, &mut stack, want)
+}
+
 #[test]
 fn stacks(rt: HostRuntime) {
     let alloc = rt.alloc();
     let columns = [family(alloc, b"f").expect(&rt, "memory")];
-    let cases: [(&[&[u8]], u32, usize, &[u64]); 4] = [
-        (&[], 1, 0, &[7, 12]),
-        (&[b"A"], 1, 0, &[7, 10, 12, 14, 16]),
-        (&[b"A"], 2, 0, &[7, 10, 9, 12, 14, 16]),
-        (&[b"B"], 2, 1, &[7, 11, 12]),
-    ];
-    for (terms, versions, named, want) in cases {
-        let auths = auths_of(alloc, terms).expect(&rt, "memory");
-        let chosen = &columns[..named.min(1)];
-        let merged = Merging::new(dealt(&rt, alloc).expect(&rt, "memory")).expect(&rt, "memory");
-        let stack = stack_of(alloc, merged, chosen, &auths, versions);
-        let mut stack = stack.expect(&rt, "memory");
-        reads(&rt, alloc, &mut stack, want);
-    }
+    stacks_up(&rt, alloc, &[], 1, &[], &[7, 12]);
+    stacks_up(&rt, alloc, &[b"A"], 1, &[], &[7, 10, 12, 14, 16]);
+    stacks_up(&rt, alloc, &[b"A"], 2, &[], &[7, 10, 9, 12, 14, 16]);
+    stacks_up(&rt, alloc, &[b"B"], 2, &columns, &[7, 11, 12])
 }

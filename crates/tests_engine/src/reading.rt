@@ -5,8 +5,8 @@ use std::process::Abort;
 use tab_iter::Source;
 use tab_key::{Column, Record};
 use tab_label::AuthSet;
-use tab_testing::{Query, Update, from_key};
-use tab_version::Version;
+use tab_testing::{End, Query, Update, from_key};
+use tab_version::{Clip, TableClip, Version};
 
 /// The source has the records of these updates left, and no others.
 pub fn expect_rest<S: Source>(rt: &impl Abort, source: &mut S, want: &[Update]) {
@@ -31,6 +31,24 @@ pub fn expect_seek<S: Source>(
     expect_rest(rt, source, &left);
 }
 
+/// The clip's rows between the ends.
+pub fn in_range(rt: &impl Abort, alloc: Global, clip: &Clip, low: End, high: End) -> Clip {
+    let bounds = low.to(alloc, high).expect(rt, "memory");
+    clip.in_rows(&bounds).expect(rt, "memory")
+}
+
+/// The same of a table's clip.
+pub fn table_in_range(
+    rt: &impl Abort,
+    alloc: Global,
+    clip: &TableClip,
+    low: End,
+    high: End,
+) -> TableClip {
+    let bounds = low.to(alloc, high).expect(rt, "memory");
+    clip.in_rows(&bounds).expect(rt, "memory")
+}
+
 /// The version has the records of these updates, and no others.
 pub fn expect_raw<'a>(rt: &impl Abort, alloc: Global, version: &'a Version, want: &[Update]) {
     let mut raw = version.raw(alloc).expect(rt, "memory");
@@ -53,7 +71,7 @@ fn rest_of<S: Source>(rt: &impl Abort, alloc: Global, source: &mut S) -> Vec<Rec
 
 // These are the records of the updates, one by one.
 fn expect_same(rt: &impl Abort, records: &[Record], want: &[Update]) {
-    assert_eq!(rt; records.len(), want.len());
+    assert!(rt; records.len() == want.len());
     for (record, update) in records.iter().zip(want) {
         assert!(rt; update.is_record(&record.as_ref()));
     }

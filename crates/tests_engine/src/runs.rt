@@ -84,36 +84,34 @@ fn expect_between(
     expect_rest(rt, &mut RunCursor::over(run, found.start, found.end), &want)
 }
 
+// Eight random mutations, written and frozen, are in their order.
+fn expect_frozen(rt: &impl Abort, alloc: Global, random: &mut Random, writer: &mut Writer) {
+    assert!(rt; writer.is_empty());
+    let mut table = Vec::new(alloc);
+    fill(rt, alloc, random, writer, &ROWS, 0, 8, &mut table);
+    assert!(rt; writer.len() == table.len());
+    let frozen = writer.freeze(rt, alloc);
+    sort(&mut table);
+    expect_run(rt, alloc, &frozen, &table, random)
+}
+
+// The run has these records, as have parts of it.
+fn expect_run(rt: &impl Abort, alloc: Global, run: &Run, updates: &[Update], random: &mut Random) {
+    assert!(rt; run.len() == updates.len());
+    assert!(rt; run.is_empty() == updates.is_empty());
+    expect_seeks(rt, alloc, RunCursor::new(run), updates, random, &ROWS);
+    for _ in 0..10 {
+        expect_part(rt, alloc, run, updates, random);
+    }
+}
+
 #[test]
 fn freezes_in_order(rt: HostRuntime) {
     let alloc = rt.alloc();
     let mut random = Random::new(7);
     let mut writer = Writer::new(alloc);
     for _ in 0..50 {
-        assert!(rt; writer.is_empty());
-        let mut table = Vec::new(alloc);
-        fill(
-            &rt,
-            alloc,
-            &mut random,
-            &mut writer,
-            &ROWS,
-            0,
-            8,
-            &mut table,
-        );
-        assert_eq!(rt; writer.len(), table.len());
-        let frozen = writer.freeze(&rt, alloc);
-        sort(&mut table);
-        assert_eq!(rt;
-            (frozen.len(), frozen.is_empty()),
-            (table.len(), table.is_empty())
-        );
-        let cursor = RunCursor::new(&frozen);
-        expect_seeks(&rt, alloc, cursor, &table, &mut random, &ROWS);
-        for _ in 0..10 {
-            expect_part(&rt, alloc, &frozen, &table, &mut random);
-        }
+        expect_frozen(&rt, alloc, &mut random, &mut writer);
     }
 }
 

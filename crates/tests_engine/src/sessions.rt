@@ -133,8 +133,7 @@ fn names(alloc: Global, cells: &Cells) -> Result<Vec<u8>, AllocError> {
 // The session's next cells have these names.
 fn expect_batch(rt: &impl Abort, alloc: Global, session: &mut Session, count: u32, want: &[u8]) {
     let cells = session.next_batch(alloc, count).expect(rt, "memory");
-    let names = names(alloc, &cells).expect(rt, "memory");
-    assert_eq!(rt; names.as_slice(), want);
+    expect_names(rt, alloc, &cells, want)
 }
 
 // The table with this many versions of a column.
@@ -144,6 +143,14 @@ const SHOWN: [(u32, &[u8]); 4] = [
     (3, b"EA1CcbaDd5"),
     (9, b"EA102CcbaDd5"),
 ];
+
+// The session gives these in batches of this size, and nothing behind them.
+fn expect_batches(rt: &impl Abort, alloc: Global, session: &mut Session, size: u32, want: &[u8]) {
+    for part in want.chunks(size.max(1) as usize) {
+        expect_batch(rt, alloc, session, size, part);
+    }
+    expect_batch(rt, alloc, session, size, b"");
+}
 
 #[test]
 fn gives_all_at_once(rt: HostRuntime) {
@@ -159,12 +166,9 @@ fn gives_all_at_once(rt: HostRuntime) {
 fn gives_batches_of_each_size(rt: HostRuntime) {
     let alloc = rt.alloc();
     for (versions, want) in SHOWN {
-        for size in 1..8 {
+        for size in 1..8u32 {
             let mut session = whole_table(&rt, alloc, versions);
-            for part in want.chunks(size) {
-                expect_batch(&rt, alloc, &mut session, size as u32, part);
-            }
-            expect_batch(&rt, alloc, &mut session, size as u32, b"");
+            expect_batches(&rt, alloc, &mut session, size, want);
         }
     }
 }
@@ -179,17 +183,38 @@ fn gives_none_when_none_are_asked(rt: HostRuntime) {
     }
 }
 
+// A session that sees x, on the family g.
+fn labelled_column(rt: &impl Abort, alloc: Global) -> Session {
+    let version = table(rt, alloc);
+    let mut columns = Vec::new(alloc);
+    let column = family(alloc, b"g").expect(rt, "memory");
+    columns.push(column).expect(rt, "memory");
+    let auths = auths_of(alloc, &[b"x"]).expect(rt, "memory");
+    Session::new(version, Items::from_vec(columns), auths, 1)
+}
+
 #[test]
 fn asks_for_columns_and_labels(rt: HostRuntime) {
     let alloc = rt.alloc();
-    let version = table(&rt, alloc);
-    let mut columns = Vec::new(alloc);
-    let column = family(alloc, b"g").expect(&rt, "memory");
-    columns.push(column).expect(&rt, "memory");
-    let auths = auths_of(alloc, &[b"x"]).expect(&rt, "memory");
-    let mut session = Session::new(version, Items::from_vec(columns), auths, 1);
+    let mut session = labelled_column(&rt, alloc);
     expect_batch(&rt, alloc, &mut session, 1, b"4");
     expect_batch(&rt, alloc, &mut session, 2, b"D");
+}
+
+// A session on what was written.
+fn session_of(rt: &impl Abort, alloc: Global, writer: &mut Writer) -> Session {
+    let mut clips = Vec::new(alloc);
+    let clip = Clip::whole(writer.freeze(rt, alloc));
+    add(rt, alloc, &mut clips, clip, 0, 64).expect(rt, "memory");
+    let version = of_runs(alloc, clips).expect(rt, "memory");
+    Session::new(version, Items::new(alloc), AuthSet::empty(alloc), 1)
+}
+
+// Writes a put between both rows and a marker on the second one.
+fn write_later(rt: &impl Abort, alloc: Global, writer: &mut Writer) {
+    write(rt, alloc, writer, &put(b"b", b"f", b"", 1, b'2'));
+    write(rt, alloc, writer, &delete(b"c", b"f", 9, b'3'));
+    assert!(rt; writer.freeze(rt, alloc).len() == 2)
 }
 
 #[test]
@@ -198,17 +223,9 @@ fn shows_nothing_of_later_writes(rt: HostRuntime) {
     let mut writer = Writer::new(alloc);
     write(&rt, alloc, &mut writer, &put(b"a", b"f", b"", 1, b'0'));
     write(&rt, alloc, &mut writer, &put(b"c", b"f", b"", 1, b'1'));
-    let mut clips = Vec::new(alloc);
-    let clip = Clip::whole(writer.freeze(&rt, alloc));
-    add(&rt, alloc, &mut clips, clip, 0, 64).expect(&rt, "memory");
-    let version = of_runs(alloc, clips).expect(&rt, "memory");
-    let (columns, auths) = (Items::new(alloc), AuthSet::empty(alloc));
-    let mut session = Session::new(version, columns, auths, 1);
+    let mut session = session_of(&rt, alloc, &mut writer);
     expect_batch(&rt, alloc, &mut session, 1, b"0");
-    write(&rt, alloc, &mut writer, &put(b"b", b"f", b"", 1, b'2'));
-    write(&rt, alloc, &mut writer, &delete(b"c", b"f", 9, b'3'));
-    let later = writer.freeze(&rt, alloc);
-    assert_eq!(rt; later.len(), 2);
+    write_later(&rt, alloc, &mut writer);
     expect_batch(&rt, alloc, &mut session, 9, b"1");
 }
 
@@ -243,19 +260,30 @@ const RANGES: [(End, End, &[u8]); 10] = [
     (End::In(b"d"), End::In(b"a"), b""),
 ];
 
-// The answers in these ranges, one behind the other, are what stands beside them.
-fn expect_ranges(rt: &impl Abort, alloc: Global, session: &Session, picked: &[usize]) {
+// The ranges at these places.
+fn ranges_at(rt: &impl Abort, alloc: Global, picked: &[usize]) -> Vec<Bounds> {
     let mut ranges = Vec::new(alloc);
     for at in picked {
         let (low, high, _) = RANGES[*at % RANGES.len()];
         let (low, high) = (bound(rt, alloc, low), bound(rt, alloc, high));
         ranges.push(Bounds { low, high }).expect(rt, "memory");
     }
+    ranges
+}
+
+// The cells have these names.
+fn expect_names(rt: &impl Abort, alloc: Global, cells: &Cells, want: &[u8]) {
+    let names = names(alloc, cells).expect(rt, "memory");
+    assert!(rt; names.as_slice() == want);
+}
+
+// The answers in these ranges, one behind the other, are what stands beside them.
+fn expect_ranges(rt: &impl Abort, alloc: Global, session: &Session, picked: &[usize]) {
+    let ranges = ranges_at(rt, alloc, picked);
     let answers = session.scan_many(alloc, &ranges).expect(rt, "memory");
-    assert_eq!(rt; answers.as_slice().len(), picked.len());
+    assert!(rt; answers.as_slice().len() == picked.len());
     for (at, cells) in picked.iter().zip(answers.as_slice()) {
-        let names = names(alloc, cells).expect(rt, "memory");
-        assert_eq!(rt; names.as_slice(), RANGES[*at % RANGES.len()].2);
+        expect_names(rt, alloc, cells, RANGES[*at % RANGES.len()].2);
     }
 }
 

@@ -5,7 +5,7 @@ ghost use Rattle.tab_version.specs.Sources.{records_of};
 
 mod cuts;
 
-use crate::reading::{expect_raw, expect_rest, expect_scan, expect_seek};
+use crate::reading::{expect_raw, expect_rest, expect_scan, expect_seek, in_range, table_in_range};
 use crate::writing::{CLOCK, Writer, add, fill, one_tablet};
 use std::alloc::{AllocError, Global};
 use std::process::Abort;
@@ -40,10 +40,8 @@ fn random_run(
 
 // The clip has these records, and no others, also from a key on.
 fn expect_clip(rt: &impl Abort, alloc: Global, clip: &Clip, want: &[Update], sought: &Update) {
-    assert_eq!(rt;
-        (clip.len(), clip.is_empty()),
-        (want.len(), want.is_empty())
-    );
+    assert!(rt; clip.len() == want.len());
+    assert!(rt; clip.is_empty() == want.is_empty());
     let mut cursor = clip.cursor();
     expect_rest(rt, &mut cursor, want);
     expect_seek(rt, alloc, &mut cursor, want, sought)
@@ -59,8 +57,7 @@ fn clipped(
     random: &mut Random,
 ) -> (Clip, Vec<Update>) {
     let high = random.end(&EDGES);
-    let bounds = low.to(alloc, high).expect(rt, "memory");
-    let within = clip.in_rows(&bounds).expect(rt, "memory");
+    let within = in_range(rt, alloc, clip, low, high);
     let want = in_rows(alloc, updates, low, high).expect(rt, "memory");
     expect_clip(rt, alloc, &within, &want, &random_update(random));
     (within, want)
@@ -81,22 +78,39 @@ fn expect_clips(
     }
 }
 
+// Clips of a new run in random rows, and clips of these.
+fn expect_clips_of_run(rt: &impl Abort, alloc: Global, random: &mut Random) {
+    let mut table = Vec::new(alloc);
+    let run = random_run(rt, alloc, random, 0, &mut table);
+    sort(&mut table);
+    let whole = Clip::whole(run);
+    expect_clip(rt, alloc, &whole, &table, &random_update(random));
+    for _ in 0..20 {
+        let low = random.end(&EDGES);
+        let (clip, within) = clipped(rt, alloc, &whole, &table, low, random);
+        expect_clips(rt, alloc, &clip, &within, random);
+    }
+}
+
 #[test]
 fn clips_rows(rt: HostRuntime) {
-    let alloc = rt.alloc();
     let mut random = Random::new(3);
     for _ in 0..20 {
-        let mut table = Vec::new(alloc);
-        let run = random_run(&rt, alloc, &mut random, 0, &mut table);
-        sort(&mut table);
-        let whole = Clip::whole(run);
-        expect_clip(&rt, alloc, &whole, &table, &random_update(&mut random));
-        for _ in 0..20 {
-            let low = random.end(&EDGES);
-            let (clip, within) = clipped(&rt, alloc, &whole, &table, low, &mut random);
-            expect_clips(&rt, alloc, &clip, &within, &mut random);
-        }
+        expect_clips_of_run(&rt, rt.alloc(), &mut random);
     }
+}
+
+// Adds those between the ends to the table.
+fn add_in_rows(
+    rt: &impl Abort,
+    alloc: Global,
+    table: &mut Vec<Update>,
+    updates: &[Update],
+    low: End,
+    high: End,
+) {
+    let within = in_rows(alloc, updates, low, high).expect(rt, "memory");
+    table.extend_from_slice(&within).expect(rt, "memory")
 }
 
 // A clip of a new run in any range; the records in it are added to the table.
@@ -111,11 +125,8 @@ fn random_clip(
     let whole = Clip::whole(random_run(rt, alloc, random, first, &mut written));
     let low = random.end(&EDGES);
     let high = random.end(&EDGES);
-    for update in &in_rows(alloc, &written, low, high).expect(rt, "memory") {
-        table.push(*update).expect(rt, "memory");
-    }
-    let bounds = low.to(alloc, high).expect(rt, "memory");
-    whole.in_rows(&bounds).expect(rt, "memory")
+    add_in_rows(rt, alloc, table, &written, low, high);
+    in_range(rt, alloc, &whole, low, high)
 }
 
 // The clip as one of a table of its own.
@@ -150,8 +161,23 @@ fn last_tabled(alloc: Global, clips: Vec<Clip>) -> Result<Clips, AllocError>
     Ok(Clips::of(runs, tables))
 }
 
-// The clip of a table has these records, and no others, also from a key on, and the rows between the ends.
+// Some rows of a table's clip have these records, and no others, also from a key on.
 fn expect_table_clip(
+    rt: &impl Abort,
+    alloc: Global,
+    clip: &TableClip,
+    want: &[Update],
+    sought: &Update,
+) {
+    assert!(rt; clip.len() == want.len());
+    assert!(rt; clip.is_empty() == want.is_empty());
+    let mut cursor = clip.cursor();
+    expect_rest(rt, &mut cursor, want);
+    expect_seek(rt, alloc, &mut cursor, want, sought)
+}
+
+// The clip of a table has the rows between random ends, and no others, and is as large as the table; its share is alike.
+fn expect_table_clips(
     rt: &impl Abort,
     alloc: Global,
     clip: &TableClip,
@@ -160,17 +186,47 @@ fn expect_table_clip(
 ) {
     let low = random.end(&EDGES);
     let high = random.end(&EDGES);
-    let bounds = low.to(alloc, high).expect(rt, "memory");
-    let part = clip.in_rows(&bounds).expect(rt, "memory");
+    let part = table_in_range(rt, alloc, clip, low, high);
     let within = part.share().expect(rt, "memory");
+    assert!(rt; within.size() == clip.size());
     let want = in_rows(alloc, updates, low, high).expect(rt, "memory");
-    assert_eq!(rt;
-        (within.len(), within.is_empty(), within.size()),
-        (want.len(), want.is_empty(), clip.size())
-    );
-    let mut cursor = within.cursor();
-    expect_rest(rt, &mut cursor, &want);
-    expect_seek(rt, alloc, &mut cursor, &want, &random_update(random))
+    expect_table_clip(rt, alloc, &within, &want, &random_update(random))
+}
+
+// Shares of the clips of a new run, and of a table of it, and what stands in them.
+fn shared_clips(
+    rt: &impl Abort,
+    alloc: Global,
+    random: &mut Random,
+    updates: &mut Vec<Update>,
+) -> Clips {
+    let run = Clip::whole(random_run(rt, alloc, random, 0, updates));
+    sort(updates);
+    let mut clips = Clips::new(alloc);
+    clips
+        .add_run(run.share().expect(rt, "memory"))
+        .expect(rt, "memory");
+    let table = tabled(alloc, run).expect(rt, "memory");
+    clips.add_table(table).expect(rt, "memory");
+    clips.share(alloc).expect(rt, "memory")
+}
+
+// There is a run and a table, and of this twenty random clips.
+fn expect_shared(
+    rt: &impl Abort,
+    alloc: Global,
+    clips: Clips,
+    updates: &[Update],
+    random: &mut Random,
+) {
+    let (runs, tables) = clips.into_parts();
+    assert!(rt; runs.len() == 1);
+    assert!(rt; tables.len() == 1);
+    for clip in &tables {
+        for _ in 0..20 {
+            expect_table_clips(rt, alloc, clip, updates, random);
+        }
+    }
 }
 
 #[test]
@@ -179,22 +235,8 @@ fn clips_rows_of_tables(rt: HostRuntime) {
     let mut random = Random::new(17);
     for _ in 0..20 {
         let mut updates = Vec::new(alloc);
-        let run = random_run(&rt, alloc, &mut random, 0, &mut updates);
-        sort(&mut updates);
-        let mut clips = Clips::new(alloc);
-        let of_run = Clip::whole(run);
-        let shared = of_run.share().expect(&rt, "memory");
-        let of_table = tabled(alloc, of_run).expect(&rt, "memory");
-        clips.add_table(of_table).expect(&rt, "memory");
-        clips.add_run(shared).expect(&rt, "memory");
-        let clips = clips.share(alloc).expect(&rt, "memory");
-        let (runs, tables) = clips.into_parts();
-        assert_eq!(rt; (runs.len(), tables.len()), (1, 1));
-        for clip in &tables {
-            for _ in 0..20 {
-                expect_table_clip(&rt, alloc, clip, &updates, &mut random);
-            }
-        }
+        let clips = shared_clips(&rt, alloc, &mut random, &mut updates);
+        expect_shared(&rt, alloc, clips, &updates, &mut random);
     }
 }
 
@@ -237,20 +279,26 @@ fn compare(
     want.len()
 }
 
+// A new version shows what a table of its records does; how many records.
+fn compare_new(rt: &impl Abort, alloc: Global, random: &mut Random) -> usize {
+    let mut table = Vec::new(alloc);
+    let version = random_version(rt, alloc, random, &mut table);
+    sort(&mut table);
+    expect_raw(rt, alloc, &version, &table);
+    let mut shown = 0usize;
+    for _ in 0..4 {
+        let count = compare(rt, alloc, random, &ROWS, &version, &table);
+        shown = shown.saturating_add(count);
+    }
+    shown
+}
+
 #[test]
 fn stacks_clips(rt: HostRuntime) {
-    let alloc = rt.alloc();
     let mut random = Random::new(5);
     let mut shown = 0usize;
     for _ in 0..300 {
-        let mut table = Vec::new(alloc);
-        let version = random_version(&rt, alloc, &mut random, &mut table);
-        sort(&mut table);
-        expect_raw(&rt, alloc, &version, &table);
-        for _ in 0..4 {
-            let count = compare(&rt, alloc, &mut random, &ROWS, &version, &table);
-            shown = shown.saturating_add(count);
-        }
+        shown = shown.saturating_add(compare_new(&rt, rt.alloc(), &mut random));
     }
     assert!(rt; shown > 2000, "{shown} records were shown");
 }

@@ -56,7 +56,7 @@ fn a_new_core_is_the_smallest_image(rt: HostRuntime) {
     let none = AuthSet::empty(alloc);
     assert!(rt; put_smallest(&rt, &mut output, &none) == Ok(()));
     assert!(rt; output.flush() == Ok(()));
-    assert_eq!(rt; output.get_ref().bytes(), SMALLEST);
+    assert!(rt; output.get_ref().bytes() == SMALLEST);
 }
 
 #[test]
@@ -82,7 +82,7 @@ fn a_table_follows_the_users(rt: HostRuntime) {
     assert!(rt; put_table(&rt, &mut output, &record) == Ok(()));
     assert!(rt; put_end(&mut output) == Ok(()));
     assert!(rt; output.flush() == Ok(()));
-    assert_eq!(rt; output.get_ref().bytes(), ONE_PUT);
+    assert!(rt; output.get_ref().bytes() == ONE_PUT);
 }
 
 #[test]
@@ -96,5 +96,5 @@ fn a_fault_leaves_a_beginning(rt: HostRuntime) {
     let none = AuthSet::empty(alloc);
     assert!(rt; put_smallest(&rt, &mut output, &none) == Ok(()));
     assert!(rt; output.flush() == Err(WriteFault));
-    assert_eq!(rt; output.get_ref().bytes(), &SMALLEST[..21]);
+    assert!(rt; output.get_ref().bytes() == &SMALLEST[..21]);
 }

@@ -49,10 +49,7 @@ fn an_image_that_is_cut_is_none(rt: HostRuntime) {
     let alloc = rt.alloc();
     for bytes in [SMALLEST, ONE_PUT, TWO_TABLES] {
         for length in 0..bytes.len() {
-            assert_eq!(rt;
-                fault_of(&rt, alloc, &bytes[..length], 5),
-                Some(LoadFault::Bad)
-            );
+            assert!(rt; fault_of(&rt, alloc, &bytes[..length], 5) == Some(LoadFault::Bad));
         }
     }
 }
@@ -63,7 +60,7 @@ fn nothing_follows_an_image(rt: HostRuntime) {
     for bytes in [SMALLEST, ONE_PUT, TWO_TABLES] {
         let mut longer = Vec::from_slice(alloc, bytes).expect(&rt, "memory");
         longer.push(0).expect(&rt, "memory");
-        assert_eq!(rt; fault_of(&rt, alloc, &longer, 1000), Some(LoadFault::Bad));
+        assert!(rt; fault_of(&rt, alloc, &longer, 1000) == Some(LoadFault::Bad));
     }
 }
 
@@ -107,10 +104,7 @@ fn told_of_each(rt: &impl Abort, alloc: Global, bytes: &[u8]) -> Vec<u8> {
 fn one_byte_of_the_smallest_image_is_changed(rt: HostRuntime) {
     let alloc = rt.alloc();
     let all = told_of_each(&rt, alloc, SMALLEST);
-    assert_eq!(rt;
-        all.as_slice(),
-        b"------vviiiiiiiiiiiiiiii-------------------------".as_slice()
-    );
+    assert!(rt; all.as_slice() == b"------vviiiiiiiiiiiiiiii-------------------------".as_slice());
 }
 
 #[test]
@@ -118,17 +112,11 @@ fn one_byte_of_a_table_is_changed(rt: HostRuntime) {
     let alloc = rt.alloc();
     let all = told_of_each(&rt, alloc, ONE_PUT);
     let front = all.get(..49).expect(&rt, "all before the table's name");
-    assert_eq!(rt;
-        front,
-        b"------vviiiiiiiiiiiiiiii-------------------------".as_slice()
-    );
+    assert!(rt; front == b"------vviiiiiiiiiiiiiiii-------------------------".as_slice());
     let middle = all.get(49..85).expect(&rt, "up to the row");
-    assert_eq!(rt; middle, b"ii--iii-----------------------------".as_slice());
+    assert!(rt; middle == b"ii--iii-----------------------------".as_slice());
     let behind = all.get(85..).expect(&rt, "the record, and the mark");
-    assert_eq!(rt;
-        behind,
-        b"i----i----i----iiiiiiii-----------ii----i----".as_slice()
-    );
+    assert!(rt; behind == b"i----i----i----iiiiiiii-----------ii----i----".as_slice());
 }
 
 // Whether each byte behind the version, where it is this one, gives an image that is written so again, or none.
@@ -154,36 +142,21 @@ fn whatever_is_read_is_written_so(rt: HostRuntime) {
 fn an_unknown_version_is_told(rt: HostRuntime) {
     let alloc = rt.alloc();
     let none = changed(&rt, alloc, ONE_PUT, 7, 0);
-    assert_eq!(rt;
-        fault_of(&rt, alloc, &none, 1000),
-        Some(LoadFault::Version(0))
-    );
+    assert!(rt; fault_of(&rt, alloc, &none, 1000) == Some(LoadFault::Version(0)));
     let two = changed(&rt, alloc, ONE_PUT, 7, 2);
-    assert_eq!(rt;
-        fault_of(&rt, alloc, &two, 1000),
-        Some(LoadFault::Version(2))
-    );
+    assert!(rt; fault_of(&rt, alloc, &two, 1000) == Some(LoadFault::Version(2)));
     let nine = changed(&rt, alloc, ONE_PUT, 7, 9);
-    assert_eq!(rt;
-        fault_of(&rt, alloc, &nine, 1000),
-        Some(LoadFault::Version(9))
-    );
+    assert!(rt; fault_of(&rt, alloc, &nine, 1000) == Some(LoadFault::Version(9)));
     let high = changed(&rt, alloc, ONE_PUT, 6, 1);
-    assert_eq!(rt;
-        fault_of(&rt, alloc, &high, 1),
-        Some(LoadFault::Version(257))
-    );
+    assert!(rt; fault_of(&rt, alloc, &high, 1) == Some(LoadFault::Version(257)));
     let front = nine.get(..8).expect(&rt, "six bytes and a version");
-    assert_eq!(rt; fault_of(&rt, alloc, front, 1), Some(LoadFault::Version(9)));
+    assert!(rt; fault_of(&rt, alloc, front, 1) == Some(LoadFault::Version(9)));
 }
 
 #[test]
 fn a_record_stands_once(rt: HostRuntime) {
     let alloc = rt.alloc();
-    assert_eq!(rt;
-        fault_of(&rt, alloc, EQUAL_RECORDS, 1000),
-        Some(LoadFault::Bad)
-    );
+    assert!(rt; fault_of(&rt, alloc, EQUAL_RECORDS, 1000) == Some(LoadFault::Bad));
 }
 
 #[test]
@@ -195,6 +168,6 @@ fn a_read_that_fails_is_told(rt: HostRuntime) {
             kind: ErrorKind::Other,
         });
         let mut input = BlockReader::new(alloc, reader).expect(&rt, "memory");
-        assert_eq!(rt; read_image(alloc, &mut input).err(), Some(LoadFault::Io));
+        assert!(rt; read_image(alloc, &mut input).err() == Some(LoadFault::Io));
     }
 }

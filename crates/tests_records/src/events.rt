@@ -21,13 +21,13 @@ fn copies_a_write(rt: HostRuntime) {
         act: Act::Write(name(&rt, b"t"), mutation),
     };
     let copy = copied(&written).expect(&rt, "memory");
-    assert_eq!(rt; copy.user.as_bytes(), b"root".as_slice());
-    assert_eq!(rt; copy.moment, -7);
+    assert!(rt; copy.user.as_bytes() == b"root".as_slice());
+    assert!(rt; copy.moment == -7);
     match &copy.act {
         Act::Write(table, mutation) => {
-            assert_eq!(rt; table.as_bytes(), b"t".as_slice());
-            assert_eq!(rt; mutation.row(), b"row".as_slice());
-            assert_eq!(rt; mutation.len(), 1);
+            assert!(rt; table.as_bytes() == b"t".as_slice());
+            assert!(rt; mutation.row() == b"row".as_slice());
+            assert!(rt; mutation.len() == 1);
         }
         _ => panic!(rt; "a write"),
     }
@@ -71,9 +71,9 @@ fn table_of(act: &Act) -> Option<Name> {
 // A copy of this act is that work on the table t.
 fn expect_copied(rt: &impl Abort, act: Act, want: &'static str) {
     let copy = copy_of(rt, act);
-    assert_eq!(rt; kind_of(&copy), want);
+    assert!(rt; kind_of(&copy) == want);
     let table = table_of(&copy).expect(rt, "a table");
-    assert_eq!(rt; table.as_bytes(), b"t".as_slice());
+    assert!(rt; table.as_bytes() == b"t".as_slice());
 }
 
 #[test]
@@ -130,14 +130,14 @@ fn copies_parts_of_compactions(rt: HostRuntime) {
     let copy = copy_of(&rt, Act::Begin(table, row, Compaction::Partial));
     assert!(rt; is_begin(&copy));
     let copy = copy_of(&rt, Act::Install(table, Given::InSlot(u64::MAX)));
-    assert_eq!(rt; given_of(&copy), Some(Given::InSlot(u64::MAX)));
+    assert!(rt; given_of(&copy) == Some(Given::InSlot(u64::MAX)));
     let copy = copy_of(&rt, Act::Install(table, Given::ByHand(7)));
-    assert_eq!(rt; given_of(&copy), Some(Given::ByHand(7)));
+    assert!(rt; given_of(&copy) == Some(Given::ByHand(7)));
 }
 
 #[test]
 fn counts_versions_from_1_to_1000(rt: HostRuntime) {
-    assert_eq!(rt; Versions::one().get(), 1);
+    assert!(rt; Versions::one().get() == 1);
     for (count, is_counted) in [
         (0u64, false),
         (1, true),
@@ -145,7 +145,7 @@ fn counts_versions_from_1_to_1000(rt: HostRuntime) {
         (1001, false),
         (u64::MAX, false),
     ] {
-        assert_eq!(rt; Versions::new(count).is_some(), is_counted, "{count}");
+        assert!(rt; Versions::new(count).is_some() == is_counted);
     }
 }
 
@@ -165,7 +165,7 @@ fn handed_out(
         Reply::Nothing => "nothing",
         _ => "something else",
     };
-    assert_eq!(rt; text, want);
+    assert!(rt; text == want);
     (session, job)
 }
 
@@ -178,11 +178,11 @@ fn expect_none(rt: &impl Abort, reply: Reply<u8, u16>, want: &'static str) {
 #[test]
 fn parts_a_reply_and_what_it_hands_out(rt: HostRuntime) {
     let (session, job) = handed_out(&rt, Reply::Opened(3), "opened");
-    assert_eq!(rt; session, Some(3));
-    assert_eq!(rt; job, None);
+    assert!(rt; session == Some(3));
+    assert!(rt; job.is_none());
     let (session, job) = handed_out(&rt, Reply::Begun(4), "begun");
-    assert_eq!(rt; session, None);
-    assert_eq!(rt; job, Some(4));
+    assert!(rt; session.is_none());
+    assert!(rt; job == Some(4));
     expect_none(&rt, Reply::Nothing, "nothing");
     expect_none(&rt, Reply::Done, "done");
     expect_none(&rt, Reply::Ranges(Items::new(rt.alloc())), "ranges");

@@ -9,20 +9,17 @@ fn orders_names(rt: HostRuntime) {
     let first = Name::new(b"T").expect(&rt, "a name");
     let second = Name::new(b"t").expect(&rt, "a name");
     assert!(rt; first < second && first != second && first == first);
-    assert_eq!(rt; first.cmp(&second), Ordering::Less);
-    assert_eq!(rt; first.partial_cmp(&second), Some(Ordering::Less));
+    assert!(rt; first.cmp(&second) == Ordering::Less);
+    assert!(rt; first.partial_cmp(&second) == Some(Ordering::Less));
 }
 
 #[test]
 fn prefixes_order_rows(rt: HostRuntime) {
     assert!(rt; row_prefix(b"a") < row_prefix(b"ab") && row_prefix(b"ab") < row_prefix(b"b"));
     assert!(rt; row_prefix(b"sixteen bytes: a") < row_prefix(b"sixteen bytes: b"));
-    assert_eq!(rt;
-        row_prefix(b"sixteen bytes: a"),
-        row_prefix(b"sixteen bytes: a, and more")
-    );
-    assert_eq!(rt; row_prefix(b"a"), row_prefix(b"a\0"));
-    assert_eq!(rt; row_prefix(b""), 0);
+    assert!(rt; row_prefix(b"sixteen bytes: a") == row_prefix(b"sixteen bytes: a, and more"));
+    assert!(rt; row_prefix(b"a") == row_prefix(b"a\0"));
+    assert!(rt; row_prefix(b"") == 0);
 }
 
 fn bound(rt: &impl Abort, alloc: Global, inclusive: bool, row: &[u8]) -> Bound {
@@ -50,18 +47,15 @@ fn between(low: Bound, high: Bound) -> Option<[bool; 3]> {
 fn ranges_hold_rows(rt: HostRuntime) {
     let alloc = rt.alloc();
     let all = between(bound(&rt, alloc, true, b"a"), bound(&rt, alloc, true, b"b"));
-    assert_eq!(rt; all, Some([true, true, true]));
+    assert!(rt; all == Some([true, true, true]));
     let inner = between(
         bound(&rt, alloc, false, b"a"),
         bound(&rt, alloc, false, b"b"),
     );
-    assert_eq!(rt; inner, Some([false, true, false]));
+    assert!(rt; inner == Some([false, true, false]));
     let one = between(bound(&rt, alloc, true, b"a"), bound(&rt, alloc, true, b"a"));
-    assert_eq!(rt; one, Some([true, false, false]));
-    assert_eq!(rt;
-        between(Bound::Unbounded, Bound::Unbounded),
-        Some([true, true, true])
-    );
+    assert!(rt; one == Some([true, false, false]));
+    assert!(rt; between(Bound::Unbounded, Bound::Unbounded) == Some([true, true, true]));
 }
 
 #[test]
@@ -71,40 +65,37 @@ fn bad_bounds_are_no_range(rt: HostRuntime) {
         bound(&rt, alloc, true, b"a"),
         bound(&rt, alloc, false, b"a"),
     );
-    assert_eq!(rt; open, None);
+    assert!(rt; open.is_none());
     let turned = between(
         bound(&rt, alloc, true, b"b"),
         bound(&rt, alloc, true, b"ab"),
     );
-    assert_eq!(rt; turned, None);
+    assert!(rt; turned.is_none());
 }
 
 #[test]
 fn prints_for_a_reader(rt: HostRuntime) {
     let alloc = rt.alloc();
     let bound = Bound::Inclusive(ByteString::from_slice(alloc, b"a\"").expect(&rt, "memory"));
-    assert_eq!(rt;
+    assert!(rt;
         format!(in alloc; "{bound:?}")
             .expect(&rt, "memory")
-            .as_str(),
-        "Inclusive(\"a\\\"\")"
+            .as_str()
+            == "Inclusive(\"a\\\"\")"
     );
     let bytes = ByteString::from_slice(alloc, b"\xff").expect(&rt, "memory");
-    assert_eq!(rt;
+    assert!(rt;
         format!(in alloc; "{bytes:?}")
             .expect(&rt, "memory")
-            .as_str(),
-        "[255]"
+            .as_str()
+            == "[255]"
     );
     let name = Name::new(b"t").expect(&rt, "a name");
-    assert_eq!(rt;
-        format!(in alloc; "{name:?}").expect(&rt, "memory").as_str(),
-        "\"t\""
-    );
-    assert_eq!(rt;
+    assert!(rt; format!(in alloc; "{name:?}").expect(&rt, "memory").as_str() == "\"t\"");
+    assert!(rt;
         format!(in alloc; "{BadRange}")
             .expect(&rt, "memory")
-            .as_str(),
-        "the bounds leave no range"
+            .as_str()
+            == "the bounds leave no range"
     );
 }

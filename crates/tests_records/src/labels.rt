@@ -42,12 +42,12 @@ fn depths(rt: HostRuntime) {
 fn trees(rt: HostRuntime) {
     let label = Label::parse(rt.alloc(), b"a&(b|\"c\\\"d\")").expect(&rt, "a label");
     let shown = format!(in rt.alloc(); "{label:?}").expect(&rt, "memory");
-    assert_eq!(rt;
-        shown.as_str(),
-        "Only(Join(And, [Term([97]), Join(Or, [Term([98]), Term([99, 34, 100])])]))"
+    assert!(rt;
+        shown.as_str()
+            == "Only(Join(And, [Term([97]), Join(Or, [Term([98]), Term([99, 34, 100])])]))"
     );
     let empty = Label::parse(rt.alloc(), b"").expect(&rt, "a label");
     assert!(rt; matches!(empty, Label::Everyone));
     let fault = format!(in rt.alloc(); "{}", LabelFault::Malformed(3)).expect(&rt, "memory");
-    assert_eq!(rt; fault.as_str(), "malformed label at 3");
+    assert!(rt; fault.as_str() == "malformed label at 3");
 }

@@ -76,28 +76,30 @@ fn holders_of(rt: &impl Abort, alloc: Global, policy: &Policy, table: &[u8]) -> 
     text
 }
 
+fn expect_users(rt: &impl Abort, alloc: Global, policy: &Policy, want: &[u8]) {
+    let text = users_of(rt, alloc, policy);
+    assert!(rt; text.as_slice() == want)
+}
+
+// These are the holders of rights on t.
+fn expect_holders(rt: &impl Abort, alloc: Global, policy: &Policy, want: &[u8]) {
+    let text = holders_of(rt, alloc, policy, b"t");
+    assert!(rt; text.as_slice() == want)
+}
+
 #[test]
 fn users_by_name(rt: HostRuntime) {
     let mut policy = Policy::new(rt.alloc()).expect(&rt, "memory");
-    assert_eq!(rt;
-        users_of(&rt, rt.alloc(), &policy).as_slice(),
-        b"root ".as_slice()
-    );
+    expect_users(&rt, rt.alloc(), &policy, b"root ");
     make(&rt, &mut policy, b"b");
     make(&rt, &mut policy, b"Z");
     make(&rt, &mut policy, b"a");
     make(&rt, &mut policy, b"a-a");
     make(&rt, &mut policy, b"b");
-    assert_eq!(rt;
-        users_of(&rt, rt.alloc(), &policy).as_slice(),
-        b"Z a a-a b root ".as_slice()
-    );
+    expect_users(&rt, rt.alloc(), &policy, b"Z a a-a b root ");
     policy.drop_user(&named(&rt, b"a"));
     policy.drop_user(&named(&rt, b"nobody"));
-    assert_eq!(rt;
-        users_of(&rt, rt.alloc(), &policy).as_slice(),
-        b"Z a-a b root ".as_slice()
-    );
+    expect_users(&rt, rt.alloc(), &policy, b"Z a-a b root ");
 }
 
 #[test]
@@ -110,25 +112,13 @@ fn holders_by_name(rt: HostRuntime) {
     grant(&rt, &mut policy, b"Z", TablePermission::Grant);
     grant(&rt, &mut policy, b"b", TablePermission::Write);
     grant(&rt, &mut policy, b"z", TablePermission::DropTable);
-    assert_eq!(rt;
-        holders_of(&rt, rt.alloc(), &policy, b"t").as_slice(),
-        b"ZG bW mRWAGD zRD ".as_slice()
-    );
+    expect_holders(&rt, rt.alloc(), &policy, b"ZG bW mRWAGD zRD ");
     revoke(&rt, &mut policy, b"b", TablePermission::Write);
     revoke(&rt, &mut policy, b"m", TablePermission::Read);
-    assert_eq!(rt;
-        holders_of(&rt, rt.alloc(), &policy, b"t").as_slice(),
-        b"ZG mWAGD zRD ".as_slice()
-    );
-    assert_eq!(rt;
-        holders_of(&rt, rt.alloc(), &policy, b"u").as_slice(),
-        b"".as_slice()
-    );
+    expect_holders(&rt, rt.alloc(), &policy, b"ZG mWAGD zRD ");
+    assert!(rt; holders_of(&rt, rt.alloc(), &policy, b"u").is_empty());
     policy.drop_table(&named(&rt, b"t"));
-    assert_eq!(rt;
-        holders_of(&rt, rt.alloc(), &policy, b"t").as_slice(),
-        b"".as_slice()
-    );
+    expect_holders(&rt, rt.alloc(), &policy, b"");
 }
 
 #[test]
@@ -137,22 +127,13 @@ fn nobody_inherits(rt: HostRuntime) {
     make(&rt, &mut policy, b"b");
     grant(&rt, &mut policy, b"b", TablePermission::Read);
     policy.drop_user(&named(&rt, b"b"));
-    assert_eq!(rt;
-        holders_of(&rt, rt.alloc(), &policy, b"t").as_slice(),
-        b"mRWAGD ".as_slice()
-    );
+    expect_holders(&rt, rt.alloc(), &policy, b"mRWAGD ");
     make(&rt, &mut policy, b"b");
     make(&rt, &mut policy, b"m");
-    assert_eq!(rt;
-        holders_of(&rt, rt.alloc(), &policy, b"t").as_slice(),
-        b"".as_slice()
-    );
+    expect_holders(&rt, rt.alloc(), &policy, b"");
     grant(&rt, &mut policy, b"m", TablePermission::Read);
     grant(&rt, &mut policy, b"b", TablePermission::Write);
-    assert_eq!(rt;
-        holders_of(&rt, rt.alloc(), &policy, b"t").as_slice(),
-        b"bW mR ".as_slice()
-    );
+    expect_holders(&rt, rt.alloc(), &policy, b"bW mR ");
 }
 
 // So many lives end that their rights are taken away: those who are living keep theirs.
@@ -166,14 +147,8 @@ fn many_lives(rt: HostRuntime) {
         grant(&rt, &mut policy, b"gone", TablePermission::Read);
         policy.drop_user(&named(&rt, b"gone"));
     }
-    assert_eq!(rt;
-        holders_of(&rt, rt.alloc(), &policy, b"t").as_slice(),
-        b"keptW mRWAGD ".as_slice()
-    );
-    assert_eq!(rt;
-        users_of(&rt, rt.alloc(), &policy).as_slice(),
-        b"kept m root ".as_slice()
-    );
+    expect_holders(&rt, rt.alloc(), &policy, b"keptW mRWAGD ");
+    expect_users(&rt, rt.alloc(), &policy, b"kept m root ");
 }
 
 // A table that is put has no holders, and takes the place of the one that there was.
@@ -181,13 +156,7 @@ fn many_lives(rt: HostRuntime) {
 fn a_table_of_nobody(rt: HostRuntime) {
     let mut policy = with_table(&rt, rt.alloc(), b"m");
     policy.put_table(&named(&rt, b"t")).expect(&rt, "memory");
-    assert_eq!(rt;
-        holders_of(&rt, rt.alloc(), &policy, b"t").as_slice(),
-        b"".as_slice()
-    );
+    expect_holders(&rt, rt.alloc(), &policy, b"");
     grant(&rt, &mut policy, b"root", TablePermission::Read);
-    assert_eq!(rt;
-        holders_of(&rt, rt.alloc(), &policy, b"t").as_slice(),
-        b"rootR ".as_slice()
-    );
+    expect_holders(&rt, rt.alloc(), &policy, b"rootR ");
 }

@@ -56,8 +56,8 @@ fn record(rt: &impl Abort, alloc: Global, line: Line) -> Record {
 fn expect_order(rt: &impl Abort, alloc: Global, first: Line, second: Line, want: Ordering) {
     let one = record(rt, alloc, first);
     let other = record(rt, alloc, second);
-    assert_eq!(rt; one.cmp(&other), want);
-    assert_eq!(rt; one.same_column(&other), first.label == second.label);
+    assert!(rt; one.cmp(&other) == want);
+    assert!(rt; one.same_column(&other) == (first.label == second.label));
 }
 
 #[test]
@@ -115,7 +115,7 @@ fn selects_columns(rt: HostRuntime) {
         (b"", b"q", false),
     ] {
         let key = key(family, qualifier, b"", 0);
-        assert_eq!(rt; is_selected(&columns, key), want);
+        assert!(rt; is_selected(&columns, key) == want);
         assert!(rt; is_selected(&[], key));
     }
 }
@@ -131,10 +131,10 @@ fn orders_columns(rt: HostRuntime) {
         // The parts are compared one by one, and not as one text.
         (key(b"fq", b"", b"", 1), Ordering::Less),
     ] {
-        assert_eq!(rt; base.column_cmp(other), want);
-        assert_eq!(rt; base.same_column(other), want == Ordering::Equal);
+        assert!(rt; base.column_cmp(other) == want);
+        assert!(rt; base.same_column(other) == want.is_eq());
     }
-    assert_eq!(rt; base.cmp(key(b"f", b"q", b"B", 2)), Ordering::Greater);
+    assert!(rt; base.cmp(key(b"f", b"q", b"B", 2)) == Ordering::Greater);
 }
 
 #[test]
@@ -142,9 +142,10 @@ fn keeps_bytes(rt: HostRuntime) {
     let alloc = rt.alloc();
     let text = bytes(&rt, alloc, b"a\0b");
     let copy = text.clone().expect(&rt, "memory");
-    assert_eq!(rt; copy.as_bytes(), b"a\0b".as_slice());
+    assert!(rt; copy.as_bytes() == b"a\0b".as_slice());
     assert!(rt; text == copy && copy > ByteString::new(alloc));
-    assert_eq!(rt; (copy.len(), copy.is_empty()), (3, false));
+    assert!(rt; copy.len() == 3);
+    assert!(rt; !copy.is_empty());
     let back = ByteString::from_vec(copy.into_vec());
     assert!(rt; back == text);
 }
@@ -156,6 +157,7 @@ fn keeps_items(rt: HostRuntime) {
     list.push(bytes(&rt, alloc, b"a")).expect(&rt, "memory");
     list.push(bytes(&rt, alloc, b"b")).expect(&rt, "memory");
     let copy = Items::from_vec(list).clone().expect(&rt, "memory");
-    assert_eq!(rt; (copy.len(), copy.is_empty()), (2, false));
-    assert_eq!(rt; copy.as_slice()[1].as_bytes(), b"b".as_slice());
+    assert!(rt; copy.len() == 2);
+    assert!(rt; !copy.is_empty());
+    assert!(rt; copy.as_slice()[1].as_bytes() == b"b".as_slice());
 }

@@ -24,7 +24,7 @@ fn again(rt: &impl Abort, alloc: Global, core: &Core) -> Core {
 fn a_new_core_is_the_smallest_image(rt: HostRuntime) {
     let alloc = rt.alloc();
     let core = new(&rt, alloc);
-    assert_eq!(rt; saved(&rt, alloc, &core).as_slice(), SMALLEST);
+    assert!(rt; saved(&rt, alloc, &core).as_slice() == SMALLEST);
     assert!(rt; goes_round(&rt, alloc, SMALLEST, 1));
 }
 
@@ -51,8 +51,8 @@ fn each_tablet_has_one_sorted_table(rt: HostRuntime) {
     let alloc = rt.alloc();
     let mut core = full(&rt, alloc);
     let mut copy = again(&rt, alloc, &core);
-    assert_eq!(rt; counts(&rt, alloc, &mut core), [3, 3, 6]);
-    assert_eq!(rt; counts(&rt, alloc, &mut copy), [3, 3, 6]);
+    assert!(rt; counts(&rt, alloc, &mut core) == [3, 3, 6]);
+    assert!(rt; counts(&rt, alloc, &mut copy) == [3, 3, 6]);
 }
 
 #[test]
@@ -60,8 +60,8 @@ fn clock_and_numbers_go_on(rt: HostRuntime) {
     let alloc = rt.alloc();
     let core = full(&rt, alloc);
     let copy = again(&rt, alloc, &core);
-    assert_eq!(rt; copy.clock(), 7);
-    assert_eq!(rt; copy.next(), 6);
+    assert!(rt; copy.clock() == 7);
+    assert!(rt; copy.next() == 6);
 }
 
 // What the user is told of himself and t: authorizations, whether he may create tables, and whether he may read t and drop it.
@@ -84,18 +84,9 @@ fn users_keep_what_they_hold(rt: HostRuntime) {
     let alloc = rt.alloc();
     let core = full(&rt, alloc);
     let mut copy = again(&rt, alloc, &core);
-    assert_eq!(rt;
-        rights(&rt, alloc, &mut copy, b"ann"),
-        (2, [false, true, true])
-    );
-    assert_eq!(rt;
-        rights(&rt, alloc, &mut copy, b"bob"),
-        (0, [true, false, false])
-    );
-    assert_eq!(rt;
-        rights(&rt, alloc, &mut copy, b"root"),
-        (0, [true, true, true])
-    );
+    assert!(rt; rights(&rt, alloc, &mut copy, b"ann") == (2, [false, true, true]));
+    assert!(rt; rights(&rt, alloc, &mut copy, b"bob") == (0, [true, false, false]));
+    assert!(rt; rights(&rt, alloc, &mut copy, b"root") == (0, [true, true, true]));
 }
 
 #[test]
@@ -115,7 +106,7 @@ fn tables_end_at_the_same_rows(rt: HostRuntime) {
             for row in rows.as_slice() {
                 text.extend_from_slice(row.as_bytes()).expect(&rt, "memory");
             }
-            assert_eq!(rt; text.as_slice(), b"cm".as_slice());
+            assert!(rt; text.as_slice() == b"cm".as_slice());
         }
         _ => panic!(rt; "there are no rows"),
     }

@@ -11,6 +11,7 @@
 //! | `jobs` | `tab_shell`: compactions in three parts, past the blocks of its streams, and where memory may lack (`rt try --test --fail-alloc N` lets it) |
 //! | `files` | `tab_shell`, `tab_prog`: lines that name a file |
 //! | `programs` | `tab_prog`: a subcommand from its input to its output |
+//! | `running` | helpers: scripts, their inputs and outputs in memory, and how a run ends |
 #![tactic(auto)]
 
 #[cfg(test)]
@@ -19,6 +20,8 @@ mod files;
 mod jobs;
 #[cfg(test)]
 mod programs;
+#[cfg(test)]
+mod running;
 #[cfg(test)]
 mod scripts;
 #[cfg(test)]

@@ -1,5 +1,8 @@
 //! A subcommand from its input to its output.
+use crate::running::{expect_written, input, output};
+use std::alloc::Global;
 use std::io::ErrorKind;
+use std::process::Abort;
 use tab_core::Core;
 use tab_io::memory::{Fault, PieceReader, PieceWriter};
 use tab_io::{BlockReader, BlockWriter};
@@ -25,30 +28,64 @@ impl Files for Nowhere {
 
 const LINES: &[u8] = b"createtable t\ninsert t r f q \\e v 5\nscan t \\0\n";
 
-#[test]
-fn answers_all_lines(rt: HostRuntime) {
-    let alloc = rt.alloc();
-    let mut input = BlockReader::new(alloc, PieceReader::new(LINES, 10)).expect(&rt, "memory");
-    let mut output = BlockWriter::new(alloc, PieceWriter::new(alloc, 10)).expect(&rt, "memory");
-    assert!(rt; script(alloc, &mut Nowhere, &mut input, &mut output) == Ok(()));
-    assert_eq!(rt;
-        output.get_ref().bytes(),
-        b"ok\nok\nr f q \\e 5 v\nend\n".as_slice()
-    );
+const ANSWERS: &[u8] = b"ok\nok\nr f q \\e 5 v\nend\n";
+
+fn run(
+    alloc: Global,
+    input: &mut BlockReader<PieceReader<'_>>,
+    output: &mut BlockWriter<PieceWriter>,
+) -> Result<(), ProgramFault> {
+    script(alloc, &mut Nowhere, input, output)
+}
+
+// What the subcommand ends with, run on the lines, and what is written then.
+fn expect_end(
+    rt: &impl Abort,
+    alloc: Global,
+    reader: PieceReader<'_>,
+    writer: PieceWriter,
+    want: (Result<(), ProgramFault>, &[u8]),
+) {
+    let mut input = input(rt, alloc, reader);
+    let mut output = output(rt, alloc, writer);
+    assert!(rt; run(alloc, &mut input, &mut output) == want.0);
+    expect_written(rt, &output, want.1)
 }
 
 #[test]
-fn tells_which_side_failed(rt: HostRuntime) {
+fn answers_all_lines(rt: HostRuntime) {
+    let alloc = rt.alloc();
+    let reader = PieceReader::new(LINES, 10);
+    let writer = PieceWriter::new(alloc, 10);
+    expect_end(&rt, alloc, reader, writer, (Ok(()), ANSWERS))
+}
+
+#[test]
+fn tells_that_the_input_failed(rt: HostRuntime) {
     let alloc = rt.alloc();
     let kind = ErrorKind::Other;
     let reader = PieceReader::new(LINES, 14).failing(Fault { after: 1, kind });
-    let mut input = BlockReader::new(alloc, reader).expect(&rt, "memory");
-    let mut output = BlockWriter::new(alloc, PieceWriter::new(alloc, 10)).expect(&rt, "memory");
-    assert!(rt; script(alloc, &mut Nowhere, &mut input, &mut output) == Err(ProgramFault::Read));
-    assert_eq!(rt; output.get_ref().bytes(), b"ok\n".as_slice());
+    let writer = PieceWriter::new(alloc, 10);
+    expect_end(
+        &rt,
+        alloc,
+        reader,
+        writer,
+        (Err(ProgramFault::Read), b"ok\n"),
+    )
+}
 
-    let mut input = BlockReader::new(alloc, PieceReader::new(LINES, 14)).expect(&rt, "memory");
+#[test]
+fn tells_that_the_output_failed(rt: HostRuntime) {
+    let alloc = rt.alloc();
+    let kind = ErrorKind::Other;
+    let reader = PieceReader::new(LINES, 14);
     let writer = PieceWriter::new(alloc, 2).failing(Fault { after: 1, kind });
-    let mut output = BlockWriter::new(alloc, writer).expect(&rt, "memory");
-    assert!(rt; script(alloc, &mut Nowhere, &mut input, &mut output) == Err(ProgramFault::Write));
+    expect_end(
+        &rt,
+        alloc,
+        reader,
+        writer,
+        (Err(ProgramFault::Write), b"ok"),
+    )
 }

@@ -1,37 +1,34 @@
 //! Scripts cut anywhere, and what a fault in the middle of a stream leaves.
+use crate::running::{
+    expect_printed, expect_run, expect_written, input, new_output, new_script, output,
+};
 use std::alloc::Global;
 use std::io::ErrorKind;
 use std::process::Abort;
-use tab_core::Core;
 use tab_history::{Counts, Refusal, Reply};
 use tab_io::memory::{Fault, PieceReader, PieceWriter};
-use tab_io::{BlockReader, BlockWriter, Output};
+use tab_io::{BlockWriter, Output};
 use tab_key::{Cells, Items, Key, Kind, Part, Record};
 use tab_lines::lines_are_forms;
-use tab_shell::{Ended, Script, ScriptFault, write_reply};
-
-// What a new script prints for these lines, read in pieces of this length.
-fn printed(rt: &impl Abort, alloc: Global, lines: &[u8], piece: usize) -> Vec<u8> {
-    let mut script = Script::new(alloc, Core::new(alloc).expect(rt, "memory"));
-    let mut input = BlockReader::new(alloc, PieceReader::new(lines, piece)).expect(rt, "memory");
-    let mut output = BlockWriter::new(alloc, PieceWriter::new(alloc, 1000)).expect(rt, "memory");
-    script.run(&mut input, &mut output).expect(rt, "written");
-    let _core = script.core();
-    Vec::from_slice(alloc, output.get_ref().bytes()).expect(rt, "memory")
-}
+use tab_shell::write_reply;
 
 const LINES: &[u8] =
     b"createtable t\ninsert t r f q \\e v 5\nbogus\nflush t\ncompact t full\nscan t \\0";
+
+const TOLD: &[u8] = b"ok\nok\nline fault\nok\nok\nr f q \\e 5 v\nend\n";
+
+// A new script prints this for the lines, read in pieces of this length.
+fn expect_told(rt: &impl Abort, alloc: Global, lines: &[u8], piece: usize, want: &[u8]) {
+    let mut script = new_script(rt, alloc);
+    expect_printed(rt, alloc, &mut script, lines, piece, want);
+    let _core = script.core();
+}
 
 #[test]
 fn answers_lines_wherever_they_are_cut(rt: HostRuntime) {
     lines_are_forms();
     for piece in [1, 7, 1000] {
-        let text = printed(&rt, rt.alloc(), LINES, piece);
-        assert_eq!(rt;
-            text.as_slice(),
-            b"ok\nok\nline fault\nok\nok\nr f q \\e 5 v\nend\n".as_slice()
-        );
+        expect_told(&rt, rt.alloc(), LINES, piece, TOLD);
     }
 }
 
@@ -43,65 +40,63 @@ const ANSWERS: &[u8] =
 
 #[test]
 fn keeps_sessions_by_number(rt: HostRuntime) {
-    let text = printed(&rt, rt.alloc(), SESSIONS, 1000);
-    assert_eq!(rt; text.as_slice(), ANSWERS);
+    expect_told(&rt, rt.alloc(), SESSIONS, 1000, ANSWERS)
+}
+
+// The replies whose lines stand in `REPLIES`, in this order; those that open a session and begin a job have none.
+fn reply(place: u32) -> Reply {
+    match place {
+        0 => Reply::Done,
+        1 => Reply::Opened(()),
+        2 => Reply::Begun(()),
+        3 => Reply::Nothing,
+        4 => Reply::Counted(Counts {
+            tablets: 1,
+            sources: 20,
+            records: u64::MAX,
+        }),
+        _ => Reply::Refused(refusal(place)),
+    }
+}
+
+fn refusal(place: u32) -> Refusal {
+    match place {
+        5 => Refusal::MalformedVisibility(3, 14),
+        6 => Refusal::TooLarge(Part::Sessions),
+        7 => Refusal::RootFixed,
+        8 => Refusal::GrantInvalid,
+        9 => Refusal::NoSession(4_294_967_295),
+        10 => Refusal::Stale(u64::MAX),
+        _ => Refusal::NoJob(u64::MAX),
+    }
+}
+
+const REPLIES: &[u8] = b"ok\nnothing\n\
+tablets 1 sources 20 records 18446744073709551615\n\
+refused 5 MalformedVisibility 3 14\n\
+refused 9 TooLarge sessions\n\
+refused 18 RootFixed\n\
+refused 19 GrantInvalid\n\
+refused 15 NoSession 4294967295\n\
+refused 14 Stale 18446744073709551615\n\
+refused 15 NoSession 18446744073709551615\n";
+
+fn write(rt: &impl Abort, output: &mut BlockWriter<PieceWriter>, reply: Reply) {
+    write_reply(output, &reply).expect(rt, "written");
 }
 
 #[test]
 fn writes_replies(rt: HostRuntime) {
-    for (reply, want) in [
-        (Reply::Done, b"ok\n".as_slice()),
-        (Reply::Opened(()), b"".as_slice()),
-        (Reply::Begun(()), b"".as_slice()),
-        (Reply::Nothing, b"nothing\n".as_slice()),
-        (
-            Reply::Refused(Refusal::MalformedVisibility(3, 14)),
-            b"refused 5 MalformedVisibility 3 14\n".as_slice(),
-        ),
-        (
-            Reply::Refused(Refusal::TooLarge(Part::Sessions)),
-            b"refused 9 TooLarge sessions\n".as_slice(),
-        ),
-        (
-            Reply::Refused(Refusal::RootFixed),
-            b"refused 18 RootFixed\n".as_slice(),
-        ),
-        (
-            Reply::Refused(Refusal::GrantInvalid),
-            b"refused 19 GrantInvalid\n".as_slice(),
-        ),
-        (
-            Reply::Refused(Refusal::NoSession(4_294_967_295)),
-            b"refused 15 NoSession 4294967295\n".as_slice(),
-        ),
-        (
-            Reply::Refused(Refusal::Stale(u64::MAX)),
-            b"refused 14 Stale 18446744073709551615\n".as_slice(),
-        ),
-        (
-            Reply::Refused(Refusal::NoJob(u64::MAX)),
-            b"refused 15 NoSession 18446744073709551615\n".as_slice(),
-        ),
-        (
-            Reply::Counted(Counts {
-                tablets: 1,
-                sources: 20,
-                records: u64::MAX,
-            }),
-            b"tablets 1 sources 20 records 18446744073709551615\n".as_slice(),
-        ),
-    ] {
-        let mut output = BlockWriter::new(rt.alloc(), PieceWriter::new(rt.alloc(), 1000)).expect(
-            &rt, "memory",
-        );
-        write_reply(&mut output, &reply).expect(&rt, "written");
-        output.flush().expect(&rt, "written");
-        assert_eq!(rt; output.get_ref().bytes(), want);
+    let mut output = new_output(&rt, rt.alloc());
+    for place in 0..12 {
+        write(&rt, &mut output, reply(place));
     }
+    output.flush().expect(&rt, "written");
+    expect_written(&rt, &output, REPLIES)
 }
 
-// A range with a cell, and one without.
-fn two_ranges(rt: &impl Abort, alloc: Global) -> Reply {
+// A cell.
+fn one_cell(rt: &impl Abort, alloc: Global) -> Cells {
     let key = Key {
         row: b"r",
         family: b"f",
@@ -109,51 +104,53 @@ fn two_ranges(rt: &impl Abort, alloc: Global) -> Reply {
         label: b"",
         timestamp: 5,
     };
-    let record = Record::new(alloc, key, Kind::Put, b"v", 0, 0)
-        .expect(rt, "memory")
-        .expect(rt, "a record");
+    let record = Record::new(alloc, key, Kind::Put, b"v", 0, 0).expect(rt, "memory");
+    let record = record.expect(rt, "a record");
     let mut cells = Cells::new(alloc);
     cells.push(&record.as_ref()).expect(rt, "memory");
+    cells
+}
+
+// A range with a cell, and one without.
+fn two_ranges(rt: &impl Abort, alloc: Global) -> Reply {
     let mut ranges = Vec::new(alloc);
-    ranges.push(cells).expect(rt, "memory");
+    ranges.push(one_cell(rt, alloc)).expect(rt, "memory");
     ranges.push(Cells::new(alloc)).expect(rt, "memory");
     Reply::Ranges(Items::from_vec(ranges))
 }
 
 #[test]
 fn writes_ranges(rt: HostRuntime) {
-    let alloc = rt.alloc();
-    let reply = two_ranges(&rt, alloc);
-    let mut output = BlockWriter::new(alloc, PieceWriter::new(alloc, 1000)).expect(&rt, "memory");
-    write_reply(&mut output, &reply).expect(&rt, "written");
+    let mut output = new_output(&rt, rt.alloc());
+    write(&rt, &mut output, two_ranges(&rt, rt.alloc()));
     output.flush().expect(&rt, "written");
-    assert_eq!(rt;
-        output.get_ref().bytes(),
-        b"r f q \\e 5 v\nrange\nrange\n".as_slice()
-    );
+    expect_written(&rt, &output, b"r f q \\e 5 v\nrange\nrange\n")
+}
+
+const STOPPED: &[u8] = b"createtable t\nscan t \\0  \nscan nope \\0\n";
+
+#[test]
+fn goes_on_behind_a_fault_of_the_reader(rt: HostRuntime) {
+    let alloc = rt.alloc();
+    let kind = ErrorKind::Other;
+    let mut script = new_script(&rt, alloc);
+    let reader = PieceReader::new(STOPPED, 14).failing(Fault { after: 1, kind });
+    let mut input = input(&rt, alloc, reader);
+    let mut output = new_output(&rt, alloc);
+    expect_run(&rt, &mut script, &mut input, &mut output, b"read");
+    expect_written(&rt, &output, b"ok\n");
+    expect_run(&rt, &mut script, &mut input, &mut output, b"end");
+    expect_written(&rt, &output, b"ok\nend\nrefused 2 NoTable nope\n")
 }
 
 #[test]
-fn stops_at_a_fault(rt: HostRuntime) {
+fn stops_at_a_fault_of_the_writer(rt: HostRuntime) {
     let alloc = rt.alloc();
     let kind = ErrorKind::Other;
-    let lines = b"createtable t\nscan t \\0  \nscan nope \\0\n".as_slice();
-    let mut script = Script::new(alloc, Core::new(alloc).expect(&rt, "memory"));
-    let reader = PieceReader::new(lines, 14).failing(Fault { after: 1, kind });
-    let mut input = BlockReader::new(alloc, reader).expect(&rt, "memory");
-    let mut output = BlockWriter::new(alloc, PieceWriter::new(alloc, 1000)).expect(&rt, "memory");
-    assert!(rt; matches!(script.run(&mut input, &mut output), Err(ScriptFault::Read)));
-    assert_eq!(rt; output.get_ref().bytes(), b"ok\n".as_slice());
-    assert!(rt; matches!(script.run(&mut input, &mut output), Ok(Ended::Input)));
-    assert_eq!(rt;
-        output.get_ref().bytes(),
-        b"ok\nend\nrefused 2 NoTable nope\n".as_slice()
-    );
-
-    let mut script = Script::new(alloc, Core::new(alloc).expect(&rt, "memory"));
-    let mut input = BlockReader::new(alloc, PieceReader::new(lines, 14)).expect(&rt, "memory");
+    let mut script = new_script(&rt, alloc);
+    let mut input = input(&rt, alloc, PieceReader::new(STOPPED, 14));
     let writer = PieceWriter::new(alloc, 2).failing(Fault { after: 2, kind });
-    let mut output = BlockWriter::new(alloc, writer).expect(&rt, "memory");
-    assert!(rt; matches!(script.run(&mut input, &mut output), Err(ScriptFault::Write)));
-    assert_eq!(rt; output.get_ref().bytes(), b"ok".as_slice());
+    let mut output = output(&rt, alloc, writer);
+    expect_run(&rt, &mut script, &mut input, &mut output, b"write");
+    expect_written(&rt, &output, b"ok")
 }

@@ -8,20 +8,30 @@ use tab_io::memory::{Fault, PieceReader, PieceWriter};
 use tab_io::{BlockReader, BlockWriter};
 use tab_serve::{Listed, ServeFault, serve};
 
-// How the connection of this reader ends, with this core, and what stands in the writer then. Each event has the moment 0.
+// The connection is served by this core. Each event has the moment 0.
+fn serve_all(
+    alloc: Global,
+    core: &mut Core,
+    input: &mut BlockReader<PieceReader<'_>>,
+    output: &mut BlockWriter<PieceWriter>,
+) -> Result<(), ServeFault> {
+    let mut moments = Listed::new(Vec::new(alloc));
+    serve(alloc, input, output, &mut moments, core)
+}
+
+// The connection of this reader ends so with this core; what stands in the writer then.
 fn served_by(
     rt: &impl Abort,
     alloc: Global,
     core: &mut Core,
     reader: PieceReader<'_>,
     writer: PieceWriter,
-) -> (Result<(), ServeFault>, Vec<u8>) {
+    want: Result<(), ServeFault>,
+) -> Vec<u8> {
     let mut input = BlockReader::new(alloc, reader).expect(rt, "memory");
     let mut output = BlockWriter::new(alloc, writer).expect(rt, "memory");
-    let mut moments = Listed::new(Vec::new(alloc));
-    let ended = serve(alloc, &mut input, &mut output, &mut moments, core);
-    let bytes = Vec::from_slice(alloc, output.get_ref().bytes()).expect(rt, "memory");
-    (ended, bytes)
+    assert!(rt; serve_all(alloc, core, &mut input, &mut output) == want);
+    Vec::from_slice(alloc, output.get_ref().bytes()).expect(rt, "memory")
 }
 
 // The same with a new core.
@@ -30,9 +40,10 @@ fn served(
     alloc: Global,
     reader: PieceReader<'_>,
     writer: PieceWriter,
-) -> (Result<(), ServeFault>, Vec<u8>) {
+    want: Result<(), ServeFault>,
+) -> Vec<u8> {
     let mut core = Core::new(alloc).expect(rt, "memory");
-    served_by(rt, alloc, &mut core, reader, writer)
+    served_by(rt, alloc, &mut core, reader, writer, want)
 }
 
 // Whether these bytes are a beginning of what is told, or such a one and the refusal of a frame that is cut.
@@ -46,16 +57,20 @@ fn is_beginning(told: &[u8], bytes: &[u8]) -> bool {
     }
 }
 
+// What the talk is told, read and written in pieces of these lengths.
+fn expect_told(rt: &impl Abort, alloc: Global, talk: u32, read: usize, written: usize) {
+    let reader = PieceReader::new(asked(talk), read);
+    let writer = PieceWriter::new(alloc, written);
+    let bytes = served(rt, alloc, reader, writer, Ok(()));
+    assert!(rt; bytes.as_slice() == told(talk));
+}
+
 // Replies are the same however the input is cut into reads, and the output into writes.
 #[test]
 fn tells_what_is_asked(rt: HostRuntime) {
     for talk in 0..TALKS {
         for piece in [1, 7, 1000] {
-            let reader = PieceReader::new(asked(talk), piece);
-            let writer = PieceWriter::new(rt.alloc(), piece);
-            let (ended, bytes) = served(&rt, rt.alloc(), reader, writer);
-            assert_eq!(rt; ended, Ok(()));
-            assert_eq!(rt; bytes.as_slice(), told(talk));
+            expect_told(&rt, rt.alloc(), talk, piece, piece);
         }
     }
 }
@@ -65,28 +80,39 @@ fn tells_what_is_asked(rt: HostRuntime) {
 fn reads_to_any_place(rt: HostRuntime) {
     for talk in 0..TALKS {
         for piece in 1..asked(talk).len() {
-            let reader = PieceReader::new(asked(talk), piece);
-            let writer = PieceWriter::new(rt.alloc(), 64);
-            let (ended, bytes) = served(&rt, rt.alloc(), reader, writer);
-            assert_eq!(rt; ended, Ok(()));
-            assert_eq!(rt; bytes.as_slice(), told(talk));
+            expect_told(&rt, rt.alloc(), talk, piece, 64);
         }
     }
 }
 
-// An input that ends anywhere is told of the frames before, and that a frame is cut, if one is.
+// The talk, cut there, is told of the frames before, and that a frame is cut, if one is.
+fn expect_told_until(rt: &impl Abort, alloc: Global, talk: u32, at: usize) {
+    let front = asked(talk).get(..at).expect(rt, "a beginning");
+    let reader = PieceReader::new(front, 64);
+    let bytes = served(rt, alloc, reader, PieceWriter::new(alloc, 64), Ok(()));
+    assert!(rt; is_beginning(told(talk), bytes.as_slice()));
+}
+
+// An input may end anywhere.
 #[test]
 fn ends_at_any_place(rt: HostRuntime) {
     for talk in 0..TALKS {
         for at in 0..asked(talk).len() {
-            let front = asked(talk).get(..at).expect(&rt, "a beginning");
-            let reader = PieceReader::new(front, 64);
-            let writer = PieceWriter::new(rt.alloc(), 64);
-            let (ended, bytes) = served(&rt, rt.alloc(), reader, writer);
-            assert_eq!(rt; ended, Ok(()));
-            assert!(rt; is_beginning(told(talk), bytes.as_slice()));
+            expect_told_until(&rt, rt.alloc(), talk, at);
         }
     }
+}
+
+// The first talk ends by this fault, and a beginning of its replies is written.
+fn expect_fault(
+    rt: &impl Abort,
+    alloc: Global,
+    reader: PieceReader<'_>,
+    writer: PieceWriter,
+    fault: ServeFault,
+) {
+    let bytes = served(rt, alloc, reader, writer, Err(fault));
+    assert!(rt; told(0).starts_with(bytes.as_slice()));
 }
 
 // Where a read fails, what was answered before is written.
@@ -96,9 +122,7 @@ fn stops_where_the_reader_fails(rt: HostRuntime) {
     for after in 0..12 {
         let reader = PieceReader::new(asked(0), 9).failing(Fault { after, kind });
         let writer = PieceWriter::new(rt.alloc(), 64);
-        let (ended, bytes) = served(&rt, rt.alloc(), reader, writer);
-        assert_eq!(rt; ended, Err(ServeFault::Read));
-        assert!(rt; told(0).starts_with(bytes.as_slice()));
+        expect_fault(&rt, rt.alloc(), reader, writer, ServeFault::Read);
     }
 }
 
@@ -109,37 +133,27 @@ fn stops_where_the_writer_fails(rt: HostRuntime) {
     for after in 0..8 {
         let reader = PieceReader::new(asked(0), 64);
         let writer = PieceWriter::new(rt.alloc(), 9).failing(Fault { after, kind });
-        let (ended, bytes) = served(&rt, rt.alloc(), reader, writer);
-        assert_eq!(rt; ended, Err(ServeFault::Write));
-        assert!(rt; told(0).starts_with(bytes.as_slice()));
+        expect_fault(&rt, rt.alloc(), reader, writer, ServeFault::Write);
     }
+}
+
+// What the second talk is told by a core that was told it before: its table is there, and sessions are numbered from 0.
+const TOLD_AGAIN: &[u8] = b"\0\0\0\x01\x80\
+\0\0\0\x07\x81\x0a\0\0\0\x01t\
+\0\0\0\x05\x84\0\0\0\0\
+\0\0\0\x02\x83\x01";
+
+// The second talk is told this by this core.
+fn expect_told_by(rt: &impl Abort, alloc: Global, core: &mut Core, want: &[u8]) {
+    let reader = PieceReader::new(asked(1), 64);
+    let bytes = served_by(rt, alloc, core, reader, PieceWriter::new(alloc, 64), Ok(()));
+    assert!(rt; bytes.as_slice() == want);
 }
 
 // The next connection finds the table that the one before made, and numbers its own sessions from 0.
 #[test]
 fn leaves_what_it_did(rt: HostRuntime) {
     let mut core = Core::new(rt.alloc()).expect(&rt, "memory");
-    let first = PieceReader::new(asked(1), 64);
-    let (ended, bytes) = served_by(
-        &rt,
-        rt.alloc(),
-        &mut core,
-        first,
-        PieceWriter::new(rt.alloc(), 64),
-    );
-    assert_eq!(rt; ended, Ok(()));
-    assert_eq!(rt; bytes.as_slice(), told(1));
-    let again = PieceReader::new(asked(1), 64);
-    let (ended, bytes) = served_by(
-        &rt,
-        rt.alloc(),
-        &mut core,
-        again,
-        PieceWriter::new(rt.alloc(), 64),
-    );
-    assert_eq!(rt; ended, Ok(()));
-    assert_eq!(rt;
-        bytes.as_slice(),
-        b"\0\0\0\x01\x80\0\0\0\x07\x81\x0a\0\0\0\x01t\0\0\0\x05\x84\0\0\0\0\0\0\0\x02\x83\x01".as_slice()
-    );
+    expect_told_by(&rt, rt.alloc(), &mut core, told(1));
+    expect_told_by(&rt, rt.alloc(), &mut core, TOLD_AGAIN)
 }

@@ -2,16 +2,13 @@
 //!
 //! | File | What is tested |
 //! |---|---|
-//! | `connections` | what is asked of a stream, frame by frame, and the numbers of sessions |
-//! | `conversations` | whole connections, also where reading or writing fails |
 //! | `requests` | what frames ask, and why others ask nothing |
 //! | `replies` | the frames of replies and refusals, and what stands in a writer that fails |
+//!
+//! Whole connections are tested in `tests_serve`, over a core, and by tests/frames.sh, with the built program: what is asked frame by
+//! frame, where the input is cut, the numbers of sessions, and streams that fail.
 #![tactic(auto)]
 
-#[cfg(test)]
-mod connections;
-#[cfg(test)]
-mod conversations;
 #[cfg(test)]
 mod replies;
 #[cfg(test)]

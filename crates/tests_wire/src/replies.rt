@@ -33,13 +33,22 @@ fn cells(rt: &impl Abort, alloc: Global) -> Cells {
     cells
 }
 
-// The frames of one reply, to a batch of two cells; a session gets the number 7.
-fn frames(rt: &impl Abort, alloc: Global, reply: &Reply) -> Vec<u8> {
-    let mut output = output(rt, alloc);
-    write_reply(&mut output, 7, 2, reply).expect(rt, "written");
+// Writes the frames of the reply, to a batch of two cells; a session gets the number 7.
+fn write(rt: &impl Abort, output: &mut BlockWriter<Vec<u8>>, reply: Reply) {
+    write_reply(output, 7, 2, &reply).expect(rt, "written");
+}
+
+// That is written, once it is flushed.
+fn expect_written(rt: &impl Abort, output: &mut BlockWriter<Vec<u8>>, want: &[u8]) {
     output.flush().expect(rt, "written");
-    let bytes = Vec::from_slice(alloc, output.get_ref().as_slice()).expect(rt, "memory");
-    bytes
+    assert!(rt; output.get_ref().as_slice() == want);
+}
+
+// The reply is told in these frames.
+fn expect_frames(rt: &impl Abort, alloc: Global, reply: Reply, want: &[u8]) {
+    let mut output = output(rt, alloc);
+    write(rt, &mut output, reply);
+    expect_written(rt, &mut output, want)
 }
 
 const BATCH: &[u8] =
@@ -50,17 +59,18 @@ const RANGES: &[u8] =
 
 #[test]
 fn writes_short_replies(rt: HostRuntime) {
-    let done = frames(&rt, rt.alloc(), &Reply::Done);
-    assert_eq!(rt; done.as_slice(), b"\0\0\0\x01\x80".as_slice());
-    let opened = frames(&rt, rt.alloc(), &Reply::Opened(()));
-    assert_eq!(rt; opened.as_slice(), b"\0\0\0\x05\x84\0\0\0\x07".as_slice());
+    expect_frames(&rt, rt.alloc(), Reply::Done, b"\0\0\0\x01\x80");
+    let opened = b"\0\0\0\x05\x84\0\0\0\x07";
+    expect_frames(&rt, rt.alloc(), Reply::Opened(()), opened)
 }
 
 #[test]
 fn writes_batches(rt: HostRuntime) {
-    let batch = frames(&rt, rt.alloc(), &Reply::Batch(cells(&rt, rt.alloc())));
-    assert_eq!(rt; batch.as_slice(), BATCH);
+    let batch = Reply::Batch(cells(&rt, rt.alloc()));
+    expect_frames(&rt, rt.alloc(), batch, BATCH)
 }
+
+const COUNTED: &[u8] = b"\0\0\0\x19\x87\0\0\0\0\0\0\0\x01\0\0\0\0\0\0\0\x02\0\0\0\0\0\0\x01\x02";
 
 #[test]
 fn writes_counts(rt: HostRuntime) {
@@ -69,19 +79,21 @@ fn writes_counts(rt: HostRuntime) {
         sources: 2,
         records: 258,
     };
-    let counted = frames(&rt, rt.alloc(), &Reply::Counted(counts));
-    let want = b"\0\0\0\x19\x87\0\0\0\0\0\0\0\x01\0\0\0\0\0\0\0\x02\0\0\0\0\0\0\x01\x02".as_slice();
-    assert_eq!(rt; counted.as_slice(), want);
+    expect_frames(&rt, rt.alloc(), Reply::Counted(counts), COUNTED)
+}
+
+// One row.
+fn one_row(rt: &impl Abort, alloc: Global) -> Reply {
+    let mut rows = Vec::new(alloc);
+    let row = ByteString::from_slice(alloc, b"m").expect(rt, "memory");
+    rows.push(row).expect(rt, "memory");
+    Reply::Rows(Items::from_vec(rows))
 }
 
 #[test]
 fn writes_rows(rt: HostRuntime) {
-    let mut rows = Vec::new(rt.alloc());
-    rows.push(ByteString::from_slice(rt.alloc(), b"m").expect(&rt, "memory"))
-        .expect(&rt, "memory");
-    let told = frames(&rt, rt.alloc(), &Reply::Rows(Items::from_vec(rows)));
-    let want = b"\0\0\0\x06\x85\0\0\0\x01m\0\0\0\x02\x83\x01".as_slice();
-    assert_eq!(rt; told.as_slice(), want);
+    let want = b"\0\0\0\x06\x85\0\0\0\x01m\0\0\0\x02\x83\x01";
+    expect_frames(&rt, rt.alloc(), one_row(&rt, rt.alloc()), want)
 }
 
 // The refusal of each of these, in this order.
@@ -100,53 +112,63 @@ fn refusal(name: Name, at: usize) -> Refusal {
     }
 }
 
+const REFUSALS: &[u8] = b"\0\0\0\x07\x81\x01\0\0\0\x01t\
+\0\0\0\x04\x81\x03\x00\x07\
+\0\0\0\x09\x81\x03\x01\x01\0\0\0\x01t\
+\0\0\0\x0a\x81\x05\0\0\0\x01\0\0\0\x40\
+\0\0\0\x03\x81\x09\x09\
+\0\0\0\x0a\x81\x0e\0\0\0\0\0\0\x01\x02\
+\0\0\0\x06\x81\x0f\0\0\0\x01\
+\0\0\0\x02\x81\x11\
+\0\0\0\x03\x81\x14\x02\
+\0\0\0\x07\x81\x16\x01\0\0\0\0";
+
 #[test]
 fn writes_refusals(rt: HostRuntime) {
     let name = Name::new(b"t").expect(&rt, "a name");
-    for (at, want) in [
-        b"\0\0\0\x07\x81\x01\0\0\0\x01t".as_slice(),
-        b"\0\0\0\x04\x81\x03\x00\x07",
-        b"\0\0\0\x09\x81\x03\x01\x01\0\0\0\x01t",
-        b"\0\0\0\x0a\x81\x05\0\0\0\x01\0\0\0\x40",
-        b"\0\0\0\x03\x81\x09\x09",
-        b"\0\0\0\x0a\x81\x0e\0\0\0\0\0\0\x01\x02",
-        b"\0\0\0\x06\x81\x0f\0\0\0\x01",
-        b"\0\0\0\x02\x81\x11",
-        b"\0\0\0\x03\x81\x14\x02",
-        b"\0\0\0\x07\x81\x16\x01\0\0\0\0",
-    ]
-    .iter()
-    .enumerate()
-    {
-        let told = frames(&rt, rt.alloc(), &Reply::Refused(refusal(name, at)));
-        assert_eq!(rt; told.as_slice(), *want);
+    let mut output = output(&rt, rt.alloc());
+    for at in 0..10 {
+        write(&rt, &mut output, Reply::Refused(refusal(name, at)));
     }
+    expect_written(&rt, &mut output, REFUSALS)
 }
+
+const REASONS: [Reason; 6] = [
+    Reason::Empty,
+    Reason::TooLong,
+    Reason::Cut,
+    Reason::Opcode,
+    Reason::Field,
+    Reason::Order,
+];
+
+const BAD_FRAMES: &[u8] = b"\0\0\0\x03\x81\x10\x01\
+\0\0\0\x03\x81\x10\x02\
+\0\0\0\x03\x81\x10\x03\
+\0\0\0\x03\x81\x10\x04\
+\0\0\0\x03\x81\x10\x05\
+\0\0\0\x03\x81\x10\x06";
 
 #[test]
 fn writes_why_a_frame_asks_nothing(rt: HostRuntime) {
-    for (reason, want) in [
-        (Reason::Empty, b"\0\0\0\x03\x81\x10\x01".as_slice()),
-        (Reason::TooLong, b"\0\0\0\x03\x81\x10\x02".as_slice()),
-        (Reason::Cut, b"\0\0\0\x03\x81\x10\x03".as_slice()),
-        (Reason::Opcode, b"\0\0\0\x03\x81\x10\x04".as_slice()),
-        (Reason::Field, b"\0\0\0\x03\x81\x10\x05".as_slice()),
-        (Reason::Order, b"\0\0\0\x03\x81\x10\x06".as_slice()),
-    ] {
-        let mut output = output(&rt, rt.alloc());
+    let mut output = output(&rt, rt.alloc());
+    for reason in REASONS {
         write_bad_frame(&mut output, reason).expect(&rt, "written");
-        output.flush().expect(&rt, "written");
-        assert_eq!(rt; output.get_ref().as_slice(), want);
     }
+    expect_written(&rt, &mut output, BAD_FRAMES)
+}
+
+// A range without a cell, and one with a cell.
+fn two_ranges(rt: &impl Abort, alloc: Global) -> Reply {
+    let mut ranges = Vec::new(alloc);
+    ranges.push(Cells::new(alloc)).expect(rt, "memory");
+    ranges.push(cells(rt, alloc)).expect(rt, "memory");
+    Reply::Ranges(Items::from_vec(ranges))
 }
 
 #[test]
 fn writes_ranges(rt: HostRuntime) {
-    let mut ranges = Vec::new(rt.alloc());
-    ranges.push(Cells::new(rt.alloc())).expect(&rt, "memory");
-    ranges.push(cells(&rt, rt.alloc())).expect(&rt, "memory");
-    let told = frames(&rt, rt.alloc(), &Reply::Ranges(Items::from_vec(ranges)));
-    assert_eq!(rt; told.as_slice(), RANGES);
+    expect_frames(&rt, rt.alloc(), two_ranges(&rt, rt.alloc()), RANGES)
 }
 
 #[test]
@@ -156,5 +178,5 @@ fn stops_where_the_writer_fails(rt: HostRuntime) {
     let mut output = BlockWriter::new(rt.alloc(), writer).expect(&rt, "memory");
     write_bad_frame(&mut output, Reason::Order).expect(&rt, "gathered");
     assert!(rt; output.flush().is_err());
-    assert_eq!(rt; output.get_ref().bytes(), b"\0\0\0".as_slice());
+    assert!(rt; output.get_ref().bytes() == b"\0\0\0".as_slice());
 }

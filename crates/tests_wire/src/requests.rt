@@ -1,4 +1,5 @@
 //! What frames ask, and why others ask nothing.
+use std::alloc::Global;
 use std::process::Abort;
 use tab_history::Act;
 use tab_key::Name;
@@ -57,92 +58,111 @@ fn told(read: Result<Request, Stop>) -> u8 {
     }
 }
 
+// Whether one greeted before; the frame is told so.
+fn expect_told(rt: &impl Abort, alloc: Global, greeted: bool, frame: &[u8], want: u8) {
+    assert!(rt; told(read_request(alloc, greeted, frame)) == want)
+}
+
+// A frame of each opcode behind Hello.
+const FRAMES: [&[u8]; 19] = [
+    b"\x02\0\0\0\x01t\0\0\0\0\x01",
+    b"\x03\0\0\0\x01t",
+    b"\x04\0\0\0\x03bob",
+    b"\x05\0\0\0\x03bob",
+    b"\x06\0\0\0\x04root\0\0\0\x02\0\0\0\x01b\0\0\0\x01a",
+    b"\x07\0\0\0\x03bob\x01\x00\0\0\0\x01t",
+    b"\x08\0\0\0\x03bob\x00\x07",
+    b"\x09\0\0\0\x01t\x0a",
+    b"\x0a\0\0\0\x01t\0\0\0\x01r\0\0\0\x01\x01\0\0\0\x01f\0\0\0\x01q\0\0\0\0\x01\0\0\0\0\0\0\0\x05\0\0\0\x01v",
+    b"\x0b\0\0\0\x01t\x00\x00\0\0\0\0\0\0\0\0",
+    b"\x0c\0\0\0\0\0\0\0\x01",
+    b"\x0d\0\0\0\0\0\0\0\x01\x01\0\0\0\x01a\x02\0\0\0\x01b",
+    b"\x0e\0\0\0\0",
+    b"\x0f\0\0\0\x01t",
+    b"\x10\0\0\0\x01t\x01",
+    b"\x11\0\0\0\x01t\0\0\0\x01m",
+    b"\x12\0\0\0\x01t",
+    b"\x13\0\0\0\x01t",
+    b"\x14\0\0\0\x01t",
+];
+
 #[test]
 fn reads_each_opcode(rt: HostRuntime) {
     requests_are_forms();
-    for frame in [
-        b"\x02\0\0\0\x01t\0\0\0\0\x01".as_slice(),
-        b"\x03\0\0\0\x01t",
-        b"\x04\0\0\0\x03bob",
-        b"\x05\0\0\0\x03bob",
-        b"\x06\0\0\0\x04root\0\0\0\x02\0\0\0\x01b\0\0\0\x01a",
-        b"\x07\0\0\0\x03bob\x01\x00\0\0\0\x01t",
-        b"\x08\0\0\0\x03bob\x00\x07",
-        b"\x09\0\0\0\x01t\x0a",
-        b"\x0a\0\0\0\x01t\0\0\0\x01r\0\0\0\x01\x01\0\0\0\x01f\0\0\0\x01q\0\0\0\0\x01\0\0\0\0\0\0\0\x05\0\0\0\x01v",
-        b"\x0b\0\0\0\x01t\x00\x00\0\0\0\0\0\0\0\0",
-        b"\x0c\0\0\0\0\0\0\0\x01",
-        b"\x0d\0\0\0\0\0\0\0\x01\x01\0\0\0\x01a\x02\0\0\0\x01b",
-        b"\x0e\0\0\0\0",
-        b"\x0f\0\0\0\x01t",
-        b"\x10\0\0\0\x01t\x01",
-        b"\x11\0\0\0\x01t\0\0\0\x01m",
-        b"\x12\0\0\0\x01t",
-        b"\x13\0\0\0\x01t",
-        b"\x14\0\0\0\x01t",
-    ] {
-        assert_eq!(rt; told(read_request(rt.alloc(), true, frame)), frame[0]);
-        assert_eq!(rt; told(read_request(rt.alloc(), false, frame)), 0xf6);
+    for frame in FRAMES {
+        expect_told(&rt, rt.alloc(), true, frame, frame[0]);
+        expect_told(&rt, rt.alloc(), false, frame, 0xf6);
     }
 }
 
 #[test]
 fn greets_once(rt: HostRuntime) {
-    let hello = b"\x01\0\0\0\x04root".as_slice();
-    assert_eq!(rt; told(read_request(rt.alloc(), false, hello)), 0x01);
-    assert_eq!(rt; told(read_request(rt.alloc(), true, hello)), 0xf6);
+    let hello = b"\x01\0\0\0\x04root";
+    expect_told(&rt, rt.alloc(), false, hello, 0x01);
+    expect_told(&rt, rt.alloc(), true, hello, 0xf6)
+}
+
+// Frames behind Hello that ask nothing, and behind each why.
+const ASKING_NOTHING: [&[u8]; 11] = [
+    b"\xf1",
+    b"\x18\xf4",
+    b"\x00\xf4",
+    b"\x02\0\0\0\x01t\0\0\0\0\0\xf5",
+    b"\x02\0\0\0\x01t\x02\0\0\0\x01\xf5",
+    b"\x09\0\0\0\x01t\x10\xf5",
+    b"\x07\0\0\0\x03bob\x01\x05\0\0\0\x01t\xf5",
+    b"\x0a\0\0\0\x01t\0\0\0\x01r\xff\xff\xff\xff\x01\0\0\xf5",
+    b"\x0f\0\0\0\x01t\0\xf5",
+    b"\x0c\0\0\0\0\0\0\0\xf5",
+    b"\x03\0\0\0\x02t \xf5",
+];
+
+// The same before it.
+const ASKING_NOTHING_FIRST: [&[u8]; 3] = [b"\x18\xf4", b"\x0f\x00\xf6", b"\x01\0\0\0\0\xf5"];
+
+// The frame asks nothing, for the reason behind it.
+fn expect_reason(rt: &impl Abort, alloc: Global, greeted: bool, told: &[u8]) {
+    let (reason, frame) = told.split_last().expect(rt, "a reason");
+    expect_told(rt, alloc, greeted, frame, *reason)
 }
 
 #[test]
 fn tells_the_first_reason(rt: HostRuntime) {
     reasons_are_first();
-    for (greeted, frame, code) in [
-        (true, b"".as_slice(), 0xf1),
-        (true, b"\x18".as_slice(), 0xf4),
-        (false, b"\x18".as_slice(), 0xf4),
-        (true, b"\x00".as_slice(), 0xf4),
-        (false, b"\x0f\x00".as_slice(), 0xf6),
-        (false, b"\x01\0\0\0\0".as_slice(), 0xf5),
-        (true, b"\x02\0\0\0\x01t\0\0\0\0\0".as_slice(), 0xf5),
-        (true, b"\x02\0\0\0\x01t\x02\0\0\0\x01".as_slice(), 0xf5),
-        (true, b"\x09\0\0\0\x01t\x10".as_slice(), 0xf5),
-        (
-            true,
-            b"\x07\0\0\0\x03bob\x01\x05\0\0\0\x01t".as_slice(),
-            0xf5,
-        ),
-        (
-            true,
-            b"\x0a\0\0\0\x01t\0\0\0\x01r\xff\xff\xff\xff\x01\0\0".as_slice(),
-            0xf5,
-        ),
-        (true, b"\x0f\0\0\0\x01t\0".as_slice(), 0xf5),
-        (true, b"\x0c\0\0\0\0\0\0\0".as_slice(), 0xf5),
-        (true, b"\x03\0\0\0\x02t ".as_slice(), 0xf5),
-    ] {
-        assert_eq!(rt; told(read_request(rt.alloc(), greeted, frame)), code);
+    for told in ASKING_NOTHING {
+        expect_reason(&rt, rt.alloc(), true, told);
+    }
+    for told in ASKING_NOTHING_FIRST {
+        expect_reason(&rt, rt.alloc(), false, told);
     }
 }
+
+const WRITE: &[u8] = b"\x0a\0\0\0\x01t\0\0\0\x01r\0\0\0\x02\
+\x01\0\0\0\x01f\0\0\0\x01q\0\0\0\x01x\x01\xff\xff\xff\xff\xff\xff\xff\xfb\0\0\0\x01v\
+\x00\0\0\0\x01g\0\0\0\0\0\0\0\0\x00";
 
 fn is_named(table: &Name, name: &[u8]) -> bool {
     table.as_bytes() == name
 }
 
-#[test]
-fn keeps_what_a_write_says(rt: HostRuntime) {
-    let frame =
-        b"\x0a\0\0\0\x01t\0\0\0\x01r\0\0\0\x02\x01\0\0\0\x01f\0\0\0\x01q\0\0\0\x01x\x01\xff\xff\xff\xff\xff\xff\xff\xfb\0\0\0\x01v\x00\0\0\0\x01g\0\0\0\0\0\0\0\0\x00".as_slice();
-    let request = read_request(rt.alloc(), true, frame).expect(&rt, "a request");
-    match &request {
+// The request is that write.
+fn expect_write(rt: &impl Abort, request: &Request) {
+    match request {
         Request::Act(Act::Write(table, mutation)) => {
             assert!(rt; is_named(table, b"t"));
-            assert_eq!(rt; mutation.row(), b"r".as_slice());
-            assert_eq!(rt; mutation.len(), 2);
-            assert_eq!(rt; mutation.update(0).timestamp(), Some(-5));
-            assert_eq!(rt; mutation.update(0).value(), b"v".as_slice());
-            assert_eq!(rt; mutation.update(1).family(), b"g".as_slice());
-            assert_eq!(rt; mutation.update(1).timestamp(), None);
+            assert!(rt; mutation.row() == b"r".as_slice());
+            assert!(rt; mutation.len() == 2);
+            assert!(rt; mutation.update(0).timestamp() == Some(-5));
+            assert!(rt; mutation.update(0).value() == b"v".as_slice());
+            assert!(rt; mutation.update(1).family() == b"g".as_slice());
+            assert!(rt; mutation.update(1).timestamp().is_none());
         }
         _ => panic!(rt; "a write"),
     }
+}
+
+#[test]
+fn keeps_what_a_write_says(rt: HostRuntime) {
+    let request = read_request(rt.alloc(), true, WRITE).expect(&rt, "a request");
+    expect_write(&rt, &request)
 }

@@ -52,10 +52,11 @@ fn a_merge_is_installed_once(rt: HostRuntime) {
     let alloc = rt.alloc();
     let mut tablet = tablet_of(&rt, alloc, 1);
     let job = begun(&rt, alloc, &mut tablet, Compaction::Minor, 5);
-    assert_eq!(rt; (job.tablet(), job.number()), (tablet.number(), 5));
+    assert!(rt; job.tablet() == tablet.number());
+    assert!(rt; job.number() == 5);
     let share = job.share(alloc).expect(&rt, "memory");
     expect_told(&rt, alloc, &mut tablet, job, Installed::Done);
-    assert_eq!(rt; tablet.count_sources(), 1);
+    assert!(rt; tablet.count_sources() == 1);
     expect_told(&rt, alloc, &mut tablet, share, Installed::Stale(1))
 }
 
