@@ -72,19 +72,19 @@ fn prints_cells(rt: HostRuntime) {
     assert!(rt; output.get_ref().as_slice() == b"r\\x201 f \\e A&B -7 \\x00\n".as_slice());
 }
 
-// Whether the byte is read there as this byte, or none, and leads to this state.
-fn reads(from: Escape, byte: u8, read: Option<u8>, to: Escape) -> bool {
-    step(from, byte) == Some((read, to))
+// Whether a step reads this byte, or none, and leads to this state.
+fn leads(step: Option<(Option<u8>, Escape)>, read: Option<u8>, to: Escape) -> bool {
+    step == Some((read, to))
 }
 
 #[test]
 fn reads_bytes(rt: HostRuntime) {
-    assert!(rt; reads(Escape::Outside, b'a', Some(b'a'), Escape::Outside));
-    assert!(rt; reads(Escape::Outside, b'\\', None, Escape::Backslash));
-    assert!(rt; reads(Escape::Backslash, b'\\', Some(b'\\'), Escape::Outside));
-    assert!(rt; reads(Escape::Backslash, b'x', None, Escape::Hex));
-    assert!(rt; reads(Escape::Hex, b'f', None, Escape::High(15)));
-    assert!(rt; reads(Escape::High(15), b'9', Some(0xf9), Escape::Outside));
+    assert!(rt; leads(step(Escape::Outside, b'a'), Some(b'a'), Escape::Outside));
+    assert!(rt; leads(step(Escape::Outside, b'\\'), None, Escape::Backslash));
+    assert!(rt; leads(step(Escape::Backslash, b'\\'), Some(b'\\'), Escape::Outside));
+    assert!(rt; leads(step(Escape::Backslash, b'x'), None, Escape::Hex));
+    assert!(rt; leads(step(Escape::Hex, b'f'), None, Escape::High(15)));
+    assert!(rt; leads(step(Escape::High(15), b'9'), Some(0xf9), Escape::Outside));
 }
 
 #[test]
