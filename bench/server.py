@@ -6,7 +6,7 @@ In each round each server begins empty and is asked the same in turn: first by o
 writes one cell and reads a range of ten rows in turn and awaits each reply. Seconds are those of the clock, and behind them the
 processor's that the server used; each the median of the rounds. More is said in README.md.
 
-Usage: bench/server.py [--cells N] [--rounds N] [--connections N,N,..] [--operations N] [--figures FILE]
+Usage: bench/server.py [--cells N] [--rounds N] [--connections N,N,..] [--operations N] [--compactors N] [--figures FILE]
        (from anywhere; builds the program if it isn't built; for a trial: --cells 10000 --rounds 1 --operations 2000)
   TABD in the environment: another built program, measured in place of this folder's
 """
@@ -36,6 +36,7 @@ def arguments():
     parser.add_argument("--rounds", type=int, default=5)
     parser.add_argument("--connections", default="1,4,16", help="how many at once, part by part")
     parser.add_argument("--operations", type=int, default=100_000, help="of each of these parts")
+    parser.add_argument("--compactors", type=int, help="of tabd's threads; the program's own number where unsaid")
     parser.add_argument("--figures", help="a file for the medians, from which server_picture.py draws")
     return parser.parse_args()
 
@@ -49,7 +50,8 @@ def one_round(program, client, asked):
     """A list of the parts: name, seconds, the server's seconds of the processor, what was counted; and the server's most memory in KiB."""
     port = free_port()
     workers = max(map(int, asked.connections.split(",")))
-    server = subprocess.Popen([program, "serve", "--port", str(port), "--workers", str(workers)], stdin=subprocess.DEVNULL, stdout=subprocess.PIPE)
+    words = ["--workers", str(workers), *(["--compactors", str(asked.compactors)] if asked.compactors is not None else [])]
+    server = subprocess.Popen([program, "serve", "--port", str(port), *words], stdin=subprocess.DEVNULL, stdout=subprocess.PIPE)
     try:
         if server.stdout.readline() != b"listening %d\n" % port:
             sys.exit(f"{program} doesn't listen")

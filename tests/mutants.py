@@ -16,6 +16,8 @@ import sys
 import tempfile
 import time
 
+from stubs import copy_proof, finish, functions_of, stubs_in, touched_in, twin_in
+
 TOP = os.path.dirname(os.path.dirname(os.path.abspath(__file__)))
 KIT = os.path.dirname(subprocess.run(["rt", "doc"], capture_output=True, text=True, check=True).stdout.strip())
 # What a copy of a crate gets, so that the prover reads a file of examples or lemmas.
@@ -29,6 +31,8 @@ class Mutant:
 
     def __init__(self, crate, name):
         self.crate, self.name, self.function, self.file, self.pairs = crate, name, None, None, []
+        # the end of the name of the copy of its function that it is applied to; none where it is the function itself
+        self.twin = ""
         # how long the checks of its function took, of a processor, and how many they were
         self.seconds, self.checks = 0, 0
 
@@ -38,6 +42,25 @@ class Mutant:
             if text.count(old) != 1:
                 raise ValueError(f"{self}: the text is there {text.count(old)} times: {old}")
         return [(text.index(old), text.index(old) + len(old), new) for old, new in self.pairs]
+
+    def asked(self):
+        """Returns the function that the prover is asked for."""
+        return self.function + self.twin
+
+    def own(self, text):
+        """Returns the function in its file's text that it changes, if it changes nothing else and the function can stand there twice."""
+        name, spans = self.function.split("::")[-1], self.spans(text)
+        found = [it for it in functions_of(text) if it.name == name and all(it.attributes <= start and end <= it.end for start, end, _ in spans)]
+        return found[0] if len(found) == 1 and not found[0].is_of_a_trait else None
+
+    def goes_with(self, other):
+        """Returns whether another can be applied to the same copy of the crate: to another function, and to other texts."""
+        if self.asked() == other.function:
+            return False
+        if self.file != other.file or self.twin:
+            return True
+        text = read(f"{folder(self.crate)}/{self.file}")
+        return not any(start < last and first < end for start, end, _ in self.spans(text) for first, last, _ in other.spans(text))
 
     def turns_a_definition(self):
         """Returns whether it changes what contracts say, so that functions besides its own may be refused for it."""
@@ -90,12 +113,14 @@ def mutants_of(crate):
 
 
 def batches_of(mutants):
-    """Parts mutants into batches in which a function stands once. One that turns a definition is alone in its batch.
-
-    The first batch has every function: a function that is called has to be proved, in each batch in which it isn't wrong itself."""
-    batches = []
+    """Parts mutants into batches. One that turns a definition is alone in its batch. Of several of one function, those behind the first
+    are applied to copies of it under other names, or where there can be none, stand in batches of their own."""
+    batches, twins = [], itertools.count(1)
     for mutant in [it for it in mutants if not it.turns_a_definition()]:
-        fits = next((it for it in batches if all(other.function != mutant.function for other in it)), None)
+        fits = next((it for it in batches if all(other.goes_with(mutant) for other in it)), None)
+        if fits is None and batches and mutant.own(read(f"{folder(mutant.crate)}/{mutant.file}")):
+            mutant.twin = f"_twin{next(twins)}"
+            fits = batches[0]
         if fits is None:
             batches.append([mutant])
         else:
@@ -124,19 +149,33 @@ def check(batch, named, kept):
         for part in ("src", "specs", "proofs"):
             if os.path.isdir(f"{folder(crate)}/{part}"):
                 shutil.copytree(f"{folder(crate)}/{part}", f"{room}/{part}")
-        for path in {it.file for it in batch}:
-            text = read(f"{room}/{path}")
-            # from the last to the first, so that each stands where it stood
-            for start, end, new in sorted((it for mutant in batch if mutant.file == path for it in mutant.spans(text)), reverse=True):
-                text = text[:start] + new + text[end:]
-            with open(f"{room}/{path}", "w", encoding="utf-8") as file:
-                file.write(text)
+        apply(batch, room)
         words = [*words_of(crate, named), "--incremental", kept, "--progress"]
         for mutant in batch:
             if mutant.names_a_file():
                 have_read(mutant, room)
-            words += ["--only", READS if mutant.names_a_file() else mutant.function]
+            words += ["--only", READS if mutant.names_a_file() else mutant.asked()]
         return told_by(words, room)
+
+
+def apply(batch, room):
+    """Applies the mutants to a copy of their crate, and puts stubs in the place of the bodies that they aren't about."""
+    sources = {os.path.relpath(it, room) for it in glob.glob(f"{room}/src/**/*.rt", recursive=True)}
+    texts = {path: read(f"{room}/{path}") for path in sources | {it.file for it in batch}}
+    spans = {path: [it for mutant in batch if mutant.file == path and not mutant.twin for it in mutant.spans(text)] for path, text in texts.items()}
+    spared = {it.function.split("::")[-1] for it in batch}
+    spared |= {name for path in sources for name in touched_in(texts[path], spans[path])}
+    for path, text in texts.items():
+        puts = spans[path] + (stubs_in(text, spared) if path in sources else [])
+        puts += [twin_in(text, mutant.own(text), mutant.spans(text), mutant.twin) for mutant in batch if mutant.file == path and mutant.twin]
+        # from the last to the first, so that each stands where it stood
+        for start, end, new in sorted(puts, reverse=True):
+            text = text[:start] + new + text[end:]
+        with open(f"{room}/{path}", "w", encoding="utf-8") as file:
+            file.write(text)
+    finish(room, spared)
+    for mutant in batch:
+        copy_proof(room, mutant.crate, mutant.function, mutant.twin)
 
 
 def have_read(mutant, room):
@@ -179,7 +218,7 @@ def refusal(mutant, said):
     if mutant.names_a_file():
         errors = re.findall(rf"^\./{re.escape(mutant.function)}:\S+ error: (.*)$", said, re.M)
         return next((it for it in errors if not NAMES.search(it) and READS not in it), None)
-    verdict = re.search(rf"^fn {re.escape(mutant.crate)}::({re.escape(mutant.function)}): (.*)$", said, re.M)
+    verdict = re.search(rf"^fn {re.escape(mutant.crate)}::({re.escape(mutant.asked())}): (.*)$", said, re.M)
     if not verdict:
         return None
     # (the folder of a function's proofs may have a + in front)
@@ -202,7 +241,7 @@ def tried(batch, named, kept):
     found = {it: refusal(it, said) for it in batch}
     for mutant in batch:
         mutant.checks += 1
-        mutant.seconds += sum(took.values()) if len(batch) == 1 else took.get(mutant.function, 0)
+        mutant.seconds += sum(took.values()) if len(batch) == 1 else took.get(mutant.asked(), 0)
     missed = [it for it in batch if not found[it]]
     if len(batch) == 1:
         if missed:
