@@ -9,12 +9,9 @@ use Rattle.std.proofs.lemmas.Bool.Decides.{nat_tests}
 use Rattle.std.proofs.lemmas.Nat.{mul-add-lt}
 use Rattle.std.proofs.Math.Nat.{pow-suc}
 use Rattle.tab_key.specs.Bytes.{bytes_cmp}
+use Rattle.tab_key.specs.Words.{worth}
 
-abbrev worth : List ℕ → ℕ
-worth [] = 0
-worth (x ∷ xs) = x * 256 ^ length xs + worth xs
-
-worth_bound : (xs : List ℕ) → AllByRecursion (λ x. x < 256) xs → worth xs < 256 ^ length xs
+pub worth_bound : (xs : List ℕ) → AllByRecursion (λ x. x < 256) xs → worth xs < 256 ^ length xs
 worth_bound [] a = omega arith
 worth_bound (x ∷ xs) a = rw (pow-suc 256 (length xs)) (mul-add-lt x (256 ^ length xs) (worth xs) 256 a.0 (worth_bound xs a.1))
 

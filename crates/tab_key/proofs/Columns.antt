@@ -16,6 +16,10 @@ split_part xs a m b p q r =
     let amount : b - a ≡ length front + (b - m) = omega (arith, size) in
     ap (take (b - a)) (drop_split xs a m p) ∙ ap (λ n. take n (front ++ drop m xs)) amount ∙ take-append-add front (drop m xs) (b - m)
 
+pub three_parts : (xs : List ℕ) (s a b c : ℕ) → s ≤ a → a ≤ b → b ≤ c → c ≤ length xs → slice_range xs s c ≡ slice_range xs s a ++ slice_range xs a b ++ slice_range xs b c
+three_parts xs s a b c p q r u =
+    split_part xs s b c (omega arith) r u ∙ ap (λ z. z ++ slice_range xs b c) (split_part xs s a b p q (omega arith))
+
 pub four_parts : (xs : List ℕ) (s a b c e : ℕ) → s ≤ a → a ≤ b → b ≤ c → c ≤ e → e ≤ length xs → slice_range xs s e ≡ slice_range xs s a ++ slice_range xs a b ++ slice_range xs b c ++ slice_range xs c e
 four_parts xs s a b c e p q r t u =
     split_part xs s c e (omega arith) t u ∙ ap (λ z. z ++ slice_range xs c e) (split_part xs s b c (omega arith) r (omega arith) ∙ ap (λ z. z ++ slice_range xs b c) (split_part xs s a b p q (omega arith)))

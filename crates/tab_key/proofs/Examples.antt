@@ -1,17 +1,18 @@
 -- Worked examples of the definitions, computed.
-use Rattle.std.specs.Prelude.{◌≡◌, ℕ, ℤ, pos, List, [], ◌∷◌, true, false, codes, filter, refl}
+use Rattle.std.specs.Prelude.{◌≡◌, ◌+◌, ◌*◌, ℕ, ℤ, pos, List, [], ◌∷◌, true, false, codes, filter, refl}
 use Rattle.tab_key.specs.Records.{Key, Record}
 use Rattle.tab_key.specs.Order.{column_cmp, key_cmp, place_cmp, newer_cmp}
 use Rattle.tab_key.specs.Kept.{same_column, hides, is_deleted, outranks, is_kept}
 use Rattle.tab_key.specs.Sorted.{sorted}
 use Rattle.tab_key.specs.Ranges.{is_bad_range, is_in_range}
 use Rattle.tab_key.specs.Columns.{is_selected}
+use Rattle.tab_key.specs.Words.{word_of, mark_of}
 use Rattle.tab_key.specs.declared.key.Kind.TheVariants.{Delete, Put}
 use Rattle.tab_key.specs.declared.range.Bound.TheVariants.{Unbounded, Inclusive, Exclusive}
 use Rattle.tab_key.specs.declared.column.Column.TheVariants.{Family, Qualified}
 
 everything : ℕ
-unfolding column_cmp key_cmp place_cmp newer_cmp same_column hides is_deleted outranks is_kept
+unfolding column_cmp key_cmp place_cmp newer_cmp same_column hides is_deleted outranks is_kept word_of mark_of
 everything = 0
 
 -- a key of row r, family f, qualifier q
@@ -110,3 +111,13 @@ whole_family = refl
 
 other_qualifier : is_selected (Qualified (codes "f") (codes "p") ∷ []) (at [] (pos 0)) ≡ false
 other_qualifier = refl
+
+-- no bytes are the one alone, and a byte more is a digit more
+words : (word_of [] ≡ 1) × (word_of (codes "A") ≡ 256 + 65) × (word_of (codes "A&B") ≡ 16777216 + 65 * 65536 + 38 * 256 + 66)
+unfolding word_of
+words = (refl, refl, refl)
+
+-- the last eight bytes decide a mark, and fewer have none
+marks : (mark_of (codes "f01q02") ≡ 0) × (mark_of (codes "r1f001q002") ≡ mark_of (codes "r2f001q002"))
+unfolding mark_of
+marks = (refl, refl)

@@ -12,6 +12,7 @@ pub mod Examples
 pub mod Packed
 pub mod BigEndian
 pub mod RowPrefix
+pub mod WordLaws
 pub mod Slices
 pub mod Encoded
 pub mod Placed

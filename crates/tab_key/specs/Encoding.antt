@@ -3,7 +3,7 @@
 -- A head of 41 bytes, and then row, family, qualifier, label and value in one piece. The head has, the most significant byte first: the
 -- five lengths, 4 bytes each; the timestamp, 8 bytes; the kind, 1 byte, which is 0 for a marker; the number of the mutation, 8 bytes; and
 -- the place in it, 4 bytes.
-use Rattle.std.specs.Prelude.{ℕ, ℤ, ◌≡◌, ◌≤◌, ◌<◌, ◌^◌, ◌+◌, List, [], ◌∷◌, ◌++◌, length, map, zero, suc, Bool, nat_le, ◌&&◌, FitsSigned}
+use Rattle.std.specs.Prelude.{ℕ, ℤ, ◌≡◌, ◌≤◌, ◌<◌, ◌^◌, ◌+◌, List, [], ◌∷◌, ◌++◌, length, map, zero, suc, Bool, nat_le, ◌&&◌, FitsSigned, sum_by}
 use Rattle.std.specs.List.{AllByRecursion, AllByRecursion-prop, slice_range, slice_index}
 use Rattle.std.specs.Coded.{le_prop}
 use Rattle.std.specs.Int.{w32, w64, to_be_bytes, from_be_bytes, cast_signed, cast_unsigned}
@@ -112,6 +112,15 @@ encoded r = lengths r ++ numbers r ++ packed r
 -- how many these are: 41 for the head, and then the five byte strings
 abbrev pub record_size : view.Record → ℕ
 record_size r = 41 + length r.key.row + length r.key.family + length r.key.qualifier + length r.key.label + length r.value
+
+-- how many bytes a cell takes in a body: as many as its record
+abbrev pub cell_size : view.Cell → ℕ
+cell_size c = 41 + length c.key.row + length c.key.family + length c.key.qualifier + length c.key.label + length c.value
+
+-- the records that begin at these places lie in the body, and take as many bytes as it has
+pub record AreAlone (body places : List ℕ) : Type 0 where
+  pub within : AreAt body places
+  pub size : length body ≡ sum_by cell_size (map view.cell_of (records_at body places))
 
 -- what isn't bytes of a record has its place in the head
 pub record FitsNumbers (timestamp : ℤ) (seq idx : ℕ) : Type 0 where

@@ -6,6 +6,7 @@ pub mod KeyOf
 pub mod RecordSpans
 pub mod Encoding
 pub mod RowPrefix
+pub mod Words
 pub mod Order
 pub mod Kept
 pub mod Sorted

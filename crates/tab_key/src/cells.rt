@@ -1,6 +1,7 @@
 //! Cells in one piece of memory.
-ghost use Rattle.std.specs.Prelude.{◌≡◌, ◌<◌, ◌++◌, ◌∷◌, ◌==◌, [], OnOk, OnErr, length, vec_len, vec_capacity};
+ghost use Rattle.std.specs.Prelude.{◌≡◌, ◌<◌, ◌++◌, ◌∷◌, ◌==◌, [], IfOk, OnOk, OnErr, length, sum_by, vec_len, vec_capacity};
 ghost use Rattle.std.specs.List.{slice_index_or};
+ghost use Rattle.tab_key.specs.Encoding.{cell_size};
 ghost use Rattle.tab_key.specs.Records.{cell_of};
 
 use crate::encoding::append_copy;
@@ -29,11 +30,11 @@ impl Model for Cells {
 
     ghost Value = { List Fields };
 
-    ghost use Rattle.tab_key.specs.Encoding.{records_at, AreAt};
+    ghost use Rattle.tab_key.specs.Encoding.{records_at, AreAlone};
 
     ghost view = { λ c. map cell_of (records_at c.body.items c.places.items) };
 
-    ghost invariant = { λ c. AreAt c.body.items c.places.items };
+    ghost invariant = { λ c. AreAlone c.body.items c.places.items };
 }
 
 impl Cells {
@@ -47,7 +48,26 @@ impl Cells {
         }
     }
 
+    /// No cells, with room for so many that take so many bytes in all, as [`Cells::byte_len`] counts them: up to that `push` asks for
+    /// no memory. The error comes only from want of memory.
+    pub fn with_capacity(alloc: Global, cells: usize, bytes: usize) -> Result<Cells, AllocError>
+        ensures { IfOk result (λ c. c ≡ []) }
+    {
+        let body = Vec::with_capacity(alloc, bytes)?;
+        let places = Vec::with_capacity(alloc, cells)?;
+        Ok(Cells { body, places })
+    }
+
+    /// How many bytes the cells take, each 41 and its parts. The memory may have room for more.
+    #[inline]
+    pub fn byte_len(&self) -> usize
+        ensures { result ≡ sum_by cell_size self.now }
+    {
+        self.body.len()
+    }
+
     /// How many cells there are.
+    #[inline]
     pub fn len(&self) -> usize
         ensures { result ≡ length self.now }
     {
@@ -55,6 +75,7 @@ impl Cells {
     }
 
     /// Whether there is no cell.
+    #[inline]
     pub fn is_empty(&self) -> bool
         ensures { result ≡ (length self.now == 0) }
     {
@@ -62,6 +83,7 @@ impl Cells {
     }
 
     /// The cell at an index, counted from 0.
+    #[inline]
     pub fn get(&self, index: usize) -> CellRef<'_>
         requires { index < length self.now }
         ensures { result ≡ slice_index_or self.now index result }
@@ -71,6 +93,7 @@ impl Cells {
 
     /// Puts the cell that the record shows at the end, in time that only the record's length counts for. `AllocError` leaves the
     /// cells as they were.
+    #[inline]
     pub fn push(&mut self, shown: &RecordRef<'_>) -> Result<(), AllocError>
         ensures ok { OnOk result (self.new ≡ self.old ++ cell_of shown.now ∷ []) }
         ensures err { OnErr result (self.new ≡ self.old) }
@@ -90,8 +113,23 @@ impl Cells {
     }
 }
 
-// Room for the place of one more cell, and at first for some cells with their bytes.
+// Room for the place of one more cell.
+#[inline]
 fn make_room(body: &mut Vec<u8>, places: &mut Vec<usize>) -> Result<(), AllocError>
+    ensures body { body.new.items ≡ body.old.items }
+    ensures places { places.new.items ≡ places.old.items }
+    ensures room { OnOk result (vec_len places.new < vec_capacity places.new) }
+{
+    if places.len() < places.capacity() {
+        return Ok(());
+    }
+    make_more(body, places)
+}
+
+// Room for more places, and at first for some cells with their bytes.
+#[cold]
+#[inline(never)]
+fn make_more(body: &mut Vec<u8>, places: &mut Vec<usize>) -> Result<(), AllocError>
     ensures body { body.new.items ≡ body.old.items }
     ensures places { places.new.items ≡ places.old.items }
     ensures room { OnOk result (vec_len places.new < vec_capacity places.new) }

@@ -44,6 +44,7 @@ impl Clone for Column {
 }
 
 /// Whether the key is of one of the columns. No columns name all keys.
+#[inline]
 #[tactic(auto, using(crate::proofs::Selecting::selected_of_some))]
 pub fn is_selected(columns: &[Column], key: Key<'_>) -> bool
     ensures { result ≡ is_selected columns.now (key_of key.entry) }

@@ -158,6 +158,7 @@ pub fn append(
 /// Puts a copy of the record at the end of the body, in one piece, and says where its head begins.
 ///
 /// After an error, which only want of memory gives, the body may hold more bytes at its end.
+#[inline]
 pub fn append_copy(body: &mut Vec<u8>, source: &RecordRef<'_>) -> Result<usize, AllocError>
     ensures place { IfOk result (λ p. p ≡ length body.old.items) }
     ensures within { IfOk result (λ p. IsAt body.new.items p) }
@@ -171,6 +172,7 @@ pub fn append_copy(body: &mut Vec<u8>, source: &RecordRef<'_>) -> Result<usize, 
 }
 
 // The number that the four bytes at a place spell.
+#[inline]
 #[tactic(auto, unfolding(crate::specs::Encoding::length_at))]
 fn length_at(body: &[u8], place: usize) -> u32
     requires { place + 4 ≤ length body.now }
@@ -180,9 +182,10 @@ fn length_at(body: &[u8], place: usize) -> u32
     bytes.get_u32()
 }
 
-// The number that the eight bytes at a place spell.
+/// The number that the eight bytes at a place spell.
+#[inline]
 #[tactic(auto, unfolding(crate::specs::Encoding::number_at))]
-fn number_at(body: &[u8], place: usize) -> u64
+pub(crate) fn number_at(body: &[u8], place: usize) -> u64
     requires { place + 8 ≤ length body.now }
     ensures { result ≡ number_at body.now place }
 {
@@ -191,6 +194,7 @@ fn number_at(body: &[u8], place: usize) -> u64
 }
 
 // The kind that a byte stands for.
+#[inline]
 fn kind_of(byte: u8) -> Kind
     ensures { result ≡ kind_of byte }
 {
@@ -201,6 +205,7 @@ fn kind_of(byte: u8) -> Kind
 }
 
 /// Where the parts of the record lie whose head begins at a place, and what the head says.
+#[inline]
 #[tactic(auto, unfolding(crate::specs::Encoding::span_at))]
 fn span_at(body: &[u8], place: usize) -> RecordSpan
     requires head { place + 41 ≤ length body.now }
@@ -227,6 +232,7 @@ fn span_at(body: &[u8], place: usize) -> RecordSpan
 }
 
 /// Where the parts of the record lie that lies in the body at a place.
+#[inline]
 pub(crate) fn span_of(body: &[u8], place: usize) -> RecordSpan
     requires { IsAt body.now place }
     ensures within { IsWithin body.now result }
@@ -236,6 +242,7 @@ pub(crate) fn span_of(body: &[u8], place: usize) -> RecordSpan
 }
 
 /// Where the record ends that lies in the body at a place.
+#[inline]
 pub fn end_of(body: &[u8], place: usize) -> usize
     requires { IsAt body.now place }
     ensures { result ≡ (span_at body.now place).end }
@@ -244,6 +251,7 @@ pub fn end_of(body: &[u8], place: usize) -> usize
 }
 
 /// The bytes of the record that lies in the body at a place: its head and its parts.
+#[inline]
 pub(crate) fn bytes_of(body: &[u8], place: usize) -> &[u8]
     requires { IsAt body.now place }
     ensures at { IsAt result.now 0 }

@@ -17,6 +17,7 @@ pub enum Kind {
 
 impl Kind {
     /// Whether it is a put.
+    #[inline]
     pub fn is_put(self) -> bool
         ensures { result ≡ is_put self }
     {
@@ -27,6 +28,7 @@ impl Kind {
     }
 
     /// Its place in the order of records: at one key a marker stands before a put.
+    #[inline]
     pub fn rank(self) -> u8
         ensures { result ≡ kind_rank self }
     {

@@ -2,6 +2,7 @@
 ghost use Rattle.std.specs.Cmp.{IsTotalOrder};
 ghost use Rattle.tab_key.specs.Order.{key_cmp, record_cmp, TiesAreOne};
 ghost use Rattle.tab_key.specs.Sorted.{SortsOnce};
+ghost use Rattle.tab_key.specs.Words.{WordsTellApart};
 
 /// Keys and records are in a total order.
 #[tactic(auto, using(crate::proofs::Order::key_cmp_total, crate::proofs::Order::record_cmp_total))]
@@ -19,4 +20,10 @@ pub fn ties_are_one()
 /// There is one rising list of the records that pass a test, and sorting them makes it.
 pub fn sorts_once()
     ensures { SortsOnce }
+{}
+
+/// Two byte strings that spell one number behind a one are the same.
+#[tactic(auto, using(crate::proofs::WordLaws::same_words))]
+pub fn words_tell_apart()
+    ensures { WordsTellApart }
 {}

@@ -12,6 +12,7 @@
 //! | `cell`, `cells` | what a scan shows of a put, and a list of such cells |
 //! | `column`, `range` | what a scan asks for |
 //! | `prefix` | the beginning of a row as a number |
+//! | `word` | a short byte string as a number |
 //! | `laws` | the order is total, and sorting gives the one rising list |
 //!
 //! Every definition that the contracts cite stands in `specs`:
@@ -23,13 +24,14 @@
 //! | `Records`, `KeyOf` | keys, records and cells as contracts see them |
 //! | `Encoding`, `RecordSpans` | the record that lies in a body of bytes |
 //! | `RowPrefix` | the first bytes of a row as a number |
+//! | `Words` | a byte string as a number |
 //! | `Kept` | which records are hidden, and which are kept |
 //! | `Same` | when two records are the same |
 //! | `Sorted` | records in their order, computed and said without computing |
 //! | `Ranges`, `Columns` | which rows are in a range, which keys are of a column |
 //!
 //! In `proofs`, `Order`, `Ties`, `Numbers`, `Rising`, `Sorting` and `Listing` are on the order and on lists in it, `BigEndian`
-//! and `RowPrefix` on the order of rows by their prefixes, `Bodies` and
+//! and `RowPrefix` on the order of rows by their prefixes, `WordLaws` on short byte strings as numbers, `Bodies` and
 //! `Packed` and `SameRecords` on records in bytes, `Columns` and `Selecting` on columns, `Each` on lists, and `Examples` has worked examples.
 #![tactic(auto)]
 
@@ -49,6 +51,7 @@ mod record;
 mod record_ref;
 mod record_span;
 mod spelled;
+mod word;
 
 pub use byte_string::ByteString;
 pub use cell::CellRef;

@@ -19,8 +19,8 @@ fn padded(row: &[u8]) -> [u8; 16]
     bytes
 }
 
-// Puts the bytes over the first ones.
-fn write_over(kept: &mut [u8], bytes: &[u8])
+/// Puts the bytes over the first ones.
+pub(crate) fn write_over(kept: &mut [u8], bytes: &[u8])
     requires { length bytes.now ≤ length kept.old }
     ensures { kept.new ≡ bytes.now ++ drop (length bytes.now) kept.old }
 {

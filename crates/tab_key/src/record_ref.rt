@@ -1,12 +1,14 @@
 //! A record that someone else holds.
-ghost use Rattle.std.specs.Prelude.{◌≡◌, ◌++◌, length};
+ghost use Rattle.std.specs.Prelude.{◌≡◌, ◌++◌, IfSome, is_some, length, nat_le};
 ghost use Rattle.tab_key.specs.Order.{place_cmp, newer_cmp, record_cmp};
 ghost use Rattle.tab_key.specs.Kept.{same_column, hides};
 ghost use Rattle.tab_key.specs.KeyOf.{key_of};
 ghost use Rattle.tab_key.specs.Same.{same_record};
 ghost use Rattle.tab_key.specs.Encoding.{record_at, record_size, IsAt};
+ghost use Rattle.tab_key.specs.Words.{IsWord, mark_of};
 
 use crate::encoding::{bytes_of, span_of};
+use crate::word::{mark_between, word_between};
 use crate::{Key, Kind};
 use std::cmp::Ordering;
 use std::marker::Model;
@@ -33,6 +35,7 @@ impl<'a> Model for RecordRef<'a> {
 
 impl<'a> RecordRef<'a> {
     /// The record whose head begins at this place in the body. It has to lie in the body whole, as `append` leaves it.
+    #[inline]
     pub fn at(body: &'a [u8], place: usize) -> RecordRef<'a>
         requires { IsAt body.now place }
         ensures { result ≡ record_at body.now place }
@@ -41,6 +44,7 @@ impl<'a> RecordRef<'a> {
     }
 
     /// The same record, lent once more.
+    #[inline]
     pub fn reborrow(&self) -> RecordRef<'a>
         ensures { result ≡ self.now }
     {
@@ -51,6 +55,7 @@ impl<'a> RecordRef<'a> {
     }
 
     /// The row.
+    #[inline]
     pub fn row(&self) -> &'a [u8]
         ensures { result.now ≡ self.now.key.row }
     {
@@ -59,6 +64,7 @@ impl<'a> RecordRef<'a> {
     }
 
     /// The column family.
+    #[inline]
     pub fn family(&self) -> &'a [u8]
         ensures { result.now ≡ self.now.key.family }
     {
@@ -67,6 +73,7 @@ impl<'a> RecordRef<'a> {
     }
 
     /// The column qualifier.
+    #[inline]
     pub fn qualifier(&self) -> &'a [u8]
         ensures { result.now ≡ self.now.key.qualifier }
     {
@@ -75,6 +82,7 @@ impl<'a> RecordRef<'a> {
     }
 
     /// The label, which Accumulo calls column visibility.
+    #[inline]
     pub fn label(&self) -> &'a [u8]
         ensures { result.now ≡ self.now.key.label }
     {
@@ -82,7 +90,20 @@ impl<'a> RecordRef<'a> {
         &self.body[span.qualifier_end..span.label_end]
     }
 
+    /// The number that the label's bytes spell behind a one. None says that the label has more than seven bytes.
+    ///
+    /// Labels of one number are the same, byte for byte: so two short ones are compared at once, and neither is read again.
+    #[inline]
+    pub fn label_word(&self) -> Option<u64>
+        ensures word { IfSome result (λ w. IsWord w self.now.key.label) }
+        ensures short { is_some result ≡ nat_le (length self.now.key.label) 7 }
+    {
+        let span = span_of(self.body, self.place);
+        word_between(self.body, span.qualifier_end, span.label_end)
+    }
+
     /// The value; a marker has none.
+    #[inline]
     pub fn value(&self) -> &'a [u8]
         ensures { result.now ≡ self.now.value }
     {
@@ -91,6 +112,7 @@ impl<'a> RecordRef<'a> {
     }
 
     /// The timestamp.
+    #[inline]
     pub fn timestamp(&self) -> i64
         ensures { result ≡ self.now.key.timestamp }
     {
@@ -98,6 +120,7 @@ impl<'a> RecordRef<'a> {
     }
 
     /// Whether it is a put or a delete marker.
+    #[inline]
     pub fn kind(&self) -> Kind
         ensures { result ≡ self.now.kind }
     {
@@ -105,6 +128,7 @@ impl<'a> RecordRef<'a> {
     }
 
     /// The number of its mutation.
+    #[inline]
     pub fn seq(&self) -> u64
         ensures { result ≡ self.now.seq }
     {
@@ -112,6 +136,7 @@ impl<'a> RecordRef<'a> {
     }
 
     /// Its place in its mutation.
+    #[inline]
     pub fn idx(&self) -> u32
         ensures { result ≡ self.now.idx }
     {
@@ -119,6 +144,7 @@ impl<'a> RecordRef<'a> {
     }
 
     /// The key, lent for as long as the record is.
+    #[inline]
     pub fn key(&self) -> Key<'a>
         ensures { key_of result ≡ self.now.key }
     {
@@ -165,6 +191,7 @@ impl<'a> RecordRef<'a> {
     }
 
     // Its head and its parts, in one piece.
+    #[inline]
     pub(crate) fn encoded(&self) -> &'a [u8]
         ensures at { IsAt result.now 0 }
         ensures record { record_at result.now 0 ≡ self.now }
@@ -174,12 +201,24 @@ impl<'a> RecordRef<'a> {
     }
 
     /// Row, family, qualifier and label, one after another in one piece.
+    #[inline]
     #[tactic(auto, using(crate::proofs::Columns::four_parts))]
     pub fn column(&self) -> &'a [u8]
         ensures { result.now ≡ self.now.key.row ++ self.now.key.family ++ self.now.key.qualifier ++ self.now.key.label }
     {
         let span = span_of(self.body, self.place);
         &self.body[span.start..span.label_end]
+    }
+
+    /// The number that the last eight bytes of row, family and qualifier spell, or 0 where these have fewer. Where it differs the
+    /// records are of different columns; it is read at once, however long the parts are.
+    #[inline]
+    #[tactic(auto, using(crate::proofs::Columns::three_parts))]
+    pub fn column_mark(&self) -> u64
+        ensures { result ≡ mark_of (self.now.key.row ++ self.now.key.family ++ self.now.key.qualifier) }
+    {
+        let span = span_of(self.body, self.place);
+        mark_between(self.body, span.start, span.qualifier_end)
     }
 
     /// Whether the records are of one column: the same row, family, qualifier and label, byte for byte.

@@ -1,8 +1,8 @@
-use Rattle.std.proofs.Common.{◌≡◌, ◌<◌, ◌∙◌, sym, ap, subst, map, length, arith}
+use Rattle.std.proofs.Common.{◌≡◌, ◌<◌, ◌∙◌, sym, ap, map, length, arith}
 use Rattle.std.specs.List.{slice_index, slice_index_or}
 use Rattle.std.proofs.lemmas.List.{get_or-map, get_or_default, length-map}
 use Rattle.tab_key.specs.Encoding.{record_at, records_at}
-use Rattle.tab_key.specs.Records.{Cell, cell_of}
+use Rattle.tab_key.specs.Records.{cell_of}
 use Rattle.tab_key.proofs.Placed.{record_there}
 use Rattle.tab_key.proofs.cells.Cells.get.Goals as goal
 
