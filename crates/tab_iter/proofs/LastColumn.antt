@@ -1,10 +1,18 @@
 -- A remembered column: its parts in one piece, and the zero byte behind its label.
-use Rattle.std.proofs.Common.{◌≡◌, ℕ, ◌+◌, ◌-◌, ◌≤◌, List, [], ◌∷◌, ◌++◌, ◌∙◌, ap, length, drop, arith, length-drop}
+use Rattle.std.proofs.Common.{◌≡◌, ◌≢◌, ℕ, ◌+◌, ◌-◌, ◌≤◌, List, [], ◌∷◌, ◌++◌, refl, sym, ◌∙◌, ap, length, drop, arith, length-drop}
+use Rattle.std.specs.Prelude.{Option, Some, None, true, false, bytes_eq, ◌&&◌}
+use Rattle.std.specs.Cmp.{first_so, second_so}
+use Rattle.std.specs.Cmp.Lexicographic.{bytes_decides}
 use Rattle.std.specs.List.{slice_range}
 use Rattle.std.proofs.lemmas.List.{take_all, length-take-le}
 use Rattle.std.proofs.lemmas.List.Folds.{drop_split}
+use Rattle.tab_key.specs.Kept.{same_column}
+use Rattle.tab_key.specs.Records.{Key}
+use Rattle.tab_key.specs.Words.{mark_of}
 use Rattle.tab_key.proofs.Columns.{four_parts}
-use Rattle.tab_iter.specs.LastColumn.{parts_in, AreEnds}
+use Rattle.tab_cells.proofs.Lists.{by_bool}
+use Rattle.tab_iter.specs.Columns.{is_of}
+use Rattle.tab_iter.specs.LastColumn.{parts_in, AreEnds, front_of, IsMarked}
 use Rattle.tab_iter.specs.declared.last_column.ColumnEnds.{ColumnEnds}
 
 -- the label goes on with the zero byte
@@ -33,3 +41,21 @@ qualifier_width body e are = width body e.family e.qualifier are.family (omega (
 
 pub in_one_piece : (body : List ℕ) (e : ColumnEnds) → AreEnds body e → slice_range body 0 e.label ≡ (parts_in body e).row ++ (parts_in body e).family ++ (parts_in body e).qualifier ++ (parts_in body e).label
 in_one_piece body e are = four_parts body 0 e.row e.family e.qualifier e.label (omega arith) are.row are.family are.qualifier (omega (arith, upto body e are))
+
+-- ---- columns of different marks
+same_front : (a b : Key) → same_column a b ≡ true → front_of a ≡ front_of b
+unfolding same_column
+same_front a b p =
+    let p2 = first_so (bytes_eq a.row b.row && bytes_eq a.family b.family && bytes_eq a.qualifier b.qualifier) (bytes_eq a.label b.label) p in
+    let p1 = first_so (bytes_eq a.row b.row && bytes_eq a.family b.family) (bytes_eq a.qualifier b.qualifier) p2 in
+    let row = (bytes_decides a.row b.row).0 (first_so (bytes_eq a.row b.row) (bytes_eq a.family b.family) p1) in
+    let family = (bytes_decides a.family b.family).0 (second_so (bytes_eq a.row b.row) (bytes_eq a.family b.family) p1) in
+    let qualifier = (bytes_decides a.qualifier b.qualifier).0 (second_so (bytes_eq a.row b.row && bytes_eq a.family b.family) (bytes_eq a.qualifier b.qualifier) p2) in
+    λ i. row i ++ family i ++ qualifier i
+
+other_marks : (a b : Key) (m n : ℕ) → m ≡ mark_of (front_of a) → n ≡ mark_of (front_of b) → n ≢ m → same_column a b ≡ false
+other_marks a b m n p q other = by_bool (same_column a b) (λ e. absurd (other (q ∙ sym (ap mark_of (same_front a b e)) ∙ sym p))) (λ f. f)
+
+pub not_of_marked : (column : Option Key) (mark n : ℕ) (key : Key) → IsMarked mark column → n ≡ mark_of (front_of key) → n ≢ mark → is_of column key ≡ false
+not_of_marked None mark n key p q other = refl
+not_of_marked (Some k) mark n key p q other = other_marks k key mark n p q other

@@ -1,7 +1,8 @@
 -- A remembered column in a body of bytes.
-use Rattle.std.specs.Prelude.{◌≡◌, ℕ, ◌≤◌, List, [], ◌∷◌, Option, Some, None, drop}
+use Rattle.std.specs.Prelude.{◌≡◌, ℕ, ◌≤◌, List, [], ◌∷◌, ◌++◌, Option, Some, None, drop}
 use Rattle.std.specs.List.{slice_range}
 use Rattle.tab_key.specs.Records.{Key}
+use Rattle.tab_key.specs.Words.{mark_of}
 use Rattle.tab_iter.specs.Lists.{latest}
 use Rattle.tab_iter.specs.declared.last_column.ColumnEnds.{ColumnEnds}
 
@@ -30,3 +31,17 @@ pub record AreEnds (body : List ℕ) (e : ColumnEnds) : Type 0 where
 abbrev pub IsPlaced : List ℕ → Option ColumnEnds → Type 0
 IsPlaced body None = Unit {0}
 IsPlaced body (Some e) = AreEnds body e
+
+-- row, family and qualifier, one after another
+abbrev pub front_of : Key → List ℕ
+front_of k = k.row ++ k.family ++ k.qualifier
+
+-- the number is the column's mark, if there is a column
+abbrev pub IsMarked : ℕ → Option Key → Type 0
+IsMarked mark None = Unit {0}
+IsMarked mark (Some k) = mark ≡ mark_of (front_of k)
+
+-- the column lies in the body, and beside it stands its mark
+pub record IsRemembered (body : List ℕ) (ends : Option ColumnEnds) (mark : ℕ) : Type 0 where
+  pub placed : IsPlaced body ends
+  pub marked : IsMarked mark (column_in body ends)

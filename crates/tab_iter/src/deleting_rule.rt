@@ -40,6 +40,7 @@ impl Rule for DeletingRule {
         self.column.forget();
     }
 
+    #[inline]
     fn observe(&mut self, next: &RecordRef<'_>) -> Result<bool, NoMemory> {
         match next.kind() {
             Kind::Put => Ok(!self.column.is_of(next)),

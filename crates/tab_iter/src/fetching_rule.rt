@@ -1,5 +1,6 @@
 //! Which records are of the columns that a scan names.
 ghost use Rattle.std.specs.Prelude.{◌≡◌, Bool, ⊤};
+ghost use Rattle.tab_key.specs.Columns.{is_selected};
 
 use crate::named_column::{first_after, start_of};
 use crate::{NoMemory, Rule};
@@ -40,8 +41,9 @@ impl<'a> Rule for FetchingRule<'a> {
 
     fn reset(&mut self) {}
 
+    #[inline]
     fn observe(&mut self, next: &RecordRef<'_>) -> Result<bool, NoMemory> {
-        Ok(is_selected(self.columns, next.key()))
+        Ok(self.columns.is_empty() || is_named(self.columns, next))
     }
 
     // The first named column that begins after the record in its row, or else the next row.
@@ -58,4 +60,12 @@ impl<'a> Rule for FetchingRule<'a> {
     fn target(&self) -> Key<'_> {
         start_of(&self.row, self.column)
     }
+}
+
+// Whether the record is of one of the columns.
+#[inline(never)]
+fn is_named(columns: &[Column], next: &RecordRef<'_>) -> bool
+    ensures { result ≡ is_selected columns.now next.now.key }
+{
+    is_selected(columns, next.key())
 }

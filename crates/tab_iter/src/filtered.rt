@@ -70,6 +70,7 @@ impl<S: Source, R: Rule> Source for Filtered<S, R> {
 
     ghost unpositioned_is_empty = { λ f. unless_empty f.unpositioned (filter (R.admits f.rule (S.whole f.source)) (S.rest f.source)) };
 
+    #[inline]
     fn top(&self) -> Option<RecordRef<'_>> {
         if self.unpositioned {
             None
@@ -78,6 +79,7 @@ impl<S: Source, R: Rule> Source for Filtered<S, R> {
         }
     }
 
+    #[inline]
     fn advance(&mut self) -> Result<(), NoMemory> {
         if self.unpositioned {
             return Err(AllocError);
@@ -109,6 +111,7 @@ impl<S: Source, R: Rule> Source for Filtered<S, R> {
 const FEW: u32 = 16;
 
 // Passes the records that the rule holds back, up to one that it doesn't.
+#[inline]
 fn settle<S: Source, R: Rule>(source: &mut S, rule: &mut R) -> Result<(), NoMemory>
     requires { ∥ R.HasObserved rule.old (S.whole source.old) (S.rest source.old) ∥₁ }
     ensures whole { S.whole source.new ≡ S.whole source.old }

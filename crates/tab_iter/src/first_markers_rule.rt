@@ -51,6 +51,7 @@ impl Rule for FirstMarkersRule {
         self.column.forget();
     }
 
+    #[inline]
     fn observe(&mut self, next: &RecordRef<'_>) -> Result<bool, NoMemory> {
         match next.kind() {
             Kind::Put => Ok(true),

@@ -3,9 +3,9 @@
 /// How many places are remembered.
 const PLACES: usize = 256;
 
-/// For a few bytes of a label, the place at which the verdict on such a label was found last.
+/// For a few bits of a label's number, the place at which the verdict on such a label was found last.
 ///
-/// A place is a guess: labels that share these bytes share it, and whoever asks sees whether the verdict there is on his label.
+/// A place is a guess: labels that share these bits share it, and whoever asks sees whether the verdict there is on his label.
 #[derive(Drop)]
 pub(crate) struct Hints {
     places: [u8; PLACES],
@@ -19,33 +19,39 @@ impl Hints {
         }
     }
 
-    /// Where to look first for the verdict on the label.
-    pub(crate) fn place_of(&self, label: &[u8]) -> usize {
-        match self.places.get(slot_of(label)) {
+    /// Where to look first for the verdict on the label of this number.
+    #[inline]
+    pub(crate) fn place_of(&self, number: u64) -> usize {
+        match self.places.get(slot_of(number)) {
             Some(place) => usize::from(*place),
             None => 0,
         }
     }
 
     /// Remembers that the verdict on the label is at this place, if it is one of the first 256.
-    pub(crate) fn note(&mut self, label: &[u8], place: usize) {
+    pub(crate) fn note(&mut self, number: u64, place: usize) {
         let Ok(place) = u8::try_from(place) else {
             return;
         };
-        if let Some(noted) = self.places.get_mut(slot_of(label)) {
+        if let Some(noted) = self.places.get_mut(slot_of(number)) {
             *noted = place;
         }
     }
 }
 
-// Eight bits of the label's length and of its first byte, the one in its middle and its last.
-fn slot_of(label: &[u8]) -> usize {
+// Eight bits, on which each of the number's has its say.
+#[inline]
+fn slot_of(number: u64) -> usize {
+    (number.wrapping_mul(0xBF58_476D_1CE4_E5B9) >> 56) as usize
+}
+
+/// A number for a label of any length: of its length and of its first byte, the one in its middle and its last.
+pub(crate) fn mixed(label: &[u8]) -> u64 {
     let length = label.len();
-    let mixed = (length as u64)
+    (length as u64)
         ^ byte_at(label, 0) << 16
         ^ byte_at(label, length / 2) << 32
-        ^ byte_at(label, length.saturating_sub(1)) << 48;
-    (mixed.wrapping_mul(0xBF58_476D_1CE4_E5B9) >> 56) as usize
+        ^ byte_at(label, length.saturating_sub(1)) << 48
 }
 
 // The byte at an index, or 0 behind the end.

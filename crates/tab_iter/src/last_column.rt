@@ -3,7 +3,7 @@ ghost use Rattle.std.specs.Prelude.{◌≡◌, ◌++◌, ◌∷◌, [], None, So
 ghost use Rattle.tab_key.specs.KeyOf.{key_of};
 ghost use Rattle.tab_key.specs.Kept.{same_column};
 ghost use Rattle.tab_iter.specs.Columns.{is_of, next_column, next_of, IsColumnOf};
-ghost use Rattle.tab_iter.specs.LastColumn.{parts_in, column_in, IsPlaced, AreEnds};
+ghost use Rattle.tab_iter.specs.LastColumn.{parts_in, column_in, AreEnds};
 ghost use Rattle.tab_iter.specs.Lists.{latest};
 
 use crate::NoMemory;
@@ -31,6 +31,8 @@ pub struct LastColumn {
     // the column's parts, and a zero byte behind its label: with that it is the next column
     body: Vec<u8>,
     ends: Option<ColumnEnds>,
+    // the column's mark: a record with another one is of another column
+    mark: u64,
 }
 
 impl Model for LastColumn {
@@ -39,11 +41,11 @@ impl Model for LastColumn {
 
     ghost Value = { Option Fields };
 
-    ghost use Rattle.tab_iter.specs.LastColumn.{column_in, IsPlaced};
+    ghost use Rattle.tab_iter.specs.LastColumn.{column_in, IsRemembered};
 
     ghost view = { λ c. column_in c.body.items c.ends };
 
-    ghost invariant = { λ c. IsPlaced c.body.items c.ends };
+    ghost invariant = { λ c. IsRemembered c.body.items c.ends c.mark };
 }
 
 impl LastColumn {
@@ -54,16 +56,23 @@ impl LastColumn {
         LastColumn {
             body: Vec::new(alloc),
             ends: None,
+            mark: 0,
         }
     }
 
     /// Whether the record is of this column.
+    #[inline]
     pub fn is_of(&self, next: &RecordRef<'_>) -> bool
         ensures { result ≡ is_of self.now next.now.key }
     {
         match &self.ends {
             None => false,
-            Some(ends) => is_column(self.body.as_slice(), ends, next),
+            Some(ends) => {
+                if next.column_mark() != self.mark {
+                    return false;
+                }
+                is_column(self.body.as_slice(), ends, next)
+            }
         }
     }
 
@@ -85,6 +94,7 @@ impl LastColumn {
     }
 
     /// Makes this the column of the record, and answers whether it was. It copies the record's column only where it wasn't.
+    #[inline]
     pub fn remember(&mut self, next: &RecordRef<'_>) -> Result<bool, NoMemory>
         ensures same { IfOk result (λ b. b ≡ is_of self.old next.now.key) }
         ensures column { OnOk result (IsColumnOf self.new next.now.key) }
@@ -96,6 +106,7 @@ impl LastColumn {
         self.body.clear();
         let ends = put_column(&mut self.body, next)?;
         self.ends = Some(ends);
+        self.mark = next.column_mark();
         Ok(false)
     }
 }
@@ -147,6 +158,7 @@ fn next_at<'a>(body: &'a [u8], ends: &ColumnEnds) -> Key<'a>
 }
 
 // Whether the record is of the column that lies there.
+#[inline(never)]
 fn is_column(body: &[u8], ends: &ColumnEnds, next: &RecordRef<'_>) -> bool
     requires { AreEnds body.now ends.now }
     ensures { result ≡ same_column (parts_in body.now ends.now) next.now.key }

@@ -44,6 +44,7 @@ impl<A: Rule, B: Rule> Rule for ThenRule<A, B> {
         self.passed = None;
     }
 
+    #[inline]
     fn observe(&mut self, next: &RecordRef<'_>) -> Result<bool, NoMemory> {
         if self.first.observe(next)? {
             self.passed = Some(true);

@@ -45,6 +45,7 @@ impl Rule for VersioningRule {
         self.column.forget();
     }
 
+    #[inline]
     fn observe(&mut self, next: &RecordRef<'_>) -> Result<bool, NoMemory> {
         match next.kind() {
             Kind::Delete => Ok(self.keeps),

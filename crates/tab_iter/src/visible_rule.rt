@@ -1,12 +1,13 @@
 //! Which records have a label that holds.
-ghost use Rattle.std.specs.Prelude.{◌≡◌, Bool, true, IfOk, ⊤};
+ghost use Rattle.std.specs.Prelude.{◌≡◌, Bool, true, IfOk, IfSome, ⊤};
+ghost use Rattle.tab_key.specs.Words.{IsWord};
 ghost use Rattle.tab_label.specs.Holding.{label_holds};
 ghost use Rattle.tab_iter.specs.Verdicts.{AreSound};
 ghost use Rattle.tab_iter.specs.Propositions.{AreSound-prop};
 
-use crate::hints::Hints;
+use crate::hints::{Hints, mixed};
 use crate::rule::nowhere;
-use crate::verdict::{Verdict, count_before, find_at, keep_at};
+use crate::verdict::{Verdict, count_before, find_at, find_word, keep_at};
 use crate::{NoMemory, Rule};
 use std::alloc::Global;
 use tab_key::{Key, RecordRef};
@@ -37,18 +38,32 @@ impl<'a> VisibleRule<'a> {
         }
     }
 
-    // Whether a label holds on which no verdict is where one was found last.
-    fn judge(&mut self, label: &[u8]) -> Result<bool, NoMemory>
+    // Whether a label that is too long to be a number holds.
+    #[inline(never)]
+    fn observe_long(&mut self, label: &[u8]) -> Result<bool, NoMemory>
+        ensures same { self.new.auths.now ≡ self.old.auths.now }
+        ensures holds { IfOk result (λ b. b ≡ label_holds label.now self.old.auths.now) }
+    {
+        match find_at(&self.verdicts, self.hints.place_of(mixed(label)), label) {
+            Some(holds) => Ok(holds),
+            None => self.judge(label, None),
+        }
+    }
+
+    // Whether a label holds on which no verdict is where one was found last; a short one comes with its number.
+    #[inline(never)]
+    fn judge(&mut self, label: &[u8], word: Option<u64>) -> Result<bool, NoMemory>
+        requires { IfSome word (λ w. IsWord w label.now) }
         ensures same { self.new.auths.now ≡ self.old.auths.now }
         ensures holds { IfOk result (λ b. b ≡ label_holds label.now self.old.auths.now) }
     {
         let place = count_before(&self.verdicts, label);
-        self.hints.note(label, place);
+        self.hints.note(number_of(label, word), place);
         match find_at(&self.verdicts, place, label) {
             Some(holds) => Ok(holds),
             None => {
                 let holds = is_visible(label, self.auths);
-                keep_at(&mut self.verdicts, place, label, holds)?;
+                keep_at(&mut self.verdicts, place, label, word, holds)?;
                 Ok(holds)
             }
         }
@@ -67,11 +82,14 @@ impl<'a> Rule for VisibleRule<'a> {
 
     fn reset(&mut self) {}
 
+    #[inline]
     fn observe(&mut self, next: &RecordRef<'_>) -> Result<bool, NoMemory> {
-        let label = next.label();
-        match find_at(&self.verdicts, self.hints.place_of(label), label) {
+        let Some(word) = next.label_word() else {
+            return self.observe_long(next.label());
+        };
+        match find_word(&self.verdicts, self.hints.place_of(word), word) {
             Some(holds) => Ok(holds),
-            None => self.judge(label),
+            None => self.judge(next.label(), Some(word)),
         }
     }
 
@@ -82,5 +100,13 @@ impl<'a> Rule for VisibleRule<'a> {
 
     fn target(&self) -> Key<'_> {
         nowhere()
+    }
+}
+
+// By what number the place of the label's verdict is remembered.
+fn number_of(label: &[u8], word: Option<u64>) -> u64 {
+    match word {
+        Some(word) => word,
+        None => mixed(label),
     }
 }

@@ -1,5 +1,5 @@
 -- The label goes on with the zero byte.
-use Rattle.std.proofs.Common.{◌≡◌, ◌∙◌, ap}
+use Rattle.std.proofs.Common.{◌≡◌}
 use Rattle.tab_key.specs.KeyOf.{key_of}
 use Rattle.tab_iter.specs.LastColumn.{parts_in}
 use Rattle.tab_iter.specs.Lists.{latest}
