@@ -56,6 +56,7 @@ impl<'a> RunCursor<'a> {
     }
 
     /// The first record that is left, lent for as long as the run is.
+    #[inline]
     pub fn top(&self) -> Option<RecordRef<'a>>
         ensures { result ≡ first_of (rest self.now) }
     {

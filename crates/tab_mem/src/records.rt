@@ -95,6 +95,7 @@ impl Records {
     }
 
     /// The record at an index, counted from 0.
+    #[inline]
     pub fn get(&self, index: usize) -> RecordRef<'_>
         requires { index < length self.now }
         ensures { result ≡ slice_index_or self.now index result }

@@ -16,6 +16,14 @@ use Rattle.tab_version.proofs.Reaching.{sought, reached_some, filled_here}
 drop_none : (n : ℕ) (xss : List (List Record)) → length xss ≤ n → flat (drop n xss) ≡ []
 drop_none n xss le = ap flat (drop_of_length-le xss le)
 
+-- ---- whether there is a first record
+pub some_first : (xs : List Record) → is_some (first_of xs) ≡ true → xs ≡ [] → ⊥
+some_first xs e n = true≢false (sym e ∙ ap (λ l. is_some (first_of l)) n)
+
+pub none_first : (xs : List Record) → is_some (first_of xs) ≡ false → xs ≡ []
+none_first [] e = refl
+none_first (x ∷ xs) e = absurd (true≢false e)
+
 -- ---- the first record, and what is behind it
 pub first_left : (xs : List Record) (n : ℕ) (xss : List (List Record)) → (xs ≡ [] → length xss ≤ n) → first_of xs ≡ first_of (xs ++ flat (drop n xss))
 first_left [] n xss h = ap first_of (sym (drop_none n xss (h refl)))
@@ -25,9 +33,13 @@ tail_left : (xs : List Record) (n : ℕ) (xss : List (List Record)) → (xs ≡ 
 tail_left [] n xss h = let none = drop_none n xss (h refl) in none ∙ ap tail (sym none)
 tail_left (x ∷ xs) n xss h = refl
 
--- an advance of the source that is read, and then the next list where that is at its end
-pub advanced : {S : Type 0} (rest : S → List Record) (a b c : Option S) (n m : ℕ) (xss : List (List Record)) → (of_current rest a ≡ [] → length xss ≤ n) → of_current rest b ≡ tail (of_current rest a) → left_in rest c m xss ≡ left_in rest b n xss → left_in rest c m xss ≡ tail (left_in rest a n xss)
-advanced rest a b c n m xss ended is same = same ∙ ap (λ l. l ++ flat (drop n xss)) is ∙ tail_left (of_current rest a) n xss ended
+-- an advance of the source that is read, which has more
+pub stepped : {S : Type 0} (rest : S → List Record) (a b : Option S) (n : ℕ) (xss : List (List Record)) → (of_current rest a ≡ [] → length xss ≤ n) → of_current rest b ≡ tail (of_current rest a) → left_in rest b n xss ≡ tail (left_in rest a n xss)
+stepped rest a b n xss ended is = ap (λ l. l ++ flat (drop n xss)) is ∙ tail_left (of_current rest a) n xss ended
+
+-- one that leaves nothing, and then the next list
+pub advanced : {S : Type 0} (rest : S → List Record) (a b c : Option S) (n m : ℕ) (xss : List (List Record)) → (of_current rest a ≡ [] → length xss ≤ n) → of_current rest b ≡ tail (of_current rest a) → is_some (first_of (of_current rest b)) ≡ false → left_in rest c m xss ≡ flat (drop n xss) → left_in rest c m xss ≡ tail (left_in rest a n xss)
+advanced rest a b c n m xss ended is none same = same ∙ ap (λ l. l ++ flat (drop n xss)) (sym (none_first (of_current rest b) none)) ∙ stepped rest a b n xss ended is
 
 -- ---- ends
 pub ending_whole : (xs w : List Record) → xs ≡ w → IsEnding xs w
@@ -37,21 +49,11 @@ pub ending_key : (k : Key) (xs w : List Record) → xs ≡ from_key k w → IsEn
 ending_key k xs w e = subst (λ l. IsEnding l w) (sym e) (ending_of_end (from_key k w) w (ends_from_key k w))
 
 -- ---- the next list
-pub some_first : (xs : List Record) → is_some (first_of xs) ≡ true → xs ≡ [] → ⊥
-some_first xs e n = true≢false (sym e ∙ ap (λ l. is_some (first_of l)) n)
-
-none_first : (xs : List Record) → is_some (first_of xs) ≡ false → xs ≡ []
-none_first [] e = refl
-none_first (x ∷ xs) e = absurd (true≢false e)
-
 pub before_more : (n m : ℕ) (xss : List (List Record)) → m ≡ n + 1 → before m xss ≡ slice_index_or xss n []
 before_more n m xss e = let more : m ≡ suc n = omega (arith, e) in ap (λ k. before k xss) more
 
-pub next_left : (xs ys : List Record) (n m : ℕ) (xss : List (List Record)) → n < length xss → m ≡ n + 1 → is_some (first_of xs) ≡ false → ys ≡ slice_index_or xss n [] → ys ++ flat (drop m xss) ≡ xs ++ flat (drop n xss)
-next_left xs ys n m xss lt more none is =
-    (λ i. is i ++ flat (drop (more i) xss))
-    ∙ ap flat (sym (drop_more xss n [] lt))
-    ∙ ap (λ l. l ++ flat (drop n xss)) (sym (none_first xs none))
+pub next_left : (ys : List Record) (n m : ℕ) (xss : List (List Record)) → n < length xss → m ≡ n + 1 → ys ≡ slice_index_or xss n [] → ys ++ flat (drop m xss) ≡ flat (drop n xss)
+next_left ys n m xss lt more is = (λ i. is i ++ flat (drop (more i) xss)) ∙ ap flat (sym (drop_more xss n [] lt))
 
 pub next_filled : (ys : List Record) (n m : ℕ) (xss : List (List Record)) → AllByRecursion (λ (xs : List Record). xs ≢ []) xss → n < length xss → ys ≡ slice_index_or xss n [] → ys ≡ [] → length xss ≤ m
 next_filled ys n m xss f lt is none = absurd (filled_here xss f n lt (sym is ∙ none))

@@ -1,5 +1,5 @@
 //! Lists of records one after another, of which one is read at a time.
-ghost use Rattle.std.specs.Prelude.{◌≡◌, ◌+◌, ◌≤◌, ◌<◌, List, [], Bool, true, false, Option, Some, None, is_some, length, OnOk, IfOk};
+ghost use Rattle.std.specs.Prelude.{◌≡◌, ◌+◌, ◌≤◌, ◌<◌, List, [], Bool, true, false, Option, Some, None, is_some, length, drop, OnOk, OnErr, IfOk};
 ghost use Rattle.tab_key.specs.KeyOf.{key_of};
 ghost use Rattle.tab_key.specs.Records.{Record};
 ghost use Rattle.tab_iter.specs.Bags.{flat, IsEnding};
@@ -28,6 +28,7 @@ pub struct InTurn<L: Lists<S>, S: Source> {
     ghost over: { of_current S.whole current ≡ before next (L.listed lists) },
     ghost synced: { unpositioned ≡ false → IsEnding (left_in S.rest current next (L.listed lists)) (flat (L.listed lists)) },
     ghost ended: { unpositioned ≡ false → of_current S.rest current ≡ [] → length (L.listed lists) ≤ next },
+    ghost lost: { unpositioned ≡ true → of_current S.rest current ≡ [] },
 }
 
 impl<L: Lists<S> + Drop, S: Source + Drop> InTurn<L, S> {
@@ -83,19 +84,25 @@ impl<L: Lists<S>, S: Source + Drop> Source for InTurn<L, S> {
 
     ghost unpositioned_is_empty = { λ s. unless_empty s.unpositioned (left_in S.rest s.current s.next (L.listed s.lists)) };
 
+    #[inline]
     fn top(&self) -> Option<RecordRef<'_>> {
-        if self.unpositioned {
-            return None;
-        }
         top_of(&self.current)
     }
 
+    // without a position the source has nothing left, so whether there is one is asked only at a source's end
+    #[inline]
     fn advance(&mut self) -> Result<(), NoMemory> {
+        if let Err(fault) = advance_in(&mut self.current) {
+            self.unpositioned = true;
+            return Err(fault);
+        }
+        if top_of(&self.current).is_some() {
+            return Ok(());
+        }
         if self.unpositioned {
             return Err(AllocError);
         }
         self.unpositioned = true;
-        advance_in(&mut self.current)?;
         go_on(self.alloc, &self.lists, &mut self.current, &mut self.next)?;
         self.unpositioned = false;
         Ok(())
@@ -116,6 +123,7 @@ impl<L: Lists<S>, S: Source + Drop> Source for InTurn<L, S> {
 }
 
 // The first record that the source that is read has left.
+#[inline]
 fn top_of<S: Source>(current: &Option<S>) -> Option<RecordRef<'_>>
     ensures { result ≡ first_of (of_current S.rest current.now) }
 {
@@ -125,10 +133,12 @@ fn top_of<S: Source>(current: &Option<S>) -> Option<RecordRef<'_>>
     }
 }
 
-// Drops the first record of the source that is read.
+// Drops the first record of the source that is read. After an error it has none left.
+#[inline]
 fn advance_in<S: Source>(current: &mut Option<S>) -> Result<(), NoMemory>
     ensures whole { of_current S.whole current.new ≡ of_current S.whole current.old }
     ensures rest { OnOk result (of_current S.rest current.new ≡ tail (of_current S.rest current.old)) }
+    ensures err { OnErr result (of_current S.rest current.new ≡ []) }
 {
     match current {
         None => Ok(()),
@@ -136,10 +146,11 @@ fn advance_in<S: Source>(current: &mut Option<S>) -> Result<(), NoMemory>
     }
 }
 
-// Goes to the first record of the source that is read whose key isn't before this one.
+// Goes to the first record of the source that is read whose key isn't before this one. After an error it has none left.
 fn seek_in<S: Source>(current: &mut Option<S>, key: Key<'_>) -> Result<(), NoMemory>
     ensures whole { of_current S.whole current.new ≡ of_current S.whole current.old }
     ensures rest { OnOk result (of_current S.rest current.new ≡ from_key (key_of key.entry) (of_current S.whole current.old)) }
+    ensures err { OnErr result (of_current S.rest current.new ≡ []) }
 {
     match current {
         None => Ok(()),
@@ -147,7 +158,9 @@ fn seek_in<S: Source>(current: &mut Option<S>, key: Key<'_>) -> Result<(), NoMem
     }
 }
 
-// Where the source that is read has no record left, makes one over the next list, if there is one.
+// Goes on from the end of the source that is read: makes one over the next list, if there is one. After an error that one is still read.
+#[cold]
+#[inline(never)]
 fn go_on<L: Lists<S>, S: Source + Drop>(
     alloc: Global,
     lists: &L,
@@ -156,14 +169,13 @@ fn go_on<L: Lists<S>, S: Source + Drop>(
 ) -> Result<(), NoMemory>
     requires in_turn { AreInTurn (L.listed lists.now) }
     requires over { of_current S.whole current.old ≡ before next.old (L.listed lists.now) }
+    requires at_end { of_current S.rest current.old ≡ [] }
     ensures over { of_current S.whole current.new ≡ before next.new (L.listed lists.now) }
-    ensures left { OnOk result (left_in S.rest current.new next.new (L.listed lists.now) ≡ left_in S.rest current.old next.old (L.listed lists.now)) }
+    ensures left { OnOk result (left_in S.rest current.new next.new (L.listed lists.now) ≡ flat (drop next.old (L.listed lists.now))) }
     ensures ended { OnOk result (of_current S.rest current.new ≡ [] → length (L.listed lists.now) ≤ next.new) }
+    ensures err { OnErr result (of_current S.rest current.new ≡ []) }
 {
     if *next >= lists.count() {
-        return Ok(());
-    }
-    if top_of(current).is_some() {
         return Ok(());
     }
     let source = lists.source_at(alloc, *next)?;
@@ -172,7 +184,7 @@ fn go_on<L: Lists<S>, S: Source + Drop>(
     Ok(())
 }
 
-// Goes to the first record of the lists whose key isn't before this one.
+// Goes to the first record of the lists whose key isn't before this one. After an error the source that is read has no record left.
 fn go_to<L: Lists<S>, S: Source + Drop>(
     alloc: Global,
     lists: &L,
@@ -185,6 +197,7 @@ fn go_to<L: Lists<S>, S: Source + Drop>(
     ensures over { of_current S.whole current.new ≡ before next.new (L.listed lists.now) }
     ensures left { OnOk result (left_in S.rest current.new next.new (L.listed lists.now) ≡ from_key (key_of key.entry) (flat (L.listed lists.now))) }
     ensures ended { OnOk result (of_current S.rest current.new ≡ [] → length (L.listed lists.now) ≤ next.new) }
+    ensures err { OnErr result (of_current S.rest current.new ≡ []) }
 {
     if lists.count() == 0 {
         return Ok(());
@@ -195,7 +208,8 @@ fn go_to<L: Lists<S>, S: Source + Drop>(
     Ok(())
 }
 
-// Makes a source over the list with this index, unless it is the one that is read.
+// Makes a source over the list with this index, unless it is the one that is read. The one that was read is dropped first, and after an
+// error none is read.
 fn read_from<L: Lists<S>, S: Source + Drop>(
     alloc: Global,
     lists: &L,
@@ -209,14 +223,24 @@ fn read_from<L: Lists<S>, S: Source + Drop>(
     requires fits { at < usize.MAX }
     ensures over { of_current S.whole current.new ≡ before next.new (L.listed lists.now) }
     ensures there { OnOk result (next.new ≡ at + 1) }
+    ensures err { OnErr result (of_current S.rest current.new ≡ []) }
 {
     if *next == at + 1 {
         return Ok(());
     }
+    clear(current);
+    *next = 0;
     let source = lists.unpositioned_at(alloc, at)?;
     put(current, source);
     *next = at + 1;
     Ok(())
+}
+
+// Drops the source that was read.
+fn clear<S: Drop>(current: &mut Option<S>)
+    ensures { current.new ≡ None }
+{
+    let _ = mem::replace(current, None);
 }
 
 // Puts the source in the place of the one that was read.

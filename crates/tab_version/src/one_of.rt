@@ -30,6 +30,7 @@ impl<A: Source, B: Source> Source for OneOf<A, B> {
 
     ghost unpositioned_is_empty = { by_kind (λ s. one_of A.is_unpositioned B.is_unpositioned s ≡ true → one_of A.rest B.rest s ≡ []) A.unpositioned_is_empty B.unpositioned_is_empty };
 
+    #[inline]
     fn top(&self) -> Option<RecordRef<'_>> {
         match self {
             OneOf::First(source) => source.top(),
@@ -37,6 +38,7 @@ impl<A: Source, B: Source> Source for OneOf<A, B> {
         }
     }
 
+    #[inline]
     fn advance(&mut self) -> Result<(), NoMemory> {
         match self {
             OneOf::First(source) => source.advance(),

@@ -24,10 +24,12 @@ impl<'a> Source for RunCursor<'a> {
 
     ghost unpositioned_is_empty = { λ c. always_positioned (rest c) };
 
+    #[inline]
     fn top(&self) -> Option<RecordRef<'_>> {
         RunCursor::top(self)
     }
 
+    #[inline]
     fn advance(&mut self) -> Result<(), NoMemory> {
         if self.at < self.end {
             self.at += 1;
