@@ -10,10 +10,12 @@
 //! | `snapshot_scan` | what a session reads: a version, and what is asked of it |
 //! | `bookmark` | where a session goes on |
 //! | `taking` | the cells of a batch |
+//! | `room` | how much memory a batch asks for at once |
 //! | `rows` | the cells of a range of rows |
 #![tactic(auto)]
 
 mod bookmark;
+mod room;
 mod rows;
 mod session;
 mod snapshot_scan;

@@ -5,6 +5,7 @@ ghost use Rattle.tab_cells.specs.SessionState.{batch, gave, in_ranges};
 ghost use Rattle.tab_iter.specs.Stack.{query_of};
 
 use crate::bookmark::Bookmark;
+use crate::room::Room;
 use crate::snapshot_scan::SnapshotScan;
 use std::alloc::{AllocError, Global};
 use std::marker::Model;
@@ -21,6 +22,8 @@ pub struct Session {
     scan: SnapshotScan,
     // none once all cells were given
     next: Option<Bookmark>,
+    // what the batch before took
+    took: Room,
 }
 
 impl Model for Session {
@@ -43,13 +46,15 @@ impl Session {
         Session {
             scan: SnapshotScan::new(version, columns, auths, versions),
             next: Some(Bookmark::Beginning),
+            took: Room::unknown(),
         }
     }
 
     /// The next `count` cells, fewer only at the end. Where memory lacks, the session is as before.
     ///
     /// Each batch but the first makes one seek, and reads nothing before the column of its place. Nothing is copied but the cells, to
-    /// one piece of memory, and one key.
+    /// one piece of memory, and one key. Each batch but the first asks at once for about as much memory as the one before took, but for
+    /// no more than `count` cells may need.
     pub fn next_batch(&mut self, alloc: Global, count: u32) -> Result<Cells, AllocError>
         ensures ok { IfOk result (λ cells. cells ≡ batch self.old count) }
         ensures after { OnOk result (self.new ≡ gave (length (batch self.old count)) self.old) }
@@ -58,7 +63,9 @@ impl Session {
         let Some(from) = &self.next else {
             return Ok(Cells::new(alloc));
         };
-        let batch = self.scan.read(alloc, from, count)?;
+        let room = self.took.for_next(count);
+        let batch = self.scan.read(alloc, from, count, room)?;
+        self.took = Room::of(&batch.cells);
         self.next = batch.next;
         Ok(batch.cells)
     }

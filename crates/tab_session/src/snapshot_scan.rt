@@ -6,6 +6,7 @@ ghost use Rattle.tab_session.specs.Bookmarks.{from_mark, ahead_of};
 ghost use Rattle.tab_version.specs.Shown.{shown};
 
 use crate::bookmark::{Bookmark, pass_before};
+use crate::room::Room;
 use crate::rows::take_ranges;
 use crate::taking::take;
 use std::alloc::Global;
@@ -59,13 +60,19 @@ impl SnapshotScan {
         }
     }
 
-    /// The cells of the next `count` records from the bookmark on, fewer only at the end.
-    pub(crate) fn read(&self, alloc: Global, from: &Bookmark, count: u32) -> Result<Batch, NoMemory>
+    /// The cells of the next `count` records from the bookmark on, fewer only at the end. The room is asked for at once.
+    pub(crate) fn read(
+        &self,
+        alloc: Global,
+        from: &Bookmark,
+        count: u32,
+        room: Room,
+    ) -> Result<Batch, NoMemory>
         ensures cells { IfOk result (λ b. b.cells ≡ take count (map cell_of (from_mark from.now self.now))) }
         ensures next { IfOk result (λ b. ahead_of b.next self.now ≡ drop count (from_mark from.now self.now)) }
     {
         let mut source = self.source(alloc, from)?;
-        let cells = take(alloc, &mut source, count)?;
+        let cells = take(alloc, &mut source, count, room)?;
         let next = Bookmark::of(alloc, &source)?;
         Ok(Batch { cells, next })
     }
