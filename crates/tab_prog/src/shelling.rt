@@ -4,7 +4,7 @@ use crate::asking::Asking;
 use std::alloc::Global;
 use tab_history::{Act, Refusal, Reply, Scan};
 use tab_io::{Input, Output, ReadFault, WriteFault};
-use tab_key::{Bounds, Items, Name};
+use tab_key::{Bounds, Cells, Items, Name};
 use tab_shell::{
     Line, LineError, Pending, put_cells, put_next, put_opened, take_line, write_reply,
 };
@@ -189,11 +189,14 @@ fn answer_next<O: Output, R: Input, W: Output>(
     asking: &mut Asking<'_, R, W>,
 ) -> Result<(), ShellFault> {
     match asking.ask(&Request::Next { slot, count }) {
-        Ok(Answer::Reply(Reply::Batch(cells))) => {
-            Ok(put_next(out, count, &Reply::Batch(cells))?)
-        }
+        Ok(Answer::Reply(Reply::Batch(cells))) => put_taken(out, count, cells),
         answer => tell(out, answer),
     }
+}
+
+// Prints what a session gave, of which so many cells were asked.
+fn put_taken<O: Output>(out: &mut O, count: u32, cells: Cells) -> Result<(), ShellFault> {
+    Ok(put_next(out, count, &Reply::Batch(cells))?)
 }
 
 // A session in ranges.
@@ -243,19 +246,28 @@ fn read_batch<O: Output, R: Input, W: Output>(
 ) -> Result<bool, ShellFault> {
     let count = BATCH_LENGTH;
     match asking.ask(&Request::Next { slot, count }) {
-        Ok(Answer::Reply(Reply::Batch(cells))) => {
-            put_cells(out, &cells)?;
-            if cells.len() == BATCH_LENGTH as usize {
-                return Ok(true);
-            }
-            out.put(b"end\n")?;
-            Ok(false)
-        }
-        answer => {
-            tell(out, answer)?;
-            Ok(false)
-        }
+        Ok(Answer::Reply(Reply::Batch(cells))) => put_batch(out, cells),
+        answer => tell_last(out, answer),
     }
+}
+
+// Prints a batch, and an end where it is a short one. Whether there may be more.
+fn put_batch<O: Output>(out: &mut O, cells: Cells) -> Result<bool, ShellFault> {
+    put_cells(out, &cells)?;
+    if cells.len() == BATCH_LENGTH as usize {
+        return Ok(true);
+    }
+    out.put(b"end\n")?;
+    Ok(false)
+}
+
+// Prints what was told in the place of a batch. There is no more.
+fn tell_last<O: Output>(
+    out: &mut O,
+    answer: Result<Answer, ShellFault>,
+) -> Result<bool, ShellFault> {
+    tell(out, answer)?;
+    Ok(false)
 }
 
 // Prints what was told.
@@ -272,14 +284,7 @@ fn tell<O: Output>(out: &mut O, answer: Result<Answer, ShellFault>) -> Result<()
 
 // Prints why a frame asked nothing.
 fn put_bad_frame<O: Output>(out: &mut O, reason: Reason) -> Result<(), WriteFault> {
-    let why: &[u8] = match reason {
-        Reason::Empty => b"empty",
-        Reason::TooLong => b"toolong",
-        Reason::Cut => b"cut",
-        Reason::Opcode => b"opcode",
-        Reason::Field => b"field",
-        Reason::Order => b"order",
-    };
+    let why = word_of(reason);
     put_line(
         out,
         &[
@@ -289,4 +294,16 @@ fn put_bad_frame<O: Output>(out: &mut O, reason: Reason) -> Result<(), WriteFaul
             Word::Text(why),
         ],
     )
+}
+
+// The reason in a word.
+fn word_of(reason: Reason) -> &'static [u8] {
+    match reason {
+        Reason::Empty => b"empty",
+        Reason::TooLong => b"toolong",
+        Reason::Cut => b"cut",
+        Reason::Opcode => b"opcode",
+        Reason::Field => b"field",
+        Reason::Order => b"order",
+    }
 }
