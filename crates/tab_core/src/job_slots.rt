@@ -7,7 +7,7 @@ ghost use Rattle.tab_core.specs.Stepping.{asked_at};
 
 use crate::policing::named_slot;
 use crate::reply::{told, with_job};
-use crate::slots::put;
+use crate::slots::{put, refused};
 use crate::state::Core;
 use std::alloc::{AllocError, Global};
 use std::marker::Model;
@@ -105,7 +105,7 @@ impl JobSlots {
         ensures { LacksRoom core.old self.old event result core.new self.new ⊎ KeepsJob core.old self.old event result core.new self.new }
     {
         if self.slots.reserve(1).is_err() {
-            return Reply::Refused(Refusal::NoMemory);
+            return refused(event, Refusal::NoMemory);
         }
         let (reply, job) = with_job(core.step(alloc, event));
         keep(&mut self.slots, job);

@@ -11,7 +11,7 @@ ghost use Rattle.tab_core.specs.declared.job_slots.JobSlot.{JobSlot};
 ghost use Rattle.tab_core.specs.Owners.{RunsOn, LeavesOthers, slots_of};
 
 use crate::job_slots::JobSlots;
-use crate::slots::Slots;
+use crate::slots::{Slots, refused};
 use crate::state::Core;
 use std::alloc::{AllocError, Global};
 use std::collections::BTreeMap;
@@ -101,12 +101,12 @@ fn run_open(alloc: Global, core: &mut Core, owners: &mut Owners, event: Event) -
     ensures { (jobs : List JobSlot) → RunsOn core.old owners.old.entries jobs (Step.Event event) result core.new owners.new.entries jobs }
 {
     if make_owner(alloc, owners, &event.user).is_err() {
-        return Reply::Refused(Refusal::NoMemory);
+        return refused(event, Refusal::NoMemory);
     }
     match owners.get_mut(&event.user) {
         Some(slots) => slots.open(alloc, core, event),
         // he is among the owners by now
-        None => Reply::Refused(Refusal::NoMemory),
+        None => refused(event, Refusal::NoMemory),
     }
 }
 

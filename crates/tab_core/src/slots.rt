@@ -76,10 +76,10 @@ impl Slots {
         ensures { OpensIn core.old self.old event result core.new self.new }
     {
         if self.are_full() {
-            return Reply::Refused(Refusal::TooLarge(Part::Sessions));
+            return refused(event, Refusal::TooLarge(Part::Sessions));
         }
         if self.slots.reserve(1).is_err() {
-            return Reply::Refused(Refusal::NoMemory);
+            return refused(event, Refusal::NoMemory);
         }
         let (reply, session) = with_session(core.step(alloc, event));
         keep(&mut self.slots, &mut self.open, session);
@@ -163,6 +163,13 @@ impl Slots {
         self.open -= 1;
         Reply::Done
     }
+}
+
+/// The refusal of an event, which doesn't happen.
+pub(crate) fn refused(_event: Event, refusal: Refusal) -> Reply
+    ensures { result ≡ Reply.Refused refusal }
+{
+    Reply::Refused(refusal)
 }
 
 // Keeps the session in a new slot, if there is one. There is room for the slot.

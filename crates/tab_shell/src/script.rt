@@ -3,7 +3,7 @@ ghost use Rattle.std.specs.Prelude.{◌≡◌, [], true, false, is_some, IfOk, I
 ghost use Rattle.tab_history.specs.Answers.{told_of, is_open};
 ghost use Rattle.tab_io.specs.Streams.{FailsByFault};
 ghost use Rattle.tab_io.specs.Writing.{Puts};
-ghost use Rattle.tab_shell.specs.Texts.{reply_text};
+ghost use Rattle.tab_shell.specs.Texts.{refusal_text, reply_text};
 ghost use Rattle.tab_policy.specs.Roots.{root};
 ghost use Rattle.tab_policy.specs.Entries.{at_name};
 ghost use Rattle.tab_shell.specs.Sessions.{kept_of, is_spent};
@@ -14,6 +14,7 @@ ghost use Rattle.tab_shell.specs.Progress.{PrintsAnswer, AnswersOrAccepts, Answe
 use crate::batches::put_session;
 use crate::file_lines::{file_act, hand_back, is_done, printed};
 use crate::pending::{Pending, take_line};
+use crate::refusal::put_refusal;
 use crate::reply::{put_begun, put_next, put_opened, write_reply};
 use crate::sessions::Sessions;
 use std::alloc::Global;
@@ -83,6 +84,13 @@ fn write_told<W: Output>(output: &mut W, reply: Answer) -> Result<(), WriteFault
 {
     let reply = told(reply);
     write_reply(output, &reply)
+}
+
+// Writes the refusal of a scan, which isn't done.
+fn write_refused<W: Output>(output: &mut W, _scan: Scan, refusal: Refusal) -> Result<(), WriteFault>
+    ensures { Puts W.Output output.old output.new (refusal_text refusal) result }
+{
+    put_refusal(output, &refusal)
 }
 
 impl Script {
@@ -235,10 +243,10 @@ impl Script {
         ensures { PrintsAnswer W.Output self.old (Ok (Line.Scan scan)) self.new output.old output.new result }
     {
         if self.sessions.ready(self.alloc, &self.user).is_err() {
-            return write_reply(output, &Reply::Refused(Refusal::NoMemory));
+            return write_refused(output, scan, Refusal::NoMemory);
         }
         if self.sessions.is_spent(&self.user) {
-            return write_reply(output, &Reply::Refused(Refusal::TooLarge(Part::Sessions)));
+            return write_refused(output, scan, Refusal::TooLarge(Part::Sessions));
         }
         self.read_all(scan, output)
     }
@@ -264,10 +272,10 @@ impl Script {
         ensures { PrintsAnswer W.Output self.old (Ok (Line.Open scan)) self.new output.old output.new result }
     {
         if self.sessions.ready(self.alloc, &self.user).is_err() {
-            return write_reply(output, &Reply::Refused(Refusal::NoMemory));
+            return write_refused(output, scan, Refusal::NoMemory);
         }
         if self.sessions.is_spent(&self.user) {
-            return write_reply(output, &Reply::Refused(Refusal::TooLarge(Part::Sessions)));
+            return write_refused(output, scan, Refusal::TooLarge(Part::Sessions));
         }
         self.keep(scan, output)
     }

@@ -15,8 +15,6 @@ use Rattle.tab_key.proofs.Rising.{distinct_filter}
 use Rattle.tab_cells.proofs.Lists.{filter_append}
 use Rattle.tab_iter.specs.Bags.{flat}
 use Rattle.tab_version.specs.Sources.{Sorted, Sources, records_of, clipped}
-use Rattle.tab_tablet.specs.Splitting.{cut_to}
-use Rattle.tab_tablet.specs.Tablets.{Tablet, no_jobs, frozen}
 use Rattle.tab_tablet.proofs.Clipped.{held_in}
 use Rattle.tab_tablet.proofs.Moved.{distinct_right}
 
@@ -35,11 +33,6 @@ clipped_records p s = (λ i. runs_cut (λ u. p u.key.row) s.runs i ++ tables_cut
 -- none is held twice
 pub clipped_distinct : (p : List ℕ → Bool) (active : List Record) (s : Sources) → IsDistinct (active ++ records_of s) → IsDistinct (records_of (clipped p s))
 clipped_distinct p active s d = subst IsDistinct (sym (clipped_records p s)) (distinct_filter (λ u. p u.key.row) (records_of s) (distinct_right active (records_of s) d))
-
--- ---- a split
--- a part of the frozen tablet, cut by a test that is another one
-pub part_cut : (t f part : Tablet) (number : ℕ) (p q : List ℕ → Bool) → f ≡ frozen t → p ≡ q → part ≡ record f { number = number; sources = clipped p f.sources; jobs = no_jobs } → part ≡ cut_to number q t
-part_cut t f part number p q same test is = is ∙ (λ i. record (same i) { number = number; sources = clipped (test i) (same i).sources; jobs = no_jobs })
 
 -- the rows above one
 above_is : (o : Ordering) → is_lt (ordering_reverse o) ≡ is_gt o

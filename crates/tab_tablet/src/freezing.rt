@@ -1,5 +1,5 @@
 //! What was written, made a run.
-ghost use Rattle.std.specs.Prelude.{◌≡◌, ◌++◌, OnOk};
+ghost use Rattle.std.specs.Prelude.{◌≡◌, ◌++◌, IfOk, OnOk};
 ghost use Rattle.tab_key.specs.Sorted.{IsDistinct};
 ghost use Rattle.tab_version.specs.Sources.{records_of};
 ghost use Rattle.tab_tablet.specs.Tablets.{run_of};
@@ -24,12 +24,22 @@ pub(crate) fn add_frozen(
     sources.add_run(Clip::whole(run))
 }
 
-/// The same, and the bodies hold that run's records then.
-pub(crate) fn add_prepared(
+/// The layers with what was written as one more run, if there is any, which the bodies hold too. These stay as they are.
+pub(crate) fn frozen_layers(
     alloc: Global,
     active: &Active,
-    layers: &mut Layers,
-) -> Result<(), AllocError>
+    layers: &Layers,
+) -> Result<Layers, AllocError>
+    requires { IsDistinct (active.now ++ records_of layers.now) }
+    ensures { IfOk result (λ l. l ≡ record (layers.now) { runs = layers.now.runs ++ run_of active.now }) }
+{
+    let mut frozen = layers.share(alloc)?;
+    add_prepared(alloc, active, &mut frozen)?;
+    Ok(frozen)
+}
+
+// Puts what was written behind the runs of the layers, if there is any, so that the bodies hold it too.
+fn add_prepared(alloc: Global, active: &Active, layers: &mut Layers) -> Result<(), AllocError>
     requires { IsDistinct (active.now ++ records_of layers.old) }
     ensures { OnOk result (layers.new ≡ record (layers.old) { runs = layers.old.runs ++ run_of active.now }) }
 {

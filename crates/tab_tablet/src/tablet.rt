@@ -21,7 +21,7 @@ use crate::bounding::{rows_above, rows_up_to};
 use crate::counting::{count_in_runs, count_records, total_size};
 use crate::due::{DueKind, has_plan};
 use crate::freeze::Freeze;
-use crate::freezing::{add_frozen, add_prepared};
+use crate::freezing::{add_frozen, frozen_layers};
 use crate::installed::Installed;
 use crate::jobs::Jobs;
 use crate::layers::Layers;
@@ -133,8 +133,7 @@ impl Tablet {
     pub fn frozen(&self, alloc: Global) -> Result<Tablet, AllocError>
         ensures { IfOk result (λ t. t ≡ frozen self.now) }
     {
-        let mut sources = self.sources.share(alloc)?;
-        add_prepared(alloc, &self.active, &mut sources)?;
+        let sources = frozen_layers(alloc, &self.active, &self.sources)?;
         let jobs = self.jobs.share()?;
         Ok(Tablet {
             number: self.number,
@@ -304,11 +303,42 @@ impl Tablet {
         ensures upper { IfOk result (λ p. p.1 ≡ cut_to upper_number (λ r. is_gt (bytes_cmp r row.now)) self.now) }
     {
         let frozen = self.frozen(alloc)?;
-        let up_to = rows_up_to(row)?;
-        let lower = frozen.cut(alloc, lower_number, &up_to)?;
-        let above = rows_above(row)?;
-        let upper = frozen.cut(alloc, upper_number, &above)?;
+        frozen.halves(alloc, row, lower_number, upper_number)
+    }
+
+    // The same two tablets, where nothing waits to be frozen.
+    fn halves(
+        &self,
+        alloc: Global,
+        row: &ByteString,
+        lower_number: u64,
+        upper_number: u64,
+    ) -> Result<(Tablet, Tablet), AllocError>
+        requires { self.now.active ≡ [] }
+        ensures lower { IfOk result (λ p. p.0 ≡ record (self.now) { number = lower_number; sources = clipped (λ r. is_le (bytes_cmp r row.now)) self.now.sources; jobs = no_jobs }) }
+        ensures upper { IfOk result (λ p. p.1 ≡ record (self.now) { number = upper_number; sources = clipped (λ r. is_gt (bytes_cmp r row.now)) self.now.sources; jobs = no_jobs }) }
+    {
+        let lower = self.cut_up_to(alloc, row, lower_number)?;
+        let upper = self.cut_above(alloc, row, upper_number)?;
         Ok((lower, upper))
+    }
+
+    // The part of the rows up to this one.
+    fn cut_up_to(&self, alloc: Global, row: &ByteString, number: u64) -> Result<Tablet, AllocError>
+        requires { self.now.active ≡ [] }
+        ensures { IfOk result (λ t. t ≡ record (self.now) { number = number; sources = clipped (λ r. is_le (bytes_cmp r row.now)) self.now.sources; jobs = no_jobs }) }
+    {
+        let up_to = rows_up_to(row)?;
+        self.cut(alloc, number, &up_to)
+    }
+
+    // The part of the rows above this one.
+    fn cut_above(&self, alloc: Global, row: &ByteString, number: u64) -> Result<Tablet, AllocError>
+        requires { self.now.active ≡ [] }
+        ensures { IfOk result (λ t. t ≡ record (self.now) { number = number; sources = clipped (λ r. is_gt (bytes_cmp r row.now)) self.now.sources; jobs = no_jobs }) }
+    {
+        let above = rows_above(row)?;
+        self.cut(alloc, number, &above)
     }
 
     // A tablet with this number and the sources of this one, whose active part is empty, cut to the rows in bounds.

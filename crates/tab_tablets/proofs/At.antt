@@ -74,15 +74,13 @@ last_is (t ∷ ts) x zero le lt = absurd (omega arith)
 last_is (t ∷ ts) x (suc p) le lt = last_is ts x p (omega arith) (omega arith)
 
 -- ---- two for one
-pub divided : (lower : List Tablet) (x a b : Tablet) (p : ℕ) → p ≤ length lower
-    → put_at (p + 1) b (insert lower p a ++ x ∷ []) ≡ at_place p (λ (t : Tablet). a ∷ ended t.end b ∷ []) (lower ++ x ∷ [])
-divided [] x a b zero le = refl
-divided [] x a b (suc p) le = absurd (omega arith)
-divided (t ∷ ts) x a b zero le = refl
-divided (t ∷ ts) x a b (suc p) le = step p ∙ ap (λ l. t ∷ l) (divided ts x a b p (omega arith))
+pub divided : (ts : List Tablet) (a b : Tablet) (p : ℕ) → p < length ts → put_at (p + 1) b (insert ts p a) ≡ at_place p (λ (t : Tablet). a ∷ ended t.end b ∷ []) ts
+divided [] a b p lt = absurd (omega arith)
+divided (t ∷ ts) a b zero lt = refl
+divided (t ∷ ts) a b (suc p) lt = step p ∙ ap (λ l. t ∷ l) (divided ts a b p (omega arith))
   where
-    step : (p : ℕ) → put_at (suc p + 1) b (insert (t ∷ ts) (suc p) a ++ x ∷ []) ≡ t ∷ put_at (p + 1) b (insert ts p a ++ x ∷ [])
-    step p = let e : suc p + 1 ≡ suc (p + 1) = omega arith in ap (λ k. put_at k b (insert (t ∷ ts) (suc p) a ++ x ∷ [])) e
+    step : (p : ℕ) → put_at (suc p + 1) b (insert (t ∷ ts) (suc p) a) ≡ t ∷ put_at (p + 1) b (insert ts p a)
+    step p = let e : suc p + 1 ≡ suc (p + 1) = omega arith in ap (λ k. put_at k b (insert (t ∷ ts) (suc p) a)) e
 
 module _ (row : List ℕ) (number : ℕ) where
   pub longer : (ts : List Tablet) (p : ℕ) → p < length ts → length (at_place p (split_at row number) ts) ≡ length ts + 1

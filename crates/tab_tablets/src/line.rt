@@ -1,11 +1,12 @@
 //! Tablets in the order of their rows.
-ghost use Rattle.std.specs.Prelude.{◌≡◌, ◌==◌, ℕ, ◌<◌, [], ◌∷◌, ◌++◌, None, Some, false, length, map, min, sum, Contains, IfOk, IfSome, OnOk, OnErr};
-ghost use Rattle.std.specs.List.{AllByRecursion};
+ghost use Rattle.std.specs.Prelude.{◌≡◌, ◌==◌, ℕ, ◌+◌, ◌<◌, [], ◌∷◌, ◌++◌, None, Some, false, length, map, min, sum, Contains, IfOk, IfSome, OnOk, OnErr};
+ghost use Rattle.std.specs.List.{AllByRecursion, insert};
 ghost use Rattle.tab_key.specs.Records.{Record as Fields};
 ghost use Rattle.tab_mutation.specs.Shape.{shape_error};
 ghost use Rattle.tab_cells.specs.Written.{mutation_records};
 ghost use Rattle.tab_tablet.specs.Tablets.{new_tablet, frozen, records_in, written, capture, begins, installed as installed_by};
 ghost use Rattle.tab_tablet.specs.Bodies.{IsFreezeOf};
+ghost use Rattle.tab_tablet.specs.Splitting.{split_at};
 ghost use Rattle.tab_version.specs.Sources.{count_of};
 ghost use Rattle.tab_tablets.specs.ByRow.{AreWhole, ends_of, records_of_all};
 ghost use Rattle.tab_tablets.specs.Places.{ended, tablet_at, IsPlaceOf, at_place, put_at, installed, is_end_row};
@@ -220,10 +221,27 @@ impl Line {
         self.put(place, tablet);
     }
 
-    /// Puts two tablets in the place of one: the lower one up to this row, the upper one up to the end row that there was.
+    /// Splits the tablet at a place at this row, as `Tablet::split` does: the lower one of the two gets this number, the upper one the next.
     ///
     /// `AllocError` leaves all as it was.
-    pub(crate) fn divide(
+    pub(crate) fn split(
+        &mut self,
+        alloc: Global,
+        place: usize,
+        row: ByteString,
+        number: u64,
+    ) -> Result<(), AllocError>
+        requires { place < length self.old }
+        ensures ok { OnOk result (self.new ≡ at_place place (split_at row number) self.old) }
+        ensures err { OnErr result (self.new ≡ self.old) }
+    {
+        let next = number.saturating_add(1);
+        let (lower, upper) = self.tablet(place).split(alloc, &row, number, next)?;
+        self.divide(alloc, place, row, lower, upper)
+    }
+
+    // Puts two tablets in the place of one: the lower one up to this row, the upper one up to the end row that there was.
+    fn divide(
         &mut self,
         alloc: Global,
         place: usize,
@@ -235,13 +253,24 @@ impl Line {
         ensures ok { OnOk result (self.new ≡ at_place place (λ t. ended (Some row) lower ∷ ended t.end upper ∷ []) self.old) }
         ensures err { OnErr result (self.new ≡ self.old) }
     {
-        let prefix = row_prefix(row.as_bytes());
         let lower = Lower::new(alloc, row, lower)?;
+        let behind = self.insert(place, lower)?;
+        self.put(behind, upper);
+        Ok(())
+    }
+
+    // Puts a tablet with an end row before the one at a place. It tells the place that this one has then.
+    fn insert(&mut self, place: usize, lower: Lower) -> Result<usize, AllocError>
+        requires { place < length self.old }
+        ensures behind { IfOk result (λ behind. behind ≡ place + 1) }
+        ensures ok { OnOk result (self.new ≡ insert self.old place lower) }
+        ensures err { OnErr result (self.new ≡ self.old) }
+    {
+        let prefix = row_prefix(lower.end().as_bytes());
         self.prefixes.reserve(1)?;
         self.lower.insert(place, lower)?;
         insert_reserved(&mut self.prefixes, place, prefix);
-        self.put(place + 1, upper);
-        Ok(())
+        Ok(place + 1)
     }
 
     /// Whether the tablet at a place has this number.

@@ -72,10 +72,36 @@ fn take_lower(
     ensures lower { IfOk result (λ l. l ≡ tabled number (Some end) (filter (λ u. is_le (bytes_cmp u.key.row end)) left.old)) }
     ensures left { OnOk result (left.new ≡ filter (λ u. is_gt (bytes_cmp u.key.row end)) left.old) }
 {
-    let up_to = rows_up_to(&end)?;
-    let own = left.in_rows(&up_to)?;
-    let tablet = Tablet::tabled(alloc, number, &own)?;
-    let above = rows_above(&end)?;
-    *left = left.in_rows(&above)?;
+    let own = clip_up_to(left, &end)?;
+    *left = clip_above(left, &end)?;
+    lower_with(alloc, number, end, &own)
+}
+
+// The records of the rows up to this one.
+fn clip_up_to(records: &Clip, row: &ByteString) -> Result<Clip, NoMemory>
+    ensures { IfOk result (λ c. c ≡ filter (λ u. is_le (bytes_cmp u.key.row row.now)) records.now) }
+{
+    let up_to = rows_up_to(row)?;
+    records.in_rows(&up_to)
+}
+
+// The records of the rows above this one.
+fn clip_above(records: &Clip, row: &ByteString) -> Result<Clip, NoMemory>
+    ensures { IfOk result (λ c. c ≡ filter (λ u. is_gt (bytes_cmp u.key.row row.now)) records.now) }
+{
+    let above = rows_above(row)?;
+    records.in_rows(&above)
+}
+
+// The tablet with this number, of the rows up to this one, that holds these records.
+fn lower_with(
+    alloc: Global,
+    number: u64,
+    end: ByteString,
+    records: &Clip,
+) -> Result<Lower, NoMemory>
+    ensures { IfOk result (λ l. l ≡ tabled number (Some end) records.now) }
+{
+    let tablet = Tablet::tabled(alloc, number, records)?;
     Lower::new(alloc, end, tablet)
 }

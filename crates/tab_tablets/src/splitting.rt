@@ -95,10 +95,8 @@ impl Tablets {
         ensures ok { OnOk result (self.new ≡ at_place place (split_at row number) self.old) }
         ensures err { OnErr result (self.new ≡ self.old) }
     {
-        let tablet = self.line.tablet(place);
-        let (lower, upper) = tablet.split(alloc, &row, number, number.saturating_add(1))?;
         let written = moved(alloc, &self.written, place, self.line.len())?;
-        self.line.divide(alloc, place, row, lower, upper)?;
+        self.line.split(alloc, place, row, number)?;
         self.written = written;
         Ok(())
     }

@@ -1,17 +1,21 @@
-use Rattle.std.proofs.Common.{◌≡◌, ◌∙◌, Some, ap, rules}
+use Rattle.std.proofs.Common.{◌≡◌, ◌∙◌, Some, sym, ap, subst, rules}
 use Rattle.tab_policy.specs.Entries.{at_name}
-use Rattle.tab_core.specs.Owners.{Owners, slots_of}
+use Rattle.tab_history.specs.declared.event.Step.TheVariants.{Event as IsEvent}
+use Rattle.tab_core.specs.Owners.{Owners, slots_of, RunsOn}
 use Rattle.tab_core.proofs.OwnerLemmas.{own_found, own_put, others_left}
 use Rattle.tab_core.proofs.Runs.{runs_nowhere, runs_open}
 use Rattle.tab_core.proofs.running.run_open.Goals as goal
 
 pub returns-then-is_err : goal.returns-then-is_err
-returns-then-is_err c jobs = runs_nowhere c.args.core.now c.args.owners.now.entries c.make_owner.new.owners.entries jobs c.args.event c.requires c.make_owner.ensures.slots
+returns-then-is_err c jobs =
+    subst (λ reply. RunsOn c.args.core.now c.args.owners.now.entries jobs (IsEvent c.args.event) reply c.args.core.now c.make_owner.new.owners.entries jobs) (sym c.refused.ensures)
+    (runs_nowhere c.args.core.now c.args.owners.now.entries c.make_owner.new.owners.entries jobs c.args.event c.requires c.make_owner.ensures.slots)
 
 pub returns-in-None : goal.returns-in-None
 returns-in-None c jobs =
     let same : c.get_mut.follows.lender-at-none.entries ≡ c.make_owner.new.owners.entries = search rules in
-    runs_nowhere c.args.core.now c.args.owners.now.entries c.get_mut.follows.lender-at-none.entries jobs c.args.event c.requires (λ u. ap (λ (os : Owners). slots_of os u) same ∙ c.make_owner.ensures.slots u)
+    subst (λ reply. RunsOn c.args.core.now c.args.owners.now.entries jobs (IsEvent c.args.event) reply c.args.core.now c.get_mut.follows.lender-at-none.entries jobs) (sym c.refused-in-None.ensures)
+    (runs_nowhere c.args.core.now c.args.owners.now.entries c.get_mut.follows.lender-at-none.entries jobs c.args.event c.requires (λ u. ap (λ (os : Owners). slots_of os u) same ∙ c.make_owner.ensures.slots u))
 
 pub returns-in-Some : goal.returns-in-Some
 returns-in-Some c jobs =

@@ -15,7 +15,7 @@ returns-then-is_err g c =
     let kept : Keeping = c.ready.new.self in
     let text : List ℕ = refusal_text NoMemory in
     let answered : ScriptAnswersLine v (Ok (line.Open c.args.scan)) text (with_kept v kept) = kept_counts v kept (Ok (line.Open c.args.scan)) text c.ready.ensures.same (starved_opens v c.args.scan) in
-    subst (λ (s : ScriptState). PrintsAnswer g.W.Output s (Ok (line.Open c.args.scan)) (with_kept v kept) c.args.output.now c.write_reply.new.output c.write_reply.result) c.self.view_is (text, answered, c.write_reply.ensures)
+    subst (λ (s : ScriptState). PrintsAnswer g.W.Output s (Ok (line.Open c.args.scan)) (with_kept v kept) c.args.output.now c.write_refused.new.output c.write_refused.result) c.self.view_is (text, answered, c.write_refused.ensures)
 
 pub returns-then-is_spent : goal.returns-then-is_spent
 returns-then-is_spent g c =
@@ -25,7 +25,7 @@ returns-then-is_spent g c =
     let yes : c.is_spent.result ≡ true = search rules in
     let spent : is_spent (own_kept v) ≡ true = ap is_spent (sym (c.ready.ensures.same v.asker.user)) ∙ sym c.is_spent.ensures ∙ yes in
     let answered : ScriptAnswersLine v (Ok (line.Open c.args.scan)) text (with_kept v kept) = kept_counts v kept (Ok (line.Open c.args.scan)) text c.ready.ensures.same (spent_opens v c.args.scan spent) in
-    subst (λ (s : ScriptState). PrintsAnswer g.W.Output s (Ok (line.Open c.args.scan)) (with_kept v kept) c.args.output.now c.write_reply-then-is_spent.new.output c.write_reply-then-is_spent.result) c.self.view_is (text, answered, c.write_reply-then-is_spent.ensures)
+    subst (λ (s : ScriptState). PrintsAnswer g.W.Output s (Ok (line.Open c.args.scan)) (with_kept v kept) c.args.output.now c.write_refused-then-is_spent.new.output c.write_refused-then-is_spent.result) c.self.view_is (text, answered, c.write_refused-then-is_spent.ensures)
 
 pub returns : goal.returns
 returns g c =

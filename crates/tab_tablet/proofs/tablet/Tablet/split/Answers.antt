@@ -1,9 +1,12 @@
-use Rattle.tab_key.specs.Ranges.{is_in_range}
-use Rattle.tab_tablet.proofs.Cut.{part_cut}
+use Rattle.std.proofs.Common.{◌≡◌, IfOk, subst}
+use Rattle.std.specs.Ordering.{is_le, is_gt}
+use Rattle.tab_key.specs.Bytes.{bytes_cmp}
+use Rattle.tab_version.specs.Sources.{clipped}
+use Rattle.tab_tablet.specs.Tablets.{Tablet, no_jobs}
 use Rattle.tab_tablet.proofs.tablet.Tablet.split.Goals as goal
 
 pub returns-clause-lower : goal.returns-clause-lower
-returns-clause-lower c = part_cut c.args.self.now c.in_ok-frozen.frozen c.in_ok-lower.lower c.args.lower_number (is_in_range c.in_ok-up_to.up_to) _ c.in_ok-frozen.ensures c.in_ok-up_to.ensures c.in_ok-lower.ensures
+returns-clause-lower c = subst (λ (f : Tablet). IfOk c.halves.result (λ p. p.0 ≡ record f { number = c.args.lower_number; sources = clipped (λ r. is_le (bytes_cmp r c.args.row.now)) f.sources; jobs = no_jobs })) c.in_ok-frozen.ensures c.halves.ensures.lower
 
 pub returns-clause-upper : goal.returns-clause-upper
-returns-clause-upper c = part_cut c.args.self.now c.in_ok-frozen.frozen c.in_ok-upper.upper c.args.upper_number (is_in_range c.in_ok-above.above) _ c.in_ok-frozen.ensures c.in_ok-above.ensures c.in_ok-upper.ensures
+returns-clause-upper c = subst (λ (f : Tablet). IfOk c.halves.result (λ p. p.1 ≡ record f { number = c.args.upper_number; sources = clipped (λ r. is_gt (bytes_cmp r c.args.row.now)) f.sources; jobs = no_jobs })) c.in_ok-frozen.ensures c.halves.ensures.upper

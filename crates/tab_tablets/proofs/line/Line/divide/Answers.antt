@@ -1,42 +1,21 @@
-use Rattle.std.proofs.Common.{◌∙◌, ◌+◌, ◌<◌, ◌≤◌, ℕ, List, [], ◌∷◌, ◌++◌, None, Some, length, sym, ap, subst, arith}
+use Rattle.std.proofs.Common.{◌∙◌, ◌+◌, ◌<◌, ℕ, List, Some, length, ap, subst, arith}
 use Rattle.std.specs.List.{insert}
-use Rattle.std.proofs.lemmas.List.{length-append}
-use Rattle.tab_key.specs.RowPrefix.{IsRowPrefix}
+use Rattle.std.proofs.lemmas.List.Edits.{length-insert}
 use Rattle.tab_tablet.specs.Tablets.{Tablet}
-use Rattle.tab_tablets.specs.EndPrefixes.{ArePrefixes}
-use Rattle.tab_tablets.specs.Places.{ended, at_place, put_at}
+use Rattle.tab_tablets.specs.Places.{ended, put_at}
 use Rattle.tab_tablets.proofs.At.{divided}
-use Rattle.tab_tablets.proofs.EndPrefixes.{same_count, prefixes_insert}
 use Rattle.tab_tablets.proofs.line.Line.divide.Goals as goal
+
+pub put-requires : goal.put-requires
+put-requires c =
+    let ts : List Tablet = c.args.self.now in
+    let count = length-insert ts c.args.place c.in_ok-lower.lower (omega (arith, c.requires)) in
+    omega (arith, c.requires, count, ap length c.in_ok-behind.ensures.ok, c.in_ok-behind.ensures.behind)
 
 pub returns-clause-ok : goal.returns-clause-ok
 returns-clause-ok c =
-    let last : Tablet = ended None c.self.inside.last in
-    let lower : List Tablet = c.self.inside.lower.items in
-    let low : Tablet = ended (Some c.args.row) c.args.lower in
-    let lt : c.args.place < length (lower ++ last ∷ []) = subst (λ (ts : List Tablet). c.args.place < length ts) (sym c.self.view_is) c.requires in
-    let le : c.args.place ≤ length lower = omega (arith, lt, length-append lower (last ∷ [])) in
+    let ts : List Tablet = c.args.self.now in
     c.put.ensures
-    ∙ ap (λ (l : List Tablet). put_at (c.args.place + 1) c.args.upper (l ++ last ∷ [])) (c.in_ok-insert.ensures.items ∙ ap (insert lower c.args.place) c.in_ok-lower.ensures)
-    ∙ divided lower last low c.args.upper c.args.place le
-    ∙ ap (at_place c.args.place (λ (t : Tablet). low ∷ ended t.end c.args.upper ∷ [])) c.self.view_is
-
-pub insert_reserved-requires-clause-place : goal.insert_reserved-requires-clause-place
-insert_reserved-requires-clause-place c =
-    let last : Tablet = ended None c.self.inside.last in
-    let lower : List Tablet = c.self.inside.lower.items in
-    let lt : c.args.place < length (lower ++ last ∷ []) = subst (λ (ts : List Tablet). c.args.place < length ts) (sym c.self.view_is) c.requires in
-    omega (arith, lt, length-append lower (last ∷ []), same_count c.self.inside.prefixes.items lower c.self.invariant, ap length c.reserve.ensures.items)
-
-pub invariant_of-self-2 : goal.invariant_of-self-2
-invariant_of-self-2 c =
-    let last : Tablet = ended None c.self.inside.last in
-    let lower : List Tablet = c.self.inside.lower.items in
-    let prefixes : List ℕ = c.self.inside.prefixes.items in
-    let low : Tablet = ended (Some c.args.row) c.args.lower in
-    let lt : c.args.place < length (lower ++ last ∷ []) = subst (λ (ts : List Tablet). c.args.place < length ts) (sym c.self.view_is) c.requires in
-    let le : c.args.place ≤ length lower = omega (arith, lt, length-append lower (last ∷ [])) in
-    let own : IsRowPrefix c.row_prefix-prefix.result c.args.row = subst (IsRowPrefix c.row_prefix-prefix.result) c.as_bytes.ensures c.row_prefix-prefix.ensures in
-    subst (λ (ns : List ℕ). ArePrefixes ns c.insert.new.self.items) (sym (c.insert_reserved.ensures ∙ ap (λ (ns : List ℕ). insert ns c.args.place c.row_prefix-prefix.result) c.reserve.ensures.items))
-    (subst (λ (ts : List Tablet). ArePrefixes (insert prefixes c.args.place c.row_prefix-prefix.result) ts) (sym (c.in_ok-insert.ensures.items ∙ ap (insert lower c.args.place) c.in_ok-lower.ensures))
-    (prefixes_insert prefixes lower c.args.place c.row_prefix-prefix.result low le c.self.invariant own))
+    ∙ (λ i. put_at (c.in_ok-behind.ensures.behind i) c.args.upper (c.in_ok-behind.ensures.ok i))
+    ∙ ap (λ (low : Tablet). put_at (c.args.place + 1) c.args.upper (insert ts c.args.place low)) c.in_ok-lower.ensures
+    ∙ divided ts (ended (Some c.args.row) c.args.lower) c.args.upper c.args.place c.requires
