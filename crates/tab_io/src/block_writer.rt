@@ -1,5 +1,5 @@
 //! Any writer of std, written in blocks.
-ghost use Rattle.std.specs.Prelude.{◌≡◌, ◌+◌, ◌^◌, ◌<◌, ◌≤◌, [], ◌++◌, length, drop, IfOk, OnOk, vec_len, vec_capacity};
+ghost use Rattle.std.specs.Prelude.{◌≡◌, ◌+◌, ◌^◌, ◌<◌, ◌≤◌, [], ◌++◌, length, take, drop, IfOk, OnOk};
 ghost use Rattle.tab_io.specs.Streams.{Accepts, Drains, FailsByFault};
 
 use crate::counted::Counted;
@@ -14,11 +14,15 @@ use std::io::Write;
 /// writer writes nothing: flush it first.
 #[derive(Drop)]
 pub struct BlockWriter<W> {
+    // As long from the start as it ever is: to gather bytes is one copy into it, and one number that changes.
     block: Vec<u8>,
-    // The first bytes of the block, which a write that stopped has written.
-    written: usize,
+    // Where the gathered bytes begin in the block: a write that stopped has written those before.
+    start: usize,
+    // Where they end.
+    end: usize,
     sink: Counted<W>,
-    ghost within: { written ≤ vec_len block },
+    ghost order: { start ≤ end },
+    ghost within: { end ≤ length block.items },
 }
 
 impl<W: Write> BlockWriter<W> {
@@ -31,10 +35,11 @@ impl<W: Write> BlockWriter<W> {
         ensures faults { IfOk result (λ writer. ⟦<BlockWriter<W> as Output>⟧.faults writer ≡ 0) }
         ensures budget { IfOk result (λ writer. ⟦<BlockWriter<W> as Output>⟧.budget writer + 1 ≡ 2 ^ 64) }
     {
-        let block = Vec::with_capacity(alloc, BLOCK_LENGTH)?;
+        let block = Vec::from_elem(alloc, 0, BLOCK_LENGTH)?;
         Ok(BlockWriter {
             block,
-            written: 0,
+            start: 0,
+            end: 0,
             sink: Counted::new(inner),
         })
     }
@@ -46,35 +51,33 @@ impl<W: Write> BlockWriter<W> {
         &self.sink.inner
     }
 
+    #[inline]
     fn gather(&mut self, bytes: &[u8])
-        requires { vec_len self.old.block + length bytes.now ≤ vec_capacity self.old.block }
-        ensures block { self.new.block.items ≡ self.old.block.items ++ bytes.now }
-        ensures written { self.new.written ≡ self.old.written }
+        requires { self.old.end + length bytes.now ≤ length self.old.block.items }
+        ensures block { take self.new.end self.new.block.items ≡ take self.old.end self.old.block.items ++ bytes.now }
+        ensures start { self.new.start ≡ self.old.start }
         ensures sink { self.new.sink ≡ self.old.sink }
     {
-        let Ok(()) = self.block.extend_from_slice(bytes) else {
-            unreachable!()
-        };
+        let end = self.end + bytes.len();
+        self.block[self.end..end].copy_from_slice(bytes);
+        self.end = end;
     }
 
     // What a write that stopped leaves unwritten stays in the block.
     fn write_block(&mut self) -> Result<(), WriteFault>
-        ensures bytes { Drains (W.contents self.old.sink.inner) (drop self.old.written self.old.block.items) (W.contents self.new.sink.inner) (drop self.new.written self.new.block.items) result }
+        ensures bytes { Drains (W.contents self.old.sink.inner) (drop self.old.start (take self.old.end self.old.block.items)) (W.contents self.new.sink.inner) (drop self.new.start (take self.new.end self.new.block.items)) result }
         ensures faults { FailsByFault result self.old.sink.faults self.new.sink.faults self.new.sink.budget }
-        ensures capacity { vec_capacity self.new.block ≡ vec_capacity self.old.block }
-        ensures empty { OnOk result ((self.new.block.items ≡ []) × (vec_len self.new.block ≡ 0)) }
-        ensures next { OnOk result (self.new.written ≡ 0) }
+        ensures length { length self.new.block.items ≡ length self.old.block.items }
+        ensures empty { OnOk result ((self.new.start ≡ 0) × (self.new.end ≡ 0)) }
     {
-        let written = self.written;
-        let block = self.block.as_slice();
-        match self.sink.write_all(&block[written..]) {
+        match self.sink.write_all(&self.block[self.start..self.end]) {
             Ok(()) => {
-                self.block.clear();
-                self.written = 0;
+                self.start = 0;
+                self.end = 0;
                 Ok(())
             }
             Err(stopped) => {
-                self.written += stopped.written;
+                self.start += stopped.written;
                 Err(WriteFault)
             }
         }
@@ -82,8 +85,8 @@ impl<W: Write> BlockWriter<W> {
 
     // Nothing is gathered, so these bytes are next.
     fn write_straight(&mut self, bytes: &[u8]) -> Result<(), WriteFault>
-        requires { self.old.block.items ≡ [] }
-        ensures bytes { Accepts (W.contents self.old.sink.inner) [] (W.contents self.new.sink.inner) (drop self.new.written self.new.block.items) bytes.now result }
+        requires { self.old.end ≡ 0 }
+        ensures bytes { Accepts (W.contents self.old.sink.inner) [] (W.contents self.new.sink.inner) (drop self.new.start (take self.new.end self.new.block.items)) bytes.now result }
         ensures faults { FailsByFault result self.old.sink.faults self.new.sink.faults self.new.sink.budget }
     {
         match self.sink.write_all(bytes) {
@@ -97,11 +100,11 @@ impl<W: Write> BlockWriter<W> {
     #[inline(never)]
     #[tactic(auto, using(crate::proofs::Blocks::none_put))]
     fn put_after_block(&mut self, bytes: &[u8]) -> Result<(), WriteFault>
-        ensures bytes { Accepts (W.contents self.old.sink.inner) (drop self.old.written self.old.block.items) (W.contents self.new.sink.inner) (drop self.new.written self.new.block.items) bytes.now result }
+        ensures bytes { Accepts (W.contents self.old.sink.inner) (drop self.old.start (take self.old.end self.old.block.items)) (W.contents self.new.sink.inner) (drop self.new.start (take self.new.end self.new.block.items)) bytes.now result }
         ensures faults { FailsByFault result self.old.sink.faults self.new.sink.faults self.new.sink.budget }
     {
         self.write_block()?;
-        if bytes.len() < self.block.capacity() {
+        if bytes.len() < self.block.len() {
             self.gather(bytes);
             return Ok(());
         }
@@ -110,9 +113,11 @@ impl<W: Write> BlockWriter<W> {
 }
 
 impl<W: Write> Output for BlockWriter<W> {
+    ghost use Rattle.std.specs.Prelude.{take, drop};
+
     ghost contents = { λ writer. W.contents writer.sink.inner };
 
-    ghost held = { λ writer. drop writer.written writer.block.items };
+    ghost held = { λ writer. drop writer.start (take writer.end writer.block.items) };
 
     ghost faults = { λ writer. writer.sink.faults };
 
@@ -120,7 +125,7 @@ impl<W: Write> Output for BlockWriter<W> {
 
     #[inline]
     fn put(&mut self, bytes: &[u8]) -> Result<(), WriteFault> {
-        if bytes.len() <= self.block.capacity() - self.block.len() {
+        if bytes.len() <= self.block.len() - self.end {
             self.gather(bytes);
             return Ok(());
         }
