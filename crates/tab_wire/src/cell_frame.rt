@@ -5,17 +5,87 @@ ghost use Rattle.std.specs.Prelude.{◌≡◌, ◌%◌, ◌^◌, ◌++◌, ◌�
 ghost use Rattle.tab_io.specs.Writing.{Puts};
 ghost use Rattle.tab_wire.specs.Replies.{u32, i64, field, cell_frame, cell_fields};
 
-use crate::numbers::{low, put_field, put_signed};
+use crate::numbers::{low, put_field};
+use std::marker::Model;
 use tab_io::{Output, WriteFault};
-use tab_key::CellRef;
+use tab_key::{CellRef, Key};
 
 // The bytes of a cell's frame besides its five byte strings, without the length of the frame: the opcode, five lengths and the timestamp.
 const FIXED_LEN: u32 = 29;
+
+// What a cell shows, lent: where its parts lie is read once for all of them.
+#[derive(Drop)]
+struct CellParts<'a> {
+    key: Key<'a>,
+    value: &'a [u8],
+}
+
+impl<'a> Model for CellParts<'a> {
+    ghost use Rattle.tab_key.specs.Records.{Cell as Fields};
+    ghost use Rattle.tab_key.specs.KeyOf.{key_of};
+
+    ghost Value = { Fields };
+
+    ghost view = { λ p. record { key = key_of p.key; value = p.value.now } };
+}
+
+impl<'a> CellParts<'a> {
+    fn of(cell: &CellRef<'a>) -> CellParts<'a>
+        ensures { result ≡ cell.now }
+    {
+        CellParts {
+            key: cell.key(),
+            value: cell.value(),
+        }
+    }
+
+    fn row(&self) -> &'a [u8]
+        ensures { result.now ≡ self.now.key.row }
+    {
+        self.key.row
+    }
+
+    fn family(&self) -> &'a [u8]
+        ensures { result.now ≡ self.now.key.family }
+    {
+        self.key.family
+    }
+
+    fn qualifier(&self) -> &'a [u8]
+        ensures { result.now ≡ self.now.key.qualifier }
+    {
+        self.key.qualifier
+    }
+
+    fn label(&self) -> &'a [u8]
+        ensures { result.now ≡ self.now.key.label }
+    {
+        self.key.label
+    }
+
+    fn timestamp(&self) -> i64
+        ensures { result ≡ self.now.key.timestamp }
+    {
+        self.key.timestamp
+    }
+
+    fn value(&self) -> &'a [u8]
+        ensures { result.now ≡ self.now.value }
+    {
+        self.value
+    }
+}
 
 /// Puts the frame of a cell: its length, the opcode, and its fields. It takes no memory.
 ///
 /// It puts eleven pieces, one behind the other, and loops over none: a scan spends much of its time here.
 pub fn put_cell<W: Output>(output: &mut W, cell: &CellRef<'_>) -> Result<(), WriteFault>
+    ensures { Puts W.Output output.old output.new (cell_frame cell.now) result }
+{
+    put_parts(output, &CellParts::of(cell))
+}
+
+fn put_parts<W: Output>(output: &mut W, cell: &CellParts<'_>) -> Result<(), WriteFault>
     ensures { Puts W.Output output.old output.new (cell_frame cell.now) result }
 {
     put_head(output, length_of(cell))?;
@@ -24,7 +94,7 @@ pub fn put_cell<W: Output>(output: &mut W, cell: &CellRef<'_>) -> Result<(), Wri
 
 // How many bytes the opcode and the fields have, as four bytes hold it.
 #[tactic(auto, using(crate::proofs::CellLengths::cell_length))]
-fn length_of(cell: &CellRef<'_>) -> u32
+fn length_of(cell: &CellParts<'_>) -> u32
     ensures { result ≡ length (130 ∷ cell_fields cell.now) % 2 ^ 32 }
 {
     low(cell.row().len())
@@ -35,58 +105,77 @@ fn length_of(cell: &CellRef<'_>) -> u32
         .wrapping_add(FIXED_LEN)
 }
 
-// The four bytes of the length, and the opcode.
-#[tactic(auto, using(tab_io::proofs::Putting::putting), unfolding(crate::specs::Replies::u32))]
 fn put_head<W: Output>(output: &mut W, length: u32) -> Result<(), WriteFault>
     ensures { Puts W.Output output.old output.new (u32 length ++ 130 ∷ []) result }
 {
-    let [a, b, c, d] = length.to_be_bytes();
-    output.put(&[a, b, c, d, 0x82])
+    output.put(&head_of(length))
 }
 
-fn put_fields<W: Output>(output: &mut W, cell: &CellRef<'_>) -> Result<(), WriteFault>
+// The four bytes of the length, and the opcode. The length goes in whole: single bytes that are read as one number a moment later
+// hold the processor up.
+#[tactic(auto, unfolding(crate::specs::Replies::u32))]
+fn head_of(length: u32) -> [u8; 5]
+    ensures { result ≡ u32 length ++ 130 ∷ [] }
+{
+    let mut head = [0, 0, 0, 0, 0x82];
+    head[..4].copy_from_slice(&length.to_be_bytes());
+    head
+}
+
+fn put_fields<W: Output>(output: &mut W, cell: &CellParts<'_>) -> Result<(), WriteFault>
     ensures { Puts W.Output output.old output.new (cell_fields cell.now) result }
 {
     put_field(output, cell.row())?;
     put_behind_row(output, cell)
 }
 
-fn put_behind_row<W: Output>(output: &mut W, cell: &CellRef<'_>) -> Result<(), WriteFault>
+fn put_behind_row<W: Output>(output: &mut W, cell: &CellParts<'_>) -> Result<(), WriteFault>
     ensures { Puts W.Output output.old output.new (field cell.now.key.family ++ (field cell.now.key.qualifier ++ (field cell.now.key.label ++ (i64 cell.now.key.timestamp ++ field cell.now.value)))) result }
 {
     put_field(output, cell.family())?;
     put_behind_family(output, cell)
 }
 
-fn put_behind_family<W: Output>(output: &mut W, cell: &CellRef<'_>) -> Result<(), WriteFault>
+fn put_behind_family<W: Output>(output: &mut W, cell: &CellParts<'_>) -> Result<(), WriteFault>
     ensures { Puts W.Output output.old output.new (field cell.now.key.qualifier ++ (field cell.now.key.label ++ (i64 cell.now.key.timestamp ++ field cell.now.value))) result }
 {
     put_field(output, cell.qualifier())?;
     put_behind_qualifier(output, cell)
 }
 
-fn put_behind_qualifier<W: Output>(output: &mut W, cell: &CellRef<'_>) -> Result<(), WriteFault>
+fn put_behind_qualifier<W: Output>(output: &mut W, cell: &CellParts<'_>) -> Result<(), WriteFault>
     ensures { Puts W.Output output.old output.new (field cell.now.key.label ++ (i64 cell.now.key.timestamp ++ field cell.now.value)) result }
 {
     put_field(output, cell.label())?;
     put_behind_label(output, cell)
 }
 
-fn put_behind_label<W: Output>(output: &mut W, cell: &CellRef<'_>) -> Result<(), WriteFault>
+fn put_behind_label<W: Output>(output: &mut W, cell: &CellParts<'_>) -> Result<(), WriteFault>
     ensures { Puts W.Output output.old output.new (i64 cell.now.key.timestamp ++ field cell.now.value) result }
 {
-    put_timestamp(output, cell)?;
+    put_before_value(output, cell)?;
     put_value(output, cell)
 }
 
-fn put_timestamp<W: Output>(output: &mut W, cell: &CellRef<'_>) -> Result<(), WriteFault>
-    ensures { Puts W.Output output.old output.new (i64 cell.now.key.timestamp) result }
+fn put_before_value<W: Output>(output: &mut W, cell: &CellParts<'_>) -> Result<(), WriteFault>
+    ensures { Puts W.Output output.old output.new (i64 cell.now.key.timestamp ++ u32 (length cell.now.value)) result }
 {
-    put_signed(output, cell.timestamp())
+    output.put(&before_value(cell.timestamp(), low(cell.value().len())))
 }
 
-fn put_value<W: Output>(output: &mut W, cell: &CellRef<'_>) -> Result<(), WriteFault>
-    ensures { Puts W.Output output.old output.new (field cell.now.value) result }
+// The eight bytes of the timestamp, and the four of the value's length.
+#[tactic(auto, unfolding(crate::specs::Replies::u32, crate::specs::Replies::i64))]
+fn before_value(timestamp: i64, length: u32) -> [u8; 12]
+    ensures { result ≡ i64 timestamp ++ u32 length }
 {
-    put_field(output, cell.value())
+    let mut bytes = [0; 12];
+    bytes[..8].copy_from_slice(&timestamp.to_be_bytes());
+    bytes[8..].copy_from_slice(&length.to_be_bytes());
+    bytes
+}
+
+fn put_value<W: Output>(output: &mut W, cell: &CellParts<'_>) -> Result<(), WriteFault>
+    ensures { Puts W.Output output.old output.new cell.now.value result }
+{
+    output.put(cell.value())
 }

@@ -1,6 +1,6 @@
 use Rattle.std.proofs.Common.{rules}
 use Rattle.tab_wire.proofs.CellLengths.{frame_put, frame_begun}
-use Rattle.tab_wire.proofs.cell_frame.put_cell.Goals as goal
+use Rattle.tab_wire.proofs.cell_frame.put_parts.Goals as goal
 
 pub returns-in_err-put_head : goal.returns-in_err-put_head
 returns-in_err-put_head g c = let p = frame_begun c.args.cell.now c.length_of.result c.length_of.ensures c.in_err-put_head.ensures in search rules
