@@ -7,8 +7,9 @@
    SECONDS by itself, and for as long while such writes go on: the median of these Nexts, and the slowest (aim: below ten times the median).
 3. Writes and short scans in turn, each awaited: the seconds of the first tenth and of the last one (aim: alike).
 
-Usage: bench/compactors.py [--writes N] [--turns N] [--batch N] [--seconds N] [--compactors N,N,..] [--rounds N] [--ahead]
+Usage: bench/compactors.py [--writes N] [--turns N] [--batch N] [--seconds N] [--compactors N,N,..] [--rounds N] [--plain] [--ahead]
        (from anywhere; builds the program if it isn't built)
+  --plain: 1 and 2 of a plain Rust server too (server/plain.rs, a map under a lock), whose Nexts wait for the same scheduler
   --ahead: all that is measured runs in the real-time class, ahead of the machine's other work (wants root). Without it the slowest
            Next is mostly how long the scheduler let something else run.
   TABD in the environment: another built program, measured in place of this folder's
@@ -117,9 +118,11 @@ def nexts(reader, port, asked):
 
 
 def measure(program, reader, compactors, asked):
+    """What is told of a new server with so many compactors; where that is none, of the plain server, which knows no more than 1 and 2."""
     with socket.create_server(("127.0.0.1", 0)) as listener:
         port = listener.getsockname()[1]
-    server = subprocess.Popen([program, "serve", "--port", str(port), "--compactors", str(compactors)], stdin=subprocess.DEVNULL, stdout=subprocess.PIPE)
+    words = [program, "serve", "--port", str(port), *([] if compactors is None else ["--compactors", str(compactors)])]
+    server = subprocess.Popen(words, stdin=subprocess.DEVNULL, stdout=subprocess.PIPE)
     try:
         server.stdout.readline()
         one = Connection(port)
@@ -130,7 +133,7 @@ def measure(program, reader, compactors, asked):
         for block in first:
             one.write(block)
         told["writes"], told["used"] = time.perf_counter() - begun, processor_seconds(server) - used
-        told["sources"] = one.status(b"t")
+        told["sources"] = None if compactors is None else one.status(b"t")
         for block in blocks(b"u", 2, READ, 1):
             one.write(block)
         time.sleep(0.5)
@@ -142,6 +145,8 @@ def measure(program, reader, compactors, asked):
         told["beside"] = nexts(reader, port, asked)
         stop.set()
         beside.join()
+        if compactors is None:
+            return told
         told["turns"] = []
         wanted = rows(4, asked.turns)
         for tenth in range(10):
@@ -158,13 +163,15 @@ def measure(program, reader, compactors, asked):
 
 def show(compactors, rounds, first, asked):
     """What was measured with so many compactors: medians over the rounds, and of Nexts all of them together."""
-    print(f"compactors {compactors}")
+    print("plain server" if compactors is None else f"compactors {compactors}")
     speeds = [of_first["writes"] / told["writes"] for of_first, told in zip(first, rounds)]
     print(f"  {asked.writes} writes     {median(told['writes'] for told in rounds):7.3f} s, of the processor {median(told['used'] for told in rounds):7.3f} s   speed to that of the first {median(speeds):.2f} ({min(speeds):.2f} to {max(speeds):.2f})   tablets, sources, records {rounds[-1]['sources']}")
     for name in ("alone", "beside"):
         times = sorted(seconds for told in rounds for seconds in told[name])
         ratios = [max(told[name]) / median(told[name]) for told in rounds]
         print(f"  {len(times):6} Nexts of {asked.batch} {name:6} median {median(times) * 1e6:6.0f} µs   slowest {times[-1] * 1e6:6.0f} µs, the next {times[-2] * 1e6:6.0f} µs   slowest to median, by rounds {' '.join(f'{ratio:.1f}' for ratio in ratios)}")
+    if compactors is None:
+        return
     tenths = [median(tenth) for tenth in zip(*(told["turns"] for told in rounds))]
     print(f"  {asked.turns} in turn    first tenth {tenths[0]:.3f} s, last {tenths[-1]:.3f} s   ratio {tenths[-1] / tenths[0]:.2f}   tablets, sources, records {rounds[-1]['left']}", flush=True)
 
@@ -177,6 +184,7 @@ def main():
     parser.add_argument("--seconds", type=float, default=1.5, help="how long batches are read")
     parser.add_argument("--compactors", default="0,1,4")
     parser.add_argument("--rounds", type=int, default=1)
+    parser.add_argument("--plain", action="store_true", help="a plain Rust server too")
     parser.add_argument("--ahead", action="store_true", help="in the real-time class")
     asked = parser.parse_args()
     program = os.environ.get("TABD")
@@ -186,10 +194,14 @@ def main():
     numbers = [int(number) for number in asked.compactors.split(",")]
     with tempfile.TemporaryDirectory() as work:
         subprocess.run(["rustc", "--edition=2021", "-O", "-o", f"{work}/reader", TOP / "bench/compactors/reader.rs"], check=True)
+        programs = {number: program for number in numbers}
+        if asked.plain:
+            programs[None] = f"{work}/plain"
+            subprocess.run(["rustc", "--edition=2021", "-O", "-o", programs[None], TOP / "bench/server/plain.rs"], check=True)
         if asked.ahead:
             os.sched_setscheduler(0, os.SCHED_FIFO, os.sched_param(1))
-        rounds = [{number: measure(program, f"{work}/reader", number, asked) for number in numbers} for _ in range(asked.rounds)]
-    for number in numbers:
+        rounds = [{number: measure(one, f"{work}/reader", number, asked) for number, one in programs.items()} for _ in range(asked.rounds)]
+    for number in programs:
         show(number, [told[number] for told in rounds], [told[numbers[0]] for told in rounds], asked)
 
 
