@@ -57,6 +57,7 @@ answers 'a loaded core shows what was saved' 'load one\nscan t \\0\nload new\nsc
 answers 'the image of the command line' 'scan t \\0\n' 'r f q \\e 5 v\nend\n' --image one
 answers 'the image of the command line, explained' 'scan t \\0\n' 'r f q \\e 5 v\nend\n' --explain --image one
 answers 'sessions begin anew' 'open t \\0\nopen t \\0\nload one\nnext 0 1\nopen t \\0\nnext 0 9\n' 'session 0\nsession 1\nok\nrefused 15 NoSession 0\nsession 0\nr f q \\e 5 v\nend\n' --image one
+answers 'jobs begin anew' 'begin t r full\nbegin t r full\nmerge 1\nload one\nmerge 0\ninstall t 1\nbegin t r full\ninstall t 1\nmerge 0\ninstall t 0\n' 'job 0\njob 1\nok\nok\nrefused 15 NoSession 0\nrefused 15 NoSession 1\njob 0\nrefused 15 NoSession 1\nok\nok\n' --image one
 answers 'a file that is replaced' 'save here\ncreatetable u\nsave here\nload here\nstatus u\n' 'ok\nok\nok\nok\ntablets 1 sources 0 records 0\n'
 answers 'a path' 'save ./here\nload ./here\n' 'ok\nok\n'
 mkdir folder
@@ -238,6 +239,9 @@ for row in range(3):
     print(f"insert t r{row} f q \\e " + "v" * 1048576)
 for number in range(300):
     print(f"createtable t{number}\ncreateuser u{number}\ngrant u{number} READ t{number}")
+for number in range(100):
+    print(f"createuser gone\ngrant gone WRITE t{number}\ndropuser gone")
+print("droptable t7\ncreatetable t7\ndropuser u8\ncreateuser u8")
 print("save large.image")
 .
 "$program" script <large >out && ! grep -qv '^ok$' out && printf 'scan t \\0\nas u299\nscan t299 \\0\nas root\nsave larger.image\n' | "$program" script --image large.image >out &&

@@ -142,5 +142,88 @@ awk 'BEGIN {
 }' >wanted
 prints '150 users who scan'
 
+# 100 sorted tables of ten records each, whose rows lie between one another: a scan, a partial compaction and a full one read all of them.
+awk 'BEGIN {
+    print "createtable t versions=3"
+    for (i = 0; i < 100; i++) {
+        for (j = 0; j < 10; j++) printf "insert t r%03d f q%d \\e v%d-%d %d\n", (i * 37 + j * 10) % 100, j, i, j, i
+        print "flush t"
+    }
+    print "status t\nscan t \\0\ncompact t partial\nscan t \\0\nstatus t\ncompact t full\nscan t \\0"
+}' >lines
+awk 'BEGIN {
+    for (i = 0; i < 1101; i++) print "ok"
+    for (i = 0; i < 100; i++) for (j = 0; j < 10; j++) held[(i * 37 + j * 10) % 100, j] = i
+    print "tablets 1 sources 100 records 1000"
+    for (time = 0; time < 3; time++) {
+        if (time) print "ok"
+        for (row = 0; row < 100; row++) for (j = 0; j < 10; j++) printf "r%03d f q%d \\e %d v%d-%d\n", row, j, held[row, j], held[row, j], j
+        print "end"
+        if (time == 1) print "tablets 1 sources 1 records 1000"
+    }
+}' >wanted
+prints '100 sorted tables'
+
+# Columns of 40 versions, two of them with a marker in the middle: a scan passes over what is hidden or older, and over columns that
+# aren't asked for.
+for versions in 1 12; do
+    awk -v versions="$versions" 'BEGIN {
+        print "createtable t versions=" versions "\nsetauths root A"
+        for (time = 0; time < 40; time++) {
+            printf "insert t k f p \\e p%d %d\n", time, time
+            print (time == 13 ? "delete t k f q \\e 13" : "insert t k f q \\e q" time " " time)
+            print (time == 26 ? "delete t k f q A 26" : "insert t k f q A a" time " " time)
+        }
+        print "scan t A\nscan t A \\0 \\0 f:p\nscan t A \\0 \\0 f:q\nscan t \\0 \\0 \\0 f:q\nscan t A \\0 \\0 f:qq"
+    }' >lines
+    awk -v versions="$versions" '
+        function column(qualifier, label, name) { for (time = 39; time > 39 - versions; time--) printf "k f %s %s %d %s%d\n", qualifier, label, time, name, time }
+        BEGIN {
+            for (i = 0; i < 122; i++) print "ok"
+            column("p", "\\e", "p"); column("q", "\\e", "q"); column("q", "A", "a"); print "end"
+            column("p", "\\e", "p"); print "end"
+            column("q", "\\e", "q"); column("q", "A", "a"); print "end"
+            column("q", "\\e", "q"); print "end"
+            print "end"
+        }' >wanted
+    prints "columns of 40 versions, of which $versions are shown"
+done
+
+# Rows that are alike in their first sixteen bytes, many more than between two neighbours of a sparse index, frozen and in a sorted table.
+awk 'BEGIN {
+    front = "kkkkkkkkkkkkkkkk"
+    print "createtable t\ninsert t " front " f q \\e v 1\ninsert t " front "\\x00 f q \\e v 1"
+    for (i = 0; i < 1000; i++) printf "insert t %s%03d f q \\e v 1\n", front, i * 7 % 1000
+    for (time = 0; time < 2; time++) {
+        print "scan t \\0 [" front " (" front "001\nscan t \\0 (" front "497 [" front "500\nscan t \\0 [" front "9985 (l"
+        if (!time) print "flush t"
+    }
+}' >lines
+awk 'BEGIN {
+    front = "kkkkkkkkkkkkkkkk"
+    for (i = 0; i < 1003; i++) print "ok"
+    for (time = 0; time < 2; time++) {
+        if (time) print "ok"
+        print front " f q \\e 1 v\n" front "\\x00 f q \\e 1 v\n" front "000 f q \\e 1 v\nend"
+        for (i = 498; i < 501; i++) print front i " f q \\e 1 v"
+        print "end\n" front "999 f q \\e 1 v\nend"
+    }
+}' >wanted
+prints 'rows that are alike in their first sixteen bytes'
+
+# More jobs than a block of replies tells, and one whose row is longer than a block.
+long=$(bytes 150000 r)
+{
+    printf '%s\n' 'createtable t' 'insert t r f q \e v 5'
+    for ((i = 0; i < 8000; i++)); do echo 'begin t r full'; done
+    printf '%s\n' 'merge 7999' 'merge 8000' 'merge 0' 'install t 7999' 'install t 0' "begin t $long full" 'merge 8000' 'install t 8000' 'scan t \0'
+} >lines
+{
+    printf '%s\n' ok ok
+    for ((i = 0; i < 8000; i++)); do echo "job $i"; done
+    printf '%s\n' ok 'refused 15 NoSession 8000' ok ok 'refused 14 Stale 1' 'job 8000' ok ok 'r f q \e 5 v' end
+} >wanted
+prints '8,000 jobs, and one of a long row'
+
 echo "$passed passed, $failed failed"
 [ "$failed" -eq 0 ]
