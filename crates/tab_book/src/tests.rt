@@ -48,28 +48,9 @@ fn refuses_another_reply<L: Origin, R: Abort>(rt: &R, alloc: Global, core: Core,
     let mut seat = book.join().expect(rt, "a seat");
     let mut receipt = saves(rt, alloc, &mut book, &mut seat);
     assert!(rt; settle(&book, slice::from_ref(&receipt)));
-    let _done = mem::replace(&mut receipt.entry.reply, Reply::Opened(()));
-    assert!(rt; !settle(&book, slice::from_ref(&receipt)));
-}
-
-#[test]
-fn another_number_does_not_settle(rt: HostRuntime) {
-    let core = Core::new(rt.alloc()).expect(&rt, "memory");
-    refuses_another_number::<Brand, _>(&rt, rt.alloc(), core, Blank::new(1 << 32))
-}
-
-fn refuses_another_number<L: Origin, R: Abort>(rt: &R, alloc: Global, core: Core, blank: Blank)
-    requires base { base_of core ≡ L.base }
-    requires name { blank.name ≡ L.name }
-    requires parts { blank.parts ≡ L.parts }
-    requires enough { 2 ^ 32 ≤ blank.parts }
-{
-    let mut book = Book::<L>::new(alloc, core, blank);
-    let mut seat = book.join().expect(rt, "a seat");
-    let mut receipt = saves(rt, alloc, &mut book, &mut seat);
     receipt.number = 1;
     assert!(rt; !settle(&book, slice::from_ref(&receipt)));
     receipt.number = 0;
-    receipt.entry.seat = 1;
+    let _done = mem::replace(&mut receipt.entry.reply, Reply::Opened(()));
     assert!(rt; !settle(&book, slice::from_ref(&receipt)));
 }

@@ -1,10 +1,9 @@
-//! What a tablet holds, as plain data, and what freezes and compactions make of it, each rule in its own words. (Accumulo user
-//! manual: minor and major compactions)
+//! What a tablet holds, as plain data, and what a compaction makes of it, each rule in its own words. (Accumulo user manual: minor
+//! and major compactions)
 
 use crate::model::merged;
-use crate::update::{Update, sort};
+use crate::update::Update;
 use std::alloc::{AllocError, Global};
-use std::mem;
 use tab_cells::Compaction;
 
 /// The updates of a run or of a table.
@@ -14,19 +13,9 @@ struct Held {
     updates: Vec<Update>,
 }
 
-impl Held {
-    fn copied(&self, alloc: Global) -> Result<Held, AllocError> {
-        Ok(Held {
-            is_table: self.is_table,
-            updates: Vec::from_slice(alloc, &self.updates)?,
-        })
-    }
-}
-
-/// Updates that aren't frozen yet, and runs and tables in the order in which they came.
+/// Runs and tables in the order in which they came.
 #[derive(Drop)]
 pub struct Holding {
-    active: Vec<Update>,
     sources: Vec<Held>,
 }
 
@@ -108,17 +97,8 @@ impl Holding {
     /// Nothing.
     pub fn new(alloc: Global) -> Holding {
         Holding {
-            active: Vec::new(alloc),
             sources: Vec::new(alloc),
         }
-    }
-
-    /// These updates more, which aren't frozen.
-    pub fn write(&mut self, updates: &[Update]) -> Result<(), AllocError> {
-        for update in updates {
-            self.active.push(*update)?;
-        }
-        Ok(())
     }
 
     /// A run more.
@@ -139,30 +119,6 @@ impl Holding {
         };
         self.sources.push(held)?;
         Ok(())
-    }
-
-    /// How many runs and tables there are.
-    pub fn count_sources(&self) -> usize {
-        self.sources.len()
-    }
-
-    /// All updates, in their order.
-    pub fn updates(&self, alloc: Global) -> Result<Vec<Update>, AllocError> {
-        let mut all = Vec::from_slice(alloc, &self.active)?;
-        for held in &self.sources {
-            append(&mut all, &held.updates)?;
-        }
-        sort(&mut all);
-        Ok(all)
-    }
-
-    /// What isn't frozen becomes a run, if there is any.
-    pub fn freeze(&mut self, alloc: Global) -> Result<(), AllocError> {
-        if self.active.is_empty() {
-            return Ok(());
-        }
-        let run = mem::replace(&mut self.active, Vec::new(alloc));
-        self.add_run(run)
     }
 
     /// A compaction of this kind reads the source at this place, if a partial one takes so many tables.
@@ -197,36 +153,6 @@ impl Holding {
         }
         let floor = if kind.is_full() { Some(floor) } else { None };
         Ok(Some(merged(alloc, &inputs, floor, versions)?))
-    }
-
-    /// The sources that a compaction of this kind doesn't read.
-    fn spared(&self, alloc: Global, kind: Compaction) -> Result<Vec<Held>, AllocError> {
-        let taken = plan(&self.sources);
-        let mut spared = Vec::new(alloc);
-        for (place, held) in self.sources.iter().enumerate() {
-            if !self.is_read(kind, place, taken) {
-                spared.push(held.copied(alloc)?)?;
-            }
-        }
-        Ok(spared)
-    }
-
-    /// Freezes, and puts what the compaction makes in the place of what it reads, as the last table.
-    pub fn compact(
-        &mut self,
-        alloc: Global,
-        kind: Compaction,
-        floor: i64,
-        versions: u32,
-    ) -> Result<(), AllocError> {
-        self.freeze(alloc)?;
-        match self.output(alloc, kind, floor, versions)? {
-            None => Ok(()),
-            Some(output) => {
-                self.sources = self.spared(alloc, kind)?;
-                self.add_table(output)
-            }
-        }
     }
 }
 

@@ -8,7 +8,7 @@
 //! | `update` | an update as plain data, and the order of updates |
 //! | `query` | what a scan asks for, as plain data |
 //! | `model` | what a scan of a table shows and what a merge keeps, rule by rule |
-//! | `holding` | what a tablet holds, and what freezes and compactions make of it |
+//! | `holding` | the runs and tables of a tablet, and what a compaction makes of them |
 //! | `generating` | random updates and queries |
 //! | `building` | authorizations, columns and mutations from literals |
 #![tactic(auto)]
@@ -21,9 +21,9 @@ mod query;
 mod random;
 mod update;
 
-pub use building::{auths_of, family, mutation_of, qualified};
+pub use building::{auths_of, family, mutation_of};
 pub use holding::{Holding, table_len};
-pub use model::{merged, scanned};
-pub use query::{Columns, End, Query, in_rows};
+pub use model::scanned;
+pub use query::{Columns, End, Query};
 pub use random::Random;
-pub use update::{Update, column_order, from_key, key_order, sort};
+pub use update::{Update, from_key, sort};

@@ -1,7 +1,6 @@
 //! What a scan asks for, as plain data.
 
 use crate::building::{auths_of, family, qualified};
-use crate::update::Update;
 use std::alloc::{AllocError, Global};
 use tab_key::{Bound, Bounds, ByteString, Column};
 use tab_label::AuthSet;
@@ -24,13 +23,6 @@ impl End {
             End::In(row) => Ok(Bound::Inclusive(ByteString::from_slice(alloc, row)?)),
             End::Out(row) => Ok(Bound::Exclusive(ByteString::from_slice(alloc, row)?)),
         }
-    }
-
-    /// The range from this end to a high one.
-    pub fn to(self, alloc: Global, high: End) -> Result<Bounds, AllocError> {
-        let low = self.bound(alloc)?;
-        let high = high.bound(alloc)?;
-        Ok(Bounds { low, high })
     }
 }
 
@@ -63,19 +55,11 @@ pub struct Query {
 }
 
 impl Query {
-    /// One version of all, by one who holds nothing.
-    pub const ALL: Query = Query {
-        low: End::Open,
-        high: End::Open,
-        columns: Columns::All,
-        versions: 1,
-        has_a: false,
-        has_b: false,
-    };
-
     /// The range of rows.
     pub fn bounds(&self, alloc: Global) -> Result<Bounds, AllocError> {
-        self.low.to(alloc, self.high)
+        let low = self.low.bound(alloc)?;
+        let high = self.high.bound(alloc)?;
+        Ok(Bounds { low, high })
     }
 
     /// The columns, none of which stands for all.
@@ -115,20 +99,4 @@ pub fn is_in_rows(row: &[u8], low: End, high: End) -> bool {
         End::Out(end) => row.cmp(end).is_lt(),
     };
     is_above && is_below
-}
-
-/// Those whose rows lie between the ends.
-pub fn in_rows(
-    alloc: Global,
-    updates: &[Update],
-    low: End,
-    high: End,
-) -> Result<Vec<Update>, AllocError> {
-    let mut within = Vec::new(alloc);
-    for update in updates {
-        if is_in_rows(update.row, low, high) {
-            within.push(*update)?;
-        }
-    }
-    Ok(within)
 }

@@ -5,17 +5,6 @@ use std::alloc::Global;
 use std::process::Abort;
 use tab_history::Reply;
 
-// A table with three puts, and a session of root's behind each of the last two.
-const NUMBERED: &[u8] =
-    b"createtable t versions=3\ninsert t r f q \\e 1 1\ninsert t r f q \\e 2 2\nopen t \\0\n\
-insert t r f q \\e 3 3\nopen t \\0\nnext 0 1\nnext 1 1\nnext 2 1\nnext 0 0\nnext 0 5\nnext 0 5\nnext 1 5";
-
-#[test]
-fn a_run_keeps_sessions_by_their_numbers(rt: HostRuntime) {
-    let told = b"ok ok ok opened ok opened @2=2, @3=3, unopened  @1=1,  @2=2,@1=1, ";
-    expect_told(&rt, rt.alloc(), NUMBERED, told)
-}
-
 const CLOSED: &[u8] =
     b"createtable t versions=3\ninsert t r f q \\e 1 1\ninsert t r f q \\e 2 2\nopen t \\0\n\
 insert t r f q \\e 3 3\nopen t \\0\nclose 0\nnext 0 1\nclose 0\nopen t A\nopen t \\0\nas eve\nopen t \\0\n\
@@ -84,39 +73,6 @@ const IN_RANGES_TOLD: &[u8] = b"ok ok ok opened ok opened @3=3,@2=2, \
 #[test]
 fn a_run_answers_in_ranges(rt: HostRuntime) {
     expect_told(&rt, rt.alloc(), IN_RANGES, IN_RANGES_TOLD)
-}
-
-// Asks for so many times this range, in session 0.
-fn add_many(rt: &impl Abort, lines: &mut Vec<u8>, count: u32, range: &[u8]) {
-    add(rt, lines, b"many 0");
-    for _ in 0..count {
-        add(rt, lines, range);
-    }
-    add(rt, lines, b"\n")
-}
-
-// Too many ranges of rows behind x, one less, and too many and less of a range that is none.
-fn ranges_at_limits(rt: &impl Abort, alloc: Global) -> Vec<u8> {
-    let mut lines = Vec::new(alloc);
-    add(rt, &mut lines, b"createtable t\n");
-    add_many(rt, &mut lines, 1001, b" [x (x");
-    add(rt, &mut lines, b"open t \\0\n");
-    add_many(rt, &mut lines, 1001, b" [x (x");
-    add_many(rt, &mut lines, 1001, b" [x \\0");
-    add_many(rt, &mut lines, 1000, b" [x (x");
-    add(
-        rt,
-        &mut lines,
-        b"many 0 [x (x\nmany 0 [x \\0 [x \\0\nclose 0\nmany 0 [x \\0\n",
-    );
-    lines
-}
-
-#[test]
-fn ranges_are_refused_in_their_order(rt: HostRuntime) {
-    let lines = ranges_at_limits(&rt, rt.alloc());
-    let told = b"ok unopened opened toolarge toolarge badrange badrange || ok unopened ";
-    expect_told(&rt, rt.alloc(), &lines, told)
 }
 
 // As many sessions as may be open; one more is refused, and where one was closed there is room for one, under a number of its own.

@@ -3,7 +3,7 @@
 use std::alloc::Global;
 use std::process::Abort;
 use tab_core::run;
-use tab_history::{Act, Counts, Event, Refusal, Reply, Step};
+use tab_history::{Act, Event, Refusal, Reply, Step};
 use tab_key::{Cells, Name};
 use tab_label::AuthSet;
 use tab_lines::{Line, read_line};
@@ -137,17 +137,6 @@ fn add_cells(rt: &impl Abort, alloc: Global, text: &mut Vec<u8>, cells: &Cells) 
     }
 }
 
-// Tablets, sources and records.
-fn add_counts(rt: &impl Abort, alloc: Global, text: &mut Vec<u8>, counts: &Counts) {
-    let Counts {
-        tablets,
-        sources,
-        records,
-    } = *counts;
-    let told = format!(in alloc; "{tablets}/{sources}/{records}").expect(rt, "memory");
-    add(rt, text, told.as_bytes())
-}
-
 fn word_of(refusal: &Refusal) -> &'static [u8] {
     match refusal {
         Refusal::BadAuthorizations(_) => b"unheld",
@@ -156,8 +145,6 @@ fn word_of(refusal: &Refusal) -> &'static [u8] {
         Refusal::Stale(0) => b"stale0",
         Refusal::Stale(1) => b"stale1",
         Refusal::TooLarge(_) => b"toolarge",
-        Refusal::BadRange => b"badrange",
-        Refusal::PermissionDenied(_) => b"denied",
         Refusal::UnknownUser(_) => b"unknown",
         _ => b"refused",
     }
@@ -188,8 +175,7 @@ fn add_reply(rt: &impl Abort, alloc: Global, text: &mut Vec<u8>, reply: &Reply) 
         Reply::Batch(cells) => add_cells(rt, alloc, text, cells),
         Reply::Ranges(ranges) => add_ranges(rt, alloc, text, ranges.as_slice()),
         Reply::Rights(rights) => add_terms(rt, text, &rights.authorizations),
-        Reply::Counted(counts) => add_counts(rt, alloc, text, counts),
-        Reply::Rows(_) => add(rt, text, b"rows"),
+        Reply::Counted(_) | Reply::Rows(_) => add(rt, text, b"told"),
         Reply::Begun(_) => add(rt, text, b"begun"),
         Reply::Nothing => add(rt, text, b"nothing"),
     }

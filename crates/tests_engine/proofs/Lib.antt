@@ -3,3 +3,4 @@ pub mod Cuts
 pub mod Later
 pub mod Tabled
 pub mod Numbers
+pub mod Numbered

@@ -1,4 +1,4 @@
-//! The layers over a small table, read whole and after a seek to every record and between any two.
+//! A small table, and what a source over it has left, read whole and after a seek to every record and between any two.
 ghost use Rattle.std.specs.Prelude.{◌≡◌, ◌≢◌, IfOk, map, not};
 ghost use Rattle.std.specs.List.{list_all};
 ghost use Rattle.std.specs.Ordering.{is_eq};
@@ -11,16 +11,10 @@ ghost use Rattle.tab_iter.specs.Lists.{IsRising};
 
 use std::alloc::{AllocError, Global};
 use std::process::Abort;
-use tab_iter::{
-    DeletingRule, FetchingRule, Filtered, ListSource, Merging, Rule, Source, VersioningRule,
-    VisibleRule, is_rising, stack_of,
-};
-use tab_key::{Column, Key, Kind, Record};
-use tab_testing::{auths_of, family, qualified};
+use tab_iter::{ListSource, Source, is_rising};
+use tab_key::{Key, Kind, Record};
 
 mod failing;
-mod many;
-mod merged;
 
 #[derive(Clone, Copy)]
 struct Line {
@@ -154,89 +148,6 @@ fn source_of(rt: &impl Abort, records: Vec<Record>) -> ListSource
     ListSource::new(records)
 }
 
-// All of the table, as a source at its start.
-fn whole_table(rt: &impl Abort, alloc: Global) -> ListSource
-    ensures { ⟦<ListSource as Source>⟧.rest result ≡ ⟦<ListSource as Source>⟧.whole result }
-{
-    source_of(rt, records_of(alloc, 1, 0).expect(rt, "memory"))
-}
-
-// A layer over the table, by this rule, has the records of these numbers.
-fn filters<R: Rule + Drop>(rt: &impl Abort, alloc: Global, rule: R, want: &[u64]) {
-    let layer = Filtered::new(whole_table(rt, alloc), rule);
-    let mut layer = layer.expect(rt, "memory");
-    reads(rt, alloc, &mut layer, want)
-}
-
-#[test]
-fn lists(rt: HostRuntime) {
-    let mut source = whole_table(&rt, rt.alloc());
-    let all = [7, 6, 8, 5, 4, 10, 9, 3, 11, 12, 14, 13, 15, 16, 17];
-    reads(&rt, rt.alloc(), &mut source, &all);
-}
-
-#[test]
-fn falling_records_do_not_rise(rt: HostRuntime) {
-    let mut records = records_of(rt.alloc(), 1, 0).expect(&rt, "memory");
-    records.reverse();
-    assert!(rt; !is_rising(&records));
-}
-
-#[test]
-fn deletes(rt: HostRuntime) {
-    let alloc = rt.alloc();
-    let cases: [(bool, &[u64]); 2] = [
-        (false, &[7, 10, 9, 3, 11, 12, 14, 16, 17]),
-        (true, &[7, 6, 10, 9, 3, 11, 12, 14, 13, 16, 17]),
-    ];
-    for (keeps, want) in cases {
-        filters(&rt, alloc, DeletingRule::new(alloc, keeps), want);
-    }
-}
-
-#[test]
-fn counts_versions(rt: HostRuntime) {
-    let alloc = rt.alloc();
-    let cases: [(u32, &[u64]); 3] = [
-        (0, &[6, 13]),
-        (1, &[7, 6, 10, 11, 12, 14, 13, 16, 17]),
-        (2, &[7, 6, 8, 10, 9, 11, 12, 14, 13, 15, 16, 17]),
-    ];
-    for (most, want) in cases {
-        filters(&rt, alloc, VersioningRule::new(alloc, most, true), want);
-    }
-}
-
-fn fetches(rt: &impl Abort, alloc: Global, columns: &[Column], want: &[u64]) {
-    filters(rt, alloc, FetchingRule::new(alloc, columns), want)
-}
-
-#[test]
-fn fetches_columns(rt: HostRuntime) {
-    let alloc = rt.alloc();
-    let all = [7, 6, 8, 5, 4, 10, 9, 3, 11, 12, 14, 13, 15, 16, 17];
-    fetches(&rt, alloc, &[], &all);
-    let first = family(alloc, b"g").expect(&rt, "memory");
-    let second = qualified(alloc, b"f", b"q").expect(&rt, "memory");
-    let columns = [first, second];
-    fetches(&rt, alloc, &columns, &[12, 14, 13, 15, 16]);
-}
-
-// One who holds these authorizations sees the records of these numbers.
-fn sees(rt: &impl Abort, alloc: Global, terms: &[&[u8]], want: &[u64]) {
-    let auths = auths_of(alloc, terms).expect(rt, "memory");
-    filters(rt, alloc, VisibleRule::new(alloc, &auths), want)
-}
-
-#[test]
-fn sees_labels(rt: HostRuntime) {
-    let alloc = rt.alloc();
-    sees(&rt, alloc, &[], &[7, 6, 8, 5, 4, 12]);
-    let of_a = [7, 6, 8, 5, 4, 10, 9, 3, 12, 14, 13, 15, 16];
-    sees(&rt, alloc, &[b"A"], &of_a);
-    sees(&rt, alloc, &[b"B"], &[7, 6, 8, 5, 4, 11, 12, 16])
-}
-
 // Whether no record of the list stands at the place of this one.
 fn is_apart(one: &Record, others: &[Record]) -> bool
     ensures { result ≡ list_all (λ y. not (is_eq (record_cmp one.now y))) others.now }
@@ -274,40 +185,4 @@ fn dealt(rt: &impl Abort, alloc: Global) -> Result<Vec<ListSource>, AllocError>
     sources.push(source_of(rt, second))?;
     sources.push(source_of(rt, third))?;
     Ok(sources)
-}
-
-#[test]
-fn merges(rt: HostRuntime) {
-    let alloc = rt.alloc();
-    let merged = Merging::new(dealt(&rt, alloc).expect(&rt, "memory"));
-    let mut merged = merged.expect(&rt, "memory");
-    let all = [7, 6, 8, 5, 4, 10, 9, 3, 11, 12, 14, 13, 15, 16, 17];
-    reads(&rt, alloc, &mut merged, &all);
-}
-
-// The whole stack over the table, dealt to three sources, has the records of these numbers.
-fn stacks_up(
-    rt: &impl Abort,
-    alloc: Global,
-    terms: &[&[u8]],
-    versions: u32,
-    columns: &[Column],
-    want: &[u64],
-) {
-    let auths = auths_of(alloc, terms).expect(rt, "memory");
-    let merged = Merging::new(dealt(rt, alloc).expect(rt, "memory"));
-    let merged = merged.expect(rt, "memory");
-    let stack = stack_of(alloc, merged, columns, &auths, versions);
-    let mut stack = stack.expect(rt, "memory");
-    reads(rt, alloc, &mut stack, want)
-}
-
-#[test]
-fn stacks(rt: HostRuntime) {
-    let alloc = rt.alloc();
-    let columns = [family(alloc, b"f").expect(&rt, "memory")];
-    stacks_up(&rt, alloc, &[], 1, &[], &[7, 12]);
-    stacks_up(&rt, alloc, &[b"A"], 1, &[], &[7, 10, 12, 14, 16]);
-    stacks_up(&rt, alloc, &[b"A"], 2, &[], &[7, 10, 9, 12, 14, 16]);
-    stacks_up(&rt, alloc, &[b"B"], 2, &columns, &[7, 11, 12])
 }

@@ -1,31 +1,26 @@
-//! Tests of the engine by its public calls: layers over sources, the memory part of a table, versions, sessions and tablets.
+//! Tests of the engine by its public calls, as far as the program doesn't reach them or reaches them by other sources: what scans show
+//! behind writes, splits and compactions is tested by `tests/*.sh`.
 //!
 //! A crate of its own, since tests inside a crate have it proved twice.
 //!
 //! | File | What is tested |
 //! |---|---|
-//! | `layers` | each layer and the stack of them, over a small table; `failing`: over a source that fails once; `many`: many sources merged; `merged`: what a merge keeps |
-//! | `runs` | writing, freezing, and cursors over parts of a run |
-//! | `tables` | tables of what was written, and cursors over them that borrow and that share |
-//! | `versions` | clips of runs and of tables, and the stack over several; `cuts`: over many tablets |
-//! | `inputs` | sources that are compared and taken out by their contents |
-//! | `sessions` | batches of every size |
-//! | `tablets` | scans of what was written, beside the model; `stories`: a tablet through writes, freezes and compactions; `parts`: compactions in parts |
+//! | `layers` | a small table; `failing`: each layer and the stack of them, over a source of it that fails once |
+//! | `versions` | versions of runs and of a table; `cuts`: over many tablets |
+//! | `tablets` | scans of what was written, beside the model; `parts`: a merge that another tablet began |
+//! | `jobs` | merges of random sources of each kind, beside the model |
+//! | `sources` | helpers: sources of what is written, and random ones |
 //! | `writing`, `reading` | helpers: runs and versions of what is written, and what a source has left |
 #![tactic(auto)]
 
 #[cfg(test)]
-mod inputs;
+mod jobs;
 #[cfg(test)]
 mod layers;
 #[cfg(test)]
 mod reading;
 #[cfg(test)]
-mod runs;
-#[cfg(test)]
-mod sessions;
-#[cfg(test)]
-mod tables;
+mod sources;
 #[cfg(test)]
 mod tablets;
 #[cfg(test)]

@@ -5,48 +5,17 @@ use std::process::Abort;
 use tab_iter::Source;
 use tab_key::{Column, Record};
 use tab_label::AuthSet;
-use tab_testing::{End, Query, Update, from_key};
-use tab_version::{Clip, TableClip, Version};
+use tab_testing::{Query, Update, from_key};
+use tab_version::Version;
 
-/// The source has the records of these updates left, and no others.
-pub fn expect_rest<S: Source>(rt: &impl Abort, source: &mut S, want: &[Update]) {
+// The source has the records of these updates left, and no others.
+fn expect_rest<S: Source>(rt: &impl Abort, source: &mut S, want: &[Update]) {
     for update in want {
         let is_next = source.top().is_some_and(|record| update.is_record(&record));
         assert!(rt; is_next);
         source.advance().expect(rt, "memory");
     }
     assert!(rt; source.top().is_none());
-}
-
-/// The source has these records left, and behind a seek, from wherever it stands, those from the key on.
-pub fn expect_seek<S: Source>(
-    rt: &impl Abort,
-    alloc: Global,
-    source: &mut S,
-    want: &[Update],
-    sought: &Update,
-) {
-    source.seek(sought.key()).expect(rt, "memory");
-    let left = from_key(alloc, want, sought).expect(rt, "memory");
-    expect_rest(rt, source, &left);
-}
-
-/// The clip's rows between the ends.
-pub fn in_range(rt: &impl Abort, alloc: Global, clip: &Clip, low: End, high: End) -> Clip {
-    let bounds = low.to(alloc, high).expect(rt, "memory");
-    clip.in_rows(&bounds).expect(rt, "memory")
-}
-
-/// The same of a table's clip.
-pub fn table_in_range(
-    rt: &impl Abort,
-    alloc: Global,
-    clip: &TableClip,
-    low: End,
-    high: End,
-) -> TableClip {
-    let bounds = low.to(alloc, high).expect(rt, "memory");
-    clip.in_rows(&bounds).expect(rt, "memory")
 }
 
 /// The version has the records of these updates, and no others.

@@ -6,11 +6,10 @@ use std::alloc::{AllocError, Global};
 use std::process::Abort;
 use tab_mutation::Mutation;
 use tab_tablet::Tablet;
-use tab_testing::{Columns, Query, Random, Update, mutation_of, scanned};
+use tab_testing::{Query, Random, Update, mutation_of, scanned};
 use tab_version::Version;
 
 mod parts;
-mod stories;
 
 const ROWS: [&[u8]; 2] = [b"k", b"l"];
 
@@ -78,62 +77,4 @@ fn a_tablet_shows_what_the_model_shows(rt: HostRuntime) {
         }
     }
     assert!(rt; shown > 100, "{shown} records were shown");
-}
-
-// A column of 40 updates, numbered from the first on; the one of the marker's moment is a marker.
-fn add_column(
-    updates: &mut Vec<Update>,
-    qualifier: &'static [u8],
-    label: &'static [u8],
-    first: u8,
-    marker: u8,
-) -> Result<(), AllocError> {
-    for time in 0..40u8 {
-        updates.push(Update {
-            row: b"k",
-            family: b"f",
-            qualifier,
-            label,
-            timestamp: i64::from(time),
-            is_clocked: false,
-            is_put: time != marker,
-            seq: 0,
-            idx: first.wrapping_add(time),
-        })?;
-    }
-    Ok(())
-}
-
-// A scan shows what one of the table shows, also from each tenth update on.
-fn compare_deep(rt: &impl Abort, alloc: Global, table: &[Update], columns: Columns, versions: u32) {
-    let query = Query {
-        columns,
-        versions,
-        has_a: true,
-        ..Query::ALL
-    };
-    let mutation = mutation_of(alloc, b"k", table).expect(rt, "memory");
-    let tablet = written(rt, alloc, &mutation).frozen(alloc);
-    let tablet = tablet.expect(rt, "memory");
-    let version = read(alloc, &tablet, &query).expect(rt, "memory");
-    let want = scanned(alloc, table, &query).expect(rt, "memory");
-    for sought in table.iter().step_by(10) {
-        expect_scan(rt, alloc, &version, &query, &want, sought);
-    }
-}
-
-#[test]
-fn deep_columns_are_passed_over(rt: HostRuntime) {
-    let alloc = rt.alloc();
-    let mut table = Vec::new(alloc);
-    add_column(&mut table, b"p", b"", 0, 40).expect(&rt, "memory");
-    add_column(&mut table, b"q", b"", 40, 13).expect(&rt, "memory");
-    add_column(&mut table, b"q", b"A", 80, 26).expect(&rt, "memory");
-    for versions in [1, 12] {
-        compare_deep(&rt, alloc, &table, Columns::All, versions);
-        for qualifier in [b"p".as_slice(), b"q", b"qq"] {
-            let asked = Columns::Qualified(b"f", qualifier);
-            compare_deep(&rt, alloc, &table, asked, versions);
-        }
-    }
 }

@@ -48,16 +48,6 @@ impl Writer {
         }
     }
 
-    /// How many records there are.
-    pub fn len(&self) -> usize {
-        self.active.len()
-    }
-
-    /// Whether there is no record.
-    pub fn is_empty(&self) -> bool {
-        self.active.is_empty()
-    }
-
     /// Writes the mutation, whose shape must be accepted, with a number above those before.
     pub fn write(&mut self, rt: &impl Abort, mutation: &Mutation, seq: u64) {
         assert!(rt; seq >= self.next);
@@ -175,13 +165,4 @@ pub fn one_tablet(alloc: Global, clips: Clips) -> Result<Version, AllocError>
     let mut tablets = Vec::new(alloc);
     tablets.push(clips)?;
     Ok(Version::of(tablets))
-}
-
-/// A version of one tablet, which reads these runs.
-pub fn of_runs(alloc: Global, runs: Vec<Clip>) -> Result<Version, AllocError>
-    requires { IsDistinct (flat runs.items) }
-{
-    let tables = Vec::new(alloc);
-    let clips = Clips::of(runs, tables);
-    one_tablet(alloc, clips)
 }

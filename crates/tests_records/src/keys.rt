@@ -1,34 +1,24 @@
-//! The order of names, the prefixes of rows, ranges, and what is printed for a reader of a test.
+//! The order of names, ranges, and what is printed for a reader of a test.
 use std::alloc::Global;
 use std::cmp::Ordering;
+use std::fmt::{Debug, Display};
 use std::process::Abort;
-use tab_key::{BadRange, Bound, ByteString, Name, Range, row_prefix};
+use tab_key::{BadRange, Bound, ByteString, Name, Range};
+
+fn named(rt: &impl Abort, bytes: &[u8]) -> Name {
+    Name::new(bytes).expect(rt, "a name")
+}
 
 #[test]
 fn orders_names(rt: HostRuntime) {
-    let first = Name::new(b"T").expect(&rt, "a name");
-    let second = Name::new(b"t").expect(&rt, "a name");
-    assert!(rt; first < second && first != second && first == first);
+    let first = named(&rt, b"T");
+    let second = named(&rt, b"t");
+    assert!(rt; first < second);
     assert!(rt; first.cmp(&second) == Ordering::Less);
-    assert!(rt; first.partial_cmp(&second) == Some(Ordering::Less));
 }
 
-#[test]
-fn prefixes_order_rows(rt: HostRuntime) {
-    assert!(rt; row_prefix(b"a") < row_prefix(b"ab") && row_prefix(b"ab") < row_prefix(b"b"));
-    assert!(rt; row_prefix(b"sixteen bytes: a") < row_prefix(b"sixteen bytes: b"));
-    assert!(rt; row_prefix(b"sixteen bytes: a") == row_prefix(b"sixteen bytes: a, and more"));
-    assert!(rt; row_prefix(b"a") == row_prefix(b"a\0"));
-    assert!(rt; row_prefix(b"") == 0);
-}
-
-fn bound(rt: &impl Abort, alloc: Global, inclusive: bool, row: &[u8]) -> Bound {
-    let row = ByteString::from_slice(alloc, row).expect(rt, "memory");
-    if inclusive {
-        Bound::Inclusive(row)
-    } else {
-        Bound::Exclusive(row)
-    }
+fn bytes(rt: &impl Abort, alloc: Global, text: &[u8]) -> ByteString {
+    ByteString::from_slice(alloc, text).expect(rt, "memory")
 }
 
 // Which of the rows a, ab, b lie between these, if they are the ends of a range.
@@ -45,57 +35,31 @@ fn between(low: Bound, high: Bound) -> Option<[bool; 3]> {
 
 #[test]
 fn ranges_hold_rows(rt: HostRuntime) {
-    let alloc = rt.alloc();
-    let all = between(bound(&rt, alloc, true, b"a"), bound(&rt, alloc, true, b"b"));
-    assert!(rt; all == Some([true, true, true]));
-    let inner = between(
-        bound(&rt, alloc, false, b"a"),
-        bound(&rt, alloc, false, b"b"),
-    );
+    let low = Bound::Exclusive(bytes(&rt, rt.alloc(), b"a"));
+    let inner = between(low, Bound::Inclusive(bytes(&rt, rt.alloc(), b"ab")));
     assert!(rt; inner == Some([false, true, false]));
-    let one = between(bound(&rt, alloc, true, b"a"), bound(&rt, alloc, true, b"a"));
-    assert!(rt; one == Some([true, false, false]));
-    assert!(rt; between(Bound::Unbounded, Bound::Unbounded) == Some([true, true, true]));
+    let low = Bound::Inclusive(bytes(&rt, rt.alloc(), b"a"));
+    assert!(rt; between(low, Bound::Exclusive(bytes(&rt, rt.alloc(), b"a"))).is_none());
 }
 
-#[test]
-fn bad_bounds_are_no_range(rt: HostRuntime) {
-    let alloc = rt.alloc();
-    let open = between(
-        bound(&rt, alloc, true, b"a"),
-        bound(&rt, alloc, false, b"a"),
-    );
-    assert!(rt; open.is_none());
-    let turned = between(
-        bound(&rt, alloc, true, b"b"),
-        bound(&rt, alloc, true, b"ab"),
-    );
-    assert!(rt; turned.is_none());
+// The value is printed so for a reader of a test.
+fn expect_printed<T: Debug>(rt: &impl Abort, alloc: Global, value: &T, want: &str) {
+    let text = format!(in alloc; "{value:?}").expect(rt, "memory");
+    assert!(rt; text.as_str() == want)
+}
+
+// The fault is told so.
+fn expect_told<T: Display>(rt: &impl Abort, alloc: Global, fault: &T, want: &str) {
+    let text = format!(in alloc; "{fault}").expect(rt, "memory");
+    assert!(rt; text.as_str() == want)
 }
 
 #[test]
 fn prints_for_a_reader(rt: HostRuntime) {
     let alloc = rt.alloc();
-    let bound = Bound::Inclusive(ByteString::from_slice(alloc, b"a\"").expect(&rt, "memory"));
-    assert!(rt;
-        format!(in alloc; "{bound:?}")
-            .expect(&rt, "memory")
-            .as_str()
-            == "Inclusive(\"a\\\"\")"
-    );
-    let bytes = ByteString::from_slice(alloc, b"\xff").expect(&rt, "memory");
-    assert!(rt;
-        format!(in alloc; "{bytes:?}")
-            .expect(&rt, "memory")
-            .as_str()
-            == "[255]"
-    );
-    let name = Name::new(b"t").expect(&rt, "a name");
-    assert!(rt; format!(in alloc; "{name:?}").expect(&rt, "memory").as_str() == "\"t\"");
-    assert!(rt;
-        format!(in alloc; "{BadRange}")
-            .expect(&rt, "memory")
-            .as_str()
-            == "the bounds leave no range"
-    );
+    let bound = Bound::Inclusive(bytes(&rt, alloc, b"a\""));
+    expect_printed(&rt, alloc, &bound, "Inclusive(\"a\\\"\")");
+    expect_printed(&rt, alloc, &bytes(&rt, alloc, b"\xff"), "[255]");
+    expect_printed(&rt, alloc, &named(&rt, b"t"), "\"t\"");
+    expect_told(&rt, alloc, &BadRange, "the bounds leave no range")
 }

@@ -1,53 +1,41 @@
-//! Labels: each short text against the grammar, how deep they nest, and how a tree and a fault are printed.
-mod brute;
-
-use std::alloc::{AllocError, Global};
+//! Labels as trees: how deep they nest, and how a tree and a fault are printed.
+use std::alloc::Global;
 use std::process::Abort;
-use tab_label::{AuthSet, Label, LabelFault};
+use tab_label::{Label, LabelFault};
 
-/// A set of these byte strings.
-fn set(rt: &impl Abort, alloc: Global, terms: &[&[u8]]) -> AuthSet {
-    let mut list = Vec::new(alloc);
-    for term in terms {
-        let term = term.to_vec(alloc).expect(rt, "memory");
-        list.push(term).expect(rt, "memory");
-    }
-    AuthSet::new(list)
+// Whether the text is a label.
+fn is_label(alloc: Global, text: &[u8]) -> bool {
+    Label::parse(alloc, text).is_ok()
 }
 
-// A term in so many parentheses.
-fn nested(alloc: Global, depth: usize) -> Result<Vec<u8>, AllocError> {
-    let mut text = vec![in alloc; b'('; depth]?;
-    text.push(b'a')?;
-    for _ in 0..depth {
-        text.push(b')')?;
-    }
-    Ok(text)
-}
+const DEEPEST: &[u8] =
+    b"((((((((((((((((((((((((((((((((((((((((((((((((((((((((((((((((a))))))))))))))))))))))))))))))))))))))))))))))))))))))))))))))))";
+
+const TOO_DEEP: &[u8] =
+    b"(((((((((((((((((((((((((((((((((((((((((((((((((((((((((((((((((a)))))))))))))))))))))))))))))))))))))))))))))))))))))))))))))))))";
 
 #[test]
 fn depths(rt: HostRuntime) {
-    let text = nested(rt.alloc(), 64).expect(&rt, "memory");
-    assert!(rt; Label::parse(rt.alloc(), &text).is_ok());
-    let deeper = nested(rt.alloc(), 65).expect(&rt, "memory");
-    assert!(rt;
-        matches!(
-            Label::parse(rt.alloc(), &deeper),
-            Err(LabelFault::Malformed(64))
-        )
-    );
+    assert!(rt; is_label(rt.alloc(), b""));
+    assert!(rt; is_label(rt.alloc(), DEEPEST));
+    assert!(rt; !is_label(rt.alloc(), TOO_DEEP));
+}
+
+// How the label's tree is printed.
+fn expect_tree(rt: &impl Abort, alloc: Global, text: &[u8], want: &str) {
+    let label = Label::parse(alloc, text).expect(rt, "a label");
+    let shown = format!(in alloc; "{label:?}").expect(rt, "memory");
+    assert!(rt; shown.as_str() == want)
 }
 
 #[test]
 fn trees(rt: HostRuntime) {
-    let label = Label::parse(rt.alloc(), b"a&(b|\"c\\\"d\")").expect(&rt, "a label");
-    let shown = format!(in rt.alloc(); "{label:?}").expect(&rt, "memory");
-    assert!(rt;
-        shown.as_str()
-            == "Only(Join(And, [Term([97]), Join(Or, [Term([98]), Term([99, 34, 100])])]))"
-    );
-    let empty = Label::parse(rt.alloc(), b"").expect(&rt, "a label");
-    assert!(rt; matches!(empty, Label::Everyone));
-    let fault = format!(in rt.alloc(); "{}", LabelFault::Malformed(3)).expect(&rt, "memory");
-    assert!(rt; fault.as_str() == "malformed label at 3");
+    let want = "Only(Join(And, [Term([97]), Join(Or, [Term([98]), Term([99, 34, 100])])]))";
+    expect_tree(&rt, rt.alloc(), b"a&(b|\"c\\\"d\")", want);
+}
+
+#[test]
+fn tells_a_fault(rt: HostRuntime) {
+    let told = format!(in rt.alloc(); "{}", LabelFault::Malformed(3)).expect(&rt, "memory");
+    assert!(rt; told.as_str() == "malformed label at 3");
 }

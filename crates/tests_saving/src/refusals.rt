@@ -1,5 +1,6 @@
-//! Bytes that are no image, and reads and writes that fail.
-use crate::cores::{SMALLEST, full, large, loaded, saved};
+//! Reads and writes that fail.
+use crate::cores::{large, loaded};
+use crate::images::TWO_TABLES;
 use std::alloc::Global;
 use std::io::ErrorKind;
 use std::process::Abort;
@@ -9,34 +10,6 @@ use tab_io::{BlockReader, BlockWriter, Output};
 use tab_loading::{LoadFault, load};
 use tab_saving::save;
 
-// Why no core was loaded.
-fn fault_of(rt: &impl Abort, alloc: Global, bytes: &[u8]) -> Option<LoadFault> {
-    loaded(rt, alloc, bytes, 1000).err()
-}
-
-#[test]
-fn an_image_that_is_cut_is_bad(rt: HostRuntime) {
-    let alloc = rt.alloc();
-    for length in 0..SMALLEST.len() {
-        assert!(rt; fault_of(&rt, alloc, &SMALLEST[..length]) == Some(LoadFault::Bad));
-    }
-}
-
-#[test]
-fn nothing_follows_an_image(rt: HostRuntime) {
-    let alloc = rt.alloc();
-    let core = full(&rt, alloc);
-    let mut bytes = saved(&rt, alloc, &core);
-    bytes.push(0).expect(&rt, "memory");
-    assert!(rt; fault_of(&rt, alloc, &bytes) == Some(LoadFault::Bad));
-}
-
-#[test]
-fn an_unknown_version_is_told(rt: HostRuntime) {
-    let alloc = rt.alloc();
-    assert!(rt; fault_of(&rt, alloc, b"TABIMG\0\x02") == Some(LoadFault::Version(2)));
-}
-
 // The call behind so many fails.
 fn behind(after: u64) -> Fault {
     Fault {
@@ -45,15 +18,17 @@ fn behind(after: u64) -> Fault {
     }
 }
 
+// Why nothing is loaded where the read behind so many fails.
+fn fault_behind(rt: &impl Abort, alloc: Global, after: u64) -> Option<LoadFault> {
+    let reader = PieceReader::new(TWO_TABLES, 7).failing(behind(after));
+    let mut input = BlockReader::new(alloc, reader).expect(rt, "memory");
+    load(alloc, &mut input).err()
+}
+
 #[test]
 fn each_read_that_fails_is_told(rt: HostRuntime) {
-    let alloc = rt.alloc();
-    let core = full(&rt, alloc);
-    let bytes = saved(&rt, alloc, &core);
-    for after in 0..(bytes.len() / 7) as u64 {
-        let reader = PieceReader::new(&bytes, 7).failing(behind(after));
-        let mut input = BlockReader::new(alloc, reader).expect(&rt, "memory");
-        assert!(rt; load(alloc, &mut input).err() == Some(LoadFault::Io));
+    for after in 0..(TWO_TABLES.len() / 7) as u64 {
+        assert!(rt; fault_behind(&rt, rt.alloc(), after) == Some(LoadFault::Io));
     }
 }
 
@@ -67,15 +42,19 @@ fn cut_off(rt: &impl Abort, alloc: Global, core: &Core, after: u64) -> Option<Ve
     Some(Vec::from_slice(alloc, output.get_ref().bytes()).expect(rt, "memory"))
 }
 
+// Where the write behind so many fails, a beginning of the image's bytes is written.
+fn expect_beginning(rt: &impl Abort, alloc: Global, core: &Core, after: u64, bytes: &[u8]) {
+    let written = cut_off(rt, alloc, core, after).expect(rt, "a fault");
+    assert!(rt; bytes.starts_with(&written))
+}
+
 #[test]
 fn each_write_that_fails_is_told(rt: HostRuntime) {
-    let alloc = rt.alloc();
-    let core = large(&rt, alloc);
-    let bytes = saved(&rt, alloc, &core);
+    let bytes = large(&rt, rt.alloc());
+    let core = loaded(&rt, rt.alloc(), &bytes, 1000).expect(&rt, "an image");
     let writes = (bytes.len() / 1000) as u64;
     assert!(rt; 65 < writes);
     for after in 0..writes {
-        let written = cut_off(&rt, alloc, &core, after).expect(&rt, "a fault");
-        assert!(rt; bytes.as_slice().starts_with(&written));
+        expect_beginning(&rt, rt.alloc(), &core, after, &bytes);
     }
 }

@@ -1,5 +1,5 @@
-//! A subcommand from its input to its output.
-use crate::running::{expect_written, input, output};
+//! A subcommand whose input or output fails.
+use crate::running::{input, output};
 use std::alloc::Global;
 use std::io::ErrorKind;
 use std::process::Abort;
@@ -38,51 +38,39 @@ fn run(
     script(alloc, &mut Nowhere, input, output)
 }
 
-// What the subcommand ends with, run on the lines, and what is written then.
-fn expect_end(
+// What is written of the answers where the subcommand ends with this fault.
+fn written(
     rt: &impl Abort,
     alloc: Global,
     reader: PieceReader<'_>,
     writer: PieceWriter,
-    want: (Result<(), ProgramFault>, &[u8]),
-) {
+    want: ProgramFault,
+) -> Vec<u8> {
     let mut input = input(rt, alloc, reader);
     let mut output = output(rt, alloc, writer);
-    assert!(rt; run(alloc, &mut input, &mut output) == want.0);
-    expect_written(rt, &output, want.1)
+    assert!(rt; run(alloc, &mut input, &mut output) == Err(want));
+    Vec::from_slice(alloc, output.get_ref().bytes()).expect(rt, "memory")
 }
 
-#[test]
-fn answers_all_lines(rt: HostRuntime) {
-    let alloc = rt.alloc();
-    let reader = PieceReader::new(LINES, 10);
-    let writer = PieceWriter::new(alloc, 10);
-    expect_end(&rt, alloc, reader, writer, (Ok(()), ANSWERS))
+// The fault behind one call.
+fn behind_one() -> Fault {
+    let kind = ErrorKind::Other;
+    Fault { after: 1, kind }
 }
 
 #[test]
 fn tells_that_the_input_failed(rt: HostRuntime) {
-    let alloc = rt.alloc();
-    let kind = ErrorKind::Other;
-    let reader = PieceReader::new(LINES, 14).failing(Fault { after: 1, kind });
-    let writer = PieceWriter::new(alloc, 10);
-    expect_end(
-        &rt,
-        alloc,
-        reader,
-        writer,
-        (Err(ProgramFault::Read), b"ok\n"),
-    )
+    let reader = PieceReader::new(LINES, 14).failing(behind_one());
+    let writer = PieceWriter::new(rt.alloc(), 10);
+    let answers = written(&rt, rt.alloc(), reader, writer, ProgramFault::Read);
+    assert!(rt; answers.as_slice() == b"ok\n".as_slice());
 }
 
 // A beginning of the answers is written then.
 #[test]
 fn tells_that_the_output_failed(rt: HostRuntime) {
-    let alloc = rt.alloc();
-    let kind = ErrorKind::Other;
-    let writer = PieceWriter::new(alloc, 2).failing(Fault { after: 1, kind });
-    let mut input = input(&rt, alloc, PieceReader::new(LINES, 14));
-    let mut output = output(&rt, alloc, writer);
-    assert!(rt; run(alloc, &mut input, &mut output) == Err(ProgramFault::Write));
-    assert!(rt; ANSWERS.starts_with(output.get_ref().bytes()));
+    let reader = PieceReader::new(LINES, 14);
+    let writer = PieceWriter::new(rt.alloc(), 2).failing(behind_one());
+    let answers = written(&rt, rt.alloc(), reader, writer, ProgramFault::Write);
+    assert!(rt; ANSWERS.starts_with(&answers));
 }

@@ -4,7 +4,7 @@ use std::process::Abort;
 use tab_core::Core;
 use tab_io::memory::{PieceReader, PieceWriter};
 use tab_io::{BlockReader, BlockWriter};
-use tab_shell::{Ended, FileKind, FileLine, Script, ScriptFault};
+use tab_shell::{Script, ScriptFault};
 
 /// A script over a new core.
 pub fn new_script(rt: &impl Abort, alloc: Global) -> Script {
@@ -30,29 +30,6 @@ pub fn new_output(rt: &impl Abort, alloc: Global) -> BlockWriter<PieceWriter> {
     output(rt, alloc, PieceWriter::new(alloc, 1000))
 }
 
-// The name behind the kind, if the text begins with that.
-fn name_behind(kind: FileKind, text: &[u8]) -> Option<&[u8]> {
-    match kind {
-        FileKind::Save => text.strip_prefix(b"save ".as_slice()),
-        FileKind::Load => text.strip_prefix(b"load ".as_slice()),
-    }
-}
-
-// Whether the file line is this one.
-fn is_file(file: &FileLine, text: &[u8]) -> bool {
-    match name_behind(file.kind, text) {
-        Some(name) => file.name.as_str().as_bytes() == name,
-        None => false,
-    }
-}
-
-fn expect_ended(rt: &impl Abort, ended: &Ended, want: &[u8]) {
-    match ended {
-        Ended::Input => assert!(rt; want == b"end".as_slice()),
-        Ended::File(file) => assert!(rt; is_file(file, want)),
-    }
-}
-
 fn word_of(fault: ScriptFault) -> &'static [u8] {
     match fault {
         ScriptFault::Read => b"read",
@@ -60,8 +37,7 @@ fn word_of(fault: ScriptFault) -> &'static [u8] {
     }
 }
 
-/// The script, run on the input, ends so: `end` where the input does, `read` or `write` by a fault, `save NAME` or `load NAME` at
-/// such a line.
+/// The script, run on the input, ends so: `end` where the input does, `read` or `write` by a fault.
 pub fn expect_run(
     rt: &impl Abort,
     script: &mut Script,
@@ -70,7 +46,7 @@ pub fn expect_run(
     want: &[u8],
 ) {
     match script.run(input, output) {
-        Ok(ended) => expect_ended(rt, &ended, want),
+        Ok(_) => assert!(rt; want == b"end".as_slice()),
         Err(fault) => assert!(rt; word_of(fault) == want),
     }
 }
@@ -78,31 +54,4 @@ pub fn expect_run(
 /// That much was written.
 pub fn expect_written(rt: &impl Abort, output: &BlockWriter<PieceWriter>, want: &[u8]) {
     assert!(rt; output.get_ref().bytes() == want);
-}
-
-/// What the script prints for these lines, up to their end, read in pieces of this length.
-pub fn printed(
-    rt: &impl Abort,
-    alloc: Global,
-    script: &mut Script,
-    lines: &[u8],
-    piece: usize,
-) -> Vec<u8> {
-    let mut input = input(rt, alloc, PieceReader::new(lines, piece));
-    let mut output = new_output(rt, alloc);
-    expect_run(rt, script, &mut input, &mut output, b"end");
-    Vec::from_slice(alloc, output.get_ref().bytes()).expect(rt, "memory")
-}
-
-/// The script prints this for the lines, up to their end.
-pub fn expect_printed(
-    rt: &impl Abort,
-    alloc: Global,
-    script: &mut Script,
-    lines: &[u8],
-    piece: usize,
-    want: &[u8],
-) {
-    let text = printed(rt, alloc, script, lines, piece);
-    assert!(rt; text.as_slice() == want);
 }

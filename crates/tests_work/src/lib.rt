@@ -1,31 +1,33 @@
-//! Tests of shared books, and of connections over them, by public calls.
+//! Tests of shared books, and of connections over them or over a core of their own, by public calls.
+//!
+//! What a connection is told frame by frame is tested by `tests/frames.sh`, with the built program.
 //!
 //! | File | What is tested |
 //! |---|---|
 //! | `talks` | the frames of some connections, and what they are told |
-//! | `serving` | these served whole, in pieces, cut anywhere, and where reading or writing fails; the receipts settle afterwards |
+//! | `whole` | these served over a core, cut anywhere, and where reading or writing fails |
+//! | `serving` | the same over a shared book; the receipts settle afterwards |
+//! | `moments` | moments that are listed before |
 //! | `settling` | threads that use one book by seats of their own, and its end |
 //! | `own_writes` | a connection that writes and then reads, and the numbers of its receipts |
-//! | `gates` | which events a gate is told of |
-//! | `requests` | requests to the compactors, of which one at a time waits |
 //! | `overlapping` | a batch that is held up until another connection's write was answered |
 //! | `merging` | the same of a merge, until a write and a scan were answered |
 //! | `under_load` | writers beside compactors, all that was written afterwards, and the receipts of all |
 //! | `asking`, `signs` | helpers: events in short, and signs between threads |
+//!
+//! That `settle` is no where a receipt was changed is tested inside `tab_book`: outside no one can change one.
 #![tactic(auto)]
 
 #[cfg(test)]
 mod asking;
 #[cfg(test)]
-mod gates;
-#[cfg(test)]
 mod merging;
+#[cfg(test)]
+mod moments;
 #[cfg(test)]
 mod overlapping;
 #[cfg(test)]
 mod own_writes;
-#[cfg(test)]
-mod requests;
 #[cfg(test)]
 mod serving;
 #[cfg(test)]
@@ -36,3 +38,5 @@ mod signs;
 mod talks;
 #[cfg(test)]
 mod under_load;
+#[cfg(test)]
+mod whole;

@@ -160,7 +160,7 @@ fn overlaps<L: Origin + Send + Sync, R: Threads + Wait + Abort + Clock + Sync>(
     );
     assert!(rt; held);
     assert!(rt; !signs.are_late());
-    assert_eq!(rt; bytes.as_slice(), WRITES_TOLD);
+    assert!(rt; bytes.as_slice() == WRITES_TOLD);
     assert!(rt; has_installed(&compacted.receipts));
     assert!(rt; settle_both(rt, alloc, shared, compacted, wrote));
 }

@@ -1,8 +1,8 @@
-//! Connections over a new book, served whole, in pieces, cut anywhere, and where reading or writing fails.
+//! Connections over a new book, cut anywhere, and where reading or writing fails.
 ghost use Rattle.std.specs.Prelude.{◌≡◌, ◌^◌, ◌≤◌};
 ghost use Rattle.tab_core.specs.Stores.{base_of};
 
-use crate::talks::{CUT, TALKS, asked, told};
+use crate::talks::{TALKS, asked, is_beginning, told};
 use std::alloc::Global;
 use std::io::ErrorKind;
 use std::marker::Brand;
@@ -92,40 +92,32 @@ fn settles<L: Origin, R: Wait + Abort>(
     }
 }
 
-// The same with a new core.
+// What the connection of this reader is told over a new core, which ends so.
 fn served<R: Wait + Abort>(
     rt: &R,
     alloc: Global,
     reader: PieceReader<'_>,
     writer: PieceWriter,
-) -> (Result<(), ServeFault>, Vec<u8>) {
+    want: Result<(), ServeFault>,
+) -> Vec<u8> {
     let core = Core::new(alloc).expect(rt, "memory");
-    served_at::<Brand, _>(rt, alloc, core, Blank::new(1 << 32), reader, writer)
+    let (ended, bytes) = served_at::<Brand, _>(
+        rt,
+        alloc,
+        core,
+        Blank::new(1 << 32),
+        reader,
+        writer,
+    );
+    assert!(rt; ended == want);
+    bytes
 }
 
-// Whether these bytes are a beginning of what is told, or such a one and the refusal of a frame that is cut.
-fn is_beginning(told: &[u8], bytes: &[u8]) -> bool {
-    if told.starts_with(bytes) {
-        return true;
-    }
-    match bytes.strip_suffix(CUT) {
-        Some(front) => told.starts_with(front),
-        None => false,
-    }
-}
-
-// Replies are the same however the input is cut into reads, and the output into writes.
-#[test]
-fn tells_what_is_asked(rt: HostRuntime) {
-    for talk in 0..TALKS {
-        for piece in [1, 7, 1000] {
-            let reader = PieceReader::new(asked(talk), piece);
-            let writer = PieceWriter::new(rt.alloc(), piece);
-            let (ended, bytes) = served(&rt, rt.alloc(), reader, writer);
-            assert_eq!(rt; ended, Ok(()));
-            assert_eq!(rt; bytes.as_slice(), told(talk));
-        }
-    }
+// What the talk is told, read and written in pieces of this length.
+fn expect_told<R: Wait + Abort>(rt: &R, alloc: Global, talk: u32, piece: usize) {
+    let reader = PieceReader::new(asked(talk), piece);
+    let bytes = served(rt, alloc, reader, PieceWriter::new(alloc, piece), Ok(()));
+    assert!(rt; bytes.as_slice() == told(talk));
 }
 
 // Where the first read ends makes no difference.
@@ -133,28 +125,39 @@ fn tells_what_is_asked(rt: HostRuntime) {
 fn reads_to_any_place(rt: HostRuntime) {
     for talk in 0..TALKS {
         for piece in 1..asked(talk).len() {
-            let reader = PieceReader::new(asked(talk), piece);
-            let writer = PieceWriter::new(rt.alloc(), 64);
-            let (ended, bytes) = served(&rt, rt.alloc(), reader, writer);
-            assert_eq!(rt; ended, Ok(()));
-            assert_eq!(rt; bytes.as_slice(), told(talk));
+            expect_told(&rt, rt.alloc(), talk, piece);
         }
     }
 }
 
-// An input that ends anywhere is told of the frames before, and that a frame is cut, if one is.
+// The talk, cut there, is told of the frames before, and that a frame is cut, if one is.
+fn expect_told_until<R: Wait + Abort>(rt: &R, alloc: Global, talk: u32, at: usize) {
+    let front = asked(talk).get(..at).expect(rt, "a beginning");
+    let reader = PieceReader::new(front, 64);
+    let bytes = served(rt, alloc, reader, PieceWriter::new(alloc, 64), Ok(()));
+    assert!(rt; is_beginning(told(talk), bytes.as_slice()));
+}
+
+// An input may end anywhere.
 #[test]
 fn ends_at_any_place(rt: HostRuntime) {
     for talk in 0..TALKS {
         for at in 0..asked(talk).len() {
-            let front = asked(talk).get(..at).expect(&rt, "a beginning");
-            let reader = PieceReader::new(front, 64);
-            let writer = PieceWriter::new(rt.alloc(), 64);
-            let (ended, bytes) = served(&rt, rt.alloc(), reader, writer);
-            assert_eq!(rt; ended, Ok(()));
-            assert!(rt; is_beginning(told(talk), bytes.as_slice()));
+            expect_told_until(&rt, rt.alloc(), talk, at);
         }
     }
+}
+
+// The first talk ends by this fault, and a beginning of its replies is written.
+fn expect_fault<R: Wait + Abort>(
+    rt: &R,
+    alloc: Global,
+    reader: PieceReader<'_>,
+    writer: PieceWriter,
+    fault: ServeFault,
+) {
+    let bytes = served(rt, alloc, reader, writer, Err(fault));
+    assert!(rt; told(0).starts_with(bytes.as_slice()));
 }
 
 // Where a read fails, what was answered before is written.
@@ -164,9 +167,7 @@ fn stops_where_the_reader_fails(rt: HostRuntime) {
     for after in 0..12 {
         let reader = PieceReader::new(asked(0), 9).failing(Fault { after, kind });
         let writer = PieceWriter::new(rt.alloc(), 64);
-        let (ended, bytes) = served(&rt, rt.alloc(), reader, writer);
-        assert_eq!(rt; ended, Err(ServeFault::Read));
-        assert!(rt; told(0).starts_with(bytes.as_slice()));
+        expect_fault(&rt, rt.alloc(), reader, writer, ServeFault::Read);
     }
 }
 
@@ -177,8 +178,6 @@ fn stops_where_the_writer_fails(rt: HostRuntime) {
     for after in 0..8 {
         let reader = PieceReader::new(asked(0), 64);
         let writer = PieceWriter::new(rt.alloc(), 9).failing(Fault { after, kind });
-        let (ended, bytes) = served(&rt, rt.alloc(), reader, writer);
-        assert_eq!(rt; ended, Err(ServeFault::Write));
-        assert!(rt; told(0).starts_with(bytes.as_slice()));
+        expect_fault(&rt, rt.alloc(), reader, writer, ServeFault::Write);
     }
 }

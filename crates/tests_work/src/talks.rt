@@ -4,7 +4,7 @@
 pub const TALKS: u32 = 7;
 
 // The end of the input inside a frame.
-pub const CUT: &[u8] = b"\0\0\0\x03\x81\x10\x03";
+const CUT: &[u8] = b"\0\0\0\x03\x81\x10\x03";
 
 // A table is made, a cell is written at timestamp 5, and a batch of two gives it and the end.
 const ONE_CELL: &[u8] = b"\0\0\0\x09\x01\0\0\0\x04root\
@@ -123,5 +123,16 @@ pub fn told(talk: u32) -> &'static [u8] {
         4 => CUT_LENGTH_TOLD,
         5 => OWN_WRITES_TOLD,
         _ => UNKNOWN_TOLD,
+    }
+}
+
+// Whether these bytes are a beginning of what is told, or such a one and the refusal of a frame that is cut.
+pub fn is_beginning(told: &[u8], bytes: &[u8]) -> bool {
+    if told.starts_with(bytes) {
+        return true;
+    }
+    match bytes.strip_suffix(CUT) {
+        Some(front) => told.starts_with(front),
+        None => false,
     }
 }

@@ -1,4 +1,4 @@
-//! Compactions of a tablet in parts: begun, merged beside it, and installed.
+//! A merge that another tablet began.
 
 use super::{CLOCK, written};
 use std::alloc::Global;
@@ -48,29 +48,6 @@ fn expect_told(rt: &impl Abort, alloc: Global, tablet: &mut Tablet, job: Job, wa
 }
 
 #[test]
-fn a_merge_is_installed_once(rt: HostRuntime) {
-    let alloc = rt.alloc();
-    let mut tablet = tablet_of(&rt, alloc, 1);
-    let job = begun(&rt, alloc, &mut tablet, Compaction::Minor, 5);
-    assert!(rt; job.tablet() == tablet.number());
-    assert!(rt; job.number() == 5);
-    let share = job.share(alloc).expect(&rt, "memory");
-    expect_told(&rt, alloc, &mut tablet, job, Installed::Done);
-    assert!(rt; tablet.count_sources() == 1);
-    expect_told(&rt, alloc, &mut tablet, share, Installed::Stale(1))
-}
-
-#[test]
-fn an_equal_merge_is_as_good(rt: HostRuntime) {
-    let alloc = rt.alloc();
-    let mut tablet = tablet_of(&rt, alloc, 1);
-    let first = begun(&rt, alloc, &mut tablet, Compaction::Full, 5);
-    let second = begun(&rt, alloc, &mut tablet, Compaction::Full, 6);
-    expect_told(&rt, alloc, &mut tablet, first, Installed::Done);
-    expect_told(&rt, alloc, &mut tablet, second, Installed::Stale(1))
-}
-
-#[test]
 fn a_strangers_merge_is_stale(rt: HostRuntime) {
     let alloc = rt.alloc();
     let mut tablet = tablet_of(&rt, alloc, 1);
@@ -79,24 +56,4 @@ fn a_strangers_merge_is_stale(rt: HostRuntime) {
     let strange = begun(&rt, alloc, &mut other, Compaction::Minor, 5);
     expect_told(&rt, alloc, &mut tablet, strange, Installed::Stale(1));
     expect_told(&rt, alloc, &mut tablet, own, Installed::Stale(1))
-}
-
-#[test]
-fn kinds_are_apart(rt: HostRuntime) {
-    let alloc = rt.alloc();
-    let mut tablet = tablet_of(&rt, alloc, 1);
-    let minor = begun(&rt, alloc, &mut tablet, Compaction::Minor, 5);
-    let full = begun(&rt, alloc, &mut tablet, Compaction::Full, 6);
-    expect_told(&rt, alloc, &mut tablet, minor, Installed::Done);
-    expect_told(&rt, alloc, &mut tablet, full, Installed::Stale(1))
-}
-
-#[test]
-fn a_whole_compaction_ends_one_of_its_kind(rt: HostRuntime) {
-    let alloc = rt.alloc();
-    let mut tablet = tablet_of(&rt, alloc, 1);
-    let job = begun(&rt, alloc, &mut tablet, Compaction::Minor, 5);
-    let compacted = tablet.compacted(alloc, Compaction::Minor, 0, 1);
-    let mut tablet = compacted.expect(&rt, "memory");
-    expect_told(&rt, alloc, &mut tablet, job, Installed::Stale(1))
 }

@@ -1,8 +1,0 @@
-use Rattle.tab_core.specs.Stores.{base_of}
-use Rattle.tab_book.proofs.tests.another_number_does_not_settle.Given as goal
-
-abbrev pub ghosts-refuses_another_number-L-Ledger : goal.ghosts-refuses_another_number-L-Ledger
-ghosts-refuses_another_number-L-Ledger g a = record { name = a.blank.name; parts = a.blank.parts }
-
-abbrev pub ghosts-refuses_another_number-L-Origin : goal.ghosts-refuses_another_number-L-Origin
-ghosts-refuses_another_number-L-Origin g a = record { base = base_of a.core }

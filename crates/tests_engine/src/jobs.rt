@@ -1,0 +1,78 @@
+//! Merges of random sources of each kind, beside the model.
+
+use crate::sources::{Numbered, random_sources};
+use std::alloc::Global;
+use std::process::Abort;
+use tab_cells::Compaction;
+use tab_compact::Job;
+use tab_table::Table;
+use tab_testing::{Holding, Random, Update, table_len};
+
+// The table has the records of these updates, in their order, and their size.
+fn expect_table(rt: &impl Abort, table: &Table, want: &[Update]) {
+    assert!(rt; table.len() == want.len());
+    assert!(rt; table.size() == table_len(want));
+    for index in 0..table.len() {
+        let entry = table.get(index);
+        if let Some(update) = want.get(index) {
+            assert!(rt; update.is_record(&entry));
+        }
+    }
+}
+
+// The merge keeps these.
+fn expect_merged(rt: &impl Abort, alloc: Global, job: Job, want: &[Update]) {
+    match job.merge(alloc) {
+        Ok(finished) => expect_table(rt, finished.table(), want),
+        Err(_) => panic!(rt; "memory"),
+    }
+}
+
+// A compaction of the kind merges what the model does; how many updates it keeps.
+fn compare(
+    rt: &impl Abort,
+    alloc: Global,
+    random: &mut Random,
+    numbered: &Numbered,
+    holding: &Holding,
+    kind: Compaction,
+) -> usize {
+    let floor = random.below(5) as i64;
+    let versions = random.below(4) as u32;
+    let job = numbered
+        .captured(alloc, kind, floor, versions)
+        .expect(rt, "memory");
+    let want = holding
+        .output(alloc, kind, floor, versions)
+        .expect(rt, "memory");
+    assert!(rt; job.is_some() == want.is_some());
+    let Some(job) = job else {
+        return 0;
+    };
+    let want = want.unwrap_or(Vec::new(alloc));
+    expect_merged(rt, alloc, job, &want);
+    want.len()
+}
+
+// So many times some sources, at most so many, and a compaction of each kind; how many updates are kept of each.
+fn compare_all(rt: &impl Abort, alloc: Global, kind: Compaction, rounds: u64, most: u64) -> usize {
+    let mut random = Random::new(most);
+    let mut kept = 0usize;
+    for round in 0..rounds {
+        let count = most.saturating_sub(round % 12);
+        let mut holding = Holding::new(alloc);
+        let numbered = random_sources(rt, alloc, &mut random, count, &mut holding);
+        let more = compare(rt, alloc, &mut random, &numbered, &holding, kind);
+        kept = kept.saturating_add(more);
+    }
+    kept
+}
+
+#[test]
+fn random_sources_are_merged(rt: HostRuntime) {
+    let alloc = rt.alloc();
+    for kind in [Compaction::Minor, Compaction::Partial, Compaction::Full] {
+        assert!(rt; compare_all(&rt, alloc, kind, 240, 11) > 200);
+        assert!(rt; compare_all(&rt, alloc, kind, 12, 64) > 100);
+    }
+}

@@ -1,0 +1,110 @@
+//! Images read, and written again.
+use crate::images::{ONE_PUT, SMALLEST, TWO_TABLES};
+use std::alloc::Global;
+use std::process::Abort;
+use tab_image::{Image, LoadFault, read_image, write_image};
+use tab_io::memory::{PieceReader, PieceWriter};
+use tab_io::{BlockReader, BlockWriter, Output};
+
+// What these bytes are read as, where the input gives so many at a time.
+fn read(rt: &impl Abort, alloc: Global, bytes: &[u8], piece: usize) -> Result<Image, LoadFault> {
+    let mut input = BlockReader::new(alloc, PieceReader::new(bytes, piece)).expect(rt, "memory");
+    read_image(alloc, &mut input)
+}
+
+// Whether these are the image's bytes.
+fn is_written_as(rt: &impl Abort, alloc: Global, image: &Image, bytes: &[u8]) -> bool {
+    let mut output = BlockWriter::new(alloc, PieceWriter::new(alloc, 7)).expect(rt, "memory");
+    write_image(&mut output, image).expect(rt, "writing");
+    output.flush().expect(rt, "writing");
+    output.get_ref().bytes() == bytes
+}
+
+// Why no image was read.
+fn fault_of(rt: &impl Abort, alloc: Global, bytes: &[u8], piece: usize) -> Option<LoadFault> {
+    read(rt, alloc, bytes, piece).err()
+}
+
+#[test]
+fn an_image_that_is_cut_is_none(rt: HostRuntime) {
+    let alloc = rt.alloc();
+    for bytes in [SMALLEST, ONE_PUT, TWO_TABLES] {
+        for length in 0..bytes.len() {
+            assert!(rt; fault_of(&rt, alloc, &bytes[..length], 5) == Some(LoadFault::Bad));
+        }
+    }
+}
+
+// The image with this byte at this place, or behind all others.
+fn changed(rt: &impl Abort, alloc: Global, bytes: &[u8], place: usize, byte: u8) -> Vec<u8> {
+    let mut other = Vec::from_slice(alloc, bytes).expect(rt, "memory");
+    if place < other.len() {
+        other[place] = byte;
+    } else {
+        other.push(byte).expect(rt, "memory");
+    }
+    other
+}
+
+// What is told of bytes: `i` for an image that is written so again, `o` for one that isn't, `v` for a version, `-` for none of these.
+fn told(rt: &impl Abort, alloc: Global, bytes: &[u8]) -> u8 {
+    match read(rt, alloc, bytes, 1000) {
+        Ok(image) => {
+            if is_written_as(rt, alloc, &image, bytes) {
+                b'i'
+            } else {
+                b'o'
+            }
+        }
+        Err(LoadFault::Version(_)) => b'v',
+        Err(_) => b'-',
+    }
+}
+
+// What is told where each byte in turn is one more.
+fn told_of_each(rt: &impl Abort, alloc: Global, bytes: &[u8]) -> Vec<u8> {
+    let mut all = Vec::new(alloc);
+    for place in 0..bytes.len() {
+        let other = changed(rt, alloc, bytes, place, bytes[place].wrapping_add(1));
+        all.push(told(rt, alloc, &other)).expect(rt, "memory");
+    }
+    all
+}
+
+#[test]
+fn one_byte_of_the_smallest_image_is_changed(rt: HostRuntime) {
+    let alloc = rt.alloc();
+    let all = told_of_each(&rt, alloc, SMALLEST);
+    assert!(rt; all.as_slice() == b"------vviiiiiiiiiiiiiiii-------------------------".as_slice());
+}
+
+#[test]
+fn one_byte_of_a_table_is_changed(rt: HostRuntime) {
+    let alloc = rt.alloc();
+    let all = told_of_each(&rt, alloc, ONE_PUT);
+    let front = all.get(..49).expect(&rt, "all before the table's name");
+    assert!(rt; front == b"------vviiiiiiiiiiiiiiii-------------------------".as_slice());
+    let middle = all.get(49..85).expect(&rt, "up to the row");
+    assert!(rt; middle == b"ii--iii-----------------------------".as_slice());
+    let behind = all.get(85..).expect(&rt, "the record, and the mark");
+    assert!(rt; behind == b"i----i----i----iiiiiiii-----------ii----i----".as_slice());
+}
+
+// Whether each byte behind the version, where it is this one, gives an image that is written so again, or none.
+fn each_place_is_right(rt: &impl Abort, alloc: Global, bytes: &[u8], value: u8) -> bool {
+    for place in 8..bytes.len() {
+        let other = changed(rt, alloc, bytes, place, value);
+        match told(rt, alloc, &other) {
+            b'i' | b'-' => {}
+            _ => return false,
+        }
+    }
+    true
+}
+
+#[test]
+fn whatever_is_read_is_written_so(rt: HostRuntime) {
+    let alloc = rt.alloc();
+    assert!(rt; each_place_is_right(&rt, alloc, ONE_PUT, 0));
+    assert!(rt; each_place_is_right(&rt, alloc, ONE_PUT, 255));
+}

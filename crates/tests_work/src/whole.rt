@@ -1,0 +1,105 @@
+//! Connections that have a new core for themselves, cut anywhere, and where reading or writing fails.
+use crate::talks::{TALKS, asked, is_beginning, told};
+use std::alloc::Global;
+use std::io::ErrorKind;
+use std::process::Abort;
+use tab_core::Core;
+use tab_io::memory::{Fault, PieceReader, PieceWriter};
+use tab_io::{BlockReader, BlockWriter};
+use tab_serve::{Listed, ServeFault, serve};
+
+// The connection is served by this core. Each event has the moment 0.
+fn serve_all(
+    alloc: Global,
+    core: &mut Core,
+    input: &mut BlockReader<PieceReader<'_>>,
+    output: &mut BlockWriter<PieceWriter>,
+) -> Result<(), ServeFault> {
+    let mut moments = Listed::new(Vec::new(alloc));
+    serve(alloc, input, output, &mut moments, core)
+}
+
+// The connection of this reader ends so with a new core; what stands in the writer then.
+fn served(
+    rt: &impl Abort,
+    alloc: Global,
+    reader: PieceReader<'_>,
+    writer: PieceWriter,
+    want: Result<(), ServeFault>,
+) -> Vec<u8> {
+    let mut core = Core::new(alloc).expect(rt, "memory");
+    let mut input = BlockReader::new(alloc, reader).expect(rt, "memory");
+    let mut output = BlockWriter::new(alloc, writer).expect(rt, "memory");
+    assert!(rt; serve_all(alloc, &mut core, &mut input, &mut output) == want);
+    Vec::from_slice(alloc, output.get_ref().bytes()).expect(rt, "memory")
+}
+
+// What the talk is told, read and written in pieces of these lengths.
+fn expect_told(rt: &impl Abort, alloc: Global, talk: u32, read: usize, written: usize) {
+    let reader = PieceReader::new(asked(talk), read);
+    let writer = PieceWriter::new(alloc, written);
+    let bytes = served(rt, alloc, reader, writer, Ok(()));
+    assert!(rt; bytes.as_slice() == told(talk));
+}
+
+// Where the first read ends makes no difference.
+#[test]
+fn reads_to_any_place(rt: HostRuntime) {
+    for talk in 0..TALKS {
+        for piece in 1..asked(talk).len() {
+            expect_told(&rt, rt.alloc(), talk, piece, piece);
+        }
+    }
+}
+
+// The talk, cut there, is told of the frames before, and that a frame is cut, if one is.
+fn expect_told_until(rt: &impl Abort, alloc: Global, talk: u32, at: usize) {
+    let front = asked(talk).get(..at).expect(rt, "a beginning");
+    let reader = PieceReader::new(front, 64);
+    let bytes = served(rt, alloc, reader, PieceWriter::new(alloc, 64), Ok(()));
+    assert!(rt; is_beginning(told(talk), bytes.as_slice()));
+}
+
+// An input may end anywhere.
+#[test]
+fn ends_at_any_place(rt: HostRuntime) {
+    for talk in 0..TALKS {
+        for at in 0..asked(talk).len() {
+            expect_told_until(&rt, rt.alloc(), talk, at);
+        }
+    }
+}
+
+// The first talk ends by this fault, and a beginning of its replies is written.
+fn expect_fault(
+    rt: &impl Abort,
+    alloc: Global,
+    reader: PieceReader<'_>,
+    writer: PieceWriter,
+    fault: ServeFault,
+) {
+    let bytes = served(rt, alloc, reader, writer, Err(fault));
+    assert!(rt; told(0).starts_with(bytes.as_slice()));
+}
+
+// Where a read fails, what was answered before is written.
+#[test]
+fn stops_where_the_reader_fails(rt: HostRuntime) {
+    let kind = ErrorKind::Other;
+    for after in 0..12 {
+        let reader = PieceReader::new(asked(0), 9).failing(Fault { after, kind });
+        let writer = PieceWriter::new(rt.alloc(), 64);
+        expect_fault(&rt, rt.alloc(), reader, writer, ServeFault::Read);
+    }
+}
+
+// Where a write fails, a beginning of the replies is written.
+#[test]
+fn stops_where_the_writer_fails(rt: HostRuntime) {
+    let kind = ErrorKind::Other;
+    for after in 0..8 {
+        let reader = PieceReader::new(asked(0), 64);
+        let writer = PieceWriter::new(rt.alloc(), 9).failing(Fault { after, kind });
+        expect_fault(&rt, rt.alloc(), reader, writer, ServeFault::Write);
+    }
+}
