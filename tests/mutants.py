@@ -142,8 +142,8 @@ def words_of(crate, named):
 
 
 def check(batch, named, kept):
-    """Returns what the prover says of a copy of the crate with these mutants in it, and how long each function took. What is the same
-    in the next copy it keeps."""
+    """Returns what the prover says of a copy of the crate with these mutants in it, how long each function took, and which mutants don't
+    compile. What is the same in the next copy it keeps."""
     crate = batch[0].crate
     with tempfile.TemporaryDirectory() as room:
         for part in ("src", "specs", "proofs"):
@@ -155,7 +155,15 @@ def check(batch, named, kept):
             if mutant.names_a_file():
                 have_read(mutant, room)
             words += ["--only", READS if mutant.names_a_file() else mutant.asked()]
-        return told_by(words, room)
+        said, took = told_by(words, room)
+        return said, took, uncompiled_in(batch, said, room)
+
+
+def uncompiled_in(batch, said, room):
+    """Returns those mutants of a copy of a crate whose text stands on a line that the compiler refuses: it then asks for no function."""
+    found = re.findall(r"^(src/\S+?):(\d+):\d+: error", said, re.M)
+    lines = {(path, read(f"{room}/{path}").splitlines()[int(line) - 1]) for path, line in found}
+    return [it for it in batch if any(path == it.file and new in line for path, line in lines for _, new in it.pairs)]
 
 
 def apply(batch, room):
@@ -236,8 +244,9 @@ def refusal(mutant, said):
 
 def tried(batch, named, kept):
     """Returns of each mutant for what it was refused. Those that a check of many doesn't show (a wrong function can hide the goals of
-    those that call it) are tried together once more, as long as that shows some, and then alone."""
-    said, took = check(batch, named, kept)
+    those that call it) are tried together once more, as long as that shows some, and then in halves, at last alone. Where one doesn't
+    compile, none is shown: the others are then tried without it."""
+    said, took, uncompiled = check(batch, named, kept)
     found = {it: refusal(it, said) for it in batch}
     for mutant in batch:
         mutant.checks += 1
@@ -247,8 +256,10 @@ def tried(batch, named, kept):
         if missed:
             print("\n".join(said.splitlines()[-40:]), flush=True)
         return found
-    for again in [missed] if 0 < len(missed) < len(batch) else [[it] for it in missed]:
-        found |= tried(again, named, kept)
+    apart = uncompiled if 0 < len(uncompiled) < len(batch) else batch[: len(batch) // 2]
+    for again in [missed] if len(missed) < len(batch) else [apart, [it for it in batch if it not in apart]]:
+        if again:
+            found |= tried(again, named, kept)
     return found
 
 
