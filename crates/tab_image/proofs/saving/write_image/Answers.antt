@@ -1,6 +1,6 @@
 use Rattle.std.proofs.Common.{rules, ◌≡◌, ℤ, List, ℕ, ◌++◌, refl, subst, w64, to_z, of_z}
-use Rattle.tab_io.specs.Writing.{HasPutPart}
-use Rattle.tab_io.proofs.Putting.{part_longer}
+use Rattle.tab_io.specs.Writing.{HasPut, HasPutPart}
+use Rattle.tab_io.proofs.Putting.{puts_more, part_longer}
 use Rattle.tab_image.specs.declared.image.Image.{Image}
 use Rattle.tab_image.specs.Spelling.{list_bytes, user_bytes, table_bytes, front_bytes, end_bytes, image_bytes}
 use Rattle.tab_image.proofs.saving.write_image.Goals as goal
@@ -21,3 +21,11 @@ returns-in_err-put_front g c =
     subst (λ (z : ℤ). HasPutPart g.W.Output c.args.output.now c.put_front.new.output (front_bytes z image.next)) same c.in_err-put_front.ensures in
     let part = subst (λ (t : List ℕ). HasPutPart g.W.Output c.args.output.now c.put_front.new.output t) (all_parts image) (part_longer (behind_front image) front) in
     search (rules, part)
+
+pub returns : goal.returns
+unfolding image_bytes
+returns g c =
+    let image = c.args.image.now in
+    let same : to_z w64 (of_z w64 image.clock) ≡ image.clock = search rules in
+    puts_more g.W.Output c.args.output.now c.put_front.new.output c.put_lists.new.output (front_bytes image.clock image.next) (behind_front image) c.put_lists.result
+    (subst (λ (z : ℤ). HasPut g.W.Output c.args.output.now c.put_front.new.output (front_bytes z image.next)) same c.in_ok-put_front.ensures) c.put_lists.ensures

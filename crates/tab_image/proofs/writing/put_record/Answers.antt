@@ -1,5 +1,6 @@
 use Rattle.std.proofs.Common.{rules, ◌≡◌, ◌++◌, ℕ, List, subst, refl}
 use Rattle.tab_io.specs.Writing.{HasPut, HasPutPart}
+use Rattle.tab_io.proofs.Putting.{puts_more, part_longer}
 use Rattle.tab_key.specs.Records.{Record}
 use Rattle.tab_parts.specs.Parts.{kind_byte}
 use Rattle.tab_image.specs.Spelling.{one_byte, four_bytes, eight_bytes, signed_bytes, field_bytes, record_bytes}
@@ -38,3 +39,23 @@ returns-in_err-put_field-4 g c =
     (subst (λ (t : List ℕ). HasPut g.W.Output c.put_field-2.new.output c.put_field-3.new.output (field_bytes t)) c.qualifier.ensures c.in_ok-put_field-3.ensures)
     (subst (λ (t : List ℕ). HasPutPart g.W.Output c.put_field-3.new.output c.put_field-4.new.output (field_bytes t)) c.label.ensures c.in_err-put_field-4.ensures)) in
     search (rules, part)
+
+pub returns-in_err-put_field : goal.returns-in_err-put_field
+unfolding record_bytes
+returns-in_err-put_field g c =
+    let part : HasPutPart g.W.Output c.args.output.now c.put_field.new.output (record_bytes c.args.record.now) = part_longer {t = field_bytes c.args.record.now.key.row} (field_bytes c.args.record.now.key.family ++ (field_bytes c.args.record.now.key.qualifier ++ (field_bytes c.args.record.now.key.label ++ behind_label c.args.record.now)))
+    (subst (λ (t : List ℕ). HasPutPart g.W.Output c.args.output.now c.put_field.new.output (field_bytes t)) c.row.ensures c.in_err-put_field.ensures) in
+    search (rules, part)
+
+pub returns : goal.returns
+unfolding record_bytes
+returns g c =
+    puts_more g.W.Output c.args.output.now c.put_field.new.output c.put_numbers.new.output (field_bytes c.args.record.now.key.row) (field_bytes c.args.record.now.key.family ++ (field_bytes c.args.record.now.key.qualifier ++ (field_bytes c.args.record.now.key.label ++ behind_label c.args.record.now))) c.put_numbers.result
+    (subst (λ (t : List ℕ). HasPut g.W.Output c.args.output.now c.put_field.new.output (field_bytes t)) c.row.ensures c.in_ok-put_field.ensures)
+    (puts_more g.W.Output c.put_field.new.output c.put_field-2.new.output c.put_numbers.new.output (field_bytes c.args.record.now.key.family) (field_bytes c.args.record.now.key.qualifier ++ (field_bytes c.args.record.now.key.label ++ behind_label c.args.record.now)) c.put_numbers.result
+    (subst (λ (t : List ℕ). HasPut g.W.Output c.put_field.new.output c.put_field-2.new.output (field_bytes t)) c.family.ensures c.in_ok-put_field-2.ensures)
+    (puts_more g.W.Output c.put_field-2.new.output c.put_field-3.new.output c.put_numbers.new.output (field_bytes c.args.record.now.key.qualifier) (field_bytes c.args.record.now.key.label ++ behind_label c.args.record.now) c.put_numbers.result
+    (subst (λ (t : List ℕ). HasPut g.W.Output c.put_field-2.new.output c.put_field-3.new.output (field_bytes t)) c.qualifier.ensures c.in_ok-put_field-3.ensures)
+    (puts_more g.W.Output c.put_field-3.new.output c.put_field-4.new.output c.put_numbers.new.output (field_bytes c.args.record.now.key.label) (behind_label c.args.record.now) c.put_numbers.result
+    (subst (λ (t : List ℕ). HasPut g.W.Output c.put_field-3.new.output c.put_field-4.new.output (field_bytes t)) c.label.ensures c.in_ok-put_field-4.ensures)
+    c.put_numbers.ensures)))
