@@ -1,13 +1,11 @@
-//! Tests of shared books, and of connections over them or over a core of their own, by public calls.
+//! Tests of shared books, and of connections over them, by public calls.
 //!
 //! What a connection is told frame by frame is tested by `tests/frames.sh`, with the built program.
 //!
 //! | File | What is tested |
 //! |---|---|
 //! | `talks` | the frames of some connections, and what they are told |
-//! | `whole` | these served over a core, cut anywhere, and where reading or writing fails |
-//! | `serving` | the same over a shared book; the receipts settle afterwards |
-//! | `moments` | moments that are listed before |
+//! | `serving` | these served over a shared book, cut anywhere, and where reading or writing fails; the receipts settle afterwards |
 //! | `settling` | threads that use one book by seats of their own, and its end |
 //! | `own_writes` | a connection that writes and then reads, and the numbers of its receipts |
 //! | `overlapping` | a batch that is held up until another connection's write was answered |
@@ -23,8 +21,6 @@ mod asking;
 #[cfg(test)]
 mod merging;
 #[cfg(test)]
-mod moments;
-#[cfg(test)]
 mod overlapping;
 #[cfg(test)]
 mod own_writes;
@@ -38,5 +34,3 @@ mod signs;
 mod talks;
 #[cfg(test)]
 mod under_load;
-#[cfg(test)]
-mod whole;

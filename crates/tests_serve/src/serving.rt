@@ -1,5 +1,5 @@
-//! Connections that have a new core for themselves, cut anywhere, and where reading or writing fails.
-use crate::talks::{TALKS, asked, is_beginning, told};
+//! Connections over a new core, served whole, in pieces, cut anywhere, and where reading or writing fails.
+use crate::talks::{CUT, TALKS, asked, told};
 use std::alloc::Global;
 use std::io::ErrorKind;
 use std::process::Abort;
@@ -19,7 +19,22 @@ fn serve_all(
     serve(alloc, input, output, &mut moments, core)
 }
 
-// The connection of this reader ends so with a new core; what stands in the writer then.
+// The connection of this reader ends so with this core; what stands in the writer then.
+fn served_by(
+    rt: &impl Abort,
+    alloc: Global,
+    core: &mut Core,
+    reader: PieceReader<'_>,
+    writer: PieceWriter,
+    want: Result<(), ServeFault>,
+) -> Vec<u8> {
+    let mut input = BlockReader::new(alloc, reader).expect(rt, "memory");
+    let mut output = BlockWriter::new(alloc, writer).expect(rt, "memory");
+    assert!(rt; serve_all(alloc, core, &mut input, &mut output) == want);
+    Vec::from_slice(alloc, output.get_ref().bytes()).expect(rt, "memory")
+}
+
+// The same with a new core.
 fn served(
     rt: &impl Abort,
     alloc: Global,
@@ -28,10 +43,18 @@ fn served(
     want: Result<(), ServeFault>,
 ) -> Vec<u8> {
     let mut core = Core::new(alloc).expect(rt, "memory");
-    let mut input = BlockReader::new(alloc, reader).expect(rt, "memory");
-    let mut output = BlockWriter::new(alloc, writer).expect(rt, "memory");
-    assert!(rt; serve_all(alloc, &mut core, &mut input, &mut output) == want);
-    Vec::from_slice(alloc, output.get_ref().bytes()).expect(rt, "memory")
+    served_by(rt, alloc, &mut core, reader, writer, want)
+}
+
+// Whether these bytes are a beginning of what is told, or such a one and the refusal of a frame that is cut.
+fn is_beginning(told: &[u8], bytes: &[u8]) -> bool {
+    if told.starts_with(bytes) {
+        return true;
+    }
+    match bytes.strip_suffix(CUT) {
+        Some(front) => told.starts_with(front),
+        None => false,
+    }
 }
 
 // What the talk is told, read and written in pieces of these lengths.
@@ -42,12 +65,22 @@ fn expect_told(rt: &impl Abort, alloc: Global, talk: u32, read: usize, written: 
     assert!(rt; bytes.as_slice() == told(talk));
 }
 
+// Replies are the same however the input is cut into reads, and the output into writes.
+#[test]
+fn tells_what_is_asked(rt: HostRuntime) {
+    for talk in 0..TALKS {
+        for piece in [1, 7, 1000] {
+            expect_told(&rt, rt.alloc(), talk, piece, piece);
+        }
+    }
+}
+
 // Where the first read ends makes no difference.
 #[test]
 fn reads_to_any_place(rt: HostRuntime) {
     for talk in 0..TALKS {
         for piece in 1..asked(talk).len() {
-            expect_told(&rt, rt.alloc(), talk, piece, piece);
+            expect_told(&rt, rt.alloc(), talk, piece, 64);
         }
     }
 }
@@ -102,4 +135,25 @@ fn stops_where_the_writer_fails(rt: HostRuntime) {
         let writer = PieceWriter::new(rt.alloc(), 9).failing(Fault { after, kind });
         expect_fault(&rt, rt.alloc(), reader, writer, ServeFault::Write);
     }
+}
+
+// What the second talk is told by a core that was told it before: its table is there, and sessions are numbered from 0.
+const TOLD_AGAIN: &[u8] = b"\0\0\0\x01\x80\
+\0\0\0\x07\x81\x0a\0\0\0\x01t\
+\0\0\0\x05\x84\0\0\0\0\
+\0\0\0\x02\x83\x01";
+
+// The second talk is told this by this core.
+fn expect_told_by(rt: &impl Abort, alloc: Global, core: &mut Core, want: &[u8]) {
+    let reader = PieceReader::new(asked(1), 64);
+    let bytes = served_by(rt, alloc, core, reader, PieceWriter::new(alloc, 64), Ok(()));
+    assert!(rt; bytes.as_slice() == want);
+}
+
+// The next connection finds the table that the one before made, and numbers its own sessions from 0.
+#[test]
+fn leaves_what_it_did(rt: HostRuntime) {
+    let mut core = Core::new(rt.alloc()).expect(&rt, "memory");
+    expect_told_by(&rt, rt.alloc(), &mut core, told(1));
+    expect_told_by(&rt, rt.alloc(), &mut core, TOLD_AGAIN)
 }
