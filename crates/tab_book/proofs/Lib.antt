@@ -1,4 +1,3 @@
-pub mod Keeping
 pub mod InBlocks
 pub mod Whole
 pub mod Growing

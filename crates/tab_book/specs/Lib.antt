@@ -1,6 +1,4 @@
-pub mod Acts
 pub mod KeptReplies
-pub mod Notes
 pub mod Entries
 pub mod Blocks
 pub mod HandedOut
@@ -8,3 +6,4 @@ pub mod Installs
 pub mod Receipts
 pub mod Wholeness
 pub mod Examples
+pub use Rattle.tab_note.specs.Acts

@@ -4,11 +4,11 @@ ghost use Rattle.std.specs.Arc.{arc_value};
 ghost use Rattle.tab_book.specs.KeptReplies.{reply_in};
 
 use crate::kept_reply::KeptReply;
-use crate::note::Note;
 use std::marker::Model;
 use std::mem::size_of;
 use std::sync::Arc;
 use tab_history::Reply;
+use tab_note::Note;
 
 /// Who asked what, and what he was told.
 #[derive(Drop)]

@@ -3,12 +3,11 @@ ghost use Rattle.std.specs.Prelude.{◌≡◌, ◌↔◌, IsTrue};
 ghost use Rattle.tab_core.specs.EventReplies.{told_in};
 ghost use Rattle.tab_book.specs.KeptReplies.{reply_in};
 
-use crate::equal::{same_rights, same_rows};
-use crate::refusals::same_refusal;
 use std::mem;
 use tab_core::EventReply;
 use tab_history::{Counts, Refusal, Reply, Rights};
 use tab_key::{ByteString, Items};
+use tab_note::{same_refusal, same_rights, same_rows};
 
 /// What an event was told, as a history keeps it: 16 bytes, and the reply behind a pointer where it is neither of those that most are.
 #[derive(Drop)]

@@ -21,41 +21,33 @@
 //! | `entry` | entries, as a receipt has them and at rest |
 //! | `blocks` | the entries of a book, in blocks: none moves once its block is full |
 //! | `reservation` | the memory of an entry, which can be found before the book is locked |
-//! | `note`, `act` | events and acts at rest: each name in as many bytes as it has |
 //! | `kept_reply` | replies at rest |
-//! | `equal`, `refusals` | whether parts of events and of replies are equal |
-//! | `text` | bytes in memory of their own |
 //!
 //! Of the definitions in `specs`, `Entries` says what a book is and what each keeps, `Receipts` what a receipt is and what an event does to
 //! a book, and `Examples` computes them for a small history; `HandedOut` and `Installs` say what goes with a reply and which event a finished
-//! merge comes with, `Acts`, `Notes` and `KeptReplies` which events and replies are kept, and `Blocks` how entries lie.
+//! merge comes with, `KeptReplies` which replies are kept, and `Blocks` how entries lie. Events at rest are `tab_note`'s.
 #![tactic(auto)]
 
-mod act;
 mod blocks;
 mod book;
 mod entry;
-mod equal;
 mod held;
 mod installation;
 mod installing;
 mod kept_reply;
-mod note;
 mod posting;
 mod receipt;
-mod refusals;
 mod reservation;
 mod seat;
-mod text;
 
 pub use book::{Book, Origin, SeatsOut, book_is_legal, receipts_are_whole, settle};
 pub use entry::Entry;
 pub use held::Held;
 pub use installation::Installation;
-pub use note::Note;
 pub use receipt::Receipt;
 pub use reservation::Reservation;
 pub use seat::Seat;
+pub use tab_note::Note;
 
 #[cfg(test)]
 mod tests;

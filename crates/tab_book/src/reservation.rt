@@ -2,12 +2,12 @@
 ghost use Rattle.std.specs.Prelude.{◌≡◌, IfOk};
 ghost use Rattle.std.specs.Arc.{arc_value};
 
-use crate::note::Note;
 use std::alloc::{AllocError, Global};
 use std::marker::Model;
 use std::sync::Arc;
 use tab_core::EventReply;
 use tab_history::Event;
+use tab_note::Note;
 
 /// The memory that an event's entry takes, with the event in it. Where a book is shared it's found before the book is locked.
 #[derive(Drop)]

@@ -5,13 +5,13 @@ use Rattle.tab_policy.specs.declared.permission.Permission.TheVariants.{OfSystem
 use Rattle.tab_history.specs.declared.event.Scan.{Scan}
 use Rattle.tab_history.specs.declared.event.Act.{Act}
 use Rattle.tab_history.specs.declared.event.Act.TheVariants.{Open, Write, CreateTable, DropTable, SetConstraints, CreateUser, DropUser, SetAuths, Grant, Revoke, Rights, Status, Flush, Compact, AddSplit, SplitBySize, Splits, Save, Load, Begin, Install}
-use Rattle.tab_book.specs.declared.act.KeptPermission.{KeptPermission}
-use Rattle.tab_book.specs.declared.act.KeptPermission.TheVariants as permission
-use Rattle.tab_book.specs.declared.act.KeptScan.{KeptScan}
-use Rattle.tab_book.specs.declared.act.PlainAct.{PlainAct}
-use Rattle.tab_book.specs.declared.act.PlainAct.TheVariants as plain
-use Rattle.tab_book.specs.declared.act.KeptAct.{KeptAct}
-use Rattle.tab_book.specs.declared.act.KeptAct.TheVariants as kept
+use Rattle.tab_note.specs.declared.act.KeptPermission.{KeptPermission}
+use Rattle.tab_note.specs.declared.act.KeptPermission.TheVariants as permission
+use Rattle.tab_note.specs.declared.act.KeptScan.{KeptScan}
+use Rattle.tab_note.specs.declared.act.PlainAct.{PlainAct}
+use Rattle.tab_note.specs.declared.act.PlainAct.TheVariants as plain
+use Rattle.tab_note.specs.declared.act.KeptAct.{KeptAct}
+use Rattle.tab_note.specs.declared.act.KeptAct.TheVariants as kept
 
 -- the permission
 abbrev pub permission_in : KeptPermission → Permission

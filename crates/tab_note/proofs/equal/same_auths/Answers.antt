@@ -5,7 +5,7 @@ use Rattle.std.specs.Cmp.Lexicographic.{pointwise}
 use Rattle.std.specs.Cmp.Derive.Mapped.{pointwise-map}
 use Rattle.std.proofs.lemmas.Slice.Eq.{slice_eq-Decides, bytes_eq-Decides}
 use Rattle.tab_label.specs.Sets.{byte_lists}
-use Rattle.tab_book.proofs.equal.same_auths.Goals as goal
+use Rattle.tab_note.proofs.equal.same_auths.Goals as goal
 
 pub returns : goal.returns
 returns c =

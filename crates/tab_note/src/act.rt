@@ -1,6 +1,6 @@
 //! Acts as a history keeps them.
 ghost use Rattle.std.specs.Prelude.{◌≡◌, ◌↔◌, IsTrue, IfOk};
-ghost use Rattle.tab_book.specs.Acts.{permission_in, plain_in, scan_in, act_in, is_write};
+ghost use Rattle.tab_note.specs.Acts.{permission_in, plain_in, scan_in, act_in, is_write};
 
 use crate::equal::{same_auths, same_bounds, same_columns, same_constraints, same_mutation};
 use crate::text::Text;
@@ -158,7 +158,11 @@ impl KeptAct {
     pub fn is_write(&self) -> bool
         ensures { result ≡ is_write (act_in self.now) }
     {
-        matches!(self, KeptAct::Write(_, _))
+        match self {
+            KeptAct::Write(_, _) => true,
+            KeptAct::Open(_) | KeptAct::SetConstraints(_, _) | KeptAct::SetAuths(_, _) => false,
+            KeptAct::Plain(_) => false,
+        }
     }
 
     /// Whether the two are one act.

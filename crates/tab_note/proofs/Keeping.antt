@@ -4,11 +4,11 @@ use Rattle.tab_policy.specs.declared.permission.Permission.{Permission}
 use Rattle.tab_policy.specs.declared.permission.Permission.TheVariants.{OfSystem, OfTable}
 use Rattle.tab_history.specs.declared.event.Act.{Act}
 use Rattle.tab_history.specs.declared.event.Act.TheVariants.{CreateTable, DropTable, CreateUser, DropUser, Grant, Revoke, Rights, Status, Flush, Compact, AddSplit, SplitBySize, Splits, Load, Begin, Install}
-use Rattle.tab_book.specs.declared.act.KeptPermission.{KeptPermission}
-use Rattle.tab_book.specs.declared.act.KeptPermission.TheVariants as permission
-use Rattle.tab_book.specs.declared.act.PlainAct.{PlainAct}
-use Rattle.tab_book.specs.declared.act.PlainAct.TheVariants as plain
-use Rattle.tab_book.specs.Acts.{permission_in, plain_in, is_write}
+use Rattle.tab_note.specs.declared.act.KeptPermission.{KeptPermission}
+use Rattle.tab_note.specs.declared.act.KeptPermission.TheVariants as permission
+use Rattle.tab_note.specs.declared.act.PlainAct.{PlainAct}
+use Rattle.tab_note.specs.declared.act.PlainAct.TheVariants as plain
+use Rattle.tab_note.specs.Acts.{permission_in, plain_in, is_write}
 
 abbrev permission_of : Permission → KeptPermission
 permission_of (OfSystem p) = permission.OfSystem p

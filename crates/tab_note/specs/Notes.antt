@@ -1,7 +1,7 @@
 -- Which event is kept.
 use Rattle.tab_history.specs.declared.event.Event.{Event}
-use Rattle.tab_book.specs.declared.note.Note.TheInside.{Inside}
-use Rattle.tab_book.specs.Acts.{act_in}
+use Rattle.tab_note.specs.declared.note.Note.TheInside.{Inside}
+use Rattle.tab_note.specs.Acts.{act_in}
 
 -- the event
 abbrev pub note_in : Inside → Event

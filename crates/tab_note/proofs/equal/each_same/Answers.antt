@@ -1,6 +1,6 @@
 use Rattle.std.proofs.Common.{rules, ◌≡◌, length, arith}
 use Rattle.std.proofs.lemmas.List.{same_lists}
-use Rattle.tab_book.proofs.equal.each_same.Goals as goal
+use Rattle.tab_note.proofs.equal.each_same.Goals as goal
 
 pub returns : goal.returns
 returns c = (

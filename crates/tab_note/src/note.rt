@@ -1,6 +1,6 @@
 //! Events as a history keeps them.
 ghost use Rattle.std.specs.Prelude.{◌≡◌, ◌↔◌, IsTrue, IfOk};
-ghost use Rattle.tab_book.specs.Acts.{is_write};
+ghost use Rattle.tab_note.specs.Acts.{is_write};
 
 use crate::act::KeptAct;
 use crate::text::Text;
@@ -18,7 +18,7 @@ pub struct Note {
 
 impl Model for Note {
     ghost use Rattle.tab_history.specs.declared.event.Event.{Event};
-    ghost use Rattle.tab_book.specs.Notes.{note_in};
+    ghost use Rattle.tab_note.specs.Notes.{note_in};
 
     ghost Value = { Event };
 

@@ -1,0 +1,23 @@
+//! Events at rest: a note is an event as a history keeps it, each name in as many bytes as it has. And whether two events are one, and
+//! whether parts of two replies are.
+//!
+//! Nothing here knows of a core: [`Note::of`] copies what an event has, and a contract sees the event.
+//!
+//! | File | What |
+//! |---|---|
+//! | `note`, `act` | events and acts at rest |
+//! | `text` | bytes in memory of their own |
+//! | `equal`, `refusals` | whether parts of events and of replies are equal |
+//!
+//! Of the definitions in `specs`, `Acts` and `Notes` say which act and which event is kept.
+#![tactic(auto)]
+
+mod act;
+mod equal;
+mod note;
+mod refusals;
+mod text;
+
+pub use equal::{same_rights, same_rows};
+pub use note::Note;
+pub use refusals::same_refusal;
