@@ -12,7 +12,7 @@ use Rattle.tab_io.specs.declared.writing.Output.{Ghosts}
 use Rattle.tab_io.proofs.Putting.{put_more, put_none, put_part_more, part_longer}
 use Rattle.tab_io.proofs.Each.{flat_map-append}
 use Rattle.tab_text.specs.Lines.{cell_text}
-use Rattle.tab_shell.specs.Texts.{refusal_text, scan_text, lacking_text}
+use Rattle.tab_replies.specs.Texts.{refusal_text, scan_text, lacking_text}
 use Rattle.tab_shell.specs.Readings.{AllRead, Lacking, IsReadingText}
 use Rattle.tab_shell.specs.Batches.{PutsBatch, PutsEnd, PutsTaken, left_of}
 

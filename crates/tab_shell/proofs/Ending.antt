@@ -15,7 +15,7 @@ use Rattle.tab_shell.specs.declared.pending.Pending.{Pending}
 use Rattle.tab_shell.specs.declared.script.Ended.TheVariants.{Input, File}
 use Rattle.tab_shell.specs.declared.script.ScriptFault.{ScriptFault}
 use Rattle.tab_shell.specs.declared.script.ScriptFault.TheVariants.{Read, Write}
-use Rattle.tab_shell.specs.Texts.{lines_of}
+use Rattle.tab_replies.specs.Texts.{lines_of}
 use Rattle.tab_shell.specs.Scripts.{ScriptState, ScriptAnswersLine, ScriptAnswersLines}
 use Rattle.tab_shell.specs.Ahead.{Pends, ReadsLine, Ahead, AtEnd}
 use Rattle.tab_shell.specs.Progress.{AnswersWhole, AnswersAll, AnswersToFile, BeginsWithFile, IsAccepted, HasAccepted, HasEnded, StopsAhead, IsWritten, IsWrittenPart, IsLeft, FailedSide, RunsScript, RunsAreOne}

@@ -11,4 +11,3 @@ pub mod Scanning
 pub mod OwnSteps
 pub mod Opening
 pub mod Ending
-pub mod Spelling

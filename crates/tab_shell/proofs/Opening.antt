@@ -21,7 +21,7 @@ use Rattle.tab_core.specs.Slots.{are_full}
 use Rattle.tab_core.specs.Owners.{kept_with}
 use Rattle.tab_lines.specs.declared.line.Line.TheVariants as line
 use Rattle.tab_shell.specs.Sessions.{Kept, Keeping, Numbers, kept_of, opened_in, is_spent, with_number, KeptAre, KeepsFor, OpenIn}
-use Rattle.tab_shell.specs.Texts.{refusal_text, opened_text}
+use Rattle.tab_replies.specs.Texts.{refusal_text, opened_text}
 use Rattle.tab_shell.specs.Scripts.{Asker, ScriptState, ScriptRefines, ScriptAnswersLine, numbers_told, event_by, entry}
 use Rattle.tab_shell.proofs.Saying.{same_cond}
 use Rattle.tab_shell.proofs.JobSteps.{OpensExactly, opens_exactly, jobs_stay}

@@ -24,7 +24,7 @@ use Rattle.tab_core.specs.Stores.{base_of}
 use Rattle.tab_core.specs.Slots.{slot_at, changed_at, after_next, after_close}
 use Rattle.tab_lines.specs.declared.line.Line.TheVariants as line
 use Rattle.tab_shell.specs.Sessions.{Kept, Keeping, Numbers, kept_of, KeptAre, KeepsFor, NextIn, ManyIn, CloseIn}
-use Rattle.tab_shell.specs.Texts.{reply_text, next_text, renumbered}
+use Rattle.tab_replies.specs.Texts.{reply_text, next_text, renumbered}
 use Rattle.tab_shell.specs.Scripts.{ScriptState, ScriptRefines, ScriptGoes, ScriptAnswersLine, slot_of, own_entry}
 use Rattle.tab_shell.proofs.Saying.{same_cond}
 use Rattle.tab_core.proofs.JobLemmas.{stays_exact}

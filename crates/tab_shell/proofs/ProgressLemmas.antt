@@ -15,7 +15,7 @@ use Rattle.tab_lines.specs.declared.line.Line.{Line}
 use Rattle.tab_lines.specs.declared.line.Line.TheVariants as line
 use Rattle.tab_lines.specs.declared.line_error.LineError.{LineError}
 use Rattle.tab_shell.specs.declared.pending.Pending.{Pending}
-use Rattle.tab_shell.specs.Texts.{lines_of}
+use Rattle.tab_replies.specs.Texts.{lines_of}
 use Rattle.tab_shell.specs.Sessions.{Numbers}
 use Rattle.tab_shell.specs.Scripts.{Asker, ScriptState, ScriptRefines, asker_after, numbers_after, ScriptAnswersLine, LinesAnswered, ScriptAnswersLines, IsInside}
 use Rattle.tab_shell.specs.Ahead.{Pends, ReadsLine, Ahead, IsNext, AtEnd, TakesLine, TakesOn}

@@ -26,7 +26,7 @@ use Rattle.tab_lines.specs.declared.line.Line.{Line}
 use Rattle.tab_lines.specs.declared.line.Line.TheVariants as line
 use Rattle.tab_lines.specs.declared.line_error.LineError.{LineError}
 use Rattle.tab_lines.specs.declared.line_error.LineError.TheVariants as stop
-use Rattle.tab_shell.specs.Texts.{reply_text, begun_text, refusal_text, fault_text}
+use Rattle.tab_replies.specs.Texts.{reply_text, begun_text, refusal_text, fault_text}
 use Rattle.tab_shell.specs.Sessions.{Numbers, kept_of, KeptAre}
 use Rattle.tab_shell.specs.Scripts.{Asker, ScriptState, ScriptRefines, ScriptGoes, LineAnswered, ScriptAnswersLine, ScriptAcceptsFile, asker_after, numbers_after, event_by, entry, own_entry, file_act}
 use Rattle.tab_shell.specs.Progress.{PrintsAnswer, IsAccepted, AnswersOrAccepts, HandsBack}

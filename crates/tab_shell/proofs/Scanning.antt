@@ -30,7 +30,7 @@ use Rattle.tab_core.specs.Chains.{Running, EntryGoes}
 use Rattle.tab_core.specs.JobSlots.{JobsAre}
 use Rattle.tab_core.specs.Stepping.{Steps}
 use Rattle.tab_lines.specs.declared.line.Line.TheVariants as line
-use Rattle.tab_shell.specs.Texts.{reply_text, refusal_text}
+use Rattle.tab_replies.specs.Texts.{reply_text, refusal_text}
 use Rattle.tab_shell.specs.Batches.{left_of}
 use Rattle.tab_shell.specs.Readings.{ReadingEnd, AllRead, Lacking, CanEnd, IsReadingText, reading_text, reading_steps, batch_at, batches}
 use Rattle.tab_shell.specs.Sessions.{Kept, Keeping, Numbers, kept_of, is_spent, KeptAre, KeepsFor}

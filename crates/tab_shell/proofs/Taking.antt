@@ -10,7 +10,7 @@ use Rattle.tab_lines.specs.declared.line.Line.{Line}
 use Rattle.tab_lines.specs.declared.line_error.LineError.{LineError}
 use Rattle.tab_lines.specs.Words.{parts_at}
 use Rattle.tab_shell.specs.declared.pending.Pending.{Pending}
-use Rattle.tab_shell.specs.Texts.{lines_of, without_last_empty, EndsLine}
+use Rattle.tab_replies.specs.Texts.{lines_of, without_last_empty, EndsLine}
 use Rattle.tab_shell.specs.Scripts.{is_inside, IsInside}
 use Rattle.tab_shell.specs.Ahead.{Pends, Ahead, ReadsLine, TakesLine}
 use Rattle.tab_shell.proofs.PendingLemmas.{inside_more}

@@ -6,7 +6,7 @@ use Rattle.tab_cells.specs.SessionState.{SessionState, batch, gave}
 use Rattle.tab_io.specs.Writing.{HasPut, HasPutPart, Puts}
 use Rattle.tab_io.specs.declared.writing.Output.{Ghosts}
 use Rattle.tab_text.specs.Lines.{cell_text}
-use Rattle.tab_shell.specs.Texts.{scan_text}
+use Rattle.tab_replies.specs.Texts.{scan_text}
 use Rattle.tab_shell.specs.Readings.{batch_length, IsReadingText}
 
 -- the text of a reading of these cells was put, or a beginning of it

@@ -15,7 +15,7 @@ use Rattle.tab_shell.specs.declared.script.Ended.{Ended}
 use Rattle.tab_shell.specs.declared.script.Ended.TheVariants.{Input, File}
 use Rattle.tab_shell.specs.declared.script.ScriptFault.{ScriptFault}
 use Rattle.tab_shell.specs.declared.script.ScriptFault.TheVariants.{Read, Write}
-use Rattle.tab_shell.specs.Texts.{lines_of, EndsLine}
+use Rattle.tab_replies.specs.Texts.{lines_of, EndsLine}
 use Rattle.tab_shell.specs.Scripts.{ScriptState, ScriptAnswersLine, ScriptAnswersLines, ScriptAcceptsFile, IsInside}
 use Rattle.tab_shell.specs.Ahead.{Ahead, AtEnd}
 

@@ -5,7 +5,7 @@ use Rattle.tab_history.specs.declared.event.Step.TheVariants.{Next, Close}
 use Rattle.tab_history.specs.declared.reply.Refusal.TheVariants.{NoMemory}
 use Rattle.tab_history.specs.declared.reply.Reply.TheVariants.{Done, Refused, Batch}
 use Rattle.tab_history.specs.Histories.{Entry}
-use Rattle.tab_shell.specs.Texts.{scan_text, lacking_text}
+use Rattle.tab_replies.specs.Texts.{scan_text, lacking_text}
 
 -- how many cells a full batch has
 abbrev pub batch_length : ℕ

@@ -30,7 +30,7 @@ use Rattle.tab_lines.specs.declared.line_error.LineError.TheVariants as line_err
 use Rattle.tab_lines.specs.Gives.{Gives}
 use Rattle.tab_lines.specs.Lines.{line_of}
 use Rattle.tab_shell.specs.Sessions.{Keeping, Numbers, kept_of, with_number, slot_named, KeptAre}
-use Rattle.tab_shell.specs.Texts.{reply_text, opened_text, begun_text, next_text, renumbered, refusal_text, fault_text}
+use Rattle.tab_replies.specs.Texts.{reply_text, opened_text, begun_text, next_text, renumbered, refusal_text, fault_text}
 use Rattle.tab_shell.specs.Readings.{ReadingEnd, CanEnd, reading_text, reading_steps}
 
 -- ---- what a script holds between lines

@@ -1,14 +1,13 @@
 //! A scan's cells, batch by batch.
 ghost use Rattle.tab_shell.specs.Batches.{PutsReading, PutsBatch, PutsEnd, PutsTaken, left_of};
-ghost use Rattle.tab_shell.specs.Texts.{refusal_text};
+ghost use Rattle.tab_replies.specs.Texts.{refusal_text};
 
-use crate::refusal::put_refusal;
-use crate::reply::put_cells;
 use std::alloc::{AllocError, Global};
 use tab_core::Session;
 use tab_history::Refusal;
 use tab_io::{Output, WriteFault};
 use tab_key::Cells;
+use tab_replies::{put_cells, put_refusal};
 
 /// How many cells a full batch has.
 const BATCH_LENGTH: u32 = 1000;

@@ -4,19 +4,14 @@
 //!
 //! | File | What |
 //! |---|---|
-//! | `rights` | the text of one's own rights |
 //! | `script` | a core that answers lines: one line, the lines that are here, a whole input |
 //! | `file_lines` | the lines that name a file |
 //! | `batches` | a scan's cells, batch by batch |
 //! | `sessions` | the sessions that are kept for each user, by their numbers |
 //! | `pending` | the line that has begun, and how the next one is taken |
-//! | `reply` | the texts of replies |
-//! | `refusal` | the texts of refusals |
 //! | `laws` | two runs of a script are one |
 //!
-//! `specs/Texts` has the lines of a text and the texts of replies, `specs/Sessions` the sessions that
-//! are kept and what their numbers stand for, `specs/Readings` how a
-//! scan reads its session, `specs/Scripts` what a line adds to every history that the script refines, how its core and its jobs go on,
+//! `specs/Sessions` has the sessions that are kept and what their numbers stand for, `specs/Readings` how a scan reads its session, `specs/Scripts` what a line adds to every history that the script refines, how its core and its jobs go on,
 //! and what is printed, `specs/Batches` what reading a session puts, `specs/Ahead` what is to come where a line has begun,
 //! and `specs/Progress` how far a run has come, also where the reader or the writer failed.
 #![tactic(auto)]
@@ -25,14 +20,11 @@ mod batches;
 mod file_lines;
 mod laws;
 mod pending;
-mod refusal;
-mod reply;
-mod rights;
 mod script;
 mod sessions;
 
 pub use laws::runs_are_one;
 pub use pending::{Pending, take_line};
-pub use reply::{put_begun, put_cells, put_next, put_opened, write_reply};
 pub use script::{Ended, Script, ScriptFault};
 pub use tab_lines::{FileKind, FileLine, FileName, Line, LineError, read_line};
+pub use tab_replies::{put_begun, put_cells, put_next, put_opened, write_reply};

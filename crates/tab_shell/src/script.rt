@@ -3,7 +3,7 @@ ghost use Rattle.std.specs.Prelude.{◌≡◌, [], true, false, is_some, IfOk, I
 ghost use Rattle.tab_history.specs.Answers.{told_of, is_open};
 ghost use Rattle.tab_io.specs.Streams.{FailsByFault};
 ghost use Rattle.tab_io.specs.Writing.{Puts};
-ghost use Rattle.tab_shell.specs.Texts.{refusal_text, reply_text};
+ghost use Rattle.tab_replies.specs.Texts.{refusal_text, reply_text};
 ghost use Rattle.tab_policy.specs.Roots.{root};
 ghost use Rattle.tab_policy.specs.Entries.{at_name};
 ghost use Rattle.tab_shell.specs.Sessions.{kept_of, is_spent};
@@ -14,8 +14,6 @@ ghost use Rattle.tab_shell.specs.Progress.{PrintsAnswer, AnswersOrAccepts, Answe
 use crate::batches::put_session;
 use crate::file_lines::{file_act, hand_back, is_done, printed};
 use crate::pending::{Pending, take_line};
-use crate::refusal::put_refusal;
-use crate::reply::{put_begun, put_next, put_opened, write_reply};
 use crate::sessions::Sessions;
 use std::alloc::Global;
 use std::marker::Model;
@@ -24,6 +22,7 @@ use tab_history::{Act, Event, Refusal, Reply, Scan};
 use tab_io::{Input, Output, WriteFault};
 use tab_key::{Bounds, Items, Name, Part};
 use tab_lines::{FileLine, Line, LineError};
+use tab_replies::{put_begun, put_next, put_opened, put_refusal, write_reply};
 
 /// How a run of a script ended.
 #[derive(Drop)]

@@ -1,7 +1,7 @@
 use Rattle.std.proofs.Common.{subst}
 use Rattle.tab_history.specs.Answers.{Told}
 use Rattle.tab_io.specs.Writing.{Puts}
-use Rattle.tab_shell.specs.Texts.{reply_text}
+use Rattle.tab_replies.specs.Texts.{reply_text}
 use Rattle.tab_shell.proofs.script.write_told.Goals as goal
 
 pub returns : goal.returns

@@ -4,7 +4,7 @@ use Rattle.tab_core.specs.Stores.{Held}
 use Rattle.tab_core.specs.JobSlots.{StepsIn}
 use Rattle.tab_core.specs.declared.job_slots.JobSlot.{JobSlot}
 use Rattle.tab_lines.specs.declared.line.Line.TheVariants as line
-use Rattle.tab_shell.specs.Texts.{begun_text}
+use Rattle.tab_replies.specs.Texts.{begun_text}
 use Rattle.tab_shell.specs.Scripts.{ScriptState, ScriptAnswersLine, event_by}
 use Rattle.tab_shell.specs.Progress.{PrintsAnswer}
 use Rattle.tab_shell.proofs.Saying.{with_core, act_answered}

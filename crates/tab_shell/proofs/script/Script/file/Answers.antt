@@ -7,7 +7,7 @@ use Rattle.tab_core.specs.Stores.{Held}
 use Rattle.tab_core.specs.JobSlots.{StepsIn}
 use Rattle.tab_core.specs.declared.job_slots.JobSlot.{JobSlot}
 use Rattle.tab_lines.specs.declared.line.Line.TheVariants as line
-use Rattle.tab_shell.specs.Texts.{reply_text}
+use Rattle.tab_replies.specs.Texts.{reply_text}
 use Rattle.tab_shell.specs.Scripts.{ScriptState, ScriptAnswersLine, ScriptAcceptsFile, event_by, file_act}
 use Rattle.tab_shell.specs.Progress.{AnswersOrAccepts, PrintsAnswer}
 use Rattle.tab_shell.proofs.Saying.{with_core, file_accepted, file_refused, handed_back, printed_answers}

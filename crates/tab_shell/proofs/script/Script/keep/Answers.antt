@@ -3,7 +3,7 @@ use Rattle.tab_lines.specs.declared.line.Line.TheVariants as line
 use Rattle.tab_history.specs.declared.event.Act.TheVariants.{Open}
 use Rattle.tab_history.specs.declared.event.Event.{Event}
 use Rattle.tab_core.specs.Stores.{Held}
-use Rattle.tab_shell.specs.Texts.{opened_text}
+use Rattle.tab_replies.specs.Texts.{opened_text}
 use Rattle.tab_shell.specs.Sessions.{Keeping, is_spent, OpenIn}
 use Rattle.tab_shell.proofs.Scanning.{own_kept, with_sessions}
 use Rattle.tab_shell.proofs.Opening.{open_answered}

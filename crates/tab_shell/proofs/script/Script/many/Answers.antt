@@ -1,6 +1,6 @@
 use Rattle.std.proofs.Common.{◌≡◌, ℕ, List, Ok, subst, rules}
 use Rattle.tab_lines.specs.declared.line.Line.TheVariants as line
-use Rattle.tab_shell.specs.Texts.{reply_text}
+use Rattle.tab_replies.specs.Texts.{reply_text}
 use Rattle.tab_key.specs.declared.range.Bounds.{Bounds}
 use Rattle.tab_shell.specs.Sessions.{ManyIn}
 use Rattle.tab_shell.proofs.OwnSteps.{many_answered}

@@ -1,7 +1,7 @@
 use Rattle.std.proofs.Common.{ℕ, List, Ok, subst}
 use Rattle.tab_core.specs.declared.job_slots.JobSlot.{JobSlot}
 use Rattle.tab_lines.specs.declared.line.Line.TheVariants as line
-use Rattle.tab_shell.specs.Texts.{reply_text}
+use Rattle.tab_replies.specs.Texts.{reply_text}
 use Rattle.tab_shell.specs.Scripts.{ScriptState, ScriptAnswersLine}
 use Rattle.tab_shell.specs.Progress.{PrintsAnswer}
 use Rattle.tab_shell.proofs.Saying.{with_jobs, merge_answered}

@@ -2,7 +2,7 @@ use Rattle.std.proofs.Common.{◌≡◌, ℕ, List, Ok, true, sym, ap, ◌∙◌
 use Rattle.tab_key.specs.declared.part.Part.TheVariants.{Sessions}
 use Rattle.tab_history.specs.declared.reply.Refusal.TheVariants.{TooLarge, NoMemory}
 use Rattle.tab_lines.specs.declared.line.Line.TheVariants as line
-use Rattle.tab_shell.specs.Texts.{refusal_text}
+use Rattle.tab_replies.specs.Texts.{refusal_text}
 use Rattle.tab_shell.specs.Sessions.{Keeping, is_spent}
 use Rattle.tab_shell.specs.Scripts.{ScriptState, ScriptAnswersLine}
 use Rattle.tab_shell.specs.Progress.{PrintsAnswer}

@@ -9,7 +9,7 @@ use Rattle.tab_core.specs.Parts.{TabletMerge}
 use Rattle.tab_core.specs.Stores.{Held, base_of}
 use Rattle.tab_core.specs.Stepping.{Steps, StepsWith}
 use Rattle.tab_lines.specs.declared.line.Line.TheVariants as line
-use Rattle.tab_shell.specs.Texts.{reply_text}
+use Rattle.tab_replies.specs.Texts.{reply_text}
 use Rattle.tab_shell.specs.Scripts.{ScriptState, ScriptAnswersLine, event_by}
 use Rattle.tab_shell.specs.Progress.{PrintsAnswer}
 use Rattle.tab_shell.specs.Sessions.{Keeping, is_spent}
