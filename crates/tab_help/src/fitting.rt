@@ -1,5 +1,5 @@
 //! The word at which a line stops to fit a form.
-use crate::forms::{LINES, UPDATES, behind};
+use crate::forms::{LINES, UPDATES, behind, row_of};
 use crate::kinds::is_of_kind;
 use std::alloc::{AllocError, Global};
 use tab_lines::Words;
@@ -111,10 +111,8 @@ fn fit_update<'a>(alloc: Global, start: Rest<'a>) -> Result<Rest<'a>, Stop<'a>> 
     let word = rest.words.next();
     rest.place = start.place.saturating_add(1);
     if let Some(verb) = word {
-        for row in UPDATES.lines() {
-            if let Some(kinds) = behind(row, verb) {
-                return fit_words(alloc, kinds, rest);
-            }
+        if let Some(kinds) = row_of(UPDATES, verb) {
+            return fit_words(alloc, kinds, rest);
         }
     }
     Err(Stop::Misfit(Misfit {

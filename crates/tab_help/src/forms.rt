@@ -78,12 +78,20 @@ pub(crate) fn behind<'a>(row: &'a str, word: &[u8]) -> Option<&'a str> {
     }
 }
 
-/// What a word of this kind is.
-pub(crate) fn meaning(kind: &str) -> &'static str {
-    for row in KINDS.lines() {
-        if let Some(rest) = behind(row, kind.as_bytes()) {
-            return rest.trim_start();
+/// What stands behind the word in the first row of the table that begins with it.
+pub(crate) fn row_of<'a>(table: &'a str, word: &[u8]) -> Option<&'a str> {
+    for row in table.lines() {
+        if let Some(rest) = behind(row, word) {
+            return Some(rest);
         }
     }
-    ""
+    None
+}
+
+/// What a word of this kind is.
+pub(crate) fn meaning(kind: &str) -> &'static str {
+    match row_of(KINDS, kind.as_bytes()) {
+        Some(rest) => rest.trim_start(),
+        None => "",
+    }
 }

@@ -1,60 +1,44 @@
 //! Whether a word is of a kind.
+use crate::forms::row_of;
 use std::alloc::{AllocError, Global};
 use tab_lines::{LineError, read_line};
 
-// The line of which only this word is open, as what stands before and behind it.
-fn frame(kind: &str) -> (&'static [u8], &'static [u8]) {
-    match kind.as_bytes() {
-        b"U" | b"T" => (b"droptable ", b""),
-        b"MOMENT" => (b"at ", b""),
-        b"TS" => (b"delete t r f q \\e ", b""),
-        b"STAMP" => (b"mutate t r del f q \\e ", b""),
-        other => setting_frame(other),
-    }
-}
+// For each kind but those of the bytes of a cell a line in which a word of that kind alone fits, with `_` in its place.
+const PLACES: &str = "  U droptable _
+  T droptable _
+  MOMENT at _
+  TS delete t r f q \\e _
+  STAMP mutate t r del f q \\e _
+  TIME createtable t _ versions=1
+  VERSIONS createtable t time=any _
+  AUTHS setauths u _
+  RULES constraints t _
+  SYSTEM_PERMISSION grant u _
+  TABLE_PERMISSION grant u _ t
+  LOW scan t \\0 _ \\0
+  HIGH scan t \\0 _ \\0
+  COLS scan t \\0 \\0 \\0 _
+  SESSION close _
+  COUNT close _
+  EXTENT compact t _
+  KIND begin t r _
+  JOB merge _
+  LIMIT splitsize t r _
+  FILE save _";
 
-// The same of a word that sets what a table or a user has, or one of those below.
-fn setting_frame(kind: &[u8]) -> (&'static [u8], &'static [u8]) {
-    match kind {
-        b"TIME" => (b"createtable t ", b" versions=1"),
-        b"VERSIONS" => (b"createtable t time=any ", b""),
-        b"AUTHS" => (b"setauths u ", b""),
-        b"RULES" => (b"constraints t ", b""),
-        b"SYSTEM_PERMISSION" => (b"grant u ", b""),
-        b"TABLE_PERMISSION" => (b"grant u ", b" t"),
-        other => reading_frame(other),
-    }
-}
-
-// The same of a word that scans and sessions have, or one of those below.
-fn reading_frame(kind: &[u8]) -> (&'static [u8], &'static [u8]) {
-    match kind {
-        b"LOW" | b"HIGH" => (b"scan t \\0 ", b" \\0"),
-        b"COLS" => (b"scan t \\0 \\0 \\0 ", b""),
-        b"SESSION" | b"COUNT" => (b"close ", b""),
-        other => upkeep_frame(other),
-    }
-}
-
-// The same of a word of the upkeep of tables or of files, or of the bytes of a cell.
-fn upkeep_frame(kind: &[u8]) -> (&'static [u8], &'static [u8]) {
-    match kind {
-        b"EXTENT" => (b"compact t ", b""),
-        b"KIND" => (b"begin t r ", b""),
-        b"JOB" => (b"merge ", b""),
-        b"LIMIT" => (b"splitsize t r ", b""),
-        b"FILE" => (b"save ", b""),
-        _ => (b"insert t ", b" f q \\e v"),
-    }
+// What stands before a word of this kind in its line, and behind it.
+fn place_of(kind: &str) -> (&'static str, &'static str) {
+    let line = row_of(PLACES, kind.as_bytes()).unwrap_or("insert t _ f q \\e v");
+    line.split_once('_').unwrap_or((line, ""))
 }
 
 /// Whether the word is of this kind: whether a line is read in which it stands where only such a word fits.
 pub fn is_of_kind(alloc: Global, kind: &str, word: &[u8]) -> Result<bool, AllocError> {
-    let (front, rest) = frame(kind);
+    let (front, rest) = place_of(kind);
     let mut line = Vec::new(alloc);
-    line.extend_from_slice(front)?;
+    line.extend_from_slice(front.as_bytes())?;
     line.extend_from_slice(word)?;
-    line.extend_from_slice(rest)?;
+    line.extend_from_slice(rest.as_bytes())?;
     match read_line(alloc, line.as_slice()) {
         Ok(_) => Ok(true),
         Err(LineError::Fault) => Ok(false),
