@@ -1,29 +1,26 @@
 //! `tabd serve`.
-use crate::net_fault::NetFault;
+use crate::files::core_of;
 use anyhow::Context;
 use std::net::{Ipv4Addr, TcpListener};
 use std::sync::Wait;
 use std::thread::Threads;
 use std::time::Clock;
-use tab_core::Core;
+use tab_host::NetFault;
 use tab_prog::ProgramFault;
 use tab_work::{Options, run_server};
 
-/// Listens on the port of 127.0.0.1, says so on standard output, and answers connections over this core, or over a new one.
+/// Listens on the port of 127.0.0.1, says so on standard output, and answers connections over the core of this image, or over a new one.
 ///
 /// A fault tells the system's reason.
 pub fn run_serve<R: Threads + Wait + Clock + Sync>(
     rt: &HostRuntime,
     threads: &R,
-    core: Option<Core>,
+    image: Option<&str>,
     port: u16,
     options: Options,
 ) -> anyhow::Result<()> {
     let alloc = rt.alloc();
-    let core = match core {
-        Some(core) => core,
-        None => Core::new(alloc).map_err(|_| ProgramFault::NoMemory)?,
-    };
+    let core = core_of(rt, image)?;
     let listener = TcpListener::bind(rt, (Ipv4Addr::LOCALHOST, port)).with_context(
         || NetFault::Listen(port),
     )?;

@@ -1,10 +1,9 @@
 //! `tabd shell`.
-use crate::net_fault::NetFault;
-use crate::noting::Noting;
 use anyhow::Context;
 use std::io::{Error, Read, Write};
 use std::net::{Ipv4Addr, TcpStream};
 use tab_help::{Asks, Prompting};
+use tab_host::{NetFault, Noting};
 use tab_io::{BlockReader, BlockWriter};
 use tab_key::Name;
 use tab_prog::{ShellFault, shell_run};

@@ -6,42 +6,13 @@ use std::io::ErrorKind;
 use std::path::Path;
 use tab_core::Core;
 use tab_io::{BlockReader, BlockWriter, Output};
-use tab_prog::{FileName, Files, LoadFault, SaveFault};
+use tab_loading::LoadFault;
+use tab_saving::SaveFault;
 
 /// How many names are tried for a new file before a save gives up.
 const TRIES: u32 = 1000;
 
-/// Saves images to files and loads them from there, by their paths.
-///
-/// A save writes a new file beside the old one, under a name of its own, and gives it the old one's name once it is whole and on the
-/// disk. So a save that fails leaves the last image as it was.
-#[derive(Drop)]
-pub struct Disk<'a> {
-    rt: &'a HostRuntime,
-}
-
-impl<'a> Disk<'a> {
-    /// The files that this runtime reaches.
-    pub fn new(rt: &'a HostRuntime) -> Disk<'a> {
-        Disk { rt }
-    }
-}
-
-impl Files for Disk<'_> {
-    ghost saves = { λ _ _ _ _ _. Unit {0} };
-
-    ghost loads = { λ _ _ _ _. Unit {0} };
-
-    fn save(&mut self, name: &FileName, core: &Core) -> Result<(), SaveFault> {
-        save(self.rt, name.as_str(), core)
-    }
-
-    fn load(&mut self, name: &FileName) -> Result<Core, LoadFault> {
-        load(self.rt, name.as_str())
-    }
-}
-
-/// The core of which the file of this name holds an image.
+/// The core of which the file of this name holds an image. `Io` is told also where the file can't be opened.
 pub fn load(rt: &HostRuntime, name: &str) -> Result<Core, LoadFault> {
     let Ok(file) = File::open(rt, name) else {
         return Err(LoadFault::Io);
@@ -49,13 +20,16 @@ pub fn load(rt: &HostRuntime, name: &str) -> Result<Core, LoadFault> {
     let Ok(mut input) = BlockReader::new(rt.alloc(), file) else {
         return Err(LoadFault::NoMemory);
     };
-    tab_loading::load(rt.alloc(), &mut input).map_err(load_fault)
+    tab_loading::load(rt.alloc(), &mut input)
 }
 
-// Saves an image of the core under this name.
-fn save(rt: &HostRuntime, name: &str, core: &Core) -> Result<(), SaveFault> {
+/// Saves an image of the core under this name. `Write` is told of whatever the file system refuses.
+///
+/// A save writes a new file beside the old one, under a name of its own, and gives it the old one's name once it is whole and on the
+/// disk. So a save that fails leaves the last image as it was.
+pub fn save(rt: &HostRuntime, name: &str, core: &Core) -> Result<(), SaveFault> {
     if !may_be_given(rt, name) {
-        return Err(SaveFault::Io);
+        return Err(SaveFault::Write);
     }
     let (part, file) = begin(rt, name)?;
     let outcome = finish(rt, name, part.as_str(), file, core);
@@ -83,10 +57,10 @@ fn begin(rt: &HostRuntime, name: &str) -> Result<(String, File), SaveFault> {
         match File::create_new(rt, part.as_str()) {
             Ok(file) => return Ok((part, file)),
             Err(error) if error.kind() == ErrorKind::AlreadyExists => {}
-            Err(_) => return Err(SaveFault::Io),
+            Err(_) => return Err(SaveFault::Write),
         }
     }
-    Err(SaveFault::Io)
+    Err(SaveFault::Write)
 }
 
 // Writes the image, and gives it the name.
@@ -100,7 +74,7 @@ fn finish(
     write(rt.alloc(), file, core)?;
     match fs::rename(rt, part, name) {
         Ok(()) => {}
-        Err(_) => return Err(SaveFault::Io),
+        Err(_) => return Err(SaveFault::Write),
     }
     settle(rt, name);
     Ok(())
@@ -111,11 +85,11 @@ fn write(alloc: Global, file: File, core: &Core) -> Result<(), SaveFault> {
     let Ok(mut output) = BlockWriter::new(alloc, file) else {
         return Err(SaveFault::NoMemory);
     };
-    tab_saving::save(alloc, &mut output, core).map_err(save_fault)?;
+    tab_saving::save(alloc, &mut output, core)?;
     if output.flush().is_err() {
-        return Err(SaveFault::Io);
+        return Err(SaveFault::Write);
     }
-    output.get_ref().sync_all().map_err(|_| SaveFault::Io)
+    output.get_ref().sync_all().map_err(|_| SaveFault::Write)
 }
 
 // Asks that the folder have the name on the disk too. The image has its name already, and until then the name's last image stands there:
@@ -127,21 +101,5 @@ fn settle(rt: &HostRuntime, name: &str) {
     };
     if let Ok(folder) = File::open(rt, folder) {
         let _ = folder.sync_all();
-    }
-}
-
-fn save_fault(fault: tab_saving::SaveFault) -> SaveFault {
-    match fault {
-        tab_saving::SaveFault::Write => SaveFault::Io,
-        tab_saving::SaveFault::NoMemory => SaveFault::NoMemory,
-    }
-}
-
-fn load_fault(fault: tab_loading::LoadFault) -> LoadFault {
-    match fault {
-        tab_loading::LoadFault::Io => LoadFault::Io,
-        tab_loading::LoadFault::NoMemory => LoadFault::NoMemory,
-        tab_loading::LoadFault::Version(version) => LoadFault::Version(version),
-        tab_loading::LoadFault::Bad => LoadFault::Bad,
     }
 }

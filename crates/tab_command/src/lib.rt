@@ -1,0 +1,15 @@
+//! The command line of `tabd`: its subcommands and their options, their help, and what a list of words asks for.
+//!
+//! | File | What |
+//! |---|---|
+//! | `building` | the command line, built, and the texts of its help |
+//! | `request` | what the words ask for |
+//!
+//! Nothing is done here: the program does what a [`Request`] says.
+#![tactic(auto)]
+
+mod building;
+mod request;
+
+pub use building::line_help;
+pub use request::{Request, ScriptRequest, ServeRequest, ShellRequest, parse};

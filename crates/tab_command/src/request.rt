@@ -1,0 +1,107 @@
+//! What a command line asks for.
+use crate::building::command;
+use clap::{ArgMatches, Error};
+use std::alloc::Global;
+
+/// What a command line asks for: a subcommand, with its options.
+#[derive(Clone, Copy)]
+pub enum Request<'a> {
+    /// `tabd script`.
+    Script(ScriptRequest<'a>),
+    /// `tabd serve`.
+    Serve(ServeRequest<'a>),
+    /// `tabd shell`.
+    Shell(ShellRequest<'a>),
+    /// None of them. The command line asks for one, so this is never read.
+    Nothing,
+}
+
+/// What `tabd script` is asked for.
+#[derive(Clone, Copy)]
+pub struct ScriptRequest<'a> {
+    /// The file of the image to begin with.
+    pub image: Option<&'a str>,
+    /// Whether line faults are explained.
+    pub explained: bool,
+    /// Whether lines are prompted for.
+    pub prompted: bool,
+}
+
+/// What `tabd serve` is asked for.
+#[derive(Clone, Copy)]
+pub struct ServeRequest<'a> {
+    /// The file of the image to begin with.
+    pub image: Option<&'a str>,
+    /// The port of 127.0.0.1, 1 to 65,535.
+    pub port: u16,
+    /// How many connections are answered at once, 1 to 64.
+    pub workers: u32,
+    /// How many threads compact and split tablets, 0 to 16.
+    pub compactors: u32,
+    /// After how many connections it ends, or 0 for never.
+    pub accept: u32,
+}
+
+/// What `tabd shell` is asked for.
+#[derive(Clone, Copy)]
+pub struct ShellRequest<'a> {
+    /// Who asks.
+    pub user: &'a str,
+    /// The port of 127.0.0.1, 1 to 65,535.
+    pub port: u16,
+    /// Whether lines are prompted for.
+    pub prompted: bool,
+}
+
+/// Reads the words of a command line, of which the first is the program's name. `lines` is what help says of the lines of a script.
+///
+/// An error has the help or the version that was asked for, why the words are refused, or want of memory.
+pub fn parse<'a>(alloc: Global, lines: &'a str, words: &'a [String]) -> Result<Request<'a>, Error> {
+    let matches = command(alloc, lines)?.try_get_matches_from(words)?;
+    Ok(requested(&matches))
+}
+
+// What was matched.
+fn requested<'a>(matches: &ArgMatches<'a>) -> Request<'a> {
+    if let Some(script) = matches.subcommand_matches("script") {
+        return Request::Script(script_request(script));
+    }
+    if let Some(serve) = matches.subcommand_matches("serve") {
+        return Request::Serve(serve_request(serve));
+    }
+    match matches.subcommand_matches("shell") {
+        Some(shell) => Request::Shell(shell_request(shell)),
+        None => Request::Nothing,
+    }
+}
+
+fn script_request<'a>(script: &ArgMatches<'a>) -> ScriptRequest<'a> {
+    ScriptRequest {
+        image: script.get_str("image"),
+        explained: script.get_flag("explain"),
+        prompted: script.get_flag("prompt"),
+    }
+}
+
+fn serve_request<'a>(serve: &ArgMatches<'a>) -> ServeRequest<'a> {
+    ServeRequest {
+        image: serve.get_str("image"),
+        port: port(serve),
+        workers: serve.get_one::<u32>("workers").unwrap_or(4),
+        compactors: serve.get_one::<u32>("compactors").unwrap_or(1),
+        accept: serve.get_one::<u32>("accept").unwrap_or(0),
+    }
+}
+
+fn shell_request<'a>(shell: &ArgMatches<'a>) -> ShellRequest<'a> {
+    ShellRequest {
+        user: shell.get_str("user").unwrap_or(""),
+        port: port(shell),
+        prompted: shell.get_flag("prompt"),
+    }
+}
+
+// The port, which a command line can't do without.
+fn port(subcommand: &ArgMatches<'_>) -> u16 {
+    subcommand.get_one::<u16>("port").unwrap_or(0)
+}
