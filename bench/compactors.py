@@ -9,7 +9,8 @@
 
 Usage: bench/compactors.py [--writes N] [--turns N] [--batch N] [--seconds N] [--compactors N,N,..] [--rounds N] [--plain] [--ahead]
        (from anywhere; builds the program if it isn't built)
-  --plain: 1 and 2 of a plain Rust server too (server/plain.rs, a map under a lock), whose Nexts wait for the same scheduler
+  --plain: 1 and 2 of a plain Rust server too (server/plain.rs, a map under a lock), whose Nexts wait for the same scheduler; and what
+           the machine alone makes of requests that take as long as a Next (compactors/echo.rs)
   --ahead: all that is measured runs in the real-time class, ahead of the machine's other work (wants root). Without it the slowest
            Next is mostly how long the scheduler let something else run.
   TABD in the environment: another built program, measured in place of this folder's
@@ -176,6 +177,16 @@ def show(compactors, rounds, first, asked):
     print(f"  {asked.turns} in turn    first tenth {tenths[0]:.3f} s, last {tenths[-1]:.3f} s   ratio {tenths[-1] / tenths[0]:.2f}   tablets, sources, records {rounds[-1]['left']}", flush=True)
 
 
+def echo(work, micros, asked):
+    """Tells what the machine makes of replies of a batch's length for which so many microseconds are worked."""
+    subprocess.run(["rustc", "--edition=2021", "-O", "-o", f"{work}/echo", TOP / "bench/compactors/echo.rs"], check=True)
+    print(f"an echo server that works for {micros:.0f} µs, nothing beside")
+    told = [subprocess.run([f"{work}/echo", str(micros), str(64 * asked.batch), str(asked.seconds)], stdout=subprocess.PIPE, text=True, check=True).stdout for _ in range(asked.rounds)]
+    rounds = [sorted(int(line) / 1e3 for line in one.split()) for one in told]
+    for times in rounds:
+        print(f"  {len(times):6} replies of {64 * asked.batch} bytes   median {median(times):6.0f} µs   slowest {times[-1]:6.0f} µs   slowest to median {times[-1] / median(times):.1f}")
+
+
 def main():
     parser = argparse.ArgumentParser(description=__doc__, formatter_class=argparse.RawDescriptionHelpFormatter)
     parser.add_argument("--writes", type=int, default=400_000, help="a multiple of 500")
@@ -201,8 +212,11 @@ def main():
         if asked.ahead:
             os.sched_setscheduler(0, os.SCHED_FIFO, os.sched_param(1))
         rounds = [{number: measure(one, f"{work}/reader", number, asked) for number, one in programs.items()} for _ in range(asked.rounds)]
-    for number in programs:
-        show(number, [told[number] for told in rounds], [told[numbers[0]] for told in rounds], asked)
+        for number in programs:
+            show(number, [told[number] for told in rounds], [told[numbers[0]] for told in rounds], asked)
+        if asked.plain:
+            # the rest of a Next is the way of its bytes
+            echo(work, 0.7e6 * median(rounds[0][numbers[0]]["alone"]), asked)
 
 
 main()

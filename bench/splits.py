@@ -4,21 +4,24 @@
 Usage: bench/splits.py [CELLS [TABLETS [ROUNDS]]]   (from anywhere; builds the program if it isn't built)
   CELLS    cells of the table; 1000000 where unsaid
   TABLETS  tablets that it is split into before the first insert; 1000 where unsaid
-  ROUNDS   runs of each script, of which the median counts; 5 where unsaid
+  ROUNDS   runs of each script, of which the median counts; 5 where unsaid. Whole scans are made by turns, 40 of each table
   TABD     in the environment: another built program, measured in place of this folder's
 """
 import os
 import subprocess
 import sys
+import threading
 from pathlib import Path
 from statistics import median
 
 TOP = Path(__file__).resolve().parent.parent
 sys.path.insert(0, str(TOP / "bench" / "store"))
-from phases import phases
+from phases import give, phases, processor_seconds
 from script import PARTS
 
 SCANS = 100_000
+# whole scans of each table, by turns: one takes a tenth of a second, in which a machine does something else as well
+TURNS = 40
 SPLITS = 200
 
 
@@ -47,14 +50,41 @@ def ends(cells, tablets):
 def over(cells, tablets):
     """The inserts, whole scans and many short ones, in a table of so many tablets."""
     first, *inserts = PARTS["inserts"](cells)
-    return [[first, *ends(cells, tablets)], inserts, PARTS["whole"](), PARTS["whole"](), PARTS["short"](cells, SCANS), PARTS["compaction"](), PARTS["whole"](), PARTS["short"](cells, SCANS)]
+    return [[first, *ends(cells, tablets)], inserts, PARTS["whole"](), PARTS["short"](cells, SCANS), PARTS["compaction"](), PARTS["short"](cells, SCANS)]
+
+
+def answered(process, lines, end):
+    """Gives a process lines, reads its answers up to those that end so, and returns the seconds of the processor that it took."""
+    before, last = processor_seconds(process), b""
+    writer = threading.Thread(target=give, args=(process, text(lines)), daemon=True)
+    writer.start()
+    while not last.endswith(end):
+        last = (last + process.stdout.read1(1 << 16))[-len(end):]
+    writer.join()
+    return processor_seconds(process) - before
+
+
+def whole_scans(command, cells, tablets, compaction):
+    """The medians of whole scans of a table of one tablet and of one of so many, by turns."""
+    scan, end, processes = PARTS["whole"](), b"\nend\n", []
+    for count in (1, tablets):
+        processes.append(subprocess.Popen(command, stdin=subprocess.PIPE, stdout=subprocess.PIPE))
+        first, *inserts = PARTS["inserts"](cells)
+        answered(processes[-1], [first, *ends(cells, count), *inserts, *compaction, *scan], end)
+    took = [[answered(process, scan, end) for process in processes] for _ in range(TURNS)]
+    for process in processes:
+        process.communicate()
+    return [median(times) for times in zip(*took)]
 
 
 def compare(command, cells, tablets, rounds):
-    names = ["inserts", "the first whole scan, with its freeze", "whole scan of runs", f"{SCANS} short scans of runs", "flush and full compaction", "whole scan of sorted tables", f"{SCANS} short scans of them"]
+    names = ["inserts", "the first whole scan, with its freeze", f"{SCANS} short scans of runs", "flush and full compaction", f"{SCANS} short scans of sorted tables"]
     print(f"{f'{cells} cells':40} {'one tablet':>12} {f'{tablets} tablets':>14} {'ratio':>8}")
     (_, *first), (_, *second) = measured(command, [over(cells, 1), over(cells, tablets)], rounds)
     for name, one, many in zip(names, first, second):
+        print(f"{name:40} {one:10.3f} s {many:12.3f} s {many / one:8.2f}")
+    for name, compaction in (("whole scan of runs", []), ("whole scan of sorted tables", PARTS["compaction"]())):
+        one, many = whole_scans(command, cells, tablets, compaction)
         print(f"{name:40} {one:10.3f} s {many:12.3f} s {many / one:8.2f}")
 
 
