@@ -102,11 +102,12 @@ impl LastColumn {
         if self.is_of(next) {
             return Ok(true);
         }
+        let mark = next.column_mark();
         self.ends = None;
         self.body.clear();
         let ends = put_column(&mut self.body, next)?;
         self.ends = Some(ends);
-        self.mark = next.column_mark();
+        self.mark = mark;
         Ok(false)
     }
 }

@@ -46,13 +46,13 @@ impl<A: Rule, B: Rule> Rule for ThenRule<A, B> {
 
     #[inline]
     fn observe(&mut self, next: &RecordRef<'_>) -> Result<bool, NoMemory> {
-        if self.first.observe(next)? {
-            self.passed = Some(true);
-            self.second.observe(next)
-        } else {
+        if !self.first.observe(next)? {
             self.passed = Some(false);
-            Ok(false)
+            return Ok(false);
         }
+        let passes = self.second.observe(next)?;
+        self.passed = Some(true);
+        Ok(passes)
     }
 
     fn aim(&mut self, held: &RecordRef<'_>) -> Result<bool, NoMemory> {
