@@ -12,7 +12,9 @@ pub mod FieldLemmas
 pub mod SetLemmas
 pub mod PartsLemmas
 pub mod RecordLemmas
+pub mod FrontLemmas
 pub mod SaneLemmas
+pub mod KnownLabelLemmas
 pub mod LoadLemmas
 pub mod BodyLemmas
 pub mod WrittenLaw

@@ -250,7 +250,7 @@ record_back bytes r is = record {
   };
 }
 
-exact_record : Exact record_at IsRecord
+pub exact_record : Exact record_at IsRecord
 exact_record = exact_as IsRecord exact_record_parts record_to record_back
 
 exact_records : Exact records_at (IsCounted IsU64 IsRecord)

@@ -16,7 +16,7 @@ use Rattle.tab_image.specs.Laying.{HasLaid}
 use Rattle.tab_image.proofs.Streams.{read_then, read_made, stops_first, stops_later}
 
 -- the record of these parts
-abbrev record_of : List ℕ → List ℕ → List ℕ → List ℕ → ℤ → Kind → ℕ → ℕ → List ℕ → Record
+abbrev pub record_of : List ℕ → List ℕ → List ℕ → List ℕ → ℤ → Kind → ℕ → ℕ → List ℕ → Record
 record_of ro f q l t k s i v = record { key = record { row = ro; family = f; qualifier = q; label = l; timestamp = t }; kind = k; value = v; seq = s; idx = i }
 
 module _ {R : Type 0} (g : Ghosts R) where

@@ -97,7 +97,8 @@ pub(crate) fn read_versions<R: Input>(input: &mut R) -> Result<Versions, Unread>
     Ok(versions)
 }
 
-fn kind_of(byte: u8) -> Option<Kind>
+/// The kind that a byte stands for.
+pub(crate) fn kind_of(byte: u8) -> Option<Kind>
     ensures { result ≡ kind_of byte }
 {
     match byte {

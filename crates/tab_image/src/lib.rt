@@ -15,8 +15,9 @@
 //! | `writing`, `bits` | its pieces, and sets as bytes of bits |
 //! | `loading` | a whole image, read |
 //! | `reading_users`, `reading_tables`, `record_reading` | its pieces |
+//! | `lent_record` | a record that lies whole in the bytes that are here, read where it lies |
 //! | `lists`, `sets`, `fields`, `taking` | lists, sets, byte strings and names, and numbers, read from an input |
-//! | `sanity`, `byte_order`, `known_users` | the conditions on an image, lists that rise, and users found by name |
+//! | `sanity`, `byte_order`, `known_users`, `known_labels` | the conditions on an image, lists that rise, users found by name, and labels by their numbers |
 //! | `fault`, `unread` | why bytes are no image, why none was loaded, and why a part wasn't read |
 //! | `laws` | the laws of the definitions, each the contract of a function that does nothing |
 //!
@@ -36,8 +37,10 @@ mod byte_order;
 mod fault;
 mod fields;
 mod image;
+mod known_labels;
 mod known_users;
 mod laws;
+mod lent_record;
 mod lists;
 mod loading;
 mod reading_tables;

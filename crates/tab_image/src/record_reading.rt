@@ -6,10 +6,11 @@ ghost use Rattle.tab_key.specs.KeyOf.{key_of};
 ghost use Rattle.tab_key.specs.RecordSpans.{record_in, IsWithin};
 ghost use Rattle.tab_image.specs.Reading.{record_at, records_at};
 ghost use Rattle.tab_image.specs.Streams.{Reads, HasRead, Stops};
-ghost use Rattle.tab_image.specs.Laying.{span_of, Lays, Adds};
+ghost use Rattle.tab_image.specs.Laying.{span_of, Lays, Adds, AddsFront};
 ghost use Rattle.tab_parts.specs.Reading.{u64_at, parts_at};
 
 use crate::fields::{read_kind, read_part};
+use crate::lent_record::record_in;
 use crate::taking::{read_i64, read_u32, read_u64};
 use crate::unread::Unread;
 use std::alloc::Global;
@@ -53,8 +54,8 @@ fn read_so_many<R: Input>(alloc: Global, input: &mut R, count: u64) -> Result<Re
     Ok(records)
 }
 
-// Takes a record, and puts it behind those that are there. On the way its parts lie in a body that holds one record at a time, since their
-// lengths are put in front of them.
+// Takes a record, and puts it behind those that are there. One that doesn't lie whole in the bytes that are here, since a read comes in
+// between, is gathered first in a body that holds one record at a time.
 fn read_record<R: Input>(
     input: &mut R,
     parts: &mut Vec<u8>,
@@ -62,11 +63,36 @@ fn read_record<R: Input>(
 ) -> Result<(), Unread>
     ensures { Adds R.Input input.old input.new records.old records.new result }
 {
+    if read_front(input, records)? {
+        return Ok(());
+    }
     let laid = lay(input, parts)?;
     let key = key_in(parts, laid);
     let value = &parts[laid.label_end..];
     records.push(key, laid.kind, value, laid.seq, laid.idx)?;
     Ok(())
+}
+
+// Takes the record that lies whole in the bytes that are here, and puts it behind those that are there. The answer is false where none
+// does; nothing is taken then.
+#[inline]
+fn read_front<R: Input>(input: &mut R, records: &mut Records) -> Result<bool, Unread>
+    ensures { AddsFront R.Input input.old input.new records.old records.new result }
+{
+    let front = input.front();
+    let Some((record, rest)) = record_in(front) else {
+        return Ok(false);
+    };
+    let count = front.len() - rest.len();
+    records.push(
+        record.key,
+        record.kind,
+        record.value,
+        record.seq,
+        record.idx,
+    )?;
+    input.consume(count);
+    Ok(true)
 }
 
 // The key of the record whose parts lie there.

@@ -12,6 +12,7 @@ ghost use Rattle.tab_image.specs.Conditions.{rises, is_short, is_few, is_sane_us
 
 use crate::byte_order::{ByBytes, rise};
 use crate::image::Image;
+use crate::known_labels::KnownLabels;
 use crate::known_users::KnownUsers;
 use crate::table::{ImageRight, ImageTable};
 use crate::user::ImageUser;
@@ -224,12 +225,14 @@ fn records_rise(records: &Records) -> bool
     true
 }
 
-// Whether each record is as it has to be. No part is too long, since `Records` hold no other ones.
+// Whether each record is as it has to be. No part is too long, since `Records` hold no other ones. A short label is judged once, as long
+// as no other one takes its place among those that are known.
 fn is_each_sane(nobody: &AuthSet, next: u64, records: &Records) -> bool
     ensures { result ≡ list_all (is_sane_record next) records.now }
 {
+    let mut known = KnownLabels::none();
     for index in 0..records.len() {
-        if !is_accepted(nobody, next, &records.get(index)) {
+        if !is_accepted(nobody, &mut known, next, &records.get(index)) {
             return false;
         }
     }
@@ -237,7 +240,7 @@ fn is_each_sane(nobody: &AuthSet, next: u64, records: &Records) -> bool
 }
 
 // Whether a record is of an accepted mutation, and has a label that is one; a marker has no value.
-fn is_accepted(nobody: &AuthSet, next: u64, record: &RecordRef<'_>) -> bool
+fn is_accepted(nobody: &AuthSet, known: &mut KnownLabels, next: u64, record: &RecordRef<'_>) -> bool
     ensures { result ≡ is_accepted next record.now }
 {
     if record.seq() >= next {
@@ -249,7 +252,24 @@ fn is_accepted(nobody: &AuthSet, next: u64, record: &RecordRef<'_>) -> bool
     if !record.kind().is_put() && !record.value().is_empty() {
         return false;
     }
-    is_label(nobody, record.label())
+    has_label(nobody, known, record)
+}
+
+// Whether the record's label is one, whoever may see it.
+fn has_label(nobody: &AuthSet, known: &mut KnownLabels, record: &RecordRef<'_>) -> bool
+    ensures { result ≡ is_ok (label_of record.now.key.label) }
+{
+    let Some(word) = record.label_word() else {
+        return is_label(nobody, record.label());
+    };
+    if known.has(word) {
+        return true;
+    }
+    if !is_label(nobody, record.label()) {
+        return false;
+    }
+    known.note(word);
+    true
 }
 
 // Whether the text is a label, whoever may see it.

@@ -1,0 +1,49 @@
+//! Labels that were judged, found again by their numbers.
+ghost use Rattle.std.specs.Prelude.{◌<◌, IsTrue};
+ghost use Rattle.tab_image.specs.KnownLabels.{SpellsLabel, AreLabels};
+
+/// How many numbers are remembered at most.
+const PLACES: usize = 256;
+
+/// For a few bits of a short label's number, the last number with these bits that was found to be a label's.
+///
+/// A label that isn't found here may be one all the same.
+#[derive(Drop)]
+pub(crate) struct KnownLabels {
+    words: [Option<u64>; PLACES],
+    ghost labels: { AreLabels words },
+}
+
+impl KnownLabels {
+    /// No labels.
+    pub(crate) fn none() -> KnownLabels {
+        KnownLabels {
+            words: [None; PLACES],
+        }
+    }
+
+    /// Whether the byte string of this number was found to be a label.
+    #[inline]
+    pub(crate) fn has(&self, word: u64) -> bool
+        ensures { IsTrue result → SpellsLabel word }
+    {
+        self.words[place_of(word)] == Some(word)
+    }
+
+    /// Remembers that the byte string of this number is a label.
+    #[inline]
+    #[tactic(auto, using(crate::proofs::KnownLabelLemmas::one_noted))]
+    pub(crate) fn note(&mut self, word: u64)
+        requires { SpellsLabel word }
+    {
+        self.words[place_of(word)] = Some(word);
+    }
+}
+
+// Eight bits, on which each of the number's has its say.
+#[inline]
+fn place_of(word: u64) -> usize
+    ensures { result < 256 }
+{
+    (word.wrapping_mul(0xBF58_476D_1CE4_E5B9) >> 56) as usize
+}
