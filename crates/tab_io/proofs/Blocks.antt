@@ -2,8 +2,8 @@
 use Rattle.std.proofs.Common.{◌≡◌, ℕ, ◌+◌, ◌-◌, ◌≤◌, List, [], ◌++◌, length, take, drop, slice_range, refl, sym, ap, ◌∙◌, subst, arith, append_assoc, append-nil, length-append, drop-drop, Option, Some, None, Result, Ok, Err, take-append-drop}
 use Rattle.std.specs.Io.KnownBytes.{Appends, Consumes, Keeps, prepend_known}
 use Rattle.std.proofs.KnownBytes.{Appends-kept}
-use Rattle.std.proofs.Math.Seq.{drop-length}
-use Rattle.std.proofs.lemmas.List.{take_all, drop-take, take-append-le, drop-append-le}
+use Rattle.std.proofs.Math.Seq.{drop-length, take-add}
+use Rattle.std.proofs.lemmas.List.{take_all, take_at, take-take, length-take-le, drop_at, drop-take, take-append-le, drop-append-le}
 use Rattle.tab_io.specs.Streams.{Gathers, GathersPart, Accepts, Drains}
 use Rattle.tab_io.proofs.Putting.{accepts_more}
 
@@ -12,6 +12,20 @@ pub range_later : (xs : List ℕ) (a e n : ℕ) → n ≤ e - a → slice_range 
 range_later xs a e n fits =
     let whole : n + (e - (a + n)) ≡ e - a = omega arith in
     ap (take (e - (a + n))) (sym (drop-drop n a xs)) ∙ sym (drop-take n (e - (a + n)) (drop a xs)) ∙ ap (λ k. drop n (take k (drop a xs))) whole
+
+-- a step of k bytes is copied into a block, and its first bytes join those before it
+pub step_taken : (xs items ys bs behind rest : List ℕ) (a n k size : ℕ) → xs ≡ items → ys ≡ take k bs → n ≤ k → k ≤ length bs → a ≤ length xs → a + n ≤ size
+    → take (a + n) (take size ((take a xs ++ (ys ++ behind)) ++ rest)) ≡ take a items ++ take n bs
+step_taken xs items ys bs behind rest a n k size same is few fits within room =
+    let more : List ℕ = behind ++ rest in
+    let whole : List ℕ = take a xs ++ (ys ++ more) in
+    let grouped : (take a xs ++ (ys ++ behind)) ++ rest ≡ whole = append_assoc (take a xs) (ys ++ behind) rest ∙ ap (λ t. take a xs ++ t) (append_assoc ys behind rest) in
+    let long : length ys ≡ k = ap length is ∙ length-take-le k bs fits in
+    let before : length (take a xs) ≡ a = length-take-le a xs within in
+    let first : take a whole ≡ take a items = take_at (take a xs) (ys ++ more) a before ∙ ap (take a) same in
+    let later : take n (drop a whole) ≡ take n bs =
+    ap (take n) (drop_at (take a xs) (ys ++ more) a before) ∙ take-append-le n ys more (omega (arith, long, few)) ∙ ap (take n) is ∙ take-take n k bs few in
+    take-take (a + n) size ((take a xs ++ (ys ++ behind)) ++ rest) room ∙ ap (take (a + n)) grouped ∙ take-add a n whole ∙ (λ i. first i ++ later i)
 
 -- of a block and what comes after it, the first bytes of the block are taken
 pub front_taken : (known : Option (List ℕ)) (front : List ℕ) (n : ℕ) → Consumes (prepend_known front known) (prepend_known (drop n front) known) (take n front)

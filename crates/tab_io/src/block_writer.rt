@@ -7,6 +7,10 @@ use crate::{BLOCK_LENGTH, Output, WriteFault};
 use std::alloc::{AllocError, Global};
 use std::io::Write;
 
+// How many bytes are copied at once of a piece that has no more, where as many lie behind its beginning: a copy of a fixed
+// length needs neither a call nor a branch by length.
+const STEP: usize = 32;
+
 /// An [`Output`] over any writer of std, with a block of [`BLOCK_LENGTH`] bytes.
 ///
 /// Bytes are gathered until the block is full, and then written. Bytes that no block holds are written straight from
@@ -63,6 +67,20 @@ impl<W: Write> BlockWriter<W> {
         self.end = end;
     }
 
+    // Copies one step, of which the first `count` bytes are gathered. What is copied behind these lies where the next bytes go.
+    #[inline]
+    fn gather_step(&mut self, bytes: &[u8], count: usize)
+        requires count { count ≤ 32 }
+        requires bytes { 32 ≤ length bytes.now }
+        requires room { self.old.end + 32 ≤ length self.old.block.items }
+        ensures block { take self.new.end self.new.block.items ≡ take self.old.end self.old.block.items ++ take count bytes.now }
+        ensures start { self.new.start ≡ self.old.start }
+        ensures sink { self.new.sink ≡ self.old.sink }
+    {
+        self.block[self.end..self.end + STEP].copy_from_slice(&first_step(bytes));
+        self.end += count;
+    }
+
     // What a write that stopped leaves unwritten stays in the block.
     fn write_block(&mut self) -> Result<(), WriteFault>
         ensures bytes { Drains (W.contents self.old.sink.inner) (drop self.old.start (take self.old.end self.old.block.items)) (W.contents self.new.sink.inner) (drop self.new.start (take self.new.end self.new.block.items)) result }
@@ -95,6 +113,16 @@ impl<W: Write> BlockWriter<W> {
         }
     }
 
+    // A piece that isn't gathered in one step. It is a call of its own: so what gathers one is small, and stands in line wherever
+    // pieces are put.
+    #[inline(never)]
+    fn put_apart(&mut self, bytes: &[u8]) -> Result<(), WriteFault>
+        ensures bytes { Accepts (W.contents self.old.sink.inner) (drop self.old.start (take self.old.end self.old.block.items)) (W.contents self.new.sink.inner) (drop self.new.start (take self.new.end self.new.block.items)) bytes.now result }
+        ensures faults { FailsByFault result self.old.sink.faults self.new.sink.faults self.new.sink.budget }
+    {
+        self.put(bytes)
+    }
+
     // The block has no room for these bytes.
     #[cold]
     #[inline(never)]
@@ -110,6 +138,17 @@ impl<W: Write> BlockWriter<W> {
         }
         self.write_straight(bytes)
     }
+}
+
+// The first bytes by themselves: that they lie apart from the block needn't be asked when they are copied on.
+#[inline]
+fn first_step(bytes: &[u8]) -> [u8; STEP]
+    requires { 32 ≤ length bytes.now }
+    ensures { result ≡ take 32 bytes.now }
+{
+    let mut step = [0; STEP];
+    step.copy_from_slice(&bytes[..STEP]);
+    step
 }
 
 impl<W: Write> Output for BlockWriter<W> {
@@ -130,6 +169,15 @@ impl<W: Write> Output for BlockWriter<W> {
             return Ok(());
         }
         self.put_after_block(bytes)
+    }
+
+    #[inline]
+    fn put_front(&mut self, bytes: &[u8], count: usize) -> Result<(), WriteFault> {
+        if count <= STEP && STEP <= bytes.len() && STEP <= self.block.len() - self.end {
+            self.gather_step(bytes, count);
+            return Ok(());
+        }
+        self.put_apart(&bytes[..count])
     }
 
     fn flush(&mut self) -> Result<(), WriteFault> {
