@@ -3,7 +3,7 @@ ghost use Rattle.std.specs.Prelude.{◌≡◌};
 ghost use Rattle.tab_key.specs.KeyOf.{key_of};
 ghost use Rattle.tab_key.specs.Records.{cell_of};
 
-use crate::{Key, RecordRef};
+use crate::{Key, Piece, RecordRef};
 use std::marker::Model;
 
 /// What a scan shows of a put, lent: its key and its value.
@@ -59,6 +59,7 @@ impl<'a> CellRef<'a> {
     }
 
     /// The timestamp.
+    #[inline]
     pub fn timestamp(&self) -> i64
         ensures { result ≡ self.now.key.timestamp }
     {
@@ -70,6 +71,46 @@ impl<'a> CellRef<'a> {
         ensures { result.now ≡ self.now.value }
     {
         self.record.value()
+    }
+
+    /// The row, as a piece of a longer byte string.
+    #[inline]
+    pub fn row_piece(&self) -> Piece<'a>
+        ensures { result ≡ self.now.key.row }
+    {
+        self.record.row_piece()
+    }
+
+    /// The column family, as a piece of a longer byte string.
+    #[inline]
+    pub fn family_piece(&self) -> Piece<'a>
+        ensures { result ≡ self.now.key.family }
+    {
+        self.record.family_piece()
+    }
+
+    /// The column qualifier, as a piece of a longer byte string.
+    #[inline]
+    pub fn qualifier_piece(&self) -> Piece<'a>
+        ensures { result ≡ self.now.key.qualifier }
+    {
+        self.record.qualifier_piece()
+    }
+
+    /// The label, as a piece of a longer byte string.
+    #[inline]
+    pub fn label_piece(&self) -> Piece<'a>
+        ensures { result ≡ self.now.key.label }
+    {
+        self.record.label_piece()
+    }
+
+    /// The value, as a piece of a longer byte string.
+    #[inline]
+    pub fn value_piece(&self) -> Piece<'a>
+        ensures { result ≡ self.now.value }
+    {
+        self.record.value_piece()
     }
 
     /// The key, lent for as long as the cell is.

@@ -8,6 +8,7 @@
 //! | `part` | parts of an event that have a limit, and the limits |
 //! | `key` | a key, lent, and the order of keys |
 //! | `encoding`, `record_span` | how a record lies in a body of bytes: how it is put there, and where its parts are |
+//! | `piece` | a byte string that lies in a longer one |
 //! | `record`, `record_ref` | a record in a body of its own, and one lent from a body; their order |
 //! | `cell`, `cells` | what a scan shows of a put, and a list of such cells |
 //! | `column`, `range` | what a scan asks for |
@@ -45,6 +46,7 @@ mod key;
 pub mod laws;
 mod name;
 mod part;
+mod piece;
 mod prefix;
 mod range;
 mod record;
@@ -65,6 +67,7 @@ pub use part::{
     MAX_AUTHORIZATION_LEN, MAX_AUTHORIZATIONS, MAX_COLUMNS, MAX_LABEL_DEPTH, MAX_OPENED,
     MAX_PART_LEN, MAX_RANGES, MAX_SESSIONS, MAX_UPDATES, MAX_VERSIONS, Part,
 };
+pub use piece::Piece;
 pub use prefix::row_prefix;
 pub use range::{BadRange, Bound, Bounds, Range, is_bad_range};
 pub use record::Record;

@@ -9,7 +9,7 @@ ghost use Rattle.tab_key.specs.Words.{IsWord, mark_of};
 
 use crate::encoding::{bytes_of, span_of};
 use crate::word::{mark_between, word_between};
-use crate::{Key, Kind};
+use crate::{Key, Kind, Piece};
 use std::cmp::Ordering;
 use std::marker::Model;
 
@@ -156,6 +156,51 @@ impl<'a> RecordRef<'a> {
             label: &self.body[span.qualifier_end..span.label_end],
             timestamp: span.timestamp,
         }
+    }
+
+    /// The row, as a piece of the body.
+    #[inline]
+    pub fn row_piece(&self) -> Piece<'a>
+        ensures { result ≡ self.now.key.row }
+    {
+        let span = span_of(self.body, self.place);
+        Piece::between(self.body, span.start, span.row_end)
+    }
+
+    /// The column family, as a piece of the body.
+    #[inline]
+    pub fn family_piece(&self) -> Piece<'a>
+        ensures { result ≡ self.now.key.family }
+    {
+        let span = span_of(self.body, self.place);
+        Piece::between(self.body, span.row_end, span.family_end)
+    }
+
+    /// The column qualifier, as a piece of the body.
+    #[inline]
+    pub fn qualifier_piece(&self) -> Piece<'a>
+        ensures { result ≡ self.now.key.qualifier }
+    {
+        let span = span_of(self.body, self.place);
+        Piece::between(self.body, span.family_end, span.qualifier_end)
+    }
+
+    /// The label, as a piece of the body.
+    #[inline]
+    pub fn label_piece(&self) -> Piece<'a>
+        ensures { result ≡ self.now.key.label }
+    {
+        let span = span_of(self.body, self.place);
+        Piece::between(self.body, span.qualifier_end, span.label_end)
+    }
+
+    /// The value, as a piece of the body; a marker has none.
+    #[inline]
+    pub fn value_piece(&self) -> Piece<'a>
+        ensures { result ≡ self.now.value }
+    {
+        let span = span_of(self.body, self.place);
+        Piece::between(self.body, span.label_end, span.end)
     }
 
     /// The order of keys, and a marker before a put.
