@@ -5,28 +5,31 @@ ghost use Rattle.std.specs.Prelude.{◌≡◌, ◌%◌, ◌^◌, ◌++◌, ◌�
 ghost use Rattle.tab_io.specs.Writing.{Puts};
 ghost use Rattle.tab_wire.specs.Replies.{u32, i64, field, cell_frame, cell_fields};
 
-use crate::numbers::{low, put_field};
+use crate::numbers::{low, put_length};
 use std::marker::Model;
 use tab_io::{Output, WriteFault};
-use tab_key::{CellRef, Key};
+use tab_key::{CellRef, Piece};
 
 // The bytes of a cell's frame besides its five byte strings, without the length of the frame: the opcode, five lengths and the timestamp.
 const FIXED_LEN: u32 = 29;
 
-// What a cell shows, lent: where its parts lie is read once for all of them.
+// What a cell shows, lent: where its parts lie is read once for all of them, and what lies behind each may be read too.
 #[derive(Drop)]
 struct CellParts<'a> {
-    key: Key<'a>,
-    value: &'a [u8],
+    row: Piece<'a>,
+    family: Piece<'a>,
+    qualifier: Piece<'a>,
+    label: Piece<'a>,
+    timestamp: i64,
+    value: Piece<'a>,
 }
 
 impl<'a> Model for CellParts<'a> {
     ghost use Rattle.tab_key.specs.Records.{Cell as Fields};
-    ghost use Rattle.tab_key.specs.KeyOf.{key_of};
 
     ghost Value = { Fields };
 
-    ghost view = { λ p. record { key = key_of p.key; value = p.value.now } };
+    ghost view = { λ p. record { key = record { row = p.row; family = p.family; qualifier = p.qualifier; label = p.label; timestamp = p.timestamp }; value = p.value } };
 }
 
 impl<'a> CellParts<'a> {
@@ -34,45 +37,49 @@ impl<'a> CellParts<'a> {
         ensures { result ≡ cell.now }
     {
         CellParts {
-            key: cell.key(),
-            value: cell.value(),
+            row: cell.row_piece(),
+            family: cell.family_piece(),
+            qualifier: cell.qualifier_piece(),
+            label: cell.label_piece(),
+            timestamp: cell.timestamp(),
+            value: cell.value_piece(),
         }
     }
 
-    fn row(&self) -> &'a [u8]
+    fn row(&self) -> &Piece<'a>
         ensures { result.now ≡ self.now.key.row }
     {
-        self.key.row
+        &self.row
     }
 
-    fn family(&self) -> &'a [u8]
+    fn family(&self) -> &Piece<'a>
         ensures { result.now ≡ self.now.key.family }
     {
-        self.key.family
+        &self.family
     }
 
-    fn qualifier(&self) -> &'a [u8]
+    fn qualifier(&self) -> &Piece<'a>
         ensures { result.now ≡ self.now.key.qualifier }
     {
-        self.key.qualifier
+        &self.qualifier
     }
 
-    fn label(&self) -> &'a [u8]
+    fn label(&self) -> &Piece<'a>
         ensures { result.now ≡ self.now.key.label }
     {
-        self.key.label
+        &self.label
     }
 
     fn timestamp(&self) -> i64
         ensures { result ≡ self.now.key.timestamp }
     {
-        self.key.timestamp
+        self.timestamp
     }
 
-    fn value(&self) -> &'a [u8]
+    fn value(&self) -> &Piece<'a>
         ensures { result.now ≡ self.now.value }
     {
-        self.value
+        &self.value
     }
 }
 
@@ -125,28 +132,28 @@ fn head_of(length: u32) -> [u8; 5]
 fn put_fields<W: Output>(output: &mut W, cell: &CellParts<'_>) -> Result<(), WriteFault>
     ensures { Puts W.Output output.old output.new (cell_fields cell.now) result }
 {
-    put_field(output, cell.row())?;
+    put_piece(output, cell.row())?;
     put_behind_row(output, cell)
 }
 
 fn put_behind_row<W: Output>(output: &mut W, cell: &CellParts<'_>) -> Result<(), WriteFault>
     ensures { Puts W.Output output.old output.new (field cell.now.key.family ++ (field cell.now.key.qualifier ++ (field cell.now.key.label ++ (i64 cell.now.key.timestamp ++ field cell.now.value)))) result }
 {
-    put_field(output, cell.family())?;
+    put_piece(output, cell.family())?;
     put_behind_family(output, cell)
 }
 
 fn put_behind_family<W: Output>(output: &mut W, cell: &CellParts<'_>) -> Result<(), WriteFault>
     ensures { Puts W.Output output.old output.new (field cell.now.key.qualifier ++ (field cell.now.key.label ++ (i64 cell.now.key.timestamp ++ field cell.now.value))) result }
 {
-    put_field(output, cell.qualifier())?;
+    put_piece(output, cell.qualifier())?;
     put_behind_qualifier(output, cell)
 }
 
 fn put_behind_qualifier<W: Output>(output: &mut W, cell: &CellParts<'_>) -> Result<(), WriteFault>
     ensures { Puts W.Output output.old output.new (field cell.now.key.label ++ (i64 cell.now.key.timestamp ++ field cell.now.value)) result }
 {
-    put_field(output, cell.label())?;
+    put_piece(output, cell.label())?;
     put_behind_label(output, cell)
 }
 
@@ -177,5 +184,19 @@ fn before_value(timestamp: i64, length: u32) -> [u8; 12]
 fn put_value<W: Output>(output: &mut W, cell: &CellParts<'_>) -> Result<(), WriteFault>
     ensures { Puts W.Output output.old output.new cell.now.value result }
 {
-    output.put(cell.value())
+    put_bytes(output, cell.value())
+}
+
+// Puts a piece as a field: its length, and its bytes.
+fn put_piece<W: Output>(output: &mut W, piece: &Piece<'_>) -> Result<(), WriteFault>
+    ensures { Puts W.Output output.old output.new (field piece.now) result }
+{
+    put_length(output, piece.len())?;
+    put_bytes(output, piece)
+}
+
+fn put_bytes<W: Output>(output: &mut W, piece: &Piece<'_>) -> Result<(), WriteFault>
+    ensures { Puts W.Output output.old output.new piece.now result }
+{
+    output.put_front(piece.onward(), piece.len())
 }

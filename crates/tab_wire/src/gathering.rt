@@ -63,6 +63,10 @@ impl Output for Gathering {
         }
     }
 
+    fn put_front(&mut self, bytes: &[u8], count: usize) -> Result<(), WriteFault> {
+        self.put(&bytes[..count])
+    }
+
     fn flush(&mut self) -> Result<(), WriteFault> {
         Ok(())
     }

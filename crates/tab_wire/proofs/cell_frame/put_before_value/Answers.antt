@@ -8,7 +8,7 @@ use Rattle.tab_wire.proofs.cell_frame.put_before_value.Goals as goal
 pub returns : goal.returns
 returns g c =
     let cell = c.args.cell.now in
-    let long : u32 c.low.result ≡ u32 (length cell.value) = ap u32 (c.low.ensures ∙ ap (λ xs. length xs % 2 ^ 32) c.value.ensures) ∙ low_bytes (length cell.value) in
+    let long : u32 c.low.result ≡ u32 (length cell.value) = ap u32 (c.low.ensures ∙ ap (λ n. n % 2 ^ 32) (c.len.ensures ∙ ap length c.value.ensures)) ∙ low_bytes (length cell.value) in
     let trip : to_z w64 (of_z w64 c.timestamp.result) ≡ c.timestamp.result = search rules in
     let same : c.before_value.result ≡ i64 cell.key.timestamp ++ u32 (length cell.value) =
     c.before_value.ensures ∙ (λ i. i64 ((trip ∙ c.timestamp.ensures) i) ++ long i) in

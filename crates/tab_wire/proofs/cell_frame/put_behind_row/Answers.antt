@@ -5,9 +5,9 @@ use Rattle.tab_wire.specs.Replies.{i64, field}
 use Rattle.tab_wire.proofs.cell_frame.put_behind_row.Goals as goal
 
 pub returns : goal.returns
-returns g c = puts_more g.W.Output c.args.output.now c.put_field.new.output c.put_behind_family.new.output (field c.args.cell.now.key.family) (field c.args.cell.now.key.qualifier ++ (field c.args.cell.now.key.label ++ (i64 c.args.cell.now.key.timestamp ++ field c.args.cell.now.value))) c.put_behind_family.result (subst (λ (t : List ℕ). HasPut g.W.Output c.args.output.now c.put_field.new.output (field t)) c.family.ensures c.in_ok-put_field.ensures) c.put_behind_family.ensures
+returns g c = puts_more g.W.Output c.args.output.now c.put_piece.new.output c.put_behind_family.new.output (field c.args.cell.now.key.family) (field c.args.cell.now.key.qualifier ++ (field c.args.cell.now.key.label ++ (i64 c.args.cell.now.key.timestamp ++ field c.args.cell.now.value))) c.put_behind_family.result (subst (λ (t : List ℕ). HasPut g.W.Output c.args.output.now c.put_piece.new.output (field t)) c.family.ensures c.in_ok-put_piece.ensures) c.put_behind_family.ensures
 
-pub returns-in_err-put_field : goal.returns-in_err-put_field
-returns-in_err-put_field g c =
-    let part : HasPutPart g.W.Output c.args.output.now c.put_field.new.output ((field c.args.cell.now.key.family) ++ (field c.args.cell.now.key.qualifier ++ (field c.args.cell.now.key.label ++ (i64 c.args.cell.now.key.timestamp ++ field c.args.cell.now.value)))) = part_longer {t = field c.args.cell.now.key.family} (field c.args.cell.now.key.qualifier ++ (field c.args.cell.now.key.label ++ (i64 c.args.cell.now.key.timestamp ++ field c.args.cell.now.value))) (subst (λ (t : List ℕ). HasPutPart g.W.Output c.args.output.now c.put_field.new.output (field t)) c.family.ensures c.in_err-put_field.ensures) in
+pub returns-in_err-put_piece : goal.returns-in_err-put_piece
+returns-in_err-put_piece g c =
+    let part : HasPutPart g.W.Output c.args.output.now c.put_piece.new.output ((field c.args.cell.now.key.family) ++ (field c.args.cell.now.key.qualifier ++ (field c.args.cell.now.key.label ++ (i64 c.args.cell.now.key.timestamp ++ field c.args.cell.now.value)))) = part_longer {t = field c.args.cell.now.key.family} (field c.args.cell.now.key.qualifier ++ (field c.args.cell.now.key.label ++ (i64 c.args.cell.now.key.timestamp ++ field c.args.cell.now.value))) (subst (λ (t : List ℕ). HasPutPart g.W.Output c.args.output.now c.put_piece.new.output (field t)) c.family.ensures c.in_err-put_piece.ensures) in
     search (rules, part)
