@@ -121,6 +121,21 @@ printf 'save again.image\n' | "$program" script --image whole.image >out
 cmp -s whole.image again.image
 count 'what is loaded is saved as it was' $?
 
+# An image of many blocks: more short labels than a load remembers, long ones, and a value longer than a block.
+python3 - >many <<'.'
+print("setauths root L1,L2,a_long_label\ncreatetable many")
+for number in range(3000):
+    label = f"L{number % 1000}" if number % 3 else "a_long_label&L1"
+    print(f"insert many row{number:04} f q {label} {'v' * (1 + number % 90)}")
+print(f"insert many z f q L1 {'w' * 200_000}\nsave many.image")
+.
+cat many <(printf 'scan many L1,L2,a_long_label\n') | "$program" script | tail -n +3005 >before
+printf 'load many.image\nsave again.image\nscan many L1,L2,a_long_label\n' | "$program" script | tail -n +3 >after
+[ "$(wc -l <before)" -gt 1000 ] && cmp -s before after && cmp -s many.image again.image
+count 'an image of many blocks and labels comes back' $?
+python3 -c 'i = open("many.image", "rb").read(); at = i.rindex(b"\0\0\0\2L1"); open("unlabelled", "wb").write(i[:at + 5] + b"&" + i[at + 6:])'
+answers 'a record without a label far behind others' 'load unlabelled\nscan t \\0\n' 'fault load bad\nr f q \\e 5 v\nend\n' --image one
+
 # ---- Random scripts in which a store is saved and loaded anywhere: nothing is answered otherwise than by the store that was only saved.
 # A loaded store has its records in other tables: so a tablet is split in its middle whatever its size, and where no record was dropped.
 lines() { # NUMBER
