@@ -10,7 +10,7 @@
 Usage: bench/compactors.py [--writes N] [--turns N] [--batch N] [--seconds N] [--compactors N,N,..] [--rounds N] [--plain] [--ahead]
        (from anywhere; builds the program if it isn't built)
   --plain: 1 and 2 of a plain Rust server too (server/plain.rs, a map under a lock), whose Nexts wait for the same scheduler; and what
-           the machine alone makes of requests that take as long as a Next (compactors/echo.rs)
+           the machine alone makes of requests that take as long as a Next (compactors/echo.rs), beside such writes and alone
   --ahead: all that is measured runs in the real-time class, ahead of the machine's other work (wants root). Without it the slowest
            Next is mostly how long the scheduler let something else run.
   TABD in the environment: another built program, measured in place of this folder's
@@ -118,7 +118,14 @@ def nexts(reader, port, asked):
     return [int(nanoseconds) / 1e9 for nanoseconds, cells in pairs if int(cells) == asked.batch]
 
 
-def measure(program, reader, compactors, asked):
+def floor(echo, took, asked):
+    """The seconds of each reply of a server that only watches the clock for about as long as a Next took, and writes as many bytes."""
+    # the rest of a Next is the way of its bytes
+    told = subprocess.run([echo, str(0.7e6 * took), str(64 * asked.batch), str(asked.seconds)], stdout=subprocess.PIPE, text=True, check=True).stdout
+    return [int(line) / 1e9 for line in told.split()]
+
+
+def measure(program, work, compactors, asked):
     """What is told of a new server with so many compactors; where that is none, of the plain server, which knows no more than 1 and 2."""
     with socket.create_server(("127.0.0.1", 0)) as listener:
         port = listener.getsockname()[1]
@@ -138,12 +145,14 @@ def measure(program, reader, compactors, asked):
         for block in blocks(b"u", 2, READ, 1):
             one.write(block)
         time.sleep(0.5)
-        told["alone"] = nexts(reader, port, asked)
+        told["alone"] = nexts(f"{work}/reader", port, asked)
         ready, stop = multiprocessing.Event(), multiprocessing.Event()
         beside = multiprocessing.Process(target=write_on, args=(port, blocks(b"t", 3, asked.writes, 2), ready, stop))
         beside.start()
         ready.wait()
-        told["beside"] = nexts(reader, port, asked)
+        told["beside"] = nexts(f"{work}/reader", port, asked)
+        if asked.plain:
+            told["echo beside"] = floor(f"{work}/echo", median(told["alone"]), asked)
         stop.set()
         beside.join()
         if compactors is None:
@@ -162,29 +171,25 @@ def measure(program, reader, compactors, asked):
         server.wait()
 
 
+def show_slowest(name, rounds, asked):
+    """The slowest of all, and what each round's slowest is to its own median."""
+    times = sorted(seconds for told in rounds for seconds in told)
+    ratios = [max(told) / median(told) for told in rounds]
+    print(f"  {len(times):6} Nexts of {asked.batch} {name:11} median {median(times) * 1e6:6.0f} µs   slowest {times[-1] * 1e6:6.0f} µs, the next {times[-2] * 1e6:6.0f} µs   slowest to median, by rounds {' '.join(f'{ratio:.1f}' for ratio in ratios)}")
+
+
 def show(compactors, rounds, first, asked):
     """What was measured with so many compactors: medians over the rounds, and of Nexts all of them together."""
     print("plain server" if compactors is None else f"compactors {compactors}")
     speeds = [of_first["writes"] / told["writes"] for of_first, told in zip(first, rounds)]
     print(f"  {asked.writes} writes     {median(told['writes'] for told in rounds):7.3f} s, of the processor {median(told['used'] for told in rounds):7.3f} s   speed to that of the first {median(speeds):.2f} ({min(speeds):.2f} to {max(speeds):.2f})   tablets, sources, records {rounds[-1]['sources']}")
-    for name in ("alone", "beside"):
-        times = sorted(seconds for told in rounds for seconds in told[name])
-        ratios = [max(told[name]) / median(told[name]) for told in rounds]
-        print(f"  {len(times):6} Nexts of {asked.batch} {name:6} median {median(times) * 1e6:6.0f} µs   slowest {times[-1] * 1e6:6.0f} µs, the next {times[-2] * 1e6:6.0f} µs   slowest to median, by rounds {' '.join(f'{ratio:.1f}' for ratio in ratios)}")
+    for name in ("alone", "beside", "echo beside"):
+        if name in rounds[0]:
+            show_slowest(name, [told[name] for told in rounds], asked)
     if compactors is None:
         return
     tenths = [median(tenth) for tenth in zip(*(told["turns"] for told in rounds))]
     print(f"  {asked.turns} in turn    first tenth {tenths[0]:.3f} s, last {tenths[-1]:.3f} s   ratio {tenths[-1] / tenths[0]:.2f}   tablets, sources, records {rounds[-1]['left']}", flush=True)
-
-
-def echo(work, micros, asked):
-    """Tells what the machine makes of replies of a batch's length for which so many microseconds are worked."""
-    subprocess.run(["rustc", "--edition=2021", "-O", "-o", f"{work}/echo", TOP / "bench/compactors/echo.rs"], check=True)
-    print(f"an echo server that works for {micros:.0f} µs, nothing beside")
-    told = [subprocess.run([f"{work}/echo", str(micros), str(64 * asked.batch), str(asked.seconds)], stdout=subprocess.PIPE, text=True, check=True).stdout for _ in range(asked.rounds)]
-    rounds = [sorted(int(line) / 1e3 for line in one.split()) for one in told]
-    for times in rounds:
-        print(f"  {len(times):6} replies of {64 * asked.batch} bytes   median {median(times):6.0f} µs   slowest {times[-1]:6.0f} µs   slowest to median {times[-1] / median(times):.1f}")
 
 
 def main():
@@ -204,19 +209,21 @@ def main():
         program = str(TOP / "crates/tabd/out/tabd")
     numbers = [int(number) for number in asked.compactors.split(",")]
     with tempfile.TemporaryDirectory() as work:
-        subprocess.run(["rustc", "--edition=2021", "-O", "-o", f"{work}/reader", TOP / "bench/compactors/reader.rs"], check=True)
+        for helper in ("reader", "echo"):
+            subprocess.run(["rustc", "--edition=2021", "-O", "-o", f"{work}/{helper}", TOP / f"bench/compactors/{helper}.rs"], check=True)
         programs = {number: program for number in numbers}
         if asked.plain:
             programs[None] = f"{work}/plain"
             subprocess.run(["rustc", "--edition=2021", "-O", "-o", programs[None], TOP / "bench/server/plain.rs"], check=True)
         if asked.ahead:
             os.sched_setscheduler(0, os.SCHED_FIFO, os.sched_param(1))
-        rounds = [{number: measure(one, f"{work}/reader", number, asked) for number, one in programs.items()} for _ in range(asked.rounds)]
+        rounds = [{number: measure(one, work, number, asked) for number, one in programs.items()} for _ in range(asked.rounds)]
         for number in programs:
             show(number, [told[number] for told in rounds], [told[numbers[0]] for told in rounds], asked)
         if asked.plain:
-            # the rest of a Next is the way of its bytes
-            echo(work, 0.7e6 * median(rounds[0][numbers[0]]["alone"]), asked)
+            print("an echo server, nothing beside")
+            took = median(rounds[0][numbers[0]]["alone"])
+            show_slowest("echo alone", [floor(f"{work}/echo", took, asked) for _ in range(asked.rounds)], asked)
 
 
 main()
