@@ -14,7 +14,7 @@ clone() { # NAME
 
 clone launcher && clone chain
 echo "$(nproc) processors, $(git -C "$work/launcher" log -1 --format=%h)"
-echo -n 'launcher: '
-time "$work/launcher/tabd" --version >"$work/launcher.log" 2>&1
-echo -n 'one crate after another: '
-(cd "$work/chain/crates/tabd" && time rt run -- --version >"$work/chain.log" 2>&1)
+echo 'the launcher:'
+time "$work/launcher/tabd" --version >"$work/launcher.log" 2>&1 || echo "it failed: $work/launcher.log"
+echo 'one crate after another:'
+cd "$work/chain/crates/tabd" && time rt run -- --version >"$work/chain.log" 2>&1 || echo "it failed: $work/chain.log"
