@@ -1,5 +1,5 @@
 -- Short labels, noted and found again.
-use Rattle.std.proofs.Common.{◌≡◌, ℕ, ◌<◌, true, List, length, get_or, sym, subst, ap, ◌∙◌, set, replicate, arith}
+use Rattle.std.proofs.Common.{◌≡◌, ℕ, ◌<◌, true, List, sym, subst, ap, ◌∙◌, set, replicate, arith}
 use Rattle.std.specs.Prelude.{Option, Some, None, is_ok}
 use Rattle.std.proofs.lemmas.List.{get_or-replicate, length-replicate}
 use Rattle.std.proofs.lemmas.List.Elements.{All-set}
@@ -23,9 +23,6 @@ noted word h other e = subst SpellsLabel (some_inj word other e) h
 
 pub one_noted : (words new : List (Option ℕ)) (i word : ℕ) → new ≡ set words i (Some word) → SpellsLabel word → AreLabels words → AreLabels new
 one_noted words new i word e h all = subst AreLabels (sym e) (All-set IsKnown words i (Some word) (noted word h) all)
-
-pub found : (words : List (Option ℕ)) (k : ℕ) (o : Option ℕ) (word : ℕ) → k < length words → o ≡ get_or words k o → o ≡ Some word → AreLabels words → SpellsLabel word
-found words k o word lt is some all = all k o lt word (sym is ∙ some)
 
 -- a label is known by its number
 pub by_word : (word : ℕ) (label : List ℕ) → IsWord word label → is_ok (label_of label) ≡ true → SpellsLabel word

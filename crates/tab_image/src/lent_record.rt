@@ -19,7 +19,8 @@ pub(crate) struct LentRecord<'a> {
     pub(crate) idx: u32,
 }
 
-/// The record with which the bytes begin, and the bytes behind it. None says that they don't hold one whole.
+/// The record with which the bytes begin, and the bytes behind it. None is told where they don't hold one whole, and no clause relies on
+/// that: what stands there is then read piece by piece, which decides whether it is a record.
 pub(crate) fn record_in(bytes: &[u8]) -> Option<(LentRecord<'_>, &[u8])>
     ensures record { IfSome result (λ x. Begins bytes.now (lent_record x.0) x.1.now) }
     ensures short { IfSome result (λ x. IsShort (lent_record x.0)) }
@@ -50,7 +51,7 @@ pub(crate) fn record_in(bytes: &[u8]) -> Option<(LentRecord<'_>, &[u8])>
     Some((record, rest))
 }
 
-// Each of these gives what stands at the front of the bytes, and the bytes behind it.
+// Each of these gives what stands at the front of the bytes, and the bytes behind it; None where it doesn't stand there whole.
 
 #[inline]
 #[tactic(auto, unfolding(tab_parts::specs::Reading::u32_at))]
