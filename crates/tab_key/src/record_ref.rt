@@ -255,6 +255,16 @@ impl<'a> RecordRef<'a> {
         &self.body[span.start..span.label_end]
     }
 
+    /// Row, family, qualifier and label, one after another, as a piece of the body.
+    #[inline]
+    #[tactic(auto, using(crate::proofs::Columns::four_parts))]
+    pub fn column_piece(&self) -> Piece<'a>
+        ensures { result ≡ self.now.key.row ++ self.now.key.family ++ self.now.key.qualifier ++ self.now.key.label }
+    {
+        let span = span_of(self.body, self.place);
+        Piece::between(self.body, span.start, span.label_end)
+    }
+
     /// The number that the last eight bytes of row, family and qualifier spell, or 0 where these have fewer. Where it differs the
     /// records are of different columns; it is read at once, however long the parts are.
     #[inline]
