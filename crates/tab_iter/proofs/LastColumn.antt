@@ -1,10 +1,11 @@
 -- A remembered column: its parts in one piece, and the zero byte behind its label.
-use Rattle.std.proofs.Common.{◌≡◌, ◌≢◌, ℕ, ◌+◌, ◌-◌, ◌≤◌, List, [], ◌∷◌, ◌++◌, refl, sym, ◌∙◌, ap, length, drop, arith, length-drop}
+use Rattle.std.proofs.Common.{◌≡◌, ◌≢◌, ℕ, ◌+◌, ◌-◌, ◌≤◌, ◌<◌, List, [], ◌∷◌, ◌++◌, refl, sym, ◌∙◌, ap, length, take, drop, set, replicate, arith, length-drop, length-append}
 use Rattle.std.specs.Prelude.{Option, Some, None, true, false, bytes_eq, ◌&&◌}
 use Rattle.std.specs.Cmp.{first_so, second_so}
 use Rattle.std.specs.Cmp.Lexicographic.{bytes_decides}
 use Rattle.std.specs.List.{slice_range}
-use Rattle.std.proofs.lemmas.List.{take_all, length-take-le}
+use Rattle.std.proofs.Math.Seq.{take-add}
+use Rattle.std.proofs.lemmas.List.{take_all, take_at, drop_at, take-take, take-append-le, take_more_set, length-take-le}
 use Rattle.std.proofs.lemmas.List.Folds.{drop_split}
 use Rattle.tab_key.specs.Kept.{same_column}
 use Rattle.tab_key.specs.Records.{Key}
@@ -20,6 +21,22 @@ pub label_behind : (body : List ℕ) (e : ColumnEnds) → AreEnds body e → sli
 label_behind body e are =
     take_all (length body - e.qualifier) (drop e.qualifier body) (omega (arith, length-drop e.qualifier body))
     ∙ drop_split body e.qualifier e.label are.qualifier ∙ ap (λ z. slice_range body e.qualifier e.label ++ z) are.behind
+
+-- what one step puts at the beginning, and the zero byte that goes over the step
+pub step_put : (bytes rest : List ℕ) (n : ℕ) → n < 64 → 64 ≤ length bytes → take (n + 1) (set (take 64 bytes ++ rest) n 0) ≡ take n bytes ++ 0 ∷ []
+step_put bytes rest n few fits =
+    let long : length (take 64 bytes) ≡ 64 = length-take-le 64 bytes fits in
+    let within : n < length (take 64 bytes ++ rest) = omega (arith, few, long, length-append (take 64 bytes) rest) in
+    take_more_set (take 64 bytes ++ rest) n 0 within
+    ∙ ap (λ t. t ++ 0 ∷ []) (take-append-le n (take 64 bytes) rest (omega (arith, long, few)) ∙ take-take n 64 bytes (omega (arith, few)))
+
+-- zeros behind some bytes: the first one
+pub zeros_behind : (bytes : List ℕ) → take (length bytes + 1) (bytes ++ replicate 64 0) ≡ bytes ++ 0 ∷ []
+zeros_behind bytes =
+    let zeros : List ℕ = replicate 64 0 in
+    let front : take (length bytes) (bytes ++ zeros) ≡ bytes = take_at bytes zeros (length bytes) refl in
+    let behind : take 1 (drop (length bytes) (bytes ++ zeros)) ≡ 0 ∷ [] = ap (take 1) (drop_at bytes zeros (length bytes) refl) in
+    take-add (length bytes) 1 (bytes ++ zeros) ∙ (λ i. front i ++ behind i)
 
 -- ---- a column that lies there
 upto : (body : List ℕ) (e : ColumnEnds) → AreEnds body e → length body ≡ e.label + 1

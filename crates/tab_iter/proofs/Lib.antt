@@ -15,3 +15,4 @@ pub mod MergeLaws
 pub mod Steps
 pub mod Orders
 pub mod Verdicts
+pub mod KnownVerdicts

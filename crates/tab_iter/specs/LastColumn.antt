@@ -1,5 +1,5 @@
 -- A remembered column in a body of bytes.
-use Rattle.std.specs.Prelude.{◌≡◌, ℕ, ◌≤◌, List, [], ◌∷◌, ◌++◌, Option, Some, None, drop}
+use Rattle.std.specs.Prelude.{◌≡◌, ℕ, ◌+◌, ◌≤◌, List, [], ◌∷◌, ◌++◌, Option, Some, None, drop, take}
 use Rattle.std.specs.List.{slice_range}
 use Rattle.tab_key.specs.Records.{Key}
 use Rattle.tab_key.specs.Words.{mark_of}
@@ -16,12 +16,16 @@ parts_in body e = record {
   timestamp = latest;
 }
 
--- .. if there is one
+-- what of the body tells of the column: its parts, and one byte more
+abbrev pub front_in : List ℕ → ColumnEnds → List ℕ
+front_in body e = take (e.label + 1) body
+
+-- the column at the beginning of the body, if there is one
 abbrev pub column_in : List ℕ → Option ColumnEnds → Option Key
 column_in body None = None
-column_in body (Some e) = Some (parts_in body e)
+column_in body (Some e) = Some (parts_in (front_in body e) e)
 
--- the parts lie in the body, and behind them stands just the zero byte that makes the next column's label
+-- the parts lie in the bytes, and behind them stands just the zero byte that makes the next column's label
 pub record AreEnds (body : List ℕ) (e : ColumnEnds) : Type 0 where
   pub row : e.row ≤ e.family
   pub family : e.family ≤ e.qualifier
@@ -30,7 +34,7 @@ pub record AreEnds (body : List ℕ) (e : ColumnEnds) : Type 0 where
 
 abbrev pub IsPlaced : List ℕ → Option ColumnEnds → Type 0
 IsPlaced body None = Unit {0}
-IsPlaced body (Some e) = AreEnds body e
+IsPlaced body (Some e) = AreEnds (front_in body e) e
 
 -- row, family and qualifier, one after another
 abbrev pub front_of : Key → List ℕ

@@ -29,4 +29,4 @@ Covers-prop unpositioned xss os = Π_prop λ _. Π_prop λ _. Π_prop λ _. Code
 
 pub AreSound-prop : (auths : List (List ℕ)) (js : List Verdict) → IsProp (AreSound auths js)
 AreSound-prop auths [] = Unit-prop
-AreSound-prop auths (j ∷ js) = ×_prop (Coded-set coded_bool _ _) (×_prop (Π_prop λ _. Π_prop λ _. Π_prop λ _. Π_prop λ _. Coded-set coded_bool _ _) (AreSound-prop auths js))
+AreSound-prop auths (j ∷ js) = ×_prop (Coded-set coded_bool _ _) (AreSound-prop auths js)

@@ -1,16 +1,20 @@
 //! One remembered column.
-ghost use Rattle.std.specs.Prelude.{◌≡◌, ◌++◌, ◌∷◌, [], None, Some, IfOk, OnOk};
+ghost use Rattle.std.specs.Prelude.{◌≡◌, ◌<◌, ◌≤◌, ◌+◌, ◌++◌, ◌∷◌, [], None, Some, IfOk, OnOk, length, take, drop};
 ghost use Rattle.tab_key.specs.KeyOf.{key_of};
 ghost use Rattle.tab_key.specs.Kept.{same_column};
 ghost use Rattle.tab_iter.specs.Columns.{is_of, next_column, next_of, IsColumnOf};
-ghost use Rattle.tab_iter.specs.LastColumn.{parts_in, column_in, AreEnds};
+ghost use Rattle.tab_iter.specs.LastColumn.{parts_in, front_in, AreEnds};
 ghost use Rattle.tab_iter.specs.Lists.{latest};
 
 use crate::NoMemory;
 use crate::rule::nowhere;
 use std::alloc::{AllocError, Global};
 use std::marker::Model;
-use tab_key::{Key, RecordRef};
+use tab_key::{Key, Piece, RecordRef};
+
+// How many bytes are copied at once of a column that has fewer, where as many lie behind its beginning: a copy of a fixed length
+// needs neither a call nor a branch by length.
+const STEP: usize = 64;
 
 /// Where the parts of a column end that lie one after another from the beginning of a body.
 #[derive(Clone, Copy)]
@@ -28,7 +32,7 @@ pub struct ColumnEnds {
 /// A column, or none. The columns remembered one after another take the same memory.
 #[derive(Drop)]
 pub struct LastColumn {
-    // the column's parts, and a zero byte behind its label: with that it is the next column
+    // the column's parts, and a zero byte behind its label: with that it is the next column. What else lies behind has no meaning
     body: Vec<u8>,
     ends: Option<ColumnEnds>,
     // the column's mark: a record with another one is of another column
@@ -71,7 +75,7 @@ impl LastColumn {
                 if next.column_mark() != self.mark {
                     return false;
                 }
-                is_column(self.body.as_slice(), ends, next)
+                is_column(front_in(&self.body, ends), ends, next)
             }
         }
     }
@@ -82,7 +86,7 @@ impl LastColumn {
     {
         match &self.ends {
             None => nowhere(),
-            Some(ends) => next_at(self.body.as_slice(), ends),
+            Some(ends) => next_at(front_in(&self.body, ends), ends),
         }
     }
 
@@ -104,7 +108,6 @@ impl LastColumn {
         }
         let mark = next.column_mark();
         self.ends = None;
-        self.body.clear();
         let ends = put_column(&mut self.body, next)?;
         self.ends = Some(ends);
         self.mark = mark;
@@ -112,24 +115,89 @@ impl LastColumn {
     }
 }
 
-// Puts the record's column into an empty body, in one piece, and a zero byte behind it.
+// The column that lies at the body's beginning, and the zero byte behind it.
+#[inline]
+fn front_in<'a>(body: &'a [u8], ends: &ColumnEnds) -> &'a [u8]
+    requires { AreEnds (front_in body.now ends.now) ends.now }
+    ensures { result.now ≡ front_in body.now ends.now }
+{
+    &body[..ends.label + 1]
+}
+
+// Puts the record's column at the body's beginning, in one piece, and a zero byte behind it.
+#[inline]
 fn put_column(body: &mut Vec<u8>, next: &RecordRef<'_>) -> Result<ColumnEnds, AllocError>
-    requires { body.old.items ≡ [] }
-    ensures placed { IfOk result (λ e. AreEnds body.new.items e) }
-    ensures column { IfOk result (λ e. parts_in body.new.items e ≡ record (next.now.key) { timestamp = latest }) }
+    ensures placed { IfOk result (λ e. AreEnds (front_in body.new.items e) e) }
+    ensures column { IfOk result (λ e. parts_in (front_in body.new.items e) e ≡ record (next.now.key) { timestamp = latest }) }
 {
     let key = next.key();
-    body.extend_from_slice(next.column())?;
-    let label = body.len();
-    body.push(0)?;
+    let column = next.column_piece();
+    put_front(body, &column)?;
     let row = key.row.len();
     let family = row + key.family.len();
     Ok(ColumnEnds {
         row,
         family,
         qualifier: family + key.qualifier.len(),
-        label,
+        label: column.len(),
     })
+}
+
+// Puts the bytes at the body's beginning, and a zero byte behind them.
+#[inline]
+fn put_front(body: &mut Vec<u8>, bytes: &Piece<'_>) -> Result<(), AllocError>
+    ensures { OnOk result (take (length bytes.now + 1) body.new.items ≡ bytes.now ++ 0 ∷ []) }
+{
+    let onward = bytes.onward();
+    if bytes.len() < STEP && STEP <= onward.len() && STEP <= body.len() {
+        put_step(body, onward, bytes.len());
+        return Ok(());
+    }
+    put_apart(body, &onward[..bytes.len()])
+}
+
+// Copies one step, of which the first `count` bytes are put, and a zero byte behind them.
+#[inline]
+fn put_step(body: &mut [u8], bytes: &[u8], count: usize)
+    requires count { count < 64 }
+    requires bytes { 64 ≤ length bytes.now }
+    requires room { 64 ≤ length body.old }
+    ensures { take (count + 1) body.new ≡ take count bytes.now ++ 0 ∷ [] }
+{
+    write_front(body, &first_step(bytes));
+    body[count] = 0;
+}
+
+// Puts the bytes at the beginning, over as many.
+#[inline]
+fn write_front(body: &mut [u8], bytes: &[u8])
+    requires { length bytes.now ≤ length body.old }
+    ensures { body.new ≡ bytes.now ++ drop (length bytes.now) body.old }
+{
+    body[..bytes.len()].copy_from_slice(bytes);
+}
+
+// The first bytes by themselves: that they lie apart from the body needn't be asked when they are copied on.
+#[inline]
+fn first_step(bytes: &[u8]) -> [u8; STEP]
+    requires { 64 ≤ length bytes.now }
+    ensures { result ≡ take 64 bytes.now }
+{
+    let mut step = [0; STEP];
+    step.copy_from_slice(&bytes[..STEP]);
+    step
+}
+
+// Bytes that aren't put in one step. Behind them there is room for one afterwards.
+#[inline(never)]
+fn put_apart(body: &mut Vec<u8>, bytes: &[u8]) -> Result<(), AllocError>
+    ensures { OnOk result (take (length bytes.now + 1) body.new.items ≡ bytes.now ++ 0 ∷ []) }
+{
+    body.clear();
+    body.reserve(bytes.len().saturating_add(STEP))?;
+    body.extend_from_slice(bytes)?;
+    body.extend_from_slice(&[0; STEP])?;
+    Ok(())
 }
 
 // The column that lies there.

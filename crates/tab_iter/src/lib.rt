@@ -13,7 +13,8 @@
 //! | `first_markers_rule` | the rule of a merge: of each column the first marker |
 //! | `last_column` | the column of the last record that a rule observed, and the one next after it |
 //! | `named_column` | where the columns that a scan names begin in a row |
-//! | `verdict`, `hints` | verdicts on labels, kept and found again, and where they were found last |
+//! | `verdict`, `hints` | verdicts on labels, kept and found again, and where those on longer labels were found last |
+//! | `known_verdicts` | verdicts on short labels, found by number |
 //! | `layers` | what a scan reads: its rules, one behind the other, in one layer |
 //! | `merged` | what a merge writes: its rules, one behind the other, in one layer |
 //!
@@ -28,6 +29,7 @@ mod fetching_rule;
 mod filtered;
 mod first_markers_rule;
 mod hints;
+mod known_verdicts;
 mod last_column;
 mod layers;
 mod list_source;

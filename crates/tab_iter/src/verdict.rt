@@ -1,6 +1,5 @@
 //! Verdicts on labels, kept and found again.
 ghost use Rattle.std.specs.Prelude.{◌≡◌, ◌≤◌, List, ℕ, IfSome, length};
-ghost use Rattle.tab_key.specs.Words.{IsWord};
 ghost use Rattle.tab_label.specs.Holding.{label_holds};
 ghost use Rattle.tab_iter.specs.Verdicts.{AreSound};
 
@@ -13,25 +12,7 @@ const MOST_KEPT: usize = 1024;
 #[derive(Drop)]
 pub(crate) struct Verdict {
     pub(crate) label: Vec<u8>,
-    /// The label's number, if it is short enough to have one.
-    pub(crate) word: Option<u64>,
     pub(crate) holds: bool,
-}
-
-/// Whether the label of this number holds, if the verdict at a place is on it.
-#[inline]
-pub(crate) fn find_word(verdicts: &[Verdict], place: usize, word: u64) -> Option<bool>
-    ensures { IfSome result (λ b. (auths : List (List ℕ)) (label : List ℕ) → AreSound auths verdicts.now → IsWord word label → b ≡ label_holds label auths) }
-{
-    match verdicts.get(place) {
-        None => None,
-        Some(found) => {
-            if found.word != Some(word) {
-                return None;
-            }
-            Some(found.holds)
-        }
-    }
 }
 
 /// Whether this label holds, if the verdict at a place is on it.
@@ -50,24 +31,22 @@ pub(crate) fn find_at(verdicts: &[Verdict], place: usize, label: &[u8]) -> Optio
     }
 }
 
-/// Keeps a verdict at this place among them, unless there are too many. A short label comes with its number. The error comes only
-/// from want of memory, and leaves them as they were.
+/// Keeps a verdict at this place among them, unless there are too many. The error comes only from want of memory, and leaves them as
+/// they were.
 pub(crate) fn keep_at(
     verdicts: &mut Vec<Verdict>,
     place: usize,
     label: &[u8],
-    word: Option<u64>,
     holds: bool,
 ) -> Result<(), NoMemory>
-    requires place { place ≤ length verdicts.old.items }
-    requires word { IfSome word (λ w. IsWord w label.now) }
+    requires { place ≤ length verdicts.old.items }
     ensures { (auths : List (List ℕ)) → holds ≡ label_holds label.now auths → AreSound auths verdicts.old.items → AreSound auths verdicts.new.items }
 {
     if MOST_KEPT <= verdicts.len() {
         return Ok(());
     }
     let label = Vec::from_slice(*verdicts.allocator(), label)?;
-    verdicts.insert(place, Verdict { label, word, holds })?;
+    verdicts.insert(place, Verdict { label, holds })?;
     Ok(())
 }
 

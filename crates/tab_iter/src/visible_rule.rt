@@ -1,13 +1,14 @@
 //! Which records have a label that holds.
-ghost use Rattle.std.specs.Prelude.{◌≡◌, Bool, true, IfOk, IfSome, ⊤};
+ghost use Rattle.std.specs.Prelude.{◌≡◌, Bool, true, IfOk, ⊤};
 ghost use Rattle.tab_key.specs.Words.{IsWord};
 ghost use Rattle.tab_label.specs.Holding.{label_holds};
-ghost use Rattle.tab_iter.specs.Verdicts.{AreSound};
+ghost use Rattle.tab_iter.specs.Verdicts.{AreSound, AreTold};
 ghost use Rattle.tab_iter.specs.Propositions.{AreSound-prop};
 
 use crate::hints::{Hints, mixed};
+use crate::known_verdicts::KnownVerdicts;
 use crate::rule::nowhere;
-use crate::verdict::{Verdict, count_before, find_at, find_word, keep_at};
+use crate::verdict::{Verdict, count_before, find_at, keep_at};
 use crate::{NoMemory, Rule};
 use std::alloc::Global;
 use tab_key::{Key, RecordRef};
@@ -21,8 +22,11 @@ pub struct VisibleRule<'a> {
     auths: &'a AuthSet,
     // the verdicts on the labels observed, in the order of their bytes
     verdicts: Vec<Verdict>,
-    // where the verdicts were found last
+    // where those on longer ones were found last
     hints: Hints,
+    // the last ones on short labels, by number
+    known: KnownVerdicts,
+    ghost told: { AreTold auths.now known.words known.holds },
     ghost verdicts_are_sound: { AreSound auths.now verdicts.items } by { AreSound-prop auths.now verdicts.items },
 }
 
@@ -35,6 +39,7 @@ impl<'a> VisibleRule<'a> {
             auths,
             verdicts: Vec::new(alloc),
             hints: Hints::new(),
+            known: KnownVerdicts::none(),
         }
     }
 
@@ -46,24 +51,35 @@ impl<'a> VisibleRule<'a> {
     {
         match find_at(&self.verdicts, self.hints.place_of(mixed(label)), label) {
             Some(holds) => Ok(holds),
-            None => self.judge(label, None),
+            None => self.judge(label),
         }
     }
 
-    // Whether a label holds on which no verdict is where one was found last; a short one comes with its number.
+    // Whether the short label of this number holds, on which no verdict is remembered by number.
     #[inline(never)]
-    fn judge(&mut self, label: &[u8], word: Option<u64>) -> Result<bool, NoMemory>
-        requires { IfSome word (λ w. IsWord w label.now) }
+    fn observe_new(&mut self, label: &[u8], word: u64) -> Result<bool, NoMemory>
+        requires { IsWord word label.now }
+        ensures same { self.new.auths.now ≡ self.old.auths.now }
+        ensures holds { IfOk result (λ b. b ≡ label_holds label.now self.old.auths.now) }
+    {
+        let holds = self.judge(label)?;
+        self.known.note(word, holds);
+        Ok(holds)
+    }
+
+    // Whether a label holds: by the verdict on it that is kept, or else by a new one.
+    #[inline(never)]
+    fn judge(&mut self, label: &[u8]) -> Result<bool, NoMemory>
         ensures same { self.new.auths.now ≡ self.old.auths.now }
         ensures holds { IfOk result (λ b. b ≡ label_holds label.now self.old.auths.now) }
     {
         let place = count_before(&self.verdicts, label);
-        self.hints.note(number_of(label, word), place);
+        self.hints.note(mixed(label), place);
         match find_at(&self.verdicts, place, label) {
             Some(holds) => Ok(holds),
             None => {
                 let holds = is_visible(label, self.auths);
-                keep_at(&mut self.verdicts, place, label, word, holds)?;
+                keep_at(&mut self.verdicts, place, label, holds)?;
                 Ok(holds)
             }
         }
@@ -87,9 +103,9 @@ impl<'a> Rule for VisibleRule<'a> {
         let Some(word) = next.label_word() else {
             return self.observe_long(next.label());
         };
-        match find_word(&self.verdicts, self.hints.place_of(word), word) {
+        match self.known.get(word) {
             Some(holds) => Ok(holds),
-            None => self.judge(next.label(), Some(word)),
+            None => self.observe_new(next.label(), word),
         }
     }
 
@@ -100,13 +116,5 @@ impl<'a> Rule for VisibleRule<'a> {
 
     fn target(&self) -> Key<'_> {
         nowhere()
-    }
-}
-
-// By what number the place of the label's verdict is remembered.
-fn number_of(label: &[u8], word: Option<u64>) -> u64 {
-    match word {
-        Some(word) => word,
-        None => mixed(label),
     }
 }
