@@ -211,6 +211,37 @@ awk 'BEGIN {
 }' >wanted
 prints 'rows that are alike in their first sixteen bytes'
 
+# Columns of 2 to 99 bytes and of some thousands, which one step of a copy holds or doesn't: of each the newest put, unless a marker hides
+# it, from the memtable, and from a sorted table, whose last record lies close to the end of what it holds.
+awk 'function q(count, text) { while (length(text) < count) text = text "q"; return text }
+BEGIN {
+    print "createtable t\nsetauths root a"
+    for (time = 0; time < 2; time++) {
+        for (i = 0; i <= 100; i++) {
+            name = i < 98 ? i : i * 70
+            if (!time) for (at = 1; at < 4; at++) printf "insert t r f %s %s v%d %d\n", i ? q(name) : "\\e", i % 2 ? "a" : "\\e", i * at, at
+            if (!time && i % 3) printf "delete t r f %s %s %d\n", i ? q(name) : "\\e", i % 2 ? "a" : "\\e", i % 3 + 1
+        }
+        print "scan t a\nscan t \\0"
+        if (!time) print "flush t"
+    }
+}' >lines
+awk 'function q(count, text) { while (length(text) < count) text = text "q"; return text }
+BEGIN {
+    for (i = 0; i < 2 + 101 * 3 + 67; i++) print "ok"
+    for (time = 0; time < 2; time++) {
+        if (time) print "ok"
+        for (short = 0; short < 2; short++) {
+            for (i = 0; i <= 100; i++) {
+                name = i < 98 ? i : i * 70
+                if (i % 3 != 2 && !(short && i % 2)) printf "r f %s %s 3 v%d\n", i ? q(name) : "\\e", i % 2 ? "a" : "\\e", i * 3
+            }
+            print "end"
+        }
+    }
+}' >wanted
+prints 'columns of each length about that of one step of a copy'
+
 # More jobs than a block of replies tells, and one whose row is longer than a block.
 long=$(bytes 150000 r)
 {
