@@ -6,6 +6,7 @@ pub mod Markers
 pub mod Bounded
 pub mod Compacting
 pub mod Limits
+pub mod LabelLemmas
 pub mod Opening
 pub mod OwnerLemmas
 pub mod PolicyActs

@@ -1,17 +1,17 @@
 //! The checks that are an event's own, and those of a request for ranges.
 ghost use Rattle.std.specs.Prelude.{◌≡◌, ◌<◌, ◌≤◌, ◌⊎◌, ◌^◌, ℕ, Some, None, true, false, length, IsSome};
 ghost use Rattle.tab_mutation.specs.Shape.{first_some, shape_error};
-ghost use Rattle.tab_label.specs.Reading.{label_of};
-ghost use Rattle.tab_history.specs.Checks.{malformed_at, malformed, stamped, outdated, violated, mutation_checks, scan_checks, too_many_auths, shape_refusal, right_checks, many_checks, has_bad_range};
+ghost use Rattle.tab_history.specs.Checks.{stamped, outdated, violated, mutation_checks, scan_checks, too_many_auths, shape_refusal, right_checks, many_checks, has_bad_range};
 
+use crate::labels::malformed;
 use std::alloc::{AllocError, Global};
 use tab_history::{Refusal, Scan, TimeMode};
 use tab_key::{
     Bounds, ByteString, Items, MAX_AUTHORIZATION_LEN, MAX_AUTHORIZATIONS, MAX_COLUMNS, MAX_RANGES,
     Name, Part, is_bad_range,
 };
-use tab_label::{AuthSet, judge};
-use tab_mutation::{Mutation, ShapeError, UpdateRef};
+use tab_label::AuthSet;
+use tab_mutation::{Mutation, ShapeError};
 use tab_policy::{Permission, SystemPermission, is_root};
 use tab_rules::{Violation, check};
 use tab_store::Table;
@@ -23,31 +23,6 @@ fn shape_refusal(error: ShapeError) -> Refusal
         ShapeError::Empty => Refusal::EmptyMutation,
         ShapeError::TooLarge(part) => Refusal::TooLarge(part),
     }
-}
-
-// The refusal of an update whose label is malformed.
-fn malformed_at(update: &UpdateRef<'_>, place: u32, auths: &AuthSet) -> Option<Refusal>
-    requires { length update.now.label < 2 ^ 32 }
-    ensures { result ≡ malformed_at place (label_of update.now.label) }
-{
-    match judge(update.label(), auths) {
-        Ok(_) => None,
-        Err(offset) => Some(Refusal::MalformedVisibility(place, offset as u32)),
-    }
-}
-
-// The first update whose label is malformed.
-#[tactic(auto, unfolding(tab_history::specs::Checks::malformed), using(tab_mutation::proofs::Shapes::shaped_few))]
-fn malformed(mutation: &Mutation, auths: &AuthSet) -> Option<Refusal>
-    requires { shape_error mutation.now ≡ None }
-    ensures { result ≡ malformed mutation.now }
-{
-    for index in 0..mutation.len() {
-        if let Some(refusal) = malformed_at(&mutation.update(index), index as u32, auths) {
-            return Some(refusal);
-        }
-    }
-    None
 }
 
 // The first update with a timestamp, where the table gives them.

@@ -12,6 +12,7 @@
 //! | `acts`, `users`, `granting`, `writes`, `scans`, `tablets`, `splits`, `jobs`, `images` | what each act does |
 //! | `numbering` | the numbers of tablets and jobs |
 //! | `checking` | the checks that are an event's own, and those of a request for ranges |
+//! | `labels` | the labels of a mutation, judged |
 //! | `reply` | replies with and without what they hand out |
 //! | `event_reply`, `recording` | what an event is told, copied, and the step whose history is recorded |
 //! | `slots`, `job_slots`, `running` | the sessions of one user in a run, the jobs of all, and runs of steps |
@@ -30,6 +31,7 @@ mod granting;
 mod images;
 mod job_slots;
 mod jobs;
+mod labels;
 mod numbering;
 mod policing;
 mod recording;

@@ -14,7 +14,6 @@ pub mod PartsLemmas
 pub mod RecordLemmas
 pub mod FrontLemmas
 pub mod SaneLemmas
-pub mod KnownLabelLemmas
 pub mod LoadLemmas
 pub mod BodyLemmas
 pub mod WrittenLaw

@@ -6,6 +6,5 @@ pub mod Written
 pub mod Streams
 pub mod Takes
 pub mod Laying
-pub mod KnownLabels
 pub mod Loading
 pub mod Examples

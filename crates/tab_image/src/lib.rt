@@ -17,7 +17,7 @@
 //! | `reading_users`, `reading_tables`, `record_reading` | its pieces |
 //! | `lent_record` | a record that lies whole in the bytes that are here, read where it lies |
 //! | `lists`, `sets`, `fields`, `taking` | lists, sets, byte strings and names, and numbers, read from an input |
-//! | `sanity`, `byte_order`, `known_users`, `known_labels` | the conditions on an image, lists that rise, users found by name, and labels by their numbers |
+//! | `sanity`, `byte_order`, `known_users` | the conditions on an image, lists that rise, and users found by name |
 //! | `fault`, `unread` | why bytes are no image, why none was loaded, and why a part wasn't read |
 //! | `laws` | the laws of the definitions, each the contract of a function that does nothing |
 //!
@@ -37,7 +37,6 @@ mod byte_order;
 mod fault;
 mod fields;
 mod image;
-mod known_labels;
 mod known_users;
 mod laws;
 mod lent_record;

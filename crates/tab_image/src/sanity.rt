@@ -12,7 +12,6 @@ ghost use Rattle.tab_image.specs.Conditions.{rises, is_short, is_few, is_sane_us
 
 use crate::byte_order::{ByBytes, rise};
 use crate::image::Image;
-use crate::known_labels::KnownLabels;
 use crate::known_users::KnownUsers;
 use crate::table::{ImageRight, ImageTable};
 use crate::user::ImageUser;
@@ -20,7 +19,7 @@ use std::alloc::Global;
 use tab_key::{
     ByteString, MAX_AUTHORIZATION_LEN, MAX_AUTHORIZATIONS, MAX_PART_LEN, MAX_UPDATES, RecordRef,
 };
-use tab_label::{AuthSet, judge};
+use tab_label::{AuthSet, KnownLabels, judge};
 use tab_mem::Records;
 use tab_policy::{SystemPermission, SystemPermissions, is_root as is_root_name};
 

@@ -72,3 +72,4 @@ pub use prefix::row_prefix;
 pub use range::{BadRange, Bound, Bounds, Range, is_bad_range};
 pub use record::Record;
 pub use record_ref::RecordRef;
+pub use word::word_between;

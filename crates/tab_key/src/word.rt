@@ -17,7 +17,7 @@ const LEADING_ONE: u64 = 1 << 56;
 /// The number that the bytes between two places of the body spell behind a one. None says that they are more than seven. It is read
 /// without a loop, and without a test of how many they are but that one, unless the body ends close behind them.
 #[inline]
-pub(crate) fn word_between(body: &[u8], start: usize, end: usize) -> Option<u64>
+pub fn word_between(body: &[u8], start: usize, end: usize) -> Option<u64>
     requires order { start ≤ end }
     requires within { end ≤ length body.now }
     ensures word { IfSome result (λ w. IsWord w (slice_range body.now start end)) }

@@ -15,3 +15,4 @@ pub mod Unions
 pub mod More
 pub mod ReadAs
 pub mod Joining
+pub mod KnownLabelLemmas

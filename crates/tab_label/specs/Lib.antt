@@ -8,3 +8,4 @@ pub mod ParserViews
 pub mod Laws
 pub mod Judging
 pub mod JudgeViews
+pub mod KnownLabels

@@ -19,14 +19,15 @@
 //! | `fault` | why a text was not read as a label |
 //! | `holds` | whether a label holds |
 //! | `judgement`, `levels` | judging a text in one pass, and the stack of levels for it |
+//! | `known_labels` | short labels that were judged, found again by number |
 //! | `escapes` | comparing with what stands between quotes |
 //! | `laws` | reading is the grammar, and holding the relation |
 //!
 //! `specs/Grammar` says which texts are labels, `specs/Holding` when a label holds, `specs/Sets` what sets are, `specs/Laws` the laws.
-//! `Machine` and `Reading` read a text byte by byte, `Judging` judges it so; `Views`, `ParserViews` and `JudgeViews` say what
+//! `Machine` and `Reading` read a text byte by byte, `Judging` judges it so; `KnownLabels` says of a number that its byte string is a label; `Views`, `ParserViews` and `JudgeViews` say what
 //! the code's types stand for. In `proofs`, `Sound`, `Complete`, `Runs` and `LabelOf` tie reading to the grammar, `Judged` judging to
 //! reading, `HoldingLemmas` and `OperandLemmas` the test of a label to the fact, `More` is the law of more authorizations,
-//! `SetLemmas`, `AuthLemmas` and `Unions` are on sets, and `Examples` has worked examples.
+//! `SetLemmas`, `AuthLemmas` and `Unions` are on sets, `KnownLabelLemmas` on labels known by number, and `Examples` has worked examples.
 #![tactic(auto)]
 
 mod auths;
@@ -35,6 +36,7 @@ mod fault;
 mod holds;
 mod joiner;
 mod judgement;
+mod known_labels;
 mod laws;
 mod levels;
 mod parser;
@@ -46,6 +48,7 @@ pub use auths::AuthSet;
 pub use fault::LabelFault;
 pub use joiner::Joiner;
 pub use judgement::{is_visible, judge};
+pub use known_labels::KnownLabels;
 pub use laws::{
     holding_is_the_relation, more_authorizations_hold_more, one_meaning, reading_is_the_grammar,
     the_grammar_is_reading,

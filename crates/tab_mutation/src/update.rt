@@ -1,5 +1,6 @@
 //! An update of a mutation, lent.
-ghost use Rattle.std.specs.Prelude.{◌≡◌, Option, None};
+ghost use Rattle.std.specs.Prelude.{◌≡◌, Option, None, IfSome, is_some, nat_le, length};
+ghost use Rattle.tab_key.specs.Words.{IsWord};
 ghost use Rattle.tab_mutation.specs.UpdateSpans.{update_in, IsWithin};
 ghost use Rattle.tab_mutation.specs.Shape.{long_name, long_value};
 
@@ -7,7 +8,7 @@ use crate::ShapeError;
 use crate::shape_error::is_too_long;
 use crate::update_span::UpdateSpan;
 use std::marker::Model;
-use tab_key::{Kind, Part};
+use tab_key::{Kind, Part, word_between};
 
 /// One update of a mutation: a put or a delete of one column of its row.
 ///
@@ -65,6 +66,15 @@ impl<'a> UpdateRef<'a> {
         ensures { result.now ≡ self.now.label }
     {
         &self.body[self.span.qualifier_end..self.span.label_end]
+    }
+
+    /// The number that the label's bytes spell behind a one; none where it has more than seven bytes. Labels of one number are the same.
+    #[inline]
+    pub fn label_word(&self) -> Option<u64>
+        ensures word { IfSome result (λ w. IsWord w self.now.label) }
+        ensures short { is_some result ≡ nat_le (length self.now.label) 7 }
+    {
+        word_between(self.body, self.span.qualifier_end, self.span.label_end)
     }
 
     /// The timestamp, where the client gave one.

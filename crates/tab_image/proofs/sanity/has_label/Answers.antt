@@ -1,7 +1,7 @@
 -- A label is known by its number once it was judged.
 use Rattle.std.proofs.Common.{◌≡◌, is_ok, true, rules}
 use Rattle.tab_label.specs.Reading.{label_of}
-use Rattle.tab_image.proofs.KnownLabelLemmas.{by_word}
+use Rattle.tab_label.proofs.KnownLabelLemmas.{by_word}
 use Rattle.tab_image.proofs.sanity.has_label.Goals as goal
 
 pub note-requires : goal.note-requires

@@ -6,8 +6,12 @@ use Rattle.std.proofs.lemmas.List.Elements.{All-set}
 use Rattle.tab_key.specs.Words.{IsWord}
 use Rattle.tab_key.proofs.WordLaws.{same_words}
 use Rattle.tab_label.specs.Reading.{label_of}
-use Rattle.tab_parts.proofs.Exact.{some_inj}
-use Rattle.tab_image.specs.KnownLabels.{SpellsLabel, AreLabels}
+use Rattle.tab_label.specs.KnownLabels.{SpellsLabel, AreLabels}
+
+some_inj : {A : Type 0} (x y : A) → Some x ≡ Some y → x ≡ y
+some_inj {A} x y e =
+    let or_x : Option A → A = λ o. elim o [ None ↦ x | Some z ↦ z ] in
+    ap or_x e
 
 abbrev IsKnown : Option ℕ → Type 0
 IsKnown known = (word : ℕ) → known ≡ Some word → SpellsLabel word

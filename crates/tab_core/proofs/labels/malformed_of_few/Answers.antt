@@ -2,7 +2,7 @@ use Rattle.std.proofs.Common.{◌≡◌, ◌<◌, length, arith, ap}
 use Rattle.tab_mutation.specs.Mutations.{Update}
 use Rattle.std.specs.List.{slice_index_or}
 use Rattle.tab_mutation.proofs.Shapes.{shaped_labels}
-use Rattle.tab_core.proofs.checking.malformed.Goals as goal
+use Rattle.tab_core.proofs.labels.malformed_of_few.Goals as goal
 
 pub malformed_at-requires : goal.malformed_at-requires
 malformed_at-requires c =

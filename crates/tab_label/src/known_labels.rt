@@ -1,22 +1,22 @@
 //! Labels that were judged, found again by their numbers.
 ghost use Rattle.std.specs.Prelude.{◌<◌, IsTrue};
-ghost use Rattle.tab_image.specs.KnownLabels.{SpellsLabel, AreLabels};
+ghost use Rattle.tab_label.specs.KnownLabels.{SpellsLabel, AreLabels};
 
 /// How many numbers are remembered at most.
 const PLACES: usize = 256;
 
 /// For a few bits of a short label's number, the last number with these bits that was found to be a label's.
 ///
-/// A label that isn't found here may be one all the same.
+/// A label that isn't found here may be one all the same. It takes 4 KiB where it stands, and no memory besides.
 #[derive(Drop)]
-pub(crate) struct KnownLabels {
+pub struct KnownLabels {
     words: [Option<u64>; PLACES],
     ghost labels: { AreLabels words },
 }
 
 impl KnownLabels {
     /// No labels.
-    pub(crate) fn none() -> KnownLabels {
+    pub fn none() -> KnownLabels {
         KnownLabels {
             words: [None; PLACES],
         }
@@ -24,7 +24,7 @@ impl KnownLabels {
 
     /// Whether the byte string of this number was found to be a label.
     #[inline]
-    pub(crate) fn has(&self, word: u64) -> bool
+    pub fn has(&self, word: u64) -> bool
         ensures { IsTrue result → SpellsLabel word }
     {
         self.words[place_of(word)] == Some(word)
@@ -33,7 +33,7 @@ impl KnownLabels {
     /// Remembers that the byte string of this number is a label.
     #[inline]
     #[tactic(auto, using(crate::proofs::KnownLabelLemmas::one_noted))]
-    pub(crate) fn note(&mut self, word: u64)
+    pub fn note(&mut self, word: u64)
         requires { SpellsLabel word }
     {
         self.words[place_of(word)] = Some(word);

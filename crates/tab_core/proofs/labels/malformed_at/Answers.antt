@@ -1,7 +1,7 @@
 use Rattle.std.proofs.Common.{◌≡◌, ◌<◌, ◌≤◌, ℕ, List, length, arith, Err, subst, sym}
 use Rattle.tab_label.specs.Holding.{judged}
 use Rattle.tab_core.proofs.Limits.{judged_within}
-use Rattle.tab_core.proofs.checking.malformed_at.Goals as goal
+use Rattle.tab_core.proofs.labels.malformed_at.Goals as goal
 
 pub overflow_cast-result : goal.overflow_cast-result
 overflow_cast-result c =

@@ -1,5 +1,0 @@
-use Rattle.tab_image.proofs.KnownLabelLemmas.{none_noted}
-use Rattle.tab_image.proofs.known_labels.KnownLabels.none.Goals as goal
-
-pub invariant_of-result : goal.invariant_of-result
-invariant_of-result c = record { labels = none_noted 256 }
