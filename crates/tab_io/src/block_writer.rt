@@ -1,5 +1,5 @@
 //! Any writer of std, written in blocks.
-ghost use Rattle.std.specs.Prelude.{◌≡◌, ◌+◌, ◌^◌, ◌<◌, ◌≤◌, [], ◌++◌, length, take, drop, IfOk, OnOk};
+ghost use Rattle.std.specs.Prelude.{◌≡◌, ℕ, ◌+◌, ◌^◌, ◌<◌, ◌≤◌, [], ◌++◌, length, take, drop, IfOk, OnOk};
 ghost use Rattle.tab_io.specs.Streams.{Accepts, Drains, FailsByFault};
 
 use crate::counted::Counted;
@@ -67,18 +67,22 @@ impl<W: Write> BlockWriter<W> {
         self.end = end;
     }
 
-    // Copies one step, of which the first `count` bytes are gathered. What is copied behind these lies where the next bytes go.
+    // Copies `lead` and one step, of which the first `count` bytes are gathered. What is copied behind these lies where the next bytes
+    // go. The end is read and written once: it lies in memory, as the block does.
     #[inline]
-    fn gather_step(&mut self, bytes: &[u8], count: usize)
+    fn gather_step(&mut self, lead: &[u8], bytes: &[u8], count: usize)
+        requires lead { length lead.now ≤ 32 }
         requires count { count ≤ 32 }
         requires bytes { 32 ≤ length bytes.now }
-        requires room { self.old.end + 32 ≤ length self.old.block.items }
-        ensures block { take self.new.end self.new.block.items ≡ take self.old.end self.old.block.items ++ take count bytes.now }
+        requires room { self.old.end + 64 ≤ length self.old.block.items }
+        ensures block { take self.new.end self.new.block.items ≡ take self.old.end self.old.block.items ++ (lead.now ++ take count bytes.now) }
         ensures start { self.new.start ≡ self.old.start }
         ensures sink { self.new.sink ≡ self.old.sink }
     {
-        self.block[self.end..self.end + STEP].copy_from_slice(&first_step(bytes));
-        self.end += count;
+        let end = self.end + lead.len();
+        write_at(&mut self.block, self.end, lead);
+        write_step(&mut self.block, end, bytes);
+        self.end = end + count;
     }
 
     // What a write that stopped leaves unwritten stays in the block.
@@ -116,10 +120,11 @@ impl<W: Write> BlockWriter<W> {
     // A piece that isn't gathered in one step. It is a call of its own: so what gathers one is small, and stands in line wherever
     // pieces are put.
     #[inline(never)]
-    fn put_apart(&mut self, bytes: &[u8]) -> Result<(), WriteFault>
-        ensures bytes { Accepts (W.contents self.old.sink.inner) (drop self.old.start (take self.old.end self.old.block.items)) (W.contents self.new.sink.inner) (drop self.new.start (take self.new.end self.new.block.items)) bytes.now result }
+    fn put_apart(&mut self, lead: &[u8], bytes: &[u8]) -> Result<(), WriteFault>
+        ensures bytes { Accepts (W.contents self.old.sink.inner) (drop self.old.start (take self.old.end self.old.block.items)) (W.contents self.new.sink.inner) (drop self.new.start (take self.new.end self.new.block.items)) (lead.now ++ bytes.now) result }
         ensures faults { FailsByFault result self.old.sink.faults self.new.sink.faults self.new.sink.budget }
     {
+        self.put(lead)?;
         self.put(bytes)
     }
 
@@ -138,6 +143,27 @@ impl<W: Write> BlockWriter<W> {
         }
         self.write_straight(bytes)
     }
+}
+
+// Puts the bytes over those from a place on.
+#[inline]
+fn write_at(block: &mut Vec<u8>, place: usize, bytes: &[u8])
+    requires { place + length bytes.now ≤ length block.old.items }
+    ensures block { take (place + length bytes.now) block.new.items ≡ take place block.old.items ++ bytes.now }
+    ensures length { length block.new.items ≡ length block.old.items }
+{
+    block[place..place + bytes.len()].copy_from_slice(bytes);
+}
+
+// Puts the first step of the bytes over those from a place on.
+#[inline]
+fn write_step(block: &mut Vec<u8>, place: usize, bytes: &[u8])
+    requires bytes { 32 ≤ length bytes.now }
+    requires room { place + 32 ≤ length block.old.items }
+    ensures block { (count : ℕ) → count ≤ 32 → take (place + count) block.new.items ≡ take place block.old.items ++ take count bytes.now }
+    ensures length { length block.new.items ≡ length block.old.items }
+{
+    block[place..place + STEP].copy_from_slice(&first_step(bytes));
 }
 
 // The first bytes by themselves: that they lie apart from the block needn't be asked when they are copied on.
@@ -172,12 +198,13 @@ impl<W: Write> Output for BlockWriter<W> {
     }
 
     #[inline]
-    fn put_front(&mut self, bytes: &[u8], count: usize) -> Result<(), WriteFault> {
-        if count <= STEP && STEP <= bytes.len() && STEP <= self.block.len() - self.end {
-            self.gather_step(bytes, count);
+    fn put_front(&mut self, lead: &[u8], bytes: &[u8], count: usize) -> Result<(), WriteFault> {
+        let is_short = lead.len() <= STEP && count <= STEP && STEP <= bytes.len();
+        if is_short && 2 * STEP <= self.block.len() - self.end {
+            self.gather_step(lead, bytes, count);
             return Ok(());
         }
-        self.put_apart(&bytes[..count])
+        self.put_apart(lead, &bytes[..count])
     }
 
     fn flush(&mut self) -> Result<(), WriteFault> {

@@ -1,5 +1,5 @@
 //! Where bytes go.
-ghost use Rattle.std.specs.Prelude.{ℕ, ◌≤◌, List, length, take, Option};
+ghost use Rattle.std.specs.Prelude.{ℕ, ◌≤◌, ◌++◌, List, length, take, Option};
 ghost use Rattle.tab_io.specs.Streams.{Accepts, Drains, FailsByFault};
 
 use thiserror::Error;
@@ -34,13 +34,13 @@ pub trait Output {
         ensures bytes { Accepts (contents self.old) (held self.old) (contents self.new) (held self.new) bytes.now result }
         ensures faults { FailsByFault result (faults self.old) (faults self.new) (budget self.new) };
 
-    /// Adds the first `count` of the bytes as [`put`](Output::put) does.
+    /// Adds `lead` and the first `count` of the bytes as [`put`](Output::put) does.
     ///
     /// The bytes behind these may be read, and never reach the writer. It is for pieces of a few bytes that lie in a longer
-    /// text, which can then be copied in one step of a fixed length.
-    fn put_front(&mut self, bytes: &[u8], count: usize) -> Result<(), WriteFault>
+    /// text, which can then be copied in one step of a fixed length, and for what stands before such a piece, its length mostly.
+    fn put_front(&mut self, lead: &[u8], bytes: &[u8], count: usize) -> Result<(), WriteFault>
         requires { count ≤ length bytes.now }
-        ensures bytes { Accepts (contents self.old) (held self.old) (contents self.new) (held self.new) (take count bytes.now) result }
+        ensures bytes { Accepts (contents self.old) (held self.old) (contents self.new) (held self.new) (lead.now ++ take count bytes.now) result }
         ensures faults { FailsByFault result (faults self.old) (faults self.new) (budget self.new) };
 
     /// Writes all that is gathered.

@@ -1,5 +1,5 @@
 -- The frame of a cell: how long it is, and that it is its head and its fields.
-use Rattle.std.proofs.Common.{◌≡◌, ℕ, ◌+◌, ◌%◌, ◌^◌, List, [], ◌∷◌, ◌++◌, length, ap, ◌∙◌, subst, arith, append_assoc, length-append, Result}
+use Rattle.std.proofs.Common.{◌≡◌, ℕ, ◌+◌, ◌%◌, ◌^◌, List, [], ◌∷◌, ◌++◌, length, take, ap, ◌∙◌, subst, arith, append_assoc, length-append, Result}
 use Rattle.tab_key.specs.Records.{Cell}
 use Rattle.tab_io.specs.Writing.{HasPut, HasPutPart, Puts}
 use Rattle.tab_io.specs.declared.writing.Output.{Ghosts}
@@ -30,10 +30,6 @@ frame_put g a b d c n r is head fields = subst (λ t. Puts g a d t r) (head_and_
 pub frame_begun : {W : Type 0} {g : Ghosts W} {a b : W} (c : Cell) (n : ℕ) → n ≡ length (130 ∷ cell_fields c) % 2 ^ 32 → HasPutPart g a b (u32 n ++ 130 ∷ []) → HasPutPart g a b (cell_frame c)
 frame_begun {g = g} {a = a} {b = b} c n is head = subst (λ t. HasPutPart g a b t) (head_and_fields c n is) (part_longer (cell_fields c) head)
 
--- the timestamp and the value's length in one piece, and the value
-pub tail_put : {W E : Type 0} (g : Ghosts W) (a b d : W) (c : Cell) (r : Result (Unit {0}) E) → HasPut g a b (i64 c.key.timestamp ++ u32 (length c.value)) → Puts g b d c.value r → Puts g a d (i64 c.key.timestamp ++ field c.value) r
-tail_put g a b d c r head value = subst (λ t. Puts g a d t r) (append_assoc (i64 c.key.timestamp) (u32 (length c.value)) c.value) (puts_more g a b d (i64 c.key.timestamp ++ u32 (length c.value)) c.value r head value)
-
--- a beginning of the first piece is one of both
-pub tail_begun : {W : Type 0} {g : Ghosts W} {a b : W} (c : Cell) → HasPutPart g a b (i64 c.key.timestamp ++ u32 (length c.value)) → HasPutPart g a b (i64 c.key.timestamp ++ field c.value)
-tail_begun {g = g} {a = a} {b = b} c head = subst (λ t. HasPutPart g a b t) (append_assoc (i64 c.key.timestamp) (u32 (length c.value)) c.value) (part_longer c.value head)
+-- what is put before a byte string, and of longer bytes as many as it has, are the text
+pub with_lead : (lead bytes text : List ℕ) (before value : List ℕ) (n : ℕ) → lead ≡ before → take n bytes ≡ value → before ++ value ≡ text → lead ++ take n bytes ≡ text
+with_lead lead bytes text before value n is front whole = (λ i. is i ++ front i) ∙ whole

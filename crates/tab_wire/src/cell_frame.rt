@@ -5,7 +5,7 @@ ghost use Rattle.std.specs.Prelude.{◌≡◌, ◌%◌, ◌^◌, ◌++◌, ◌�
 ghost use Rattle.tab_io.specs.Writing.{Puts};
 ghost use Rattle.tab_wire.specs.Replies.{u32, i64, field, cell_frame, cell_fields};
 
-use crate::numbers::{low, put_length};
+use crate::numbers::low;
 use std::marker::Model;
 use tab_io::{Output, WriteFault};
 use tab_key::{CellRef, Piece};
@@ -85,7 +85,7 @@ impl<'a> CellParts<'a> {
 
 /// Puts the frame of a cell: its length, the opcode, and its fields. It takes no memory.
 ///
-/// It puts eleven pieces, one behind the other, and loops over none: a scan spends much of its time here.
+/// It puts six pieces, one behind the other, each with what stands before it, and loops over none: a scan spends much of its time here.
 pub fn put_cell<W: Output>(output: &mut W, cell: &CellRef<'_>) -> Result<(), WriteFault>
     ensures { Puts W.Output output.old output.new (cell_frame cell.now) result }
 {
@@ -157,17 +157,13 @@ fn put_behind_qualifier<W: Output>(output: &mut W, cell: &CellParts<'_>) -> Resu
     put_behind_label(output, cell)
 }
 
+// Puts the timestamp and the value's length, and behind them the value.
 fn put_behind_label<W: Output>(output: &mut W, cell: &CellParts<'_>) -> Result<(), WriteFault>
     ensures { Puts W.Output output.old output.new (i64 cell.now.key.timestamp ++ field cell.now.value) result }
 {
-    put_before_value(output, cell)?;
-    put_value(output, cell)
-}
-
-fn put_before_value<W: Output>(output: &mut W, cell: &CellParts<'_>) -> Result<(), WriteFault>
-    ensures { Puts W.Output output.old output.new (i64 cell.now.key.timestamp ++ u32 (length cell.now.value)) result }
-{
-    output.put(&before_value(cell.timestamp(), low(cell.value().len())))
+    let value = cell.value();
+    let lead = before_value(cell.timestamp(), low(value.len()));
+    output.put_front(&lead, value.onward(), value.len())
 }
 
 // The eight bytes of the timestamp, and the four of the value's length.
@@ -181,22 +177,17 @@ fn before_value(timestamp: i64, length: u32) -> [u8; 12]
     bytes
 }
 
-fn put_value<W: Output>(output: &mut W, cell: &CellParts<'_>) -> Result<(), WriteFault>
-    ensures { Puts W.Output output.old output.new cell.now.value result }
-{
-    put_bytes(output, cell.value())
-}
-
 // Puts a piece as a field: its length, and its bytes.
 fn put_piece<W: Output>(output: &mut W, piece: &Piece<'_>) -> Result<(), WriteFault>
     ensures { Puts W.Output output.old output.new (field piece.now) result }
 {
-    put_length(output, piece.len())?;
-    put_bytes(output, piece)
+    output.put_front(&four_bytes(low(piece.len())), piece.onward(), piece.len())
 }
 
-fn put_bytes<W: Output>(output: &mut W, piece: &Piece<'_>) -> Result<(), WriteFault>
-    ensures { Puts W.Output output.old output.new piece.now result }
+// A number as four bytes, the highest first.
+#[tactic(auto, unfolding(crate::specs::Replies::u32))]
+fn four_bytes(number: u32) -> [u8; 4]
+    ensures { result ≡ u32 number }
 {
-    output.put_front(piece.onward(), piece.len())
+    number.to_be_bytes()
 }

@@ -63,7 +63,8 @@ impl Output for Gathering {
         }
     }
 
-    fn put_front(&mut self, bytes: &[u8], count: usize) -> Result<(), WriteFault> {
+    fn put_front(&mut self, lead: &[u8], bytes: &[u8], count: usize) -> Result<(), WriteFault> {
+        self.put(lead)?;
         self.put(&bytes[..count])
     }
 
