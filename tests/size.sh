@@ -101,6 +101,69 @@ awk -v value="$(bytes 100 v)" 'BEGIN {
 }' >wanted
 prints 'over 2 MiB written before a scan'
 
+# 50,000 cells before the first scan, 20,000 of them in one row.
+awk 'BEGIN {
+    print "createtable t"
+    for (i = 0; i < 30000; i++) {
+        printf "insert t %05d f q \\e v%d 5\n", i * 7919 % 30000, i
+        if (i < 20000) printf "insert t 15000 g %05d \\e w%d 5\n", i * 6007 % 20000, i
+    }
+    print "scan t \\0"
+}' >lines
+awk 'BEGIN {
+    for (i = 0; i <= 50000; i++) print "ok"
+    for (i = 0; i < 30000; i++) at[i * 7919 % 30000] = i
+    for (i = 0; i < 20000; i++) in_row[i * 6007 % 20000] = i
+    for (i = 0; i < 30000; i++) {
+        printf "%05d f q \\e 5 v%d\n", i, at[i]
+        if (i == 15000) for (j = 0; j < 20000; j++) printf "15000 g %05d \\e 5 w%d\n", j, in_row[j]
+    }
+    print "end"
+}' >wanted
+prints '50,000 cells written before a scan, many in one row'
+
+# Mutations whose labels come again and again, the short ones among longer ones, with one malformed in one of its last updates.
+labels() { # COUNT PLACE LABEL, of one update more than COUNT
+    awk -v count="$1" -v place="$2" -v label="$3" 'BEGIN {
+        split("a a&b (a|b)&c a|bb \\e longer&label", labels, " ")
+        printf "mutate t r"
+        for (i = 0; i <= count; i++) printf " put f q%04d %s v 1%s", i, i == place ? label : labels[i % 6 + 1], i < count ? " ;" : "\n"
+    }'
+}
+{
+    printf '%s\n' 'createtable t' 'setauths root a'
+    for count in 7 8 300; do
+        labels "$count" "$count" 'a&'
+        labels "$count" "$((count - 1))" 'a|b&c'
+        labels "$count" "$count" 'longer&label&'
+        labels "$count" "$count" a
+    done
+    echo 'scan t a'
+} >lines
+{
+    printf '%s\n' ok ok
+    for count in 7 8 300; do
+        printf '%s\n' "refused 5 MalformedVisibility $count 2" "refused 5 MalformedVisibility $((count - 1)) 3" "refused 5 MalformedVisibility $count 13" ok
+    done
+    awk 'BEGIN {
+        split("a a&b (a|b)&c a|bb \\e longer&label", labels, " ")
+        for (i = 0; i <= 300; i++) {
+            label = i == 300 ? "a" : labels[i % 6 + 1]
+            at[sprintf("%04d", i) SUBSEP label] = 1
+        }
+        split("7 8", ends, " ")
+        for (e = 1; e <= 2; e++) at[sprintf("%04d", ends[e]) SUBSEP "a"] = 1
+        for (i = 0; i <= 300; i++) {
+            row = sprintf("%04d", i)
+            if ((row SUBSEP "\\e") in at) print "r f q" row " \\e 1 v"
+            if ((row SUBSEP "a") in at) print "r f q" row " a 1 v"
+            if ((row SUBSEP "a|bb") in at) print "r f q" row " a|bb 1 v"
+        }
+        print "end"
+    }'
+} >wanted
+prints 'labels that come again in one mutation, and one that is malformed'
+
 # Scans that end at, before and behind the end of a batch of 1,000.
 for cells in 999 1000 1001 2000; do
     awk -v cells="$cells" 'BEGIN {
