@@ -12,23 +12,33 @@ rm -rf "$place" && mkdir -p "$place" || exit 1
 trap 'rm -rf "$place"' EXIT
 trap 'kill $(jobs -p) 2>/dev/null; exit 1' INT TERM HUP
 
-# The crate and all that it stands on, each behind how many steps lead up from it, those with the most first.
+# Each crate behind the lines of its source, which tell about how long its proof takes.
+sizes=$(for folder in "$top"/crates/*/; do
+    echo "$(find "$folder/src" -name '*.rt' -exec cat {} + | wc -l) $(basename "$folder")"
+done)
+
+# The crate and all that it stands on, each behind how much there is on the longest way that leads up from it, itself among it, in
+# lines of source; those with the most first. So a crate comes behind those that it stands on.
 ways() { # CRATE
-    awk -v top="$1" -F ':' '
-        !/^#/ && NF > 1 { split($1, words, " "); uses[words[1]] = $2 }
-        function climb(name, steps, words, count, i) {
-            if (!(name in uses) || (name in way && steps <= way[name])) return
-            way[name] = steps
+    awk -v top="$1" '
+        FNR == NR { size[$2] = $1 + 100; next }
+        !/^#/ && split($0, sides, ":") > 1 { split(sides[1], words, " "); uses[words[1]] = sides[2] }
+        function climb(name, above, words, count, i) {
+            if (!(name in uses) || (name in way && above + size[name] <= way[name])) return
+            way[name] = above + size[name]
             count = split(uses[name], words, " ")
-            for (i = 1; i <= count; i++) climb(words[i], steps + 1)
+            for (i = 1; i <= count; i++) climb(words[i], way[name])
         }
-        END { climb(top, 0); for (name in way) print way[name], name }' "$top/crates.txt" | sort -k1,1nr -k2
+        END { climb(top, 0); for (name in way) print way[name], name }' <(echo "$sizes") "$top/crates.txt" | sort -k1,1nr -k2
 }
 
-# The crate and all that it stands on.
-below() { # CRATE
-    ways "$1" | cut -d ' ' -f 2
-}
+# Of each crate how long the way before it is, and the crate with all that it stands on.
+declare -A way below
+crates=''
+while read -r length crate; do
+    crates="$crates $crate" way[$crate]=$length
+    below[$crate]=$(ways "$crate" | cut -d ' ' -f 2)
+done < <(ways tabd)
 
 # Whether the crate has a library already; that it is the right one, `rt` sees to afterwards.
 has_library() { # CRATE
@@ -38,7 +48,7 @@ has_library() { # CRATE
 # Whether the crate waits for none that is under way or yet to come.
 is_ready() { # CRATE
     local one
-    for one in $(below "$1"); do
+    for one in ${below[$1]}; do
         [ "$one" = "$1" ] || has_library "$one" || return 1
     done
 }
@@ -46,7 +56,7 @@ is_ready() { # CRATE
 # Builds the crate's library in a folder of its own, and moves it to its place.
 build_library() { # CRATE NICE JOBS
     local at=$place/$1 one part
-    for one in $(below "$1"); do
+    for one in ${below[$1]}; do
         mkdir -p "$at/crates/$one/out" || return 1
         grep -E "^$one( |:)" "$top/crates.txt" >>"$at/crates.txt"
         for part in src specs proofs; do
@@ -60,52 +70,38 @@ build_library() { # CRATE NICE JOBS
     mv "$at/crates/$1/out/"* "$top/crates/$1/out/" && rm -rf "$at"
 }
 
-# As many crates at once as leave a processor over, and three gigabytes of memory for each.
+# As many crates at once as there are processors, and three gigabytes of memory for each.
 cores=$(nproc)
 memory=$(awk '/^MemAvailable/ { print int($2 / 3000000) }' /proc/meminfo)
-lanes=$((cores - 1 < memory ? cores - 1 : memory))
+lanes=$((cores < memory ? cores : memory))
 [ "$lanes" -ge 1 ] || lanes=1
 
-# How nice the crate is to be: those from which as many steps lead up as from any that is under way hold up the others.
-declare -A way
-while read -r steps crate; do way[$crate]=$steps; done < <(ways tabd)
-niceness() { # CRATE
-    local one
+# Sets `nice` and `jobs`, how nice the crate is to be and by how many processors it is proved. What the whole build waits for longest
+# goes first and by all of them, and one whose way is three quarters as long beside it; the others take what these leave.
+share_of() { # CRATE
+    local one longest=${way[$1]}
     for one in "$place"/*/; do
         one=$(basename "$one")
-        if [ -n "${way[$one]:-}" ] && [ "${way[$one]}" -gt "${way[$1]}" ]; then
-            echo 10
-            return
-        fi
+        [ "${way[$one]:-0}" -le "$longest" ] || longest=${way[$one]}
     done
-    echo 0
+    nice=0 jobs=$lanes
+    [ "${way[$1]}" -eq "$longest" ] || jobs=$(((lanes + 1) / 2))
+    [ $((4 * way[$1])) -ge $((3 * longest)) ] || nice=10 jobs=1
 }
 
-# With how many jobs a crate is proved: it gets the processors that neither a crate under way nor one that is ready takes.
-# `rt` by itself plans for the most memory that a check could ever take, and then leaves processors idle.
-spare() { # CRATES LEFT
-    local one idle=$(((cores < memory ? cores : memory) - running + 1))
-    for one in $1; do
-        ! is_ready "$one" || idle=$((idle - 1))
-    done
-    echo $((idle > 1 ? idle : 1))
-}
-
-crates=$(below tabd)
 count=$(wc -w <<<"$crates")
-left= begun=0 running=0
+left='' begun=0 running=0
 for crate in $crates; do
     if [ "$crate" = tabd ]; then :; elif has_library "$crate"; then begun=$((begun + 1)); else left="$left $crate"; fi
 done
 : >"$log"
 while [ -n "$left" ] || [ "$running" -gt 0 ]; do
-    later=
+    later=''
     for crate in $left; do
         if [ "$running" -lt "$lanes" ] && is_ready "$crate"; then
             begun=$((begun + 1)) running=$((running + 1))
             echo "tabd: proving $crate, $begun of $count" >&2
-            nice=$(niceness "$crate")
-            jobs=$(spare "$later ${left#*"$crate"}")
+            share_of "$crate"
             mkdir -p "$place/$crate"
             { build_library "$crate" "$nice" "$jobs" || : >"$place/$crate.failed"; } &
         else
@@ -124,4 +120,4 @@ while [ -n "$left" ] || [ "$running" -gt 0 ]; do
 done
 cat "$place"/*.log >>"$log" 2>/dev/null
 echo "tabd: proving tabd, $count of $count" >&2
-cd "$top/crates/tabd" && rt run --jobs "$(running=1 spare '')" -- --version >>"$log" 2>&1 </dev/null
+cd "$top/crates/tabd" && rt run --jobs "$lanes" -- --version >>"$log" 2>&1 </dev/null
