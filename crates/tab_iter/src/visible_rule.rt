@@ -1,5 +1,5 @@
 //! Which records have a label that holds.
-ghost use Rattle.std.specs.Prelude.{◌≡◌, Bool, true, IfOk, ⊤};
+ghost use Rattle.std.specs.Prelude.{◌≡◌, Bool, true, IfOk, IsTrue, ⊤};
 ghost use Rattle.tab_key.specs.Words.{IsWord};
 ghost use Rattle.tab_label.specs.Holding.{label_holds};
 ghost use Rattle.tab_iter.specs.Verdicts.{AreSound, AreTold};
@@ -14,6 +14,9 @@ use std::alloc::Global;
 use tab_key::{Key, RecordRef};
 use tab_label::{AuthSet, is_visible};
 
+// So many guesses a record's head can give.
+const GUESSES: usize = 256;
+
 /// Lets the records through whose label holds under a set of authorizations.
 ///
 /// It judges each label once, as long as there are no more than 1,024. Of more labels it remembers those that came first.
@@ -26,6 +29,8 @@ pub struct VisibleRule<'a> {
     hints: Hints,
     // the last ones on short labels, by number
     known: KnownVerdicts,
+    // what the last record was found to be of which the same guess can be made at its label
+    guesses: [bool; GUESSES],
     ghost told: { AreTold auths.now known.words known.holds },
     ghost verdicts_are_sound: { AreSound auths.now verdicts.items } by { AreSound-prop auths.now verdicts.items },
 }
@@ -40,6 +45,42 @@ impl<'a> VisibleRule<'a> {
             verdicts: Vec::new(alloc),
             hints: Hints::new(),
             known: KnownVerdicts::none(),
+            guesses: [false; GUESSES],
+        }
+    }
+
+    // Whether the record's label is a short one on which this verdict is remembered.
+    #[inline]
+    fn is_known(&self, next: &RecordRef<'_>, holds: bool) -> bool
+        ensures { IsTrue result → holds ≡ label_holds next.now.key.label self.now.auths.now }
+    {
+        match next.label_word() {
+            Some(word) => self.known.get(word) == Some(holds),
+            None => false,
+        }
+    }
+
+    // Whether the record's label holds. It is guessed next time at such a record.
+    #[inline(never)]
+    fn observe_unguessed(&mut self, next: &RecordRef<'_>) -> Result<bool, NoMemory>
+        ensures same { self.new.auths.now ≡ self.old.auths.now }
+        ensures holds { IfOk result (λ b. b ≡ label_holds next.now.key.label self.old.auths.now) }
+    {
+        let holds = self.observe_label(next)?;
+        self.guesses[usize::from(next.label_guess())] = holds;
+        Ok(holds)
+    }
+
+    fn observe_label(&mut self, next: &RecordRef<'_>) -> Result<bool, NoMemory>
+        ensures same { self.new.auths.now ≡ self.old.auths.now }
+        ensures holds { IfOk result (λ b. b ≡ label_holds next.now.key.label self.old.auths.now) }
+    {
+        let Some(word) = next.label_word() else {
+            return self.observe_long(next.label());
+        };
+        match self.known.get(word) {
+            Some(holds) => Ok(holds),
+            None => self.observe_new(next.label(), word),
         }
     }
 
@@ -100,13 +141,12 @@ impl<'a> Rule for VisibleRule<'a> {
 
     #[inline]
     fn observe(&mut self, next: &RecordRef<'_>) -> Result<bool, NoMemory> {
-        let Some(word) = next.label_word() else {
-            return self.observe_long(next.label());
-        };
-        match self.known.get(word) {
-            Some(holds) => Ok(holds),
-            None => self.observe_new(next.label(), word),
+        // What is guessed is there at once, and what follows begins with it; whether the guess was right is seen meanwhile.
+        let guess = self.guesses[usize::from(next.label_guess())];
+        if self.is_known(next, guess) {
+            return Ok(guess);
         }
+        self.observe_unguessed(next)
     }
 
     // A label says nothing of those that follow.

@@ -1,13 +1,12 @@
 -- How a record lies in a body of bytes that holds others too.
 --
 -- A head of 41 bytes, and then row, family, qualifier, label and value in one piece. The head has, the most significant byte first: the
--- five lengths, 4 bytes each; the timestamp, 8 bytes; the kind, 1 byte, which is 0 for a marker; the number of the mutation, 8 bytes; and
--- the place in it, 4 bytes.
+-- five lengths, 4 bytes each; the timestamp, 8 bytes; the kind, 1 byte, which is 0 for a marker and any other one for a put; the number
+-- of the mutation, 8 bytes; and the place in it, 4 bytes.
 use Rattle.std.specs.Prelude.{ℕ, ℤ, ◌≡◌, ◌≤◌, ◌<◌, ◌^◌, ◌+◌, List, [], ◌∷◌, ◌++◌, length, map, zero, suc, Bool, nat_le, ◌&&◌, FitsSigned, sum_by}
 use Rattle.std.specs.List.{AllByRecursion, AllByRecursion-prop, slice_range, slice_index}
 use Rattle.std.specs.Coded.{le_prop}
 use Rattle.std.specs.Int.{w32, w64, to_be_bytes, from_be_bytes, cast_signed, cast_unsigned}
-use Rattle.tab_key.specs.Order.{kind_rank}
 use Rattle.tab_key.specs.Records as view
 use Rattle.tab_key.specs.RecordSpans.{record_in, IsWithin, packed}
 use Rattle.tab_key.specs.declared.key.Kind.{Kind}
@@ -101,13 +100,13 @@ eight_bytes n = to_be_bytes w64 n
 abbrev pub lengths : view.Record → List ℕ
 lengths r = four_bytes (length r.key.row) ++ four_bytes (length r.key.family) ++ four_bytes (length r.key.qualifier) ++ four_bytes (length r.key.label) ++ four_bytes (length r.value)
 
--- what follows them there
-abbrev pub numbers : view.Record → List ℕ
-numbers r = eight_bytes (cast_unsigned w64 r.key.timestamp) ++ (kind_rank r.kind ∷ []) ++ eight_bytes r.seq ++ four_bytes r.idx
+-- what follows them there, with this byte for its kind
+abbrev pub numbers : ℕ → view.Record → List ℕ
+numbers mark r = eight_bytes (cast_unsigned w64 r.key.timestamp) ++ (mark ∷ []) ++ eight_bytes r.seq ++ four_bytes r.idx
 
 -- a record's bytes
-abbrev pub encoded : view.Record → List ℕ
-encoded r = lengths r ++ numbers r ++ packed r
+abbrev pub encoded : ℕ → view.Record → List ℕ
+encoded mark r = lengths r ++ numbers mark r ++ packed r
 
 -- how many these are: 41 for the head, and then the five byte strings
 abbrev pub record_size : view.Record → ℕ

@@ -3,7 +3,6 @@ ghost use Rattle.std.specs.Prelude.{◌≡◌, ◌≤◌, ◌+◌, ◌++◌, ◌
 ghost use Rattle.std.specs.Int.{w64, cast_unsigned};
 ghost use Rattle.tab_key.specs.Encoding.{length_at, number_at, kind_of, span_at, record_at, record_size, IsAt, IsShort, FitsNumbers, four_bytes, eight_bytes, encoded};
 ghost use Rattle.tab_key.specs.KeyOf.{key_of};
-ghost use Rattle.tab_key.specs.Order.{kind_rank};
 ghost use Rattle.tab_key.specs.RecordSpans.{record_in, IsWithin};
 ghost use Rattle.tab_key.specs.declared.part.TheConstants.{MAX_PART_LEN};
 
@@ -84,17 +83,17 @@ fn put_lengths(body: &mut Vec<u8>, key: Key<'_>, value: &[u8]) -> Result<(), All
 fn put_numbers(
     body: &mut Vec<u8>,
     timestamp: i64,
-    kind: Kind,
+    mark: u8,
     seq: u64,
     idx: u32,
 ) -> Result<(), AllocError>
-    ensures ok { OnOk result (body.new.items ≡ body.old.items ++ (eight_bytes (cast_unsigned w64 timestamp) ++ (kind_rank kind ∷ []) ++ eight_bytes seq ++ four_bytes idx)) }
+    ensures ok { OnOk result (body.new.items ≡ body.old.items ++ (eight_bytes (cast_unsigned w64 timestamp) ++ (mark ∷ []) ++ eight_bytes seq ++ four_bytes idx)) }
     ensures fits { FitsNumbers timestamp seq idx }
     ensures front { take (length body.old.items) body.new.items ≡ body.old.items }
 {
     let bits = timestamp.cast_unsigned();
     put_eight(body, bits)?;
-    body.push(kind.rank())?;
+    body.push(mark)?;
     put_eight(body, seq)?;
     put_four(body, idx)
 }
@@ -111,23 +110,23 @@ fn put_parts(body: &mut Vec<u8>, key: Key<'_>, value: &[u8]) -> Result<(), Alloc
     body.extend_from_slice(value)
 }
 
-// Puts a record at the end. Memory is asked for once.
+// Puts a record at the end, with this byte for its kind. Memory is asked for once.
 fn put_record(
     body: &mut Vec<u8>,
     key: Key<'_>,
-    kind: Kind,
+    mark: u8,
     value: &[u8],
     seq: u64,
     idx: u32,
 ) -> Result<(), AllocError>
-    requires { IsShort (record { key = key_of key; kind = kind; value = value.now; seq = seq; idx = idx }) }
-    ensures ok { OnOk result (body.new.items ≡ body.old.items ++ encoded (record { key = key_of key.entry; kind = kind; value = value.now; seq = seq; idx = idx })) }
+    requires { IsShort (record { key = key_of key; kind = kind_of mark; value = value.now; seq = seq; idx = idx }) }
+    ensures ok { OnOk result (body.new.items ≡ body.old.items ++ encoded mark (record { key = key_of key.entry; kind = kind_of mark; value = value.now; seq = seq; idx = idx })) }
     ensures fits { OnOk result (FitsNumbers key.entry.timestamp seq idx) }
     ensures front { take (length body.old.items) body.new.items ≡ body.old.items }
 {
     body.reserve(byte_count(key, value))?;
     put_lengths(body, key, value)?;
-    put_numbers(body, key.timestamp, kind, seq, idx)?;
+    put_numbers(body, key.timestamp, mark, seq, idx)?;
     put_parts(body, key, value)
 }
 
@@ -151,8 +150,53 @@ pub fn append(
     ensures end { IfOk result (λ p. (span_at body.new.items p).end ≡ length body.new.items) }
 {
     let place = body.len();
-    put_record(body, key, kind, value, seq, idx)?;
+    let mark = mark_of(kind, key.label);
+    put_record(body, key, mark, value, seq, idx)?;
     Ok(place)
+}
+
+// The byte for the kind of a record: 0 for a marker, and for a put one of 255 that its label chooses. Whoever reads the head so has a
+// guess at the label at once; nothing but speed hangs on it.
+fn mark_of(kind: Kind, label: &[u8]) -> u8
+    ensures { kind_of result ≡ kind }
+{
+    match kind {
+        Kind::Delete => 0,
+        Kind::Put => 1 + (label_number(label) % 255) as u8,
+    }
+}
+
+// A number for a label of any length: of its length and of its first byte, the one in its middle and its last.
+fn label_number(label: &[u8]) -> u64 {
+    let length = label.len();
+    let number = (length as u64)
+        ^ byte_at(label, 0) << 16
+        ^ byte_at(label, length / 2) << 32
+        ^ byte_at(label, length.saturating_sub(1)) << 48;
+    number.wrapping_mul(0xBF58_476D_1CE4_E5B9) >> 32
+}
+
+// The byte at an index, or 0 behind the end.
+fn byte_at(bytes: &[u8], index: usize) -> u64 {
+    match bytes.get(index) {
+        Some(byte) => u64::from(*byte),
+        None => 0,
+    }
+}
+
+/// The byte that stands for the kind of the record whose head begins at a place.
+#[inline]
+pub(crate) fn mark_at(body: &[u8], place: usize) -> u8
+    requires { IsAt body.now place }
+{
+    mark_in(body, place)
+}
+
+#[inline]
+fn mark_in(body: &[u8], place: usize) -> u8
+    requires { place + 41 ≤ length body.now }
+{
+    body[place + 28]
 }
 
 /// Puts a copy of the record at the end of the body, in one piece, and says where its head begins.

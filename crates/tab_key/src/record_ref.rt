@@ -7,7 +7,7 @@ ghost use Rattle.tab_key.specs.Same.{same_record};
 ghost use Rattle.tab_key.specs.Encoding.{record_at, record_size, IsAt};
 ghost use Rattle.tab_key.specs.Words.{IsWord, mark_of};
 
-use crate::encoding::{bytes_of, span_of};
+use crate::encoding::{bytes_of, mark_at, span_of};
 use crate::word::{mark_between, word_between};
 use crate::{Key, Kind, Piece};
 use std::cmp::Ordering;
@@ -100,6 +100,16 @@ impl<'a> RecordRef<'a> {
     {
         let span = span_of(self.body, self.place);
         word_between(self.body, span.qualifier_end, span.label_end)
+    }
+
+    /// A guess at the label, out of the record's head: 0 for a marker, and for a put a number of a few bits that all puts of its label
+    /// share with puts of others.
+    ///
+    /// It is there before the label can be read, whose place is the sum of three lengths. So who knows what he did with the label of such
+    /// a number last may do the same at once, and see afterwards whether this is that label. No contract says anything of it.
+    #[inline]
+    pub fn label_guess(&self) -> u8 {
+        mark_at(self.body, self.place)
     }
 
     /// The value; a marker has none.

@@ -10,18 +10,18 @@ returns-clause-within c =
     let r : Record = record { key = key_of c.args.key; kind = c.args.kind; value = c.args.value.now; seq = c.args.seq; idx = c.args.idx } in
     let body = c.put_record.new.body.items in
     let start : c.len-place.result ≡ length c.args.body.now.items = search rules in
-    subst (IsAt body) (sym start) (encoded_at c.args.body.now.items body r c.in_ok-put_record.ensures.ok c.requires c.in_ok-put_record.ensures.fits)
+    subst (IsAt body) (sym start) (encoded_at c.args.body.now.items body c.mark_of-mark.result r c.mark_of-mark.ensures c.in_ok-put_record.ensures.ok c.requires c.in_ok-put_record.ensures.fits)
 
 pub returns-clause-record : goal.returns-clause-record
 returns-clause-record c =
     let r : Record = record { key = key_of c.args.key; kind = c.args.kind; value = c.args.value.now; seq = c.args.seq; idx = c.args.idx } in
     let body = c.put_record.new.body.items in
     let start : c.len-place.result ≡ length c.args.body.now.items = search rules in
-    ap (record_at body) start ∙ encoded_record c.args.body.now.items body r c.in_ok-put_record.ensures.ok c.requires c.in_ok-put_record.ensures.fits
+    ap (record_at body) start ∙ encoded_record c.args.body.now.items body c.mark_of-mark.result r c.mark_of-mark.ensures c.in_ok-put_record.ensures.ok c.requires c.in_ok-put_record.ensures.fits
 
 pub returns-clause-end : goal.returns-clause-end
 returns-clause-end c =
     let r : Record = record { key = key_of c.args.key; kind = c.args.kind; value = c.args.value.now; seq = c.args.seq; idx = c.args.idx } in
     let body = c.put_record.new.body.items in
     let start : c.len-place.result ≡ length c.args.body.now.items = search rules in
-    ap (λ p. (span_at body p).end) start ∙ encoded_end c.args.body.now.items body r c.in_ok-put_record.ensures.ok c.requires c.in_ok-put_record.ensures.fits
+    ap (λ p. (span_at body p).end) start ∙ encoded_end c.args.body.now.items body c.mark_of-mark.result r c.mark_of-mark.ensures c.in_ok-put_record.ensures.ok c.requires c.in_ok-put_record.ensures.fits
