@@ -28,10 +28,10 @@ module _ (auths : List (List ℕ)) (words : List ℕ) (verdicts : List (Option B
       let in_verdicts : i < length verdicts = omega (arith, there, length-set verdicts place (Some h)) in
       elim (cases_eq i place) [
         | inl same ↦
-          let here : get_or (set words place word) i o ≡ word = subst (λ (k : ℕ). get_or (set words k word) i o ≡ word) same (get_or-set_same words i word o in_words) in
-          let text_is : label ≡ text = same_words word label text at (subst (λ (w : ℕ). IsWord w text) here is) in
-          let value : get_or (set verdicts place (Some h)) i v ≡ Some h = subst (λ (k : ℕ). get_or (set verdicts k (Some h)) i v ≡ Some h) same (get_or-set_same verdicts i (Some h) v in_verdicts) in
-          some_inj b h (sym e ∙ value) ∙ tells ∙ ap (λ (z : List ℕ). label_holds z auths) text_is
+            let here : get_or (set words place word) i o ≡ word = subst (λ (k : ℕ). get_or (set words k word) i o ≡ word) same (get_or-set_same words i word o in_words) in
+            let text_is : label ≡ text = same_words word label text at (subst (λ (w : ℕ). IsWord w text) here is) in
+            let value : get_or (set verdicts place (Some h)) i v ≡ Some h = subst (λ (k : ℕ). get_or (set verdicts k (Some h)) i v ≡ Some h) same (get_or-set_same verdicts i (Some h) v in_verdicts) in
+            some_inj b h (sym e ∙ value) ∙ tells ∙ ap (λ (z : List ℕ). label_holds z auths) text_is
         | inr apart ↦
-          told i o v in_words in_verdicts b text (sym (get_or-set_other verdicts place i (Some h) v apart) ∙ e) (subst (λ (w : ℕ). IsWord w text) (get_or-set_other words place i word o apart) is)
+            told i o v in_words in_verdicts b text (sym (get_or-set_other verdicts place i (Some h) v apart) ∙ e) (subst (λ (w : ℕ). IsWord w text) (get_or-set_other words place i word o apart) is)
       ]
