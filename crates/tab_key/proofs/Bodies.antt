@@ -2,7 +2,8 @@
 use Rattle.std.proofs.Common.{◌≡◌, ℕ, zero, suc, ◌+◌, ◌-◌, ◌≤◌, List, [], ◌∷◌, ◌++◌, refl, subst, sym, ◌∙◌, ap, length, take, drop, arith, add-one}
 use Rattle.std.specs.Prelude.{map, Result, Ok, Err, OnErr}
 use Rattle.std.specs.List.{AllByRecursion, slice_range}
-use Rattle.std.proofs.lemmas.List.{drop-append-le, take-append-le, take-append-drop, length-drop, length-take, map-append}
+use Rattle.std.proofs.Math.Seq.{take-add}
+use Rattle.std.proofs.lemmas.List.{drop-append-le, take-append-le, take-append-drop, take-take, take_at, drop_at, length-drop, length-take, map-append}
 use Rattle.tab_key.specs.RecordSpans.{record_in, IsWithin}
 use Rattle.tab_key.specs.Records.{Record}
 use Rattle.tab_key.specs.declared.record_span.RecordSpan.{RecordSpan}
@@ -70,6 +71,14 @@ same_record old new p front w =
       seq = p.seq;
       idx = p.idx;
     }
+
+-- of 128 bytes that came behind others the first ones stay
+pub step_kept : (old bytes : List ℕ) (count n : ℕ) → n ≡ length old + count → count ≤ 128 → take n (old ++ take 128 bytes) ≡ old ++ take count bytes
+step_kept old bytes count n is few =
+    let whole : List ℕ = old ++ take 128 bytes in
+    let first : take (length old) whole ≡ old = take_at old (take 128 bytes) (length old) refl in
+    let later : take count (drop (length old) whole) ≡ take count bytes = ap (take count) (drop_at old (take 128 bytes) (length old) refl) ∙ take-take count 128 bytes few in
+    ap (λ k. take k whole) is ∙ take-add (length old) count whole ∙ (λ i. first i ++ later i)
 
 -- what holds holds on an error
 pub at_err : {T E : Type 0} (r : Result T E) {P : Type 0} → P → OnErr r P

@@ -1,5 +1,6 @@
 pub mod Order
 pub mod Each
+pub mod ColumnOrder
 pub mod Columns
 pub mod Selecting
 pub mod Rising

@@ -7,12 +7,16 @@ ghost use Rattle.tab_key.specs.RecordSpans.{record_in, IsWithin};
 ghost use Rattle.tab_key.specs.declared.part.TheConstants.{MAX_PART_LEN};
 
 use crate::record_span::RecordSpan;
-use crate::{Key, Kind, MAX_PART_LEN, RecordRef};
+use crate::{Key, Kind, MAX_PART_LEN, Piece, RecordRef};
 use bytes::Buf;
 use std::alloc::AllocError;
 
 // How many bytes a record has before its row.
 const HEAD_LEN: usize = 41;
+
+// How many bytes are copied at once of a record that has no more, where as many lie behind its beginning and there is memory for them: a
+// copy of a fixed length needs neither a call nor a branch by length.
+const STEP: usize = 128;
 
 // How many bytes a record takes in a body, as a room to ask for at once.
 pub(crate) fn byte_count(key: Key<'_>, value: &[u8]) -> usize {
@@ -211,8 +215,47 @@ pub fn append_copy(body: &mut Vec<u8>, source: &RecordRef<'_>) -> Result<usize, 
     ensures size { OnOk result (length body.new.items ≡ length body.old.items + record_size source.now) }
 {
     let place = body.len();
-    body.extend_from_slice(source.encoded())?;
+    append_piece(body, &source.encoded_piece())?;
     Ok(place)
+}
+
+// Puts the bytes at the end.
+#[inline]
+fn append_piece(body: &mut Vec<u8>, bytes: &Piece<'_>) -> Result<(), AllocError>
+    ensures ok { OnOk result (body.new.items ≡ body.old.items ++ bytes.now) }
+    ensures front { take (length body.old.items) body.new.items ≡ body.old.items }
+{
+    let onward = bytes.onward();
+    let room = body.capacity().saturating_sub(body.len());
+    if bytes.len() <= STEP && STEP <= onward.len() && STEP <= room {
+        return append_step(body, onward, bytes.len());
+    }
+    body.extend_from_slice(bytes.as_slice())
+}
+
+// Puts one step at the end, and takes back of it what isn't one of the first `count` bytes.
+#[inline]
+fn append_step(body: &mut Vec<u8>, bytes: &[u8], count: usize) -> Result<(), AllocError>
+    requires count { count ≤ 128 }
+    requires bytes { 128 ≤ length bytes.now }
+    ensures ok { OnOk result (body.new.items ≡ body.old.items ++ take count bytes.now) }
+    ensures front { take (length body.old.items) body.new.items ≡ body.old.items }
+{
+    body.extend_from_slice(&first_step(bytes))?;
+    let kept = body.len() - (STEP - count);
+    body.truncate(kept);
+    Ok(())
+}
+
+// The first bytes by themselves: that they lie apart from the body needn't be asked when they are copied on.
+#[inline]
+fn first_step(bytes: &[u8]) -> [u8; STEP]
+    requires { 128 ≤ length bytes.now }
+    ensures { result ≡ take 128 bytes.now }
+{
+    let mut step = [0; STEP];
+    step.copy_from_slice(&bytes[..STEP]);
+    step
 }
 
 // The number that the four bytes at a place spell.
@@ -294,14 +337,14 @@ pub fn end_of(body: &[u8], place: usize) -> usize
     span_at(body, place).end
 }
 
-/// The bytes of the record that lies in the body at a place: its head and its parts.
+/// The bytes of the record that lies in the body at a place, as a piece of it: its head and its parts.
 #[inline]
-pub(crate) fn bytes_of(body: &[u8], place: usize) -> &[u8]
+pub(crate) fn piece_of(body: &[u8], place: usize) -> Piece<'_>
     requires { IsAt body.now place }
-    ensures at { IsAt result.now 0 }
-    ensures record { record_at result.now 0 ≡ record_at body.now place }
-    ensures size { length result.now ≡ record_size (record_at body.now place) }
+    ensures at { IsAt result 0 }
+    ensures record { record_at result 0 ≡ record_at body.now place }
+    ensures size { length result ≡ record_size (record_at body.now place) }
 {
     let end = end_of(body, place);
-    &body[place..end]
+    Piece::between(body, place, end)
 }

@@ -55,4 +55,12 @@ impl<'a> Piece<'a> {
     {
         self.onward
     }
+
+    /// The bytes alone.
+    #[inline]
+    pub fn as_slice(&self) -> &'a [u8]
+        ensures { result.now ≡ self.now }
+    {
+        &self.onward[..self.len]
+    }
 }

@@ -1,13 +1,13 @@
 //! A record that someone else holds.
 ghost use Rattle.std.specs.Prelude.{◌≡◌, ◌++◌, IfSome, is_some, length, nat_le};
-ghost use Rattle.tab_key.specs.Order.{place_cmp, newer_cmp, record_cmp};
+ghost use Rattle.tab_key.specs.Order.{column_cmp, key_cmp, place_cmp, newer_cmp, record_cmp};
 ghost use Rattle.tab_key.specs.Kept.{same_column, hides};
 ghost use Rattle.tab_key.specs.KeyOf.{key_of};
 ghost use Rattle.tab_key.specs.Same.{same_record};
 ghost use Rattle.tab_key.specs.Encoding.{record_at, record_size, IsAt};
 ghost use Rattle.tab_key.specs.Words.{IsWord, mark_of};
 
-use crate::encoding::{bytes_of, mark_at, span_of};
+use crate::encoding::{mark_at, piece_of, span_of};
 use crate::word::{mark_between, word_between};
 use crate::{Key, Kind, Piece};
 use std::cmp::Ordering;
@@ -213,12 +213,42 @@ impl<'a> RecordRef<'a> {
         Piece::between(self.body, span.label_end, span.end)
     }
 
+    // The order of columns. Where the parts before the label are as long as the other's, all are compared in one piece.
+    #[tactic(auto, using(crate::proofs::ColumnOrder::in_one_piece))]
+    fn column_cmp(&self, other: &RecordRef<'_>) -> Ordering
+        ensures { result ≡ column_cmp self.now.key other.now.key }
+    {
+        let own = self.key();
+        let others = other.key();
+        if own.row.len() != others.row.len() {
+            return own.column_cmp(others);
+        }
+        if own.family.len() != others.family.len() {
+            return own.column_cmp(others);
+        }
+        if own.qualifier.len() != others.qualifier.len() {
+            return own.column_cmp(others);
+        }
+        self.column().cmp(other.column())
+    }
+
+    // The order of keys.
+    #[tactic(auto, unfolding(crate::specs::Order::key_cmp))]
+    fn key_cmp(&self, other: &RecordRef<'_>) -> Ordering
+        ensures { result ≡ key_cmp self.now.key other.now.key }
+    {
+        match self.column_cmp(other) {
+            Ordering::Equal => other.timestamp().cmp(&self.timestamp()),
+            decided => decided,
+        }
+    }
+
     /// The order of keys, and a marker before a put.
     #[tactic(auto, unfolding(crate::specs::Order::place_cmp))]
     fn place_cmp(&self, other: &RecordRef<'_>) -> Ordering
         ensures { result ≡ place_cmp self.now other.now }
     {
-        match self.key().cmp(other.key()) {
+        match self.key_cmp(other) {
             Ordering::Equal => self.kind().rank().cmp(&other.kind().rank()),
             decided => decided,
         }
@@ -245,14 +275,24 @@ impl<'a> RecordRef<'a> {
         }
     }
 
-    // Its head and its parts, in one piece.
+    // Its head and its parts, as a piece of the body.
+    #[inline]
+    pub(crate) fn encoded_piece(&self) -> Piece<'a>
+        ensures at { IsAt result 0 }
+        ensures record { record_at result 0 ≡ self.now }
+        ensures size { length result ≡ record_size self.now }
+    {
+        piece_of(self.body, self.place)
+    }
+
+    // Its head and its parts.
     #[inline]
     pub(crate) fn encoded(&self) -> &'a [u8]
         ensures at { IsAt result.now 0 }
         ensures record { record_at result.now 0 ≡ self.now }
         ensures size { length result.now ≡ record_size self.now }
     {
-        bytes_of(self.body, self.place)
+        self.encoded_piece().as_slice()
     }
 
     /// Row, family, qualifier and label, one after another in one piece.
