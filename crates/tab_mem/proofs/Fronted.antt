@@ -31,19 +31,19 @@ module _ (ns : List ℕ) (rs : List Record) (r : Record) (h : AreFronts ns rs) w
   long = length-append rs (r ∷ [])
 
   -- those from before have their records still
-  still : (k d : ℕ) (u : Record) → k < length ns → IsRowPrefix (get_or ns k d) (get_or (rs ++ r ∷ []) (64 * k) u).key.row
+  still : (k d : ℕ) (u : Record) → k < length ns → IsRowPrefix (get_or ns k d) (get_or (rs ++ r ∷ []) (16 * k) u).key.row
   still k d u lt =
-      let inside : 64 * k < length rs = omega (arith, h.few, lt) in
-      subst (λ (v : Record). IsRowPrefix (get_or ns k d) v.key.row) (sym (get_or-append rs (r ∷ []) u (64 * k) inside)) (h.each k d u lt)
+      let inside : 16 * k < length rs = omega (arith, h.few, lt) in
+      subst (λ (v : Record). IsRowPrefix (get_or ns k d) v.key.row) (sym (get_or-append rs (r ∷ []) u (16 * k) inside)) (h.each k d u lt)
 
-  pub not_indexed : (length rs % 64 ≡ 0 → ⊥) → AreFronts ns (rs ++ r ∷ [])
+  pub not_indexed : (length rs % 16 ≡ 0 → ⊥) → AreFronts ns (rs ++ r ∷ [])
   not_indexed other = record {
     all = omega (arith, long, h.all, h.few, other);
     few = omega (arith, long, h.few);
     each = still;
   }
 
-  pub indexed : (p : ℕ) → length rs % 64 ≡ 0 → IsRowPrefix p r.key.row → AreFronts (ns ++ p ∷ []) (rs ++ r ∷ [])
+  pub indexed : (p : ℕ) → length rs % 16 ≡ 0 → IsRowPrefix p r.key.row → AreFronts (ns ++ p ∷ []) (rs ++ r ∷ [])
   indexed p e own = record {
     all = omega (arith, long, more, h.all);
     few = omega (arith, long, more, full);
@@ -53,17 +53,17 @@ module _ (ns : List ℕ) (rs : List Record) (r : Record) (h : AreFronts ns rs) w
       more : length (ns ++ p ∷ []) ≡ length ns + 1
       more = length-append ns (p ∷ [])
 
-      full : 64 * length ns ≡ length rs
+      full : 16 * length ns ≡ length rs
       full = omega (arith, h.all, h.few, e)
 
-      each : (k d : ℕ) (u : Record) → k < length (ns ++ p ∷ []) → IsRowPrefix (get_or (ns ++ p ∷ []) k d) (get_or (rs ++ r ∷ []) (64 * k) u).key.row
+      each : (k d : ℕ) (u : Record) → k < length (ns ++ p ∷ []) → IsRowPrefix (get_or (ns ++ p ∷ []) k d) (get_or (rs ++ r ∷ []) (16 * k) u).key.row
       each k d u lt = by_bool (nat_lt k (length ns))
           (λ t. let first : k < length ns = grind (arith, nat_tests) in
-          subst (λ n. IsRowPrefix n (get_or (rs ++ r ∷ []) (64 * k) u).key.row) (sym (get_or-append ns (p ∷ []) d k first)) (still k d u first))
+          subst (λ n. IsRowPrefix n (get_or (rs ++ r ∷ []) (16 * k) u).key.row) (sym (get_or-append ns (p ∷ []) d k first)) (still k d u first))
           (λ f. let le : length ns ≤ k = grind (arith, nat_tests) in
           let last : k ≡ length ns = omega (arith, le, lt, more) in
-          let there : 64 * k ≡ length rs = omega (arith, last, full) in
-          subst (λ n. IsRowPrefix n (get_or (rs ++ r ∷ []) (64 * k) u).key.row) (sym (ap (λ j. get_or (ns ++ p ∷ []) j d) last ∙ get_or-append_seam ns p [] d))
+          let there : 16 * k ≡ length rs = omega (arith, last, full) in
+          subst (λ n. IsRowPrefix n (get_or (rs ++ r ∷ []) (16 * k) u).key.row) (sym (ap (λ j. get_or (ns ++ p ∷ []) j d) last ∙ get_or-append_seam ns p [] d))
           (subst (λ (v : Record). IsRowPrefix p v.key.row) (sym (ap (λ j. get_or (rs ++ r ∷ []) j u) there ∙ get_or-append_seam rs r [] u)) own))
 
 -- ---- they rise
@@ -79,7 +79,7 @@ fronts_rise ns rs h rise i j d le low = by_bool (nat_lt (get_or ns j d) (get_or 
     (λ t. let over : get_or ns j d < get_or ns i d = grind (arith, nat_tests) in absurd (not_over over))
     (λ f. grind (arith, nat_tests))
   where
-    inside : 64 * j < length rs
+    inside : 16 * j < length rs
     inside = omega (arith, h.few, low)
 
     apart : get_or ns j d < get_or ns i d → i < j
@@ -90,47 +90,47 @@ fronts_rise ns rs h rise i j d le low = by_bool (nat_lt (get_or ns j d) (get_or 
     not_over : get_or ns j d < get_or ns i d → ⊥
     not_over over =
         let before : i < j = apart over in
-        let less = pair_rises rs rise (64 * i) (64 * j) blank (omega (arith, before)) inside in
-        let upto = rows_rise (get_or rs (64 * i) blank) (get_or rs (64 * j) blank) less in
-        let more = greater_rows (get_or rs (64 * i) blank).key.row (get_or rs (64 * j) blank).key.row (get_or ns i d) (get_or ns j d) (h.each i d blank (omega (arith, before, low))) (h.each j d blank low) over in
+        let less = pair_rises rs rise (16 * i) (16 * j) blank (omega (arith, before)) inside in
+        let upto = rows_rise (get_or rs (16 * i) blank) (get_or rs (16 * j) blank) less in
+        let more = greater_rows (get_or rs (16 * i) blank).key.row (get_or rs (16 * j) blank).key.row (get_or ns i d) (get_or ns j d) (h.each i d blank (omega (arith, before, low))) (h.each j d blank low) over in
         let bad : true ≡ false = sym (ap is_gt more) ∙ upto in cc
 
 -- ---- how many records stand before a start
 module _ (s : Start) (q : ℕ) (ns : List ℕ) (rs : List Record) (h : AreFronts ns rs) (rise : IsRising rs) (own : IsPrefixOf s q) where
   -- at least the last one whose front is below the prefix, and those before it
-  pub low_count : 64 * count_below q ns ≤ prefix_len (is_before s) rs + 63
+  pub low_count : 16 * count_below q ns ≤ prefix_len (is_before s) rs + 15
   low_count = by_bool (nat_lt 0 (count_below q ns))
       (λ t. let some : 0 < count_below q ns = grind (arith, nat_tests) in go some)
       (λ f. let none : count_below q ns ≡ 0 = grind (arith, nat_tests) in omega (arith, none))
     where
-      go : 0 < count_below q ns → 64 * count_below q ns ≤ prefix_len (is_before s) rs + 63
+      go : 0 < count_below q ns → 16 * count_below q ns ≤ prefix_len (is_before s) rs + 15
       go some =
           let k = count_below q ns - 1 in
           let within = below_within q ns in
           let low : k < length ns = omega (arith, some, within) in
           let under : get_or ns k 0 < q = below_first q ns k 0 (omega (arith, some)) in
-          let there : is_before s (get_or rs (64 * k) blank) ≡ true = own.lower (get_or rs (64 * k) blank) (get_or ns k 0) (h.each k 0 blank low) under in
-          let more = before_earlier s rs rise (64 * k) blank (omega (arith, h.few, low)) there in
+          let there : is_before s (get_or rs (16 * k) blank) ≡ true = own.lower (get_or rs (16 * k) blank) (get_or ns k 0) (h.each k 0 blank low) under in
+          let more = before_earlier s rs rise (16 * k) blank (omega (arith, h.few, low)) there in
           omega (arith, some, more)
 
   -- none from the first one on whose front is above it
-  pub high_count : ((k : ℕ) → get_or ns k 0 < 2 ^ 128) → prefix_len (is_before s) rs ≤ 64 * count_below (q + 1) ns
+  pub high_count : ((k : ℕ) → get_or ns k 0 < 2 ^ 128) → prefix_len (is_before s) rs ≤ 16 * count_below (q + 1) ns
   high_count fits = by_bool (nat_lt (count_below (q + 1) ns) (length ns))
       (λ t. let some : count_below (q + 1) ns < length ns = grind (arith, nat_tests) in go some)
       (λ f. let none : length ns ≤ count_below (q + 1) ns = grind (arith, nat_tests) in let whole = prefix_len-le-length (is_before s) rs in omega (arith, none, whole, h.all))
     where
-      go : count_below (q + 1) ns < length ns → prefix_len (is_before s) rs ≤ 64 * count_below (q + 1) ns
+      go : count_below (q + 1) ns < length ns → prefix_len (is_before s) rs ≤ 16 * count_below (q + 1) ns
       go some =
           let k = count_below (q + 1) ns in
           let over : q + 1 ≤ get_or ns k 0 = not_below (q + 1) ns 0 some in
-          let there : is_before s (get_or rs (64 * k) blank) ≡ false = own.higher (get_or rs (64 * k) blank) (get_or ns k 0) (fits k) (h.each k 0 blank some) (omega (arith, over)) in
-          before_later s rs (64 * k) blank there (omega (arith, h.few, some))
+          let there : is_before s (get_or rs (16 * k) blank) ≡ false = own.higher (get_or rs (16 * k) blank) (get_or ns k 0) (fits k) (h.each k 0 blank some) (omega (arith, over)) in
+          before_later s rs (16 * k) blank there (omega (arith, h.few, some))
 
 -- .. also of those of a part of the numbers, of which the records of another part are
-pub low_part : (low n below first past : ℕ) → 64 * below ≤ n + 63 → first ≡ low / 64 → 64 * max first (min below past) < max low n + 64
+pub low_part : (low n below first past : ℕ) → 16 * below ≤ n + 15 → first ≡ low / 16 → 16 * max first (min below past) < max low n + 16
 low_part low n below first past a f = omega (arith, a, f)
 
-pub high_part : (high n above first past size count : ℕ) → n ≤ 64 * above → n ≤ count → count ≤ 64 * size → past ≡ min (high / 64 + 1) size → min n high ≤ 64 * max first (min above past)
+pub high_part : (high n above first past size count : ℕ) → n ≤ 16 * above → n ≤ count → count ≤ 16 * size → past ≡ min (high / 16 + 1) size → min n high ≤ 16 * max first (min above past)
 high_part high n above first past size count a w c p = omega (arith, a, w, c, p)
 
 -- ---- a part of the numbers

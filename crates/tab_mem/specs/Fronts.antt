@@ -1,4 +1,4 @@
--- The row prefixes of each 64th record of a list.
+-- The row prefixes of each 16th record of a list.
 use Rattle.std.specs.Prelude.{ℕ, ◌+◌, ◌*◌, ◌<◌, ◌≤◌, List, length}
 use Rattle.std.specs.List.{AllByRecursion-prop, slice_index_or}
 use Rattle.std.specs.Coded.{Coded-set, coded_ℕ, le_prop}
@@ -7,7 +7,7 @@ use Rattle.tab_key.specs.Records.{Record}
 use Rattle.tab_key.specs.RowPrefix.{padded, IsRowPrefix}
 use Rattle.tab_mem.specs.declared.fronts.TheConstants.{STRIDE}
 
--- the numbers are the row prefixes of the first record and each 64th one after it, in their order
+-- the numbers are the row prefixes of the first record and each 16th one after it, in their order
 pub record AreFronts (ns : List ℕ) (rs : List Record) : Type 0 where
   pub all : length rs ≤ STRIDE * length ns
   pub few : STRIDE * length ns < length rs + STRIDE

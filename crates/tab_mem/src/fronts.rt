@@ -15,10 +15,13 @@ use std::ops::Range;
 use tab_key::{RecordRef, row_prefix};
 
 /// Of so many records that follow on each other the first one is in the index.
-const STRIDE: usize = 64;
+const STRIDE: usize = 16;
 
-/// The row prefixes of the first of some records and of each 64th one after it, side by side: a sparse index, which takes a quarter of a
-/// byte for each record. A search reads it first, and then only records that stand between two of those that are in it.
+/// What lies so many places behind in the index is far.
+const FAR: usize = 8;
+
+/// The row prefixes of the first of some records and of each 16th one after it, side by side: a sparse index, which takes a byte for
+/// each record. A search reads it first, and then only records that stand between two of those that are in it.
 #[derive(Drop)]
 pub struct Fronts {
     numbers: Vec<u128>,
@@ -51,7 +54,7 @@ impl Fronts {
         self.numbers.reserve(1)
     }
 
-    /// Takes note of the record with this index, which comes behind all others. There is room for it. Only each 64th one is read.
+    /// Takes note of the record with this index, which comes behind all others. There is room for it. Only each 16th one is read.
     pub fn put(&mut self, index: usize, lent: &RecordRef<'_>)
         requires room { vec_len self.old.numbers < vec_capacity self.old.numbers }
         ensures { (rs : List Record) → length rs ≡ index → AreFronts self.old.numbers.items rs → AreFronts self.new.numbers.items (rs ++ lent.now ∷ []) }
@@ -82,6 +85,15 @@ impl Fronts {
         ensures count { (rs : List Record) → AreFronts self.now.numbers.items rs → IsRising rs → high ≤ length rs → max low (min (prefix_len (is_before start.entry) rs) high) ≡ max result.start (min (prefix_len (is_before start.entry) rs) result.end) }
     {
         narrow_in(&self.numbers, low, high, start)
+    }
+
+    /// Whether the row of a record that stands some 128 places behind this index is below the start's, as far as the prefixes tell. Only
+    /// speed hangs on it.
+    pub fn is_far(&self, index: usize, start: Start<'_>) -> bool {
+        match self.numbers.get(index / STRIDE + FAR) {
+            Some(number) => *number < start.prefix(),
+            None => false,
+        }
     }
 }
 

@@ -37,7 +37,7 @@ pub use active::Active;
 pub use cursor::RunCursor;
 pub use fronts::Fronts;
 pub use ordered::Ordered;
-pub use records::Records;
+pub use records::{Records, room_between};
 pub use rising::{count_below, count_up_to};
 pub use run::Run;
 pub use searching::{first_near, rows_in};

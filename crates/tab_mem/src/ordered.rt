@@ -29,4 +29,8 @@ pub trait Ordered {
         ensures order { result.start ≤ result.end }
         ensures high { result.end ≤ high }
         ensures count { max low (min (prefix_len (is_before start.entry) (listed self.now)) high) ≡ max result.start (min (prefix_len (is_before start.entry) (listed self.now)) result.end) };
+
+    /// A guess whether the start lies far behind the record at an index, so that a search needn't look for it near there. No record is
+    /// read for it. Only speed hangs on it, so no contract speaks of it.
+    fn is_far(&self, index: usize, start: Start<'_>) -> bool;
 }

@@ -14,7 +14,7 @@ use std::ops::Range;
 use tab_key::{Key, Kind, RecordRef, append};
 
 /// Records, one after another in one body, in the order in which they were put. A record takes there what `tab_key` puts, 8 bytes for
-/// its place, and a quarter of a byte for a sparse index of their rows. A contract sees their list.
+/// its place, and one for a sparse index of their rows. A contract sees their list.
 #[derive(Drop)]
 pub struct Records {
     body: Vec<u8>,
@@ -83,15 +83,7 @@ impl Records {
     /// How much room to ask for, in bytes, where the records from one index up to another are copied: what they take in the body. Only
     /// how often memory is taken hangs on it.
     pub(crate) fn room(&self, from: usize, end: usize) -> usize {
-        self.place_of(end).saturating_sub(self.place_of(from))
-    }
-
-    // Where the record at an index begins; behind the last one the end of the body.
-    fn place_of(&self, index: usize) -> usize {
-        match self.places.get(index) {
-            Some(place) => *place,
-            None => self.body.len(),
-        }
+        room_between(&self.places, self.body.len(), from, end)
     }
 
     /// The record at an index, counted from 0.
@@ -175,5 +167,23 @@ impl Ordered for Records {
 
     fn narrowed(&self, low: usize, high: usize, start: Start<'_>) -> Range<usize> {
         self.fronts.narrow(low, high, start)
+    }
+
+    fn is_far(&self, index: usize, start: Start<'_>) -> bool {
+        self.fronts.is_far(index, start)
+    }
+}
+
+/// How many bytes the records from one index up to another take in a body of this length in which they begin at these places, one behind
+/// the other.
+pub fn room_between(places: &[usize], length: usize, from: usize, end: usize) -> usize {
+    place_of(places, length, end).saturating_sub(place_of(places, length, from))
+}
+
+// Where the record at an index begins; behind the last one the end of the body.
+fn place_of(places: &[usize], length: usize, index: usize) -> usize {
+    match places.get(index) {
+        Some(place) => *place,
+        None => length,
     }
 }

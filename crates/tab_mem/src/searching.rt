@@ -51,13 +51,17 @@ fn count_by_halves<R: Ordered>(
     low
 }
 
-// The same, by steps from `low` on that double. Where the count isn't near, it is then looked for in all that is left.
+// The same, by steps from `low` on that double. Where the count isn't near, it is then looked for in all that is left, and at once where
+// the index of rows tells that it is far: each step reads a record that lies elsewhere.
 fn count_from<R: Ordered>(records: &R, low: usize, high: usize, start: Start<'_>) -> usize
     requires rising { IsRising (R.listed records.now) }
     requires ends { low ≤ high }
     requires inside { high ≤ length (R.listed records.now) }
     ensures { result ≡ max low (min (prefix_len (is_before start.entry) (R.listed records.now)) high) }
 {
+    if records.is_far(low, start) {
+        return count_between(records, low, high, start);
+    }
     let far = high.min(low.saturating_add(FAR));
     let mut near = low;
     let mut step: usize = 1;

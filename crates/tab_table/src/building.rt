@@ -53,17 +53,10 @@ impl Table {
 
     /// A table of the records that the source has left, which it reads to its end. Each is copied once.
     ///
-    /// While it grows it may take twice the memory that the table keeps. After an error, which only want of memory gives, some of the
-    /// records are passed.
-    pub fn build<S: Source>(alloc: Global, source: &mut S) -> Result<Table, NoMemory>
-        ensures { IfOk result (λ t. records t ≡ S.rest source.old) }
-    {
-        Table::build_with_room(alloc, source, 0, 0)
-    }
-
-    /// The same, with room from the start for so many records in so many bytes. Where the source has no more, building takes no more
-    /// memory than the table keeps.
-    pub fn build_with_room<S: Source>(
+    /// There is room from the start for so many records in so many bytes, and what isn't needed of it is given back. Where the source
+    /// has more, the table may take twice the memory that it keeps while it grows. After an error, which only want of memory gives,
+    /// some of the records are passed.
+    pub fn build<S: Source>(
         alloc: Global,
         source: &mut S,
         count: usize,

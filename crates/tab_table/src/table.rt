@@ -15,12 +15,12 @@ ghost use Rattle.tab_table.specs.Sizes.{encoded_size};
 use bytes::Bytes;
 use std::ops::Range;
 use tab_key::{Bounds, RecordRef};
-use tab_mem::{Fronts, Ordered, Start, rows_in};
+use tab_mem::{Fronts, Ordered, Start, room_between, rows_in};
 
 /// Records that no longer change, in their order. A contract sees their list by `records`.
 ///
-/// They lie in one piece of bytes, one after another; beside it a table takes 8 bytes a record, and a quarter of a byte for a sparse
-/// index of their rows. (Accumulo user manual: a file that a compaction writes)
+/// They lie in one piece of bytes, one after another; beside it a table takes 8 bytes a record, and one for a sparse index of their
+/// rows. (Accumulo user manual: a file that a compaction writes)
 #[derive(Drop)]
 pub struct Table {
     pub(crate) body: Bytes,
@@ -88,6 +88,12 @@ impl Table {
         self.get(index).row()
     }
 
+    /// How much room to ask for, in bytes, where the records from one index up to another are copied: what they take in the body. Only
+    /// how often memory is taken hangs on it.
+    pub fn room(&self, from: usize, end: usize) -> usize {
+        room_between(&self.places, self.body.len(), from, end)
+    }
+
     /// The indexes of the records of a part whose rows are in bounds: these records stand together. The part goes from one index
     /// up to another, that one excluded.
     ///
@@ -125,5 +131,9 @@ impl Ordered for Table {
 
     fn narrowed(&self, low: usize, high: usize, start: Start<'_>) -> Range<usize> {
         self.fronts.narrow(low, high, start)
+    }
+
+    fn is_far(&self, index: usize, start: Start<'_>) -> bool {
+        self.fronts.is_far(index, start)
     }
 }

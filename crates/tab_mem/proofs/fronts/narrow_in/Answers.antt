@@ -12,7 +12,7 @@ returns-clause-count c rs h rise inside =
     let q = c.prefix.result in
     let ns = c.args.numbers.now in
     let n = prefix_len (is_before s) rs in
-    let first = c.args.low / 64 in
+    let first = c.args.low / 16 in
     let past = c.min-past.result in
     let low = low_part c.args.low n (count_below q ns) first past (low_count s q ns rs h rise c.prefix.ensures) refl in
     let high = high_part c.args.high n (count_below (q + 1) ns) first past (length ns) (length rs) (high_count s q ns rs h rise c.prefix.ensures (λ k. let item = c.type_inv.numbers k in item.fits)) (prefix_len-le-length (is_before s) rs) h.all c.min-past.ensures in

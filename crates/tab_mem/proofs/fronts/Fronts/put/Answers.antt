@@ -10,4 +10,4 @@ returns-then-index-eq0 c rs at h =
     (indexed c.args.self.now.numbers.items rs c.args.lent.now h c.row_prefix.result (omega (arith, at, c.if-index-eq0.true)) (subst (IsRowPrefix c.row_prefix.result) c.row.ensures c.row_prefix.ensures))
 
 pub returns-else-index-eq0 : goal.returns-else-index-eq0
-returns-else-index-eq0 c rs at h = not_indexed c.args.self.now.numbers.items rs c.args.lent.now h (λ e. c.if-index-eq0.false (ap (λ n. n % 64) (sym at) ∙ e))
+returns-else-index-eq0 c rs at h = not_indexed c.args.self.now.numbers.items rs c.args.lent.now h (λ e. c.if-index-eq0.false (ap (λ n. n % 16) (sym at) ∙ e))

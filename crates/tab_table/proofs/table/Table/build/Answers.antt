@@ -5,7 +5,7 @@ use Rattle.tab_key.specs.Encoding.{records_at, AreAt}
 use Rattle.tab_mem.specs.Fronts.{AreFronts}
 use Rattle.tab_table.specs.Sizes.{encoded_size}
 use Rattle.tab_table.proofs.Grown.{moved}
-use Rattle.tab_table.proofs.table.Table.build_with_room.Goals as goal
+use Rattle.tab_table.proofs.table.Table.build.Goals as goal
 
 pub invariant_of-result : goal.invariant_of-result
 invariant_of-result g c =
