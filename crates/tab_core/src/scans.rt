@@ -44,7 +44,7 @@ fn session_on(alloc: Global, tables: &mut Tables, scan: &mut Scan) -> Result<Ses
     let version = tables.open(alloc, &scan.table, &scan.bounds)?;
     let columns = mem::replace(&mut scan.columns, Items::new(alloc));
     let authorizations = mem::replace(&mut scan.authorizations, AuthSet::empty(alloc));
-    Ok(Session::new(version, columns, authorizations, versions))
+    Ok(Session::new(alloc, version, columns, authorizations, versions))
 }
 
 // How many versions the table shows; none, where there is no such table.

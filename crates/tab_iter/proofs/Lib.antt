@@ -14,5 +14,5 @@ pub mod StackLaws
 pub mod MergeLaws
 pub mod Steps
 pub mod Orders
-pub mod Verdicts
+pub mod KeptVerdicts
 pub mod KnownVerdicts

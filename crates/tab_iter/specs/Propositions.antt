@@ -1,14 +1,15 @@
 -- What ghost fields hold are propositions: each fact has one proof.
 use Rattle.std.specs.Prelude.{◌≡◌, ℕ, List, [], ◌∷◌, Bool, false}
 use Rattle.std.specs.List.{AllByRecursion-prop}
-use Rattle.std.specs.Coded.{×_prop, Unit-prop, Coded-set, coded_bool}
+use Rattle.std.specs.Coded.{×_prop, Unit-prop, Coded-set, coded_bool, le_prop}
 use mathlib.Core.HLevel.{Π_prop, ⊥_prop}
 use Rattle.tab_key.specs.Records.{Record}
 use Rattle.tab_key.specs.Sorted.{IsDistinct}
 use Rattle.tab_iter.specs.Lists.{HasI64Timestamps}
 use Rattle.tab_iter.specs.Bags.{IsDescending, Covers}
-use Rattle.tab_iter.specs.Verdicts.{AreSound}
-use Rattle.tab_iter.specs.declared.verdict.Verdict.{Verdict}
+use Rattle.tab_iter.specs.Verdicts.{IsIn, AreSound, IsSound}
+use Rattle.tab_iter.specs.declared.verdicts.Verdict.{Verdict}
+use Rattle.tab_iter.specs.declared.verdicts.Verdicts.{Verdicts}
 
 pub HasI64Timestamps-prop : (xs : List Record) → IsProp (HasI64Timestamps xs)
 HasI64Timestamps-prop xs = Π_prop λ _. Π_prop λ _. Coded-set coded_bool _ _
@@ -27,6 +28,12 @@ IsDescending-prop unpositioned xss os = Π_prop λ _. go os
 pub Covers-prop : (unpositioned : Bool) (xss : List (List Record)) (os : List ℕ) → IsProp (unpositioned ≡ false → Covers xss os)
 Covers-prop unpositioned xss os = Π_prop λ _. Π_prop λ _. Π_prop λ _. Coded-set coded_bool _ _
 
-pub AreSound-prop : (auths : List (List ℕ)) (js : List Verdict) → IsProp (AreSound auths js)
-AreSound-prop auths [] = Unit-prop
-AreSound-prop auths (j ∷ js) = ×_prop (Coded-set coded_bool _ _) (AreSound-prop auths js)
+IsIn-prop : (body : List ℕ) (j : Verdict) → IsProp (IsIn body j)
+IsIn-prop body j a b = λ i. record { order = le_prop a.order b.order i; within = le_prop a.within b.within i }
+
+AreSound-prop : (auths : List (List ℕ)) (body : List ℕ) (js : List Verdict) → IsProp (AreSound auths body js)
+AreSound-prop auths body [] = Unit-prop
+AreSound-prop auths body (j ∷ js) = ×_prop (×_prop (IsIn-prop body j) (Coded-set coded_bool _ _)) (AreSound-prop auths body js)
+
+pub IsSound-prop : (auths : List (List ℕ)) (v : Verdicts) → IsProp (IsSound auths v)
+IsSound-prop auths v = AreSound-prop auths v.body.items v.kept.items

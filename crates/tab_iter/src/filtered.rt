@@ -48,6 +48,14 @@ impl<S: Source + Drop, R: Rule + Drop> Filtered<S, R> {
             unpositioned: true,
         }
     }
+
+    /// The rule; the source is dropped.
+    pub(crate) fn into_rule(self) -> R
+        ensures { result ≡ self.rule }
+    {
+        let Filtered { rule, .. } = self;
+        rule
+    }
 }
 
 impl<S: Source, R: Rule> Source for Filtered<S, R> {

@@ -2,8 +2,9 @@
 ghost use Rattle.std.specs.Prelude.{◌≡◌, ◌<◌, ◌≤◌, ◌+◌, ◌++◌, ◌∷◌, [], None, Some, IfOk, OnOk, length, take, drop};
 ghost use Rattle.tab_key.specs.KeyOf.{key_of};
 ghost use Rattle.tab_key.specs.Kept.{same_column};
+ghost use Rattle.tab_key.specs.Words.{mark_of};
 ghost use Rattle.tab_iter.specs.Columns.{is_of, next_column, next_of, IsColumnOf};
-ghost use Rattle.tab_iter.specs.LastColumn.{parts_in, front_in, AreEnds};
+ghost use Rattle.tab_iter.specs.LastColumn.{parts_in, front_in, front_of, AreEnds};
 ghost use Rattle.tab_iter.specs.Lists.{latest};
 
 use crate::NoMemory;
@@ -69,10 +70,22 @@ impl LastColumn {
     pub fn is_of(&self, next: &RecordRef<'_>) -> bool
         ensures { result ≡ is_of self.now next.now.key }
     {
+        match self.ends {
+            None => false,
+            Some(_) => self.is_of_marked(next, next.column_mark()),
+        }
+    }
+
+    // The same for a record whose mark is known.
+    #[inline]
+    fn is_of_marked(&self, next: &RecordRef<'_>, mark: u64) -> bool
+        requires { mark ≡ mark_of (front_of next.now.key) }
+        ensures { result ≡ is_of self.now next.now.key }
+    {
         match &self.ends {
             None => false,
             Some(ends) => {
-                if next.column_mark() != self.mark {
+                if mark != self.mark {
                     return false;
                 }
                 is_column(front_in(&self.body, ends), ends, next)
@@ -103,15 +116,21 @@ impl LastColumn {
         ensures same { IfOk result (λ b. b ≡ is_of self.old next.now.key) }
         ensures column { OnOk result (IsColumnOf self.new next.now.key) }
     {
-        if self.is_of(next) {
+        let mark = next.column_mark();
+        if self.is_of_marked(next, mark) {
             return Ok(true);
         }
-        let mark = next.column_mark();
-        self.ends = None;
-        let ends = put_column(&mut self.body, next)?;
-        self.ends = Some(ends);
-        self.mark = mark;
-        Ok(false)
+        match put_column(&mut self.body, next) {
+            Ok(ends) => {
+                self.ends = Some(ends);
+                self.mark = mark;
+                Ok(false)
+            }
+            Err(fault) => {
+                self.ends = None;
+                Err(fault)
+            }
+        }
     }
 }
 
@@ -164,17 +183,18 @@ fn put_step(body: &mut [u8], bytes: &[u8], count: usize)
     requires room { 64 ≤ length body.old }
     ensures { take (count + 1) body.new ≡ take count bytes.now ++ 0 ∷ [] }
 {
-    write_front(body, &first_step(bytes));
+    write_step(body, bytes);
     body[count] = 0;
 }
 
-// Puts the bytes at the beginning, over as many.
+// Puts the first step of the bytes at the beginning.
 #[inline]
-fn write_front(body: &mut [u8], bytes: &[u8])
-    requires { length bytes.now ≤ length body.old }
-    ensures { body.new ≡ bytes.now ++ drop (length bytes.now) body.old }
+fn write_step(body: &mut [u8], bytes: &[u8])
+    requires bytes { 64 ≤ length bytes.now }
+    requires room { 64 ≤ length body.old }
+    ensures { body.new ≡ take 64 bytes.now ++ drop 64 body.old }
 {
-    body[..bytes.len()].copy_from_slice(bytes);
+    body[..STEP].copy_from_slice(&first_step(bytes));
 }
 
 // The first bytes by themselves: that they lie apart from the body needn't be asked when they are copied on.

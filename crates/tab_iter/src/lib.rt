@@ -13,7 +13,7 @@
 //! | `first_markers_rule` | the rule of a merge: of each column the first marker |
 //! | `last_column` | the column of the last record that a rule observed, and the one next after it |
 //! | `named_column` | where the columns that a scan names begin in a row |
-//! | `verdict`, `hints` | verdicts on labels, kept and found again, and where those on longer labels were found last |
+//! | `verdicts`, `hints` | verdicts on labels, kept and found again, and where those on longer labels were found last |
 //! | `known_verdicts` | verdicts on short labels, found by number |
 //! | `layers` | what a scan reads: its rules, one behind the other, in one layer |
 //! | `merged` | what a merge writes: its rules, one behind the other, in one layer |
@@ -40,7 +40,7 @@ mod rule;
 mod source;
 mod source_order;
 mod then_rule;
-mod verdict;
+mod verdicts;
 mod versioning_rule;
 mod visible_rule;
 
@@ -48,12 +48,13 @@ pub use deleting_rule::DeletingRule;
 pub use fetching_rule::FetchingRule;
 pub use filtered::Filtered;
 pub use first_markers_rule::FirstMarkersRule;
-pub use layers::{Stack, StackRule, stack_of, stack_unread};
+pub use layers::{Stack, StackRule, stack_of, stack_unread, verdicts_of};
 pub use list_source::{ListSource, is_rising};
 pub use merged::{MergeRule, Merged, merged_of};
 pub use merging::Merging;
 pub use rule::Rule;
 pub use source::{NoMemory, Source};
 pub use then_rule::ThenRule;
+pub use verdicts::Verdicts;
 pub use versioning_rule::VersioningRule;
 pub use visible_rule::VisibleRule;

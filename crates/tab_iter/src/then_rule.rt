@@ -27,6 +27,15 @@ impl<A: Rule, B: Rule> ThenRule<A, B> {
             passed: None,
         }
     }
+
+    /// The two rules.
+    pub(crate) fn into_parts(self) -> (A, B)
+        ensures first { result.0 ≡ self.first }
+        ensures second { result.1 ≡ self.second }
+    {
+        let ThenRule { first, second, .. } = self;
+        (first, second)
+    }
 }
 
 impl<A: Rule, B: Rule> Rule for ThenRule<A, B> {

@@ -2,14 +2,13 @@
 ghost use Rattle.std.specs.Prelude.{◌≡◌, Bool, true, IfOk, IsTrue, ⊤};
 ghost use Rattle.tab_key.specs.Words.{IsWord};
 ghost use Rattle.tab_label.specs.Holding.{label_holds};
-ghost use Rattle.tab_iter.specs.Verdicts.{AreSound, AreTold};
-ghost use Rattle.tab_iter.specs.Propositions.{AreSound-prop};
+ghost use Rattle.tab_iter.specs.Verdicts.{IsSound, AreTold};
+ghost use Rattle.tab_iter.specs.Propositions.{IsSound-prop};
 
 use crate::hints::{Hints, mixed};
 use crate::known_verdicts::KnownVerdicts;
 use crate::rule::nowhere;
-use crate::verdict::{Verdict, count_before, find_at, keep_at};
-use crate::{NoMemory, Rule};
+use crate::{NoMemory, Rule, Verdicts};
 use std::alloc::Global;
 use tab_key::{Key, RecordRef};
 use tab_label::{AuthSet, is_visible};
@@ -19,12 +18,12 @@ const GUESSES: usize = 256;
 
 /// Lets the records through whose label holds under a set of authorizations.
 ///
-/// It judges each label once, as long as there are no more than 1,024. Of more labels it remembers those that came first.
+/// It judges no label on which it has a verdict.
 #[derive(Drop)]
 pub struct VisibleRule<'a> {
     auths: &'a AuthSet,
-    // the verdicts on the labels observed, in the order of their bytes
-    verdicts: Vec<Verdict>,
+    // the verdicts on the labels observed, and on those of batches before
+    verdicts: Verdicts,
     // where those on longer ones were found last
     hints: Hints,
     // the last ones on short labels, by number
@@ -32,20 +31,38 @@ pub struct VisibleRule<'a> {
     // what the last record was found to be of which the same guess can be made at its label
     guesses: [bool; GUESSES],
     ghost told: { AreTold auths.now known.words known.holds },
-    ghost verdicts_are_sound: { AreSound auths.now verdicts.items } by { AreSound-prop auths.now verdicts.items },
+    ghost sound: { IsSound auths.now verdicts } by { IsSound-prop auths.now verdicts },
 }
 
 impl<'a> VisibleRule<'a> {
-    /// What these authorizations show passes.
-    pub fn new(alloc: Global, auths: &'a AuthSet) -> VisibleRule<'a>
+    /// What these authorizations show passes. There may be verdicts under them, of an earlier batch.
+    pub fn new(auths: &'a AuthSet, verdicts: Verdicts) -> VisibleRule<'a>
+        requires { IsSound auths.now verdicts }
         ensures { result.auths.now ≡ auths.now }
     {
         VisibleRule {
             auths,
-            verdicts: Vec::new(alloc),
+            verdicts,
             hints: Hints::new(),
             known: KnownVerdicts::none(),
             guesses: [false; GUESSES],
+        }
+    }
+
+    /// The verdicts, if the rule's authorizations are these, and else none. No contract of a source says whose they are, so they are
+    /// compared.
+    pub(crate) fn into_verdicts(self, alloc: Global, auths: &AuthSet) -> Verdicts
+        ensures { IsSound auths.now result }
+    {
+        let VisibleRule {
+            auths: own,
+            verdicts,
+            ..
+        } = self;
+        if own.terms() == auths.terms() {
+            verdicts
+        } else {
+            Verdicts::none(alloc)
         }
     }
 
@@ -90,7 +107,10 @@ impl<'a> VisibleRule<'a> {
         ensures same { self.new.auths.now ≡ self.old.auths.now }
         ensures holds { IfOk result (λ b. b ≡ label_holds label.now self.old.auths.now) }
     {
-        match find_at(&self.verdicts, self.hints.place_of(mixed(label)), label) {
+        match self
+            .verdicts
+            .find_at(self.hints.place_of(mixed(label)), label)
+        {
             Some(holds) => Ok(holds),
             None => self.judge(label),
         }
@@ -114,13 +134,13 @@ impl<'a> VisibleRule<'a> {
         ensures same { self.new.auths.now ≡ self.old.auths.now }
         ensures holds { IfOk result (λ b. b ≡ label_holds label.now self.old.auths.now) }
     {
-        let place = count_before(&self.verdicts, label);
+        let place = self.verdicts.count_before(label);
         self.hints.note(mixed(label), place);
-        match find_at(&self.verdicts, place, label) {
+        match self.verdicts.find_at(place, label) {
             Some(holds) => Ok(holds),
             None => {
                 let holds = is_visible(label, self.auths);
-                keep_at(&mut self.verdicts, place, label, holds)?;
+                self.verdicts.keep_at(place, label, holds)?;
                 Ok(holds)
             }
         }

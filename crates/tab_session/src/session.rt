@@ -40,11 +40,17 @@ impl Model for Session {
 impl Session {
     /// A session on what a scan of all rows of the version shows: of these columns, under these authorizations, so many versions
     /// of each column. None of its cells was given.
-    pub fn new(version: Version, columns: Items<Column>, auths: AuthSet, versions: u32) -> Session
+    pub fn new(
+        alloc: Global,
+        version: Version,
+        columns: Items<Column>,
+        auths: AuthSet,
+        versions: u32,
+    ) -> Session
         ensures { result ≡ record { all = cells version versions (query_of columns auths); given = 0 } }
     {
         Session {
-            scan: SnapshotScan::new(version, columns, auths, versions),
+            scan: SnapshotScan::new(alloc, version, columns, auths, versions),
             next: Some(Bookmark::Beginning),
             took: Room::unknown(),
         }

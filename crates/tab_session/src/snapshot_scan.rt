@@ -2,6 +2,8 @@
 ghost use Rattle.std.specs.Prelude.{◌≡◌, map, take, drop, IfOk};
 ghost use Rattle.tab_key.specs.Records.{cell_of};
 ghost use Rattle.tab_cells.specs.SessionState.{cells_within};
+ghost use Rattle.tab_iter.specs.Propositions.{IsSound-prop};
+ghost use Rattle.tab_iter.specs.Verdicts.{IsSound};
 ghost use Rattle.tab_session.specs.Bookmarks.{from_mark, ahead_of};
 ghost use Rattle.tab_version.specs.Shown.{shown};
 
@@ -11,18 +13,28 @@ use crate::rows::take_ranges;
 use crate::taking::take;
 use std::alloc::Global;
 use std::marker::Model;
-use tab_iter::{NoMemory, Source};
+use std::mem;
+use tab_iter::{NoMemory, Source, Verdicts, verdicts_of};
 use tab_key::{Bounds, Cells, Column, Items};
 use tab_label::AuthSet;
 use tab_version::{Stack, Version};
+
+// What is asked of a version: these columns, under these authorizations, so many versions of each column.
+#[derive(Drop)]
+struct Asked {
+    columns: Items<Column>,
+    auths: AuthSet,
+    versions: u32,
+}
 
 /// A scan of a table as it stood: the version, and what is asked of it. A contract sees the records that the scan shows.
 #[derive(Drop)]
 pub(crate) struct SnapshotScan {
     version: Version,
-    columns: Items<Column>,
-    auths: AuthSet,
-    versions: u32,
+    asked: Asked,
+    // on the labels that were judged in the batches before
+    verdicts: Verdicts,
+    ghost sound: { IsSound asked.auths verdicts } by { IsSound-prop asked.auths verdicts },
 }
 
 impl Model for SnapshotScan {
@@ -32,7 +44,7 @@ impl Model for SnapshotScan {
 
     ghost Value = { List Fields };
 
-    ghost view = { λ s. shown s.version s.versions s.columns s.auths };
+    ghost view = { λ s. shown s.version s.asked.versions s.asked.columns s.asked.auths };
 }
 
 /// Cells, and where to go on behind them; nowhere once there are no more.
@@ -45,6 +57,7 @@ pub(crate) struct Batch {
 impl SnapshotScan {
     /// All rows of the version, of these columns, under these authorizations, so many versions of each column.
     pub(crate) fn new(
+        alloc: Global,
         version: Version,
         columns: Items<Column>,
         auths: AuthSet,
@@ -54,26 +67,35 @@ impl SnapshotScan {
     {
         SnapshotScan {
             version,
-            columns,
-            auths,
-            versions,
+            asked: Asked {
+                columns,
+                auths,
+                versions,
+            },
+            verdicts: Verdicts::none(alloc),
         }
     }
 
     /// The cells of the next `count` records from the bookmark on, fewer only at the end. The room is asked for at once.
+    ///
+    /// The verdicts on labels go with the batch and come back with it; after an error they are lost, and made anew.
     pub(crate) fn read(
-        &self,
+        &mut self,
         alloc: Global,
         from: &Bookmark,
         count: u32,
         room: Room,
     ) -> Result<Batch, NoMemory>
-        ensures cells { IfOk result (λ b. b.cells ≡ take count (map cell_of (from_mark from.now self.now))) }
-        ensures next { IfOk result (λ b. ahead_of b.next self.now ≡ drop count (from_mark from.now self.now)) }
+        ensures same { self.new ≡ self.old }
+        ensures cells { IfOk result (λ b. b.cells ≡ take count (map cell_of (from_mark from.now self.old))) }
+        ensures next { IfOk result (λ b. ahead_of b.next self.old ≡ drop count (from_mark from.now self.old)) }
     {
-        let mut source = self.source(alloc, from)?;
+        let verdicts = mem::replace(&mut self.verdicts, Verdicts::none(alloc));
+        let asked = &self.asked;
+        let mut source = source(alloc, &self.version, asked, from, verdicts)?;
         let cells = take(alloc, &mut source, count, room)?;
         let next = Bookmark::of(alloc, &source)?;
+        self.verdicts = verdicts_of(alloc, source, &asked.auths);
         Ok(Batch { cells, next })
     }
 
@@ -85,37 +107,48 @@ impl SnapshotScan {
     ) -> Result<Items<Cells>, NoMemory>
         ensures { IfOk result (λ answers. answers ≡ map (λ rows. cells_within rows (map cell_of self.now)) ranges.now) }
     {
-        let mut source = self.unread(alloc);
+        let mut source = unread(alloc, &self.version, &self.asked, Verdicts::none(alloc));
         let answers = take_ranges(alloc, &mut source, ranges)?;
         Ok(Items::from_vec(answers))
     }
+}
 
-    // The records from the bookmark on. Nothing before its column is read.
-    fn source<'a>(&'a self, alloc: Global, from: &Bookmark) -> Result<Stack<'a>, NoMemory>
-        ensures whole { IfOk result (λ s. ⟦<Stack<'a> as Source>⟧.whole s ≡ self.now) }
-        ensures rest { IfOk result (λ s. ⟦<Stack<'a> as Source>⟧.rest s ≡ from_mark from.now self.now) }
-    {
-        match from {
-            Bookmark::Beginning => {
-                let columns = self.columns.as_slice();
-                self.version
-                    .stack(alloc, columns, &self.auths, self.versions)
-            }
-            Bookmark::At(first) => {
-                let mut source = self.unread(alloc);
-                source.seek(first.as_ref().key())?;
-                pass_before(&mut source, first)?;
-                Ok(source)
-            }
+// The records from the bookmark on. Nothing before its column is read.
+fn source<'a>(
+    alloc: Global,
+    version: &'a Version,
+    asked: &'a Asked,
+    from: &Bookmark,
+    verdicts: Verdicts,
+) -> Result<Stack<'a>, NoMemory>
+    requires { IsSound asked.now.auths verdicts }
+    ensures whole { IfOk result (λ s. ⟦<Stack<'a> as Source>⟧.whole s ≡ shown version.now asked.now.versions asked.now.columns asked.now.auths) }
+    ensures rest { IfOk result (λ s. ⟦<Stack<'a> as Source>⟧.rest s ≡ from_mark from.now (shown version.now asked.now.versions asked.now.columns asked.now.auths)) }
+{
+    match from {
+        Bookmark::Beginning => {
+            let columns = asked.columns.as_slice();
+            version.stack(alloc, columns, &asked.auths, verdicts, asked.versions)
+        }
+        Bookmark::At(first) => {
+            let mut source = unread(alloc, version, asked, verdicts);
+            source.seek(first.as_ref().key())?;
+            pass_before(&mut source, first)?;
+            Ok(source)
         }
     }
+}
 
-    // All records, none of them read before a seek.
-    fn unread<'a>(&'a self, alloc: Global) -> Stack<'a>
-        ensures { ⟦<Stack<'a> as Source>⟧.whole result ≡ self.now }
-    {
-        let columns = self.columns.as_slice();
-        self.version
-            .unread_stack(alloc, columns, &self.auths, self.versions)
-    }
+// All records, none of them read before a seek.
+fn unread<'a>(
+    alloc: Global,
+    version: &'a Version,
+    asked: &'a Asked,
+    verdicts: Verdicts,
+) -> Stack<'a>
+    requires { IsSound asked.now.auths verdicts }
+    ensures { ⟦<Stack<'a> as Source>⟧.whole result ≡ shown version.now asked.now.versions asked.now.columns asked.now.auths }
+{
+    let columns = asked.columns.as_slice();
+    version.unread_stack(alloc, columns, &asked.auths, verdicts, asked.versions)
 }

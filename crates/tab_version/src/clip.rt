@@ -156,6 +156,11 @@ impl<W: Whole + Drop> Part<W> {
         !self.whole.is_before(self.end - 1, key)
     }
 
+    // How much room to ask for, in bytes, where the records are copied.
+    pub(crate) fn room(&self) -> usize {
+        self.whole.room(self.from, self.end)
+    }
+
     /// The same records, shared once more.
     ///
     /// `AllocError` says that they couldn't be.
@@ -195,11 +200,6 @@ impl Part<Run> {
         ensures short { HasShortParts self.now }
     {
         RunCursor::over(&self.whole, self.from, self.end)
-    }
-
-    // How much room to ask for, in bytes, where the records are copied.
-    pub(crate) fn room(&self) -> usize {
-        self.whole.room(self.from, self.end)
     }
 }
 

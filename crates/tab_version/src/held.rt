@@ -28,6 +28,12 @@ pub(crate) trait Held {
     fn read(&self)
         ensures timestamps { HasI64Timestamps (held self.now) }
         ensures short { HasShortParts (held self.now) };
+
+    /// How many records to ask room for where all are copied. Only how often memory is taken hangs on it, and on `room`.
+    fn count(&self) -> usize;
+
+    /// How many bytes of them.
+    fn room(&self) -> usize;
 }
 
 impl Held for Clip {
@@ -44,6 +50,14 @@ impl Held for Clip {
     fn read(&self) {
         let _length = self.len();
     }
+
+    fn count(&self) -> usize {
+        self.len()
+    }
+
+    fn room(&self) -> usize {
+        Part::room(self)
+    }
 }
 
 impl Held for TableClip {
@@ -59,6 +73,14 @@ impl Held for TableClip {
 
     fn read(&self) {
         let _length = self.len();
+    }
+
+    fn count(&self) -> usize {
+        self.len()
+    }
+
+    fn room(&self) -> usize {
+        TableClip::room(self)
     }
 }
 
@@ -84,6 +106,14 @@ impl Held for Clips {
     fn read(&self) {
         read_all(self.runs());
         read_all(self.tables());
+    }
+
+    fn count(&self) -> usize {
+        count_all(self.runs()).saturating_add(count_all(self.tables()))
+    }
+
+    fn room(&self) -> usize {
+        room_for_all(self.runs()).saturating_add(room_for_all(self.tables()))
     }
 }
 
@@ -119,4 +149,22 @@ pub(crate) fn read_all<H: Held>(several: &[H])
     for one in several {
         one.read();
     }
+}
+
+// How many records all of them have.
+fn count_all<H: Held>(several: &[H]) -> usize {
+    let mut count = 0usize;
+    for one in several {
+        count = count.saturating_add(one.count());
+    }
+    count
+}
+
+// How many bytes to ask room for where the records of all of them are copied.
+fn room_for_all<H: Held>(several: &[H]) -> usize {
+    let mut room = 0usize;
+    for one in several {
+        room = room.saturating_add(one.room());
+    }
+    room
 }

@@ -51,7 +51,7 @@ impl TableClip {
         ensures { IfOk result (λ c. c ≡ built run.now) }
     {
         let mut records = run.cursor();
-        let table = Table::build_with_room(alloc, &mut records, run.len(), run.room())?;
+        let table = Table::build(alloc, &mut records, run.len(), run.room())?;
         let shared = Arc::new(alloc, table)?;
         Ok(TableClip::whole(shared))
     }
@@ -97,6 +97,11 @@ impl TableClip {
         ensures { result ≡ reaches (key_of key.entry) self.now.records }
     {
         self.part.reaches(key)
+    }
+
+    // How much room to ask for, in bytes, where the records are copied.
+    pub(crate) fn room(&self) -> usize {
+        self.part.room()
     }
 
     /// The same clip, its table shared once more.

@@ -6,6 +6,7 @@ ghost use Rattle.tab_cells.specs.Cells.{cells};
 ghost use Rattle.tab_iter.specs.Bags.{flat};
 ghost use Rattle.tab_iter.specs.Lists.{IsRising};
 ghost use Rattle.tab_iter.specs.Stack.{query_of};
+ghost use Rattle.tab_iter.specs.Verdicts.{IsSound};
 ghost use Rattle.tab_mem.specs.Lists.{HasShortParts};
 ghost use Rattle.tab_version.specs.Shown.{shown};
 ghost use Rattle.tab_version.specs.Sources.{records_of};
@@ -15,7 +16,7 @@ use crate::tablets::drop_empty;
 use crate::{Clips, InTurn, TabletSource};
 use std::alloc::Global;
 use std::marker::Model;
-use tab_iter::{NoMemory, Source, stack_of, stack_unread};
+use tab_iter::{NoMemory, Source, Verdicts, stack_of, stack_unread};
 use tab_key::Column;
 use tab_label::AuthSet;
 
@@ -58,7 +59,8 @@ impl Version {
         Version { tablets: filled }
     }
 
-    /// The records that a scan of all rows shows: of these columns, under these authorizations, so many versions of each column.
+    /// The records that a scan of all rows shows: of these columns, under these authorizations, so many versions of each column. There
+    /// may be verdicts on labels under these authorizations, of an earlier batch.
     ///
     /// NoMemory comes only from want of memory. The version stays as it is; the stack reads it for as long as it lives.
     pub fn stack<'a>(
@@ -66,14 +68,16 @@ impl Version {
         alloc: Global,
         columns: &'a [Column],
         auths: &'a AuthSet,
+        verdicts: Verdicts,
         versions: u32,
     ) -> Result<Stack<'a>, NoMemory>
+        requires { IsSound auths.now verdicts }
         ensures shown { IfOk result (λ s. ⟦<Stack<'a> as Source>⟧.whole s ≡ shown self.now versions columns.now auths.now) }
         ensures cells { IfOk result (λ s. map cell_of (⟦<Stack<'a> as Source>⟧.whole s) ≡ cells self.now versions (query_of columns.now auths.now)) }
         ensures at_start { IfOk result (λ s. ⟦<Stack<'a> as Source>⟧.rest s ≡ ⟦<Stack<'a> as Source>⟧.whole s) }
     {
         let all = InTurn::new(alloc, self.tablets.as_slice())?;
-        let stack = stack_of(alloc, all, columns, auths, versions)?;
+        let stack = stack_of(alloc, all, columns, auths, verdicts, versions)?;
         Ok(stack)
     }
 
@@ -84,13 +88,15 @@ impl Version {
         alloc: Global,
         columns: &'a [Column],
         auths: &'a AuthSet,
+        verdicts: Verdicts,
         versions: u32,
     ) -> Stack<'a>
+        requires { IsSound auths.now verdicts }
         ensures shown { ⟦<Stack<'a> as Source>⟧.whole result ≡ shown self.now versions columns.now auths.now }
         ensures unpositioned { ⟦<Stack<'a> as Source>⟧.is_unpositioned result ≡ true }
     {
         let all = InTurn::unpositioned(alloc, self.tablets.as_slice());
-        stack_unread(alloc, all, columns, auths, versions)
+        stack_unread(alloc, all, columns, auths, verdicts, versions)
     }
 
     /// All records, in their order. One tablet at a time is read.

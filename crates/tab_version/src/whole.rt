@@ -56,6 +56,10 @@ pub trait Whole {
         ensures order { result.start ≤ result.end }
         ensures high { result.end ≤ end }
         ensures rows { part result.start result.end (listed self.now) ≡ filter (λ u. is_in_range bounds.now u.key.row) (part from end (listed self.now)) };
+
+    /// How much room to ask for, in bytes, where the records from one index up to another are copied. Only how often memory is taken
+    /// hangs on it.
+    fn room(&self, from: usize, end: usize) -> usize;
 }
 
 impl Whole for Run {
@@ -85,6 +89,10 @@ impl Whole for Run {
 
     fn rows_in(&self, from: usize, end: usize, bounds: &Bounds) -> Range<usize> {
         Run::rows_in(self, from, end, bounds)
+    }
+
+    fn room(&self, from: usize, end: usize) -> usize {
+        Run::room(self, from, end)
     }
 }
 
@@ -117,5 +125,9 @@ impl Whole for Table {
 
     fn rows_in(&self, from: usize, end: usize, bounds: &Bounds) -> Range<usize> {
         Table::rows_in(self, from, end, bounds)
+    }
+
+    fn room(&self, from: usize, end: usize) -> usize {
+        Table::room(self, from, end)
     }
 }

@@ -2,7 +2,7 @@
 
 use std::alloc::Global;
 use std::process::Abort;
-use tab_iter::Source;
+use tab_iter::{Source, Verdicts};
 use tab_key::{Column, Record};
 use tab_label::AuthSet;
 use tab_testing::{Query, Update, from_key};
@@ -57,7 +57,7 @@ fn expect_stack<'a>(
     want: &[Update],
     sought: &Update,
 ) {
-    let stack = version.stack(alloc, columns, auths, versions);
+    let stack = version.stack(alloc, columns, auths, Verdicts::none(alloc), versions);
     let mut stack = stack.expect(rt, "memory");
     expect_same(rt, &rest_of(rt, alloc, &mut stack), want);
     Source::seek(&mut stack, sought.key()).expect(rt, "memory");

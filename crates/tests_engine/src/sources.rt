@@ -118,7 +118,7 @@ fn tabled(alloc: Global, run: &Run) -> Result<TableClip, AllocError>
     ensures { IfOk result (λ t. t.records ≡ run.now) }
 {
     let _count = run.len();
-    let table = Table::build(alloc, &mut RunCursor::new(run))?;
+    let table = Table::build(alloc, &mut RunCursor::new(run), 0, 0)?;
     Ok(TableClip::whole(Arc::new(alloc, table)?))
 }
 

@@ -18,7 +18,7 @@ use tab_version::{Clip, Clips, TableClip, Version};
 fn tabled(alloc: Global, clip: Clip) -> Result<TableClip, AllocError>
     ensures { IfOk result (λ t. t.records ≡ clip) }
 {
-    let table = Table::build(alloc, &mut clip.cursor())?;
+    let table = Table::build(alloc, &mut clip.cursor(), 0, 0)?;
     Ok(TableClip::whole(Arc::new(alloc, table)?))
 }
 

@@ -1,0 +1,106 @@
+//! Verdicts on labels, kept and found again.
+ghost use Rattle.std.specs.Prelude.{◌≡◌, ◌≤◌, List, ℕ, IfSome, length};
+ghost use Rattle.tab_label.specs.Holding.{label_holds};
+ghost use Rattle.tab_iter.specs.Verdicts.{label_in, AreSound, IsIn, IsSound};
+
+use crate::NoMemory;
+use std::alloc::Global;
+
+// How many verdicts are kept at most.
+const MOST_KEPT: usize = 1024;
+
+// How many bytes of labels are kept at most.
+const MOST_BYTES: usize = 65_536;
+
+/// Where a label lies that was judged, and whether it holds.
+#[derive(Clone, Copy)]
+pub(crate) struct Verdict {
+    pub(crate) start: usize,
+    pub(crate) end: usize,
+    pub(crate) holds: bool,
+}
+
+/// Verdicts on labels under one set of authorizations, with which a scan goes on in its next batch: so each label is judged once a
+/// session, as long as there are no more than 1,024 of 65,536 bytes in all. Of more it remembers those that came first.
+///
+/// The labels lie one after another in one body: none has memory of its own.
+#[derive(Drop)]
+pub struct Verdicts {
+    pub(crate) body: Vec<u8>,
+    // in the order of the labels' bytes
+    pub(crate) kept: Vec<Verdict>,
+}
+
+impl Verdicts {
+    /// None, which are right under all authorizations. It takes no memory.
+    pub fn none(alloc: Global) -> Verdicts
+        ensures { (auths : List (List ℕ)) → IsSound auths result }
+    {
+        Verdicts {
+            body: Vec::new(alloc),
+            kept: Vec::new(alloc),
+        }
+    }
+
+    /// Whether this label holds, if the verdict at a place is on it.
+    pub(crate) fn find_at(&self, place: usize, label: &[u8]) -> Option<bool>
+        ensures { IfSome result (λ b. (auths : List (List ℕ)) → IsSound auths self.now → b ≡ label_holds label.now auths) }
+    {
+        match self.kept.get(place) {
+            None => None,
+            Some(found) => {
+                if label_of(&self.body, found) == label {
+                    Some(found.holds)
+                } else {
+                    None
+                }
+            }
+        }
+    }
+
+    /// How many of the labels stand before this one, found by halves: they are kept in the order of their bytes.
+    pub(crate) fn count_before(&self, label: &[u8]) -> usize
+        ensures { result ≤ length self.now.kept.items }
+    {
+        let body = self.body.as_slice();
+        self.kept
+            .partition_point(|other| label_of(body, other) < label)
+    }
+
+    // Whether there is room for one more.
+    fn has_room(&self, label: &[u8]) -> bool {
+        self.kept.len() < MOST_KEPT && label.len() <= MOST_BYTES.saturating_sub(self.body.len())
+    }
+
+    /// Keeps a verdict at this place among them, unless there are too many. The error comes only from want of memory, and leaves them
+    /// as they were.
+    pub(crate) fn keep_at(
+        &mut self,
+        place: usize,
+        label: &[u8],
+        holds: bool,
+    ) -> Result<(), NoMemory>
+        requires { place ≤ length self.old.kept.items }
+        ensures { (auths : List (List ℕ)) → holds ≡ label_holds label.now auths → IsSound auths self.old → IsSound auths self.new }
+    {
+        if !self.has_room(label) {
+            return Ok(());
+        }
+        self.kept.reserve(1)?;
+        let start = self.body.len();
+        self.body.extend_from_slice(label)?;
+        let end = self.body.len();
+        self.kept.insert(place, Verdict { start, end, holds })?;
+        Ok(())
+    }
+}
+
+// The label of a verdict, which lies in the body.
+fn label_of<'a>(body: &'a [u8], verdict: &Verdict) -> &'a [u8]
+    ensures { IsIn body.now verdict.now → result.now ≡ label_in body.now verdict.now }
+{
+    if verdict.start <= verdict.end && verdict.end <= body.len() {
+        return &body[verdict.start..verdict.end];
+    }
+    b""
+}
