@@ -154,7 +154,7 @@ impl Job {
         let sources = self.inputs.cursors(alloc)?;
         let full = self.kind.is_full();
         let mut kept = merged_of(alloc, sources, full, self.floor, self.versions)?;
-        let table = Table::build(alloc, &mut kept)?;
+        let table = self.inputs.table_of(alloc, &mut kept)?;
         Ok(Arc::new(alloc, table)?)
     }
 }

@@ -6,7 +6,6 @@ ghost use Rattle.tab_version.specs.Sources.{records_of};
 use std::alloc::Global;
 use std::sync::Arc;
 use tab_iter::{Merging, NoMemory};
-use tab_table::Table;
 use tab_version::{Clips, TableClip};
 
 /// A table of all records of the sources. It takes time linear in these, and for each the logarithm of the number of sources.
@@ -18,7 +17,7 @@ pub(crate) fn merged(alloc: Global, sources: &Clips) -> Result<TableClip, NoMemo
 {
     let cursors = sources.cursors(alloc)?;
     let mut all = Merging::new(cursors)?;
-    let table = Table::build(alloc, &mut all)?;
+    let table = sources.table_of(alloc, &mut all)?;
     let shared = Arc::new(alloc, table)?;
     Ok(TableClip::whole(shared))
 }
