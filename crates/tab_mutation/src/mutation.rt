@@ -11,6 +11,9 @@ use std::alloc::{AllocError, Global};
 use std::marker::Model;
 use tab_key::{Kind, MAX_UPDATES, Part};
 
+// Behind the row there is room for so many bytes: most mutations of one cell ask for memory once for all of their bytes.
+const FIRST_ROOM: usize = 64;
+
 /// A row and the puts and deletes that are to be applied to it together.
 ///
 /// All bytes lie in one buffer: the row, and then of each update its family, qualifier, label and
@@ -35,11 +38,11 @@ impl Model for Mutation {
 }
 
 impl Mutation {
-    /// A mutation of this row with no updates. It takes memory for a copy of the row.
+    /// A mutation of this row with no updates. It takes memory for a copy of the row, and for the bytes of a short update behind it.
     pub fn new(alloc: Global, row: &[u8]) -> Result<Mutation, AllocError>
         ensures { IfOk result (λ m. m ≡ record { row = row.now; updates = [] }) }
     {
-        let mut body = Vec::with_capacity(alloc, row.len())?;
+        let mut body = Vec::with_capacity(alloc, row.len().saturating_add(FIRST_ROOM))?;
         body.extend_from_slice(row)?;
         Ok(Mutation {
             body,
