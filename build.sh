@@ -76,17 +76,24 @@ memory=$(awk '/^MemAvailable/ { print int($2 / 3000000) }' /proc/meminfo)
 lanes=$((cores < memory ? cores : memory))
 [ "$lanes" -ge 1 ] || lanes=1
 
+# The crates that were begun as those that the whole build waits for.
+declare -A is_ahead
+
 # Sets `nice` and `jobs`, how nice the crate is to be and by how many processors it is proved. What the whole build waits for longest
-# goes first and by all of them, and one whose way is three quarters as long beside it; the others take what these leave.
+# goes first and by all of them, and one whose way is three quarters as long beside it; the others take what these leave. What was begun
+# behind others is long under way once its own way seems the longest, so it isn't counted. Once no crate has to wait for a processor, all
+# are proved by all of them.
 share_of() { # CRATE
     local one longest=${way[$1]}
     for one in "$place"/*/; do
         one=$(basename "$one")
-        [ "${way[$one]:-0}" -le "$longest" ] || longest=${way[$one]}
+        [ -z "${is_ahead[$one]:-}" ] || [ "${way[$one]}" -le "$longest" ] || longest=${way[$one]}
     done
     nice=0 jobs=$lanes
     [ "${way[$1]}" -eq "$longest" ] || jobs=$(((lanes + 1) / 2))
     [ $((4 * way[$1])) -ge $((3 * longest)) ] || nice=10 jobs=1
+    [ $((running + waiting)) -gt "$lanes" ] || jobs=$lanes
+    [ "$nice" -ne 0 ] || is_ahead[$1]=yes
 }
 
 count=$(wc -w <<<"$crates")
@@ -95,11 +102,12 @@ for crate in $crates; do
     if [ "$crate" = tabd ]; then :; elif has_library "$crate"; then begun=$((begun + 1)); else left="$left $crate"; fi
 done
 : >"$log"
+waiting=$(wc -w <<<"$left")
 while [ -n "$left" ] || [ "$running" -gt 0 ]; do
     later=''
     for crate in $left; do
         if [ "$running" -lt "$lanes" ] && is_ready "$crate"; then
-            begun=$((begun + 1)) running=$((running + 1))
+            begun=$((begun + 1)) running=$((running + 1)) waiting=$((waiting - 1))
             echo "tabd: proving $crate, $begun of $count" >&2
             share_of "$crate"
             mkdir -p "$place/$crate"
