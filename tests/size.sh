@@ -305,6 +305,30 @@ BEGIN {
 }' >wanted
 prints 'columns of each length about that of one step of a copy'
 
+# A session's batches over labels that come again, more of them and longer ones than a session keeps its verdicts on.
+for length in 5 90; do
+    filled=$(bytes "$length" x)
+    awk -v filled="$filled" 'BEGIN {
+        print "createtable t"
+        print "setauths root A,C"
+        for (i = 0; i < 3000; i++) printf "insert t r%04d f q %s%s%d v%d 5\n", i, i % 3 ? "A|" : "A&", filled, i % 1400, i
+        print "open t A"
+        for (i = 0; i < 300; i++) print "next 0 7"
+    }' >lines
+    awk -v filled="$filled" 'BEGIN {
+        for (i = 0; i < 3002; i++) print "ok"
+        print "session 0"
+        for (i = 0; i < 3000; i++) {
+            if (i % 3 == 0) continue
+            printf "r%04d f q A|%s%d 5 v%d\n", i, filled, i % 1400, i
+            if (++shown % 7 == 0) print "more"
+        }
+        print "end"
+        for (batch = int(shown / 7) + 1; batch < 300; batch++) print "end"
+    }' >wanted
+    prints "300 batches over 1,400 labels of some $length bytes"
+done
+
 # More jobs than a block of replies tells, and one whose row is longer than a block.
 long=$(bytes 150000 r)
 {

@@ -1,0 +1,90 @@
+#!/usr/bin/env bash
+# How often the program asks for memory: not for each cell that a scan shows, nor for each label that it judges, and for an insert of one
+# cell twice.
+# Usage: tests/requests.sh   (from anywhere; wants a C compiler; builds the program if it isn't built)
+set -eu
+top=$(cd "$(dirname -- "${BASH_SOURCE[0]}")/.." && pwd)
+work=$(mktemp -d)
+trap 'rm -rf "$work"' EXIT
+"$top/tabd" --version >/dev/null
+program=$top/crates/tabd/out/tabd
+
+cat >"$work/counting.c" <<'C'
+#define _GNU_SOURCE
+#include <dlfcn.h>
+#include <fcntl.h>
+#include <stdlib.h>
+#include <sys/mman.h>
+#include <unistd.h>
+/* Counts the requests for memory in the file COUNTS, which outlives the process: new ones, and those for more. */
+static unsigned long *counts, lost[2];
+static unsigned long *place(void) {
+    if (!counts) {
+        const char *name = getenv("COUNTS");
+        int file = name ? open(name, O_RDWR | O_CREAT, 0600) : -1;
+        counts = lost;
+        if (file >= 0 && ftruncate(file, sizeof lost) == 0) {
+            void *at = mmap(NULL, sizeof lost, PROT_READ | PROT_WRITE, MAP_SHARED, file, 0);
+            if (at != MAP_FAILED) counts = at;
+        }
+    }
+    return counts;
+}
+#define REAL(name) ((__typeof__(name) *)dlsym(RTLD_NEXT, #name))
+void *malloc(size_t size) {
+    static __typeof__(malloc) *real;
+    if (!real) real = REAL(malloc);
+    place()[0]++;
+    return real(size);
+}
+void *realloc(void *old, size_t size) {
+    static __typeof__(realloc) *real;
+    if (!real) real = REAL(realloc);
+    place()[1]++;
+    return real(old, size);
+}
+C
+${CC:-cc} -shared -fPIC -O1 -o "$work/counting.so" "$work/counting.c" -ldl
+
+# A table with so many cells under so many labels, which the reader's one authorization admits, and a scan or none.
+script() { # CELLS LABELS SCAN
+    awk -v cells="$1" -v labels="$2" -v scan="$3" 'BEGIN {
+        print "createtable t"
+        print "setauths root A"
+        for (i = 0; i < cells; i++) printf "insert t row%04d f q A|x%d v%d 5\n", i, i % labels, i
+        if (scan != "") print scan
+    }'
+}
+
+# How often memory is asked for: anew, and for more.
+count() { # CELLS LABELS SCAN
+    rm -f "$work/counts"
+    script "$@" | COUNTS=$work/counts LD_PRELOAD=$work/counting.so "$program" script >/dev/null
+    od -A n -t u8 "$work/counts"
+}
+
+passed=0 failed=0
+at_most() { # NAME LIMIT NUMBER
+    if [ "$3" -le "$2" ]; then
+        passed=$((passed + 1))
+    else
+        failed=$((failed + 1))
+        echo "FAILED: $1: $3, where at most $2 were expected"
+    fi
+}
+
+read -r few_new few_more <<<"$(count 1000 1 '')"
+read -r many_new many_more <<<"$(count 3000 1 '')"
+at_most 'requests for memory of 2,000 inserts' 4020 $((many_new - few_new))
+at_most 'requests for more memory of 2,000 inserts' 20 $((many_more - few_more))
+
+read -r few_new few_more <<<"$(count 3000 300 'scan t A')"
+read -r many_new many_more <<<"$(count 3000 900 'scan t A')"
+at_most 'requests for memory of 600 labels in a scan of three batches' 20 $((many_new + many_more - few_new - few_more))
+
+read -r few_new few_more <<<"$(count 3000 1 '')"
+read -r many_new many_more <<<"$(count 3000 1 'scan t A')"
+at_most 'requests for memory of a scan of 3,000 cells' 100 $((many_new + many_more - few_new - few_more))
+
+echo "$passed passed, $failed failed"
+[ "$failed" -eq 0 ]
