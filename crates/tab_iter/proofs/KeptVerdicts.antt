@@ -22,9 +22,10 @@ module _ (auths : List (List ℕ)) (body more : List ℕ) where
   front = take_at body more (length body) refl
 
   one_behind : (v : Verdict) → IsIn body v × (v.holds ≡ label_holds (label_in body v) auths) → IsIn (body ++ more) v × (v.holds ≡ label_holds (label_in (body ++ more) v) auths)
-  one_behind v (in_, right) =
-      (record { order = in_.order; within = omega (arith, in_.within, length-append body more) },
-       right ∙ ap (λ l. label_holds l auths) (sym (same_part body (body ++ more) front v.start v.end in_.order in_.within)))
+  one_behind v (in_, right) = (
+    record { order = in_.order; within = omega (arith, in_.within, length-append body more) },
+    right ∙ ap (λ l. label_holds l auths) (sym (same_part body (body ++ more) front v.start v.end in_.order in_.within)),
+  )
 
   pub sound_behind : (js : List Verdict) → AreSound auths body js → AreSound auths (body ++ more) js
   sound_behind [] s = tt
