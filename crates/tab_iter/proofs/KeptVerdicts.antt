@@ -1,5 +1,5 @@
 -- Verdicts that are found again and kept.
-use Rattle.std.proofs.Common.{◌≡◌, ℕ, zero, suc, ◌+◌, ◌-◌, ◌≤◌, List, [], ◌∷◌, ◌++◌, take, drop, sym, refl, ◌∙◌, ap, subst, ◌<◌, length, get_or, arith, length-append, Vec, Global, map}
+use Rattle.std.proofs.Common.{◌≡◌, ℕ, zero, suc, ◌+◌, ◌-◌, List, [], ◌∷◌, ◌++◌, take, drop, sym, refl, ◌∙◌, ap, subst, ◌<◌, length, get_or, arith, length-append, Vec, Global, map}
 use Rattle.std.specs.Prelude.{true, bytes_eq}
 use mathlib.Core.Bool.{true≢false}
 use Rattle.std.specs.Cmp.{first_so, second_so}

@@ -1,6 +1,5 @@
 -- Of the step as many bytes stay as are asked for.
-use Rattle.std.proofs.Common.{rules, ◌≡◌, ◌+◌, ◌-◌, ◌++◌, ◌∙◌, ℕ, List, ap, arith, length, take, refl, length-append, length-take-le}
-use Rattle.std.proofs.lemmas.List.{take_at}
+use Rattle.std.proofs.Common.{rules, ◌≡◌, ◌+◌, ◌++◌, ◌∙◌, ap, arith, length, take}
 use Rattle.tab_key.proofs.Bodies.{step_kept}
 use Rattle.tab_key.proofs.encoding.append_step.Goals as goal
 

@@ -1,4 +1,4 @@
-use Rattle.std.proofs.Common.{◌≡◌, ◌∙◌, List, sym, ap}
+use Rattle.std.proofs.Common.{◌∙◌, List, sym, ap}
 use Rattle.tab_key.specs.KeyOf.{key_of}
 use Rattle.tab_key.specs.Records.{Record}
 use Rattle.tab_iter.specs.Lists.{from_key}

@@ -1,5 +1,5 @@
 -- One verdict more, at its place, on the label that was put behind the others.
-use Rattle.std.proofs.Common.{rules, ◌≡◌, ◌∙◌, ap, refl}
+use Rattle.std.proofs.Common.{rules, ◌≡◌, ◌∙◌, ap}
 use Rattle.std.specs.List.{insert}
 use Rattle.tab_iter.specs.declared.verdicts.Verdict.{Verdict}
 use Rattle.tab_iter.proofs.KeptVerdicts.{sound_more}

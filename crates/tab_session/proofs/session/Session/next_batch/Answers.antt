@@ -1,4 +1,4 @@
-use Rattle.std.proofs.Common.{◌≡◌, ◌∙◌, List, ap, map}
+use Rattle.std.proofs.Common.{◌∙◌, List, ap, map}
 use Rattle.std.specs.Prelude.{Some}
 use Rattle.tab_cells.specs.SessionState.{SessionState}
 use Rattle.tab_key.specs.Records.{Record, cell_of}

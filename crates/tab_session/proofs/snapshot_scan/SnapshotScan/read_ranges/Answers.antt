@@ -1,4 +1,4 @@
-use Rattle.std.proofs.Common.{◌≡◌, ◌∙◌, List, ap, map}
+use Rattle.std.proofs.Common.{◌∙◌, List, ap, map}
 use Rattle.tab_cells.specs.SessionState.{cells_within}
 use Rattle.tab_key.specs.Records.{Record, cell_of}
 use Rattle.tab_session.proofs.snapshot_scan.SnapshotScan.read_ranges.Goals as goal
