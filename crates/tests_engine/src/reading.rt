@@ -1,4 +1,5 @@
 //! What a source has left.
+ghost use Rattle.tab_iter.specs.Verdicts.{IsSound};
 
 use std::alloc::Global;
 use std::process::Abort;
@@ -7,6 +8,14 @@ use tab_key::{Column, Record};
 use tab_label::AuthSet;
 use tab_testing::{Query, Update, from_key};
 use tab_version::Version;
+
+/// No verdicts on labels yet, under these authorizations.
+pub fn unjudged(alloc: Global, auths: &AuthSet) -> Verdicts
+    ensures { IsSound auths.now result }
+{
+    let _count = auths.len();
+    Verdicts::none(alloc)
+}
 
 // The source has the records of these updates left, and no others.
 fn expect_rest<S: Source>(rt: &impl Abort, source: &mut S, want: &[Update]) {
@@ -57,7 +66,7 @@ fn expect_stack<'a>(
     want: &[Update],
     sought: &Update,
 ) {
-    let stack = version.stack(alloc, columns, auths, Verdicts::none(alloc), versions);
+    let stack = version.stack(alloc, columns, auths, unjudged(alloc, auths), versions);
     let mut stack = stack.expect(rt, "memory");
     expect_same(rt, &rest_of(rt, alloc, &mut stack), want);
     Source::seek(&mut stack, sought.key()).expect(rt, "memory");

@@ -4,10 +4,11 @@ ghost use Rattle.tab_key.specs.Sorted.{IsDistinct};
 ghost use Rattle.tab_iter.specs.Bags.{flat};
 
 use super::{dealt, reads, records_of, source_of};
+use crate::reading::unjudged;
 use std::alloc::{AllocError, Global};
 use std::process::Abort;
 use tab_iter::{
-    DeletingRule, FetchingRule, Filtered, ListSource, Merging, NoMemory, Rule, Source, Verdicts,
+    DeletingRule, FetchingRule, Filtered, ListSource, Merging, NoMemory, Rule, Source,
     VersioningRule, VisibleRule, stack_of, stack_unread,
 };
 use tab_key::{Key, RecordRef};
@@ -194,13 +195,8 @@ fn recovers_fetched_and_seen(rt: HostRuntime) {
     for calls in 0..120 {
         let rule = FetchingRule::new(alloc, &columns);
         filters(&rt, alloc, calls, rule, &[14, 13, 15, 16]);
-        filters(
-            &rt,
-            alloc,
-            calls,
-            VisibleRule::new(&auths, Verdicts::none(alloc)),
-            &seen,
-        );
+        let rule = VisibleRule::new(&auths, unjudged(alloc, &auths));
+        filters(&rt, alloc, calls, rule, &seen);
     }
 }
 
@@ -242,7 +238,7 @@ fn recovers_stacked(rt: HostRuntime) {
     for calls in 0..60 {
         let merged = Merging::new(failing_parts(&rt, alloc, calls).expect(&rt, "memory"));
         let merged = merged.expect(&rt, "memory");
-        if let Ok(mut stack) = stack_of(alloc, merged, &[], &auths, Verdicts::none(alloc), 2) {
+        if let Ok(mut stack) = stack_of(alloc, merged, &[], &auths, unjudged(alloc, &auths), 2) {
             recovers(&rt, alloc, &mut stack, &[7, 10, 9, 12, 14, 16]);
         }
     }
@@ -255,7 +251,7 @@ fn reads_from_a_key(rt: HostRuntime) {
     let auths = auths_of(alloc, &[b"A"]).expect(&rt, "memory");
     let parts = dealt(&rt, alloc).expect(&rt, "memory");
     let merged = Merging::unpositioned(parts).expect(&rt, "memory");
-    let mut stack = stack_unread(alloc, merged, &[], &auths, Verdicts::none(alloc), 2);
+    let mut stack = stack_unread(alloc, merged, &[], &auths, unjudged(alloc, &auths), 2);
     stack.seek(start()).expect(&rt, "memory");
     reads(&rt, alloc, &mut stack, &[7, 10, 9, 12, 14, 16]);
 }
