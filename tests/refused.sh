@@ -52,9 +52,9 @@ tells_apart() { # NAME IMPORTS ACCEPTED REFUSED REASON
 takes='alloc: Global, columns: &'\''a [Column], auths: &'\''a AuthSet'
 gives='Result<Stack<'\''a>, NoMemory>'
 tells_apart 'a stack that outlives its version' \
-    'use std::alloc::Global; use tab_iter::NoMemory; use tab_key::Column; use tab_label::AuthSet; use tab_version::{Stack, Version};' \
-    "pub fn lent<'a>(version: &'a Version, $takes) -> $gives { version.stack(alloc, columns, auths, 1) }" \
-    "pub fn kept<'a>(version: Version, $takes) -> $gives { version.stack(alloc, columns, auths, 1) }" \
+    'use std::alloc::Global; use tab_iter::{NoMemory, Verdicts}; use tab_key::Column; use tab_label::AuthSet; use tab_version::{Stack, Version};' \
+    "pub fn lent<'a>(version: &'a Version, $takes) -> $gives { version.stack(alloc, columns, auths, Verdicts::none(alloc), 1) }" \
+    "pub fn kept<'a>(version: Version, $takes) -> $gives { version.stack(alloc, columns, auths, Verdicts::none(alloc), 1) }" \
     'error\[borrow'
 
 tells_apart 'a receipt with another number' \
