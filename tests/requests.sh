@@ -1,6 +1,6 @@
 #!/usr/bin/env bash
-# How often the program asks for memory: not for each cell that a scan shows, nor for each label that it judges, and for an insert of one
-# cell twice.
+# How often the program asks for memory: not for each cell that a scan shows, nor for each label that it judges, nor for each batch of a
+# session for its labels anew, and for an insert of one cell twice.
 # Usage: tests/requests.sh   (from anywhere; wants a C compiler; builds the program if it isn't built)
 set -eu
 top=$(cd "$(dirname -- "${BASH_SOURCE[0]}")/.." && pwd)
@@ -48,7 +48,7 @@ ${CC:-cc} -shared -fPIC -O1 -o "$work/counting.so" "$work/counting.c" -ldl
 
 # A table with so many cells under so many labels, which the reader's one authorization admits, and a scan or none.
 script() { # CELLS LABELS SCAN
-    awk -v cells="$1" -v labels="$2" -v scan="$3" 'BEGIN {
+    awk -v cells="$1" -v labels="$2" -v scan="${3//$'\n'/\\n}" 'BEGIN {
         print "createtable t"
         print "setauths root A"
         for (i = 0; i < cells; i++) printf "insert t row%04d f q A|x%d v%d 5\n", i, i % labels, i
@@ -85,6 +85,12 @@ at_most 'requests for memory of 600 labels in a scan of three batches' 20 $((man
 read -r few_new few_more <<<"$(count 3000 1 '')"
 read -r many_new many_more <<<"$(count 3000 1 'scan t A')"
 at_most 'requests for memory of a scan of 3,000 cells' 100 $((many_new + many_more - few_new - few_more))
+
+# Verdicts on labels stay with a session: its batches over eight labels ask about as often as those over one.
+batches=$(echo 'open t A' && yes 'next 0 7' | head -n 300)
+read -r few_new few_more <<<"$(count 3000 1 "$batches")"
+read -r many_new many_more <<<"$(count 3000 8 "$batches")"
+at_most 'requests for memory of 300 batches over eight labels, beside one' 40 $((many_new + many_more - few_new - few_more))
 
 echo "$passed passed, $failed failed"
 [ "$failed" -eq 0 ]
