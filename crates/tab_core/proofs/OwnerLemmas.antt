@@ -1,5 +1,5 @@
 -- The owners of sessions, and slots, as lists.
-use Rattle.std.proofs.Common.{ℕ, zero, suc, ◌≡◌, ◌≢◌, ◌<◌, ◌≤◌, Bool, true, false, cond, List, [], ◌∷◌, length, get_or, refl, sym, ap, ◌∙◌, subst, arith, Option, Some, None, inl, inr}
+use Rattle.std.proofs.Common.{ℕ, zero, suc, ◌≡◌, ◌≢◌, ◌<◌, ◌≤◌, Bool, true, false, cond, List, [], ◌∷◌, length, get_or, refl, sym, ap, ◌∙◌, subst, arith, Option, Some, None, ◌⊎◌, inl, inr}
 use Rattle.std.specs.Prelude.{bytes_eq, is_some, option_map, slice_set}
 use mathlib.Core.Bool.{true≢false}
 use Rattle.std.specs.Ordering.{is_eq}
@@ -45,6 +45,9 @@ set_twice (x ∷ ss) (suc at) a b lt = ap (λ l. x ∷ l) (set_twice ss at a b (
 pub next_past : (ss : List (Option SessionState)) (at n : ℕ) → length ss ≤ at → NextFrom ss at n (Refused (NoSession at)) ss
 next_past ss at n le = record { answers = inl (ap (λ (s : Option SessionState). next_answer s at n) (sym (slot_past ss at le))); after = refl }
 
+pub many_past : (ss : List (Option SessionState)) (at : ℕ) (ranges : List Bounds) → length ss ≤ at → ManyFrom ss at ranges (Refused (NoSession at))
+many_past ss at ranges le = inl (ap (λ (s : Option SessionState). many_answer s at ranges) (sym (slot_past ss at le)))
+
 pub close_past : (ss : List (Option SessionState)) (at : ℕ) → length ss ≤ at → CloseFrom ss at (Refused (NoSession at)) ss
 close_past ss at le = record { answers = ap (λ (s : Option SessionState). close_answer s at) (sym (slot_past ss at le)); after = refl }
 
@@ -56,6 +59,13 @@ pub next_none : (ss : List (Option SessionState)) (at n : ℕ) (s put : Option S
 next_none ss at n s put lt is none put_is =
     let found : slot_at ss at ≡ None = slot_found ss at s lt is ∙ none in
     record { answers = inl (ap (λ (x : Option SessionState). next_answer x at n) (sym found)); after = put_back ss at None put lt found put_is }
+
+-- a Many is answered from its place, which stays as it was
+pub many_there : (ss : List (Option SessionState)) (at : ℕ) (s : Option SessionState) (ranges : List Bounds) (reply : Told) → at < length ss → s ≡ get_or ss at s → (reply ≡ many_answer s at ranges) ⊎ (reply ≡ Refused NoMemory) → ManyFrom ss at ranges reply
+many_there ss at s ranges reply lt is told = subst (λ (x : Option SessionState). (reply ≡ many_answer x at ranges) ⊎ (reply ≡ Refused NoMemory)) (sym (slot_found ss at s lt is)) told
+
+pub place_left : (ss : List (Option SessionState)) (at : ℕ) (s put : Option SessionState) → at < length ss → s ≡ get_or ss at s → put ≡ s → slice_set ss at put ≡ ss
+place_left ss at s put lt is same = put_back ss at s put lt (slot_found ss at s lt is) same
 
 pub close_done : (ss : List (Option SessionState)) (at : ℕ) (s put : Option SessionState) (held : SessionState) → at < length ss → s ≡ get_or ss at s → s ≡ Some held → put ≡ None → CloseFrom ss at Done (slice_set ss at put)
 close_done ss at s put held lt is some put_is =

@@ -100,8 +100,10 @@ many_longer core os user slot ranges reply from jobs w h refines stand are legal
   (legal, many_answers w h user slot ranges reply (slots_of os user) from (stand user)),
 )
 
-pub runs_many : (core : Held) (os : Owners) (jobs : List JobSlot) (user : List ℕ) (slot : ℕ) (ranges : List Bounds) (reply : Told) → ManyFrom (slots_of os user) slot ranges reply → RunsOn core os jobs (Many user slot ranges) reply core os jobs
-runs_many core os jobs user slot ranges reply from = record { histories = many_longer (base_of core) os user slot ranges reply from jobs; exact = stays_exact core jobs (Many user slot ranges) reply tt }
+pub runs_many : (core : Held) (os os' : Owners) (jobs : List JobSlot) (user : List ℕ) (slot : ℕ) (ranges : List Bounds) (reply : Told) → ManyFrom (slots_of os user) slot ranges reply → os' ≡ os → RunsOn core os jobs (Many user slot ranges) reply core os' jobs
+runs_many core os os' jobs user slot ranges reply from same =
+    subst (λ (after : Owners). RunsOn core os jobs (Many user slot ranges) reply core after jobs) (sym same)
+    (record { histories = many_longer (base_of core) os user slot ranges reply from jobs; exact = stays_exact core jobs (Many user slot ranges) reply tt })
 
 -- ---- a Close
 close_slots : (w : World) (j : List Move) (b : Base) (h : List Entry) (user : List ℕ) (slot : ℕ) (reply : Told) (ss ss' : List (Option SessionState)) → CloseFrom ss slot reply ss' → SlotsAre j ss → SlotsAre (moves_by b (journal w h) (Close user slot) reply ++ j) ss'

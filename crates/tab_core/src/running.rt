@@ -135,17 +135,25 @@ fn run_next(alloc: Global, owners: &mut Owners, user: &Name, slot: u32, count: u
 }
 
 // What a session shows in ranges of rows.
-fn run_many(alloc: Global, owners: &Owners, user: &Name, slot: u32, ranges: Items<Bounds>) -> Reply
-    ensures { ManyFrom (slots_of owners.now.entries user.now) slot ranges result }
+fn run_many(
+    alloc: Global,
+    owners: &mut Owners,
+    user: &Name,
+    slot: u32,
+    ranges: Items<Bounds>,
+) -> Reply
+    ensures answers { ManyFrom (slots_of owners.old.entries user.now) slot ranges result }
+    ensures same { owners.new.entries ≡ owners.old.entries }
 {
     many_of(alloc, owners, user, slot, ranges.as_slice())
 }
 
 // The same of ranges that are lent.
-fn many_of(alloc: Global, owners: &Owners, user: &Name, slot: u32, ranges: &[Bounds]) -> Reply
-    ensures { ManyFrom (slots_of owners.now.entries user.now) slot ranges.now result }
+fn many_of(alloc: Global, owners: &mut Owners, user: &Name, slot: u32, ranges: &[Bounds]) -> Reply
+    ensures answers { ManyFrom (slots_of owners.old.entries user.now) slot ranges.now result }
+    ensures same { owners.new.entries ≡ owners.old.entries }
 {
-    match owners.get(user) {
+    match owners.get_mut(user) {
         Some(slots) => slots.many(alloc, slot, ranges),
         None => Reply::Refused(Refusal::NoSession(slot)),
     }

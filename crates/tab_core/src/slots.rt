@@ -1,9 +1,9 @@
 //! The sessions of one user in a run or a script, each in the slot that is its number.
-ghost use Rattle.std.specs.Prelude.{◌≡◌, ◌⊎◌, ◌<◌, List, [], ◌∷◌, ◌++◌, Option, None, OnOk, OnErr, length, count_by, is_some, option_copied, vec_len, vec_capacity};
+ghost use Rattle.std.specs.Prelude.{◌≡◌, ◌⊎◌, ◌<◌, List, [], ◌∷◌, ◌++◌, Option, None, OnOk, OnErr, length, count_by, is_some, vec_len, vec_capacity};
 ghost use Rattle.tab_cells.specs.SessionState.{SessionState};
 ghost use Rattle.tab_key.specs.declared.part.TheConstants.{MAX_SESSIONS};
-ghost use Rattle.tab_history.specs.Answers.{ranges_told};
-ghost use Rattle.tab_core.specs.Slots.{slot_at, are_full, NextFrom, ManyFrom, CloseFrom};
+ghost use Rattle.tab_history.specs.Answers.{ranges_told, many_answer};
+ghost use Rattle.tab_core.specs.Slots.{are_full, NextFrom, ManyFrom, CloseFrom};
 ghost use Rattle.tab_core.specs.Owners.{kept_with, OpensIn};
 
 use crate::Session;
@@ -127,25 +127,16 @@ impl Slots {
         }
     }
 
-    /// The whole answer of the session in the slot, in each of the ranges.
-    pub fn many(&self, alloc: Global, slot: u32, ranges: &[Bounds]) -> Reply
-        ensures { ManyFrom self.now slot ranges.now result }
-    {
-        match self.get(slot) {
-            None => Reply::Refused(Refusal::NoSession(slot)),
-            Some(session) => in_ranges(alloc, session, ranges),
-        }
-    }
-
-    // The session in the slot.
-    fn get(&self, slot: u32) -> Option<&Session>
-        ensures { option_copied result ≡ slot_at self.now slot }
+    /// The whole answer of the session in the slot, in each of the ranges. The slots stay as they were.
+    pub fn many(&mut self, alloc: Global, slot: u32, ranges: &[Bounds]) -> Reply
+        ensures answers { ManyFrom self.old slot ranges.now result }
+        ensures same { self.new ≡ self.old }
     {
         let at = slot as usize;
         if at >= self.slots.len() {
-            return None;
+            return Reply::Refused(Refusal::NoSession(slot));
         }
-        self.slots[at].as_ref()
+        many_at(alloc, &mut self.slots[at], slot, ranges)
     }
 
     /// Closes the session in the slot.
@@ -185,9 +176,21 @@ fn keep(slots: &mut Vec<Option<Session>>, open: &mut usize, session: Option<Sess
     }
 }
 
+// The whole answer of the session at the slot's place, in each of the ranges.
+fn many_at(alloc: Global, place: &mut Option<Session>, slot: u32, ranges: &[Bounds]) -> Reply
+    ensures answers { (result ≡ many_answer place.old slot ranges.now) ⊎ (result ≡ Reply.Refused Refusal.NoMemory) }
+    ensures same { place.new ≡ place.old }
+{
+    match place {
+        None => Reply::Refused(Refusal::NoSession(slot)),
+        Some(session) => in_ranges(alloc, session, ranges),
+    }
+}
+
 // The session's whole answer in each of the ranges, or what is wrong with these.
-fn in_ranges(alloc: Global, session: &Session, ranges: &[Bounds]) -> Reply
-    ensures { (result ≡ ranges_told session.now ranges.now) ⊎ (result ≡ Reply.Refused Refusal.NoMemory) }
+fn in_ranges(alloc: Global, session: &mut Session, ranges: &[Bounds]) -> Reply
+    ensures answers { (result ≡ ranges_told session.old ranges.now) ⊎ (result ≡ Reply.Refused Refusal.NoMemory) }
+    ensures same { session.new ≡ session.old }
 {
     if let Some(refusal) = ranges_refusal(ranges) {
         return Reply::Refused(refusal);

@@ -76,12 +76,18 @@ impl Session {
         Ok(batch.cells)
     }
 
-    /// The whole answer in each of these ranges of rows, in their order, whatever batches were taken. The session stays as it is.
+    /// The whole answer in each of these ranges of rows, in their order, whatever batches were taken. The session stays as it was; its
+    /// verdicts on labels are kept for what is read next, as behind a batch.
     ///
     /// A range is read from its low end to the first row above its high one, by a seek in what the ranges before it were read from. A
     /// range that is none has no cell. The error comes only from want of memory.
-    pub fn scan_many(&self, alloc: Global, ranges: &[Bounds]) -> Result<Items<Cells>, AllocError>
-        ensures { IfOk result (λ cells. cells ≡ in_ranges self.now ranges.now) }
+    pub fn scan_many(
+        &mut self,
+        alloc: Global,
+        ranges: &[Bounds],
+    ) -> Result<Items<Cells>, AllocError>
+        ensures cells { IfOk result (λ cells. cells ≡ in_ranges self.old ranges.now) }
+        ensures same { self.new ≡ self.old }
     {
         self.scan.read_ranges(alloc, ranges)
     }

@@ -32,7 +32,7 @@ struct Asked {
 pub(crate) struct SnapshotScan {
     version: Version,
     asked: Asked,
-    // on the labels that were judged in the batches before
+    // on the labels that were judged in what was read before
     verdicts: Verdicts,
     ghost sound: { IsSound asked.auths verdicts } by { IsSound-prop asked.auths verdicts },
 }
@@ -99,16 +99,20 @@ impl SnapshotScan {
         Ok(Batch { cells, next })
     }
 
-    /// The cells of the records with a row in each of the ranges.
+    /// The cells of the records with a row in each of the ranges. The verdicts go with them and come back as in `read`.
     pub(crate) fn read_ranges(
-        &self,
+        &mut self,
         alloc: Global,
         ranges: &[Bounds],
     ) -> Result<Items<Cells>, NoMemory>
-        ensures { IfOk result (λ answers. answers ≡ map (λ rows. cells_within rows (map cell_of self.now)) ranges.now) }
+        ensures same { self.new ≡ self.old }
+        ensures cells { IfOk result (λ answers. answers ≡ map (λ rows. cells_within rows (map cell_of self.old)) ranges.now) }
     {
-        let mut source = unread(alloc, &self.version, &self.asked, Verdicts::none(alloc));
+        let verdicts = mem::replace(&mut self.verdicts, Verdicts::none(alloc));
+        let asked = &self.asked;
+        let mut source = unread(alloc, &self.version, asked, verdicts);
         let answers = take_ranges(alloc, &mut source, ranges)?;
+        self.verdicts = verdicts_of(alloc, source, &asked.auths);
         Ok(Items::from_vec(answers))
     }
 }

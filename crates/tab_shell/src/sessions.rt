@@ -125,11 +125,12 @@ impl Sessions {
         next(alloc, &mut self.by_user, user, number, count)
     }
 
-    /// The whole answer of the user's session of this number, in each of the ranges.
-    pub fn many(&self, alloc: Global, user: &Name, number: u32, ranges: &[Bounds]) -> Reply
-        ensures { ManyIn self.now user.now number ranges.now result }
+    /// The whole answer of the user's session of this number, in each of the ranges. All that is kept stays as it was.
+    pub fn many(&mut self, alloc: Global, user: &Name, number: u32, ranges: &[Bounds]) -> Reply
+        ensures answers { ManyIn self.old user.now number ranges.now result }
+        ensures same { self.new ≡ self.old }
     {
-        many(alloc, &self.by_user, user, number, ranges)
+        many(alloc, &mut self.by_user, user, number, ranges)
     }
 
     /// Closes the user's session of this number.
@@ -221,14 +222,15 @@ fn next(
 // What a session shows in ranges of rows.
 fn many(
     alloc: Global,
-    by_user: &BTreeMap<NameKey, Kept>,
+    by_user: &mut BTreeMap<NameKey, Kept>,
     user: &Name,
     number: u32,
     ranges: &[Bounds],
 ) -> Reply
-    ensures { ManyIn by_user.now.entries user.now number ranges.now result }
+    ensures answers { ManyIn by_user.old.entries user.now number ranges.now result }
+    ensures same { by_user.new.entries ≡ by_user.old.entries }
 {
-    match by_user.get(user) {
+    match by_user.get_mut(user) {
         Some(kept) => kept.numbered.many(alloc, number, ranges),
         None => Reply::Refused(Refusal::NoSession(number)),
     }

@@ -239,9 +239,10 @@ fn opens(act: &Act) -> bool
     matches!(act, Act::Open(_))
 }
 
-// What the session in the slot shows in these ranges of rows.
-fn many(alloc: Global, slots: &Slots, slot: u32, ranges: Items<Bounds>) -> Reply
-    ensures { ManyFrom slots.now slot ranges result }
+// What the session in the slot shows in these ranges of rows. The slots stay as they were.
+fn many(alloc: Global, slots: &mut Slots, slot: u32, ranges: Items<Bounds>) -> Reply
+    ensures answers { ManyFrom slots.old slot ranges result }
+    ensures same { slots.new ≡ slots.old }
 {
     slots.many(alloc, slot, ranges.as_slice())
 }

@@ -11,8 +11,8 @@ returns-in-Next c =
 
 pub returns-in-Many : goal.returns-in-Many
 returns-in-Many c =
-    let P : Step → Type 0 = λ step. RunsOn c.args.core.now c.args.owners.now.entries c.args.jobs.now step c.run_many.result c.args.core.now c.args.owners.now.entries c.args.jobs.now in
-    subst P (sym c.in-Many.is) (runs_many c.args.core.now c.args.owners.now.entries c.args.jobs.now _ _ _ c.run_many.result c.run_many.ensures)
+    let P : Step → Type 0 = λ step. RunsOn c.args.core.now c.args.owners.now.entries c.args.jobs.now step c.run_many.result c.args.core.now c.run_many.new.owners.entries c.args.jobs.now in
+    subst P (sym c.in-Many.is) (runs_many c.args.core.now c.args.owners.now.entries c.run_many.new.owners.entries c.args.jobs.now _ _ _ c.run_many.result c.run_many.ensures.answers c.run_many.ensures.same)
 
 pub returns-in-Close : goal.returns-in-Close
 returns-in-Close c =
