@@ -1,6 +1,6 @@
 #!/usr/bin/env bash
 # How often the program asks for memory: not for each cell that a scan shows, nor for each label that it judges, nor for each batch of a
-# session for its labels anew, and for an insert of one cell twice.
+# session for its labels anew, and for an insert of one cell once.
 # Usage: tests/requests.sh   (from anywhere; wants a C compiler; builds the program if it isn't built)
 set -eu
 top=$(cd "$(dirname -- "${BASH_SOURCE[0]}")/.." && pwd)
@@ -75,7 +75,7 @@ at_most() { # NAME LIMIT NUMBER
 
 read -r few_new few_more <<<"$(count 1000 1 '')"
 read -r many_new many_more <<<"$(count 3000 1 '')"
-at_most 'requests for memory of 2,000 inserts' 4020 $((many_new - few_new))
+at_most 'requests for memory of 2,000 inserts' 2020 $((many_new - few_new))
 at_most 'requests for more memory of 2,000 inserts' 20 $((many_more - few_more))
 
 read -r few_new few_more <<<"$(count 3000 300 'scan t A')"

@@ -7,6 +7,7 @@ ghost use Rattle.tab_mutation.specs.Shape.{first_found, long_name, long_value, s
 use crate::shape_error::is_too_long;
 use crate::update_span::{UpdateSpan, append};
 use crate::{ShapeError, UpdateRef, Updates};
+use smallvec::SmallVec;
 use std::alloc::{AllocError, Global};
 use std::marker::Model;
 use tab_key::{Kind, MAX_UPDATES, Part};
@@ -22,7 +23,8 @@ const FIRST_ROOM: usize = 64;
 pub struct Mutation {
     body: Vec<u8>,
     row_end: usize,
-    spans: Vec<UpdateSpan>,
+    // one lies in the mutation itself: most that are sent one by one have no more
+    spans: SmallVec<UpdateSpan, 1>,
 }
 
 impl Model for Mutation {
@@ -47,7 +49,7 @@ impl Mutation {
         Ok(Mutation {
             body,
             row_end: row.len(),
-            spans: Vec::new(alloc),
+            spans: SmallVec::new(alloc),
         })
     }
 

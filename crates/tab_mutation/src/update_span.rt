@@ -26,6 +26,21 @@ pub struct UpdateSpan {
     pub kind: Kind,
 }
 
+/// What stands in a place that holds no span.
+impl Default for UpdateSpan {
+    fn default() -> UpdateSpan {
+        UpdateSpan {
+            start: 0,
+            family_end: 0,
+            qualifier_end: 0,
+            label_end: 0,
+            end: 0,
+            timestamp: None,
+            kind: Kind::Put,
+        }
+    }
+}
+
 // How many bytes the parts take in a body, as a room to ask for at once.
 fn byte_count(family: &[u8], qualifier: &[u8], label: &[u8], value: &[u8]) -> usize {
     family
