@@ -1,6 +1,6 @@
 #!/usr/bin/env bash
-# How often the program asks for memory: not for each cell that a scan shows, nor for each label that it judges, nor for each batch of a
-# session for its labels anew, and for an insert of one cell once.
+# How often the program asks for memory: not for each cell that a scan shows, nor for each label that it judges, nor for what a
+# session reads next for its labels anew, and for an insert of one cell once.
 # Usage: tests/requests.sh   (from anywhere; wants a C compiler; builds the program if it isn't built)
 set -eu
 top=$(cd "$(dirname -- "${BASH_SOURCE[0]}")/.." && pwd)
@@ -91,6 +91,12 @@ batches=$(echo 'open t A' && yes 'next 0 7' | head -n 300)
 read -r few_new few_more <<<"$(count 3000 1 "$batches")"
 read -r many_new many_more <<<"$(count 3000 8 "$batches")"
 at_most 'requests for memory of 300 batches over eight labels, beside one' 40 $((many_new + many_more - few_new - few_more))
+
+# And with its requests of ranges.
+requests=$(echo 'open t A' && yes 'many 0 [row0000 [row0007' | head -n 300)
+read -r few_new few_more <<<"$(count 3000 1 "$requests")"
+read -r many_new many_more <<<"$(count 3000 8 "$requests")"
+at_most 'requests for memory of 300 requests of a range with eight labels, beside one' 40 $((many_new + many_more - few_new - few_more))
 
 echo "$passed passed, $failed failed"
 [ "$failed" -eq 0 ]
