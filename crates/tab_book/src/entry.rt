@@ -57,10 +57,10 @@ impl Entry {
     }
 }
 
-// An entry at rest takes at most 160 bytes: its place in the book, the event, and the count of those who share it.
-const _: () = prove!(size_of::<KeptEntry>() + size_of::<Note>() + size_of::<usize>() <= 160);
+// An entry at rest takes at most 216 bytes: its place in the book, the event, and the count of those who share it.
+const _: () = prove!(size_of::<KeptEntry>() + size_of::<Note>() + size_of::<usize>() <= 216);
 
-/// An entry at rest: 32 bytes in the book, and 128 for the event. The event is shared with the entry's receipt.
+/// An entry at rest: 32 bytes in the book, and 184 for the event. The event is shared with the entry's receipt.
 #[derive(Drop)]
 pub(crate) struct KeptEntry {
     pub seat: u32,

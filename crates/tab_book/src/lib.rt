@@ -7,9 +7,9 @@
 //! [`settle`] says of receipts whether their entries stand at their numbers. Where they do, no two have one number and they are as many as
 //! the entries, no entry is without its receipt ([`receipts_are_whole`]).
 //!
-//! A history grows with every event, and no call takes an entry away: it is held in memory as long as the book is. An entry takes 160 bytes
-//! beside the bytes of its names, its rows and its mutation; a scan's columns and authorizations, and a reply other than done and opened,
-//! come to that. The event is there once, for the book and for the receipt.
+//! A history grows with every event, and no call takes an entry away: it is held in memory as long as the book is. An entry takes 216 bytes
+//! beside the bytes of its names, its rows and its mutation; what says where a mutation's further updates lie, a scan's columns and
+//! authorizations, and a reply other than done and opened come to that. The event is there once, for the book and for the receipt.
 //!
 //! | File | What |
 //! |---|---|

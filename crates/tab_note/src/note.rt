@@ -8,7 +8,8 @@ use std::alloc::{AllocError, Global};
 use std::marker::Model;
 use tab_history::Event;
 
-/// An event as a history keeps it: 120 bytes, beside those of its names, rows and mutation. A contract sees the event.
+/// An event as a history keeps it: 176 bytes, beside those of its names, rows and mutation. Where a mutation's first update lies is
+/// told among them, so one of one update takes memory for its bytes alone. A contract sees the event.
 #[derive(Drop)]
 pub struct Note {
     user: Text,
