@@ -11,3 +11,15 @@ pub mod Filled
 pub mod Searched
 pub mod StartPrefixes
 pub mod Fronted
+pub mod Parted
+pub mod Moved
+pub mod Picking
+pub mod Shortened
+pub mod Writing
+pub mod Pasted
+pub mod Columned
+pub mod Spanned
+pub mod Regrouped
+pub mod ByClass
+pub mod Bounded
+pub mod CutPrefix

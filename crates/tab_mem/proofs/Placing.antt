@@ -1,9 +1,9 @@
 -- Records in a body, behind which one more is put.
-use Rattle.std.proofs.Common.{◌≡◌, ℕ, List, [], ◌∷◌, ◌++◌, sym, subst, length, take}
+use Rattle.std.proofs.Common.{◌≡◌, ℕ, List, [], ◌∷◌, ◌++◌, ap, sym, subst, length, length-append, take, arith}
 use Rattle.std.specs.Prelude.{true, int_le}
 use Rattle.tab_key.specs.Encoding.{record_at, records_at, IsAt}
 use Rattle.tab_key.specs.Records.{Record}
-use Rattle.tab_key.proofs.Placed.{pushed_at, pushed_records}
+use Rattle.tab_key.proofs.Placed.{head_inside, pushed_at, pushed_records}
 use Rattle.tab_iter.specs.Lists.{latest, HasI64Timestamps}
 use Rattle.tab_mem.specs.Fronts.{AreFronts}
 use Rattle.tab_mem.specs.Lists.{ArePacked, IsIndexed}
@@ -16,8 +16,9 @@ packed_more old new places now p r is front a there reads fits = record {
 }
 
 -- .. and whose row their index has taken note of
-pub indexed_more : (old new places now before after : List ℕ) (p : ℕ) (r : Record) → now ≡ places ++ p ∷ [] → take (length old) new ≡ old → IsIndexed old places before → IsAt new p → record_at new p ≡ r → int_le r.key.timestamp latest ≡ true → AreFronts after (records_at old places ++ r ∷ []) → IsIndexed new now after
-indexed_more old new places now before after p r is front h there reads fits noted = record {
+pub indexed_more : (old new places now before after : List ℕ) (p : ℕ) (r : Record) → p ≡ length old → now ≡ places ++ p ∷ [] → take (length old) new ≡ old → IsIndexed old places before → IsAt new p → record_at new p ≡ r → int_le r.key.timestamp latest ≡ true → AreFronts after (records_at old places ++ r ∷ []) → IsIndexed new now after
+indexed_more old new places now before after p r end is front h there reads fits noted = record {
   packed = packed_more old new places now p r is front h.packed there reads fits;
+  room = omega (arith, h.room, end, head_inside new p there, ap length is, length-append places (p ∷ []));
   fronts = subst (AreFronts after) (sym (pushed_records old new places now p r is front h.packed.at reads)) noted;
 }

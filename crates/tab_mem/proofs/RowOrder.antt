@@ -59,7 +59,7 @@ then_le a b high u e = upto_le _ (upto nat_list_cmp_total a b high u (le_upto _ 
 lt_then : (low a b : List ℕ) → is_lt (bytes_cmp low a) ≡ true → IsUpto a b → is_lt (bytes_cmp low b) ≡ true
 lt_then low a b e u = by_bool (is_lt (bytes_cmp low b)) (λ t. t) (λ f. absurd (true≢false (sym e ∙ turned low a ∙ upto nat_list_cmp_total a b low u (sym (turned low b) ∙ f))))
 
-then_lt : (a b high : List ℕ) → IsUpto a b → is_lt (bytes_cmp b high) ≡ true → is_lt (bytes_cmp a high) ≡ true
+pub then_lt : (a b high : List ℕ) → IsUpto a b → is_lt (bytes_cmp b high) ≡ true → is_lt (bytes_cmp a high) ≡ true
 then_lt a b high u e = by_bool (is_lt (bytes_cmp a high)) (λ t. t) (λ f. absurd (true≢false (sym e ∙ turned b high ∙ upto nat_list_cmp_total high a b (sym (turned a high) ∙ f) u)))
 
 pub above_more : (low : Bound) (a b : List ℕ) → IsUpto a b → is_above low a ≡ true → is_above low b ≡ true

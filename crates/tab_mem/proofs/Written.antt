@@ -1,17 +1,13 @@
--- What a write adds to the records of an active part, and their order at a freeze.
+-- Timestamps of the records that a write adds.
 use Rattle.std.proofs.Common.{◌≡◌, ◌⊎◌, ℕ, ◌+◌, ◌<◌, ◌≤◌, List, ◌∷◌, ◌++◌, sym, reverse, map, take, arith, get_or, inl, inr, subst, length}
-use Rattle.std.specs.Prelude.{⊤, ℤ, true, int_le, Contains, Result, Ok, Err, OnOk, OnErr}
-use Rattle.std.proofs.lemmas.List.Sorted.{IsPermutation-append_comm}
+use Rattle.std.specs.Prelude.{ℤ, true, int_le}
 use Rattle.tab_key.specs.Records.{Record}
-use Rattle.tab_key.specs.Sorted.{IsDistinct, sorted, IsIn}
-use Rattle.tab_key.proofs.Rising.{in_sorted, rising_sorted}
-use Rattle.tab_key.proofs.Sorting.{distinct_permuted}
+use Rattle.tab_key.specs.Sorted.{IsIn}
 use Rattle.tab_mutation.specs.Mutations.{Update}
-use Rattle.tab_cells.specs.Written.{TimedUpdate, timed, record_of, records_of}
+use Rattle.tab_cells.specs.Written.{timed, record_of, records_of}
 use Rattle.tab_cells.proofs.Lists.{in_append}
-use Rattle.tab_cells.proofs.Written.{distinct_new, records_more}
+use Rattle.tab_cells.proofs.Written.{records_more}
 use Rattle.tab_iter.specs.Lists.{latest, HasI64Timestamps}
-use Rattle.tab_mem.specs.Lists.{IsActive, IsRun}
 
 -- ---- timestamps
 pub timestamps_first : (r : Record) (rs : List Record) → int_le r.key.timestamp latest ≡ true → HasI64Timestamps rs → HasI64Timestamps (r ∷ rs)
@@ -33,17 +29,3 @@ timestamps_both xs ys a b u h = go (in_append xs ys u h)
     go : IsIn xs u ⊎ IsIn ys u → int_le u.key.timestamp latest ≡ true
     go (inl k) = a u k
     go (inr k) = b u k
-
--- ---- an active part
-distinct_behind : (seq : ℕ) (row : List ℕ) (ps : List TimedUpdate) (us : List Record) → ((u : Record) → Contains us u → u.seq < seq) → IsDistinct us → IsDistinct (us ++ records_of seq row ps)
-distinct_behind seq row ps us below d = distinct_permuted (records_of seq row ps ++ us) (us ++ records_of seq row ps) (IsPermutation-append_comm (records_of seq row ps) us) (distinct_new seq row ps us below d)
-
--- .. after a write, whether it went in or not
-pub active_after : {E : Type 0} (seq : ℕ) (row : List ℕ) (ps : List TimedUpdate) (us vs : List Record) (r : Result ⊤ E) → ((u : Record) → Contains us u → u.seq < seq) → IsActive us
-    → OnOk r (vs ≡ us ++ records_of seq row ps) → OnOk r (HasI64Timestamps (records_of seq row ps)) → OnErr r (vs ≡ us) → IsActive vs
-active_after seq row ps us vs (Ok x) below a ok t err = subst IsActive (sym ok) (record { distinct = distinct_behind seq row ps us below a.distinct; timestamps = timestamps_both us (records_of seq row ps) a.timestamps t })
-active_after seq row ps us vs (Err e) below a ok t err = subst IsActive (sym err) a
-
--- .. and its records in their order
-pub active_sorted : (us : List Record) → IsActive us → IsRun (sorted us)
-active_sorted us a = record { rising = rising_sorted us a.distinct; timestamps = λ u h. a.timestamps u (in_sorted us u h) }

@@ -3,3 +3,6 @@ pub mod Starts
 pub mod Cursors
 pub mod Numbers
 pub mod Fronts
+pub mod Groups
+pub mod Parting
+pub mod Writing

@@ -1,9 +1,9 @@
 -- Lists of records, as an active part and a run hold them.
-use Rattle.std.specs.Prelude.{ℕ, ◌≡◌, List, length, take, drop, true, int_le}
-use Rattle.tab_key.specs.Encoding.{IsAt, IsShort, AreAt, record_at, records_at, places_from, end_from}
+use Rattle.std.specs.Prelude.{ℕ, ◌≡◌, ◌≤◌, ◌*◌, List, length, take, drop, true, int_le}
+use Rattle.tab_key.specs.Encoding.{IsAt, IsShort, AreAt, span_at, record_at, records_at, places_from, end_from}
 use Rattle.tab_key.specs.Records.{Record}
 use Rattle.tab_key.specs.RowPrefix.{IsRowPrefix}
-use Rattle.tab_key.specs.Sorted.{IsDistinct, IsIn}
+use Rattle.tab_key.specs.Sorted.{IsIn}
 use Rattle.tab_iter.specs.Lists.{IsRising, latest, HasI64Timestamps}
 use Rattle.tab_mem.specs.Fronts.{AreFronts}
 
@@ -20,9 +20,10 @@ pub record IsFilled (body : List ℕ) (count : ℕ) : Type 0 where
   pub at : AreAt body (places_from body 0 count)
   pub ends : end_from body 0 count ≡ length body
 
--- the bytes are those of a record with a timestamp of 64 bits, and the number is its row's prefix
+-- the bytes are those of a record with a timestamp of 64 bits and no others, and the number is its row's prefix
 pub record IsOwn (prefix : ℕ) (bytes : List ℕ) : Type 0 where
   pub at : IsAt bytes 0
+  pub ends : (span_at bytes 0).end ≡ length bytes
   pub row : IsRowPrefix prefix (record_at bytes 0).key.row
   pub timestamp : int_le (record_at bytes 0).key.timestamp latest ≡ true
 
@@ -31,15 +32,11 @@ pub record ArePacked (body places : List ℕ) : Type 0 where
   pub at : AreAt body places
   pub timestamps : HasI64Timestamps (records_at body places)
 
--- and the numbers are their sparse index
+-- and takes at least 41 bytes of it; and the numbers are their sparse index
 pub record IsIndexed (body places numbers : List ℕ) : Type 0 where
   pub packed : ArePacked body places
+  pub room : 41 * length places ≤ length body
   pub fronts : AreFronts numbers (records_at body places)
-
--- what holds of the records of an active part
-pub record IsActive (xs : List Record) : Type 0 where
-  pub distinct : IsDistinct xs
-  pub timestamps : HasI64Timestamps xs
 
 -- what holds of the records of a run
 pub record IsRun (xs : List Record) : Type 0 where

@@ -1,11 +1,13 @@
-//! The records of an accepted mutation, put behind others.
+//! Records that are put behind others in a body: those of an accepted mutation, and copies.
 ghost use Rattle.std.specs.Prelude.{◌≡◌, ◌++◌, ◌<◌, ◌^◌, true, int_le, length, map, take, unwrap_or, None, IfOk, OnOk};
 ghost use Rattle.tab_key.specs.Encoding.{span_at, record_at, records_at, places_from, IsAt, IsShort};
 ghost use Rattle.tab_mutation.specs.Shape.{shape_error};
 ghost use Rattle.tab_cells.specs.Written.{timed, record_of, mutation_records};
 ghost use Rattle.tab_iter.specs.Lists.{latest, HasI64Timestamps};
 ghost use Rattle.tab_mem.specs.Lists.{IsFilled};
+ghost use Rattle.tab_mem.specs.Parting.{records_in};
 
+use crate::item::Item;
 use std::alloc::AllocError;
 use tab_key::{Key, append};
 use tab_mutation::{Mutation, UpdateRef};
@@ -60,6 +62,25 @@ pub(crate) fn append_all(
         index -= 1;
         let update = mutation.update(index);
         append_one(body, mutation.row(), &update, seq, index as u32, clock)?;
+        count += 1;
+    }
+    Ok(count)
+}
+
+/// Puts copies of the records of several items behind so many that the body holds, and says how many there are then. What was there
+/// before stays in front, also after an error; then some records may stand behind it.
+pub(crate) fn append_items(
+    body: &mut Vec<u8>,
+    mut count: usize,
+    items: &[Item<'_>],
+) -> Result<usize, AllocError>
+    requires { IsFilled body.old.items count }
+    ensures bytes { take (length body.old.items) body.new.items ≡ body.old.items }
+    ensures filled { IfOk result (λ n. IsFilled body.new.items n) }
+    ensures records { IfOk result (λ n. records_in body.new.items n ≡ records_in body.old.items count ++ items.now) }
+{
+    for item in items {
+        item.append_to(body)?;
         count += 1;
     }
     Ok(count)

@@ -1,5 +1,5 @@
 //! A sparse index of records by their rows.
-ghost use Rattle.std.specs.Prelude.{◌≡◌, ℕ, ◌+◌, ◌*◌, ◌<◌, ◌≤◌, ◌++◌, ◌∷◌, [], List, length, max, min, vec_len, vec_capacity, IfOk, OnOk};
+ghost use Rattle.std.specs.Prelude.{◌≡◌, ℕ, ◌+◌, ◌*◌, ◌<◌, ◌≤◌, ◌++◌, ◌∷◌, [], List, length, take, max, min, vec_len, vec_capacity, IfOk, OnOk};
 ghost use Rattle.std.specs.List.{prefix_len};
 ghost use Rattle.std.specs.List.Sorted.{IsNonDecreasing};
 ghost use Rattle.tab_key.specs.Records.{Record};
@@ -62,6 +62,13 @@ impl Fronts {
         if index % STRIDE == 0 {
             self.numbers.push_reserved(row_prefix(lent.row()));
         }
+    }
+
+    /// Leaves what is of the first so many records. Memory isn't given back.
+    pub fn truncate(&mut self, count: usize)
+        ensures { (rs : List Record) → AreFronts self.old.numbers.items rs → AreFronts self.new.numbers.items (take count rs) }
+    {
+        self.numbers.truncate(count.div_ceil(STRIDE));
     }
 
     /// Gives back the memory that isn't used.

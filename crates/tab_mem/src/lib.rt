@@ -7,10 +7,17 @@
 //! |---|---|
 //! | `active` | what is written, until it is frozen |
 //! | `unsorted` | records as they were written, one after another in one body |
-//! | `appending` | the records of an accepted mutation, put behind others |
+//! | `appending` | records that are put behind others: those of an accepted mutation, and copies |
 //! | `lending` | records that lie one after another, lent |
+//! | `parting`, `moving` | those of a body whose rows don't stand before a bound's, and how they move together |
 //! | `records` | records in their places in one body |
 //! | `item`, `sorting` | what a freeze sorts, and the sort |
+//! | `leading` | the beginning of a record's row as a number |
+//! | `group`, `grouping` | neighbouring records of one row, lent |
+//! | `column_item`, `one_row` | what is sorted of records of one row, and that sort |
+//! | `classes` | groups, sorted by their rows and put behind others |
+//! | `draining`, `sampling` | the sort in parts, and where these end |
+//! | `freezing`, `kept_run` | the steps of a freeze, and a run that is kept until it has its place |
 //! | `run` | a frozen run |
 //! | `ordered`, `start`, `searching` | records by their index, where a search in them goes, and the searches |
 //! | `fronts` | a sparse index of records by their rows |
@@ -20,14 +27,26 @@
 
 mod active;
 mod appending;
+mod classes;
+mod column_item;
 mod cursor;
+mod draining;
+mod freezing;
 mod fronts;
+mod group;
+mod grouping;
 mod item;
+mod kept_run;
+mod leading;
 mod lending;
+mod moving;
+mod one_row;
 mod ordered;
+mod parting;
 mod records;
 mod rising;
 mod run;
+mod sampling;
 mod searching;
 mod sorting;
 mod start;

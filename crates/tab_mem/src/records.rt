@@ -1,5 +1,5 @@
 //! Records in their places in one body of bytes.
-ghost use Rattle.std.specs.Prelude.{◌≡◌, ◌<◌, ◌++◌, ◌∷◌, ◌==◌, [], IfOk, OnOk, OnErr, IsTrue, length};
+ghost use Rattle.std.specs.Prelude.{◌≡◌, ◌<◌, ◌*◌, ◌^◌, ◌++◌, ◌∷◌, ◌==◌, [], IfOk, OnOk, OnErr, IsTrue, length, take};
 ghost use Rattle.std.specs.List.{slice_index_or};
 ghost use Rattle.tab_key.specs.Encoding.{IsShort};
 ghost use Rattle.tab_key.specs.KeyOf.{key_of};
@@ -7,6 +7,7 @@ ghost use Rattle.tab_iter.specs.Lists.{HasI64Timestamps};
 ghost use Rattle.tab_mem.specs.Lists.{HasShortParts};
 
 use crate::item::Item;
+use crate::lending::lend_at;
 use crate::{Fronts, Ordered, Start};
 use std::alloc::{AllocError, Global};
 use std::marker::Model;
@@ -67,6 +68,7 @@ impl Records {
     /// How many records there are.
     pub fn len(&self) -> usize
         ensures len { result ≡ length self.now }
+        ensures few { 41 * result < 2 ^ 63 }
         ensures timestamps { HasI64Timestamps self.now }
         ensures short { HasShortParts self.now }
     {
@@ -104,6 +106,13 @@ impl Records {
             return false;
         }
         self.body.as_slice() == other.body.as_slice()
+    }
+
+    /// Puts the records, lent, behind others, in their order. After an error, which only want of memory gives, some may stand there.
+    pub(crate) fn lend_to<'a>(&'a self, items: &mut Vec<Item<'a>>) -> Result<(), AllocError>
+        ensures { OnOk result (items.new.items ≡ items.old.items ++ self.now) }
+    {
+        lend_at(items, &self.body, &self.places)
     }
 
     /// Puts a record at the end. Each of its parts may have at most 1,048,576 bytes. `AllocError` leaves the records as they were.
@@ -155,6 +164,41 @@ impl Records {
                 Err(fault)
             }
         }
+    }
+
+    /// Puts copies of the records of several items at the end, in their order. `AllocError` leaves the records as they were; then the
+    /// body may hold bytes that belong to none.
+    pub(crate) fn push_all(&mut self, items: &[Item<'_>]) -> Result<(), AllocError>
+        ensures ok { OnOk result (self.new ≡ self.old ++ items.now) }
+        ensures err { OnErr result (self.new ≡ self.old) }
+    {
+        let count = self.len();
+        match self.push_each(items) {
+            Ok(()) => Ok(()),
+            Err(fault) => {
+                self.truncate(count);
+                Err(fault)
+            }
+        }
+    }
+
+    // The same, but an error may leave copies of the first items at the end.
+    fn push_each(&mut self, items: &[Item<'_>]) -> Result<(), AllocError>
+        ensures ok { OnOk result (self.new ≡ self.old ++ items.now) }
+        ensures front { take (length self.old) self.new ≡ self.old }
+    {
+        for item in items {
+            self.push_item(item)?;
+        }
+        Ok(())
+    }
+
+    /// Leaves the first so many records. Memory isn't given back.
+    pub(crate) fn truncate(&mut self, count: usize)
+        ensures { self.new ≡ take count self.old }
+    {
+        self.places.truncate(count);
+        self.fronts.truncate(count);
     }
 }
 

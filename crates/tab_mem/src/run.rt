@@ -1,12 +1,14 @@
 //! Frozen runs.
-ghost use Rattle.std.specs.Prelude.{◌≡◌, ◌<◌, ◌≤◌, ◌==◌, IsTrue, length, filter};
+ghost use Rattle.std.specs.Prelude.{◌≡◌, ◌<◌, ◌≤◌, ◌*◌, ◌^◌, ◌++◌, ◌==◌, IsTrue, OnOk, length, filter};
 ghost use Rattle.std.specs.List.{slice_index_or};
 ghost use Rattle.tab_key.specs.Ranges.{is_in_range};
 ghost use Rattle.tab_iter.specs.Lists.{IsRising, HasI64Timestamps};
 ghost use Rattle.tab_mem.specs.Lists.{part, HasShortParts};
 
+use crate::item::Item;
 use crate::records::Records;
 use crate::searching::rows_in;
+use std::alloc::AllocError;
 use std::marker::Model;
 use std::ops::Range;
 use tab_key::{Bounds, RecordRef};
@@ -44,6 +46,7 @@ impl Run {
     /// How many records there are, markers and hidden ones among them.
     pub fn len(&self) -> usize
         ensures len { result ≡ length self.now }
+        ensures few { 41 * result < 2 ^ 63 }
         ensures rising { IsRising self.now }
         ensures timestamps { HasI64Timestamps self.now }
         ensures short { HasShortParts self.now }
@@ -56,6 +59,13 @@ impl Run {
         ensures { result ≡ (length self.now == 0) }
     {
         self.records.is_empty()
+    }
+
+    /// Puts the records, lent, behind others, in their order. After an error, which only want of memory gives, some may stand there.
+    pub(crate) fn lend_to<'a>(&'a self, items: &mut Vec<Item<'a>>) -> Result<(), AllocError>
+        ensures { OnOk result (items.new.items ≡ items.old.items ++ self.now) }
+    {
+        self.records.lend_to(items)
     }
 
     /// The record at an index, counted from 0 in the order of records.

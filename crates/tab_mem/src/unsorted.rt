@@ -1,15 +1,29 @@
 //! Records as they were written, one after another.
-ghost use Rattle.std.specs.Prelude.{◌≡◌, ◌++◌, ◌==◌, [], None, IfOk, OnOk, OnErr, length};
+ghost use Rattle.std.specs.Prelude.{◌≡◌, ◌<◌, ◌*◌, ◌^◌, ◌++◌, ◌==◌, [], None, IfOk, OnOk, OnErr, length};
+ghost use Rattle.std.specs.List.{AllByRecursion};
 ghost use Rattle.tab_mutation.specs.Shape.{shape_error};
 ghost use Rattle.tab_cells.specs.Written.{mutation_records};
+ghost use Rattle.tab_iter.specs.Bags.{flat};
 ghost use Rattle.tab_iter.specs.Lists.{HasI64Timestamps};
+ghost use Rattle.tab_mem.specs.Groups.{IsOfOneRow};
+ghost use Rattle.tab_mem.specs.Parting.{before, from_bound};
 
-use crate::appending::append_all;
+use crate::appending::{append_all, append_items};
+use crate::group::Group;
+use crate::grouping::{are_wide, groups_before, groups_in};
 use crate::item::Item;
 use crate::lending::items_in;
+use crate::parting::{items_before, keep_from};
+use crate::sampling::sampled;
 use std::alloc::{AllocError, Global};
 use std::marker::Model;
 use tab_mutation::Mutation;
+
+/// Fewer records than that are sorted in one part.
+const MANY: usize = 4_096;
+
+/// In fewer bytes than that, a mebibyte, they are sorted in one part too.
+const LARGE: usize = 1_048_576;
 
 /// Records, one after another in one body. Where they begin isn't kept: whoever reads them goes from one to the next.
 #[derive(Drop)]
@@ -45,7 +59,8 @@ impl Unsorted {
 
     /// How many records there are.
     pub(crate) fn len(&self) -> usize
-        ensures { result ≡ length self.now }
+        ensures len { result ≡ length self.now }
+        ensures few { 41 * result < 2 ^ 63 }
     {
         self.count
     }
@@ -62,11 +77,74 @@ impl Unsorted {
         self.body.len()
     }
 
-    /// The records, lent, as they lie.
-    pub(crate) fn items(&self, alloc: Global) -> Result<Vec<Item<'_>>, AllocError>
+    /// The records, lent, as they lie. Memory is asked for once, for this many at least.
+    pub(crate) fn items(&self, alloc: Global, room: usize) -> Result<Vec<Item<'_>>, AllocError>
         ensures { IfOk result (λ v. v.items ≡ self.now) }
     {
-        items_in(alloc, &self.body, self.count)
+        items_in(alloc, &self.body, self.count, room)
+    }
+
+    /// Whether they are so many, in so many bytes, that to sort them in parts saves memory worth the time.
+    pub(crate) fn is_large(&self) -> bool {
+        self.count >= MANY && self.body.len() >= LARGE
+    }
+
+    /// Copies of some of the records, in their order: at most 513. Which ones no contract says; they are at even distances as the records
+    /// lie.
+    pub(crate) fn bounds(&self, alloc: Global) -> Result<Unsorted, AllocError> {
+        let mut samples = sampled(alloc, &self.body, self.count)?;
+        samples.sort_unstable_by(|a, b| a.cmp(b));
+        let mut bounds = Unsorted::new(alloc);
+        bounds.push_all(&samples)?;
+        Ok(bounds)
+    }
+
+    /// The records in groups, lent, as they lie.
+    pub(crate) fn groups(&self, alloc: Global) -> Result<Vec<Group<'_>>, AllocError>
+        ensures records { IfOk result (λ v. flat v.items ≡ self.now) }
+        ensures rows { IfOk result (λ v. AllByRecursion IsOfOneRow v.items) }
+    {
+        groups_in(alloc, &self.body, self.count)
+    }
+
+    /// Of the records, in groups as they lie, those whose rows stand before the bound's.
+    pub(crate) fn groups_before(
+        &self,
+        alloc: Global,
+        bound: &Item<'_>,
+    ) -> Result<Vec<Group<'_>>, AllocError>
+        ensures records { IfOk result (λ v. flat v.items ≡ before bound.now self.now) }
+        ensures rows { IfOk result (λ v. AllByRecursion IsOfOneRow v.items) }
+    {
+        groups_before(alloc, &self.body, self.count, bound)
+    }
+
+    /// Whether neighbours mostly have one row, as far as the first ones tell. No contract says anything of it: only speed hangs on it.
+    pub(crate) fn are_wide(&self) -> bool {
+        are_wide(&self.body, self.count)
+    }
+
+    /// Of the records, lent as they lie, those whose rows stand before the bound's. Memory is asked for once where they are no more than
+    /// this many.
+    pub(crate) fn items_before(
+        &self,
+        alloc: Global,
+        bound: &Item<'_>,
+        room: usize,
+    ) -> Result<Vec<Item<'_>>, AllocError>
+        ensures { IfOk result (λ v. v.items ≡ before bound.now self.now) }
+    {
+        items_before(alloc, &self.body, self.count, bound, room)
+    }
+
+    /// Leaves the records whose rows don't stand before the bound's. The memory of the others is given back; none is taken.
+    pub(crate) fn keep_from(&mut self, bound: &Item<'_>)
+        ensures { self.new ≡ from_bound bound.now self.old }
+    {
+        let kept = keep_from(&mut self.body, self.count, bound);
+        self.body.truncate(kept.bytes);
+        self.body.shrink_to_fit();
+        self.count = kept.count;
     }
 
     /// Puts the records of an accepted mutation at the end. `AllocError` leaves the records as they were.
@@ -89,6 +167,24 @@ impl Unsorted {
             }
             Err(fault) => {
                 self.body.truncate(bytes);
+                Err(fault)
+            }
+        }
+    }
+
+    /// Puts copies of the records of several items at the end. `AllocError` leaves the records as they were.
+    pub(crate) fn push_all(&mut self, items: &[Item<'_>]) -> Result<(), AllocError>
+        ensures ok { OnOk result (self.new ≡ self.old ++ items.now) }
+        ensures err { OnErr result (self.new ≡ self.old) }
+    {
+        let length = self.body.len();
+        match append_items(&mut self.body, self.count, items) {
+            Ok(count) => {
+                self.count = count;
+                Ok(())
+            }
+            Err(fault) => {
+                self.body.truncate(length);
                 Err(fault)
             }
         }

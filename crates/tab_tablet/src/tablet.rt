@@ -126,6 +126,21 @@ impl Tablet {
         self.active.is_empty()
     }
 
+    /// Makes the run of what was written ahead: `prepare` and `frozen` then share it, until more is written. A contract sees nothing that
+    /// changes.
+    ///
+    /// Of many records the body in which they were written shrinks as the run grows, so that all of them lie in memory about once; where
+    /// `frozen` makes the run itself they lie there twice. `AllocError` says that memory lacked.
+    pub fn make_run(&mut self, alloc: Global) -> Result<(), AllocError>
+        ensures { self.new ≡ self.old }
+    {
+        if self.is_frozen() {
+            return Ok(());
+        }
+        self.active.freeze(alloc)?;
+        Ok(())
+    }
+
     /// The tablet with what was written frozen into a run, which comes last; without records there it gives no run. This one stays
     /// as it is.
     ///
@@ -206,6 +221,7 @@ impl Tablet {
         ensures ok { OnOk result (self.new ≡ begins number kind floor versions self.old) }
         ensures err { OnErr result (self.new ≡ self.old) }
     {
+        self.make_run(alloc)?;
         let mut frozen = self.frozen(alloc)?;
         let job = frozen.begin_frozen(alloc, kind, floor, versions, number)?;
         *self = frozen;

@@ -2,7 +2,7 @@
 use Rattle.std.proofs.Common.{◌≡◌, ℕ, ◌<◌, ◌≤◌, ◌^◌, List, [], ◌∷◌, true, false, cond, sym, ◌∙◌, ap, subst, min, arith}
 use Rattle.std.specs.Ordering.{is_le, is_gt}
 use Rattle.tab_key.specs.Bytes.{bytes_cmp}
-use Rattle.std.specs.Prelude.{Option, Some, None, nat_lt}
+use Rattle.std.specs.Prelude.{Some, nat_lt}
 use Rattle.std.proofs.lemmas.Bool.Decides.{nat_tests}
 use Rattle.tab_version.specs.Sources.{size_of}
 use Rattle.tab_tablet.specs.Tablets.{Tablet, next_number}
@@ -12,7 +12,7 @@ use Rattle.tab_tablets.specs.ByRow.{at_row, tablet_of, is_end}
 use Rattle.tab_tablets.specs.Splits.{is_full, split_in, splits, split_found, halved, halves}
 use Rattle.tab_tablets.proofs.EndRows.{tablet_at_place}
 use Rattle.tab_tablets.specs.declared.split.Split.{Split}
-use Rattle.tab_tablets.specs.declared.split.Split.TheVariants.{Done, Present, Small, OneRow, Full}
+use Rattle.tab_tablets.specs.declared.split.Split.TheVariants.{Done, Present, Small, Full}
 
 abbrev Told : Type 0
 Told = Split × List Tablet
@@ -39,13 +39,6 @@ module _ (row : List ℕ) (limit number : ℕ) (ts : List Tablet) (t : Tablet) (
   pub large : nat_lt (size_of t.sources) limit ≡ false → halves row limit number ts ≡ split_found (middle_row (rows_in t)) number ts
   large e = ap (λ o. halved limit number o ts) is ∙ ap (λ v. cond {A = Told} v (Small, ts) (split_found (middle_row (rows_in t)) number ts)) e
 
-  -- with a row in the middle, and without one
-  pub found : (m : List ℕ) → nat_lt (size_of t.sources) limit ≡ false → middle_row (rows_in t) ≡ Some m → halves row limit number ts ≡ split_in m number ts
-  found m e f = large e ∙ ap (λ o. split_found o number ts) f
-
-  pub none_found : nat_lt (size_of t.sources) limit ≡ false → middle_row (rows_in t) ≡ None → halves row limit number ts ≡ told OneRow ts
-  none_found e f = large e ∙ ap (λ o. split_found o number ts) f
-
 -- a size that was cut off is below a limit where it was before
 pub is_small : (size limit : ℕ) → limit < 2 ^ 64 → min size 18446744073709551615 < limit → nat_lt size limit ≡ true
 is_small size limit fits lt = let h : size < limit = omega arith in grind (arith, nat_tests)
@@ -64,18 +57,9 @@ module _ (row : List ℕ) (limit number size : ℕ) (line now : List Tablet) (p 
   pub small_told : size < limit → halves row limit number now ≡ told Small now
   small_told lt = small row limit number now (tablet_at line p) there (is_small (size_of (tablet_at line p).sources) limit fits (subst (λ n. n < limit) size_is lt))
 
-  module _ (ge : limit ≤ size) (asked : Tablet) (is_asked : ended (tablet_at line p).end asked ≡ tablet_at line p) where
-    is_not_small : nat_lt (size_of (tablet_at line p).sources) limit ≡ false
-    is_not_small = is_large (size_of (tablet_at line p).sources) limit fits (subst (λ n. limit ≤ n) size_is ge)
-
-    middle_is : (o : Option (List ℕ)) → o ≡ middle_row (rows_in asked) → middle_row (rows_in (tablet_at line p)) ≡ o
-    middle_is o e = ap (λ (t : Tablet). middle_row (rows_in t)) (sym is_asked) ∙ sym e
-
-    pub one_row_told : None ≡ middle_row (rows_in asked) → halves row limit number now ≡ told OneRow now
-    one_row_told e = none_found row limit number now (tablet_at line p) there is_not_small (middle_is None e)
-
-    pub middle_told : (m : List ℕ) → Some m ≡ middle_row (rows_in asked) → halves row limit number now ≡ split_in m number now
-    middle_told m e = found row limit number now (tablet_at line p) there m is_not_small (middle_is (Some m) e)
+  pub large_told : limit ≤ size → halves row limit number now ≡ split_found (middle_row (rows_in (tablet_at now p))) number now
+  large_told ge = large row limit number now (tablet_at line p) there (is_large (size_of (tablet_at line p).sources) limit fits (subst (λ n. limit ≤ n) size_is ge))
+      ∙ ap (λ (ts : List Tablet). split_found (middle_row (rows_in (tablet_at ts p))) number now) same
 
 -- ---- the two tablets
 pub halves_are : (row : List ℕ) (number : ℕ) (t bare low up : Tablet) → ended t.end bare ≡ t → low ≡ cut_to number (λ r. is_le (bytes_cmp r row)) bare → up ≡ cut_to (next_number number) (λ r. is_gt (bytes_cmp r row)) bare

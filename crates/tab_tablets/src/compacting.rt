@@ -26,6 +26,21 @@ impl Tablets {
         ensures ok { OnOk result (self.new ≡ map (compacted kind floor versions) self.old) }
         ensures err { OnErr result (self.new ≡ self.old) }
     {
+        self.make_runs(alloc)?;
+        self.compact_made(alloc, kind, floor, versions)
+    }
+
+    // The same, where the runs of what was written are made.
+    fn compact_made(
+        &mut self,
+        alloc: Global,
+        kind: Compaction,
+        floor: i64,
+        versions: u32,
+    ) -> Result<(), NoMemory>
+        ensures ok { OnOk result (self.new ≡ map (compacted kind floor versions) self.old) }
+        ensures err { OnErr result (self.new ≡ self.old) }
+    {
         let made = compacted_all(alloc, &self.line, kind, floor, versions)?;
         self.line.install(made);
         self.written.clear();

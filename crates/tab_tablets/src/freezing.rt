@@ -1,4 +1,4 @@
-//! Tablets that are frozen for an Open.
+//! Runs that are made ahead of whatever freezes, and tablets that are frozen for an Open.
 ghost use Rattle.std.specs.Prelude.{◌≡◌, ℕ, ◌≤◌, ◌<◌, true, length, OnOk, IfOk};
 ghost use Rattle.std.specs.List.{AllByRecursion};
 ghost use Rattle.tab_key.specs.Sorted.{sorted};
@@ -8,9 +8,39 @@ ghost use Rattle.tab_tablets.specs.Places.{tablet_at, IsSettled, MakesMore, is_a
 
 use crate::line::Line;
 use crate::made::Made;
+use crate::tablets::Tablets;
 use std::alloc::{AllocError, Global};
 use tab_key::Bounds;
 use tab_version::Clips;
+
+impl Tablets {
+    /// Makes the run of what was written to each tablet ahead, as `Tablet::make_run` does, one after another: so only one of them at a time
+    /// takes memory beside what was written. A contract sees nothing that changes.
+    pub(crate) fn make_runs(&mut self, alloc: Global) -> Result<(), AllocError>
+        ensures { self.new ≡ self.old }
+    {
+        make_runs(alloc, &mut self.line, &self.written)
+    }
+
+    /// The same, of the tablet at a place alone.
+    pub(crate) fn make_run(&mut self, alloc: Global, place: usize) -> Result<(), AllocError>
+        requires { place < length self.old }
+        ensures { self.new ≡ self.old }
+    {
+        self.line.make_run(alloc, place)
+    }
+}
+
+// Makes the runs of what was written to the tablets at these places ahead.
+fn make_runs(alloc: Global, line: &mut Line, places: &[usize]) -> Result<(), AllocError>
+    requires { AllByRecursion (λ w. w < length line.old) places.now }
+    ensures { line.new ≡ line.old }
+{
+    for place in places {
+        line.make_run(alloc, *place)?;
+    }
+    Ok(())
+}
 
 /// What a scan of these rows reads of the tablet at a place. Where anything was written to it, a frozen one is made.
 pub(crate) fn clips_at(

@@ -13,7 +13,7 @@
 //! | `bounds` | which tablets a range of rows meets |
 //! | `made` | tablets that are made before any is put in its place |
 //! | `tablets` | the tablets of a table: writes, end rows and counts |
-//! | `freezing` | tablets that are frozen for an Open |
+//! | `freezing` | runs that are made ahead, and tablets that are frozen for an Open |
 //! | `opening` | what a scan reads of them |
 //! | `listing` | all that each of them holds |
 //! | `compacting` | compactions of all of them |

@@ -145,6 +145,17 @@ impl Line {
         self.last.write(mutation, seq, clock)
     }
 
+    /// Makes the run of what was written to the tablet at a place ahead, as `Tablet::make_run` does.
+    pub(crate) fn make_run(&mut self, alloc: Global, place: usize) -> Result<(), AllocError>
+        requires { place < length self.old }
+        ensures { self.new ≡ self.old }
+    {
+        if place < self.lower.len() {
+            return self.lower[place].make_run(alloc);
+        }
+        self.last.make_run(alloc)
+    }
+
     /// Freezes the tablet at a place, as `Tablet::freeze` does.
     pub(crate) fn freeze(
         &mut self,

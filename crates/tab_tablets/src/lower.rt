@@ -136,6 +136,13 @@ impl Lower {
         self.tablet.install(alloc, finished)
     }
 
+    /// Makes the run of what was written ahead, as `Tablet::make_run` does.
+    pub(crate) fn make_run(&mut self, alloc: Global) -> Result<(), AllocError>
+        ensures { self.new ≡ self.old }
+    {
+        self.tablet.make_run(alloc)
+    }
+
     /// Freezes it in its place, as `Tablet::freeze` does.
     pub(crate) fn freeze(&mut self, alloc: Global, freeze: Freeze) -> Result<(), AllocError>
         requires { IsFreezeOf self.old freeze }

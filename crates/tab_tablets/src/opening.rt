@@ -32,6 +32,17 @@ impl Tablets {
         ensures answers { IfOk result (λ v. ShowsRowsOf bounds.now (sorted (records_of_all self.old)) v) }
         ensures err { OnErr result (self.new ≡ self.old) }
     {
+        self.make_runs(alloc)?;
+        self.open_made(alloc, bounds)
+    }
+
+    // The same, where the runs of what was written are made: each is shared.
+    fn open_made(&mut self, alloc: Global, bounds: &Bounds) -> Result<Version, AllocError>
+        requires { LieApart self.old }
+        ensures ok { OnOk result (self.new ≡ map frozen self.old) }
+        ensures answers { IfOk result (λ v. ShowsRowsOf bounds.now (sorted (records_of_all self.old)) v) }
+        ensures err { OnErr result (self.new ≡ self.old) }
+    {
         if self.written.len() == 1 {
             let place = self.written[0];
             return self.open_one(alloc, bounds, place);

@@ -1,11 +1,11 @@
 //! Splits of one tablet of a table.
-ghost use Rattle.std.specs.Prelude.{◌≡◌, ◌<◌, [], ◌∷◌, ◌++◌, false, IfOk, OnOk, OnErr};
+ghost use Rattle.std.specs.Prelude.{◌≡◌, ◌<◌, [], ◌∷◌, ◌++◌, false, length, IfOk, OnOk, OnErr};
 ghost use Rattle.std.specs.List.{AllByRecursion, filter_map};
 ghost use Rattle.tab_key.specs.Sorted.{IsDistinct};
 ghost use Rattle.tab_tablet.specs.Splitting.{split_at, middle_row, rows_in};
 ghost use Rattle.tab_tablet.specs.Tablets.{records_in};
 ghost use Rattle.tab_tablets.specs.Places.{tablet_at, IsPlaceOf, at_place, is_end_row, moved_from};
-ghost use Rattle.tab_tablets.specs.Splits.{split_in, splits, halves};
+ghost use Rattle.tab_tablets.specs.Splits.{split_in, split_found, splits, halves};
 
 use crate::split::Split;
 use crate::tablets::Tablets;
@@ -55,6 +55,18 @@ impl Tablets {
         if self.line.tablet(place).size() < limit {
             return Ok(Split::Small);
         }
+        self.halve_at(alloc, place, number)
+    }
+
+    // Splits the tablet at this place at the row in the middle of its records. What was written to it is made a run ahead: both the search
+    // for that row and the split share it.
+    fn halve_at(&mut self, alloc: Global, place: usize, number: u64) -> Result<Split, AllocError>
+        requires { place < length self.old }
+        ensures told { IfOk result (λ told. told ≡ (split_found (middle_row (rows_in (tablet_at self.old place))) number self.old).0) }
+        ensures tablets { OnOk result (self.new ≡ (split_found (middle_row (rows_in (tablet_at self.old place))) number self.old).1) }
+        ensures err { OnErr result (self.new ≡ self.old) }
+    {
+        self.make_run(alloc, place)?;
         match middle_of(alloc, self.line.tablet(place))? {
             None => Ok(Split::OneRow),
             Some(middle) => self.split_in(alloc, place, middle, number),
@@ -78,6 +90,7 @@ impl Tablets {
         if self.line.is_full() {
             return Ok(Split::Full);
         }
+        self.make_run(alloc, place)?;
         self.divide(alloc, place, row, number)?;
         Ok(Split::Done)
     }

@@ -61,6 +61,7 @@ impl Writer {
     #[tactic(auto, using(crate::proofs::Later::nothing_older))]
     pub fn freeze(&mut self, rt: &impl Abort, alloc: Global) -> Arc<Run> {
         let run = self.active.freeze(alloc).expect(rt, "memory");
+        self.active = Active::new(alloc);
         self.next = 0;
         run
     }

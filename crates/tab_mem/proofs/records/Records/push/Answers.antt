@@ -1,4 +1,4 @@
-use Rattle.std.proofs.Common.{◌≡◌, ◌∙◌, ap, sym, subst, ◌++◌, ◌∷◌, [], refl, length, rules}
+use Rattle.std.proofs.Common.{◌≡◌, ◌∙◌, ap, sym, subst, ◌++◌, ◌∷◌, [], length, rules}
 use Rattle.std.specs.Prelude.{true, int_le}
 use Rattle.std.proofs.lemmas.List.{length-map}
 use Rattle.tab_key.specs.Encoding.{record_at, records_at}
@@ -18,7 +18,7 @@ invariant_of-self-in-Ok c =
     let count : length rs ≡ c.len.result = length-map c.self.inside.places.items (record_at c.self.inside.body.items) ∙ (let same : length c.self.inside.places.items ≡ c.len.result = search rules in same) in
     let before : AreFronts c.make_room.new.self.numbers.items rs = subst (λ ns. AreFronts ns rs) (sym c.make_room.ensures.same) c.self.invariant.fronts in
     let noted : c.at-lent.result ≡ r = c.at-lent.ensures ∙ (search rules) in
-    indexed_more _ _ _ _ _ _ c.in-Ok.place r (c.push_reserved.ensures.items ∙ ap (λ xs. xs ++ c.in-Ok.place ∷ []) c.in_ok-reserve.ensures.items) c.append.ensures.front c.self.invariant c.in-Ok.ensures.within c.in-Ok.ensures.record fits
+    indexed_more _ _ _ _ _ _ c.in-Ok.place r c.in-Ok.ensures.place (c.push_reserved.ensures.items ∙ ap (λ xs. xs ++ c.in-Ok.place ∷ []) c.in_ok-reserve.ensures.items) c.append.ensures.front c.self.invariant c.in-Ok.ensures.within c.in-Ok.ensures.record fits
     (subst (λ u. AreFronts c.put.new.self.numbers.items (rs ++ u ∷ [])) noted (c.put.ensures rs count before))
 
 pub returns-in-Ok-clause-ok : goal.returns-in-Ok-clause-ok
