@@ -2,7 +2,8 @@
 # Lets each request for memory of a script fail in turn, and compares what is printed.
 # Where one fails, the program prints what it always prints, or one line is refused for memory and all others are answered
 # as if that line were not there (a long scan stands up to the batch that is refused), or it ends with status 1 before the
-# first line. Lines that drop, revoke or count are never refused. A save that is refused leaves no part of an image behind.
+# first line. Where a freeze is refused in the middle of its parts, nothing of what was written is lost. Lines that drop, revoke or
+# count are never refused. A save that is refused leaves no part of an image behind.
 # Usage: tests/allocations.sh   (from anywhere; wants a C compiler; builds the program if it isn't built)
 set -eu
 top=$(cd "$(dirname -- "${BASH_SOURCE[0]}")/.." && pwd)
@@ -136,6 +137,26 @@ S
     echo 'scan t \0'
 } >"$work/long"
 
+# So many records in over a mebibyte that a freeze sorts them in parts: a row each, and ten a row. The first scan freezes, the second
+# one shows all.
+value=$(head -c 300 /dev/zero | tr '\0' v)
+{
+    echo 'createtable t'
+    LC_ALL=C awk -v value="$value" 'BEGIN { for (i = 0; i < 4200; i++) printf "insert t r%04d f q \\e %s 5\n", i * 2659 % 4200, value }'
+    printf '%s\n' 'scan t \0 [~ [~~' 'scan t \0'
+} >"$work/narrow"
+{
+    echo 'createtable t'
+    LC_ALL=C awk -v value="$value" 'BEGIN {
+        for (i = 0; i < 430; i++) {
+            printf "mutate t r%04d", i * 269 % 430
+            for (k = 0; k < 10; k++) printf "%s put f q%d \\e %s 5", k ? " ;" : "", k, value
+            print ""
+        }
+    }'
+    printf '%s\n' 'scan t \0 [~ [~~' 'scan t \0'
+} >"$work/wide"
+
 # Runs lines in a folder without an image.
 run() { # FOLDER
     rm -rf "$1/image"
@@ -143,8 +164,8 @@ run() { # FOLDER
 }
 
 # What a script may print, by checksum: what it always prints, and for each line what it prints where that line is refused
-# for memory.
-declare -A expected
+# for memory. And how many requests of a script come before those that are tried.
+declare -A expected behind
 expect() { # SCRIPT
     local line before said sum
     run "$work" <"$work/$1" >"$work/always"
@@ -161,6 +182,37 @@ expect() { # SCRIPT
             expected[$1.$sum]=${expected[$1.$sum]:-refused}
         done
     done
+}
+
+# The same for a script that ends with a scan that freezes and shows nothing and with one that shows all: the first one is refused and the
+# second one shows all, or the second one stands up to the batch that is refused.
+expect_scans() { # SCRIPT
+    local writes cells sum at
+    run "$work" <"$work/$1" >"$work/always"
+    writes=$(($(wc -l <"$work/$1") - 2))
+    cells=$(($(wc -l <"$work/always") - writes - 2))
+    sum=$(sed "$((writes + 1))s/.*/refused 17 NoMemory/" "$work/always" | cksum)
+    expected[$1.$(cksum <"$work/always")]=always
+    expected[$1.$sum]=refused
+    for at in $(seq 0 1000 "$cells"); do
+        sum=$({ head -n $((writes + 1 + at)) "$work/always" && echo 'refused 17 NoMemory'; } | cksum)
+        expected[$1.$sum]=refused
+    done
+    # what the writes ask for is tried in the scripts above
+    head -n -2 "$work/$1" >"$work/writes"
+    behind[$1]=$(requests "$work/writes")
+}
+
+# How many requests a script makes: the last number of which there is one.
+requests() { # FILE
+    local low=0 high=1048576 middle
+    while [ $((high - low)) -gt 1 ]; do
+        middle=$(((low + high) / 2))
+        rm -f "$work/counted"
+        (cd "$work" && LD_PRELOAD=$work/failing.so FAIL_AT=$middle FAIL_LOG=$work/counted exec "$program" script) <"$1" >/dev/null
+        if [ -e "$work/counted" ]; then low=$middle; else high=$middle; fi
+    done
+    echo "$low"
 }
 
 # Lets one request fail, and says `passed`, `refused` (it passed, and a line was refused for memory) or why it failed; nothing
@@ -198,7 +250,7 @@ workers=$(nproc)
 try_all() { # SCRIPT
     local worker
     for worker in $(seq "$workers"); do
-        try_from "$1" "$worker" "$workers" >"$work/said.$1.$worker" &
+        try_from "$1" "$((${behind[$1]:-0} + worker))" "$workers" >"$work/said.$1.$worker" &
     done
     wait
 }
@@ -212,9 +264,13 @@ sum=$({
     echo 'refused 17 NoMemory'
 } | cksum)
 expected[long.$sum]=refused
+expect_scans narrow
+expect_scans wide
 try_all script
 try_all images
 try_all long
+try_all narrow
+try_all wide
 cat "$work"/said.* >"$work/said"
 grep '^failed' "$work/said" | head -n 20 || true
 failed=$(grep -c '^failed' "$work/said" || true)

@@ -1,6 +1,7 @@
 #!/usr/bin/env bash
 # The memory that a freeze takes at its peak beside what was written, at most one and a half times as much: behind the writes comes what
-# freezes them first, a scan or a split. (What merges holds what it reads beside what it makes.)
+# freezes them first, a scan or a split. (What merges holds what it reads beside what it makes.) And what is frozen at once, which goes
+# by parts, shows what is frozen bit by bit, which doesn't.
 # Usage: tests/freeze.sh   (from anywhere; wants python3; builds the program if it isn't built)
 set -u
 top=$(cd "$(dirname -- "${BASH_SOURCE[0]}")/.." && pwd)
@@ -44,6 +45,25 @@ peaks() { # NAME ROWS CELLS LINE ANSWER
     [ -z "${SHOW-}" ] || echo "$1: $peak of $holds KiB"
 }
 
+# Whether so many writes, and as many newer ones of the same columns, show the same however often they are frozen.
+shows() { # NAME ROWS CELLS WRITES
+    writes "$2" "$3" >older
+    sed 's/aaaaa/ccccc/g; s/ 1 ;/ 2 ;/g; s/ 1$/ 2/' older | shuf --random-source=<(yes no) >newer
+    { echo 'createtable t' && cat older newer && echo 'scan t A&B'; } >once
+    awk -v writes="$4" '1; NR % writes == 0 { print "scan t \\0 [~ [~~" }' once >often
+    sed -i 's/^scan t A&B$/setauths root A,B\nscan t A,B/' once often
+    if "$program" script <once | grep -vxF -e ok -e end >shown && "$program" script <often | grep -vxF -e ok -e end | cmp -s - shown &&
+        [ "$(grep -c ' 2 ccccc' shown)" -eq "$(($2 * $3))" ]; then
+        passed=$((passed + 1))
+    else
+        failed=$((failed + 1))
+        echo "FAILED: $1: $(wc -l <shown) cells are shown"
+    fi
+}
+
+shows 'a row for each cell' 20000 1 1500
+shows 'wide rows' 200 100 17
+shows 'rows of three cells' 7000 3 400
 peaks 'the first scan of a table' 200000 1 'scan t \0 [~ [~~' end
 peaks 'the first scan of wide rows' 2000 100 'scan t \0 [~ [~~' end
 peaks 'a split' 200000 1 'addsplit t 0000100000' ok
