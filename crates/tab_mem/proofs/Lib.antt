@@ -23,3 +23,4 @@ pub mod Regrouped
 pub mod ByClass
 pub mod Bounded
 pub mod CutPrefix
+pub mod Apart

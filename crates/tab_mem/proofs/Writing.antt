@@ -251,13 +251,13 @@ module _ (seq : ℕ) (row : List ℕ) (ps : List TimedUpdate) (front back : List
 
 -- .. whether it went in or not
 module _ {E : Type 0} (seq : ℕ) (row : List ℕ) (ps : List TimedUpdate) (front back now : List Record) (h : IsHeld (front ++ back)) (below : (u : Record) → Contains (as_written (front ++ back)) u → u.seq < seq) where
-  pub held_after : (r : Result ⊤ E) → OnOk r (now ≡ front ++ records_of seq row ps) → OnOk r (HasI64Timestamps (records_of seq row ps)) → OnErr r (now ≡ front) → IsHeld (now ++ back)
-  held_after (Ok x) ok t err = subst (λ (l : List Record). IsHeld (l ++ back)) (sym ok) (held_more seq row ps front back h below t)
+  pub held_after : (r : Result ⊤ E) → OnOk r (IsPermutation (front ++ records_of seq row ps) now) → OnOk r (HasI64Timestamps (records_of seq row ps)) → OnErr r (now ≡ front) → IsHeld (now ++ back)
+  held_after (Ok x) ok t err = held_moved ((front ++ records_of seq row ps) ++ back) (now ++ back) (IsPermutation-append_left back (front ++ records_of seq row ps) now ok) (held_more seq row ps front back h below t)
   held_after (Err e) ok t err = subst (λ (l : List Record). IsHeld (l ++ back)) (sym err) h
 
-  pub written_after : (r : Result ⊤ E) → OnOk r (now ≡ front ++ records_of seq row ps) → OnOk r (as_written (now ++ back) ≡ as_written (front ++ back) ++ records_of seq row ps)
-  written_after (Ok x) ok = ap (λ l. as_written (l ++ back)) ok ∙ written_more seq row ps front back h below
-  written_after (Err e) ok = tt
+  pub written_after : (r : Result ⊤ E) → OnOk r (IsPermutation (front ++ records_of seq row ps) now) → OnOk r (HasI64Timestamps (records_of seq row ps)) → OnOk r (as_written (now ++ back) ≡ as_written (front ++ back) ++ records_of seq row ps)
+  written_after (Ok x) ok t = written_same ((front ++ records_of seq row ps) ++ back) (now ++ back) (IsPermutation-append_left back (front ++ records_of seq row ps) now ok) (held_more seq row ps front back h below t) ∙ written_more seq row ps front back h below
+  written_after (Err e) ok t = tt
 
 pub written_refused : {E : Type 0} (front back now : List Record) (r : Result ⊤ E) → OnErr r (now ≡ front) → OnErr r (as_written (now ++ back) ≡ as_written (front ++ back))
 written_refused front back now (Ok x) err = tt

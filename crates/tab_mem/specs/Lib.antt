@@ -5,4 +5,5 @@ pub mod Numbers
 pub mod Fronts
 pub mod Groups
 pub mod Parting
+pub mod Partitions
 pub mod Writing

@@ -8,9 +8,9 @@ ghost use Rattle.tab_cells.specs.Written.{mutation_records};
 use crate::Run;
 use crate::freezing::frozen;
 use crate::kept_run::KeptRun;
+use crate::partitions::Partitions;
 use crate::records::Records;
 use crate::sorting::{copied, sort_items};
-use crate::unsorted::Unsorted;
 use std::alloc::{AllocError, Global};
 use std::marker::Model;
 use std::sync::Arc;
@@ -21,7 +21,7 @@ use tab_mutation::Mutation;
 /// No two have one number and one place in its mutation.
 #[derive(Drop)]
 pub struct Active {
-    written: Unsorted,
+    written: Partitions,
     // what a freeze had sorted when memory lacked
     parts: Records,
     // what a freeze made, until this is frozen in its place
@@ -46,7 +46,7 @@ impl Active {
         ensures { result ≡ [] }
     {
         Active {
-            written: Unsorted::new(alloc),
+            written: Partitions::new(alloc),
             parts: Records::new(alloc),
             run: KeptRun::none(),
         }
@@ -68,7 +68,8 @@ impl Active {
     }
 
     /// Adds the updates of a mutation, whose shape was accepted: each with this number, its place in the mutation counted from 0,
-    /// and the clock where it gives no timestamp. It takes time linear in the mutation, however much was written before.
+    /// and the clock where it gives no timestamp. It takes time linear in the mutation, however much was written before; but the write by
+    /// which the records become many, 4,096 of them in a mebibyte, spreads them by their rows over eight bodies.
     ///
     /// `AllocError` leaves all as it was: the mutation goes in whole or not at all.
     pub fn write(&mut self, mutation: &Mutation, seq: u64, clock: i64) -> Result<(), AllocError>
@@ -95,11 +96,13 @@ impl Active {
 
     /// The records as a run, in their order. They are kept here too: a contract sees nothing that changes.
     ///
-    /// The run holds the only copy, and a share of it is kept here. Where the records are many, at least 4,096 in at least a mebibyte, they
-    /// are sorted in four parts, none of which cuts a row, and what was written gives its memory back with each: at once the records take
-    /// about one and a quarter times their bytes, beside the run's places and 32 bytes for each record of one part. Fewer take memory as
-    /// `to_run` does. Where rows have four records or more, as the first ones tell, neighbours of one row are sorted as one, and then the
-    /// records of each row by themselves, with 48 bytes for each of the largest row in place of the 32.
+    /// The run holds the only copy, and a share of it is kept here. Where the records are many, they lie in eight bodies by their rows, which
+    /// are sorted one after another, and each gives its memory back then: at once the records take about one and an eighth times their bytes,
+    /// beside the run's places and 32 bytes for each record of one body. Where more than a quarter of all lies in one body, as it does where
+    /// the first mebibyte has other rows than what came later, it is sorted in four parts, none of which cuts a row, and shrinks with each.
+    /// Fewer than 4,096 records, or less than a mebibyte, take memory as `to_run` does. Where rows have four records or more, as the first
+    /// ones of a body tell, neighbours of one row are sorted as one, and then the records of each row by themselves, with 48 bytes for each
+    /// of the largest row in place of the 32.
     ///
     /// `AllocError` leaves all that a contract sees as it was.
     pub fn freeze(&mut self, alloc: Global) -> Result<Arc<Run>, AllocError>
@@ -129,7 +132,7 @@ impl Active {
     fn copy(&self, alloc: Global) -> Result<Arc<Run>, AllocError>
         ensures { IfOk result (λ run. run.value ≡ sorted self.now) }
     {
-        let mut items = self.written.items(alloc, 0)?;
+        let mut items = self.written.items(alloc)?;
         self.parts.lend_to(&mut items)?;
         self.run.lend_to(&mut items)?;
         sort_items(&mut items);

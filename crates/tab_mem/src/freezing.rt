@@ -6,10 +6,9 @@ ghost use Rattle.tab_iter.specs.Lists.{IsRising};
 ghost use Rattle.tab_mem.specs.Writing.{IsHeld};
 
 use crate::Run;
-use crate::draining::drain;
 use crate::kept_run::KeptRun;
+use crate::partitions::Partitions;
 use crate::records::Records;
-use crate::unsorted::Unsorted;
 use std::alloc::{AllocError, Global};
 use std::mem;
 use std::sync::Arc;
@@ -19,7 +18,7 @@ use std::sync::Arc;
 /// `AllocError` may leave the records in other places than they were: none is lost, and none stands twice.
 pub(crate) fn frozen(
     alloc: Global,
-    written: &mut Unsorted,
+    written: &mut Partitions,
     parts: &mut Records,
     run: &mut KeptRun,
 ) -> Result<Arc<Run>, AllocError>
@@ -35,7 +34,7 @@ pub(crate) fn frozen(
 // Puts what lies in the other places behind what was written, as copies.
 fn gather(
     alloc: Global,
-    written: &mut Unsorted,
+    written: &mut Partitions,
     parts: &mut Records,
     run: &mut KeptRun,
 ) -> Result<(), AllocError>
@@ -50,7 +49,7 @@ fn gather(
 // Moves the records of the parts behind those written. `AllocError` leaves all as it was.
 fn gather_parts(
     alloc: Global,
-    written: &mut Unsorted,
+    written: &mut Partitions,
     parts: &mut Records,
 ) -> Result<(), AllocError>
     ensures ok { OnOk result (written.new ≡ written.old ++ parts.old) }
@@ -64,7 +63,7 @@ fn gather_parts(
 }
 
 // Puts copies of the records of the parts behind those written. `AllocError` leaves all as it was.
-fn put_parts(alloc: Global, written: &mut Unsorted, parts: &Records) -> Result<(), AllocError>
+fn put_parts(alloc: Global, written: &mut Partitions, parts: &Records) -> Result<(), AllocError>
     ensures ok { OnOk result (written.new ≡ written.old ++ parts.now) }
     ensures err { OnErr result (written.new ≡ written.old) }
 {
@@ -74,7 +73,7 @@ fn put_parts(alloc: Global, written: &mut Unsorted, parts: &Records) -> Result<(
 }
 
 // Moves the records of the run behind those written. `AllocError` leaves all as it was.
-fn gather_run(alloc: Global, written: &mut Unsorted, run: &mut KeptRun) -> Result<(), AllocError>
+fn gather_run(alloc: Global, written: &mut Partitions, run: &mut KeptRun) -> Result<(), AllocError>
     ensures ok { OnOk result (written.new ≡ written.old ++ run.old) }
     ensures empty { OnOk result (run.new ≡ []) }
     ensures err { OnErr result (written.new ≡ written.old) }
@@ -86,7 +85,7 @@ fn gather_run(alloc: Global, written: &mut Unsorted, run: &mut KeptRun) -> Resul
 }
 
 // Puts copies of the records of the run behind those written. `AllocError` leaves all as it was.
-fn put_run(alloc: Global, written: &mut Unsorted, run: &KeptRun) -> Result<(), AllocError>
+fn put_run(alloc: Global, written: &mut Partitions, run: &KeptRun) -> Result<(), AllocError>
     ensures ok { OnOk result (written.new ≡ written.old ++ run.now) }
     ensures err { OnErr result (written.new ≡ written.old) }
 {
@@ -96,7 +95,7 @@ fn put_run(alloc: Global, written: &mut Unsorted, run: &KeptRun) -> Result<(), A
 }
 
 // Moves all that was written to the parts, of which there are none yet, in its order.
-fn sort_all(alloc: Global, written: &mut Unsorted, parts: &mut Records) -> Result<(), AllocError>
+fn sort_all(alloc: Global, written: &mut Partitions, parts: &mut Records) -> Result<(), AllocError>
     requires distinct { IsDistinct written.old }
     requires none { parts.old ≡ [] }
     ensures ok { OnOk result (parts.new ≡ sorted written.old) }
@@ -104,7 +103,7 @@ fn sort_all(alloc: Global, written: &mut Unsorted, parts: &mut Records) -> Resul
     ensures kept { parts.new ++ sorted written.new ≡ sorted written.old }
 {
     *parts = Records::with_capacity(alloc, written.len(), written.byte_len())?;
-    drain(alloc, parts, written)
+    written.drain(parts)
 }
 
 // Makes the sorted records a run, which is kept.

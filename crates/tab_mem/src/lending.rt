@@ -17,6 +17,20 @@ pub(crate) fn items_in(
     ensures { IfOk result (λ v. v.items ≡ records_at body.now (places_from body.now 0 count)) }
 {
     let mut items = Vec::with_capacity(alloc, count.max(room))?;
+    lend_in(&mut items, body, count)?;
+    Ok(items)
+}
+
+/// Puts so many records from the beginning of the body on, lent, behind others. After an error, which only want of memory gives, some of
+/// them may stand there.
+pub(crate) fn lend_in<'a>(
+    items: &mut Vec<Item<'a>>,
+    body: &'a [u8],
+    count: usize,
+) -> Result<(), AllocError>
+    requires { AreAt body.now (places_from body.now 0 count) }
+    ensures { OnOk result (items.new.items ≡ items.old.items ++ records_at body.now (places_from body.now 0 count)) }
+{
     let mut place = 0;
     let mut left = count;
     while left > 0 {
@@ -25,7 +39,7 @@ pub(crate) fn items_in(
         place = end;
         left -= 1;
     }
-    Ok(items)
+    Ok(())
 }
 
 /// Puts the records that begin at these places in the body, lent, behind others. After an error, which only want of memory gives, some of

@@ -1,11 +1,13 @@
 //! The memory part of a table: records as they are written, and frozen runs of them in their order.
 //!
-//! A write goes to the end of one body of bytes, and nothing is ordered by it. Whoever wants to read freezes first: the records
-//! are sorted once and written anew, one after another, as a run that nothing changes.
+//! A write goes to the end of a body of bytes, and nothing is ordered by it but which body that is: once records are many, each of eight
+//! bodies has a range of rows. Whoever wants to read freezes first: the records are sorted once and written anew, one after another, as a
+//! run that nothing changes.
 //!
 //! | File | What |
 //! |---|---|
 //! | `active` | what is written, until it is frozen |
+//! | `partitions`, `spreading` | records as they were written, in one body and, once they are many, in eight by their rows |
 //! | `unsorted` | records as they were written, one after another in one body |
 //! | `appending` | records that are put behind others: those of an accepted mutation, and copies |
 //! | `lending` | records that lie one after another, lent |
@@ -16,7 +18,8 @@
 //! | `group`, `grouping` | neighbouring records of one row, lent |
 //! | `column_item`, `one_row` | what is sorted of records of one row, and that sort |
 //! | `classes` | groups, sorted by their rows and put behind others |
-//! | `draining`, `sampling` | the sort in parts, and where these end |
+//! | `emptying` | bodies that are sorted and given back one after another |
+//! | `draining`, `sampling` | the sort of a body in parts, and where these end |
 //! | `freezing`, `kept_run` | the steps of a freeze, and a run that is kept until it has its place |
 //! | `run` | a frozen run |
 //! | `ordered`, `start`, `searching` | records by their index, where a search in them goes, and the searches |
@@ -31,6 +34,7 @@ mod classes;
 mod column_item;
 mod cursor;
 mod draining;
+mod emptying;
 mod freezing;
 mod fronts;
 mod group;
@@ -43,12 +47,14 @@ mod moving;
 mod one_row;
 mod ordered;
 mod parting;
+mod partitions;
 mod records;
 mod rising;
 mod run;
 mod sampling;
 mod searching;
 mod sorting;
+mod spreading;
 mod start;
 mod unsorted;
 

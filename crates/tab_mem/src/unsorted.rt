@@ -12,7 +12,7 @@ use crate::appending::{append_all, append_items};
 use crate::group::Group;
 use crate::grouping::{are_wide, groups_before, groups_in};
 use crate::item::Item;
-use crate::lending::items_in;
+use crate::lending::{items_in, lend_in};
 use crate::parting::{items_before, keep_from};
 use crate::sampling::sampled;
 use std::alloc::{AllocError, Global};
@@ -84,6 +84,13 @@ impl Unsorted {
         items_in(alloc, &self.body, self.count, room)
     }
 
+    /// Puts the records, lent, behind others, in their order. After an error, which only want of memory gives, some may stand there.
+    pub(crate) fn lend_to<'a>(&'a self, items: &mut Vec<Item<'a>>) -> Result<(), AllocError>
+        ensures { OnOk result (items.new.items ≡ items.old.items ++ self.now) }
+    {
+        lend_in(items, &self.body, self.count)
+    }
+
     /// Whether they are so many, in so many bytes, that to sort them in parts saves memory worth the time.
     pub(crate) fn is_large(&self) -> bool {
         self.count >= MANY && self.body.len() >= LARGE
@@ -145,6 +152,18 @@ impl Unsorted {
         self.body.truncate(kept.bytes);
         self.body.shrink_to_fit();
         self.count = kept.count;
+    }
+
+    /// Leaves no record, and gives the memory back.
+    ///
+    /// The body shrinks first: the C library gives back at once what a large block shrinks by, and would keep blocks of a size that it saw
+    /// freed whole.
+    pub(crate) fn clear(&mut self)
+        ensures { self.new ≡ [] }
+    {
+        self.body.clear();
+        self.body.shrink_to(1);
+        self.count = 0;
     }
 
     /// Puts the records of an accepted mutation at the end. `AllocError` leaves the records as they were.

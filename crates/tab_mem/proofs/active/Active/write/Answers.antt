@@ -18,7 +18,7 @@ returns-clause-ok c =
     let trip : to_z w64 (of_z w64 c.args.clock) ≡ c.args.clock = search rules in
     on_ok_weaker c.write.result
     (λ e. e ∙ (λ i. c.self.view_is i ++ mutation_records c.args.seq (trip i) c.args.mutation.now))
-    (written_after c.args.seq c.args.mutation.now.row _ a.written (a.parts ++ a.run) c.write.new.self c.self.invariant (subst (λ us. (u : _) → Contains us u → u.seq < c.args.seq) (sym c.self.view_is) c.requires.unused) c.write.result c.write.ensures.ok)
+    (written_after c.args.seq c.args.mutation.now.row _ a.written (a.parts ++ a.run) c.write.new.self c.self.invariant (subst (λ us. (u : _) → Contains us u → u.seq < c.args.seq) (sym c.self.view_is) c.requires.unused) c.write.result c.write.ensures.ok c.write.ensures.timestamps)
 
 pub returns-clause-err : goal.returns-clause-err
 returns-clause-err c =

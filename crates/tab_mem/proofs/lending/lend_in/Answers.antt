@@ -1,7 +1,7 @@
 use Rattle.std.proofs.Common.{rules, ◌≡◌, ◌∙◌, ◌-◌, ◌∷◌, [], ◌++◌, suc, sym, ap, subst, arith, append_assoc, append-nil}
 use Rattle.tab_key.specs.Encoding.{record_at, records_at, places_from, AreAt, span_at}
 use Rattle.tab_mem.proofs.Filled.{first_at, rest_at, first_of_them}
-use Rattle.tab_mem.proofs.lending.items_in.Goals as goal
+use Rattle.tab_mem.proofs.lending.lend_in.Goals as goal
 
 pub end_of-end-requires : goal.end_of-end-requires
 end_of-end-requires c =

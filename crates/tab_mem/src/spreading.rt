@@ -1,0 +1,122 @@
+//! Records that lie in one body, spread over several by their rows.
+ghost use Rattle.std.specs.Prelude.{◌≡◌, ◌<◌, ◌≤◌, ◌+◌, ◌++◌, ◌∷◌, [], IfOk, OnOk, length};
+ghost use Rattle.std.specs.List.{AllByRecursion, slice_range};
+ghost use Rattle.std.specs.List.Sorted.{IsPermutation};
+ghost use Rattle.tab_iter.specs.Bags.{flat};
+ghost use Rattle.tab_mem.specs.Partitions.{count_under, ArePartitions};
+
+use crate::item::Item;
+use crate::unsorted::Unsorted;
+use std::alloc::{AllocError, Global};
+
+/// Over so many bodies records are spread.
+const MOST: usize = 8;
+
+/// Records in several bodies by their rows: a row's place is how many of these numbers are below that of its first 16 bytes.
+#[derive(Drop)]
+pub(crate) struct Bodies {
+    pub(crate) lows: Vec<u128>,
+    // the records of the place 0
+    pub(crate) lowest: Unsorted,
+    // those of the others
+    pub(crate) higher: Vec<Unsorted>,
+}
+
+/// Copies of the records, spread over eight bodies of about one size. It takes memory for the copies, and until it returns for 32 bytes
+/// a record.
+pub(crate) fn spread(alloc: Global, written: &Unsorted) -> Result<Bodies, AllocError>
+    ensures moved { IfOk result (λ s. IsPermutation written.now (flat (s.lowest ∷ s.higher.items))) }
+    ensures parted { IfOk result (λ s. ArePartitions s.lows.items s.lowest s.higher.items) }
+{
+    let mut bodies = begun(alloc, written)?;
+    let items = written.items(alloc, 0)?;
+    put_all(&mut bodies, &items)?;
+    Ok(bodies)
+}
+
+// Bodies without records. Their numbers are those of some records at even distances in the order of rows.
+fn begun(alloc: Global, written: &Unsorted) -> Result<Bodies, AllocError>
+    ensures none { IfOk result (λ s. flat (s.lowest ∷ s.higher.items) ≡ []) }
+    ensures parted { IfOk result (λ s. ArePartitions s.lows.items s.lowest s.higher.items) }
+{
+    let bounds = written.bounds(alloc)?;
+    let lent = bounds.items(alloc, 0)?;
+    let lows = numbers_of(alloc, &lent)?;
+    let higher = empty_bodies(alloc, lows.len())?;
+    Ok(Bodies {
+        lows,
+        lowest: Unsorted::new(alloc),
+        higher,
+    })
+}
+
+// The numbers of some of these records at even distances, seven at most.
+fn numbers_of(alloc: Global, bounds: &[Item<'_>]) -> Result<Vec<u128>, AllocError>
+    ensures { IfOk result (λ v. length v.items < 8) }
+{
+    let mut lows = Vec::with_capacity(alloc, MOST)?;
+    let mut at = 1;
+    while at < MOST {
+        if let Some(bound) = bounds.get(bounds.len() / MOST * at) {
+            lows.push(bound.prefix())?;
+        }
+        at += 1;
+    }
+    Ok(lows)
+}
+
+// So many bodies without records.
+fn empty_bodies(alloc: Global, count: usize) -> Result<Vec<Unsorted>, AllocError>
+    ensures many { IfOk result (λ v. length v.items ≡ count) }
+    ensures none { IfOk result (λ v. AllByRecursion (λ us. us ≡ []) v.items) }
+{
+    let mut bodies = Vec::with_capacity(alloc, count)?;
+    let mut left = count;
+    while left > 0 {
+        bodies.push(Unsorted::new(alloc))?;
+        left -= 1;
+    }
+    Ok(bodies)
+}
+
+// Puts copies of the records in their places, one after another. After an error some of them may be there.
+fn put_all(bodies: &mut Bodies, items: &[Item<'_>]) -> Result<(), AllocError>
+    requires { ArePartitions bodies.old.lows.items bodies.old.lowest bodies.old.higher.items }
+    ensures moved { OnOk result (IsPermutation (flat (bodies.old.lowest ∷ bodies.old.higher.items) ++ items.now) (flat (bodies.new.lowest ∷ bodies.new.higher.items))) }
+    ensures parted { ArePartitions bodies.new.lows.items bodies.new.lowest bodies.new.higher.items }
+{
+    let mut index = 0;
+    while index < items.len() {
+        put_one(bodies, items, index)?;
+        index += 1;
+    }
+    Ok(())
+}
+
+// Puts a copy of the record at an index in its place.
+fn put_one(bodies: &mut Bodies, items: &[Item<'_>], index: usize) -> Result<(), AllocError>
+    requires inside { index < length items.now }
+    requires parted { ArePartitions bodies.old.lows.items bodies.old.lowest bodies.old.higher.items }
+    ensures moved { OnOk result (IsPermutation (flat (bodies.old.lowest ∷ bodies.old.higher.items) ++ slice_range items.now index (index + 1)) (flat (bodies.new.lowest ∷ bodies.new.higher.items))) }
+    ensures parted { ArePartitions bodies.new.lows.items bodies.new.lowest bodies.new.higher.items }
+{
+    let place = place_of(&bodies.lows, items[index].prefix());
+    let one = &items[index..index + 1];
+    if place == 0 {
+        return bodies.lowest.push_all(one);
+    }
+    bodies.higher[place - 1].push_all(one)
+}
+
+/// How many of the numbers are below this one. No branch depends on what a comparison tells: the processor would foresee half of such
+/// branches wrongly.
+pub(crate) fn place_of(lows: &[u128], number: u128) -> usize
+    ensures place { result ≡ count_under number lows.now }
+    ensures few { result ≤ length lows.now }
+{
+    let mut place = 0;
+    for low in lows {
+        place += (*low < number) as usize;
+    }
+    place
+}
