@@ -38,23 +38,9 @@ impl Core {
         self.step_told_lent(alloc, &event.user, event.moment, &mut event.act)
     }
 
-    /// Applies the user's Install of a finished merge into the table and answers it as [`Core::install`] does, with a copy of what it is told.
-    pub fn install_told(
-        &mut self,
-        alloc: Global,
-        user: &Name,
-        moment: i64,
-        table: &Name,
-        finished: FinishedJob,
-    ) -> (Answer, EventReply)
-        ensures steps { StepsOn self.old (Some finished) (installs_at user.now moment table.now finished) result.0 self.new }
-        ensures told { told_in result.1 ≡ told_of result.0 }
-    {
-        copied(self.install(alloc, user, moment, table, finished))
-    }
-
-    // The same as `step_told` for an event whose parts are lent.
-    fn step_told_lent(
+    /// The same for an event whose parts are lent, so that none of it is moved. What the core keeps of an event it may take out of the act,
+    /// as [`Core::step_lent`] does; the rest of the act is copied or only read.
+    pub fn step_told_lent(
         &mut self,
         alloc: Global,
         user: &Name,
@@ -72,6 +58,21 @@ impl Core {
         let answered = self.store.answer_told(alloc, now, user, act);
         move_clock(&mut self.store.clock, now, &answered.0);
         answered
+    }
+
+    /// Applies the user's Install of a finished merge into the table and answers it as [`Core::install`] does, with a copy of what it is told.
+    pub fn install_told(
+        &mut self,
+        alloc: Global,
+        user: &Name,
+        moment: i64,
+        table: &Name,
+        finished: FinishedJob,
+    ) -> (Answer, EventReply)
+        ensures steps { StepsOn self.old (Some finished) (installs_at user.now moment table.now finished) result.0 self.new }
+        ensures told { told_in result.1 ≡ told_of result.0 }
+    {
+        copied(self.install(alloc, user, moment, table, finished))
     }
 }
 
