@@ -7,12 +7,12 @@ ghost use Rattle.tab_core.specs.Stepping.{asked_at};
 
 use crate::policing::named_slot;
 use crate::reply::{told, with_job};
-use crate::slots::{put, refused};
+use crate::slots::put;
 use crate::state::Core;
 use std::alloc::{AllocError, Global};
 use std::marker::Model;
 use std::mem;
-use tab_history::{Act, Event, Given, Refusal, Reply};
+use tab_history::{Act, Given, Refusal, Reply};
 use tab_iter::NoMemory;
 use tab_key::Name;
 use tab_store::{FinishedJob, TabletJob};
@@ -61,25 +61,26 @@ impl JobSlots {
         self.slots.len() as u64
     }
 
-    /// Has the core do the event. A job that it begins is kept in the next slot, for which room is made before: without memory for it
-    /// nothing happens. An Install by a slot is given the finished merge there, which is used up, whatever it is told; without one it is
-    /// refused before all else, and nothing happens. A session that is handed out is dropped.
-    pub fn step(&mut self, alloc: Global, core: &mut Core, event: Event) -> Reply
-        ensures { StepsIn core.old self.old event result core.new self.new }
+    /// Has the core do what the user asks at this moment. A job that it begins is kept in the next slot, for which room is made before:
+    /// without memory for it nothing happens. An Install by a slot is given the finished merge there, which is used up, whatever it is told;
+    /// without one it is refused before all else, and nothing happens. A session that is handed out is dropped. What the core keeps of the
+    /// act it may take out of it, as [`Core::step_lent`] does.
+    pub fn step(
+        &mut self,
+        alloc: Global,
+        core: &mut Core,
+        user: &Name,
+        moment: i64,
+        act: &mut Act,
+    ) -> Reply
+        ensures { StepsIn core.old self.old (asked_at user.now moment act.old) result core.new self.new }
     {
-        if begins(&event.act) {
-            return self.begin(alloc, core, event);
+        if begins(act) {
+            return self.begin(alloc, core, user, moment, act);
         }
-        match named_slot(&event.act) {
-            Some((table, slot)) => self.install(
-                alloc,
-                core,
-                &event.user,
-                event.moment,
-                table,
-                slot,
-            ),
-            None => told(core.step(alloc, event)),
+        match named_slot(act) {
+            Some((table, slot)) => self.install(alloc, core, user, moment, table, slot),
+            None => told(core.step_lent(alloc, user, moment, act)),
         }
     }
 
@@ -100,14 +101,22 @@ impl JobSlots {
     }
 
     // A Begin. Its job is kept in the next slot.
-    fn begin(&mut self, alloc: Global, core: &mut Core, event: Event) -> Reply
-        requires { is_begin event.act ≡ true }
-        ensures { LacksRoom core.old self.old event result core.new self.new ⊎ KeepsJob core.old self.old event result core.new self.new }
+    fn begin(
+        &mut self,
+        alloc: Global,
+        core: &mut Core,
+        user: &Name,
+        moment: i64,
+        act: &mut Act,
+    ) -> Reply
+        requires { is_begin act.old ≡ true }
+        ensures { LacksRoom core.old self.old (asked_at user.now moment act.old) result core.new self.new
+            ⊎ KeepsJob core.old self.old (asked_at user.now moment act.old) result core.new self.new }
     {
         if self.slots.reserve(1).is_err() {
-            return refused(event, Refusal::NoMemory);
+            return Reply::Refused(Refusal::NoMemory);
         }
-        let (reply, job) = with_job(core.step(alloc, event));
+        let (reply, job) = with_job(core.step_lent(alloc, user, moment, act));
         keep(&mut self.slots, job);
         reply
     }

@@ -11,7 +11,7 @@ ghost use Rattle.tab_core.specs.declared.job_slots.JobSlot.{JobSlot};
 ghost use Rattle.tab_core.specs.Owners.{RunsOn, LeavesOthers, slots_of};
 
 use crate::job_slots::JobSlots;
-use crate::slots::{Slots, refused};
+use crate::slots::Slots;
 use crate::state::Core;
 use std::alloc::{AllocError, Global};
 use std::collections::BTreeMap;
@@ -63,7 +63,7 @@ fn run_step(
     ensures { RunsOn core.old owners.old.entries jobs.old step result core.new owners.new.entries jobs.new }
 {
     match step {
-        Step::Event(event) => run_event(alloc, core, owners, jobs, event),
+        Step::Event(mut event) => run_event(alloc, core, owners, jobs, &mut event),
         Step::Next { user, slot, count } => run_next(alloc, owners, &user, slot, count),
         Step::Many { user, slot, ranges } => run_many(alloc, owners, &user, slot, ranges),
         Step::Close { user, slot } => run_close(owners, &user, slot),
@@ -77,14 +77,14 @@ fn run_event(
     core: &mut Core,
     owners: &mut Owners,
     jobs: &mut JobSlots,
-    event: Event,
+    event: &mut Event,
 ) -> Reply
-    ensures { RunsOn core.old owners.old.entries jobs.old (Step.Event event) result core.new owners.new.entries jobs.new }
+    ensures { RunsOn core.old owners.old.entries jobs.old (Step.Event event.old) result core.new owners.new.entries jobs.new }
 {
     if opens(&event.act) {
         run_open(alloc, core, owners, event)
     } else {
-        jobs.step(alloc, core, event)
+        jobs.step(alloc, core, &event.user, event.moment, &mut event.act)
     }
 }
 
@@ -96,17 +96,17 @@ fn opens(act: &Act) -> bool
 }
 
 // An Open, whose session is kept in its user's next slot.
-fn run_open(alloc: Global, core: &mut Core, owners: &mut Owners, event: Event) -> Reply
-    requires { is_open event.act ≡ true }
-    ensures { (jobs : List JobSlot) → RunsOn core.old owners.old.entries jobs (Step.Event event) result core.new owners.new.entries jobs }
+fn run_open(alloc: Global, core: &mut Core, owners: &mut Owners, event: &mut Event) -> Reply
+    requires { is_open event.old.act ≡ true }
+    ensures { (jobs : List JobSlot) → RunsOn core.old owners.old.entries jobs (Step.Event event.old) result core.new owners.new.entries jobs }
 {
     if make_owner(alloc, owners, &event.user).is_err() {
-        return refused(event, Refusal::NoMemory);
+        return Reply::Refused(Refusal::NoMemory);
     }
     match owners.get_mut(&event.user) {
-        Some(slots) => slots.open(alloc, core, event),
+        Some(slots) => slots.open(alloc, core, &event.user, event.moment, &mut event.act),
         // he is among the owners by now
-        None => refused(event, Refusal::NoMemory),
+        None => Reply::Refused(Refusal::NoMemory),
     }
 }
 

@@ -5,6 +5,7 @@ ghost use Rattle.tab_key.specs.declared.part.TheConstants.{MAX_SESSIONS};
 ghost use Rattle.tab_history.specs.Answers.{ranges_told, many_answer};
 ghost use Rattle.tab_core.specs.Slots.{are_full, NextFrom, ManyFrom, CloseFrom};
 ghost use Rattle.tab_core.specs.Owners.{kept_with, OpensIn};
+ghost use Rattle.tab_core.specs.Stepping.{asked_at};
 
 use crate::Session;
 use crate::checking::ranges_refusal;
@@ -13,8 +14,8 @@ use crate::state::Core;
 use std::alloc::{AllocError, Global};
 use std::marker::Model;
 use std::mem;
-use tab_history::{Event, Refusal, Reply};
-use tab_key::{Bounds, MAX_OPENED, MAX_SESSIONS, Part};
+use tab_history::{Act, Refusal, Reply};
+use tab_key::{Bounds, MAX_OPENED, MAX_SESSIONS, Name, Part};
 
 /// One user's sessions by their numbers; none where it was closed. A number is given out once.
 ///
@@ -70,18 +71,26 @@ impl Slots {
         self.slots.len()
     }
 
-    /// The core answers the Open, and a session that it hands out is kept in the next slot. Where no session can be opened any more the
-    /// event doesn't happen, and neither where there is no memory for the slot.
-    pub fn open(&mut self, alloc: Global, core: &mut Core, event: Event) -> Reply
-        ensures { OpensIn core.old self.old event result core.new self.new }
+    /// The core answers the user's Open at this moment, and a session that it hands out is kept in the next slot. Where no session can be
+    /// opened any more the event doesn't happen, and neither where there is no memory for the slot. What the core keeps of the Open it may
+    /// take out of the act, as [`Core::step_lent`] does.
+    pub fn open(
+        &mut self,
+        alloc: Global,
+        core: &mut Core,
+        user: &Name,
+        moment: i64,
+        act: &mut Act,
+    ) -> Reply
+        ensures { OpensIn core.old self.old (asked_at user.now moment act.old) result core.new self.new }
     {
         if self.are_full() {
-            return refused(event, Refusal::TooLarge(Part::Sessions));
+            return Reply::Refused(Refusal::TooLarge(Part::Sessions));
         }
         if self.slots.reserve(1).is_err() {
-            return refused(event, Refusal::NoMemory);
+            return Reply::Refused(Refusal::NoMemory);
         }
-        let (reply, session) = with_session(core.step(alloc, event));
+        let (reply, session) = with_session(core.step_lent(alloc, user, moment, act));
         keep(&mut self.slots, &mut self.open, session);
         reply
     }
@@ -154,13 +163,6 @@ impl Slots {
         self.open -= 1;
         Reply::Done
     }
-}
-
-/// The refusal of an event, which doesn't happen.
-pub(crate) fn refused(_event: Event, refusal: Refusal) -> Reply
-    ensures { result ≡ Reply.Refused refusal }
-{
-    Reply::Refused(refusal)
 }
 
 // Keeps the session in a new slot, if there is one. There is room for the slot.

@@ -1,5 +1,7 @@
-use Rattle.std.proofs.Common.{◌≡◌, false, rules}
+use Rattle.std.proofs.Common.{◌≡◌, ℤ, false, subst, rules, to_z, of_z, w64}
 use Rattle.tab_history.specs.Answers.{is_open}
+use Rattle.tab_core.specs.JobSlots.{StepsIn}
+use Rattle.tab_core.specs.Stepping.{asked_at}
 use Rattle.tab_core.proofs.Runs.{runs_event}
 use Rattle.tab_core.proofs.running.run_event.Goals as goal
 
@@ -8,5 +10,7 @@ returns-then-opens c = c.run_open.ensures c.args.jobs.now
 
 pub returns-else-opens : goal.returns-else-opens
 returns-else-opens c =
-    let shut : is_open c.args.event.act ≡ false = search rules in
-    runs_event c.args.core.now c.step.new.core c.args.owners.now.entries c.args.jobs.now c.step.new.self c.args.event c.step.result shut c.step.ensures
+    let shut : is_open c.args.event.now.act ≡ false = search rules in
+    let trip : to_z w64 (of_z w64 c.args.event.now.moment) ≡ c.args.event.now.moment = search rules in
+    let steps = subst (λ (m : ℤ). StepsIn c.args.core.now c.args.jobs.now (asked_at c.args.event.now.user m c.args.event.now.act) c.step.result c.step.new.core c.step.new.self) trip c.step.ensures in
+    runs_event c.args.core.now c.step.new.core c.args.owners.now.entries c.args.jobs.now c.step.new.self c.args.event.now c.step.result shut steps
