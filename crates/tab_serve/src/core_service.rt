@@ -1,15 +1,15 @@
 //! A core that answers the requests of one connection.
 ghost use Rattle.std.specs.Prelude.{◌≡◌, true, false};
 ghost use Rattle.tab_history.specs.Answers.{is_open};
-ghost use Rattle.tab_core.specs.Slots.{are_full, ManyFrom};
+ghost use Rattle.tab_core.specs.Slots.{are_full};
 ghost use Rattle.tab_serve.specs.CoreAnswers.{CoreAnswers};
 
 use crate::{Moments, Service};
 use std::alloc::Global;
 use std::mem;
 use tab_core::{Core, Slots, told};
-use tab_history::{Act, Event, Refusal, Reply};
-use tab_key::{Bounds, Items, Name, Part};
+use tab_history::{Act, Refusal, Reply};
+use tab_key::{Name, Part};
 use tab_wire::Request;
 
 // A core, the sessions that it opened for the connection, and where its moments come from. All of it is lent.
@@ -34,7 +34,7 @@ impl<'a, M: Moments> Service for CoreService<'a, M> {
 
     ghost answers = { λ old user request reply new. CoreAnswers M.gives old user request reply new };
 
-    fn answer(&mut self, user: Name, request: Request) {
+    fn answer(&mut self, user: &Name, request: &mut Request) {
         let reply = self.does(user, request);
         put(self.reply, reply);
     }
@@ -46,23 +46,25 @@ impl<'a, M: Moments> Service for CoreService<'a, M> {
 
 impl<'a, M: Moments> CoreService<'a, M> {
     // Does what is asked. Hello says who asks, and changes nothing.
-    fn does(&mut self, user: Name, request: Request) -> Reply
-        ensures { CoreAnswers M.gives self.old user request result self.new }
+    fn does(&mut self, user: &Name, request: &mut Request) -> Reply
+        ensures { CoreAnswers M.gives self.old user.now request.old result self.new }
     {
         match request {
             Request::Hello(_) => Reply::Done,
             Request::Act(act) => self.act(user, act),
-            Request::Next { slot, count } => self.slots.next(self.alloc, slot, count),
-            Request::Many { slot, ranges } => many(self.alloc, self.slots, slot, ranges),
-            Request::Close { slot } => self.slots.close(slot),
+            Request::Next { slot, count } => self.slots.next(self.alloc, *slot, *count),
+            Request::Many { slot, ranges } => {
+                self.slots.many(self.alloc, *slot, ranges.as_slice())
+            }
+            Request::Close { slot } => self.slots.close(*slot),
         }
     }
 
     // An event at the next moment.
-    fn act(&mut self, user: Name, act: Act) -> Reply
-        ensures { CoreAnswers M.gives self.old user (Request.Act act) result self.new }
+    fn act(&mut self, user: &Name, act: &mut Act) -> Reply
+        ensures { CoreAnswers M.gives self.old user.now (Request.Act act.old) result self.new }
     {
-        if opens(&act) {
+        if opens(act) {
             self.open(user, act)
         } else {
             self.apply(user, act)
@@ -70,36 +72,34 @@ impl<'a, M: Moments> CoreService<'a, M> {
     }
 
     // An Open. Past the limit of sessions it takes no moment, and doesn't happen.
-    fn open(&mut self, user: Name, act: Act) -> Reply
-        requires { is_open act ≡ true }
-        ensures { CoreAnswers M.gives self.old user (Request.Act act) result self.new }
+    fn open(&mut self, user: &Name, act: &mut Act) -> Reply
+        requires { is_open act.old ≡ true }
+        ensures { CoreAnswers M.gives self.old user.now (Request.Act act.old) result self.new }
     {
         if self.slots.are_full() {
-            too_many(act)
+            Reply::Refused(Refusal::TooLarge(Part::Sessions))
         } else {
             self.open_next(user, act)
         }
     }
 
     // An Open where one more session can be opened, which is kept under the next number.
-    fn open_next(&mut self, user: Name, act: Act) -> Reply
-        requires opens { is_open act ≡ true }
+    fn open_next(&mut self, user: &Name, act: &mut Act) -> Reply
+        requires opens { is_open act.old ≡ true }
         requires room { are_full self.old.slots.now ≡ false }
-        ensures { CoreAnswers M.gives self.old user (Request.Act act) result self.new }
+        ensures { CoreAnswers M.gives self.old user.now (Request.Act act.old) result self.new }
     {
         let moment = self.moments.next();
-        let event = Event { user, moment, act };
-        self.slots.open(self.alloc, self.core, event)
+        self.slots.open(self.alloc, self.core, user, moment, act)
     }
 
     // An event that opens no session.
-    fn apply(&mut self, user: Name, act: Act) -> Reply
-        requires { is_open act ≡ false }
-        ensures { CoreAnswers M.gives self.old user (Request.Act act) result self.new }
+    fn apply(&mut self, user: &Name, act: &mut Act) -> Reply
+        requires { is_open act.old ≡ false }
+        ensures { CoreAnswers M.gives self.old user.now (Request.Act act.old) result self.new }
     {
         let moment = self.moments.next();
-        let event = Event { user, moment, act };
-        told(self.core.step(self.alloc, event))
+        told(self.core.step_lent(self.alloc, user, moment, act))
     }
 }
 
@@ -110,24 +110,9 @@ fn opens(act: &Act) -> bool
     matches!(act, Act::Open(_))
 }
 
-// The refusal of an Open past the limit of sessions.
-fn too_many(_act: Act) -> Reply
-    ensures { result ≡ Reply.Refused (Refusal.TooLarge Part.Sessions) }
-{
-    Reply::Refused(Refusal::TooLarge(Part::Sessions))
-}
-
 // Puts the reply in the place of the one before.
 fn put(place: &mut Reply, reply: Reply)
     ensures { place.new ≡ reply }
 {
     let _ = mem::replace(place, reply);
-}
-
-// What the session in the slot shows in these ranges of rows. The slots stay as they were.
-fn many(alloc: Global, slots: &mut Slots, slot: u32, ranges: Items<Bounds>) -> Reply
-    ensures answers { ManyFrom slots.old slot ranges result }
-    ensures same { slots.new ≡ slots.old }
-{
-    slots.many(alloc, slot, ranges.as_slice())
 }

@@ -19,9 +19,9 @@ pub trait Service {
     // What it may tell the user of this request, and the service after it.
     ghost answers: { Self → List ℕ → Asks → Told → Self → Type 0 };
 
-    /// Answers the request of this user. Hello is a request too.
-    fn answer(&mut self, user: Name, request: Request)
-        ensures answers { answers self.old user request (told self.new) self.new }
+    /// Answers the request of this user. Hello is a request too. What is kept of the request may be taken out of it.
+    fn answer(&mut self, user: &Name, request: &mut Request)
+        ensures answers { answers self.old user.now request.old (told self.new) self.new }
         ensures room { opens (told self.new) ≡ true → opened self.old < u32.MAX }
         ensures opened { opened self.new ≡ opened_by (opened self.old) (told self.new) };
 

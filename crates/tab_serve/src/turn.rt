@@ -25,17 +25,17 @@ fn cells_asked(request: &Request) -> u32
 // Has the request answered, and writes the reply.
 fn answer<W: Output, S: Service>(
     conn: &mut Conn,
-    user: Name,
-    request: Request,
+    user: &Name,
+    request: &mut Request,
     output: &mut W,
     service: &mut S,
 ) -> Result<(), WriteFault>
     requires { conn.old.opened ≡ S.opened service.old }
-    ensures told { (sent : Sent) × Tells S.Service service.old (Asked.Request user request) sent service.new × Puts W.Output output.old output.new (sent_bytes sent) result }
+    ensures told { (sent : Sent) × Tells S.Service service.old (Asked.Request user.now request.old) sent service.new × Puts W.Output output.old output.new (sent_bytes sent) result }
     ensures user { conn.new.user ≡ conn.old.user }
     ensures opened { conn.new.opened ≡ S.opened service.new }
 {
-    let count = cells_asked(&request);
+    let count = cells_asked(request);
     service.answer(user, request);
     conn.answer(count, service.reply(), output)
 }
@@ -43,19 +43,19 @@ fn answer<W: Output, S: Service>(
 // Tells what comes of what is asked.
 fn tell<W: Output, S: Service>(
     conn: &mut Conn,
-    asked: Asked,
+    asked: &mut Asked,
     output: &mut W,
     service: &mut S,
 ) -> Result<(), WriteFault>
     requires { conn.old.opened ≡ S.opened service.old }
-    ensures told { (sent : Sent) × Tells S.Service service.old asked sent service.new × Puts W.Output output.old output.new (sent_bytes sent) result }
+    ensures told { (sent : Sent) × Tells S.Service service.old asked.old sent service.new × Puts W.Output output.old output.new (sent_bytes sent) result }
     ensures user { conn.new.user ≡ conn.old.user }
     ensures opened { conn.new.opened ≡ S.opened service.new }
 {
     match asked {
         Asked::Request(user, request) => answer(conn, user, request, output, service),
-        Asked::Bad(reason) => write_bad_frame(output, reason),
-        Asked::Broken(reason) => write_bad_frame(output, reason),
+        Asked::Bad(reason) => write_bad_frame(output, *reason),
+        Asked::Broken(reason) => write_bad_frame(output, *reason),
         Asked::NoMemory => conn.answer(0, &Reply::Refused(Refusal::NoMemory), output),
     }
 }
@@ -70,17 +70,17 @@ fn goes_on(asked: &Asked) -> bool
 // Tells it, and whether the connection goes on.
 fn tell_on<W: Output, S: Service>(
     conn: &mut Conn,
-    asked: Asked,
+    asked: &mut Asked,
     output: &mut W,
     service: &mut S,
 ) -> Result<bool, ServeFault>
     requires { conn.old.opened ≡ S.opened service.old }
-    ensures told { (sent : Sent) × Tells S.Service service.old asked sent service.new × PutsOn W.Output output.old output.new (sent_bytes sent) result }
-    ensures on { IfOk result (λ on. on ≡ goes_on asked) }
+    ensures told { (sent : Sent) × Tells S.Service service.old asked.old sent service.new × PutsOn W.Output output.old output.new (sent_bytes sent) result }
+    ensures on { IfOk result (λ on. on ≡ goes_on asked.old) }
     ensures user { conn.new.user ≡ conn.old.user }
     ensures opened { conn.new.opened ≡ S.opened service.new }
 {
-    let on = goes_on(&asked);
+    let on = goes_on(asked);
     match tell(conn, asked, output, service) {
         Ok(()) => Ok(on),
         Err(WriteFault) => Err(ServeFault::Write),
@@ -128,7 +128,7 @@ pub fn turn<R: Input, W: Output, S: Service>(
         Err(_) => return Err(ServeFault::Write),
     }
     match conn.ask(alloc, input) {
-        Ok(Some(asked)) => tell_on(conn, asked, output, service),
+        Ok(Some(mut asked)) => tell_on(conn, &mut asked, output, service),
         Ok(None) => Ok(false),
         Err(_) => Err(ServeFault::Read),
     }

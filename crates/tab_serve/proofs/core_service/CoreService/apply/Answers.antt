@@ -10,9 +10,9 @@ returns g c =
         shut = c.requires;
         moment = moment;
         gave = subst (λ (m : ℤ). g.M.Moments.gives c.args.self.now.moments.now m c.next-moment.new.self) (sym same) c.next-moment.ensures;
-        answer = c.step.result;
-        steps = c.step.ensures.steps;
-        exact = c.step.ensures.exact;
+        answer = c.step_lent.result;
+        steps = c.step_lent.ensures.steps;
+        exact = c.step_lent.ensures.exact;
         told = c.told.ensures;
         slots = refl;
       }));
