@@ -127,8 +127,9 @@ pub fn turn<R: Input, W: Output, S: Service>(
         Ok(()) => {}
         Err(_) => return Err(ServeFault::Write),
     }
-    match conn.ask(alloc, input) {
-        Ok(Some(mut asked)) => tell_on(conn, &mut asked, output, service),
+    let mut read = conn.ask(alloc, input);
+    match &mut read {
+        Ok(Some(asked)) => tell_on(conn, asked, output, service),
         Ok(None) => Ok(false),
         Err(_) => Err(ServeFault::Read),
     }
