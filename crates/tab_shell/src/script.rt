@@ -1,13 +1,14 @@
 //! Scripts: a core that answers lines.
 ghost use Rattle.std.specs.Prelude.{◌≡◌, [], true, false, is_some, IfOk, IfErr, OnOk};
 ghost use Rattle.tab_history.specs.Answers.{told_of, is_open};
+ghost use Rattle.tab_history.specs.declared.event.Scan.{Scan as Scans};
 ghost use Rattle.tab_io.specs.Streams.{FailsByFault};
 ghost use Rattle.tab_io.specs.Writing.{Puts};
 ghost use Rattle.tab_replies.specs.Texts.{refusal_text, reply_text};
 ghost use Rattle.tab_policy.specs.Roots.{root};
 ghost use Rattle.tab_policy.specs.Entries.{at_name};
 ghost use Rattle.tab_shell.specs.Sessions.{kept_of, is_spent};
-ghost use Rattle.tab_shell.specs.Scripts.{event_by, new_script, replaced};
+ghost use Rattle.tab_shell.specs.Scripts.{new_script, replaced};
 ghost use Rattle.tab_shell.specs.Ahead.{OpensNoSession};
 ghost use Rattle.tab_shell.specs.Progress.{PrintsAnswer, AnswersOrAccepts, AnswersFront, IsEmptied, EndsAhead, StopsAhead, FailedSide, RunsScript, ComesFurther};
 
@@ -18,7 +19,7 @@ use crate::sessions::Sessions;
 use std::alloc::Global;
 use std::marker::Model;
 use tab_core::{Answer, Core, JobSlots, told};
-use tab_history::{Act, Event, Refusal, Reply, Scan};
+use tab_history::{Act, Refusal, Reply, Scan};
 use tab_io::{Input, Output, WriteFault};
 use tab_key::{Bounds, Items, Name, Part};
 use tab_lines::{FileLine, Line, LineError};
@@ -171,8 +172,14 @@ impl Script {
     ) -> Result<Option<FileLine>, WriteFault>
         ensures { AnswersOrAccepts W.Output self.old (Ok (Line.File file)) self.new output.old output.new result }
     {
-        let event = self.event(file_act(file.kind));
-        let answer = self.jobs.step(self.alloc, &mut self.core, event);
+        let mut act = file_act(file.kind);
+        let answer = self.jobs.step(
+            self.alloc,
+            &mut self.core,
+            &self.user,
+            self.moment,
+            &mut act,
+        );
         if is_done(&answer) {
             return hand_back(file, output);
         }
@@ -220,21 +227,16 @@ impl Script {
         requires { is_open act ≡ false }
         ensures { PrintsAnswer W.Output self.old (Ok (Line.Act act)) self.new output.old output.new result }
     {
-        let event = self.event(act);
+        let mut act = act;
         let number = self.jobs.begun();
-        let reply = self.jobs.step(self.alloc, &mut self.core, event);
+        let reply = self.jobs.step(
+            self.alloc,
+            &mut self.core,
+            &self.user,
+            self.moment,
+            &mut act,
+        );
         put_begun(output, number, &reply)
-    }
-
-    // What the script's user asks now.
-    fn event(&self, act: Act) -> Event
-        ensures { result ≡ event_by self.now.asker act }
-    {
-        Event {
-            user: self.user,
-            moment: self.moment,
-            act,
-        }
     }
 
     // One line and several steps: an Open, batches until one isn't full, and a Close.
@@ -256,8 +258,20 @@ impl Script {
         requires few { is_spent (kept_of self.old.kept self.old.asker.user) ≡ false }
         ensures { PrintsAnswer W.Output self.old (Ok (Line.Scan scan)) self.new output.old output.new result }
     {
-        let event = self.event(Act::Open(scan));
-        match self.core.step(self.alloc, event) {
+        let mut act = Act::Open(scan);
+        self.read_opened(&mut act, output)
+    }
+
+    // The same for an Open of the scan.
+    fn read_opened<W: Output>(&mut self, act: &mut Act, output: &mut W) -> Result<(), WriteFault>
+        requires there { is_some (at_name self.old.asker.user self.old.kept) ≡ true }
+        requires few { is_spent (kept_of self.old.kept self.old.asker.user) ≡ false }
+        ensures { (scan : Scans) → act.old ≡ Act.Open scan → PrintsAnswer W.Output self.old (Ok (Line.Scan scan)) self.new output.old output.new result }
+    {
+        match self
+            .core
+            .step_lent(self.alloc, &self.user, self.moment, act)
+        {
             Reply::Opened(session) => {
                 self.sessions.count_scan(&self.user);
                 put_session(self.alloc, session, output)
@@ -285,11 +299,15 @@ impl Script {
         requires few { is_spent (kept_of self.old.kept self.old.asker.user) ≡ false }
         ensures { PrintsAnswer W.Output self.old (Ok (Line.Open scan)) self.new output.old output.new result }
     {
-        let event = self.event(Act::Open(scan));
+        let mut act = Act::Open(scan);
         let number = self.sessions.numbers_given(&self.user);
-        let reply = self
-            .sessions
-            .open(self.alloc, &mut self.core, &self.user, event);
+        let reply = self.sessions.open(
+            self.alloc,
+            &mut self.core,
+            &self.user,
+            self.moment,
+            &mut act,
+        );
         put_opened(output, number, &reply)
     }
 

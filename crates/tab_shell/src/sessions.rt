@@ -1,13 +1,14 @@
 //! The sessions that a script keeps for its users.
 ghost use Rattle.std.specs.Prelude.{◌≡◌, ◌+◌, ◌<◌, ℕ, List, [], length, true, false, nat_le, is_some, OnOk};
 ghost use Rattle.tab_policy.specs.Entries.{at_name};
+ghost use Rattle.tab_core.specs.Stepping.{asked_at};
 ghost use Rattle.tab_shell.specs.Sessions.{Keeping, opened_in, is_spent, kept_of, KeepsFor, NextIn, ManyIn, CloseIn, OpenIn};
 
 use std::alloc::{AllocError, Global};
 use std::collections::BTreeMap;
 use std::marker::Model;
 use tab_core::{Core, Slots};
-use tab_history::{Event, Refusal, Reply};
+use tab_history::{Act, Refusal, Reply};
 use tab_key::{Bounds, MAX_OPENED, MAX_SESSIONS, Name};
 use tab_policy::NameKey;
 
@@ -110,12 +111,20 @@ impl Sessions {
         count_scan(&mut self.by_user, user);
     }
 
-    /// The core answers the user's Open. A session that it hands out is kept under his next number.
-    pub fn open(&mut self, alloc: Global, core: &mut Core, user: &Name, event: Event) -> Reply
+    /// The core answers the user's Open at this moment. A session that it hands out is kept under his next number. What the core keeps of the
+    /// Open it may take out of the act.
+    pub fn open(
+        &mut self,
+        alloc: Global,
+        core: &mut Core,
+        user: &Name,
+        moment: i64,
+        act: &mut Act,
+    ) -> Reply
         requires { is_some (at_name user.now self.old) ≡ true }
-        ensures { OpenIn core.old self.old user.now event result core.new self.new }
+        ensures { OpenIn core.old self.old user.now (asked_at user.now moment act.old) result core.new self.new }
     {
-        open(alloc, &mut self.by_user, core, user, event)
+        open(alloc, &mut self.by_user, core, user, moment, act)
     }
 
     /// The next cells of the user's session of this number.
@@ -191,13 +200,14 @@ fn open(
     by_user: &mut BTreeMap<NameKey, Kept>,
     core: &mut Core,
     user: &Name,
-    event: Event,
+    moment: i64,
+    act: &mut Act,
 ) -> Reply
     requires { is_some (at_name user.now by_user.old.entries) ≡ true }
-    ensures { OpenIn core.old by_user.old.entries user.now event result core.new by_user.new.entries }
+    ensures { OpenIn core.old by_user.old.entries user.now (asked_at user.now moment act.old) result core.new by_user.new.entries }
 {
     match by_user.get_mut(user) {
-        Some(kept) => kept.numbered.open(alloc, core, event),
+        Some(kept) => kept.numbered.open(alloc, core, user, moment, act),
         // he is there by now
         None => Reply::Refused(Refusal::NoMemory),
     }

@@ -1,7 +1,8 @@
-use Rattle.std.proofs.Common.{◌≡◌, ℕ, List, Ok, sym, ap, ◌∙◌, subst}
+use Rattle.std.proofs.Common.{◌≡◌, ℕ, List, Ok, sym, subst, rules, to_z, of_z, w64}
 use Rattle.tab_history.specs.declared.event.Event.{Event}
 use Rattle.tab_core.specs.Stores.{Held}
 use Rattle.tab_core.specs.JobSlots.{StepsIn}
+use Rattle.tab_core.specs.Stepping.{asked_at}
 use Rattle.tab_core.specs.declared.job_slots.JobSlot.{JobSlot}
 use Rattle.tab_lines.specs.declared.line.Line.TheVariants as line
 use Rattle.tab_replies.specs.Texts.{begun_text}
@@ -15,7 +16,8 @@ returns g c =
     let v : ScriptState = record { core = c.self.inside.core; asker = record { user = c.self.inside.user; moment = c.self.inside.moment }; kept = c.self.inside.sessions; jobs = c.self.inside.jobs } in
     let new : Held = c.step-reply.new.core in
     let jobs : List JobSlot = c.step-reply.new.self in
-    let is : c.event-event.result ≡ event_by v.asker c.args.act = c.event-event.ensures ∙ ap (λ (s : ScriptState). event_by s.asker c.args.act) (sym c.self.view_is) in
+    let trip : to_z w64 (of_z w64 c.self.inside.moment) ≡ c.self.inside.moment = search rules in
+    let is : asked_at c.self.inside.user (to_z w64 (of_z w64 c.self.inside.moment)) c.args.act ≡ event_by v.asker c.args.act = λ i. asked_at c.self.inside.user (trip i) c.args.act in
     let steps : StepsIn v.core v.jobs (event_by v.asker c.args.act) c.step-reply.result new jobs = subst (λ (e : Event). StepsIn v.core v.jobs e c.step-reply.result new jobs) is c.step-reply.ensures in
     let text : List ℕ = begun_text c.begun-number.result c.step-reply.result in
     let answered : ScriptAnswersLine v (Ok (line.Act c.args.act)) text (with_core v new jobs) =

@@ -1,10 +1,11 @@
-use Rattle.std.proofs.Common.{◌≡◌, ℕ, List, Ok, true, false, rules, sym, ap, ◌∙◌, subst}
+use Rattle.std.proofs.Common.{◌≡◌, ℕ, List, Ok, true, false, rules, subst, to_z, of_z, w64}
 use Rattle.tab_history.specs.declared.event.Act.{Act}
 use Rattle.tab_history.specs.declared.event.Event.{Event}
 use Rattle.tab_history.specs.declared.reply.Reply.TheVariants.{Done}
 use Rattle.tab_history.specs.Answers.{Told}
 use Rattle.tab_core.specs.Stores.{Held}
 use Rattle.tab_core.specs.JobSlots.{StepsIn}
+use Rattle.tab_core.specs.Stepping.{asked_at}
 use Rattle.tab_core.specs.declared.job_slots.JobSlot.{JobSlot}
 use Rattle.tab_lines.specs.declared.line.Line.TheVariants as line
 use Rattle.tab_replies.specs.Texts.{reply_text}
@@ -21,7 +22,8 @@ returns-then-is_done g c =
     let new : Held = c.step-answer.new.core in
     let jobs : List JobSlot = c.step-answer.new.self in
     let reply : Told = c.step-answer.result in
-    let is : c.event-event.result ≡ event_by v.asker act = c.event-event.ensures ∙ ap (event_by c.args.self.now.asker) c.file_act.ensures ∙ ap (λ (s : ScriptState). event_by s.asker act) (sym c.self.view_is) in
+    let trip : to_z w64 (of_z w64 c.self.inside.moment) ≡ c.self.inside.moment = search rules in
+    let is : asked_at c.self.inside.user (to_z w64 (of_z w64 c.self.inside.moment)) c.file_act-act.result ≡ event_by v.asker act = λ i. asked_at c.self.inside.user (trip i) (c.file_act-act.ensures i) in
     let steps : StepsIn v.core v.jobs (event_by v.asker act) reply new jobs = subst (λ (e : Event). StepsIn v.core v.jobs e reply new jobs) is c.step-answer.ensures in
     let yes : c.is_done.result ≡ true = search rules in
     let done : reply ≡ Done = when_true c.is_done.result (reply ≡ Done) (reply ≡ Done → ⊥) yes c.is_done.ensures in
@@ -36,7 +38,8 @@ returns g c =
     let new : Held = c.step-answer.new.core in
     let jobs : List JobSlot = c.step-answer.new.self in
     let reply : Told = c.step-answer.result in
-    let is : c.event-event.result ≡ event_by v.asker act = c.event-event.ensures ∙ ap (event_by c.args.self.now.asker) c.file_act.ensures ∙ ap (λ (s : ScriptState). event_by s.asker act) (sym c.self.view_is) in
+    let trip : to_z w64 (of_z w64 c.self.inside.moment) ≡ c.self.inside.moment = search rules in
+    let is : asked_at c.self.inside.user (to_z w64 (of_z w64 c.self.inside.moment)) c.file_act-act.result ≡ event_by v.asker act = λ i. asked_at c.self.inside.user (trip i) (c.file_act-act.ensures i) in
     let steps : StepsIn v.core v.jobs (event_by v.asker act) reply new jobs = subst (λ (e : Event). StepsIn v.core v.jobs e reply new jobs) is c.step-answer.ensures in
     let no : c.is_done.result ≡ false = search rules in
     let not : reply ≡ Done → ⊥ = when_false c.is_done.result (reply ≡ Done) (reply ≡ Done → ⊥) no c.is_done.ensures in

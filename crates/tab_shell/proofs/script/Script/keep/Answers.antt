@@ -1,8 +1,9 @@
-use Rattle.std.proofs.Common.{◌≡◌, ℕ, List, Ok, false, sym, ap, ◌∙◌, subst}
+use Rattle.std.proofs.Common.{◌≡◌, ℕ, List, Ok, false, sym, subst, rules, to_z, of_z, w64}
 use Rattle.tab_lines.specs.declared.line.Line.TheVariants as line
 use Rattle.tab_history.specs.declared.event.Act.TheVariants.{Open}
 use Rattle.tab_history.specs.declared.event.Event.{Event}
 use Rattle.tab_core.specs.Stores.{Held}
+use Rattle.tab_core.specs.Stepping.{asked_at}
 use Rattle.tab_replies.specs.Texts.{opened_text}
 use Rattle.tab_shell.specs.Sessions.{Keeping, is_spent, OpenIn}
 use Rattle.tab_shell.proofs.Scanning.{own_kept, with_sessions}
@@ -17,7 +18,8 @@ returns g c =
     let new : Held = c.open-reply.new.core in
     let kept : Keeping = c.open-reply.new.self in
     let room : is_spent (own_kept v) ≡ false = subst (λ (s : ScriptState). is_spent (own_kept s) ≡ false) (sym c.self.view_is) c.requires.few in
-    let is : c.event-event.result ≡ event_by v.asker (Open c.args.scan) = c.event-event.ensures ∙ ap (λ (s : ScriptState). event_by s.asker (Open c.args.scan)) (sym c.self.view_is) in
+    let trip : to_z w64 (of_z w64 c.self.inside.moment) ≡ c.self.inside.moment = search rules in
+    let is : asked_at c.self.inside.user (to_z w64 (of_z w64 c.self.inside.moment)) (Open c.args.scan) ≡ event_by v.asker (Open c.args.scan) = λ i. asked_at c.self.inside.user (trip i) (Open c.args.scan) in
     let opens : OpenIn v.core v.kept v.asker.user (event_by v.asker (Open c.args.scan)) c.open-reply.result new kept = subst (λ (e : Event). OpenIn v.core v.kept v.asker.user e c.open-reply.result new kept) is c.open-reply.ensures in
     let text : List ℕ = opened_text c.numbers_given-number.result c.open-reply.result in
     let answered : ScriptAnswersLine v (Ok (line.Open c.args.scan)) text (with_sessions v new kept) =
