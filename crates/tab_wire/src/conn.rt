@@ -109,18 +109,18 @@ fn heard(user: &mut Option<Name>, request: Request) -> Asked
     requires { MayAsk user.old request }
     ensures { IsHeard user.old request result user.new }
 {
-    let name = asker(*user, &request);
-    *user = Some(name);
-    Asked::Request(name, request)
+    greet(user, &request);
+    Asked::Request(user.unwrap(), request)
 }
 
-// The user whom Hello names, or else the one who said it.
-fn asker(user: Option<Name>, request: &Request) -> Name
-    requires { MayAsk user request.now }
-    ensures { IsBy user result request.now }
+// Hello says who asks from now on; all else is asked by the one who said it.
+fn greet(user: &mut Option<Name>, request: &Request)
+    requires { MayAsk user.old request.now }
+    ensures known { is_some user.new ≡ true }
+    ensures by { IfSome user.new (λ name. IsBy user.old name request.now) }
 {
     match request {
-        Request::Hello(name) => *name,
-        _ => user.unwrap(),
+        Request::Hello(name) => *user = Some(*name),
+        _ => {}
     }
 }

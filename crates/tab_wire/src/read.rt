@@ -169,31 +169,23 @@ fn request(alloc: Global, opcode: Opcode, fields: &mut Fields) -> Result<Request
 }
 
 // No byte may be left.
-fn with_nothing_left(request: Request, fields: &Fields) -> Result<Request, Unread>
-    ensures { Gives (λ x. x) result (whole (Some (request, bytes_left fields.now))) }
+fn with_nothing_left(request: Request, fields: &Fields) -> Result<Request, Stop>
+    ensures { Asks result (or_field (whole (Some (request, bytes_left fields.now)))) }
 {
     if fields.rest.is_empty() {
         Ok(request)
     } else {
-        Err(Unread::Field)
+        Err(Stop::Bad(Reason::Field))
     }
 }
 
-// All bytes behind the opcode.
-fn whole_request(alloc: Global, opcode: Opcode, bytes: &[u8]) -> Result<Request, Unread>
-    ensures { Gives (λ x. x) result (whole (fields_at opcode bytes.now)) }
+// All bytes behind the opcode, or the one reason that is left.
+fn whole_request(alloc: Global, opcode: Opcode, bytes: &[u8]) -> Result<Request, Stop>
+    ensures { Asks result (or_field (whole (fields_at opcode bytes.now))) }
 {
     let mut fields = Fields::of(bytes);
-    let request = request(alloc, opcode, &mut fields)?;
-    with_nothing_left(request, &fields)
-}
-
-// The request, or the one reason that is left.
-fn or_bad_field(read: Result<Request, Unread>) -> Result<Request, Stop>
-    ensures { (asked : _) → Gives (λ x. x) read asked → Asks result (or_field asked) }
-{
-    match read {
-        Ok(request) => Ok(request),
+    match request(alloc, opcode, &mut fields) {
+        Ok(request) => with_nothing_left(request, &fields),
         Err(Unread::Field) => Err(Stop::Bad(Reason::Field)),
         Err(Unread::NoMemory) => Err(Stop::NoMemory),
     }
@@ -217,5 +209,5 @@ pub fn read_request(alloc: Global, greeted: bool, frame: &[u8]) -> Result<Reques
     if !opcode.is_in_turn(greeted) {
         return Err(Stop::Bad(Reason::Order));
     }
-    or_bad_field(whole_request(alloc, opcode, fields))
+    whole_request(alloc, opcode, fields)
 }
