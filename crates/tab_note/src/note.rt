@@ -6,7 +6,8 @@ use crate::act::KeptAct;
 use crate::text::Text;
 use std::alloc::{AllocError, Global};
 use std::marker::Model;
-use tab_history::Event;
+use tab_history::Act;
+use tab_key::Name;
 
 /// An event as a history keeps it: 176 bytes, beside those of its names, rows and mutation. Where a mutation's first update lies is
 /// told among them, so one of one update takes memory for its bytes alone. A contract sees the event.
@@ -27,14 +28,14 @@ impl Model for Note {
 }
 
 impl Note {
-    /// The event, kept. An error leaves nothing behind.
-    pub fn of(alloc: Global, event: &Event) -> Result<Note, AllocError>
-        ensures { IfOk result (λ note. note ≡ event.now) }
+    /// The event of what the user asks at the moment, kept. An error leaves nothing behind.
+    pub fn of(alloc: Global, user: &Name, moment: i64, act: &Act) -> Result<Note, AllocError>
+        ensures { IfOk result (λ note. note ≡ record { user = user.now; moment = moment; act = act.now }) }
     {
         Ok(Note {
-            user: Text::of(alloc, event.user.as_bytes())?,
-            moment: event.moment,
-            act: KeptAct::of(alloc, &event.act)?,
+            user: Text::of(alloc, user.as_bytes())?,
+            moment,
+            act: KeptAct::of(alloc, act)?,
         })
     }
 
