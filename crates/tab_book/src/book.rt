@@ -1,6 +1,7 @@
 //! Books.
-ghost use Rattle.std.specs.Prelude.{◌≡◌, ◌+◌, ◌^◌, ◌<◌, ◌≤◌, [], None, IfOk, IfErr, IfSome, IfNone, IsTrue, ◌↔◌, All, length, nat_le, sum_by, vec_len};
+ghost use Rattle.std.specs.Prelude.{◌≡◌, ◌+◌, ◌^◌, ◌<◌, ◌≤◌, [], None, IfOk, IfErr, OnErr, IfSome, IfNone, IsTrue, ◌↔◌, All, length, nat_le, sum_by, vec_len};
 ghost use Rattle.tab_core.specs.Stores.{base_of};
+ghost use Rattle.tab_core.specs.Stepping.{asked_at};
 ghost use Rattle.tab_core.specs.Recording.{RefinesHistory, IsLegalFrom};
 ghost use Rattle.tab_book.specs.Entries.{place, next_of, past};
 ghost use Rattle.tab_book.specs.Receipts.{Applies, Has};
@@ -15,7 +16,8 @@ use std::alloc::{AllocError, Global};
 use std::marker::{Brand, Model};
 use std::sync::ledger::{Blank, Book as Tickets, Ledger, Share};
 use tab_core::Core;
-use tab_history::Event;
+use tab_history::{Act, Event};
+use tab_key::Name;
 
 /// Which book a seat or a receipt is of, and what its core held before the first entry.
 pub trait Origin: Ledger {
@@ -136,26 +138,33 @@ impl<L: Origin> Book<L> {
         let Ok(reservation) = Reservation::of(alloc, &event) else {
             return Err((event, AllocError));
         };
-        self.apply_reserved(alloc, seat, event, reservation)
+        let mut event = event;
+        let (user, moment, act) = (&event.user, event.moment, &mut event.act);
+        match self.apply_reserved(alloc, seat, user, moment, act, reservation) {
+            Ok(receipt) => Ok(receipt),
+            Err(AllocError) => Err((event, AllocError)),
+        }
     }
 
-    /// The same with the memory that was found before. It copies nothing of the event.
+    /// Does what the user asks at the moment, with the memory that was found before for that event, and gives the receipt of its entry.
+    /// Where the history can't grow nothing was done or counted, and the act is as it was. It copies nothing of the event, of which it may
+    /// take parts out of the act, as [`Core::step_lent`] does.
     pub fn apply_reserved(
         &mut self,
         alloc: Global,
         seat: &mut Seat<L>,
-        event: Event,
+        user: &Name,
+        moment: i64,
+        act: &mut Act,
         reservation: Reservation,
-    ) -> Result<Receipt<L>, (Event, AllocError)>
+    ) -> Result<Receipt<L>, AllocError>
         requires ready { seat.old.seen ≤ next_of self.old }
-        requires reserved { reservation ≡ event }
-        ensures ok { IfOk result (λ r. Applies self.old seat.old None event r self.new seat.new) }
-        ensures err { IfErr result (λ r. (r.0 ≡ event) × (self.new ≡ self.old) × (seat.new ≡ seat.old)) }
+        requires reserved { reservation ≡ asked_at user.now moment act.old }
+        ensures ok { IfOk result (λ r. Applies self.old seat.old None (asked_at user.now moment act.old) r self.new seat.new) }
+        ensures err { OnErr result ((self.new ≡ self.old) × (seat.new ≡ seat.old) × (act.new ≡ act.old)) }
     {
-        if self.entries.reserve(alloc).is_err() {
-            return Err((event, AllocError));
-        }
-        let (answer, told) = self.core.step_told(alloc, event);
+        self.entries.reserve(alloc)?;
+        let (answer, told) = self.core.step_told_lent(alloc, user, moment, act);
         let (entries, tickets) = (&mut self.entries, &mut self.tickets);
         Ok(post(entries, tickets, seat, reservation, answer, told))
     }

@@ -1,12 +1,14 @@
 //! Memory for an entry.
 ghost use Rattle.std.specs.Prelude.{◌≡◌, IfOk};
 ghost use Rattle.std.specs.Arc.{arc_value};
+ghost use Rattle.tab_core.specs.Stepping.{asked_at};
 
 use std::alloc::{AllocError, Global};
 use std::marker::Model;
 use std::sync::Arc;
 use tab_core::EventReply;
-use tab_history::Event;
+use tab_history::{Act, Event};
+use tab_key::Name;
 use tab_note::Note;
 
 /// The memory that an event's entry takes, with the event in it. Where a book is shared it's found before the book is locked.
@@ -32,11 +34,23 @@ impl Model for Reservation {
 }
 
 impl Reservation {
-    /// Finds the memory. An error leaves nothing behind.
+    /// Finds the memory for an event. An error leaves nothing behind.
     pub fn of(alloc: Global, event: &Event) -> Result<Reservation, AllocError>
         ensures { IfOk result (λ reserved. reserved ≡ event.now) }
     {
-        let note = Note::of(alloc, event)?;
+        Reservation::of_lent(alloc, &event.user, event.moment, &event.act)
+    }
+
+    /// The same for what the user asks at the moment, an event whose parts are lent.
+    pub fn of_lent(
+        alloc: Global,
+        user: &Name,
+        moment: i64,
+        act: &Act,
+    ) -> Result<Reservation, AllocError>
+        ensures { IfOk result (λ reserved. reserved ≡ asked_at user.now moment act.now) }
+    {
+        let note = Note::of(alloc, user, moment, act)?;
         let Ok(first) = Arc::new(alloc, note) else {
             return Err(AllocError);
         };
