@@ -1,6 +1,5 @@
 -- A seat of a shared book that answers the requests of one connection: what it is seen to hold, what it told last, and what one request does.
 use Rattle.std.specs.Prelude.{ℕ, ℤ, ◌≡◌, ◌⊎◌, ◌-◌, cond, List, [], ◌∷◌, ◌++◌, length, Option, Some, None, slice_get}
-use Rattle.tab_history.specs.declared.event.Act.{Act}
 use Rattle.tab_history.specs.declared.event.Event.{Event}
 use Rattle.tab_history.specs.declared.reply.Refusal.TheVariants.{NoMemory}
 use Rattle.tab_history.specs.declared.reply.Reply.TheVariants.{Refused}
@@ -10,7 +9,6 @@ use Rattle.tab_book.specs.declared.book.Origin.{Ghosts}
 use Rattle.tab_book.specs.HandedOut.{session_in}
 use Rattle.tab_book.specs.Receipts.{Slip, Receives}
 use Rattle.tab_wire.specs.declared.request.Request.{Request}
-use Rattle.tab_serve.specs.Serves.{asked_at}
 use Rattle.tab_work.specs.declared.shared_service.SharedService.{SharedService}
 use Rattle.tab_work.specs.Receiving.{HandsOut, spent}
 use Rattle.tab_work.specs.Shares.{Seated, Shares}
@@ -55,10 +53,9 @@ pub record Tells {L R M G : Type 0} {o : Ghosts L} (old : SharedService L R M G 
   pub slots : slots_of new ≡ slots_of old
   pub lent : LentSame old new
 
--- this is what the user asks at the next moment, and all else stays
-pub record Takes {M : Type 0} (gives : M → ℤ → M → Type 0) (old : Seated M) (user : List ℕ) (act : Act) (event : Event) (new : Seated M) : Type 0 where
-  pub is : event ≡ asked_at user event.moment act
-  pub gave : gives old.moments event.moment new.moments
+-- this is the next moment, and all else stays
+pub record Takes {M : Type 0} (gives : M → ℤ → M → Type 0) (old : Seated M) (moment : ℤ) (new : Seated M) : Type 0 where
+  pub gave : gives old.moments moment new.moments
   pub seat : new.seat ≡ old.seat
   pub receipts : new.receipts ≡ old.receipts
 

@@ -9,7 +9,7 @@ use std::sync::Wait;
 use tab_book::{Held, Installation, Origin, Receipt, Seat};
 use tab_cells::Compaction;
 use tab_core::{FinishedJob, TabletJob};
-use tab_history::{Act, Event, Reply};
+use tab_history::{Act, Reply};
 use tab_key::{ByteString, Name};
 use tab_serve::Moments;
 
@@ -87,11 +87,16 @@ impl<'a, L: Origin, R: Wait, M: Moments> Asker<'a, L, R, M> {
         ensures receipts { self.new.receipts ≡ self.old.receipts }
         ensures none { IfNone result (asking self.new ≡ asking self.old) }
     {
-        let (user, moment) = (self.user, self.moments.next());
-        let event = Event { user, moment, act };
-        let done = self
-            .shared
-            .apply(self.rt, self.alloc, &mut self.seat, event);
+        let (user, moment) = (&self.user, self.moments.next());
+        let mut act = act;
+        let done = self.shared.apply_lent(
+            self.rt,
+            self.alloc,
+            &mut self.seat,
+            user,
+            moment,
+            &mut act,
+        );
         done.ok()
     }
 

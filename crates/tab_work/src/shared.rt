@@ -1,10 +1,11 @@
 //! A book that threads share.
-ghost use Rattle.std.specs.Prelude.{◌≡◌, ◌≤◌, ◌<◌, IfOk, IfErr, IfSome, sum_by};
+ghost use Rattle.std.specs.Prelude.{◌≡◌, ◌≤◌, ◌<◌, IfOk, IfErr, OnErr, IfSome, sum_by};
 ghost use Rattle.std.specs.Sync.Mutex.{mutex_guard_value};
 ghost use Rattle.tab_book.specs.Entries.{next_of};
 ghost use Rattle.tab_book.specs.HandedOut.{session_in};
 ghost use Rattle.tab_book.specs.Installs.{event_of};
 ghost use Rattle.tab_book.specs.Receipts.{Receives};
+ghost use Rattle.tab_serve.specs.Serves.{asked_at};
 ghost use Rattle.tab_work.specs.Dues.{IsDue};
 ghost use Rattle.tab_work.specs.Receiving.{HandsOut};
 
@@ -14,7 +15,7 @@ use std::sync::{Mutex, MutexGuard, Wait};
 use std::thread;
 use tab_book::{Book, Installation, Origin, Receipt, Reservation, Seat, SeatsOut, book_is_legal};
 use tab_core::Due;
-use tab_history::Event;
+use tab_history::{Act, Event};
 use tab_key::{ByteString, Name};
 
 // What lies under the lock: a book to which no seat came back yet.
@@ -24,23 +25,25 @@ struct Desk<L: Origin> {
     ghost fresh: { book.back ≡ 0 },
 }
 
-// Has the book do the event.
+// Has the book do what the user asks at the moment.
 fn apply_to<L: Origin>(
     alloc: Global,
     book: &mut Book<L>,
     seat: &mut Seat<L>,
-    event: Event,
+    user: &Name,
+    moment: i64,
+    act: &mut Act,
     memory: Reservation,
-) -> Result<Receipt<L>, (Event, AllocError)>
+) -> Result<Receipt<L>, AllocError>
     requires ready { seat.old.seen ≤ next_of book.old }
-    requires fits { memory ≡ event }
-    ensures ok { IfOk result (λ r. Receives seat.old event r seat.new) }
-    ensures hands { IfOk result (λ r. HandsOut event.act (session_in r.held)) }
-    ensures err { IfErr result (λ r. (r.0 ≡ event) × (seat.new ≡ seat.old)) }
+    requires fits { memory ≡ asked_at user.now moment act.old }
+    ensures ok { IfOk result (λ r. Receives seat.old (asked_at user.now moment act.old) r seat.new) }
+    ensures hands { IfOk result (λ r. HandsOut act.old (session_in r.held)) }
+    ensures err { OnErr result ((seat.new ≡ seat.old) × (act.new ≡ act.old)) }
     ensures back { book.new.back ≡ book.old.back }
 {
     book_is_legal(book);
-    book.apply_reserved(alloc, seat, event, memory)
+    book.apply_reserved(alloc, seat, user, moment, act, memory)
 }
 
 // Has the book install the finished merge.
@@ -114,11 +117,32 @@ impl<L: Origin> Shared<L> {
         ensures hands { IfOk result (λ r. HandsOut event.act (session_in r.held)) }
         ensures err { IfErr result (λ r. (r.0 ≡ event) × (seat.new ≡ seat.old)) }
     {
-        let Ok(memory) = Reservation::of(alloc, &event) else {
-            return Err((event, AllocError));
-        };
+        let mut event = event;
+        let (user, moment, act) = (&event.user, event.moment, &mut event.act);
+        match self.apply_lent(rt, alloc, seat, user, moment, act) {
+            Ok(receipt) => Ok(receipt),
+            Err(AllocError) => Err((event, AllocError)),
+        }
+    }
+
+    /// Does what the user asks at the moment, as [`Shared::apply`] does that event, and may take parts out of the act. Where the book's
+    /// history can't grow nothing was done or counted, and the act is as it was.
+    pub fn apply_lent<R: Wait>(
+        &self,
+        rt: &R,
+        alloc: Global,
+        seat: &mut Seat<L>,
+        user: &Name,
+        moment: i64,
+        act: &mut Act,
+    ) -> Result<Receipt<L>, AllocError>
+        ensures ok { IfOk result (λ r. Receives seat.old (asked_at user.now moment act.old) r seat.new) }
+        ensures hands { IfOk result (λ r. HandsOut act.old (session_in r.held)) }
+        ensures err { OnErr result ((seat.new ≡ seat.old) × (act.new ≡ act.old)) }
+    {
+        let memory = Reservation::of_lent(alloc, user, moment, act)?;
         let mut desk = self.ready(rt, seat);
-        apply_to(alloc, &mut desk.book, seat, event, memory)
+        apply_to(alloc, &mut desk.book, seat, user, moment, act, memory)
     }
 
     /// Installs a finished merge, as [`Shared::apply`] does an event. Where the book's history can't grow the Install is handed back with

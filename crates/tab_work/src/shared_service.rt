@@ -1,8 +1,9 @@
 //! A seat of a shared book that answers the requests of one connection.
 ghost use Rattle.std.specs.Prelude.{◌≡◌, ◌<◌, true, false, [], ◌∷◌, ◌++◌, None, vec_len, vec_capacity};
 ghost use Rattle.tab_history.specs.Answers.{is_open};
-ghost use Rattle.tab_core.specs.Slots.{are_full, ManyFrom};
+ghost use Rattle.tab_core.specs.Slots.{are_full};
 ghost use Rattle.tab_book.specs.HandedOut.{session_in};
+ghost use Rattle.tab_serve.specs.Serves.{asked_at};
 ghost use Rattle.tab_work.specs.Receiving.{spent};
 ghost use Rattle.tab_work.specs.SharedAnswers.{seated, slots_of, told_by, LentSame, SharedAnswers, Tells, Takes, Tries};
 
@@ -13,7 +14,7 @@ use std::mem;
 use std::sync::Wait;
 use tab_book::{Held, Origin, Receipt, Seat};
 use tab_core::{Session, Slots};
-use tab_history::{Act, Event, Refusal, Reply};
+use tab_history::{Act, Refusal, Reply};
 use tab_key::{Bounds, Items, Name, Part};
 use tab_serve::{Moments, Service};
 use tab_wire::Request;
@@ -47,7 +48,7 @@ impl<'a, L: Origin, R: Wait, M: Moments, G: Gate> Service for SharedService<'a, 
 
     ghost answers = { λ old user request reply new. SharedAnswers M.gives old user request reply new };
 
-    fn answer(&mut self, user: Name, request: Request) {
+    fn answer(&mut self, user: &Name, request: &mut Request) {
         self.does(user, request);
     }
 
@@ -61,15 +62,15 @@ impl<'a, L: Origin, R: Wait, M: Moments, G: Gate> Service for SharedService<'a, 
 
 impl<'a, L: Origin, R: Wait, M: Moments, G: Gate> SharedService<'a, L, R, M, G> {
     // Does what is asked. Hello says who asks, and changes nothing.
-    fn does(&mut self, user: Name, request: Request)
-        ensures { SharedAnswers M.gives self.old user request (told_by self.new) self.new }
+    fn does(&mut self, user: &Name, request: &mut Request)
+        ensures { SharedAnswers M.gives self.old user.now request.old (told_by self.new) self.new }
     {
         match request {
             Request::Hello(_) => self.tell(Reply::Done),
             Request::Act(act) => self.act(user, act),
-            Request::Next { slot, count } => self.next(user, slot, count),
-            Request::Many { slot, ranges } => self.many(user, slot, ranges),
-            Request::Close { slot } => self.close(user, slot),
+            Request::Next { slot, count } => self.next(user, *slot, *count),
+            Request::Many { slot, ranges } => self.many(user, *slot, ranges),
+            Request::Close { slot } => self.close(user, *slot),
         }
     }
 
@@ -82,8 +83,8 @@ impl<'a, L: Origin, R: Wait, M: Moments, G: Gate> SharedService<'a, L, R, M, G> 
     }
 
     // The next cells of the session in the slot.
-    fn next(&mut self, user: Name, slot: u32, count: u32)
-        ensures { SharedAnswers M.gives self.old user (Request.Next slot count) (told_by self.new) self.new }
+    fn next(&mut self, user: &Name, slot: u32, count: u32)
+        ensures { SharedAnswers M.gives self.old user.now (Request.Next slot count) (told_by self.new) self.new }
     {
         let _ = user;
         self.gate.before_batch();
@@ -92,17 +93,17 @@ impl<'a, L: Origin, R: Wait, M: Moments, G: Gate> SharedService<'a, L, R, M, G> 
     }
 
     // What the session in the slot shows in these ranges of rows.
-    fn many(&mut self, user: Name, slot: u32, ranges: Items<Bounds>)
-        ensures { SharedAnswers M.gives self.old user (Request.Many slot ranges) (told_by self.new) self.new }
+    fn many(&mut self, user: &Name, slot: u32, ranges: &Items<Bounds>)
+        ensures { SharedAnswers M.gives self.old user.now (Request.Many slot ranges.now) (told_by self.new) self.new }
     {
         let _ = user;
-        let reply = many(self.alloc, self.slots, slot, ranges);
+        let reply = self.slots.many(self.alloc, slot, ranges.as_slice());
         self.tell(reply);
     }
 
     // Closes the session in the slot.
-    fn close(&mut self, user: Name, slot: u32)
-        ensures { SharedAnswers M.gives self.old user (Request.Close slot) (told_by self.new) self.new }
+    fn close(&mut self, user: &Name, slot: u32)
+        ensures { SharedAnswers M.gives self.old user.now (Request.Close slot) (told_by self.new) self.new }
     {
         let _ = user;
         let reply = self.slots.close(slot);
@@ -110,10 +111,10 @@ impl<'a, L: Origin, R: Wait, M: Moments, G: Gate> SharedService<'a, L, R, M, G> 
     }
 
     // An event at the next moment.
-    fn act(&mut self, user: Name, act: Act)
-        ensures { SharedAnswers M.gives self.old user (Request.Act act) (told_by self.new) self.new }
+    fn act(&mut self, user: &Name, act: &mut Act)
+        ensures { SharedAnswers M.gives self.old user.now (Request.Act act.old) (told_by self.new) self.new }
     {
-        if opens(&act) {
+        if opens(act) {
             self.open(user, act)
         } else {
             self.apply(user, act)
@@ -121,70 +122,65 @@ impl<'a, L: Origin, R: Wait, M: Moments, G: Gate> SharedService<'a, L, R, M, G> 
     }
 
     // An Open. Past the limit of sessions it takes no moment, and doesn't happen.
-    fn open(&mut self, user: Name, act: Act)
-        requires { is_open act ≡ true }
-        ensures { SharedAnswers M.gives self.old user (Request.Act act) (told_by self.new) self.new }
+    fn open(&mut self, user: &Name, act: &mut Act)
+        requires { is_open act.old ≡ true }
+        ensures { SharedAnswers M.gives self.old user.now (Request.Act act.old) (told_by self.new) self.new }
     {
         if self.slots.are_full() {
-            self.refuse(act)
+            self.tell(Reply::Refused(Refusal::TooLarge(Part::Sessions)))
         } else {
             self.open_next(user, act)
         }
     }
 
-    // Tells that there are too many sessions.
-    fn refuse(&mut self, _act: Act)
-        ensures { Tells self.old (Reply.Refused (Refusal.TooLarge Part.Sessions)) self.new }
-    {
-        self.tell(Reply::Refused(Refusal::TooLarge(Part::Sessions)));
-    }
-
     // An Open where one more session can be opened, which is kept under the next number. A place for it is found before the event.
-    fn open_next(&mut self, user: Name, act: Act)
-        requires opens { is_open act ≡ true }
+    fn open_next(&mut self, user: &Name, act: &mut Act)
+        requires opens { is_open act.old ≡ true }
         requires room { are_full self.old.slots.now ≡ false }
-        ensures { SharedAnswers M.gives self.old user (Request.Act act) (told_by self.new) self.new }
+        ensures { SharedAnswers M.gives self.old user.now (Request.Act act.old) (told_by self.new) self.new }
     {
-        let event = self.take_moment(user, act);
+        let moment = self.take_moment();
         if self.slots.prepare().is_err() {
-            return self.lack(event);
+            return self.lack();
         }
-        let session = self.receive(event);
+        let session = self.receive(user, moment, act);
         self.slots.keep(session);
     }
 
     // An event that opens no session.
-    fn apply(&mut self, user: Name, act: Act)
-        requires { is_open act ≡ false }
-        ensures { SharedAnswers M.gives self.old user (Request.Act act) (told_by self.new) self.new }
+    fn apply(&mut self, user: &Name, act: &mut Act)
+        requires { is_open act.old ≡ false }
+        ensures { SharedAnswers M.gives self.old user.now (Request.Act act.old) (told_by self.new) self.new }
     {
-        let event = self.take_moment(user, act);
-        let _ = self.receive(event);
+        let moment = self.take_moment();
+        let _ = self.receive(user, moment, act);
     }
 
-    // What the user asks, at the next moment.
-    fn take_moment(&mut self, user: Name, act: Act) -> Event
-        ensures takes { Takes M.gives (seated self.old) user act result (seated self.new) }
+    // The next moment.
+    fn take_moment(&mut self) -> i64
+        ensures takes { Takes M.gives (seated self.old) result (seated self.new) }
         ensures slots { slots_of self.new ≡ slots_of self.old }
         ensures lent { LentSame self.old self.new }
     {
-        let moment = self.moments.next();
-        Event { user, moment, act }
+        self.moments.next()
     }
 
-    // Has the book do the event, tells its reply, and adds its receipt, for which a place is found before. The session that it handed out.
-    fn receive(&mut self, event: Event) -> Option<Session>
-        ensures tries { Tries (seated self.old) event (told_by self.new) result (seated self.new) }
+    // Has the book do what the user asks at the moment, tells its reply, and adds its receipt, for which a place is found before. The session
+    // that it handed out.
+    fn receive(&mut self, user: &Name, moment: i64, act: &mut Act) -> Option<Session>
+        ensures tries { Tries (seated self.old) (asked_at user.now moment act.old) (told_by self.new) result (seated self.new) }
         ensures slots { slots_of self.new ≡ slots_of self.old }
         ensures lent { LentSame self.old self.new }
     {
         if self.receipts.reserve(1).is_err() {
-            self.lack(event);
-            return None;
+            return self.give_up();
         }
-        match self.shared.apply(self.rt, self.alloc, self.seat, event) {
+        match self
+            .shared
+            .apply_lent(self.rt, self.alloc, self.seat, user, moment, act)
+        {
             Ok(receipt) => self.add(receipt),
-            Err(refused) => self.give_up(refused),
+            Err(AllocError) => self.give_up(),
         }
     }
 
@@ -205,17 +201,17 @@ impl<'a, L: Origin, R: Wait, M: Moments, G: Gate> SharedService<'a, L, R, M, G> 
         session
     }
 
-    // The event didn't happen.
-    fn give_up(&mut self, _refused: (Event, AllocError)) -> Option<Session>
+    // Tells that memory lacks for the event, which doesn't happen: it hands out no session.
+    fn give_up(&mut self) -> Option<Session>
         ensures tells { Tells self.old (Reply.Refused Refusal.NoMemory) self.new }
         ensures session { result ≡ None }
     {
-        self.tell(Reply::Refused(Refusal::NoMemory));
+        self.lack();
         None
     }
 
     // Tells that memory lacks for the event, which doesn't happen.
-    fn lack(&mut self, _event: Event)
+    fn lack(&mut self)
         ensures { Tells self.old (Reply.Refused Refusal.NoMemory) self.new }
     {
         self.tell(Reply::Refused(Refusal::NoMemory));
@@ -237,12 +233,4 @@ fn opens(act: &Act) -> bool
     ensures { result ≡ is_open act.now }
 {
     matches!(act, Act::Open(_))
-}
-
-// What the session in the slot shows in these ranges of rows. The slots stay as they were.
-fn many(alloc: Global, slots: &mut Slots, slot: u32, ranges: Items<Bounds>) -> Reply
-    ensures answers { ManyFrom slots.old slot ranges result }
-    ensures same { slots.new ≡ slots.old }
-{
-    slots.many(alloc, slot, ranges.as_slice())
 }
