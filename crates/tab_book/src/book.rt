@@ -146,9 +146,9 @@ impl<L: Origin> Book<L> {
         }
     }
 
-    /// Does what the user asks at the moment, with the memory that was found before for that event, and gives the receipt of its entry.
-    /// Where the history can't grow nothing was done or counted, and the act is as it was. It copies nothing of the event, of which it may
-    /// take parts out of the act, as [`Core::step_lent`] does.
+    /// Does what the user asks at the moment, with the memory that was found before for that event, and gives the receipt of its entry. It
+    /// copies nothing of the event, and may take parts out of the act. Where the history can't grow, for want of memory or with 2^64 - 1
+    /// entries, nothing was done or counted, and the act is as it was.
     pub fn apply_reserved(
         &mut self,
         alloc: Global,
