@@ -10,7 +10,7 @@ use tab_key::{
     Bounds, ByteString, Items, MAX_AUTHORIZATION_LEN, MAX_AUTHORIZATIONS, MAX_COLUMNS, MAX_RANGES,
     Name, Part, is_bad_range,
 };
-use tab_label::AuthSet;
+use tab_label::{AuthSet, KnownLabels};
 use tab_mutation::{Mutation, ShapeError};
 use tab_policy::{Permission, SystemPermission, is_root};
 use tab_rules::{Violation, check};
@@ -67,11 +67,13 @@ fn violated(failing: Items<Violation>) -> Option<Refusal>
     }
 }
 
-/// Why a mutation of this table by a caller with these authorizations is refused, or that memory lacked.
+/// Why a mutation of this table by a caller with these authorizations is refused, or that memory lacked. Short labels that are found to be
+/// labels are known afterwards.
 pub fn mutation_refusal(
     alloc: Global,
     table: &Table,
     auths: &AuthSet,
+    known: &mut KnownLabels,
     now: i64,
     mutation: &Mutation,
 ) -> Option<Refusal>
@@ -81,7 +83,7 @@ pub fn mutation_refusal(
     if let Some(error) = mutation.shape() {
         return Some(shape_refusal(error));
     }
-    if let Some(refusal) = malformed(mutation, auths) {
+    if let Some(refusal) = malformed(mutation, auths, known) {
         return Some(refusal);
     }
     if let Some(refusal) = stamped(table, mutation) {

@@ -8,45 +8,19 @@ use tab_history::Refusal;
 use tab_label::{AuthSet, KnownLabels, judge};
 use tab_mutation::{Mutation, UpdateRef};
 
-// The labels of so many updates are judged one by one: to remember them would cost more.
-const FEW: usize = 8;
-
-/// The first update whose label is malformed. It takes no memory, and judges a short label once as a rule.
-pub(crate) fn malformed(mutation: &Mutation, auths: &AuthSet) -> Option<Refusal>
-    requires { shape_error mutation.now ≡ None }
-    ensures { result ≡ malformed mutation.now }
-{
-    if mutation.len() <= FEW {
-        malformed_of_few(mutation, auths)
-    } else {
-        malformed_of_many(mutation, auths)
-    }
-}
-
+/// The first update whose label is malformed. It takes no memory, and judges a short label that is known no more.
 #[tactic(auto, unfolding(tab_history::specs::Checks::malformed), using(tab_mutation::proofs::Shapes::shaped_few))]
-fn malformed_of_few(mutation: &Mutation, auths: &AuthSet) -> Option<Refusal>
+pub(crate) fn malformed(
+    mutation: &Mutation,
+    auths: &AuthSet,
+    known: &mut KnownLabels,
+) -> Option<Refusal>
     requires { shape_error mutation.now ≡ None }
     ensures { result ≡ malformed mutation.now }
 {
-    for index in 0..mutation.len() {
-        if let Some(refusal) = malformed_at(&mutation.update(index), index as u32, auths) {
-            return Some(refusal);
-        }
-    }
-    None
-}
-
-// It is a call of its own, so that a mutation of a few updates needn't make room for what is remembered.
-#[inline(never)]
-#[tactic(auto, unfolding(tab_history::specs::Checks::malformed), using(tab_mutation::proofs::Shapes::shaped_few))]
-fn malformed_of_many(mutation: &Mutation, auths: &AuthSet) -> Option<Refusal>
-    requires { shape_error mutation.now ≡ None }
-    ensures { result ≡ malformed mutation.now }
-{
-    let mut known = KnownLabels::none();
     for index in 0..mutation.len() {
         let update = mutation.update(index);
-        if let Some(refusal) = unknown_malformed_at(&update, index as u32, auths, &mut known) {
+        if let Some(refusal) = unknown_malformed_at(&update, index as u32, auths, known) {
             return Some(refusal);
         }
     }

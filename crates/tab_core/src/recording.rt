@@ -15,6 +15,7 @@ use crate::store::Store;
 use std::alloc::{AllocError, Global};
 use tab_history::{Act, Event, Refusal, Reply};
 use tab_key::Name;
+use tab_label::KnownLabels;
 use tab_store::FinishedJob;
 
 impl Core {
@@ -55,7 +56,7 @@ impl Core {
         }
         keep_markers(act);
         let now = later(self.store.clock, moment);
-        let answered = self.store.answer_told(alloc, now, user, act);
+        let answered = self.store.answer_told(alloc, now, user, act, &mut self.known);
         move_clock(&mut self.store.clock, now, &answered.0);
         answered
     }
@@ -84,12 +85,13 @@ impl Store {
         now: i64,
         user: &Name,
         act: &mut Act,
+        known: &mut KnownLabels,
     ) -> (Answer, EventReply)
         requires { IsCore (held self.old) }
         ensures acts { Acts (event_answer (base_of (held self.old)) [] now user.now act.old) (held self.old) now None user.now act.old result.0 (held self.new) }
         ensures told { told_in result.1 ≡ told_of result.0 }
     {
-        copied(self.answer(alloc, now, user, act))
+        copied(self.answer(alloc, now, user, act, known))
     }
 }
 

@@ -18,6 +18,7 @@ use std::alloc::{AllocError, Global};
 use std::marker::Model;
 use tab_history::{Act, Event, Refusal, Reply};
 use tab_key::{ByteString, Name};
+use tab_label::KnownLabels;
 use tab_policy::Policy;
 use tab_store::{Due, FinishedJob, Tables};
 
@@ -26,6 +27,8 @@ use tab_store::{Due, FinishedJob, Tables};
 #[derive(Drop)]
 pub struct Core {
     pub(crate) store: Store,
+    // short labels that were written
+    pub(crate) known: KnownLabels,
 }
 
 impl Model for Core {
@@ -55,6 +58,7 @@ impl Core {
                 tablet: 0,
                 job: 0,
             },
+            known: KnownLabels::none(),
         })
     }
 
@@ -72,6 +76,7 @@ impl Core {
                 tablet,
                 job: 0,
             },
+            known: KnownLabels::none(),
         }
     }
 
@@ -155,7 +160,7 @@ impl Core {
         }
         keep_markers(act);
         let now = later(self.store.clock, moment);
-        let reply = self.store.answer(alloc, now, user, act);
+        let reply = self.store.answer(alloc, now, user, act, &mut self.known);
         move_clock(&mut self.store.clock, now, &reply);
         reply
     }

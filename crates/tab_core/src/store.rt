@@ -14,7 +14,7 @@ use std::alloc::Global;
 use std::mem;
 use tab_history::{Act, Reply};
 use tab_key::{ByteString, Name};
-use tab_label::AuthSet;
+use tab_label::{AuthSet, KnownLabels};
 use tab_policy::Policy;
 use tab_rules::ConstraintSet;
 use tab_store::Tables;
@@ -40,8 +40,15 @@ pub struct Store {
 impl Store {
     /// Answers the event, and does what the answer says; the clock is set afterwards. `now` is the clock with the event's moment in it.
     /// What is done with an act's columns, authorizations, constraints or row may take them out of it. An Install came without its merge here,
-    /// and names no slot.
-    pub fn answer(&mut self, alloc: Global, now: i64, user: &Name, act: &mut Act) -> Answer
+    /// and names no slot. `known` are labels that were judged before.
+    pub fn answer(
+        &mut self,
+        alloc: Global,
+        now: i64,
+        user: &Name,
+        act: &mut Act,
+        known: &mut KnownLabels,
+    ) -> Answer
         requires { IsCore (held self.old) }
         ensures { Acts (event_answer (base_of (held self.old)) [] now user.now act.old) (held self.old) now None user.now act.old result (held self.new) }
     {
@@ -56,6 +63,7 @@ impl Store {
                 &mut self.tables,
                 &mut self.next,
                 caller.authorizations,
+                known,
                 now,
                 table,
                 mutation,

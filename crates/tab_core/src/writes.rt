@@ -11,7 +11,7 @@ use crate::reply::Answer;
 use std::alloc::{AllocError, Global};
 use tab_history::{Act, Refusal, Reply};
 use tab_key::{Name, Part};
-use tab_label::AuthSet;
+use tab_label::{AuthSet, KnownLabels};
 use tab_mutation::Mutation;
 use tab_store::Tables;
 
@@ -21,6 +21,7 @@ pub fn write(
     tables: &mut Tables,
     next: &mut u64,
     authorizations: &AuthSet,
+    known: &mut KnownLabels,
     now: i64,
     table: &Name,
     mutation: &Mutation,
@@ -29,7 +30,16 @@ pub fn write(
     requires unused { (u : Record) → Contains (records_of_all (tablets_of (table_at tables.old table.now))) u → u.seq < next.old }
     ensures { ActsOnTables authorizations.now now (Act.Write table.now mutation.now) tables.old next.old result tables.new next.new }
 {
-    let refusal = write_refusal(alloc, tables, table, authorizations, *next, now, mutation);
+    let refusal = write_refusal(
+        alloc,
+        tables,
+        table,
+        authorizations,
+        known,
+        *next,
+        now,
+        mutation,
+    );
     if let Some(refusal) = refusal {
         return Reply::Refused(refusal);
     }
@@ -49,6 +59,7 @@ fn write_refusal(
     tables: &Tables,
     name: &Name,
     authorizations: &AuthSet,
+    known: &mut KnownLabels,
     next: u64,
     now: i64,
     mutation: &Mutation,
@@ -61,7 +72,7 @@ fn write_refusal(
     let Some(table) = tables.get(name) else {
         return Some(Refusal::NoTable(*name));
     };
-    if let Some(refusal) = mutation_refusal(alloc, table, authorizations, now, mutation) {
+    if let Some(refusal) = mutation_refusal(alloc, table, authorizations, known, now, mutation) {
         return Some(refusal);
     }
     if next == u64::MAX {
