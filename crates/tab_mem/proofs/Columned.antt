@@ -1,5 +1,5 @@
 -- The order of records of one row, and its numbers.
-use Rattle.std.proofs.Common.{◌≡◌, ◌≢◌, ℕ, ◌+◌, ◌-◌, ◌<◌, ◌≤◌, List, [], ◌∷◌, ◌++◌, Bool, refl, sym, ◌∙◌, ap, subst, length, arith, append_assoc, length-append}
+use Rattle.std.proofs.Common.{◌≡◌, ◌≢◌, ℕ, ◌+◌, ◌-◌, ◌<◌, ◌≤◌, List, [], ◌∷◌, ◌++◌, Bool, refl, sym, ◌∙◌, ap, subst, length, take, drop, arith, append_assoc, length-append}
 use Rattle.std.specs.Prelude.{pos}
 use Rattle.std.specs.Cmp.{IsStrictWeakOrder, tied_itself}
 use Rattle.std.specs.Cmp.Lexicographic.{nat_list_cmp_total}
@@ -8,6 +8,7 @@ use Rattle.std.specs.List.Sorted.{IsPermutation, IsSortedBy}
 use Rattle.std.specs.Ordering.{nat_cmp, int_cmp, is_lt, ordering_then}
 use Rattle.std.specs.declared.cmp.Ordering.{Ordering}
 use Rattle.std.specs.declared.cmp.Ordering.TheVariants.{Less, Equal, Greater}
+use Rattle.std.proofs.lemmas.List.{drop-take, take-take}
 use Rattle.std.proofs.lemmas.List.Elements.{All-from_recursion}
 use Rattle.std.proofs.lemmas.List.Sorted.{ranks_by, All-permutation}
 use Rattle.tab_key.specs.Bytes.{bytes_cmp}
@@ -39,6 +40,21 @@ pub names_between : (c : List ℕ) (start end : ℕ) (row family qualifier label
 names_between c start end row family qualifier label e s t =
     part_of c row (family ++ qualifier) label start end (e ∙ ap (λ l. l ++ label) (append_assoc row family qualifier)) s
     (omega (arith, s, t, column_long c row family qualifier label e, length-append family qualifier))
+
+slice_of_front : (n a b : ℕ) (xs : List ℕ) → a ≤ b → b ≤ n → slice_range (take n xs) a b ≡ slice_range xs a b
+slice_of_front n a b xs order inside =
+    let sum : n ≡ a + (n - a) = omega (arith, order, inside) in
+    ap (λ k. take (b - a) (drop a (take k xs))) sum
+    ∙ ap (take (b - a)) (drop-take a (n - a) xs)
+    ∙ take-take (b - a) (n - a) (drop a xs) (omega (arith, inside))
+
+-- where more lies behind them
+pub names_onward : (onward c : List ℕ) (start end : ℕ) (row family qualifier label : List ℕ) → take (length c) onward ≡ c → c ≡ row ++ family ++ qualifier ++ label → start ≡ length row → end ≡ length c - length label → slice_range onward start end ≡ family ++ qualifier
+names_onward onward c start end row family qualifier label more e s t =
+    let fit = names_fit c row family qualifier label e in
+    sym (slice_of_front (length c) start end onward (omega (arith, s, t, fit)) (omega (arith, t)))
+    ∙ ap (λ (l : List ℕ). slice_range l start end) more
+    ∙ names_between c start end row family qualifier label e s t
 
 -- ---- their prefixes decide, where the families are of one length and the prefixes differ
 settled : (o x l t k n : Ordering) → o ≢ Equal → o ≡ x → o ≡ ordering_then (ordering_then (ordering_then (ordering_then x l) t) k) n

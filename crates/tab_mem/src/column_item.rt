@@ -9,10 +9,11 @@ ghost use Rattle.tab_mem.specs.Lists.{IsFilled};
 ghost use Rattle.tab_mem.specs.Parting.{records_in};
 
 use crate::item::Item;
+use crate::leading::prefix_between;
 use std::alloc::AllocError;
 use std::cmp::Ordering;
 use std::marker::Model;
-use tab_key::{Key, RecordRef, end_of, row_prefix};
+use tab_key::{Key, RecordRef, end_of};
 
 /// A record, lent: its own bytes, with the length of its family, and the first 16 bytes of family and qualifier as a number. Where the
 /// families are of one length, mostly that number decides which record of a row stands before, and the record's own bytes aren't read.
@@ -93,14 +94,15 @@ impl<'a> ColumnItem<'a> {
 }
 
 // The first 16 bytes of family and qualifier in one piece, as a number.
+#[inline]
 fn names_prefix(lent: &RecordRef<'_>) -> u128
     ensures { IsRowPrefix result (lent.now.key.family ++ lent.now.key.qualifier) }
 {
-    let column = lent.column();
+    let column = lent.column_piece();
     let start = lent.row().len();
     let size = lent.label().len();
     let end = column.len() - size;
-    row_prefix(&column[start..end])
+    prefix_between(column.onward(), start, end)
 }
 
 // The order of records but for their rows.

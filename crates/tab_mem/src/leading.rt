@@ -1,6 +1,7 @@
-//! The beginning of a record's row as a number, read where it lies.
+//! The beginning of a record's row, or of its family and qualifier, as a number, read where it lies.
 ghost use Rattle.std.specs.Prelude.{◌≡◌, ◌≤◌, ◌/◌, ◌*◌, ◌-◌, ◌^◌, length, take};
 ghost use Rattle.std.specs.Int.{w128, from_be_bytes};
+ghost use Rattle.std.specs.List.{slice_range};
 ghost use Rattle.tab_key.specs.RowPrefix.{IsRowPrefix};
 
 use tab_key::{Piece, RecordRef, row_prefix};
@@ -36,6 +37,20 @@ fn copied_prefix(row: &Piece<'_>) -> u128
     ensures { IsRowPrefix result row.now }
 {
     row_prefix(row.as_slice())
+}
+
+/// The number that the first 16 of the bytes between two places spell, with zeros behind fewer. It is read in one load, unless there is
+/// none or the bytes end close behind them.
+#[inline]
+pub(crate) fn prefix_between(bytes: &[u8], start: usize, end: usize) -> u128
+    requires order { start ≤ end }
+    requires within { end ≤ length bytes.now }
+    ensures { IsRowPrefix result (slice_range bytes.now start end) }
+{
+    if start == end || bytes.len() - start < MOST_BYTES {
+        return row_prefix(&bytes[start..end]);
+    }
+    first_bytes(&bytes[start..], end - start)
 }
 
 // The number of the row that the first `count` bytes are.
