@@ -2,7 +2,7 @@
 # Lets each request for memory of a script fail in turn, and compares what is printed.
 # Where one fails, the program prints what it always prints, or one line is refused for memory and all others are answered
 # as if that line were not there (a long scan stands up to the batch that is refused), or it ends with status 1 before the
-# first line. Where a freeze is refused in the middle of its parts, nothing of what was written is lost. Lines that drop, revoke or
+# first line. Where a freeze is refused in the middle of what it takes one by one, nothing of what was written is lost. Lines that drop, revoke or
 # count are never refused. A save that is refused leaves no part of an image behind.
 # Usage: tests/allocations.sh   (from anywhere; wants a C compiler; builds the program if it isn't built)
 set -eu
@@ -137,19 +137,21 @@ S
     echo 'scan t \0'
 } >"$work/long"
 
-# So many records in over a mebibyte that a freeze sorts them in parts: a row each, and ten a row. The first scan freezes, the second
-# one shows all.
+# So many records in over a mebibyte that the last write spreads them over several bodies, which the first scan freezes one by one; the
+# second one shows all. A row each, ten a row, and rows that begin with the same bytes, so that all stay in one body, which is frozen in parts.
 value=$(head -c 300 /dev/zero | tr '\0' v)
-{
+narrow() { # FRONT OF THE ROWS
     echo 'createtable t'
-    LC_ALL=C awk -v value="$value" 'BEGIN { for (i = 0; i < 4200; i++) printf "insert t r%04d f q \\e %s 5\n", i * 2659 % 4200, value }'
+    LC_ALL=C awk -v value="$value" -v front="$1" 'BEGIN { for (i = 0; i < 4096; i++) printf "insert t %s%04d f q \\e %s 5\n", front, i * 2659 % 4096, value }'
     printf '%s\n' 'scan t \0 [~ [~~' 'scan t \0'
-} >"$work/narrow"
+}
+narrow r >"$work/narrow"
+narrow rows-that-begin-alike- >"$work/alike"
 {
     echo 'createtable t'
     LC_ALL=C awk -v value="$value" 'BEGIN {
-        for (i = 0; i < 430; i++) {
-            printf "mutate t r%04d", i * 269 % 430
+        for (i = 0; i < 410; i++) {
+            printf "mutate t r%04d", i * 269 % 410
             for (k = 0; k < 10; k++) printf "%s put f q%d \\e %s 5", k ? " ;" : "", k, value
             print ""
         }
@@ -184,22 +186,25 @@ expect() { # SCRIPT
     done
 }
 
-# The same for a script that ends with a scan that freezes and shows nothing and with one that shows all: the first one is refused and the
-# second one shows all, or the second one stands up to the batch that is refused.
+# The same for a script that ends with a write by which records become many, a scan that freezes them and shows nothing, and one that shows
+# all: the write is refused, and the others show the rest; or the first scan is refused and the second one shows all; or the second one
+# stands up to the batch that is refused.
 expect_scans() { # SCRIPT
     local writes cells sum at
     run "$work" <"$work/$1" >"$work/always"
     writes=$(($(wc -l <"$work/$1") - 2))
     cells=$(($(wc -l <"$work/always") - writes - 2))
-    sum=$(sed "$((writes + 1))s/.*/refused 17 NoMemory/" "$work/always" | cksum)
     expected[$1.$(cksum <"$work/always")]=always
+    sum=$(sed "${writes}d" "$work/$1" | run "$work" | sed "${writes}s/^/refused 17 NoMemory\n/" | cksum)
+    expected[$1.$sum]=refused
+    sum=$(sed "$((writes + 1))s/.*/refused 17 NoMemory/" "$work/always" | cksum)
     expected[$1.$sum]=refused
     for at in $(seq 0 1000 "$cells"); do
         sum=$({ head -n $((writes + 1 + at)) "$work/always" && echo 'refused 17 NoMemory'; } | cksum)
         expected[$1.$sum]=refused
     done
-    # what the writes ask for is tried in the scripts above
-    head -n -2 "$work/$1" >"$work/writes"
+    # what the writes before the last one ask for is tried in the scripts above
+    head -n -3 "$work/$1" >"$work/writes"
     behind[$1]=$(requests "$work/writes")
 }
 
@@ -265,11 +270,13 @@ sum=$({
 } | cksum)
 expected[long.$sum]=refused
 expect_scans narrow
+expect_scans alike
 expect_scans wide
 try_all script
 try_all images
 try_all long
 try_all narrow
+try_all alike
 try_all wide
 cat "$work"/said.* >"$work/said"
 grep '^failed' "$work/said" | head -n 20 || true
