@@ -30,8 +30,8 @@ use Rattle.tab_core.proofs.SlotLemmas.{slots_opened, slots_taken, slots_closed, 
 use Rattle.tab_core.proofs.Runs.{open_takes}
 use Rattle.tab_wire.specs.declared.request.Request.{Request}
 use Rattle.tab_wire.specs.declared.request.Request.TheVariants as asks
-use Rattle.tab_wire.specs.declared.asked.Asked.{Asked}
-use Rattle.tab_wire.specs.declared.asked.Asked.TheVariants as asked
+use Rattle.tab_wire.specs.Heard.{Heard}
+use Rattle.tab_wire.specs.Heard as heard
 use Rattle.tab_wire.specs.Asking.{IsBy}
 use Rattle.tab_wire.specs.Replies as sent
 use Rattle.tab_wire.specs.Replies.{Sent, sent_of}
@@ -106,7 +106,7 @@ exactly old new e r names (inr (slot, by, told, same)) = let never : ⊥ = subst
 
 -- ---- one exchange
 -- What is asked comes to this exchange, the core and the sessions stand where the connection does, and an event is answered right, whatever history the core refined.
-pub record Comes {M : Type 0} (gives : M → ℤ → M → Type 0) (old : Served M) (talk : Talk) (what : Asked) (told : Sent) (new : Served M) : Type 0 where
+pub record Comes {M : Type 0} (gives : M → ℤ → M → Type 0) (old : Served M) (talk : Talk) (what : Heard) (told : Sent) (new : Served M) : Type 0 where
   pub x : Exchange
   pub after : List Move
   pub asks : x.what ≡ what
@@ -119,7 +119,7 @@ pub record Comes {M : Type 0} (gives : M → ℤ → M → Type 0) (old : Served
 
 module _ {M : Type 0} (gives : M → ℤ → M → Type 0) (old new : Served M) (talk : Talk) (are : SlotsAre talk.moves old.slots) where
   -- what asks for no step
-  pub quiet : (what : Asked) (told : Sent) → new ≡ old → Answers talk.moves what (record { what = what; moments = []; entries = []; all = []; told = told }) talk.moves → Comes gives old talk what told new
+  pub quiet : (what : Heard) (told : Sent) → new ≡ old → Answers talk.moves what (record { what = what; moments = []; entries = []; all = []; told = told }) talk.moves → Comes gives old talk what told new
   quiet what told same does = record {
     x = record { what = what; moments = []; entries = []; all = []; told = told };
     after = talk.moves;
@@ -137,7 +137,7 @@ module _ {M : Type 0} (gives : M → ℤ → M → Type 0) (old new : Served M) 
   numbered_alike told n r is = ap (λ (k : ℕ). sent_of k n r) are.count ∙ sym is
 
   -- a step on a session
-  own : (what : Asked) (s : Step) (n : ℕ) (r : Told) (told : Sent) → told ≡ sent_of (length old.slots) n r → IsNoEvent s r → new.core ≡ old.core → new.moments ≡ old.moments
+  own : (what : Heard) (s : Step) (n : ℕ) (r : Told) (told : Sent) → told ≡ sent_of (length old.slots) n r → IsNoEvent s r → new.core ≡ old.core → new.moments ≡ old.moments
       → SlotsAre (moves_told s r [] ++ talk.moves) new.slots
       → ((x : Exchange) → x.moments ≡ [] → x.entries ≡ entry s r ∷ [] → x.told ≡ sent_of (opened talk.moves) n r → Answers talk.moves what x (moves_told s r [] ++ talk.moves)) → Comes gives old talk what told new
   own what s n r told is no_event core moments slots does =
@@ -154,18 +154,18 @@ module _ {M : Type 0} (gives : M → ℤ → M → Type 0) (old new : Served M) 
         right = λ w h refines knows moment e r' ms es. let none : [] ≡ moment ∷ [] = ms in absurd cc;
       }
 
-  next_comes : (user : List ℕ) (slot n : ℕ) (r : Told) (told : Sent) → NextFrom old.slots slot n r new.slots → KeepsCore old new → told ≡ sent_of (length old.slots) n r → Comes gives old talk (asked.Request user (asks.Next slot n)) told new
+  next_comes : (user : List ℕ) (slot n : ℕ) (r : Told) (told : Sent) → NextFrom old.slots slot n r new.slots → KeepsCore old new → told ≡ sent_of (length old.slots) n r → Comes gives old talk (heard.Request user (asks.Next slot n)) told new
   next_comes user slot n r told from keeps is =
-      own (asked.Request user (asks.Next slot n)) (step.Next user slot n) n r told is tt keeps.core keeps.moments (next_slots talk.moves user slot n r old.slots new.slots from are)
+      own (heard.Request user (asks.Next slot n)) (step.Next user slot n) n r told is tt keeps.core keeps.moments (next_slots talk.moves user slot n r old.slots new.slots from are)
       (λ x moments entries told. (r, fits from.answers, record { moments = moments; entries = entries; told = told }, refl))
     where
       fits : (r ≡ next_answer (slot_at old.slots slot) slot n) ⊎ (r ≡ Refused NoMemory) → (r ≡ next_answer (session_in talk.moves slot) slot n) ⊎ LacksMemory (step.Next user slot n) r
       fits (inl is) = inl (is ∙ ap (λ (s : Option SessionState). next_answer s slot n) (sym (are.sessions slot)))
       fits (inr is) = inr (refl, is)
 
-  many_comes : (user : List ℕ) (slot : ℕ) (ranges : List Bounds) (r : Told) (told : Sent) → ManyFrom old.slots slot ranges r → new ≡ old → told ≡ sent_of (length old.slots) 0 r → Comes gives old talk (asked.Request user (asks.Many slot ranges)) told new
+  many_comes : (user : List ℕ) (slot : ℕ) (ranges : List Bounds) (r : Told) (told : Sent) → ManyFrom old.slots slot ranges r → new ≡ old → told ≡ sent_of (length old.slots) 0 r → Comes gives old talk (heard.Request user (asks.Many slot ranges)) told new
   many_comes user slot ranges r told from same is =
-      own (asked.Request user (asks.Many slot ranges)) (step.Many user slot ranges) 0 r told is tt (ap (λ (s : Served M). s.core) same) (ap (λ (s : Served M). s.moments) same)
+      own (heard.Request user (asks.Many slot ranges)) (step.Many user slot ranges) 0 r told is tt (ap (λ (s : Served M). s.core) same) (ap (λ (s : Served M). s.moments) same)
       (subst (λ (s : Served M). SlotsAre (moves_told (step.Many user slot ranges) r [] ++ talk.moves) s.slots) (sym same) (many_slots talk.moves user slot ranges r old.slots are))
       (λ x moments entries told. (r, fits from, record { moments = moments; entries = entries; told = told }, refl))
     where
@@ -173,18 +173,18 @@ module _ {M : Type 0} (gives : M → ℤ → M → Type 0) (old new : Served M) 
       fits (inl is) = inl (is ∙ ap (λ (s : Option SessionState). many_answer s slot ranges) (sym (are.sessions slot)))
       fits (inr is) = inr (refl, is)
 
-  close_comes : (user : List ℕ) (slot : ℕ) (r : Told) (told : Sent) → CloseFrom old.slots slot r new.slots → KeepsCore old new → told ≡ sent_of (length old.slots) 0 r → Comes gives old talk (asked.Request user (asks.Close slot)) told new
+  close_comes : (user : List ℕ) (slot : ℕ) (r : Told) (told : Sent) → CloseFrom old.slots slot r new.slots → KeepsCore old new → told ≡ sent_of (length old.slots) 0 r → Comes gives old talk (heard.Request user (asks.Close slot)) told new
   close_comes user slot r told from keeps is =
-      own (asked.Request user (asks.Close slot)) (step.Close user slot) 0 r told is tt keeps.core keeps.moments (close_slots talk.moves user slot r old.slots new.slots from are)
+      own (heard.Request user (asks.Close slot)) (step.Close user slot) 0 r told is tt keeps.core keeps.moments (close_slots talk.moves user slot r old.slots new.slots from are)
       (λ x moments entries told. (r, inl (from.answers ∙ ap (λ (s : Option SessionState). close_answer s slot) (sym (are.sessions slot))), record { moments = moments; entries = entries; told = told }, refl))
 
   -- ---- acts
   module _ (user : List ℕ) (by : talk.user ≡ Some user) (act : Act) (names : NamesNoSlot act) (told : Sent) where
     -- an Open past the limit of sessions
-    too_many : (r : Told) → IsTooMany old act r new → told ≡ sent_of (length old.slots) 0 r → Comes gives old talk (asked.Request user (asks.Act act)) told new
+    too_many : (r : Told) → IsTooMany old act r new → told ≡ sent_of (length old.slots) 0 r → Comes gives old talk (heard.Request user (asks.Act act)) told new
     too_many r many is =
         let full : is_full talk.moves ≡ true = full_alike talk.moves old.slots are ∙ many.full in
-        let x : Exchange = record { what = asked.Request user (asks.Act act); moments = []; entries = entry (step.Event (asked_at user (pos 0) act)) (Refused (TooLarge Sessions)) ∷ []; all = []; told = sent.Refused (TooLarge Sessions) } in
+        let x : Exchange = record { what = heard.Request user (asks.Act act); moments = []; entries = entry (step.Event (asked_at user (pos 0) act)) (Refused (TooLarge Sessions)) ∷ []; all = []; told = sent.Refused (TooLarge Sessions) } in
         record {
           x = x;
           after = talk.moves;
@@ -201,11 +201,11 @@ module _ {M : Type 0} (gives : M → ℤ → M → Type 0) (old new : Served M) 
     event_comes : (moment : ℤ) (r : Told) → (is_open act && is_full talk.moves) ≡ false → gives old.moments moment new.moments → ServedGoes old.core (entry (step.Event (asked_at user moment act)) r) new.core
         → SlotsAre (moves_told (step.Event (asked_at user moment act)) r (session_list (base_of old.core) [] act) ++ talk.moves) new.slots
         → ((w : World) (h : List Entry) → Refines (world_of (base_of old.core)) (world_after w h) → moves_of w user h ≡ talk.moves → IsAnswer w h h (step.Event (asked_at user moment act)) r ⊎ LacksMemory (step.Event (asked_at user moment act)) r)
-        → told ≡ sent_of (length old.slots) 0 r → Comes gives old talk (asked.Request user (asks.Act act)) told new
+        → told ≡ sent_of (length old.slots) 0 r → Comes gives old talk (heard.Request user (asks.Act act)) told new
     event_comes moment r room gave exact slots fits is =
         let e : Event = asked_at user moment act in
         let all : List Cell = session_list (base_of old.core) [] act in
-        let x : Exchange = record { what = asked.Request user (asks.Act act); moments = moment ∷ []; entries = entry (step.Event e) r ∷ []; all = all; told = sent_of (opened talk.moves) 0 r } in
+        let x : Exchange = record { what = heard.Request user (asks.Act act); moments = moment ∷ []; entries = entry (step.Event e) r ∷ []; all = all; told = sent_of (opened talk.moves) 0 r } in
         record {
           x = x;
           after = moves_told (step.Event e) r all ++ talk.moves;
@@ -219,7 +219,7 @@ module _ {M : Type 0} (gives : M → ℤ → M → Type 0) (old new : Served M) 
         }
 
     -- an Open for which there is room
-    opens_next : (r : Told) → OpensNext gives old user act r new → told ≡ sent_of (length old.slots) 0 r → Comes gives old talk (asked.Request user (asks.Act act)) told new
+    opens_next : (r : Told) → OpensNext gives old user act r new → told ≡ sent_of (length old.slots) 0 r → Comes gives old talk (heard.Request user (asks.Act act)) told new
     opens_next r next is = go next.does
       where
         free : is_full talk.moves ≡ false
@@ -228,7 +228,7 @@ module _ {M : Type 0} (gives : M → ℤ → M → Type 0) (old new : Served M) 
         room : (is_open act && is_full talk.moves) ≡ false
         room = λ i. next.opens i && free i
 
-        go : OpensIn old.core old.slots (asked_at user next.moment act) r new.core new.slots → Comes gives old talk (asked.Request user (asks.Act act)) told new
+        go : OpensIn old.core old.slots (asked_at user next.moment act) r new.core new.slots → Comes gives old talk (heard.Request user (asks.Act act)) told new
         go (inl full) = absurd (true≢false (sym full.0 ∙ next.room))
         go (inr (inl lacks)) =
             let e : Event = asked_at user next.moment act in
@@ -241,7 +241,7 @@ module _ {M : Type 0} (gives : M → ℤ → M → Type 0) (old new : Served M) 
             (λ w h refines knows. steps.answers w h refines h (λ opens. ap is_full knows ∙ free, names)) (is ∙ ap (sent_of (length old.slots) 0) told_is)
 
     -- any other act
-    applies : (r : Told) → Applies gives old user act r new → told ≡ sent_of (length old.slots) 0 r → Comes gives old talk (asked.Request user (asks.Act act)) told new
+    applies : (r : Told) → Applies gives old user act r new → told ≡ sent_of (length old.slots) 0 r → Comes gives old talk (heard.Request user (asks.Act act)) told new
     applies r does is =
         let e : Event = asked_at user does.moment act in
         event_comes does.moment (told_of does.answer) (ap (λ (b : Bool). b && is_full talk.moves) does.shut) does.gave (inl (job_of does.answer, exactly old.core new.core e does.answer names does.exact))
@@ -249,16 +249,16 @@ module _ {M : Type 0} (gives : M → ℤ → M → Type 0) (old new : Served M) 
         (shut_slots talk.moves e (told_of does.answer) (session_list (base_of old.core) [] act) old.slots does.shut are))
         (λ w h refines knows. does.steps.answers w h refines h (λ opens. absurd (true≢false (sym opens ∙ does.shut)), names)) (is ∙ ap (sent_of (length old.slots) 0) does.told)
 
-    act_comes : (r : Told) → IsTooMany old act r new ⊎ OpensNext gives old user act r new ⊎ Applies gives old user act r new → told ≡ sent_of (length old.slots) 0 r → Comes gives old talk (asked.Request user (asks.Act act)) told new
+    act_comes : (r : Told) → IsTooMany old act r new ⊎ OpensNext gives old user act r new ⊎ Applies gives old user act r new → told ≡ sent_of (length old.slots) 0 r → Comes gives old talk (heard.Request user (asks.Act act)) told new
     act_comes r (inl many) is = too_many r many is
     act_comes r (inr (inl next)) is = opens_next r next is
     act_comes r (inr (inr does)) is = applies r does is
 
   -- ---- any request
   pub request_comes : (user : List ℕ) (request : Request) (r : Told) (told : Sent) → AsksNoSlot request → IsBy talk.user user request → Serves gives old user request r new → told ≡ sent_of (length old.slots) (cells_asked request) r
-      → Comes gives old talk (asked.Request user request) told new
+      → Comes gives old talk (heard.Request user request) told new
   request_comes user (asks.Hello name) r told names by says is =
-      quiet (asked.Request user (asks.Hello name)) told says.1 (record { moments = refl; entries = refl; told = is ∙ ap (sent_of (length old.slots) 0) says.0 }, refl)
+      quiet (heard.Request user (asks.Hello name)) told says.1 (record { moments = refl; entries = refl; told = is ∙ ap (sent_of (length old.slots) 0) says.0 }, refl)
   request_comes user (asks.Act act) r told names by says is = act_comes user by act names told r says is
   request_comes user (asks.Next slot n) r told names by says is = next_comes user slot n r told says.0 says.1 is
   request_comes user (asks.Many slot ranges) r told names by says is = many_comes user slot ranges r told says.0 says.1 is

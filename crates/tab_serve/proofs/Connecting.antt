@@ -17,8 +17,8 @@ use Rattle.tab_core.proofs.ChainLaws.{served_refines}
 use Rattle.tab_core.proofs.Runs.{after_none}
 use Rattle.tab_core.proofs.Joining.{chain_join}
 use Rattle.tab_wire.specs.declared.request.Request.{Request}
-use Rattle.tab_wire.specs.declared.asked.Asked.{Asked}
-use Rattle.tab_wire.specs.declared.asked.Asked.TheVariants as asked
+use Rattle.tab_wire.specs.Heard.{Heard}
+use Rattle.tab_wire.specs.Heard as heard
 use Rattle.tab_wire.specs.Asking.{IsRead, Hears}
 use Rattle.tab_wire.specs.Replies.{Sent, sent_of, sent_bytes}
 use Rattle.tab_wire.specs.Stream.{Piece, pieces_of}
@@ -54,16 +54,16 @@ knows_none w user by = refl
 module _ {S M : Type 0} (s : Ghosts S) (gives : M → ℤ → M → Type 0) (view : S → Served M) (Lent : S → S → Type 0) (itself : (x : S) → Lent x x) (along : (x y z : S) → Lent x y → Lent y z → Lent x z)
     (says : (x : S) (user : List ℕ) (request : Request) (r : Told) (y : S) → s.answers x user request r y → Serves gives (view x) user request r (view y) × Lent x y) (counts : (x : S) → s.opened x ≡ length (view x).slots) where
   -- what one piece comes to
-  told_comes : (old new : S) (talk : Talk) (greeted : Bool) (piece : Piece) (what : Asked) (told : Sent) (user : Option (List ℕ)) → IsRead greeted piece what → SlotsAre talk.moves (view old).slots → Hears talk.user what user → Tells s old what told new → Comes gives (view old) talk what told (view new) × Lent old new
-  told_comes old new talk greeted piece (asked.Request user request) told after read are hears tells =
+  told_comes : (old new : S) (talk : Talk) (greeted : Bool) (piece : Piece) (what : Heard) (told : Sent) (user : Option (List ℕ)) → IsRead greeted piece what → SlotsAre talk.moves (view old).slots → Hears talk.user what user → Tells s old what told new → Comes gives (view old) talk what told (view new) × Lent old new
+  told_comes old new talk greeted piece (heard.Request user request) told after read are hears tells =
       let said = says old user request tells.0 new tells.1 in
       (request_comes gives (view old) (view new) talk are user request tells.0 told (read_free greeted piece user request read) hears.0 said.0 (tells.2 ∙ ap (λ (n : ℕ). sent_of n (cells_asked request) tells.0) (counts old)), said.1)
-  told_comes old new talk greeted piece (asked.Bad reason) told after read are hears tells =
-      (quiet gives (view old) (view new) talk are (asked.Bad reason) told (ap view tells.0) (record { moments = refl; entries = refl; told = tells.1 }, refl), subst (λ (z : S). Lent old z) (sym tells.0) (itself old))
-  told_comes old new talk greeted piece (asked.Broken reason) told after read are hears tells =
-      (quiet gives (view old) (view new) talk are (asked.Broken reason) told (ap view tells.0) (record { moments = refl; entries = refl; told = tells.1 }, refl), subst (λ (z : S). Lent old z) (sym tells.0) (itself old))
-  told_comes old new talk greeted piece asked.NoMemory told after read are hears tells =
-      (quiet gives (view old) (view new) talk are asked.NoMemory told (ap view tells.0) (record { moments = refl; entries = refl; told = tells.1 }, refl), subst (λ (z : S). Lent old z) (sym tells.0) (itself old))
+  told_comes old new talk greeted piece (heard.Bad reason) told after read are hears tells =
+      (quiet gives (view old) (view new) talk are (heard.Bad reason) told (ap view tells.0) (record { moments = refl; entries = refl; told = tells.1 }, refl), subst (λ (z : S). Lent old z) (sym tells.0) (itself old))
+  told_comes old new talk greeted piece (heard.Broken reason) told after read are hears tells =
+      (quiet gives (view old) (view new) talk are (heard.Broken reason) told (ap view tells.0) (record { moments = refl; entries = refl; told = tells.1 }, refl), subst (λ (z : S). Lent old z) (sym tells.0) (itself old))
+  told_comes old new talk greeted piece heard.NoMemory told after read are hears tells =
+      (quiet gives (view old) (view new) talk are heard.NoMemory told (ap view tells.0) (record { moments = refl; entries = refl; told = tells.1 }, refl), subst (λ (z : S). Lent old z) (sym tells.0) (itself old))
 
   -- what some pieces come to, from a talk on
   record Carried (old new : Side S) (talk : Talk) (pieces : List Piece) (text : List ℕ) : Type 0 where
@@ -97,8 +97,8 @@ module _ {S M : Type 0} (s : Ghosts S) (gives : M → ℤ → M → Type 0) (vie
       let x : Exchange = one.x in
       let next : Talk = record { user = mid.user; moves = one.after } in
       let rest : Carried mid new next pieces turns.1 = carried pieces mid new next turns.1 refl one.slots turns.4 in
-      let read : IsRead (is_some talk.user) piece x.what = subst (λ (u : Option (List ℕ)). IsRead (is_some u) piece x.what) by (subst (λ (a : Asked). IsRead (is_some old.user) piece a) (sym one.asks) turn.read) in
-      let speaks : Speaks talk x next = record { by = subst (λ (a : Asked). Hears talk.user a mid.user) (sym one.asks) hears; does = one.does } in
+      let read : IsRead (is_some talk.user) piece x.what = subst (λ (u : Option (List ℕ)). IsRead (is_some u) piece x.what) by (subst (λ (a : Heard). IsRead (is_some old.user) piece a) (sym one.asks) turn.read) in
+      let speaks : Speaks talk x next = record { by = subst (λ (a : Heard). Hears talk.user a mid.user) (sym one.asks) hears; does = one.does } in
       record {
         exchanges = x ∷ rest.exchanges;
         last = rest.last;

@@ -1,5 +1,5 @@
 -- A connection that went on, and then some more.
-use Rattle.std.proofs.Common.{◌≡◌, ℕ, ◌<◌, ◌≤◌, Bool, true, false, List, [], ◌++◌, Option, Some, None, sym, subst, ◌∙◌, inl, inr, arith, append-nil}
+use Rattle.std.proofs.Common.{◌≡◌, ℕ, ◌<◌, ◌≤◌, Bool, true, false, List, [], ◌++◌, Option, Some, None, sym, ap, subst, ◌∙◌, inl, inr, arith, append-nil}
 use Rattle.std.specs.Prelude.{Result, Ok, Err, IfOk, IfSome, is_some}
 use Rattle.tab_io.specs.declared.reading.Input.{Ghosts as InputGhosts}
 use Rattle.tab_io.specs.declared.writing.Output.{Ghosts as OutputGhosts}
@@ -9,6 +9,8 @@ use Rattle.tab_serve.specs.declared.fault.ServeFault.{ServeFault}
 use Rattle.tab_serve.specs.declared.fault.ServeFault.TheVariants.{Read, Write}
 use Rattle.tab_serve.specs.declared.service.Service.{Ghosts}
 use Rattle.tab_wire.specs.declared.asked.Asked.{Asked}
+use Rattle.tab_wire.specs.declared.asked.Asked.TheVariants as asked
+use Rattle.tab_wire.specs.Heard.{Heard, heard_by, HasUser}
 use Rattle.tab_wire.specs.Asking.{Hears, Asks}
 use Rattle.tab_wire.specs.Replies.{Sent, sent_bytes}
 use Rattle.tab_wire.specs.Stream.{pieces_of}
@@ -25,7 +27,7 @@ module _ {R W S : Type 0} (i : InputGhosts R) (o : OutputGhosts W) (s : Ghosts S
 
 -- ---- one turn, after what was gathered was written or not
 module _ {R W S : Type 0} (i : InputGhosts R) (o : OutputGhosts W) (s : Ghosts S) (old : Side S) (user : Option (List ℕ)) (service : S) (in0 in2 : R) (out0 out1 out2 : W) where
-  pub told_goes : (what : Asked) (told : Sent) (r : Result Bool ServeFault) → IfSome (i.remaining in0) (λ bytes. Asks (is_some old.user) bytes (Some what) (i.remaining in2)) → Hears old.user what user
+  pub told_goes : (what : Heard) (told : Sent) (r : Result Bool ServeFault) → IfSome (i.remaining in0) (λ bytes. Asks (is_some old.user) bytes (Some what) (i.remaining in2)) → Hears old.user what user
       → Tells s old.service what told service → IfOk r (λ on. on ≡ goes_on what) → HasPut o out0 out1 [] → PutsOn o out1 out2 (sent_bytes told) r
       → Goes i o s old in0 out0 (record { user = user; service = service }) in2 out2 r
   told_goes what told (Ok true) asks hears tells on before put =
@@ -35,6 +37,13 @@ module _ {R W S : Type 0} (i : InputGhosts R) (o : OutputGhosts W) (s : Ghosts S
   told_goes what told (Err Read) asks hears tells on before put = absurd put
   told_goes what told (Err Write) asks hears tells on before put =
       one_some s old (record { user = user; service = service }) what told hears tells (HasPutPart o out0 out2) (put_part_more before put) (i.remaining in0) (i.remaining in2) asks
+
+-- a request that is heard is one of somebody
+pub has_user : (before after : Option (List ℕ)) (what : Asked) → Hears before (heard_by after what) after → HasUser after what
+has_user before after (asked.Request request) hears = ap is_some hears.1
+has_user before after (asked.Bad reason) hears = tt
+has_user before after (asked.Broken reason) hears = tt
+has_user before after asked.NoMemory hears = tt
 
 -- ---- costs
 pub costs_budget : {R : Type 0} (i : InputGhosts R) (old new : R) (on : Bool) → CostsOn i old new on → on ≡ true → i.budget new ≤ i.budget old

@@ -1,8 +1,8 @@
 -- One turn, and turns behind others.
 use Rattle.std.proofs.Common.{◌≡◌, ℕ, true, false, List, [], ◌∷◌, ◌++◌, Option, Some, None, refl, sym, ap, subst, ◌∙◌, append_assoc, append-nil}
 use Rattle.std.specs.Prelude.{is_some, IfSome}
-use Rattle.tab_wire.specs.declared.asked.Asked.{Asked}
-use Rattle.tab_wire.specs.declared.asked.Asked.TheVariants as asked
+use Rattle.tab_wire.specs.Heard.{Heard}
+use Rattle.tab_wire.specs.Heard as heard
 use Rattle.tab_wire.specs.declared.reason.Reason.{Reason}
 use Rattle.tab_wire.specs.Stream.{Piece, Frame, Broken, piece_at, pieces_of}
 use Rattle.tab_wire.specs.Asking.{IsRead, Hears, IsLeft, Asks}
@@ -13,19 +13,19 @@ use Rattle.tab_serve.specs.Progress.{AnswersAll, AnswersSome, AnswersUpTo, goes_
 use Rattle.tab_serve.proofs.Pieces.{next_piece, no_piece, broken_ends}
 
 -- where the connection goes on the rest is left
-left_behind : (what : Asked) (behind : List ℕ) (left : Option (List ℕ)) → goes_on what ≡ true → IsLeft what behind left → left ≡ Some behind
-left_behind (asked.Request user request) behind left on is = is
-left_behind (asked.Bad reason) behind left on is = is
-left_behind (asked.Broken reason) behind left on is = absurd cc
-left_behind asked.NoMemory behind left on is = is
+left_behind : (what : Heard) (behind : List ℕ) (left : Option (List ℕ)) → goes_on what ≡ true → IsLeft what behind left → left ≡ Some behind
+left_behind (heard.Request user request) behind left on is = is
+left_behind (heard.Bad reason) behind left on is = is
+left_behind (heard.Broken reason) behind left on is = absurd cc
+left_behind heard.NoMemory behind left on is = is
 
 -- where it doesn't, what was read is no frame
-is_broken : (greeted : _) (piece : Piece) (what : Asked) → goes_on what ≡ false → IsRead greeted piece what → (r : Reason) × (piece ≡ Broken r)
-is_broken greeted piece (asked.Request user request) off is = absurd cc
-is_broken greeted piece (asked.Bad reason) off is = absurd cc
-is_broken greeted (Frame body) (asked.Broken reason) off is = absurd is
-is_broken greeted (Broken why) (asked.Broken reason) off is = (why, refl)
-is_broken greeted piece asked.NoMemory off is = absurd cc
+is_broken : (greeted : _) (piece : Piece) (what : Heard) → goes_on what ≡ false → IsRead greeted piece what → (r : Reason) × (piece ≡ Broken r)
+is_broken greeted piece (heard.Request user request) off is = absurd cc
+is_broken greeted piece (heard.Bad reason) off is = absurd cc
+is_broken greeted (Frame body) (heard.Broken reason) off is = absurd is
+is_broken greeted (Broken why) (heard.Broken reason) off is = (why, refl)
+is_broken greeted piece heard.NoMemory off is = absurd cc
 
 module _ {S : Type 0} (s : Ghosts S) where
   pub turns_then : (a b c : Side S) (ps qs : List Piece) (t u : List ℕ) → Turns s a ps t b → Turns s b qs u c → Turns s a (ps ++ qs) (t ++ u) c
@@ -33,7 +33,7 @@ module _ {S : Type 0} (s : Ghosts S) where
   turns_then a b c (p ∷ ps) qs t u first next =
       (first.0, first.1 ++ u, first.2, first.3, turns_then first.2 b c ps qs first.1 u first.4 next, ap (λ (x : List ℕ). x ++ u) first.5 ∙ append_assoc first.0 first.1 u)
 
-  module _ (old new : Side S) (what : Asked) (told : Sent) (hears : Hears old.user what new.user) (tells : Tells s old.service what told new.service) where
+  module _ (old new : Side S) (what : Heard) (told : Sent) (hears : Hears old.user what new.user) (tells : Tells s old.service what told new.service) where
     one : (piece : Piece) → IsRead (is_some old.user) piece what → Turns s old (piece ∷ []) (sent_bytes told) new
     one piece read = (sent_bytes told, [], new, record { what = what; told = told; read = read; by = hears; tells = tells; bytes = refl }, (refl, refl), sym (append-nil (sent_bytes told)))
 

@@ -6,8 +6,8 @@ use Rattle.tab_io.specs.Writing.{HasPut, HasPutPart, WriteFailed}
 use Rattle.tab_io.specs.Streams.{AppendsPart}
 use Rattle.std.specs.Io.KnownBytes.{Appends}
 use Rattle.tab_wire.specs.Stream.{Piece, pieces_of}
-use Rattle.tab_wire.specs.declared.asked.Asked.{Asked}
-use Rattle.tab_wire.specs.declared.asked.Asked.TheVariants as asked
+use Rattle.tab_wire.specs.Heard.{Heard}
+use Rattle.tab_wire.specs.Heard as heard
 use Rattle.tab_wire.specs.Asking.{ConnState}
 use Rattle.tab_wire.specs.Taking.{Costs}
 use Rattle.tab_serve.specs.declared.fault.ServeFault.{ServeFault}
@@ -64,11 +64,11 @@ SpendsOn i old new true = i.budget new < i.budget old
 SpendsOn i old new false = Unit {0}
 
 -- the connection goes on, unless what was asked was no frame
-abbrev pub goes_on : Asked → Bool
-goes_on (asked.Request user request) = true
-goes_on (asked.Bad reason) = true
-goes_on (asked.Broken reason) = false
-goes_on asked.NoMemory = true
+abbrev pub goes_on : Heard → Bool
+goes_on (heard.Request user request) = true
+goes_on (heard.Bad reason) = true
+goes_on (heard.Broken reason) = false
+goes_on heard.NoMemory = true
 
 -- a text was put, or a beginning of it, and a write failed
 abbrev pub PutsOn : {W : Type 0} → OutputGhosts W → W → W → List ℕ → Result Bool ServeFault → Type 0

@@ -4,8 +4,8 @@ use Rattle.tab_history.specs.Answers.{Told}
 use Rattle.tab_history.specs.declared.reply.Refusal.TheVariants.{NoMemory}
 use Rattle.tab_wire.specs.declared.request.Request.{Request}
 use Rattle.tab_wire.specs.declared.request.Request.TheVariants as asks
-use Rattle.tab_wire.specs.declared.asked.Asked.{Asked}
-use Rattle.tab_wire.specs.declared.asked.Asked.TheVariants as asked
+use Rattle.tab_wire.specs.Heard.{Heard}
+use Rattle.tab_wire.specs.Heard as heard
 use Rattle.tab_wire.specs.Stream.{Piece}
 use Rattle.tab_wire.specs.Asking.{IsRead, Hears}
 use Rattle.tab_wire.specs.Replies as sent
@@ -26,15 +26,15 @@ cells_asked (asks.Many slot ranges) = 0
 cells_asked (asks.Close slot) = 0
 
 -- what is told of what is asked: a request is answered by the service, and what asks nothing is told why
-abbrev pub Tells : {S : Type 0} → Ghosts S → S → Asked → Sent → S → Type 0
-Tells s old (asked.Request user request) text new = (reply : Told) × s.answers old user request reply new × (text ≡ sent_of (s.opened old) (cells_asked request) reply)
-Tells s old (asked.Bad reason) text new = (new ≡ old) × (text ≡ sent.BadFrame reason)
-Tells s old (asked.Broken reason) text new = (new ≡ old) × (text ≡ sent.BadFrame reason)
-Tells s old asked.NoMemory text new = (new ≡ old) × (text ≡ sent.Refused NoMemory)
+abbrev pub Tells : {S : Type 0} → Ghosts S → S → Heard → Sent → S → Type 0
+Tells s old (heard.Request user request) text new = (reply : Told) × s.answers old user request reply new × (text ≡ sent_of (s.opened old) (cells_asked request) reply)
+Tells s old (heard.Bad reason) text new = (new ≡ old) × (text ≡ sent.BadFrame reason)
+Tells s old (heard.Broken reason) text new = (new ≡ old) × (text ≡ sent.BadFrame reason)
+Tells s old heard.NoMemory text new = (new ≡ old) × (text ≡ sent.Refused NoMemory)
 
 -- one piece of the stream, what it asks, and what is told
 pub record Turn {S : Type 0} (s : Ghosts S) (old : Side S) (piece : Piece) (text : List ℕ) (new : Side S) : Type 0 where
-  pub what : Asked
+  pub what : Heard
   pub told : Sent
   pub read : IsRead (is_some old.user) piece what
   pub by : Hears old.user what new.user

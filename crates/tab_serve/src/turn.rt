@@ -1,6 +1,8 @@
 //! One frame, and what it is told.
-ghost use Rattle.std.specs.Prelude.{◌≡◌, [], IfOk};
+ghost use Rattle.std.specs.Prelude.{◌≡◌, ℕ, true, List, Option, [], is_some, unwrap_or, IfOk};
 ghost use Rattle.tab_io.specs.Writing.{Puts};
+ghost use Rattle.tab_wire.specs.Heard.{heard_by, HasUser};
+ghost use Rattle.tab_wire.specs.Heard as heard;
 ghost use Rattle.tab_wire.specs.Replies.{Sent, sent_bytes};
 ghost use Rattle.tab_serve.specs.Turns.{cells_asked, Tells};
 ghost use Rattle.tab_serve.specs.Progress.{side, Goes, CostsOn, Faults, PutsOn, goes_on};
@@ -9,7 +11,6 @@ use crate::{ServeFault, Service};
 use std::alloc::Global;
 use tab_history::{Refusal, Reply};
 use tab_io::{Input, Output, WriteFault};
-use tab_key::Name;
 use tab_wire::{Asked, Conn, Request, write_bad_frame};
 
 // How many cells the request asks for, where it asks for a batch.
@@ -22,21 +23,21 @@ fn cells_asked(request: &Request) -> u32
     }
 }
 
-// Has the request answered, and writes the reply.
+// Has the request of the connection's user answered, and writes the reply.
 fn answer<W: Output, S: Service>(
     conn: &mut Conn,
-    user: &Name,
     request: &mut Request,
     output: &mut W,
     service: &mut S,
 ) -> Result<(), WriteFault>
-    requires { conn.old.opened ≡ S.opened service.old }
-    ensures told { (sent : Sent) × Tells S.Service service.old (Asked.Request user.now request.old) sent service.new × Puts W.Output output.old output.new (sent_bytes sent) result }
+    requires opened { conn.old.opened ≡ S.opened service.old }
+    requires user { is_some conn.old.user ≡ true }
+    ensures told { (sent : Sent) × Tells S.Service service.old (heard.Request (unwrap_or conn.old.user []) request.old) sent service.new × Puts W.Output output.old output.new (sent_bytes sent) result }
     ensures user { conn.new.user ≡ conn.old.user }
     ensures opened { conn.new.opened ≡ S.opened service.new }
 {
     let count = cells_asked(request);
-    service.answer(user, request);
+    service.answer(conn.user().unwrap(), request);
     conn.answer(count, service.reply(), output)
 }
 
@@ -47,13 +48,14 @@ fn tell<W: Output, S: Service>(
     output: &mut W,
     service: &mut S,
 ) -> Result<(), WriteFault>
-    requires { conn.old.opened ≡ S.opened service.old }
-    ensures told { (sent : Sent) × Tells S.Service service.old asked.old sent service.new × Puts W.Output output.old output.new (sent_bytes sent) result }
+    requires opened { conn.old.opened ≡ S.opened service.old }
+    requires user { HasUser conn.old.user asked.old }
+    ensures told { (sent : Sent) × Tells S.Service service.old (heard_by conn.old.user asked.old) sent service.new × Puts W.Output output.old output.new (sent_bytes sent) result }
     ensures user { conn.new.user ≡ conn.old.user }
     ensures opened { conn.new.opened ≡ S.opened service.new }
 {
     match asked {
-        Asked::Request(user, request) => answer(conn, user, request, output, service),
+        Asked::Request(request) => answer(conn, request, output, service),
         Asked::Bad(reason) => write_bad_frame(output, *reason),
         Asked::Broken(reason) => write_bad_frame(output, *reason),
         Asked::NoMemory => conn.answer(0, &Reply::Refused(Refusal::NoMemory), output),
@@ -62,7 +64,7 @@ fn tell<W: Output, S: Service>(
 
 // Whether the connection goes on behind this.
 fn goes_on(asked: &Asked) -> bool
-    ensures { result ≡ goes_on asked.now }
+    ensures { (user : Option (List ℕ)) → result ≡ goes_on (heard_by user asked.now) }
 {
     !matches!(asked, Asked::Broken(_))
 }
@@ -74,9 +76,10 @@ fn tell_on<W: Output, S: Service>(
     output: &mut W,
     service: &mut S,
 ) -> Result<bool, ServeFault>
-    requires { conn.old.opened ≡ S.opened service.old }
-    ensures told { (sent : Sent) × Tells S.Service service.old asked.old sent service.new × PutsOn W.Output output.old output.new (sent_bytes sent) result }
-    ensures on { IfOk result (λ on. on ≡ goes_on asked.old) }
+    requires opened { conn.old.opened ≡ S.opened service.old }
+    requires user { HasUser conn.old.user asked.old }
+    ensures told { (sent : Sent) × Tells S.Service service.old (heard_by conn.old.user asked.old) sent service.new × PutsOn W.Output output.old output.new (sent_bytes sent) result }
+    ensures on { IfOk result (λ on. on ≡ goes_on (heard_by conn.old.user asked.old)) }
     ensures user { conn.new.user ≡ conn.old.user }
     ensures opened { conn.new.opened ≡ S.opened service.new }
 {

@@ -8,7 +8,7 @@ use Rattle.tab_wire.specs.declared.opcode.Opcode.{Opcode}
 use Rattle.tab_wire.specs.declared.opcode.Opcode.TheVariants as opcode
 use Rattle.tab_wire.specs.declared.request.Request.{Request}
 use Rattle.tab_wire.specs.declared.request.Request.TheVariants as asks
-use Rattle.tab_wire.specs.declared.asked.Asked.TheVariants as asked
+use Rattle.tab_wire.specs.Heard as heard
 use Rattle.tab_wire.specs.declared.reason.Reason.{Reason}
 use Rattle.tab_wire.specs.declared.reason.Reason.TheVariants as reason
 use Rattle.tab_wire.specs.FrameReading.{columns_at, permission_at, extent_at, mutation_at, ranges_at}
@@ -128,6 +128,6 @@ frame_free greeted [] = tt
 frame_free greeted (op ∷ fields) = asked_free greeted (opcode_of op) fields
 
 -- what a piece of a stream asks names none
-pub read_free : (greeted : Bool) (piece : Piece) (user : List ℕ) (request : Request) → IsRead greeted piece (asked.Request user request) → AsksNoSlot request
+pub read_free : (greeted : Bool) (piece : Piece) (user : List ℕ) (request : Request) → IsRead greeted piece (heard.Request user request) → AsksNoSlot request
 read_free greeted (Frame body) user request read = subst MayBeAsked read (frame_free greeted body)
 read_free greeted (Broken why) user request read = absurd read

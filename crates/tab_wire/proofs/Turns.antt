@@ -1,12 +1,12 @@
 -- Who may ask what was asked in its turn.
 use Rattle.std.proofs.Common.{◌≡◌, ℕ, ◌<◌, List, [], ◌∷◌, Option, Some, None, refl, arith}
-use Rattle.std.specs.Prelude.{Ok, is_some}
+use Rattle.std.specs.Prelude.{Ok, true, is_some, unwrap_or, IfSome}
 use Rattle.tab_parts.specs.Parts.{IsBytes}
 use Rattle.tab_wire.specs.declared.request.Request.{Request}
 use Rattle.tab_wire.specs.declared.request.Request.TheVariants as asks
 use Rattle.tab_wire.specs.Requests.{request_of}
 use Rattle.tab_wire.specs.Forms.{InTurn, IsRequest, hello, create_table, drop_table, create_user, drop_user, set_auths, grant, revoke, set_constraints, write, opens, next, many, close, flush, compact, add_split, splits, status, rights}
-use Rattle.tab_wire.specs.Asking.{MayAsk}
+use Rattle.tab_wire.specs.Asking.{IsBy, MayAsk}
 use Rattle.tab_wire.proofs.ReasonLaw.{requests_in_turn}
 
 -- the first byte of Hello is 1, and that of all else is greater
@@ -59,3 +59,9 @@ may_ask user (op ∷ fields) request fits is =
     by_user (Some u) (asks.Next slot count) turn first = refl
     by_user (Some u) (asks.Many slot ranges) turn first = refl
     by_user (Some u) (asks.Close slot) turn first = refl
+
+-- the request is one of the user who is known then
+pub asked_by_known : (before after : Option (List ℕ)) (request : Request) → is_some after ≡ true → IfSome after (λ user. IsBy before user request)
+    → IsBy before (unwrap_or after []) request × (after ≡ Some (unwrap_or after []))
+asked_by_known before None request known by = absurd cc
+asked_by_known before (Some user) request known by = (by, refl)

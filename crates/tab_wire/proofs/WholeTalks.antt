@@ -4,8 +4,8 @@ use Rattle.tab_history.specs.Histories.{Entry, World, moves_of}
 use Rattle.tab_history.specs.Legal.{Legal}
 use Rattle.tab_wire.specs.declared.request.Request.{Request}
 use Rattle.tab_wire.specs.declared.request.Request.TheVariants as asks
-use Rattle.tab_wire.specs.declared.asked.Asked.{Asked}
-use Rattle.tab_wire.specs.declared.asked.Asked.TheVariants as asked
+use Rattle.tab_wire.specs.Heard.{Heard}
+use Rattle.tab_wire.specs.Heard as heard
 use Rattle.tab_parts.proofs.Exact.{some_inj}
 use Rattle.tab_wire.specs.Asking.{Hears, IsBy}
 use Rattle.tab_wire.specs.Talking.{Talk, Exchange, IsQuiet, Does, Answers, entries_of}
@@ -46,11 +46,11 @@ module _ (w : World) (h : List Entry) (talk : Talk) (x : Exchange) (legal : Lega
   does user (asks.Many slot ranges) next right by after d = goes user next after (many_stays w h user talk.moves x legal (knows user (inl by)) slot ranges next.moves d)
   does user (asks.Close slot) next right by after d = goes user next after (close_stays w h user talk.moves x legal (knows user (inl by)) slot next.moves d)
 
-  speaks : (what : Asked) (next : Talk) → IsRight w h x → Hears talk.user what next.user → Answers talk.moves what x next.moves → Stays w h x next
-  speaks (asked.Request user request) next right hears a = does user request next right hears.0 hears.1 a
-  speaks (asked.Bad reason) next right hears a = nothing next _ hears a
-  speaks (asked.Broken reason) next right hears a = nothing next _ hears a
-  speaks asked.NoMemory next right hears a = nothing next _ hears a
+  speaks : (what : Heard) (next : Talk) → IsRight w h x → Hears talk.user what next.user → Answers talk.moves what x next.moves → Stays w h x next
+  speaks (heard.Request user request) next right hears a = does user request next right hears.0 hears.1 a
+  speaks (heard.Bad reason) next right hears a = nothing next _ hears a
+  speaks (heard.Broken reason) next right hears a = nothing next _ hears a
+  speaks heard.NoMemory next right hears a = nothing next _ hears a
 
 pub talks_stay : TalksStayLegal
 talks_stay w h talk [] [] last legal knows t right = (legal, subst (λ (z : Talk). KnowsSessions w h z) (sym t) knows)

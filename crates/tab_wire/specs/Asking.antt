@@ -4,8 +4,8 @@ use Rattle.tab_history.specs.Answers.{Told}
 use Rattle.tab_history.specs.declared.reply.Reply.TheVariants as reply
 use Rattle.tab_wire.specs.declared.request.Request.{Request}
 use Rattle.tab_wire.specs.declared.request.Request.TheVariants as asks
-use Rattle.tab_wire.specs.declared.asked.Asked.{Asked}
-use Rattle.tab_wire.specs.declared.asked.Asked.TheVariants as asked
+use Rattle.tab_wire.specs.Heard.{Heard}
+use Rattle.tab_wire.specs.Heard as heard
 use Rattle.tab_wire.specs.Requests.{request_of}
 use Rattle.tab_wire.specs.Stream.{Piece, Frame, Broken, piece_at}
 
@@ -21,15 +21,15 @@ new_conn = record { user = None; opened = 0 }
 
 -- ---- what is asked
 -- What a piece of the stream asks, after Hello or before it. For any frame memory may lack.
-abbrev pub IsRead : Bool → Piece → Asked → Type 0
-IsRead greeted (Frame body) (asked.Request user request) = request_of greeted body ≡ Ok request
-IsRead greeted (Frame body) (asked.Bad reason) = request_of greeted body ≡ Err reason
-IsRead greeted (Frame body) asked.NoMemory = Unit {0}
-IsRead greeted (Frame body) (asked.Broken reason) = ⊥
-IsRead greeted (Broken why) (asked.Broken reason) = reason ≡ why
-IsRead greeted (Broken why) (asked.Request user request) = ⊥
-IsRead greeted (Broken why) (asked.Bad reason) = ⊥
-IsRead greeted (Broken why) asked.NoMemory = ⊥
+abbrev pub IsRead : Bool → Piece → Heard → Type 0
+IsRead greeted (Frame body) (heard.Request user request) = request_of greeted body ≡ Ok request
+IsRead greeted (Frame body) (heard.Bad reason) = request_of greeted body ≡ Err reason
+IsRead greeted (Frame body) heard.NoMemory = Unit {0}
+IsRead greeted (Frame body) (heard.Broken reason) = ⊥
+IsRead greeted (Broken why) (heard.Broken reason) = reason ≡ why
+IsRead greeted (Broken why) (heard.Request user request) = ⊥
+IsRead greeted (Broken why) (heard.Bad reason) = ⊥
+IsRead greeted (Broken why) heard.NoMemory = ⊥
 
 -- this user asks: Hello names him, where there was none, and all else is asked by the one who said it
 abbrev pub IsBy : Option (List ℕ) → List ℕ → Request → Type 0
@@ -40,11 +40,11 @@ IsBy before user (asks.Many slot ranges) = before ≡ Some user
 IsBy before user (asks.Close slot) = before ≡ Some user
 
 -- who asks, before and after; where nothing is asked, that stays
-abbrev pub Hears : Option (List ℕ) → Asked → Option (List ℕ) → Type 0
-Hears before (asked.Request user request) after = IsBy before user request × (after ≡ Some user)
-Hears before (asked.Bad reason) after = after ≡ before
-Hears before (asked.Broken reason) after = after ≡ before
-Hears before asked.NoMemory after = after ≡ before
+abbrev pub Hears : Option (List ℕ) → Heard → Option (List ℕ) → Type 0
+Hears before (heard.Request user request) after = IsBy before user request × (after ≡ Some user)
+Hears before (heard.Bad reason) after = after ≡ before
+Hears before (heard.Broken reason) after = after ≡ before
+Hears before heard.NoMemory after = after ≡ before
 
 -- Who may ask this: Hello where nobody said it, and all else where somebody did.
 abbrev pub MayAsk : Option (List ℕ) → Request → Type 0
@@ -54,29 +54,22 @@ MayAsk before (asks.Next slot count) = is_some before ≡ true
 MayAsk before (asks.Many slot ranges) = is_some before ≡ true
 MayAsk before (asks.Close slot) = is_some before ≡ true
 
--- the request is what comes next, by the one who asks it
-abbrev pub IsHeard : Option (List ℕ) → Request → Asked → Option (List ℕ) → Type 0
-IsHeard before request (asked.Request user what) after = (what ≡ request) × IsBy before user request × (after ≡ Some user)
-IsHeard before request (asked.Bad reason) after = ⊥
-IsHeard before request (asked.Broken reason) after = ⊥
-IsHeard before request asked.NoMemory after = ⊥
-
 -- ---- what was taken of the stream
 -- Behind a frame the rest is left. Behind what is no frame nothing is said.
-abbrev pub IsLeft : Asked → List ℕ → Option (List ℕ) → Type 0
-IsLeft (asked.Broken reason) behind left = Unit {0}
-IsLeft (asked.Request user request) behind left = left ≡ Some behind
-IsLeft (asked.Bad reason) behind left = left ≡ Some behind
-IsLeft asked.NoMemory behind left = left ≡ Some behind
+abbrev pub IsLeft : Heard → List ℕ → Option (List ℕ) → Type 0
+IsLeft (heard.Broken reason) behind left = Unit {0}
+IsLeft (heard.Request user request) behind left = left ≡ Some behind
+IsLeft (heard.Bad reason) behind left = left ≡ Some behind
+IsLeft heard.NoMemory behind left = left ≡ Some behind
 
 -- at the end of the stream nothing is asked; else what the piece asks that it begins with
-abbrev pub Asks : Bool → List ℕ → Option Asked → Option (List ℕ) → Type 0
+abbrev pub Asks : Bool → List ℕ → Option Heard → Option (List ℕ) → Type 0
 Asks greeted [] what left = (what ≡ None) × (left ≡ Some [])
 Asks greeted (b ∷ bytes) None left = ⊥
 Asks greeted (b ∷ bytes) (Some what) left = let next = piece_at (b ∷ bytes) in IsRead greeted next.0 what × IsLeft what next.1 left
 
 -- who asks, and as many sessions as before; where the stream has ended, all stays
-abbrev pub Knows : ConnState → Option Asked → ConnState → Type 0
+abbrev pub Knows : ConnState → Option Heard → ConnState → Type 0
 Knows before None after = after ≡ before
 Knows before (Some what) after = Hears before.user what after.user × (after.opened ≡ before.opened)
 

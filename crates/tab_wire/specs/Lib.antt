@@ -9,6 +9,7 @@ pub mod Updating
 pub mod Gives
 pub mod Examples
 pub mod Taking
+pub mod Heard
 pub mod Asking
 pub mod Talking
 pub mod TalkLaws

@@ -14,8 +14,8 @@ use Rattle.tab_history.specs.Histories.{Entry}
 use Rattle.tab_history.specs.Legal.{LacksMemory}
 use Rattle.tab_wire.specs.declared.request.Request.{Request}
 use Rattle.tab_wire.specs.declared.request.Request.TheVariants as asks
-use Rattle.tab_wire.specs.declared.asked.Asked.{Asked}
-use Rattle.tab_wire.specs.declared.asked.Asked.TheVariants as asked
+use Rattle.tab_wire.specs.Heard.{Heard}
+use Rattle.tab_wire.specs.Heard as heard
 use Rattle.tab_wire.specs.Stream.{Piece, pieces_of}
 use Rattle.tab_wire.specs.Asking.{ConnState, IsRead, Hears}
 use Rattle.tab_wire.specs.Replies as sent
@@ -39,7 +39,7 @@ pub record Stands (c : ConnState) (talk : Talk) : Type 0 where
 -- ---- one piece of the stream, and what came of it
 pub record Exchange : Type 0 where
   -- what was asked
-  pub what : Asked
+  pub what : Heard
   -- the moment that was taken, or none
   pub moments : List ℤ
   -- the step and what was answered, or none
@@ -95,11 +95,11 @@ Does user moves (asks.Many slot ranges) x new = DoesOwn moves (step.Many user sl
 Does user moves (asks.Close slot) x new = DoesOwn moves (step.Close user slot) 0 (close_answer (session_in moves slot) slot) x new
 
 -- what comes of what is asked: what asks nothing is told why, and of a frame without memory that memory lacked
-abbrev pub Answers : List Move → Asked → Exchange → List Move → Type 0
-Answers moves (asked.Request user request) x new = Does user moves request x new
-Answers moves (asked.Bad reason) x new = IsQuiet x (sent.BadFrame reason) × (new ≡ moves)
-Answers moves (asked.Broken reason) x new = IsQuiet x (sent.BadFrame reason) × (new ≡ moves)
-Answers moves asked.NoMemory x new = IsQuiet x (sent.Refused refusal.NoMemory) × (new ≡ moves)
+abbrev pub Answers : List Move → Heard → Exchange → List Move → Type 0
+Answers moves (heard.Request user request) x new = Does user moves request x new
+Answers moves (heard.Bad reason) x new = IsQuiet x (sent.BadFrame reason) × (new ≡ moves)
+Answers moves (heard.Broken reason) x new = IsQuiet x (sent.BadFrame reason) × (new ≡ moves)
+Answers moves heard.NoMemory x new = IsQuiet x (sent.Refused refusal.NoMemory) × (new ≡ moves)
 
 -- one exchange, from one talk to the next
 pub record Speaks (talk : Talk) (x : Exchange) (next : Talk) : Type 0 where

@@ -1,13 +1,12 @@
 //! What comes next on a connection.
 
 use crate::{Reason, Request};
-use tab_key::Name;
 
 /// What comes next on a connection.
 #[derive(Drop)]
 pub enum Asked {
-    /// A request, and the user who asks it. Hello names him, and he asks from then on.
-    Request(Name, Request),
+    /// A request of the user of the connection: [`Conn::user`](crate::Conn::user).
+    Request(Request),
     /// A frame that asks nothing, for this reason. The connection goes on.
     Bad(Reason),
     /// What is no frame, for this reason: an empty one, one that is too long, or one in which the input ended. The connection ends.

@@ -1,8 +1,9 @@
 //! One side of a connection: what is asked next, and what it is told.
-ghost use Rattle.std.specs.Prelude.{◌≡◌, ◌<◌, true, is_some, IfOk, IfSome, OnErr};
+ghost use Rattle.std.specs.Prelude.{◌≡◌, ◌<◌, true, is_some, option_copied, IfOk, IfSome, OnErr};
 ghost use Rattle.tab_io.specs.Streams.{FailsByFault};
 ghost use Rattle.tab_io.specs.Writing.{Puts};
-ghost use Rattle.tab_wire.specs.Asking.{new_conn, IsRead, IsBy, MayAsk, IsHeard, Hears, Asks, Knows, opens, opened_by};
+ghost use Rattle.tab_wire.specs.Asking.{new_conn, IsRead, IsBy, MayAsk, Hears, Asks, Knows, opens, opened_by};
+ghost use Rattle.tab_wire.specs.Heard.{heard_by, next_by};
 ghost use Rattle.tab_wire.specs.Replies.{sent_bytes, sent_of};
 ghost use Rattle.tab_wire.specs.Stream.{Frame};
 ghost use Rattle.tab_wire.specs.Taking.{Costs};
@@ -47,7 +48,16 @@ impl Conn {
         }
     }
 
+    /// The user who said Hello, and asks from then on. `None`: nobody did.
+    pub fn user(&self) -> Option<&Name>
+        ensures { option_copied result ≡ self.now.user }
+    {
+        self.user.as_ref()
+    }
+
     /// Reads the next frame. `None`: the input has ended between two frames.
+    ///
+    /// A request is one of the connection's user, who is known by then: Hello has named him, or names him.
     ///
     /// How the input is cut into reads makes no difference. A frame for which memory lacks is read to its end. After an error a
     /// beginning of a frame may be lost, and nothing more can be asked.
@@ -56,8 +66,8 @@ impl Conn {
         alloc: Global,
         input: &mut R,
     ) -> Result<Option<Asked>, ReadFault>
-        ensures ahead { IfOk result (λ asked. IfSome (R.remaining input.old) (λ ahead. Asks (is_some self.old.user) ahead asked (R.remaining input.new))) }
-        ensures ok { IfOk result (λ asked. Knows self.old asked self.new) }
+        ensures ahead { IfOk result (λ asked. IfSome (R.remaining input.old) (λ ahead. Asks (is_some self.old.user) ahead (next_by self.new.user asked) (R.remaining input.new))) }
+        ensures ok { IfOk result (λ asked. Knows self.old (next_by self.new.user asked) self.new) }
         ensures err { OnErr result (self.new ≡ self.old) }
         ensures faults { FailsByFault result (R.faults input.old) (R.faults input.new) (R.budget input.new) }
         ensures costs { IfOk result (λ _. Costs R.Input input.old input.new) }
@@ -94,23 +104,17 @@ impl Conn {
 
 // What the frame asks, and who asks.
 fn asked(alloc: Global, user: &mut Option<Name>, frame: &[u8]) -> Asked
-    ensures read { IsRead (is_some user.old) (Frame frame.now) result }
-    ensures by { Hears user.old result user.new }
+    ensures read { IsRead (is_some user.old) (Frame frame.now) (heard_by user.new result) }
+    ensures by { Hears user.old (heard_by user.new result) user.new }
 {
     match read_request(alloc, user.is_some(), frame) {
-        Ok(request) => heard(user, request),
+        Ok(request) => {
+            greet(user, &request);
+            Asked::Request(request)
+        }
         Err(Stop::Bad(reason)) => Asked::Bad(reason),
         Err(Stop::NoMemory) => Asked::NoMemory,
     }
-}
-
-// Who asks this, which is asked in its turn.
-fn heard(user: &mut Option<Name>, request: Request) -> Asked
-    requires { MayAsk user.old request }
-    ensures { IsHeard user.old request result user.new }
-{
-    greet(user, &request);
-    Asked::Request(user.unwrap(), request)
 }
 
 // Hello says who asks from now on; all else is asked by the one who said it.

@@ -55,7 +55,7 @@
 //! In `specs`, `Forms` says what each frame asks, with one form for each opcode, and nothing of how it is read; `Requests` reads it, of
 //! the parts in `FrameParts` and `FrameReading` and those of crate `tab_parts`. `Stream` says how bytes are split into frames, `Replies` has
 //! the bytes of each reply, `Values` what they are put of, `Gives` and `Updating` say what the code's results stand for, and `Examples`
-//! computes examples. `Taking` says what is taken of a stream, `Asking` what a connection knows and what comes next on it, and `Talking`
+//! computes examples. `Taking` says what is taken of a stream, `Heard` what is asked and by whom, `Asking` what a connection knows and what comes next on it, and `Talking`
 //! what a whole connection comes to, frame by frame: the steps that its bytes spell, the moments that its events take, and what is replied;
 //! `TalkLaws` has the law on that. `Sending` has the bytes of each request, of which a client makes its frames. In `proofs`, `FrameLaw` and `RequestLaw` show that reading is exactly the forms, `ReasonLaw` which reason is
 //! first, `NoSlots` that no frame names the slot of a job, `StreamLaw` that a stream is split in one way, `WholeTalks` that a connection makes a legal history; the others have lemmas for the code.

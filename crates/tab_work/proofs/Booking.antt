@@ -23,8 +23,8 @@ use Rattle.tab_book.specs.Receipts.{Slip}
 use Rattle.tab_book.proofs.Handing.{session_held}
 use Rattle.tab_wire.specs.declared.request.Request.{Request}
 use Rattle.tab_wire.specs.declared.request.Request.TheVariants as asks
-use Rattle.tab_wire.specs.declared.asked.Asked.{Asked}
-use Rattle.tab_wire.specs.declared.asked.Asked.TheVariants as asked
+use Rattle.tab_wire.specs.Heard.{Heard}
+use Rattle.tab_wire.specs.Heard as heard
 use Rattle.tab_wire.specs.Asking.{IsBy}
 use Rattle.tab_wire.specs.Replies as sent
 use Rattle.tab_wire.specs.Replies.{Sent, sent_of}
@@ -40,7 +40,7 @@ use Rattle.tab_work.specs.Sharing.{HasList, AreBooked}
 
 -- ---- one exchange
 -- What is asked comes to this exchange, the sessions stand where the connection does, and the receipts for it follow.
-pub record Comes {M : Type 0} (gives : M → ℤ → M → Type 0) (old : Seated M) (talk : Talk) (what : Asked) (told : Sent) (new : Seated M) (slots' : List (Option SessionState)) : Type 0 where
+pub record Comes {M : Type 0} (gives : M → ℤ → M → Type 0) (old : Seated M) (talk : Talk) (what : Heard) (told : Sent) (new : Seated M) (slots' : List (Option SessionState)) : Type 0 where
   pub x : Exchange
   pub after : List Move
   pub asks : x.what ≡ what
@@ -55,25 +55,25 @@ pub record Comes {M : Type 0} (gives : M → ℤ → M → Type 0) (old : Seated
   pub receipts : new.receipts ≡ old.receipts ++ map spent slips
 
 -- ---- what asks no event takes no moment
-abbrev IsNoAct : Asked → Type 0
-IsNoAct (asked.Request user (asks.Hello name)) = Unit {0}
-IsNoAct (asked.Request user (asks.Act act)) = ⊥
-IsNoAct (asked.Request user (asks.Next slot n)) = Unit {0}
-IsNoAct (asked.Request user (asks.Many slot ranges)) = Unit {0}
-IsNoAct (asked.Request user (asks.Close slot)) = Unit {0}
-IsNoAct (asked.Bad reason) = Unit {0}
-IsNoAct (asked.Broken reason) = Unit {0}
-IsNoAct asked.NoMemory = Unit {0}
+abbrev IsNoAct : Heard → Type 0
+IsNoAct (heard.Request user (asks.Hello name)) = Unit {0}
+IsNoAct (heard.Request user (asks.Act act)) = ⊥
+IsNoAct (heard.Request user (asks.Next slot n)) = Unit {0}
+IsNoAct (heard.Request user (asks.Many slot ranges)) = Unit {0}
+IsNoAct (heard.Request user (asks.Close slot)) = Unit {0}
+IsNoAct (heard.Bad reason) = Unit {0}
+IsNoAct (heard.Broken reason) = Unit {0}
+IsNoAct heard.NoMemory = Unit {0}
 
-no_moment : (moves : List Move) (what : Asked) (x : Exchange) (after : List Move) → IsNoAct what → Answers moves what x after → x.moments ≡ []
-no_moment moves (asked.Request user (asks.Hello name)) x after none_acts does = does.0.moments
-no_moment moves (asked.Request user (asks.Act act)) x after none_acts does = absurd none_acts
-no_moment moves (asked.Request user (asks.Next slot n)) x after none_acts does = does.2.moments
-no_moment moves (asked.Request user (asks.Many slot ranges)) x after none_acts does = does.2.moments
-no_moment moves (asked.Request user (asks.Close slot)) x after none_acts does = does.2.moments
-no_moment moves (asked.Bad reason) x after none_acts does = does.0.moments
-no_moment moves (asked.Broken reason) x after none_acts does = does.0.moments
-no_moment moves asked.NoMemory x after none_acts does = does.0.moments
+no_moment : (moves : List Move) (what : Heard) (x : Exchange) (after : List Move) → IsNoAct what → Answers moves what x after → x.moments ≡ []
+no_moment moves (heard.Request user (asks.Hello name)) x after none_acts does = does.0.moments
+no_moment moves (heard.Request user (asks.Act act)) x after none_acts does = absurd none_acts
+no_moment moves (heard.Request user (asks.Next slot n)) x after none_acts does = does.2.moments
+no_moment moves (heard.Request user (asks.Many slot ranges)) x after none_acts does = does.2.moments
+no_moment moves (heard.Request user (asks.Close slot)) x after none_acts does = does.2.moments
+no_moment moves (heard.Bad reason) x after none_acts does = does.0.moments
+no_moment moves (heard.Broken reason) x after none_acts does = does.0.moments
+no_moment moves heard.NoMemory x after none_acts does = does.0.moments
 
 -- any core will do where none is asked
 pub bare : Held
@@ -81,7 +81,7 @@ bare = record { clock = pos 0; next = 0; policy = new_core.policy; tables = []; 
 
 module _ {M : Type 0} (gives : M → ℤ → M → Type 0) (old new : Seated M) (slots slots' : List (Option SessionState)) (talk : Talk) (are : SlotsAre talk.moves slots) where
   -- what takes no moment has no receipt
-  unbooked : (what : Asked) (told : Sent) → new ≡ old → (one : ComesOver gives (record { core = bare; slots = slots; moments = old.moments }) talk what told (record { core = bare; slots = slots'; moments = new.moments })) → one.x.moments ≡ [] → Comes gives old talk what told new slots'
+  unbooked : (what : Heard) (told : Sent) → new ≡ old → (one : ComesOver gives (record { core = bare; slots = slots; moments = old.moments }) talk what told (record { core = bare; slots = slots'; moments = new.moments })) → one.x.moments ≡ [] → Comes gives old talk what told new slots'
   unbooked what told same one none = record {
     x = one.x;
     after = one.after;
@@ -97,11 +97,11 @@ module _ {M : Type 0} (gives : M → ℤ → M → Type 0) (old new : Seated M) 
     receipts = ap (λ (s : Seated M). s.receipts) same ∙ sym (append-nil old.receipts);
   }
 
-  still : (what : Asked) (told : Sent) → IsNoAct what → new ≡ old → ComesOver gives (record { core = bare; slots = slots; moments = old.moments }) talk what told (record { core = bare; slots = slots'; moments = new.moments }) → Comes gives old talk what told new slots'
-  still what told none_acts same one = unbooked what told same one (no_moment talk.moves what one.x one.after none_acts (subst (λ (a : Asked). Answers talk.moves a one.x one.after) one.asks one.does))
+  still : (what : Heard) (told : Sent) → IsNoAct what → new ≡ old → ComesOver gives (record { core = bare; slots = slots; moments = old.moments }) talk what told (record { core = bare; slots = slots'; moments = new.moments }) → Comes gives old talk what told new slots'
+  still what told none_acts same one = unbooked what told same one (no_moment talk.moves what one.x one.after none_acts (subst (λ (a : Heard). Answers talk.moves a one.x one.after) one.asks one.does))
 
   -- what asks for no step
-  pub silent : (what : Asked) (told : Sent) → IsNoAct what → new ≡ old → slots' ≡ slots → Answers talk.moves what (record { what = what; moments = []; entries = []; all = []; told = told }) talk.moves → Comes gives old talk what told new slots'
+  pub silent : (what : Heard) (told : Sent) → IsNoAct what → new ≡ old → slots' ≡ slots → Answers talk.moves what (record { what = what; moments = []; entries = []; all = []; told = told }) talk.moves → Comes gives old talk what told new slots'
   silent what told none_acts same kept does =
       still what told none_acts same (quiet gives (record { core = bare; slots = slots; moments = old.moments }) (record { core = bare; slots = slots'; moments = new.moments }) talk are what told
       (λ i. record { core = bare; slots = kept i; moments = (same i).moments }) does)
@@ -109,10 +109,10 @@ module _ {M : Type 0} (gives : M → ℤ → M → Type 0) (old new : Seated M) 
   -- ---- acts
   module _ (user : List ℕ) (act : Act) (told : Sent) where
     -- an Open past the limit of sessions
-    too_many : (r : Told) → IsTooMany old slots act r new slots' → told ≡ sent_of (length slots) 0 r → Comes gives old talk (asked.Request user (asks.Act act)) told new slots'
+    too_many : (r : Told) → IsTooMany old slots act r new slots' → told ≡ sent_of (length slots) 0 r → Comes gives old talk (heard.Request user (asks.Act act)) told new slots'
     too_many r many is =
         let full : is_full talk.moves ≡ true = full_alike talk.moves slots are ∙ many.full in
-        let x : Exchange = record { what = asked.Request user (asks.Act act); moments = []; entries = entry_of (asked_at user (pos 0) act) (Refused (TooLarge Sessions)) ∷ []; all = []; told = sent.Refused (TooLarge Sessions) } in
+        let x : Exchange = record { what = heard.Request user (asks.Act act); moments = []; entries = entry_of (asked_at user (pos 0) act) (Refused (TooLarge Sessions)) ∷ []; all = []; told = sent.Refused (TooLarge Sessions) } in
         record {
           x = x;
           after = talk.moves;
@@ -136,10 +136,10 @@ module _ {M : Type 0} (gives : M → ℤ → M → Type 0) (old new : Seated M) 
     numbered_alike r is = ap (λ (k : ℕ). sent_of k 0 r) are.count ∙ sym is
 
     -- memory lacked
-    lacks : (r : Told) → Lacks gives old slots act r new slots' → told ≡ sent_of (length slots) 0 r → Comes gives old talk (asked.Request user (asks.Act act)) told new slots'
+    lacks : (r : Told) → Lacks gives old slots act r new slots' → told ≡ sent_of (length slots) 0 r → Comes gives old talk (heard.Request user (asks.Act act)) told new slots'
     lacks r lacking is =
         let e : Event = asked_at user lacking.moment act in
-        let x : Exchange = record { what = asked.Request user (asks.Act act); moments = lacking.moment ∷ []; entries = entry_of e (Refused NoMemory) ∷ []; all = []; told = sent_of (opened talk.moves) 0 (Refused NoMemory) } in
+        let x : Exchange = record { what = heard.Request user (asks.Act act); moments = lacking.moment ∷ []; entries = entry_of e (Refused NoMemory) ∷ []; all = []; told = sent_of (opened talk.moves) 0 (Refused NoMemory) } in
         record {
           x = x;
           after = talk.moves;
@@ -172,7 +172,7 @@ module _ {M : Type 0} (gives : M → ℤ → M → Type 0) (old new : Seated M) 
     kept_slots e is _ hands = are
 
     -- the seat's next event
-    books : (r : Told) → Books gives old slots user act r new slots' → told ≡ sent_of (length slots) 0 r → Comes gives old talk (asked.Request user (asks.Act act)) told new slots'
+    books : (r : Told) → Books gives old slots user act r new slots' → told ≡ sent_of (length slots) 0 r → Comes gives old talk (heard.Request user (asks.Act act)) told new slots'
     books r does is =
         let e : Event = asked_at user does.moment act in
         let slip : Slip = does.slip in
@@ -180,7 +180,7 @@ module _ {M : Type 0} (gives : M → ℤ → M → Type 0) (old new : Seated M) 
         let session : Option SessionState = session_in slip.held in
         let is_its : session ≡ session_of reply = ap session_in does.receives.whole.2 ∙ session_held reply in
         let all : List Cell = list_of session in
-        let x : Exchange = record { what = asked.Request user (asks.Act act); moments = does.moment ∷ []; entries = entry_of e slip.entry.reply ∷ []; all = all; told = sent_of (opened talk.moves) 0 slip.entry.reply } in
+        let x : Exchange = record { what = heard.Request user (asks.Act act); moments = does.moment ∷ []; entries = entry_of e slip.entry.reply ∷ []; all = all; told = sent_of (opened talk.moves) 0 slip.entry.reply } in
         let there : SlotsAre (moves_told (step.Event e) (told_of reply) (list_of (session_of reply)) ++ talk.moves) (kept_with slots (session_of reply)) =
         kept_slots e refl reply (subst (λ (s : Option SessionState). HandsOut act s) is_its does.hands) in
         let here : SlotsAre (moves_told (step.Event e) slip.entry.reply (list_of session) ++ talk.moves) (kept_with slots session) =
@@ -201,23 +201,23 @@ module _ {M : Type 0} (gives : M → ℤ → M → Type 0) (old new : Seated M) 
           receipts = does.receipts;
         }
 
-    act_comes : (r : Told) → DoesAct gives old slots user act r new slots' → told ≡ sent_of (length slots) 0 r → Comes gives old talk (asked.Request user (asks.Act act)) told new slots'
+    act_comes : (r : Told) → DoesAct gives old slots user act r new slots' → told ≡ sent_of (length slots) 0 r → Comes gives old talk (heard.Request user (asks.Act act)) told new slots'
     act_comes r (inl many) is = too_many r many is
     act_comes r (inr (inl lacking)) is = lacks r lacking is
     act_comes r (inr (inr does)) is = books r does is
 
   -- ---- a step on a session
-  own_comes : (user : List ℕ) (request : Request) (r : Told) (told : Sent) → IsNoAct (asked.Request user request) → AsksNoSlot request → IsBy talk.user user request → new ≡ old
+  own_comes : (user : List ℕ) (request : Request) (r : Told) (told : Sent) → IsNoAct (heard.Request user request) → AsksNoSlot request → IsBy talk.user user request → new ≡ old
       → Serves gives (record { core = bare; slots = slots; moments = old.moments }) user request r (record { core = bare; slots = slots'; moments = new.moments }) → told ≡ sent_of (length slots) (cells_asked request) r
-      → Comes gives old talk (asked.Request user request) told new slots'
+      → Comes gives old talk (heard.Request user request) told new slots'
   own_comes user request r told none_acts names by same serves is =
-      still (asked.Request user request) told none_acts same (request_comes gives (record { core = bare; slots = slots; moments = old.moments }) (record { core = bare; slots = slots'; moments = new.moments }) talk are user request r told names by serves is)
+      still (heard.Request user request) told none_acts same (request_comes gives (record { core = bare; slots = slots; moments = old.moments }) (record { core = bare; slots = slots'; moments = new.moments }) talk are user request r told names by serves is)
 
   -- ---- any request
   pub request_shares : (user : List ℕ) (request : Request) (r : Told) (told : Sent) → IsBy talk.user user request → Shares gives old slots user request r new slots' → told ≡ sent_of (length slots) (cells_asked request) r
-      → Comes gives old talk (asked.Request user request) told new slots'
+      → Comes gives old talk (heard.Request user request) told new slots'
   request_shares user (asks.Hello name) r told by says is =
-      silent (asked.Request user (asks.Hello name)) told tt says.1 says.2 (record { moments = refl; entries = refl; told = is ∙ ap (sent_of (length slots) 0) says.0 }, refl)
+      silent (heard.Request user (asks.Hello name)) told tt says.1 says.2 (record { moments = refl; entries = refl; told = is ∙ ap (sent_of (length slots) 0) says.0 }, refl)
   request_shares user (asks.Act act) r told by says is = act_comes user act told r says is
   request_shares user (asks.Next slot n) r told by says is = own_comes user (asks.Next slot n) r told tt tt by says.1 (says.0, record { core = refl; moments = ap (λ (s : Seated M). s.moments) says.1 }) is
   request_shares user (asks.Many slot ranges) r told by says is =

@@ -12,8 +12,8 @@ use Rattle.tab_core.proofs.SlotLemmas.{slots_none}
 use Rattle.tab_book.specs.Entries.{Place}
 use Rattle.tab_book.specs.Receipts.{Slip}
 use Rattle.tab_wire.specs.declared.request.Request.{Request}
-use Rattle.tab_wire.specs.declared.asked.Asked.{Asked}
-use Rattle.tab_wire.specs.declared.asked.Asked.TheVariants as asked
+use Rattle.tab_wire.specs.Heard.{Heard}
+use Rattle.tab_wire.specs.Heard as heard
 use Rattle.tab_wire.specs.Asking.{IsRead, Hears}
 use Rattle.tab_wire.specs.Replies.{Sent, sent_of, sent_bytes}
 use Rattle.tab_wire.specs.Stream.{Piece, pieces_of}
@@ -51,20 +51,20 @@ booked_join (x ∷ xs) ys es fs rs ss (inr (inr (event, slip, events, slips, es_
 module _ {S M : Type 0} (s : Ghosts S) (gives : M → ℤ → M → Type 0) (view : S → Seated M) (slots_of : S → List (Option SessionState)) (Lent : S → S → Type 0) (itself : (x : S) → Lent x x) (along : (x y z : S) → Lent x y → Lent y z → Lent x z)
     (says : (x : S) (user : List ℕ) (request : Request) (r : Told) (y : S) → s.answers x user request r y → Shares gives (view x) (slots_of x) user request r (view y) (slots_of y) × Lent x y) (counts : (x : S) → s.opened x ≡ length (slots_of x)) where
   -- what one piece comes to
-  told_comes : (old new : S) (talk : Talk) (what : Asked) (told : Sent) (user : Option (List ℕ)) → SlotsAre talk.moves (slots_of old) → Hears talk.user what user → Tells s old what told new → Comes gives (view old) talk what told (view new) (slots_of new) × Lent old new
-  told_comes old new talk (asked.Request user request) told after are hears tells =
+  told_comes : (old new : S) (talk : Talk) (what : Heard) (told : Sent) (user : Option (List ℕ)) → SlotsAre talk.moves (slots_of old) → Hears talk.user what user → Tells s old what told new → Comes gives (view old) talk what told (view new) (slots_of new) × Lent old new
+  told_comes old new talk (heard.Request user request) told after are hears tells =
       let said = says old user request tells.0 new tells.1 in
       (request_shares gives (view old) (view new) (slots_of old) (slots_of new) talk are user request tells.0 told hears.0 said.0 (tells.2 ∙ ap (λ (n : ℕ). sent_of n (cells_asked request) tells.0) (counts old)), said.1)
-  told_comes old new talk (asked.Bad reason) told after are hears tells = (
-    silent gives (view old) (view new) (slots_of old) (slots_of new) talk are (asked.Bad reason) told tt (ap view tells.0) (ap slots_of tells.0) (record { moments = refl; entries = refl; told = tells.1 }, refl),
+  told_comes old new talk (heard.Bad reason) told after are hears tells = (
+    silent gives (view old) (view new) (slots_of old) (slots_of new) talk are (heard.Bad reason) told tt (ap view tells.0) (ap slots_of tells.0) (record { moments = refl; entries = refl; told = tells.1 }, refl),
     subst (λ (z : S). Lent old z) (sym tells.0) (itself old),
   )
-  told_comes old new talk (asked.Broken reason) told after are hears tells = (
-    silent gives (view old) (view new) (slots_of old) (slots_of new) talk are (asked.Broken reason) told tt (ap view tells.0) (ap slots_of tells.0) (record { moments = refl; entries = refl; told = tells.1 }, refl),
+  told_comes old new talk (heard.Broken reason) told after are hears tells = (
+    silent gives (view old) (view new) (slots_of old) (slots_of new) talk are (heard.Broken reason) told tt (ap view tells.0) (ap slots_of tells.0) (record { moments = refl; entries = refl; told = tells.1 }, refl),
     subst (λ (z : S). Lent old z) (sym tells.0) (itself old),
   )
-  told_comes old new talk asked.NoMemory told after are hears tells = (
-    silent gives (view old) (view new) (slots_of old) (slots_of new) talk are asked.NoMemory told tt (ap view tells.0) (ap slots_of tells.0) (record { moments = refl; entries = refl; told = tells.1 }, refl),
+  told_comes old new talk heard.NoMemory told after are hears tells = (
+    silent gives (view old) (view new) (slots_of old) (slots_of new) talk are heard.NoMemory told tt (ap view tells.0) (ap slots_of tells.0) (record { moments = refl; entries = refl; told = tells.1 }, refl),
     subst (λ (z : S). Lent old z) (sym tells.0) (itself old),
   )
 
@@ -105,8 +105,8 @@ module _ {S M : Type 0} (s : Ghosts S) (gives : M → ℤ → M → Type 0) (vie
       let x : Exchange = one.x in
       let next : Talk = record { user = mid.user; moves = one.after } in
       let rest : Carried mid new next pieces turns.1 = carried pieces mid new next turns.1 refl one.slots turns.4 in
-      let read : IsRead (is_some talk.user) piece x.what = subst (λ (u : Option (List ℕ)). IsRead (is_some u) piece x.what) by (subst (λ (a : Asked). IsRead (is_some old.user) piece a) (sym one.asks) turn.read) in
-      let speaks : Speaks talk x next = record { by = subst (λ (a : Asked). Hears talk.user a mid.user) (sym one.asks) hears; does = one.does } in
+      let read : IsRead (is_some talk.user) piece x.what = subst (λ (u : Option (List ℕ)). IsRead (is_some u) piece x.what) by (subst (λ (a : Heard). IsRead (is_some old.user) piece a) (sym one.asks) turn.read) in
+      let speaks : Speaks talk x next = record { by = subst (λ (a : Heard). Hears talk.user a mid.user) (sym one.asks) hears; does = one.does } in
       let texts : map spent (one.slips ++ rest.slips) ≡ map spent one.slips ++ map spent rest.slips = map-append spent one.slips rest.slips in
       record {
         exchanges = x ∷ rest.exchanges;
