@@ -90,6 +90,23 @@ fn tell_on<W: Output, S: Service>(
     }
 }
 
+// The same of what was read, which is let go then.
+fn tell_read<W: Output, S: Service>(
+    conn: &mut Conn,
+    mut asked: Asked,
+    output: &mut W,
+    service: &mut S,
+) -> Result<bool, ServeFault>
+    requires opened { conn.old.opened ≡ S.opened service.old }
+    requires user { HasUser conn.old.user asked }
+    ensures told { (sent : Sent) × Tells S.Service service.old (heard_by conn.old.user asked) sent service.new × PutsOn W.Output output.old output.new (sent_bytes sent) result }
+    ensures on { IfOk result (λ on. on ≡ goes_on (heard_by conn.old.user asked)) }
+    ensures user { conn.new.user ≡ conn.old.user }
+    ensures opened { conn.new.opened ≡ S.opened service.new }
+{
+    tell_on(conn, &mut asked, output, service)
+}
+
 // Whether the next frame is here whole.
 fn is_here(front: &[u8]) -> bool {
     match front {
@@ -130,9 +147,8 @@ pub fn turn<R: Input, W: Output, S: Service>(
         Ok(()) => {}
         Err(_) => return Err(ServeFault::Write),
     }
-    let mut read = conn.ask(alloc, input);
-    match &mut read {
-        Ok(Some(asked)) => tell_on(conn, asked, output, service),
+    match conn.ask(alloc, input) {
+        Ok(Some(asked)) => tell_read(conn, asked, output, service),
         Ok(None) => Ok(false),
         Err(_) => Err(ServeFault::Read),
     }

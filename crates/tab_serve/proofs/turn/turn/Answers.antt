@@ -1,6 +1,5 @@
-use Rattle.std.proofs.Common.{ℕ, List, Option, Result, Ok, sym, ap, ◌∙◌, subst}
-use Rattle.std.specs.Prelude.{is_some, IfSome, IfOk}
-use Rattle.tab_io.specs.declared.reading.ReadFault.{ReadFault}
+use Rattle.std.proofs.Common.{ℕ, List, Option, sym, subst}
+use Rattle.std.specs.Prelude.{is_some, IfSome}
 use Rattle.tab_io.specs.Writing.{HasPut}
 use Rattle.tab_wire.specs.declared.asked.Asked.{Asked}
 use Rattle.tab_wire.specs.Asking.{ConnState, Asks, Hears, Knows}
@@ -10,35 +9,32 @@ use Rattle.tab_serve.proofs.TurnLemmas.{none_all}
 use Rattle.tab_serve.proofs.ProgressLemmas.{told_goes, has_user}
 use Rattle.tab_serve.proofs.turn.turn.Goals as goal
 
-pub tell_on-requires-clause-user : goal.tell_on-requires-clause-user
-tell_on-requires-clause-user g c =
-    let user : Option (List ℕ) = c.ask-read.new.self.user in
-    let read = c.in-Ok-Some.is ∙ ap Ok c.in-Ok-Some.field-0-is in
-    let knows = subst (λ (r : Result (Option Asked) ReadFault). IfOk r (λ f. Knows c.args.conn.now (next_by user f) c.ask-read.new.self)) read c.ask-read.ensures.ok in
+pub tell_read-requires-clause-user : goal.tell_read-requires-clause-user
+tell_read-requires-clause-user g c =
+    let user : Option (List ℕ) = c.ask.new.self.user in
+    let knows = subst (λ (f : Option Asked). Knows c.args.conn.now (next_by user f) c.ask.new.self) c.in-Ok-Some.field-0-is c.in-Ok-Some.ensures.ok in
     has_user c.args.conn.now.user user c.in-Ok-Some.asked knows.0
 
 pub returns-in-Ok-Some-clause-goes : goal.returns-in-Ok-Some-clause-goes
 returns-in-Ok-Some-clause-goes g c =
-    let user : Option (List ℕ) = c.ask-read.new.self.user in
+    let user : Option (List ℕ) = c.ask.new.self.user in
     let what : Heard = heard_by user c.in-Ok-Some.asked in
     let ahead : Option (List ℕ) = g.R.Input.remaining c.args.input.now in
-    let left : Option (List ℕ) = g.R.Input.remaining c.ask-read.new.input in
-    let read = c.in-Ok-Some.is ∙ ap Ok c.in-Ok-Some.field-0-is in
-    let asks = subst (λ (r : Result (Option Asked) ReadFault). IfOk r (λ f. IfSome ahead (λ bytes. Asks (is_some c.args.conn.now.user) bytes (next_by user f) left))) read c.ask-read.ensures.ahead in
-    let knows = subst (λ (r : Result (Option Asked) ReadFault). IfOk r (λ f. Knows c.args.conn.now (next_by user f) c.ask-read.new.self)) read c.ask-read.ensures.ok in
-    let hears = subst (λ (u : Option (List ℕ)). Hears c.args.conn.now.user what u) (sym c.tell_on.ensures.user) knows.0 in
-    told_goes g.R.Input g.W.Output g.S.Service (side c.args.conn.now c.args.service.now) c.tell_on.new.conn.user c.tell_on.new.service c.args.input.now c.ask-read.new.input c.args.output.now c.flush_before_read.new.output
-    c.tell_on.new.output what c.tell_on.ensures.told.0 c.tell_on.result asks hears c.tell_on.ensures.told.1 c.tell_on.ensures.on c.in-Ok.ensures c.tell_on.ensures.told.2
+    let left : Option (List ℕ) = g.R.Input.remaining c.ask.new.input in
+    let asks = subst (λ (f : Option Asked). IfSome ahead (λ bytes. Asks (is_some c.args.conn.now.user) bytes (next_by user f) left)) c.in-Ok-Some.field-0-is c.in-Ok-Some.ensures.ahead in
+    let knows = subst (λ (f : Option Asked). Knows c.args.conn.now (next_by user f) c.ask.new.self) c.in-Ok-Some.field-0-is c.in-Ok-Some.ensures.ok in
+    let hears = subst (λ (u : Option (List ℕ)). Hears c.args.conn.now.user what u) (sym c.tell_read.ensures.user) knows.0 in
+    told_goes g.R.Input g.W.Output g.S.Service (side c.args.conn.now c.args.service.now) c.tell_read.new.conn.user c.tell_read.new.service c.args.input.now c.ask.new.input c.args.output.now c.flush_before_read.new.output
+    c.tell_read.new.output what c.tell_read.ensures.told.0 c.tell_read.result asks hears c.tell_read.ensures.told.1 c.tell_read.ensures.on c.in-Ok.ensures c.tell_read.ensures.told.2
 
 pub returns-in-Ok-None-clause-goes : goal.returns-in-Ok-None-clause-goes
 returns-in-Ok-None-clause-goes g c =
     let at = side c.args.conn.now c.args.service.now in
-    let user : Option (List ℕ) = c.ask-read.new.self.user in
+    let user : Option (List ℕ) = c.ask.new.self.user in
     let ahead : Option (List ℕ) = g.R.Input.remaining c.args.input.now in
-    let left : Option (List ℕ) = g.R.Input.remaining c.ask-read.new.input in
-    let read = c.in-Ok-None.is ∙ ap Ok c.in-Ok-None.field-0-is in
-    let asks = subst (λ (r : Result (Option Asked) ReadFault). IfOk r (λ f. IfSome ahead (λ bytes. Asks (is_some c.args.conn.now.user) bytes (next_by user f) left))) read c.ask-read.ensures.ahead in
-    let knows = subst (λ (r : Result (Option Asked) ReadFault). IfOk r (λ f. Knows c.args.conn.now (next_by user f) c.ask-read.new.self)) read c.ask-read.ensures.ok in
+    let left : Option (List ℕ) = g.R.Input.remaining c.ask.new.input in
+    let asks = subst (λ (f : Option Asked). IfSome ahead (λ bytes. Asks (is_some c.args.conn.now.user) bytes (next_by user f) left)) c.in-Ok-None.field-0-is c.in-Ok-None.ensures.ahead in
+    let knows = subst (λ (f : Option Asked). Knows c.args.conn.now (next_by user f) c.ask.new.self) c.in-Ok-None.field-0-is c.in-Ok-None.ensures.ok in
     let put = HasPut g.W.Output c.args.output.now c.flush_before_read.new.output in
     subst (λ (k : ConnState). AnswersAll g.S.Service at ahead (side k c.args.service.now) put) (sym knows)
     (none_all g.S.Service at put c.in-Ok.ensures (is_some c.args.conn.now.user) ahead left asks)
