@@ -56,7 +56,9 @@ impl Core {
         }
         keep_markers(act);
         let now = later(self.store.clock, moment);
-        let answered = self.store.answer_told(alloc, now, user, act, &mut self.known);
+        let answered = self
+            .store
+            .answer_told(alloc, now, user, act, &mut self.known);
         move_clock(&mut self.store.clock, now, &answered.0);
         answered
     }

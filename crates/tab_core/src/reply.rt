@@ -15,7 +15,11 @@ pub type Answer = Reply<Session, TabletJob>;
 pub fn told(reply: Answer) -> Reply
     ensures { result ≡ told_of reply }
 {
-    reply.into_parts().0
+    match reply {
+        // what most events are told: nothing of it is moved
+        Reply::Done => Reply::Done,
+        other => other.into_parts().0,
+    }
 }
 
 /// The reply without what it hands out, and the session where there is one.
