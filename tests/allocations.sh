@@ -2,8 +2,8 @@
 # Lets each request for memory of a script fail in turn, and compares what is printed.
 # Where one fails, the program prints what it always prints, or one line is refused for memory and all others are answered
 # as if that line were not there (a long scan stands up to the batch that is refused), or it ends with status 1 before the
-# first line. Where a freeze is refused in the middle of what it takes one by one, nothing of what was written is lost. Lines that drop, revoke or
-# count are never refused. A save that is refused leaves no part of an image behind.
+# first line. Where a freeze is refused in the middle of what it takes one by one, nothing of what was written is lost. Lines that drop,
+# revoke or count are never refused. A save that is refused leaves no part of an image behind.
 # Usage: tests/allocations.sh   (from anywhere; wants a C compiler; builds the program if it isn't built)
 set -eu
 top=$(cd "$(dirname -- "${BASH_SOURCE[0]}")/.." && pwd)
