@@ -1,37 +1,55 @@
 -- Verdicts on short labels, noted and found again by number.
-use Rattle.std.proofs.Common.{◌≡◌, ℕ, ◌<◌, Bool, List, length, get_or, sym, subst, ap, ◌∙◌, set, replicate, arith, inl, inr, Option, Some, None}
-use Rattle.std.proofs.lemmas.Bool.{cases_eq}
-use Rattle.std.proofs.lemmas.List.{get_or-replicate, length-replicate, get_or-set_same, get_or-set_other, length-set}
-use Rattle.tab_key.specs.Words.{IsWord}
+use Rattle.std.proofs.Common.{◌≡◌, ℕ, zero, suc, ◌^◌, ◌<◌, ◌≤◌, Bool, true, false, List, [], ◌∷◌, length, get_or, sym, refl, subst, ap, ◌∙◌, set, replicate, arith}
+use Rattle.std.specs.Prelude.{IfSome, is_some, nat_le, Option, Some, None}
+use Rattle.std.proofs.lemmas.Bool.Decides.{nat_tests}
+use Rattle.std.proofs.Math.Nat.{pow-le-pow_right}
+use Rattle.tab_key.specs.Words.{word_of, IsWord}
+use Rattle.tab_key.proofs.BigEndian.{worth_bound}
 use Rattle.tab_key.proofs.WordLaws.{same_words}
 use Rattle.tab_label.specs.Holding.{label_holds}
-use Rattle.tab_iter.specs.Verdicts.{AreTold}
+use Rattle.tab_iter.specs.Verdicts.{told_number, Tells, AreTold}
 
-some_inj : {A : Type 0} (x y : A) → Some x ≡ Some y → x ≡ y
-some_inj {A} x y e =
-    let or_x : Option A → A = λ o. elim o [ None ↦ x | Some z ↦ z ] in
-    ap or_x e
+-- a short label's number has room for one bit more
+pub small_word : (word : ℕ) (label : List ℕ) → length label ≤ 7 → IsWord word label → word < 2 ^ 57
+unfolding word_of
+small_word word label short at =
+    let power : 256 ^ length label ≤ 256 ^ 7 = pow-le-pow_right (omega arith) short in
+    omega (arith, at.value, worth_bound label at.bytes, power)
 
-none_some : (b : Bool) → None ≡ Some b → ⊥
-none_some b e = absurd cc
+pub small_if_short : (label : List ℕ) (word : Option ℕ) → is_some word ≡ nat_le (length label) 7 → IfSome word (λ w. IsWord w label) → IfSome word (λ w. w < 2 ^ 57)
+small_if_short label None short at = at
+small_if_short label (Some word) short at =
+    let few : length label ≤ 7 = grind (arith, nat_tests, short) in
+    small_word word label few at
 
-pub none_told : (auths : List (List ℕ)) (words : List ℕ) (n : ℕ) → AreTold auths words (replicate n None)
-none_told auths words n i o v lt there b label e is =
-    let none : Option Bool = None in
-    let less : i < n = omega (arith, there, length-replicate n none) in
-    absurd (none_some b (sym (get_or-replicate n i none v less) ∙ e))
+-- the number that is none's tells nothing
+pub zero_tells : (auths : List (List ℕ)) → Tells auths 0
+unfolding word_of
+zero_tells auths holds word label e at = absurd (omega (arith, e, at.value, worth_bound label at.bytes))
 
-module _ (auths : List (List ℕ)) (words : List ℕ) (verdicts : List (Option Bool)) (place word : ℕ) (h : Bool) (label : List ℕ) (at : IsWord word label) (tells : h ≡ label_holds label auths) (told : AreTold auths words verdicts) where
-  pub more_told : AreTold auths (set words place word) (set verdicts place (Some h))
-  more_told i o v lt there b text e is =
-      let in_words : i < length words = omega (arith, lt, length-set words place word) in
-      let in_verdicts : i < length verdicts = omega (arith, there, length-set verdicts place (Some h)) in
-      elim (cases_eq i place) [
-        | inl same ↦
-            let here : get_or (set words place word) i o ≡ word = subst (λ (k : ℕ). get_or (set words k word) i o ≡ word) same (get_or-set_same words i word o in_words) in
-            let text_is : label ≡ text = same_words word label text at (subst (λ (w : ℕ). IsWord w text) here is) in
-            let value : get_or (set verdicts place (Some h)) i v ≡ Some h = subst (λ (k : ℕ). get_or (set verdicts k (Some h)) i v ≡ Some h) same (get_or-set_same verdicts i (Some h) v in_verdicts) in
-            some_inj b h (sym e ∙ value) ∙ tells ∙ ap (λ (z : List ℕ). label_holds z auths) text_is
-        | inr apart ↦
-            told i o v in_words in_verdicts b text (sym (get_or-set_other verdicts place i (Some h) v apart) ∙ e) (subst (λ (w : ℕ). IsWord w text) (get_or-set_other words place i word o apart) is)
-      ]
+pub zeros_told : (auths : List (List ℕ)) (n : ℕ) → AreTold auths (replicate n 0)
+zeros_told auths zero = tt
+zeros_told auths (suc n) = (zero_tells auths, zeros_told auths n)
+
+same_told : (word other : ℕ) (h b : Bool) → told_number word h ≡ told_number other b → (word ≡ other) × (h ≡ b)
+same_told word other true true e = (omega (arith, e), refl)
+same_told word other false false e = (omega (arith, e), refl)
+same_told word other true false e = absurd (omega (arith, e))
+same_told word other false true e = absurd (omega (arith, e))
+
+-- what is noted of a label is told of no other
+pub one_tells : (auths : List (List ℕ)) (word : ℕ) (h : Bool) (label : List ℕ) → IsWord word label → h ≡ label_holds label auths → Tells auths (told_number word h)
+one_tells auths word h label at tells b other text e is =
+    let both = same_told word other h b e in
+    let text_is : label ≡ text = same_words word label text at (subst (λ (w : ℕ). IsWord w text) (sym both.0) is) in
+    sym both.1 ∙ tells ∙ ap (λ (z : List ℕ). label_holds z auths) text_is
+
+pub told_set : (auths : List (List ℕ)) (numbers : List ℕ) (place number : ℕ) → Tells auths number → AreTold auths numbers → AreTold auths (set numbers place number)
+told_set auths [] place number t ts = tt
+told_set auths (n ∷ numbers) zero number t ts = (t, ts.1)
+told_set auths (n ∷ numbers) (suc place) number t ts = (ts.0, told_set auths numbers place number t ts.1)
+
+pub told_at : (auths : List (List ℕ)) (numbers : List ℕ) (place number : ℕ) → place < length numbers → number ≡ get_or numbers place number → AreTold auths numbers → Tells auths number
+told_at auths [] place number lt is ts = absurd (omega (arith, lt))
+told_at auths (n ∷ numbers) zero number lt is ts = subst (λ (m : ℕ). Tells auths m) (sym is) ts.0
+told_at auths (n ∷ numbers) (suc place) number lt is ts = told_at auths numbers place number (omega (arith, lt)) is ts.1

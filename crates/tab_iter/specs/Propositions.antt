@@ -7,7 +7,7 @@ use Rattle.tab_key.specs.Records.{Record}
 use Rattle.tab_key.specs.Sorted.{IsDistinct}
 use Rattle.tab_iter.specs.Lists.{HasI64Timestamps}
 use Rattle.tab_iter.specs.Bags.{IsDescending, Covers}
-use Rattle.tab_iter.specs.Verdicts.{IsIn, AreSound, IsSound}
+use Rattle.tab_iter.specs.Verdicts.{IsIn, AreSound, Tells, AreTold, IsSound}
 use Rattle.tab_iter.specs.declared.verdicts.Verdict.{Verdict}
 use Rattle.tab_iter.specs.declared.verdicts.Verdicts.{Verdicts}
 
@@ -35,5 +35,8 @@ AreSound-prop : (auths : List (List ℕ)) (body : List ℕ) (js : List Verdict) 
 AreSound-prop auths body [] = Unit-prop
 AreSound-prop auths body (j ∷ js) = ×_prop (×_prop (IsIn-prop body j) (Coded-set coded_bool _ _)) (AreSound-prop auths body js)
 
+AreTold-prop : (auths : List (List ℕ)) (numbers : List ℕ) → IsProp (AreTold auths numbers)
+AreTold-prop auths numbers = AllByRecursion-prop (Tells auths) (λ _. Π_prop λ _. Π_prop λ _. Π_prop λ _. Π_prop λ _. Π_prop λ _. Coded-set coded_bool _ _) numbers
+
 pub IsSound-prop : (auths : List (List ℕ)) (v : Verdicts) → IsProp (IsSound auths v)
-IsSound-prop auths v = AreSound-prop auths v.body.items v.kept.items
+IsSound-prop auths v = ×_prop (AreSound-prop auths v.body.items v.kept.items) (AreTold-prop auths v.known.numbers.items)

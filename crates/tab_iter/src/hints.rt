@@ -1,21 +1,24 @@
 //! Where verdicts on labels were found last.
 
+use std::alloc::Global;
+
 /// How many places are remembered.
 const PLACES: usize = 256;
 
 /// For a few bits of a label's number, the place at which the verdict on such a label was found last.
 ///
-/// A place is a guess: labels that share these bits share it, and whoever asks sees whether the verdict there is on his label.
+/// A place is a guess: labels that share these bits share it, and whoever asks sees whether the verdict there is on his label. The
+/// memory is taken with the first place that is noted; where it lacks none is.
 #[derive(Drop)]
 pub(crate) struct Hints {
-    places: [u8; PLACES],
+    places: Vec<u8>,
 }
 
 impl Hints {
-    /// The first place for every label.
-    pub(crate) fn new() -> Hints {
+    /// The first place for every label. It takes no memory.
+    pub(crate) fn new(alloc: Global) -> Hints {
         Hints {
-            places: [0; PLACES],
+            places: Vec::new(alloc),
         }
     }
 
@@ -33,6 +36,13 @@ impl Hints {
         let Ok(place) = u8::try_from(place) else {
             return;
         };
+        if self.places.is_empty() {
+            let alloc = *self.places.allocator();
+            self.places = match Vec::from_elem(alloc, 0, PLACES) {
+                Ok(places) => places,
+                Err(_) => return,
+            };
+        }
         if let Some(noted) = self.places.get_mut(slot_of(number)) {
             *noted = place;
         }

@@ -14,7 +14,7 @@
 //! | `last_column` | the column of the last record that a rule observed, and the one next after it |
 //! | `named_column` | where the columns that a scan names begin in a row |
 //! | `verdicts`, `hints` | verdicts on labels, kept and found again, and where those on longer labels were found last |
-//! | `known_verdicts` | verdicts on short labels, found by number |
+//! | `known_verdicts`, `guesses` | verdicts on short labels, found by number, and guesses at them |
 //! | `layers` | what a scan reads: its rules, one behind the other, in one layer |
 //! | `merged` | what a merge writes: its rules, one behind the other, in one layer |
 //!
@@ -28,6 +28,7 @@ mod deleting_rule;
 mod fetching_rule;
 mod filtered;
 mod first_markers_rule;
+mod guesses;
 mod hints;
 mod known_verdicts;
 mod last_column;

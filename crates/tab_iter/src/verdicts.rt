@@ -1,9 +1,12 @@
 //! Verdicts on labels, kept and found again.
-ghost use Rattle.std.specs.Prelude.{◌≡◌, ◌≤◌, List, ℕ, IfSome, length};
+ghost use Rattle.std.specs.Prelude.{◌≡◌, ◌≤◌, ◌<◌, ◌^◌, List, ℕ, IfSome, IsTrue, length};
+ghost use Rattle.tab_key.specs.Words.{IsWord};
 ghost use Rattle.tab_label.specs.Holding.{label_holds};
 ghost use Rattle.tab_iter.specs.Verdicts.{label_in, AreSound, IsIn, IsSound};
 
 use crate::NoMemory;
+use crate::hints::{Hints, mixed};
+use crate::known_verdicts::KnownVerdicts;
 use std::alloc::Global;
 
 // How many verdicts are kept at most.
@@ -23,12 +26,15 @@ pub(crate) struct Verdict {
 /// Verdicts on labels under one set of authorizations, with which a scan goes on in its next batch: so each label is judged once a
 /// session, as long as there are no more than 1,024 of 65,536 bytes in all. Of more it remembers those that came first.
 ///
-/// The labels lie one after another in one body: none has memory of its own.
+/// The labels lie one after another in one body: none has memory of its own. The last verdicts on short labels are found by their
+/// numbers too, and where those on longer ones were found last is remembered.
 #[derive(Drop)]
 pub struct Verdicts {
     pub(crate) body: Vec<u8>,
     // in the order of the labels' bytes
     pub(crate) kept: Vec<Verdict>,
+    pub(crate) known: KnownVerdicts,
+    hints: Hints,
 }
 
 impl Verdicts {
@@ -39,7 +45,49 @@ impl Verdicts {
         Verdicts {
             body: Vec::new(alloc),
             kept: Vec::new(alloc),
+            known: KnownVerdicts::none(alloc),
+            hints: Hints::new(alloc),
         }
+    }
+
+    /// Whether it is remembered of the short label of this number that it holds, or that it doesn't.
+    #[inline]
+    pub(crate) fn is_known(&self, word: u64, holds: bool) -> bool
+        requires { word < 2 ^ 57 }
+        ensures { IsTrue result → (auths : List (List ℕ)) (label : List ℕ) → IsSound auths self.now → IsWord word label → holds ≡ label_holds label auths }
+    {
+        self.known.is_told(word, holds)
+    }
+
+    /// Whether the short label of this number holds, if that is remembered.
+    pub(crate) fn known(&self, word: u64) -> Option<bool>
+        requires { word < 2 ^ 57 }
+        ensures { IfSome result (λ b. (auths : List (List ℕ)) (label : List ℕ) → IsSound auths self.now → IsWord word label → b ≡ label_holds label auths) }
+    {
+        self.known.get(word)
+    }
+
+    /// Remembers whether the short label of this number holds. The error comes only from want of memory, and leaves the verdicts as they
+    /// were.
+    pub(crate) fn note(&mut self, word: u64, holds: bool) -> Result<(), NoMemory>
+        requires { word < 2 ^ 57 }
+        ensures { (auths : List (List ℕ)) (label : List ℕ) → IsWord word label → holds ≡ label_holds label auths → IsSound auths self.old → IsSound auths self.new }
+    {
+        self.known.note(word, holds)
+    }
+
+    /// Whether this label holds, if the verdict on it is where one on such a label was found last.
+    pub(crate) fn find_hinted(&self, label: &[u8]) -> Option<bool>
+        ensures { IfSome result (λ b. (auths : List (List ℕ)) → IsSound auths self.now → b ≡ label_holds label.now auths) }
+    {
+        self.find_at(self.hints.place_of(mixed(label)), label)
+    }
+
+    /// Remembers that the verdict on such a label is at this place.
+    pub(crate) fn hint(&mut self, label: &[u8], place: usize)
+        ensures { (auths : List (List ℕ)) → IsSound auths self.old → IsSound auths self.new }
+    {
+        self.hints.note(mixed(label), place);
     }
 
     /// Whether this label holds, if the verdict at a place is on it.

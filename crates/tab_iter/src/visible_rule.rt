@@ -1,20 +1,16 @@
 //! Which records have a label that holds.
-ghost use Rattle.std.specs.Prelude.{◌≡◌, Bool, true, IfOk, IsTrue, ⊤};
+ghost use Rattle.std.specs.Prelude.{◌≡◌, ◌<◌, ◌≤◌, ◌^◌, Bool, true, IfOk, IfSome, IsTrue, length, ⊤};
 ghost use Rattle.tab_key.specs.Words.{IsWord};
 ghost use Rattle.tab_label.specs.Holding.{label_holds};
-ghost use Rattle.tab_iter.specs.Verdicts.{IsSound, AreTold};
+ghost use Rattle.tab_iter.specs.Verdicts.{IsSound};
 ghost use Rattle.tab_iter.specs.Propositions.{IsSound-prop};
 
-use crate::hints::{Hints, mixed};
-use crate::known_verdicts::KnownVerdicts;
+use crate::guesses::Guesses;
 use crate::rule::nowhere;
 use crate::{NoMemory, Rule, Verdicts};
 use std::alloc::Global;
 use tab_key::{Key, RecordRef};
 use tab_label::{AuthSet, is_visible};
-
-// So many guesses a record's head can give.
-const GUESSES: usize = 256;
 
 /// Lets the records through whose label holds under a set of authorizations.
 ///
@@ -24,13 +20,8 @@ pub struct VisibleRule<'a> {
     auths: &'a AuthSet,
     // the verdicts on the labels observed, and on those of batches before
     verdicts: Verdicts,
-    // where those on longer ones were found last
-    hints: Hints,
-    // the last ones on short labels, by number
-    known: KnownVerdicts,
-    // what the last record was found to be of which the same guess can be made at its label
-    guesses: [bool; GUESSES],
-    ghost told: { AreTold auths.now known.words known.holds },
+    // by what can be guessed of a label out of its record's head
+    guesses: Guesses,
     ghost sound: { IsSound auths.now verdicts } by { IsSound-prop auths.now verdicts },
 }
 
@@ -43,9 +34,7 @@ impl<'a> VisibleRule<'a> {
         VisibleRule {
             auths,
             verdicts,
-            hints: Hints::new(),
-            known: KnownVerdicts::none(),
-            guesses: [false; GUESSES],
+            guesses: Guesses::new(),
         }
     }
 
@@ -71,8 +60,8 @@ impl<'a> VisibleRule<'a> {
     fn is_known(&self, next: &RecordRef<'_>, holds: bool) -> bool
         ensures { IsTrue result → holds ≡ label_holds next.now.key.label self.now.auths.now }
     {
-        match next.label_word() {
-            Some(word) => self.known.get(word) == Some(holds),
+        match short_label(next) {
+            Some(word) => self.verdicts.is_known(word, holds),
             None => false,
         }
     }
@@ -84,7 +73,7 @@ impl<'a> VisibleRule<'a> {
         ensures holds { IfOk result (λ b. b ≡ label_holds next.now.key.label self.old.auths.now) }
     {
         let holds = self.observe_label(next)?;
-        self.guesses[usize::from(next.label_guess())] = holds;
+        self.guesses.note(next.label_guess(), holds);
         Ok(holds)
     }
 
@@ -92,10 +81,10 @@ impl<'a> VisibleRule<'a> {
         ensures same { self.new.auths.now ≡ self.old.auths.now }
         ensures holds { IfOk result (λ b. b ≡ label_holds next.now.key.label self.old.auths.now) }
     {
-        let Some(word) = next.label_word() else {
+        let Some(word) = short_label(next) else {
             return self.observe_long(next.label());
         };
-        match self.known.get(word) {
+        match self.verdicts.known(word) {
             Some(holds) => Ok(holds),
             None => self.observe_new(next.label(), word),
         }
@@ -107,35 +96,44 @@ impl<'a> VisibleRule<'a> {
         ensures same { self.new.auths.now ≡ self.old.auths.now }
         ensures holds { IfOk result (λ b. b ≡ label_holds label.now self.old.auths.now) }
     {
-        match self
-            .verdicts
-            .find_at(self.hints.place_of(mixed(label)), label)
-        {
+        match self.verdicts.find_hinted(label) {
             Some(holds) => Ok(holds),
-            None => self.judge(label),
+            None => self.observe_elsewhere(label),
         }
+    }
+
+    // Whether a label holds on which no verdict was found where one was found last.
+    fn observe_elsewhere(&mut self, label: &[u8]) -> Result<bool, NoMemory>
+        ensures same { self.new.auths.now ≡ self.old.auths.now }
+        ensures holds { IfOk result (λ b. b ≡ label_holds label.now self.old.auths.now) }
+    {
+        let place = self.verdicts.count_before(label);
+        let holds = self.judge_at(place, label)?;
+        self.verdicts.hint(label, place);
+        Ok(holds)
     }
 
     // Whether the short label of this number holds, on which no verdict is remembered by number.
     #[inline(never)]
     fn observe_new(&mut self, label: &[u8], word: u64) -> Result<bool, NoMemory>
-        requires { IsWord word label.now }
-        ensures same { self.new.auths.now ≡ self.old.auths.now }
-        ensures holds { IfOk result (λ b. b ≡ label_holds label.now self.old.auths.now) }
-    {
-        let holds = self.judge(label)?;
-        self.known.note(word, holds);
-        Ok(holds)
-    }
-
-    // Whether a label holds: by the verdict on it that is kept, or else by a new one.
-    #[inline(never)]
-    fn judge(&mut self, label: &[u8]) -> Result<bool, NoMemory>
+        requires word { IsWord word label.now }
+        requires small { word < 2 ^ 57 }
         ensures same { self.new.auths.now ≡ self.old.auths.now }
         ensures holds { IfOk result (λ b. b ≡ label_holds label.now self.old.auths.now) }
     {
         let place = self.verdicts.count_before(label);
-        self.hints.note(mixed(label), place);
+        let holds = self.judge_at(place, label)?;
+        self.verdicts.note(word, holds)?;
+        Ok(holds)
+    }
+
+    // Whether a label holds that has this place among those judged: by the verdict on it that is kept, or else by a new one.
+    #[inline(never)]
+    fn judge_at(&mut self, place: usize, label: &[u8]) -> Result<bool, NoMemory>
+        requires { place ≤ length self.old.verdicts.kept.items }
+        ensures same { self.new.auths.now ≡ self.old.auths.now }
+        ensures holds { IfOk result (λ b. b ≡ label_holds label.now self.old.auths.now) }
+    {
         match self.verdicts.find_at(place, label) {
             Some(holds) => Ok(holds),
             None => {
@@ -145,6 +143,15 @@ impl<'a> VisibleRule<'a> {
             }
         }
     }
+}
+
+// The number of the record's label, if that is short; there is room in it for one bit more.
+#[inline]
+fn short_label(next: &RecordRef<'_>) -> Option<u64>
+    ensures word { IfSome result (λ w. IsWord w next.now.key.label) }
+    ensures small { IfSome result (λ w. w < 2 ^ 57) }
+{
+    next.label_word()
 }
 
 impl<'a> Rule for VisibleRule<'a> {
@@ -162,7 +169,7 @@ impl<'a> Rule for VisibleRule<'a> {
     #[inline]
     fn observe(&mut self, next: &RecordRef<'_>) -> Result<bool, NoMemory> {
         // What is guessed is there at once, and what follows begins with it; whether the guess was right is seen meanwhile.
-        let guess = self.guesses[usize::from(next.label_guess())];
+        let guess = self.guesses.get(next.label_guess());
         if self.is_known(next, guess) {
             return Ok(guess);
         }

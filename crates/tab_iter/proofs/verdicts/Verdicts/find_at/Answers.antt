@@ -13,6 +13,6 @@ returns-then-eq c =
     let lent : c.deref.result.now ≡ c.args.self.now.kept.items = search rules in
     let whole : body ≡ c.args.self.now.body.items = search rules in
     λ auths s.
-    let told = sound_at auths body c.deref.result.now c.args.place c.in-Some.found.now found.3.0 found.1 (subst (λ b. AreSound auths b c.deref.result.now) (sym whole) (subst (AreSound auths c.args.self.now.body.items) (sym lent) s)) in
+    let told = sound_at auths body c.deref.result.now c.args.place c.in-Some.found.now found.3.0 found.1 (subst (λ b. AreSound auths b c.deref.result.now) (sym whole) (subst (AreSound auths c.args.self.now.body.items) (sym lent) s.0)) in
     let same = sym (c.label_of.ensures told.0) ∙ (bytes_eq-Decides c.label_of.result.now c.args.label.now).0 (sym c.if-eq.ensures) in
     told.1 ∙ ap (λ l. label_holds l auths) same

@@ -11,4 +11,4 @@ returns c =
     let kept : c.insert.new.self.items ≡ insert c.args.self.now.kept.items c.args.place j = c.in_ok-insert.ensures.items ∙ ap (λ js. insert js c.args.place j) (search rules) in
     let start : c.len-start.result ≡ _ = search rules in
     let end : c.len-end.result ≡ _ = search rules in
-    λ auths h s. sound_more auths c.args.self.now.body.items c.args.label.now _ c.args.self.now.kept.items _ c.args.place j c.in_ok-extend_from_slice.ensures.items kept start end h s
+    λ auths h s. (sound_more auths c.args.self.now.body.items c.args.label.now _ c.args.self.now.kept.items _ c.args.place j c.in_ok-extend_from_slice.ensures.items kept start end h s.0, s.1)
