@@ -1,7 +1,7 @@
 -- A session as its whole answer and how many of its cells were given.
 use Rattle.std.proofs.Common.{◌≡◌, ℕ, ◌+◌, ◌-◌, ◌≤◌, min, List, [], ◌∷◌, Bool, true, false, cond, refl, sym, ◌∙◌, ap, map, take, drop, length, arith, length-drop, length-take}
 use Rattle.std.proofs.lemmas.List.{drop-map, length-map}
-use Rattle.std.specs.Prelude.{Option, Some, None}
+use Rattle.std.specs.Prelude.{Option, Some, None, MatchOption}
 use Rattle.tab_key.specs.Order.{stands_before}
 use Rattle.tab_key.specs.Records.{Record, Cell, cell_of}
 use Rattle.tab_key.specs.declared.column.Column.{Column}
@@ -37,11 +37,24 @@ ahead_fits : (b : Option Bookmark) (w : List Record) → length (ahead_of b w) �
 ahead_fits b w = omega (arith, ap length (drops_given b w), length-drop (given_of b w) w)
 
 -- ---- a new session
-pub begins : (us : List Record) (n : ℕ) (columns : List Column) (auths : List (List ℕ)) (w : List Record) → w ≡ shown us n columns auths → ◌≡◌ {A = SessionState} (record { all = map cell_of w; given = given_of (Some Beginning) w }) (record { all = cells us n (query_of columns auths); given = 0 })
+begins : (us : List Record) (n : ℕ) (columns : List Column) (auths : List (List ℕ)) (w : List Record) → w ≡ shown us n columns auths → ◌≡◌ {A = SessionState} (record { all = map cell_of w; given = given_of (Some Beginning) w }) (record { all = cells us n (query_of columns auths); given = 0 })
 unfolding cells
 begins us n columns auths w e =
     let none : length w - length w ≡ 0 = omega arith in
     λ i. record { all = map cell_of (e i); given = none i }
+
+-- a session on no records begins behind them
+pub begins_nowhere : (us : List Record) (n : ℕ) (columns : List Column) (auths : List (List ℕ)) (w : List Record) → us ≡ [] → w ≡ shown us n columns auths → ◌≡◌ {A = SessionState} (record { all = map cell_of w; given = given_of None w }) (record { all = cells us n (query_of columns auths); given = 0 })
+unfolding cells
+begins_nowhere us n columns auths w none e =
+    let bare : length w ≡ 0 = ap length e ∙ ap (λ (vs : List Record). length (shown vs n columns auths)) none in
+    let given : length w - 0 ≡ 0 = omega (arith, bare) in
+    λ i. record { all = map cell_of (e i); given = given i }
+
+-- where a session begins
+pub begins_at : (b : Option Bookmark) (us : List Record) (n : ℕ) (columns : List Column) (auths : List (List ℕ)) (w : List Record) → MatchOption b (us ≡ []) (λ m. m ≡ Beginning) → w ≡ shown us n columns auths → ◌≡◌ {A = SessionState} (record { all = map cell_of w; given = given_of b w }) (record { all = cells us n (query_of columns auths); given = 0 })
+begins_at None us n columns auths w at e = begins_nowhere us n columns auths w at e
+begins_at (Some m) us n columns auths w at e = rw at (begins us n columns auths w e)
 
 -- ---- a batch
 abbrev held : Option Bookmark → List Record → SessionState

@@ -1,10 +1,11 @@
 //! Where a session goes on.
-ghost use Rattle.std.specs.Prelude.{◌≡◌, IfOk, OnOk};
+ghost use Rattle.std.specs.Prelude.{◌≡◌, [], IfOk, MatchOption, OnOk};
 ghost use Rattle.tab_session.specs.Bookmarks.{from_record, ahead_of};
 
 use std::alloc::{AllocError, Global};
 use tab_iter::{NoMemory, Source};
 use tab_key::Record;
+use tab_version::Version;
 
 /// A place in a list of records, which a session goes on from.
 ///
@@ -18,6 +19,17 @@ pub(crate) enum Bookmark {
 }
 
 impl Bookmark {
+    /// Where a session on the version begins; nowhere where the version has no record, and nothing is ever read of it.
+    pub(crate) fn first(version: &Version) -> Option<Bookmark>
+        ensures { MatchOption result (version.now ≡ []) (λ b. b ≡ Bookmark.Beginning) }
+    {
+        if version.is_empty() {
+            None
+        } else {
+            Some(Bookmark::Beginning)
+        }
+    }
+
     /// The place of the first record that the source has left; none at its end.
     pub(crate) fn of<S: Source>(alloc: Global, source: &S) -> Result<Option<Bookmark>, AllocError>
         ensures { IfOk result (λ b. ahead_of b (S.whole source.now) ≡ S.rest source.now) }

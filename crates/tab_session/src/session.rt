@@ -49,9 +49,10 @@ impl Session {
     ) -> Session
         ensures { result ≡ record { all = cells version versions (query_of columns auths); given = 0 } }
     {
+        let next = Bookmark::first(&version);
         Session {
             scan: SnapshotScan::new(alloc, version, columns, auths, versions),
-            next: Some(Bookmark::Beginning),
+            next,
             took: Room::unknown(),
         }
     }

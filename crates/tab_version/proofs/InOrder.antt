@@ -175,3 +175,16 @@ shown_sorted us ws n columns auths d is =
 pub cells_sorted : (us ws : List Record) (n : ℕ) (columns : List Column) (auths : List (List ℕ)) → IsDistinct us → ws ≡ sorted us → cells ws n (query_of columns auths) ≡ cells us n (query_of columns auths)
 unfolding cells
 cells_sorted us ws n columns auths d is = ap (map cell_of) (shown_sorted us ws n columns auths d is)
+
+-- ---- none is empty
+is_none : (n : ℕ) (us vs : List Record) → sorted us ≢ [] → (suc n == 0) ≡ (length (us ++ vs) == 0)
+is_none n [] vs filled = absurd (filled refl)
+is_none n (u ∷ us) vs filled = eqb-suc-zero n ∙ sym (eqb-suc-zero (length (us ++ vs)))
+
+-- so where there is no record there is no tablet
+pub none_of_all : (ts : List Sources) → AreInTurn (in_order ts) → (length ts == 0) ≡ (length (flat (map records_of ts)) == 0)
+none_of_all ts turn = go ts turn.filled
+  where
+    go : (ss : List Sources) → AllByRecursion (λ (xs : List Record). xs ≢ []) (in_order ss) → (length ss == 0) ≡ (length (flat (map records_of ss)) == 0)
+    go [] filled = refl
+    go (s ∷ ss) filled = is_none (length ss) (records_of s) (flat (map records_of ss)) filled.0

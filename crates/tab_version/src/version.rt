@@ -1,5 +1,5 @@
 //! The records of tablets.
-ghost use Rattle.std.specs.Prelude.{◌≡◌, true, map, IfOk, OnOk};
+ghost use Rattle.std.specs.Prelude.{◌≡◌, ◌==◌, true, length, map, IfOk, OnOk};
 ghost use Rattle.tab_key.specs.Sorted.{sorted};
 ghost use Rattle.tab_key.specs.Records.{cell_of};
 ghost use Rattle.tab_cells.specs.Cells.{cells};
@@ -57,6 +57,13 @@ impl Version {
         drop_empty(&mut filled);
         read_all(&filled);
         Version { tablets: filled }
+    }
+
+    /// Whether there is no record. None is read for it.
+    pub fn is_empty(&self) -> bool
+        ensures { result ≡ (length self.now == 0) }
+    {
+        self.tablets.is_empty()
     }
 
     /// The records that a scan of all rows shows: of these columns, under these authorizations, so many versions of each column. There
