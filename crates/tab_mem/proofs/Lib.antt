@@ -24,3 +24,4 @@ pub mod ByClass
 pub mod Bounded
 pub mod CutPrefix
 pub mod Apart
+pub mod SameRow

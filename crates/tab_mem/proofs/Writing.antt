@@ -167,9 +167,9 @@ written_same xs ys p h =
     moved_order (as_written ys) (as_written xs) (rising_written ys (apart_moved xs ys p h.apart)) (rising_written xs h.apart)
     (IsPermutation-trans (as_written ys) ys (as_written xs) (IsPermutation-sym ys (as_written ys) (written_moves ys)) (IsPermutation-trans ys xs (as_written xs) (IsPermutation-sym xs ys p) (written_moves xs)))
 
--- how many they are, in three places
-pub written_count : (ws ps rs : List Record) → length ws + length ps + length rs ≡ length (as_written (ws ++ (ps ++ rs)))
-written_count ws ps rs = omega (arith, length_permutation (ws ++ (ps ++ rs)) (as_written (ws ++ (ps ++ rs))) (written_moves (ws ++ (ps ++ rs))), length-append ws (ps ++ rs), length-append ps rs)
+-- how many they are, in two places
+pub written_count : (ws ks : List Record) → length ws + length ks ≡ length (as_written (ws ++ ks))
+written_count ws ks = omega (arith, length_permutation (ws ++ ks) (as_written (ws ++ ks)) (written_moves (ws ++ ks)), length-append ws ks)
 
 -- ---- their order at a freeze
 apart_distinct : (xs : List Record) → IsDistinct (eq_by_cmp written_cmp) xs → key.IsDistinct xs
@@ -264,32 +264,29 @@ written_refused front back now (Ok x) err = tt
 written_refused front back now (Err e) err = ap (λ l. as_written (l ++ back)) err
 
 -- ---- a freeze
--- what lies in three places, lent one behind the other
-pub lent_all : (ws ps rs first second third : List Record) → first ≡ ws → second ≡ first ++ ps → third ≡ second ++ rs → third ≡ ws ++ (ps ++ rs)
-lent_all ws ps rs first second third e f g = g ∙ ap (λ l. l ++ rs) (f ∙ ap (λ l. l ++ ps) e) ∙ append_assoc ws ps rs
+-- what lies in two places, lent one behind the other
+pub lent_both : (ws ks first second : List Record) → first ≡ ws → second ≡ first ++ ks → second ≡ ws ++ ks
+lent_both ws ks first second e f = f ∙ ap (λ l. l ++ ks) e
 
 -- the records in their order make a run
 pub held_run : (us : List Record) → IsHeld us → IsRun (sorted us)
 held_run us h = record { rising = rising_sorted us (held_distinct us h); timestamps = λ u k. h.timestamps u (in_sorted us u k) }
 
--- what was put behind sorted parts in its order, and the rest
-pub parts_moved : (all ws ps rs : List Record) → rs ≡ [] → ps ++ sorted ws ≡ sorted all → IsPermutation all (ws ++ (ps ++ rs))
-parts_moved all ws ps rs none e =
-    subst (λ (l : List Record). IsPermutation all (ws ++ (ps ++ l))) (sym none)
-    (subst (λ (l : List Record). IsPermutation all (ws ++ l)) (sym (append-nil ps))
-    (IsPermutation-trans all (ps ++ ws) (ws ++ ps) back (IsPermutation-append_comm ps ws)))
+-- what was sorted, and the rest
+pub parts_moved : (all ws ks : List Record) → ks ++ sorted ws ≡ sorted all → IsPermutation all (ws ++ ks)
+parts_moved all ws ks e = IsPermutation-trans all (ks ++ ws) (ws ++ ks) back (IsPermutation-append_comm ks ws)
   where
-    back : IsPermutation all (ps ++ ws)
-    back = IsPermutation-sym (ps ++ ws) all (IsPermutation-trans (ps ++ ws) (ps ++ sorted ws) all (IsPermutation-append_right ps ws (sorted ws) (sorted_moves ws))
+    back : IsPermutation all (ks ++ ws)
+    back = IsPermutation-sym (ks ++ ws) all (IsPermutation-trans (ks ++ ws) (ks ++ sorted ws) all (IsPermutation-append_right ks ws (sorted ws) (sorted_moves ws))
         (subst (λ (l : List Record). IsPermutation l all) (sym e) (IsPermutation-sym all (sorted all) (sorted_moves all))))
 
 -- what is sorted and all
-pub run_moved : (all ws ps rs : List Record) → ws ≡ [] → ps ++ rs ≡ sorted all → IsPermutation all (ws ++ (ps ++ rs))
-run_moved all ws ps rs none e = subst (λ (l : List Record). IsPermutation all (l ++ (ps ++ rs))) (sym none) (subst (IsPermutation all) (sym e) (sorted_moves all))
+pub run_moved : (all ws ks : List Record) → ws ≡ [] → ks ≡ sorted all → IsPermutation all (ws ++ ks)
+run_moved all ws ks none e = subst (λ (l : List Record). IsPermutation all (l ++ ks)) (sym none) (subst (IsPermutation all) (sym e) (sorted_moves all))
 
--- what stays where it was, joined otherwise
-pub same_moved : (all now : List Record) → now ≡ all → IsPermutation all now
-same_moved all now e = subst (IsPermutation all) (sym e) (IsPermutation-refl all)
+-- what stays where it was
+pub same_moved : (ws ks left kept : List Record) → left ≡ ws → kept ≡ ks → IsPermutation (ws ++ ks) (left ++ kept)
+same_moved ws ks left kept e f = subst (IsPermutation (ws ++ ks)) (λ i. sym e i ++ sym f i) (IsPermutation-refl (ws ++ ks))
 
 -- a run that holds all of them
 rising_distinct : (xs : List Record) → IsStrictlySortedBy record_cmp xs → key.IsDistinct xs
@@ -303,25 +300,14 @@ rising_distinct (x ∷ xs) s = (each_map (λ y. record_cmp x y ≡ Less) (λ y. 
 pub rising_alone : (rs : List Record) → IsStrictlySortedBy record_cmp rs → sorted rs ≡ rs
 rising_alone rs r = sym (same_rising rs (sorted rs) r (rising_sorted rs (rising_distinct rs r)) (sorted_in rs) (in_sorted rs))
 
-pub run_alone : (ws ps rs : List Record) → ws ≡ [] → ps ≡ [] → IsHeld (ws ++ (ps ++ rs)) → IsStrictlySortedBy record_cmp rs → rs ≡ sorted (as_written (ws ++ (ps ++ rs)))
-run_alone ws ps rs none none_sorted h r =
-    let all : ws ++ (ps ++ rs) ≡ rs = λ i. none i ++ (none_sorted i ++ rs) in
-    sym (written_sorted (ws ++ (ps ++ rs)) h ∙ ap sorted all ∙ rising_alone rs r)
+pub run_alone : (ws ks : List Record) → ws ≡ [] → IsHeld (ws ++ ks) → IsStrictlySortedBy record_cmp ks → ks ≡ sorted (as_written (ws ++ ks))
+run_alone ws ks none h r = sym (written_sorted (ws ++ ks) h ∙ ap (λ l. sorted (l ++ ks)) none ∙ rising_alone ks r)
 
 -- .. and is shared
-pub shared_alone : {R E : Type 0} (r : Result (Option R) E) (value : R → List Record) (ws ps rs all : List Record) → length ws ≡ 0 → length ps ≡ 0 → IsHeld (ws ++ (ps ++ rs)) → as_written (ws ++ (ps ++ rs)) ≡ all → IfOk r (λ o. IfSome o (λ s. (value s ≡ rs) × IsRising rs)) → IfOk r (λ o. IfSome o (λ s. value s ≡ sorted all))
-shared_alone r value ws ps rs all none none_sorted h is k =
-    IfOk-weaker r (λ o. IfSome o (λ s. (value s ≡ rs) × IsRising rs)) (λ o. IfSome o (λ s. value s ≡ sorted all))
-    (λ o q. IfSome_then o q (λ s m. m.0 ∙ run_alone ws ps rs (nil_from_length ws none) (nil_from_length ps none_sorted) h m.1 ∙ ap sorted is)) k
-
--- what lay in three places, gathered in the first
-pub run_gathered : {E : Type 0} (r : Result ⊤ E) (ws ps rs ws1 ps1 ws2 rs2 : List Record) → ws1 ≡ ws ++ ps → ps1 ≡ [] → OnOk r (ws2 ≡ ws1 ++ rs) → OnOk r (rs2 ≡ []) → OnErr r (ws2 ≡ ws1) → OnErr r (rs2 ≡ rs) → ws2 ++ (ps1 ++ rs2) ≡ ws ++ (ps ++ rs)
-run_gathered (Ok x) ws ps rs ws1 ps1 ws2 rs2 e none f g h k =
-    (λ i. f i ++ (none i ++ g i)) ∙ append-nil (ws1 ++ rs) ∙ ap (λ l. l ++ rs) e ∙ append_assoc ws ps rs
-run_gathered (Err x) ws ps rs ws1 ps1 ws2 rs2 e none f g h k = (λ i. h i ++ (none i ++ k i)) ∙ ap (λ l. l ++ rs) e ∙ append_assoc ws ps rs
-
-pub gathered_all : (ws ps rs all : List Record) → ps ≡ [] → rs ≡ [] → ws ++ (ps ++ rs) ≡ all → ws ≡ all
-gathered_all ws ps rs all none none_made e = sym (append-nil ws) ∙ (λ i. ws ++ (sym none i ++ sym none_made i)) ∙ e
+pub shared_alone : {R E : Type 0} (r : Result (Option R) E) (value : R → List Record) (ws ks all : List Record) → length ws ≡ 0 → IsHeld (ws ++ ks) → as_written (ws ++ ks) ≡ all → IfOk r (λ o. IfSome o (λ s. (value s ≡ ks) × IsRising ks)) → IfOk r (λ o. IfSome o (λ s. value s ≡ sorted all))
+shared_alone r value ws ks all none h is k =
+    IfOk-weaker r (λ o. IfSome o (λ s. (value s ≡ ks) × IsRising ks)) (λ o. IfSome o (λ s. value s ≡ sorted all))
+    (λ o q. IfSome_then o q (λ s m. m.0 ∙ run_alone ws ks (nil_from_length ws none) h m.1 ∙ ap sorted is)) k
 
 -- ---- none
 pub none_held : IsHeld []

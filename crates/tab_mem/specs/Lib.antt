@@ -6,4 +6,5 @@ pub mod Fronts
 pub mod Groups
 pub mod Parting
 pub mod Partitions
+pub mod Layouts
 pub mod Writing

@@ -7,14 +7,17 @@ ghost use Rattle.tab_cells.specs.Written.{mutation_records};
 
 use crate::Run;
 use crate::freezing::frozen;
-use crate::kept_run::KeptRun;
+use crate::kept::Kept;
 use crate::partitions::Partitions;
-use crate::records::Records;
 use crate::sorting::{copied, sort_items};
 use std::alloc::{AllocError, Global};
 use std::marker::Model;
+use std::mem::size_of;
 use std::sync::Arc;
 use tab_mutation::Mutation;
+
+// An active part takes at most 56 bytes until its records are many: it lies in each tablet, and so in each empty table.
+const _: () = prove!(size_of::<Active>() <= 56);
 
 /// The records that were written since the last freeze, in the order in which they were written. A contract sees their list.
 ///
@@ -22,10 +25,8 @@ use tab_mutation::Mutation;
 #[derive(Drop)]
 pub struct Active {
     written: Partitions,
-    // what a freeze had sorted when memory lacked
-    parts: Records,
-    // what a freeze made, until this is frozen in its place
-    run: KeptRun,
+    // what a freeze made, until this is frozen in its place, or had sorted when memory lacked
+    kept: Kept,
 }
 
 impl Model for Active {
@@ -35,9 +36,9 @@ impl Model for Active {
 
     ghost Value = { List Fields };
 
-    ghost view = { λ a. as_written (a.written ++ (a.parts ++ a.run)) };
+    ghost view = { λ a. as_written (a.written ++ a.kept) };
 
-    ghost invariant = { λ a. IsHeld (a.written ++ (a.parts ++ a.run)) };
+    ghost invariant = { λ a. IsHeld (a.written ++ a.kept) };
 }
 
 impl Active {
@@ -47,8 +48,7 @@ impl Active {
     {
         Active {
             written: Partitions::new(alloc),
-            parts: Records::new(alloc),
-            run: KeptRun::none(),
+            kept: Kept::nothing(),
         }
     }
 
@@ -57,7 +57,7 @@ impl Active {
         ensures len { result ≡ length self.now }
         ensures distinct { IsDistinct self.now }
     {
-        self.written.len() + self.parts.len() + self.run.len()
+        self.written.len() + self.kept.len()
     }
 
     /// Whether there is no record.
@@ -111,7 +111,7 @@ impl Active {
     {
         match self.made()? {
             Some(run) => Ok(run),
-            None => frozen(alloc, &mut self.written, &mut self.parts, &mut self.run),
+            None => frozen(alloc, &mut self.written, &mut self.kept),
         }
     }
 
@@ -122,10 +122,7 @@ impl Active {
         if !self.written.is_empty() {
             return Ok(None);
         }
-        if !self.parts.is_empty() {
-            return Ok(None);
-        }
-        self.run.share()
+        self.kept.share()
     }
 
     // A run of copies.
@@ -133,8 +130,7 @@ impl Active {
         ensures { IfOk result (λ run. run.value ≡ sorted self.now) }
     {
         let mut items = self.written.items(alloc)?;
-        self.parts.lend_to(&mut items)?;
-        self.run.lend_to(&mut items)?;
+        self.kept.lend_to(&mut items)?;
         sort_items(&mut items);
         let records = copied(alloc, &items, self.written.byte_len())?;
         let run = Arc::new(alloc, Run { records })?;

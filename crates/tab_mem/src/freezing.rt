@@ -6,137 +6,108 @@ ghost use Rattle.tab_iter.specs.Lists.{IsRising};
 ghost use Rattle.tab_mem.specs.Writing.{IsHeld};
 
 use crate::Run;
-use crate::kept_run::KeptRun;
+use crate::kept::Kept;
 use crate::partitions::Partitions;
 use crate::records::Records;
 use std::alloc::{AllocError, Global};
 use std::mem;
 use std::sync::Arc;
 
-/// A run of all records, in their order, which is kept in the last place too.
+/// A run of all records, in their order, which is kept too.
 ///
 /// `AllocError` may leave the records in other places than they were: none is lost, and none stands twice.
 pub(crate) fn frozen(
     alloc: Global,
     written: &mut Partitions,
-    parts: &mut Records,
-    run: &mut KeptRun,
+    kept: &mut Kept,
 ) -> Result<Arc<Run>, AllocError>
-    requires { IsHeld (written.old ++ (parts.old ++ run.old)) }
-    ensures ok { IfOk result (λ made. made.value ≡ sorted (written.old ++ (parts.old ++ run.old))) }
-    ensures moved { IsPermutation (written.old ++ (parts.old ++ run.old)) (written.new ++ (parts.new ++ run.new)) }
+    requires { IsHeld (written.old ++ kept.old) }
+    ensures ok { IfOk result (λ made. made.value ≡ sorted (written.old ++ kept.old)) }
+    ensures moved { IsPermutation (written.old ++ kept.old) (written.new ++ kept.new) }
 {
-    gather(alloc, written, parts, run)?;
-    sort_all(alloc, written, parts)?;
-    finish(alloc, parts, run)
+    gather(alloc, written, kept)?;
+    let parts = sort_all(alloc, written, kept)?;
+    finish(alloc, parts, kept)
 }
 
-// Puts what lies in the other places behind what was written, as copies.
-fn gather(
-    alloc: Global,
-    written: &mut Partitions,
-    parts: &mut Records,
-    run: &mut KeptRun,
-) -> Result<(), AllocError>
-    ensures parts { OnOk result (parts.new ≡ []) }
-    ensures run { OnOk result (run.new ≡ []) }
-    ensures kept { written.new ++ (parts.new ++ run.new) ≡ written.old ++ (parts.old ++ run.old) }
-{
-    gather_parts(alloc, written, parts)?;
-    gather_run(alloc, written, run)
-}
-
-// Moves the records of the parts behind those written. `AllocError` leaves all as it was.
-fn gather_parts(
-    alloc: Global,
-    written: &mut Partitions,
-    parts: &mut Records,
-) -> Result<(), AllocError>
-    ensures ok { OnOk result (written.new ≡ written.old ++ parts.old) }
-    ensures empty { OnOk result (parts.new ≡ []) }
+// Moves what was kept behind what was written. `AllocError` leaves all as it was.
+fn gather(alloc: Global, written: &mut Partitions, kept: &mut Kept) -> Result<(), AllocError>
+    ensures ok { OnOk result (written.new ≡ written.old ++ kept.old) }
+    ensures empty { OnOk result (kept.new ≡ []) }
     ensures err { OnErr result (written.new ≡ written.old) }
-    ensures left { OnErr result (parts.new ≡ parts.old) }
+    ensures left { OnErr result (kept.new ≡ kept.old) }
 {
-    put_parts(alloc, written, parts)?;
-    *parts = Records::new(alloc);
+    put_kept(alloc, written, kept)?;
+    *kept = Kept::nothing();
     Ok(())
 }
 
-// Puts copies of the records of the parts behind those written. `AllocError` leaves all as it was.
-fn put_parts(alloc: Global, written: &mut Partitions, parts: &Records) -> Result<(), AllocError>
-    ensures ok { OnOk result (written.new ≡ written.old ++ parts.now) }
+// Puts copies of what was kept behind what was written. `AllocError` leaves all as it was.
+fn put_kept(alloc: Global, written: &mut Partitions, kept: &Kept) -> Result<(), AllocError>
+    ensures ok { OnOk result (written.new ≡ written.old ++ kept.now) }
     ensures err { OnErr result (written.new ≡ written.old) }
 {
-    let mut items = Vec::with_capacity(alloc, parts.len())?;
-    parts.lend_to(&mut items)?;
+    let mut items = Vec::with_capacity(alloc, kept.len())?;
+    kept.lend_to(&mut items)?;
     written.push_all(&items)
 }
 
-// Moves the records of the run behind those written. `AllocError` leaves all as it was.
-fn gather_run(alloc: Global, written: &mut Partitions, run: &mut KeptRun) -> Result<(), AllocError>
-    ensures ok { OnOk result (written.new ≡ written.old ++ run.old) }
-    ensures empty { OnOk result (run.new ≡ []) }
-    ensures err { OnErr result (written.new ≡ written.old) }
-    ensures left { OnErr result (run.new ≡ run.old) }
-{
-    put_run(alloc, written, run)?;
-    *run = KeptRun::none();
-    Ok(())
-}
-
-// Puts copies of the records of the run behind those written. `AllocError` leaves all as it was.
-fn put_run(alloc: Global, written: &mut Partitions, run: &KeptRun) -> Result<(), AllocError>
-    ensures ok { OnOk result (written.new ≡ written.old ++ run.now) }
-    ensures err { OnErr result (written.new ≡ written.old) }
-{
-    let mut items = Vec::with_capacity(alloc, run.len())?;
-    run.lend_to(&mut items)?;
-    written.push_all(&items)
-}
-
-// Moves all that was written to the parts, of which there are none yet, in its order.
-fn sort_all(alloc: Global, written: &mut Partitions, parts: &mut Records) -> Result<(), AllocError>
+// All that was written, in its order; none is left there. After an error what was sorted by then is kept, where nothing was.
+fn sort_all(
+    alloc: Global,
+    written: &mut Partitions,
+    kept: &mut Kept,
+) -> Result<Box<Records>, AllocError>
     requires distinct { IsDistinct written.old }
-    requires none { parts.old ≡ [] }
-    ensures ok { OnOk result (parts.new ≡ sorted written.old) }
+    requires none { kept.old ≡ [] }
+    ensures ok { IfOk result (λ parts. parts.value ≡ sorted written.old) }
     ensures empty { OnOk result (written.new ≡ []) }
-    ensures kept { parts.new ++ sorted written.new ≡ sorted written.old }
+    ensures kept { OnErr result (kept.new ++ sorted written.new ≡ sorted written.old) }
 {
-    *parts = Records::with_capacity(alloc, written.len(), written.byte_len())?;
-    written.drain(parts)
+    let room = Records::with_capacity(alloc, written.len(), written.byte_len())?;
+    let mut parts = Box::new(alloc, room)?;
+    match written.drain(&mut parts) {
+        Ok(()) => Ok(parts),
+        Err(fault) => {
+            *kept = Kept::sorted(parts);
+            Err(fault)
+        }
+    }
 }
 
-// Makes the sorted records a run, which is kept.
-fn finish(alloc: Global, parts: &mut Records, run: &mut KeptRun) -> Result<Arc<Run>, AllocError>
-    requires rising { IsRising parts.old }
-    requires none { run.old ≡ [] }
-    ensures ok { IfOk result (λ made. made.value ≡ parts.old) }
-    ensures kept { parts.new ++ run.new ≡ parts.old }
+// Makes the sorted records a run, which is kept. Where memory lacks for it, they are kept as they are.
+fn finish(alloc: Global, parts: Box<Records>, kept: &mut Kept) -> Result<Arc<Run>, AllocError>
+    requires { IsRising parts.value }
+    ensures ok { IfOk result (λ made. made.value ≡ parts.value) }
+    ensures kept { kept.new ≡ parts.value }
 {
-    let records = mem::replace(parts, Records::new(alloc));
+    let mut place = parts;
+    let records = mem::replace(&mut *place, Records::new(alloc));
     match Arc::new(alloc, Run::of(records)) {
-        Ok(made) => keep(made, run),
+        Ok(made) => keep(made, kept),
         Err(refused) => {
-            give_back(refused.value, parts);
+            *kept = Kept::sorted(put_back(refused.value, place));
             Err(AllocError)
         }
     }
 }
 
 // Keeps the run, and shares it once more.
-fn keep(made: Arc<Run>, run: &mut KeptRun) -> Result<Arc<Run>, AllocError>
+fn keep(made: Arc<Run>, kept: &mut Kept) -> Result<Arc<Run>, AllocError>
     ensures ok { IfOk result (λ share. share.value ≡ made.value) }
-    ensures kept { run.new ≡ made.value }
+    ensures kept { kept.new ≡ made.value }
 {
     let share: Result<Arc<Run>, AllocError> = made.clone();
-    *run = KeptRun::of(made);
+    *kept = Kept::made(made);
     share
 }
 
-// Takes the records of a run back.
-fn give_back(run: Run, parts: &mut Records)
-    ensures { parts.new ≡ run }
+// The records of a run, in the place that they came from.
+fn put_back(run: Run, place: Box<Records>) -> Box<Records>
+    ensures { result.value ≡ run }
 {
     let Run { records } = run;
-    *parts = records;
+    let mut place = place;
+    *place = records;
+    place
 }

@@ -2,6 +2,7 @@
 ghost use Rattle.std.specs.Prelude.{◌≡◌, ◌<◌, ◌≤◌, ◌++◌, IfOk, OnOk, IsTrue, length};
 ghost use Rattle.std.specs.List.{AllByRecursion, slice_range};
 ghost use Rattle.tab_key.specs.Encoding.{record_at, places_from, IsAt, AreAt};
+ghost use Rattle.tab_key.specs.RowPrefix.{IsRowPrefix};
 ghost use Rattle.tab_iter.specs.Bags.{flat};
 ghost use Rattle.tab_mem.specs.Groups.{IsOfOneRow, IsRowSpan};
 ghost use Rattle.tab_mem.specs.Lists.{IsFilled};
@@ -9,6 +10,7 @@ ghost use Rattle.tab_mem.specs.Parting.{records_in, before};
 
 use crate::group::Group;
 use crate::item::Item;
+use crate::leading::{MOST_BYTES, prefix_in, prefix_of};
 use std::alloc::{AllocError, Global};
 use tab_key::{RecordRef, end_of};
 
@@ -116,10 +118,11 @@ fn span_of_row(body: &[u8], place: usize, left: usize) -> RowSpan
     ensures { IsRowSpan body.now place left result.end result.count }
 {
     let row = row_in(body, place);
+    let prefix = prefix_at(body, place);
     let mut end = end_of(body, place);
     let mut count = 1;
     while count < left {
-        if !has_row(body, end, row) {
+        if !has_row(body, end, row, prefix) {
             return RowSpan { end, count };
         }
         let next = end_of(body, end);
@@ -137,12 +140,32 @@ fn row_in(body: &[u8], place: usize) -> &[u8]
     RecordRef::at(body, place).row()
 }
 
-// Whether the record that lies in the body at a place has this row.
-fn has_row(body: &[u8], place: usize, row: &[u8]) -> bool
+// The first 16 bytes of that row, as a number.
+fn prefix_at(body: &[u8], place: usize) -> u128
     requires { IsAt body.now place }
+    ensures { IsRowPrefix result (record_at body.now place).key.row }
+{
+    prefix_of(&RecordRef::at(body, place))
+}
+
+// Whether the record that lies in the body at a place has this row, whose first 16 bytes are this number. Only a longer row is compared byte
+// by byte, by a call of memcmp.
+fn has_row(body: &[u8], place: usize, row: &[u8], prefix: u128) -> bool
+    requires at { IsAt body.now place }
+    requires prefix { IsRowPrefix prefix row.now }
     ensures { IsTrue result → (record_at body.now place).key.row ≡ row.now }
 {
-    row_in(body, place) == row
+    let own = RecordRef::at(body, place).row_piece();
+    if own.len() != row.len() {
+        return false;
+    }
+    if prefix_in(&own) != prefix {
+        return false;
+    }
+    if row.len() <= MOST_BYTES {
+        return true;
+    }
+    own.as_slice() == row
 }
 
 // The group of the records that lie in the body from a place on, as far as they reach.

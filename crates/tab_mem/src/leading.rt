@@ -6,8 +6,8 @@ ghost use Rattle.tab_key.specs.RowPrefix.{IsRowPrefix};
 
 use tab_key::{Piece, RecordRef, row_prefix};
 
-// How many bytes of a row the number is of.
-const MOST_BYTES: usize = 16;
+/// How many bytes of a row the number is of.
+pub(crate) const MOST_BYTES: usize = 16;
 
 /// The number that the first 16 bytes of the record's row spell, with zeros behind a shorter row. It is read in one load, without a
 /// copy as long as the row, unless the row is empty or the body ends close behind it.
@@ -18,9 +18,9 @@ pub(crate) fn prefix_of(record: &RecordRef<'_>) -> u128
     prefix_in(&record.row_piece())
 }
 
-// The number of a row.
+/// The same of a row alone.
 #[inline]
-fn prefix_in(row: &Piece<'_>) -> u128
+pub(crate) fn prefix_in(row: &Piece<'_>) -> u128
     ensures { IsRowPrefix result row.now }
 {
     let onward = row.onward();

@@ -7,7 +7,7 @@
 //! | File | What |
 //! |---|---|
 //! | `active` | what is written, until it is frozen |
-//! | `partitions`, `spreading` | records as they were written, in one body and, once they are many, in eight by their rows |
+//! | `partitions`, `layout`, `spreading` | records as they were written, in one body and, once they are many, in eight by their rows |
 //! | `unsorted` | records as they were written, one after another in one body |
 //! | `appending` | records that are put behind others: those of an accepted mutation, and copies |
 //! | `lending` | records that lie one after another, lent |
@@ -20,7 +20,7 @@
 //! | `classes` | groups, sorted by their rows and put behind others |
 //! | `emptying` | bodies that are sorted and given back one after another |
 //! | `draining`, `sampling` | the sort of a body in parts, and where these end |
-//! | `freezing`, `kept_run` | the steps of a freeze, and a run that is kept until it has its place |
+//! | `freezing`, `kept` | the steps of a freeze, and what is kept until it has its place |
 //! | `run` | a frozen run |
 //! | `ordered`, `start`, `searching` | records by their index, where a search in them goes, and the searches |
 //! | `fronts` | a sparse index of records by their rows |
@@ -40,7 +40,8 @@ mod fronts;
 mod group;
 mod grouping;
 mod item;
-mod kept_run;
+mod kept;
+mod layout;
 mod leading;
 mod lending;
 mod moving;

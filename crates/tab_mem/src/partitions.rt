@@ -1,22 +1,18 @@
 //! Records as they were written: at first all in one body, and in several by their rows once they are many.
-ghost use Rattle.std.specs.Prelude.{◌≡◌, ◌<◌, ◌*◌, ◌^◌, ◌++◌, ◌∷◌, ◌==◌, [], None, IfOk, OnOk, OnErr, length};
+ghost use Rattle.std.specs.Prelude.{◌≡◌, ◌<◌, ◌*◌, ◌^◌, ◌++◌, ◌==◌, [], None, IfOk, OnOk, OnErr, length};
 ghost use Rattle.std.specs.List.Sorted.{IsPermutation};
 ghost use Rattle.tab_key.specs.Sorted.{IsDistinct, sorted};
 ghost use Rattle.tab_mutation.specs.Shape.{shape_error};
 ghost use Rattle.tab_cells.specs.Written.{mutation_records};
-ghost use Rattle.tab_iter.specs.Bags.{flat};
 ghost use Rattle.tab_iter.specs.Lists.{HasI64Timestamps};
-ghost use Rattle.tab_mem.specs.Partitions.{ArePartitions};
 
 use crate::draining::Whole;
-use crate::emptying::drain_all;
 use crate::item::Item;
+use crate::layout::Layout;
 use crate::records::Records;
-use crate::spreading::{Bodies, place_of, spread};
 use crate::unsorted::Unsorted;
 use std::alloc::{AllocError, Global};
 use std::marker::Model;
-use tab_key::row_prefix;
 use tab_mutation::Mutation;
 
 /// Records as they were written.
@@ -27,20 +23,19 @@ use tab_mutation::Mutation;
 #[derive(Drop)]
 pub(crate) struct Partitions {
     alloc: Global,
-    bodies: Bodies,
+    layout: Layout,
 }
 
 impl Model for Partitions {
-    ghost use Rattle.std.specs.Prelude.{List, ◌∷◌};
+    ghost use Rattle.std.specs.Prelude.{List};
     ghost use Rattle.tab_key.specs.Records.{Record as Fields};
-    ghost use Rattle.tab_iter.specs.Bags.{flat};
-    ghost use Rattle.tab_mem.specs.Partitions.{ArePartitions};
+    ghost use Rattle.tab_mem.specs.Layouts.{written_in, AreParted};
 
     ghost Value = { List Fields };
 
-    ghost view = { λ p. flat (p.bodies.lowest ∷ p.bodies.higher.items) };
+    ghost view = { λ p. written_in p.layout };
 
-    ghost invariant = { λ p. ArePartitions p.bodies.lows.items p.bodies.lowest p.bodies.higher.items };
+    ghost invariant = { λ p. AreParted p.layout };
 }
 
 impl Partitions {
@@ -50,11 +45,7 @@ impl Partitions {
     {
         Partitions {
             alloc,
-            bodies: Bodies {
-                lows: Vec::new(alloc),
-                lowest: Unsorted::new(alloc),
-                higher: Vec::new(alloc),
-            },
+            layout: Layout::One(Unsorted::new(alloc)),
         }
     }
 
@@ -63,7 +54,7 @@ impl Partitions {
         ensures len { result ≡ length self.now }
         ensures few { 4 * result < 2 ^ 63 }
     {
-        count_all(&self.bodies.lowest, &self.bodies.higher)
+        self.layout.len()
     }
 
     /// Whether there is no record.
@@ -75,7 +66,7 @@ impl Partitions {
 
     /// How many bytes all records take in their bodies.
     pub(crate) fn byte_len(&self) -> usize {
-        bytes_of_all(&self.bodies.lowest, &self.bodies.higher)
+        self.layout.byte_len()
     }
 
     /// The records, lent. Memory is asked for once.
@@ -83,7 +74,7 @@ impl Partitions {
         ensures { IfOk result (λ v. v.items ≡ self.now) }
     {
         let mut items = Vec::with_capacity(alloc, self.len())?;
-        lend_all(&mut items, &self.bodies.lowest, &self.bodies.higher)?;
+        self.layout.lend_to(&mut items)?;
         Ok(items)
     }
 
@@ -101,10 +92,9 @@ impl Partitions {
         ensures timestamps { OnOk result (HasI64Timestamps (mutation_records seq clock mutation.now)) }
         ensures err { OnErr result (self.new ≡ self.old) }
     {
-        let were_many = self.bodies.lowest.is_large();
-        write_to(&mut self.bodies, mutation, seq, clock)?;
-        if !were_many {
-            spread_large(self.alloc, &mut self.bodies);
+        let have_become_many = self.layout.write(mutation, seq, clock)?;
+        if have_become_many {
+            self.layout.spread(self.alloc);
         }
         Ok(())
     }
@@ -121,11 +111,7 @@ impl Partitions {
         let mut one = Unsorted::new(self.alloc);
         one.push_all(&self.items(self.alloc)?)?;
         one.push_all(items)?;
-        self.bodies = Bodies {
-            lows: Vec::new(self.alloc),
-            lowest: one,
-            higher: Vec::new(self.alloc),
-        };
+        self.layout = Layout::One(one);
         Ok(())
     }
 
@@ -141,81 +127,8 @@ impl Partitions {
             records: self.len(),
             bytes: self.byte_len(),
         };
-        drain_all(self.alloc, records, &mut self.bodies, whole)
-    }
-}
-
-// How many records there are in all.
-fn count_all(lowest: &Unsorted, higher: &[Unsorted]) -> usize
-    requires { length higher.now < 8 }
-    ensures count { result ≡ length (flat (lowest.now ∷ higher.now)) }
-    ensures few { 4 * result < 2 ^ 63 }
-{
-    let mut count = lowest.len();
-    for records in higher {
-        count += records.len();
-    }
-    count
-}
-
-// How many bytes all records take.
-fn bytes_of_all(lowest: &Unsorted, higher: &[Unsorted]) -> usize {
-    let mut bytes = lowest.byte_len();
-    for records in higher {
-        bytes = bytes.saturating_add(records.byte_len());
-    }
-    bytes
-}
-
-// Puts all records, lent, behind others. After an error, which only want of memory gives, some may stand there.
-fn lend_all<'a>(
-    items: &mut Vec<Item<'a>>,
-    lowest: &'a Unsorted,
-    higher: &'a [Unsorted],
-) -> Result<(), AllocError>
-    ensures { OnOk result (items.new.items ≡ items.old.items ++ flat (lowest.now ∷ higher.now)) }
-{
-    lowest.lend_to(items)?;
-    for records in higher {
-        records.lend_to(items)?;
-    }
-    Ok(())
-}
-
-// Puts the records of an accepted mutation in the place of its row. `AllocError` leaves the records as they were.
-fn write_to(
-    bodies: &mut Bodies,
-    mutation: &Mutation,
-    seq: u64,
-    clock: i64,
-) -> Result<(), AllocError>
-    requires shape { shape_error mutation.now ≡ None }
-    requires parted { ArePartitions bodies.old.lows.items bodies.old.lowest bodies.old.higher.items }
-    ensures ok { OnOk result (IsPermutation (flat (bodies.old.lowest ∷ bodies.old.higher.items) ++ mutation_records seq clock mutation.now) (flat (bodies.new.lowest ∷ bodies.new.higher.items))) }
-    ensures timestamps { OnOk result (HasI64Timestamps (mutation_records seq clock mutation.now)) }
-    ensures err { OnErr result (flat (bodies.new.lowest ∷ bodies.new.higher.items) ≡ flat (bodies.old.lowest ∷ bodies.old.higher.items)) }
-    ensures parted { ArePartitions bodies.new.lows.items bodies.new.lowest bodies.new.higher.items }
-{
-    let place = place_of(&bodies.lows, row_prefix(mutation.row()));
-    if place == 0 {
-        return bodies.lowest.write(mutation, seq, clock);
-    }
-    bodies.higher[place - 1].write(mutation, seq, clock)
-}
-
-// Spreads the records, if they are many and lie in one body. Where memory lacks for that nothing changes.
-fn spread_large(alloc: Global, bodies: &mut Bodies)
-    requires { ArePartitions bodies.old.lows.items bodies.old.lowest bodies.old.higher.items }
-    ensures moved { IsPermutation (flat (bodies.old.lowest ∷ bodies.old.higher.items)) (flat (bodies.new.lowest ∷ bodies.new.higher.items)) }
-    ensures parted { ArePartitions bodies.new.lows.items bodies.new.lowest bodies.new.higher.items }
-{
-    if !bodies.higher.is_empty() {
-        return;
-    }
-    if !bodies.lowest.is_large() {
-        return;
-    }
-    if let Ok(made) = spread(alloc, &bodies.lowest) {
-        *bodies = made;
+        self.layout.drain(self.alloc, records, whole)?;
+        self.layout = Layout::One(Unsorted::new(self.alloc));
+        Ok(())
     }
 }

@@ -24,14 +24,14 @@ pub(crate) struct Bodies {
 
 /// Copies of the records, spread over eight bodies of about one size. It takes memory for the copies, and until it returns for 32 bytes
 /// a record.
-pub(crate) fn spread(alloc: Global, written: &Unsorted) -> Result<Bodies, AllocError>
-    ensures moved { IfOk result (λ s. IsPermutation written.now (flat (s.lowest ∷ s.higher.items))) }
-    ensures parted { IfOk result (λ s. ArePartitions s.lows.items s.lowest s.higher.items) }
+pub(crate) fn spread(alloc: Global, written: &Unsorted) -> Result<Box<Bodies>, AllocError>
+    ensures moved { IfOk result (λ s. IsPermutation written.now (flat (s.value.lowest ∷ s.value.higher.items))) }
+    ensures parted { IfOk result (λ s. ArePartitions s.value.lows.items s.value.lowest s.value.higher.items) }
 {
     let mut bodies = begun(alloc, written)?;
     let items = written.items(alloc, 0)?;
     put_all(&mut bodies, &items)?;
-    Ok(bodies)
+    Ok(Box::new(alloc, bodies)?)
 }
 
 // Bodies without records. Their numbers are those of some records at even distances in the order of rows.

@@ -7,5 +7,4 @@ pub returns : goal.returns
 returns c =
     let a = c.self.inside in
     let none : length a.written ≡ 0 = grind (arith, nat_tests) in
-    let none_sorted : length a.parts ≡ 0 = grind (arith, nat_tests) in
-    shared_alone c.share.result (λ r. r.value) a.written a.parts a.run c.args.self.now none none_sorted c.self.invariant c.self.view_is c.share.ensures
+    shared_alone c.share.result (λ r. r.value) a.written a.kept c.args.self.now none c.self.invariant c.self.view_is c.share.ensures

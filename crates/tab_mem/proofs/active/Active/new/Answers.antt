@@ -5,8 +5,8 @@ use Rattle.tab_mem.proofs.active.Active.new.Goals as goal
 
 pub invariant_of-result : goal.invariant_of-result
 invariant_of-result c =
-    let none : c.new.result ++ (c.new-2.result ++ c.none.result) ≡ [] = λ i. c.new.ensures i ++ (c.new-2.ensures i ++ c.none.ensures i) in
+    let none : c.new.result ++ c.nothing.result ≡ [] = λ i. c.new.ensures i ++ c.nothing.ensures i in
     subst IsHeld (sym none) none_held
 
 pub returns : goal.returns
-returns c = λ i. as_written (c.new.ensures i ++ (c.new-2.ensures i ++ c.none.ensures i))
+returns c = λ i. as_written (c.new.ensures i ++ c.nothing.ensures i)

@@ -5,7 +5,7 @@ use Rattle.tab_cells.specs.Written.{mutation_records}
 use Rattle.tab_iter.specs.Bags.{flat}
 use Rattle.tab_mem.specs.Partitions.{count_under}
 use Rattle.tab_mem.proofs.Apart.{placed_by, lowest_put, higher_put, rows_of}
-use Rattle.tab_mem.proofs.partitions.write_to.Goals as goal
+use Rattle.tab_mem.proofs.layout.write_to.Goals as goal
 
 pub returns-then-place-eq0-clause-ok : goal.returns-then-place-eq0-clause-ok
 returns-then-place-eq0-clause-ok c =

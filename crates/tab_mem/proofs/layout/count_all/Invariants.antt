@@ -1,6 +1,6 @@
 use Rattle.std.proofs.Common.{◌≡◌, ◌+◌, ◌*◌, ◌<◌, ◌^◌, ◌∷◌, length, take}
 use Rattle.tab_iter.specs.Bags.{flat}
-use Rattle.tab_mem.proofs.partitions.count_all.Given as goal
+use Rattle.tab_mem.proofs.layout.count_all.Given as goal
 
 abbrev pub invariant-loop-records : goal.invariant-loop-records
 invariant-loop-records l = record {

@@ -1,41 +1,63 @@
-//! A run that is kept until it has its place in a table.
+//! What a freeze keeps until it has its place in a table.
 ghost use Rattle.std.specs.Prelude.{◌≡◌, ◌<◌, ◌*◌, ◌^◌, ◌++◌, [], IfOk, IfSome, OnOk, length};
 ghost use Rattle.tab_iter.specs.Lists.{IsRising};
 
 use crate::Run;
 use crate::item::Item;
+use crate::records::Records;
 use std::alloc::AllocError;
 use std::marker::Model;
 use std::sync::Arc;
 
-/// A run, shared, or none. A contract sees its records.
+/// What a freeze kept: the run that it made, shared, or what it had sorted when memory lacked. A contract sees its records.
 #[derive(Drop)]
-pub(crate) struct KeptRun {
-    run: Option<Arc<Run>>,
+pub(crate) struct Kept {
+    form: Form,
 }
 
-impl Model for KeptRun {
-    ghost use Rattle.std.specs.Prelude.{List, unwrap_or, option_map, []};
+#[derive(Drop)]
+enum Form {
+    Nothing,
+    Sorted(Box<Records>),
+    Made(Arc<Run>),
+}
+
+impl Model for Kept {
+    ghost use Rattle.std.specs.Prelude.{List};
     ghost use Rattle.tab_key.specs.Records.{Record as Fields};
+    ghost use Rattle.tab_mem.specs.Layouts.{kept_in};
 
     ghost Value = { List Fields };
 
-    ghost view = { λ k. unwrap_or (option_map (λ r. r.value) k.run) [] };
+    ghost view = { λ k. kept_in k.form };
 }
 
-impl KeptRun {
-    /// None.
-    pub(crate) fn none() -> KeptRun
+impl Kept {
+    /// Nothing.
+    pub(crate) fn nothing() -> Kept
         ensures { result ≡ [] }
     {
-        KeptRun { run: None }
+        Kept {
+            form: Form::Nothing,
+        }
     }
 
-    /// This one.
-    pub(crate) fn of(run: Arc<Run>) -> KeptRun
+    /// What was sorted.
+    pub(crate) fn sorted(records: Box<Records>) -> Kept
+        ensures { result ≡ records.value }
+    {
+        Kept {
+            form: Form::Sorted(records),
+        }
+    }
+
+    /// The run that was made.
+    pub(crate) fn made(run: Arc<Run>) -> Kept
         ensures { result ≡ run.value }
     {
-        KeptRun { run: Some(run) }
+        Kept {
+            form: Form::Made(run),
+        }
     }
 
     /// How many records there are.
@@ -43,21 +65,22 @@ impl KeptRun {
         ensures len { result ≡ length self.now }
         ensures few { 41 * result < 2 ^ 63 }
     {
-        match &self.run {
-            Some(run) => run.len(),
-            None => 0,
+        match &self.form {
+            Form::Nothing => 0,
+            Form::Sorted(records) => records.len(),
+            Form::Made(run) => run.len(),
         }
     }
 
-    /// A share of the run, if there is one.
+    /// A share of the run, if one was made.
     ///
     /// `AllocError` says that it couldn't be shared once more.
     pub(crate) fn share(&self) -> Result<Option<Arc<Run>>, AllocError>
         ensures { IfOk result (λ o. IfSome o (λ r. (r.value ≡ self.now) × IsRising self.now)) }
     {
-        match &self.run {
-            Some(run) => share_of(run),
-            None => Ok(None),
+        match &self.form {
+            Form::Made(run) => share_of(run),
+            _ => Ok(None),
         }
     }
 
@@ -65,9 +88,10 @@ impl KeptRun {
     pub(crate) fn lend_to<'a>(&'a self, items: &mut Vec<Item<'a>>) -> Result<(), AllocError>
         ensures { OnOk result (items.new.items ≡ items.old.items ++ self.now) }
     {
-        match &self.run {
-            Some(run) => run.lend_to(items),
-            None => Ok(()),
+        match &self.form {
+            Form::Nothing => Ok(()),
+            Form::Sorted(records) => records.lend_to(items),
+            Form::Made(run) => run.lend_to(items),
         }
     }
 }

@@ -1,7 +1,7 @@
 use Rattle.std.proofs.Common.{◌∙◌, ◌++◌, ap, sym, take, append_assoc}
 use Rattle.tab_iter.specs.Bags.{flat}
 use Rattle.tab_mem.proofs.ByClass.{flat_next}
-use Rattle.tab_mem.proofs.partitions.lend_all.Goals as goal
+use Rattle.tab_mem.proofs.layout.lend_all.Goals as goal
 
 pub loop-records-preserved : goal.loop-records-preserved
 loop-records-preserved c =
