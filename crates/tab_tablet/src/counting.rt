@@ -3,13 +3,13 @@ ghost use Rattle.std.specs.Prelude.{◌≡◌, length, map, min, sum};
 ghost use Rattle.tab_iter.specs.Bags.{flat};
 ghost use Rattle.tab_version.specs.Sources.{records_of};
 
-use tab_version::{Clip, Clips, TableClip};
+use tab_version::{Clip, TableClip};
 
 /// How many records there are, markers and hidden ones among them; the greatest `u64` for any number above it.
-pub(crate) fn count_records(sources: &Clips) -> u64
-    ensures { result ≡ min (length (records_of sources.now)) 18446744073709551615 }
+pub(crate) fn count_records(runs: &[Clip], tables: &[TableClip]) -> u64
+    ensures { result ≡ min (length (records_of (record { runs = runs.now; tables = tables.now }))) 18446744073709551615 }
 {
-    count_in_runs(sources.runs()).saturating_add(count_in_tables(sources.tables()))
+    count_in_runs(runs).saturating_add(count_in_tables(tables))
 }
 
 /// How many records the runs have; the greatest `u64` for any number above it.

@@ -4,7 +4,7 @@ ghost use Rattle.tab_key.specs.Sorted.{IsDistinct};
 ghost use Rattle.tab_version.specs.Sources.{records_of};
 ghost use Rattle.tab_tablet.specs.Tablets.{run_of};
 
-use crate::layers::Layers;
+use crate::sources::Sources;
 use std::alloc::{AllocError, Global};
 use tab_mem::Active;
 use tab_version::{Clip, Clips};
@@ -24,28 +24,28 @@ pub(crate) fn add_frozen(
     sources.add_run(Clip::whole(run))
 }
 
-/// The layers with what was written as one more run, if there is any, which the bodies hold too. These stay as they are.
-pub(crate) fn frozen_layers(
+/// The sources with what was written as one more run, if there is any, which the bodies hold too. These stay as they are.
+pub(crate) fn frozen_sources(
     alloc: Global,
     active: &Active,
-    layers: &Layers,
-) -> Result<Layers, AllocError>
-    requires { IsDistinct (active.now ++ records_of layers.now) }
-    ensures { IfOk result (λ l. l ≡ record (layers.now) { runs = layers.now.runs ++ run_of active.now }) }
+    sources: &Sources,
+) -> Result<Sources, AllocError>
+    requires { IsDistinct (active.now ++ records_of sources.now) }
+    ensures { IfOk result (λ s. s ≡ record (sources.now) { runs = sources.now.runs ++ run_of active.now }) }
 {
-    let mut frozen = layers.share(alloc)?;
+    let mut frozen = sources.share(alloc)?;
     add_prepared(alloc, active, &mut frozen)?;
     Ok(frozen)
 }
 
-// Puts what was written behind the runs of the layers, if there is any, so that the bodies hold it too.
-fn add_prepared(alloc: Global, active: &Active, layers: &mut Layers) -> Result<(), AllocError>
-    requires { IsDistinct (active.now ++ records_of layers.old) }
-    ensures { OnOk result (layers.new ≡ record (layers.old) { runs = layers.old.runs ++ run_of active.now }) }
+// Puts what was written behind the runs, if there is any, so that the bodies hold it too.
+fn add_prepared(alloc: Global, active: &Active, sources: &mut Sources) -> Result<(), AllocError>
+    requires { IsDistinct (active.now ++ records_of sources.old) }
+    ensures { OnOk result (sources.new ≡ record (sources.old) { runs = sources.old.runs ++ run_of active.now }) }
 {
     if active.is_empty() {
         return Ok(());
     }
-    let freeze = layers.prepare(alloc, active)?;
-    layers.put(freeze)
+    let freeze = sources.prepare(alloc, active)?;
+    sources.put(alloc, freeze)
 }

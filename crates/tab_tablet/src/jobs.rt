@@ -1,28 +1,28 @@
-//! The merges of a tablet that are under way.
-ghost use Rattle.std.specs.Prelude.{◌≡◌, None, cond, IfOk, OnOk, OnErr};
+//! The merges of a tablet that are under way, and the place where they lie.
+ghost use Rattle.std.specs.Prelude.{◌≡◌, None, Some, cond, IfOk, OnOk, OnErr};
 ghost use Rattle.tab_compact.specs.Merges.{is_under_way};
 ghost use Rattle.tab_tablet.specs.Tablets.{no_jobs, job_of, with_job, registered};
 
+use crate::entries::Entries;
 use crate::entry::Entry;
 use std::alloc::{AllocError, Global};
 use std::marker::Model;
 use tab_cells::Compaction;
 use tab_compact::Job;
 
-/// The merge under way of each kind, if there is one.
+/// The merge under way of each kind, if there is one. Memory for them is taken with the first, and given back with the last.
 #[derive(Drop)]
 pub(crate) struct Jobs {
-    minor: Option<Entry>,
-    partly: Option<Entry>,
-    full: Option<Entry>,
+    entries: Option<Box<Entries>>,
 }
 
 impl Model for Jobs {
-    ghost use Rattle.tab_tablet.specs.Tablets.{Jobs as UnderWay};
+    ghost use Rattle.std.specs.Prelude.{option_map, unwrap_or};
+    ghost use Rattle.tab_tablet.specs.Tablets.{Jobs as UnderWay, no_jobs};
 
     ghost Value = { UnderWay };
 
-    ghost view = { λ j. record { minor = j.minor; partly = j.partly; full = j.full } };
+    ghost view = { λ j. unwrap_or (option_map (λ e. e.value) j.entries) no_jobs };
 }
 
 impl Jobs {
@@ -30,43 +30,35 @@ impl Jobs {
     pub(crate) fn new() -> Jobs
         ensures { result ≡ no_jobs }
     {
-        Jobs {
-            minor: None,
-            partly: None,
-            full: None,
-        }
+        Jobs { entries: None }
     }
 
-    /// The same ones, each shared once more. It takes no memory. `AllocError` says that one couldn't be shared.
-    pub(crate) fn share(&self) -> Result<Jobs, AllocError>
+    /// The same ones, each shared once more. `AllocError` says that memory for their place lacked, or that one couldn't be shared.
+    pub(crate) fn share(&self, alloc: Global) -> Result<Jobs, AllocError>
         ensures { IfOk result (λ j. j ≡ self.now) }
     {
-        let minor = share_of(&self.minor)?;
-        let partly = share_of(&self.partly)?;
-        let full = share_of(&self.full)?;
-        Ok(Jobs {
-            minor,
-            partly,
-            full,
-        })
-    }
-
-    // Puts this one, or none, in the place of the one of the kind.
-    fn put(&mut self, kind: Compaction, entry: Option<Entry>)
-        ensures { self.new ≡ with_job kind entry self.old }
-    {
-        match kind {
-            Compaction::Minor => self.minor = entry,
-            Compaction::Partial => self.partly = entry,
-            Compaction::Full => self.full = entry,
+        match &self.entries {
+            Some(entries) => {
+                let entries = Box::new(alloc, entries.share()?)?;
+                Ok(Jobs {
+                    entries: Some(entries),
+                })
+            }
+            None => Ok(Jobs::new()),
         }
     }
 
-    /// Forgets the one of the kind.
+    /// Forgets the one of the kind. It takes no memory.
     pub(crate) fn forget(&mut self, kind: Compaction)
         ensures { self.new ≡ with_job kind None self.old }
     {
-        self.put(kind, None);
+        let Some(entries) = &mut self.entries else {
+            return;
+        };
+        entries.put(kind, None);
+        if entries.is_empty() {
+            self.entries = None;
+        }
     }
 
     /// The same ones; where this is so, without the one of the kind.
@@ -88,10 +80,28 @@ impl Jobs {
         match job {
             Some(job) => {
                 let entry = Entry::of(alloc, job)?;
-                self.put(job.kind(), Some(entry));
-                Ok(())
+                self.put(alloc, job.kind(), entry)
             }
             None => Ok(()),
+        }
+    }
+
+    // Puts this one in the place of the one of the kind.
+    fn put(&mut self, alloc: Global, kind: Compaction, entry: Entry) -> Result<(), AllocError>
+        ensures ok { OnOk result (self.new ≡ with_job kind (Some entry) self.old) }
+        ensures err { OnErr result (self.new ≡ self.old) }
+    {
+        match &mut self.entries {
+            Some(entries) => {
+                entries.put(kind, Some(entry));
+                Ok(())
+            }
+            None => {
+                let mut entries = Entries::new();
+                entries.put(kind, Some(entry));
+                self.entries = Some(Box::new(alloc, entries)?);
+                Ok(())
+            }
         }
     }
 
@@ -99,30 +109,9 @@ impl Jobs {
     pub(crate) fn has(&self, job: &Job) -> bool
         ensures { result ≡ is_under_way job.now (job_of job.now.kind self.now) }
     {
-        match self.of(job.kind()) {
-            Some(entry) => entry.is(job),
+        match &self.entries {
+            Some(entries) => entries.has(job),
             None => false,
         }
-    }
-
-    // The one of this kind.
-    fn of(&self, kind: Compaction) -> &Option<Entry>
-        ensures { result.now ≡ job_of kind self.now }
-    {
-        match kind {
-            Compaction::Minor => &self.minor,
-            Compaction::Partial => &self.partly,
-            Compaction::Full => &self.full,
-        }
-    }
-}
-
-// The entry, if there is one, shared once more.
-fn share_of(entry: &Option<Entry>) -> Result<Option<Entry>, AllocError>
-    ensures { IfOk result (λ e. e ≡ entry.now) }
-{
-    match entry {
-        Some(entry) => Ok(Some(entry.share()?)),
-        None => Ok(None),
     }
 }

@@ -1,5 +1,5 @@
-//! A tablet's sources, with the bodies that scans read in the place of its runs.
-ghost use Rattle.std.specs.Prelude.{◌≡◌, ◌==◌, ◌++◌, ◌∷◌, [], Some, false, filter, length, is_some, IfOk, OnOk, OnErr};
+//! Frozen runs and sorted tables, with the bodies that scans read in the place of the runs.
+ghost use Rattle.std.specs.Prelude.{◌≡◌, ◌↔◌, ◌==◌, ◌++◌, ◌∷◌, [], Some, false, filter, length, is_some, IsTrue, IfOk, OnOk, OnErr};
 ghost use Rattle.tab_key.specs.Ranges.{is_in_range};
 ghost use Rattle.tab_key.specs.Sorted.{sorted, IsDistinct};
 ghost use Rattle.tab_version.specs.Sources.{clipped, no_sources, records_of, left_by, with_table};
@@ -59,6 +59,13 @@ impl Layers {
             sources,
             bodies: Clips::new(alloc),
         }
+    }
+
+    /// Whether there is neither a run nor a table.
+    pub(crate) fn is_empty(&self) -> bool
+        ensures { IsTrue result ↔ (self.now ≡ no_sources) }
+    {
+        self.sources.runs().is_empty() && self.sources.tables().is_empty()
     }
 
     /// The runs and the tables.

@@ -7,6 +7,7 @@
 //! | File | What |
 //! |---|---|
 //! | `tablet` | the tablet: writes, freezes, compactions, splits, and what a scan reads |
+//! | `sources` | its sources, if there are any, and the place where they lie |
 //! | `layers` | the sources, and the bodies that scans read in the place of runs |
 //! | `bodies` | these, with one more run |
 //! | `merging` | sources merged into one sorted table |
@@ -17,7 +18,8 @@
 //! | `restoring` | records, made a sorted table |
 //! | `compacting` | the sources after a compaction |
 //! | `sparing` | the sources that a compaction doesn't read |
-//! | `entry`, `jobs` | a merge that is under way, and those of a tablet |
+//! | `entry`, `entries` | a merge that is under way, and one of each kind |
+//! | `jobs` | those of a tablet, if there are any, and the place where they lie |
 //! | `installed` | what an install tells |
 //! | `counting` | how many records there are, and the sizes of tables |
 //! | `due` | work that is due |
@@ -35,6 +37,7 @@ mod clipping;
 mod compacting;
 mod counting;
 mod due;
+mod entries;
 mod entry;
 mod freeze;
 mod freezing;
@@ -48,6 +51,7 @@ mod probing;
 mod restoring;
 mod row_counting;
 mod selecting;
+mod sources;
 mod sparing;
 mod tablet;
 

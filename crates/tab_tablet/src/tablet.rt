@@ -21,15 +21,17 @@ use crate::bounding::{rows_above, rows_up_to};
 use crate::counting::{count_in_runs, count_records, total_size};
 use crate::due::{DueKind, has_plan};
 use crate::freeze::Freeze;
-use crate::freezing::{add_frozen, frozen_layers};
+use crate::freezing::{add_frozen, frozen_sources};
 use crate::installed::Installed;
 use crate::jobs::Jobs;
 use crate::layers::Layers;
 use crate::listing::version_of;
 use crate::middle::middle_row;
 use crate::restoring::table_of;
+use crate::sources::Sources;
 use std::alloc::{AllocError, Global};
 use std::marker::Model;
+use std::mem;
 use tab_cells::Compaction;
 use tab_compact::{Finished, Job, capture};
 use tab_iter::NoMemory;
@@ -44,6 +46,9 @@ const MANY_RECORDS: u64 = 4096;
 /// Sorted tables of so many bytes are to be split.
 const MANY_BYTES: u64 = 16_777_216;
 
+// Each table has a tablet from the beginning: what that may hold later lies apart, and takes memory then.
+const _: () = prove!(mem::size_of::<Tablet>() <= 96);
+
 /// The records of a table's rows: what was written since the last freeze, and frozen runs and sorted tables. No two records stand at
 /// one place in the order of records. It has a number, and keeps which merges of it are under way, at most one of each kind. A contract
 /// sees all of it as it is.
@@ -51,7 +56,7 @@ const MANY_BYTES: u64 = 16_777_216;
 pub struct Tablet {
     number: u64,
     active: Active,
-    sources: Layers,
+    sources: Sources,
     jobs: Jobs,
 }
 
@@ -76,7 +81,7 @@ impl Tablet {
         Tablet {
             number,
             active: Active::new(alloc),
-            sources: Layers::new(alloc),
+            sources: Sources::new(),
             jobs: Jobs::new(),
         }
     }
@@ -96,7 +101,8 @@ impl Tablet {
     {
         let _count = records.len();
         let tables = table_of(alloc, records)?;
-        let sources = Layers::of_tables(alloc, tables);
+        let layers = Layers::of_tables(alloc, tables);
+        let sources = Sources::of(alloc, layers)?;
         Ok(Tablet {
             number,
             active: Active::new(alloc),
@@ -148,8 +154,8 @@ impl Tablet {
     pub fn frozen(&self, alloc: Global) -> Result<Tablet, AllocError>
         ensures { IfOk result (λ t. t ≡ frozen self.now) }
     {
-        let sources = frozen_layers(alloc, &self.active, &self.sources)?;
-        let jobs = self.jobs.share()?;
+        let sources = frozen_sources(alloc, &self.active, &self.sources)?;
+        let jobs = self.jobs.share(alloc)?;
         Ok(Tablet {
             number: self.number,
             active: Active::new(alloc),
@@ -240,7 +246,8 @@ impl Tablet {
         ensures job { IfOk result (λ j. j ≡ captured self.old.number number kind floor versions self.old.sources) }
         ensures ok { OnOk result (self.new ≡ begun (captured self.old.number number kind floor versions self.old.sources) self.old) }
     {
-        let sources = self.sources.sources();
+        let none = Clips::new(alloc);
+        let sources = self.sources.clips_or(&none);
         let job = capture(alloc, self.number, number, kind, sources, floor, versions)?;
         self.jobs.register(alloc, &job)?;
         Ok(job)
@@ -270,7 +277,8 @@ impl Tablet {
         if !self.jobs.has(job) {
             return Ok(None);
         }
-        self.sources.sources().left_by(alloc, job.inputs())
+        let none = Clips::new(alloc);
+        self.sources.clips_or(&none).left_by(alloc, job.inputs())
     }
 
     // Puts what the merge made behind the sources that its inputs leave.
@@ -382,7 +390,7 @@ impl Tablet {
         self.sources.prepare(alloc, &self.active)
     }
 
-    /// Freezes it in its place: the run comes last. It takes memory for one place in the list of runs.
+    /// Freezes it in its place: the run comes last. It takes memory for one place in the list of runs, and at the first for the lists.
     ///
     /// `AllocError` leaves all as it was.
     pub fn freeze(&mut self, alloc: Global, freeze: Freeze) -> Result<(), AllocError>
@@ -390,7 +398,7 @@ impl Tablet {
         ensures ok { OnOk result (self.new ≡ frozen self.old) }
         ensures err { OnErr result (self.new ≡ self.old) }
     {
-        self.sources.put(freeze)?;
+        self.sources.put(alloc, freeze)?;
         self.active = Active::new(alloc);
         Ok(())
     }
@@ -427,7 +435,8 @@ impl Tablet {
         ensures held { IfOk result (λ v. v ≡ records_in (frozen self.now)) }
         ensures listed { IfOk result (λ v. sorted v ≡ sorted (records_in self.now)) }
     {
-        let mut sources = self.sources.sources().share(alloc)?;
+        let none = Clips::new(alloc);
+        let mut sources = self.sources.clips_or(&none).share(alloc)?;
         add_frozen(alloc, &self.active, &mut sources)?;
         version_of(alloc, sources)
     }
@@ -441,30 +450,31 @@ impl Tablet {
         requires { self.now.active ≡ [] }
         ensures { IfOk result (λ row. row ≡ middle_row (rows_in self.now)) }
     {
-        middle_row(alloc, self.sources.sources())
+        let none = Clips::new(alloc);
+        middle_row(alloc, self.sources.clips_or(&none))
     }
 
     /// The bytes of its sorted tables together, each with its whole size; the greatest `u64` for any number above it.
     pub fn size(&self) -> u64
         ensures { result ≡ min (size_of self.now.sources) 18446744073709551615 }
     {
-        total_size(self.sources.sources().tables())
+        total_size(self.sources.tables())
     }
 
     /// How many runs and sorted tables there are; the greatest `u64` for any number above it.
     pub fn count_sources(&self) -> u64
         ensures { result ≡ min (count_of self.now.sources) 18446744073709551615 }
     {
-        let sources = self.sources.sources();
-        let runs = sources.runs().len() as u64;
-        runs.saturating_add(sources.tables().len() as u64)
+        let runs = self.sources.runs().len() as u64;
+        runs.saturating_add(self.sources.tables().len() as u64)
     }
 
     /// How many records there are, markers and hidden ones among them; the greatest `u64` for any number above it.
     pub fn count_records(&self) -> u64
         ensures { result ≡ min (length (records_in self.now)) 18446744073709551615 }
     {
-        count_records(self.sources.sources()).saturating_add(self.active.len() as u64)
+        let frozen = count_records(self.sources.runs(), self.sources.tables());
+        frozen.saturating_add(self.active.len() as u64)
     }
 
     /// Whether work of this kind is due: a minor compaction where what was written and the runs come to 4,096 records or more; a partial one
@@ -475,7 +485,7 @@ impl Tablet {
     {
         match kind {
             DueKind::Minor => self.count_unflushed() >= MANY_RECORDS,
-            DueKind::Partial => has_plan(self.sources.sources().tables()),
+            DueKind::Partial => has_plan(self.sources.tables()),
             DueKind::Split => self.size() >= MANY_BYTES,
         }
     }
@@ -484,6 +494,6 @@ impl Tablet {
     fn count_unflushed(&self) -> u64
         ensures { result ≡ min (length (self.now.active ++ flat self.now.sources.runs)) 18446744073709551615 }
     {
-        count_in_runs(self.sources.sources().runs()).saturating_add(self.active.len() as u64)
+        count_in_runs(self.sources.runs()).saturating_add(self.active.len() as u64)
     }
 }
