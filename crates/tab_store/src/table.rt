@@ -20,6 +20,7 @@ ghost use Rattle.tab_store.specs.Tables.{made_table, restored_table, with_tablet
 
 use std::alloc::{AllocError, Global};
 use std::marker::Model;
+use std::mem::size_of;
 use tab_cells::Compaction;
 use tab_history::{Counts, TimeMode, Versions};
 use tab_iter::NoMemory;
@@ -29,9 +30,17 @@ use tab_mutation::Mutation;
 use tab_rules::ConstraintSet;
 use tab_tablets::{DueKind, FinishedJob, Installed, Split, TabletJob, Tablets, Version};
 
-/// What a table is set to, and its tablets.
+// Half of the places in the map of tables stay empty where tables come in the order of their names, so each place takes few bytes.
+const _: () = prove!(size_of::<Table>() <= 16);
+
+/// What a table is set to, and its tablets. Both lie apart, so that a table takes few bytes where it is kept.
 #[derive(Drop)]
 pub struct Table {
+    contents: Box<Contents>,
+}
+
+#[derive(Drop)]
+struct Contents {
     time: TimeMode,
     versions: Versions,
     constraints: ConstraintSet,
@@ -44,23 +53,30 @@ impl Model for Table {
 
     ghost Value = { TableState };
 
-    ghost view = { λ t. record { settings = record { time = t.time; versions = t.versions; constraints = t.constraints; horizon = t.horizon }; tablets = t.tablets } };
+    ghost view = { λ t. record { settings = record { time = t.contents.value.time; versions = t.contents.value.versions; constraints = t.contents.value.constraints; horizon = t.contents.value.horizon }; tablets = t.contents.value.tablets } };
 }
 
 impl Table {
-    /// A table without records, constraints and horizon, whose one tablet has this number. It takes no memory.
-    pub fn new(alloc: Global, time: TimeMode, versions: Versions, number: u64) -> Table
-        ensures { result ≡ made_table time versions number }
+    /// A table without records, constraints and horizon, whose one tablet has this number.
+    ///
+    /// It takes memory for its place alone. `AllocError` says that it lacked.
+    pub fn new(
+        alloc: Global,
+        time: TimeMode,
+        versions: Versions,
+        number: u64,
+    ) -> Result<Table, AllocError>
+        ensures { IfOk result (λ t. t ≡ made_table time versions number) }
     {
         let tablets = Tablets::new(alloc, number);
-        Table::holding(time, versions, ConstraintSet::none(), tablets)
+        Table::holding(alloc, time, versions, ConstraintSet::none(), tablets)
     }
 
     /// A table with these settings and no horizon, whose tablets are numbered from this number on, end at these rows and hold these
     /// records: each those of its rows, as one sorted table, or no source where there are none.
     ///
     /// It takes time linear in the records. Beside the records, which are given back once it is done, it takes the memory that the sorted
-    /// tables keep; NoMemory says that it lacked.
+    /// tables keep, and some for its place; NoMemory says that it lacked.
     pub fn restored(
         alloc: Global,
         time: TimeMode,
@@ -75,60 +91,63 @@ impl Table {
         ensures { IfOk result (λ t. t ≡ restored_table time versions constraints number ends records) }
     {
         let tablets = Tablets::restored(alloc, number, ends, records)?;
-        Ok(Table::holding(time, versions, constraints, tablets))
+        Table::holding(alloc, time, versions, constraints, tablets)
     }
 
     // A table with these settings, no horizon, and these tablets.
     fn holding(
+        alloc: Global,
         time: TimeMode,
         versions: Versions,
         constraints: ConstraintSet,
         tablets: Tablets,
-    ) -> Table
-        ensures { result ≡ record { settings = record { time = time; versions = versions; constraints = constraints; horizon = least }; tablets = tablets } }
+    ) -> Result<Table, AllocError>
+        ensures { IfOk result (λ t. t ≡ record { settings = record { time = time; versions = versions; constraints = constraints; horizon = least }; tablets = tablets }) }
     {
-        Table {
+        let contents = Contents {
             time,
             versions,
             constraints,
             horizon: i64::MIN,
             tablets,
-        }
+        };
+        let contents = Box::new(alloc, contents)?;
+        Ok(Table { contents })
     }
 
     /// Whether it takes timestamps or gives them.
     pub fn time(&self) -> TimeMode
         ensures { result ≡ self.now.settings.time }
     {
-        self.time
+        self.contents.time
     }
 
     /// How many versions of a column it shows and keeps.
     pub fn versions(&self) -> Versions
         ensures { result ≡ self.now.settings.versions }
     {
-        self.versions
+        self.contents.versions
     }
 
     /// Its constraints.
     pub fn constraints(&self) -> &ConstraintSet
         ensures { result.now ≡ self.now.settings.constraints }
     {
-        &self.constraints
+        &self.contents.constraints
     }
 
     /// The time below which it takes no update.
     pub fn horizon(&self) -> i64
         ensures { result ≡ self.now.settings.horizon }
     {
-        self.horizon
+        self.contents.horizon
     }
 
     /// Sets its constraints.
     pub fn set_constraints(&mut self, constraints: ConstraintSet)
         ensures { self.new ≡ with_constraints constraints self.old }
     {
-        self.constraints = constraints;
+        self.contents.constraints = constraints;
     }
 
     /// Writes a mutation, whose shape was accepted, to the tablet that holds its row: each update with this number and, where it
@@ -141,7 +160,7 @@ impl Table {
         ensures ok { OnOk result (self.new ≡ with_tablets (at_row mutation.now.row (λ t. written (mutation_records seq now mutation.now) t ∷ [])) self.old) }
         ensures err { OnErr result (self.new ≡ self.old) }
     {
-        self.tablets.write(mutation, seq, now)
+        self.contents.tablets.write(mutation, seq, now)
     }
 
     /// What a scan of these rows reads, as the table is now. Each tablet is frozen.
@@ -155,7 +174,7 @@ impl Table {
         ensures answers { IfOk result (λ v. ShowsRowsOf bounds.now (sorted (records_of_all self.old.tablets)) v) }
         ensures err { OnErr result (self.new ≡ self.old) }
     {
-        self.tablets.open(alloc, bounds)
+        self.contents.tablets.open(alloc, bounds)
     }
 
     /// Compacts each tablet, with the floor of this moment and as many versions as the table keeps.
@@ -166,8 +185,8 @@ impl Table {
         ensures err { OnErr result (self.new ≡ self.old) }
     {
         let floor = self.floor(now);
-        let versions = self.versions.get();
-        self.tablets.compact(alloc, kind, floor, versions)
+        let versions = self.contents.versions.get();
+        self.contents.tablets.compact(alloc, kind, floor, versions)
     }
 
     /// Splits the tablet that holds the row, which becomes the last row of the lower one of two tablets. Nothing changes where it is an
@@ -185,7 +204,7 @@ impl Table {
         ensures ok { OnOk result (self.new ≡ with_tablets (λ ts. (splits row number ts).1) self.old) }
         ensures err { OnErr result (self.new ≡ self.old) }
     {
-        self.tablets.split(alloc, row, number)
+        self.contents.tablets.split(alloc, row, number)
     }
 
     /// Splits the tablet that holds the row in the middle of what it holds, where its sorted tables come to the limit, in bytes. Where
@@ -203,7 +222,7 @@ impl Table {
         ensures ok { OnOk result (self.new ≡ with_tablets (λ ts. (halves row.now limit number ts).1) self.old) }
         ensures err { OnErr result (self.new ≡ self.old) }
     {
-        self.tablets.halve(alloc, row, limit, number)
+        self.contents.tablets.halve(alloc, row, limit, number)
     }
 
     /// Begins a compaction of the tablet that holds the row, as the merge with this number, with the floor of this moment and as many
@@ -223,8 +242,9 @@ impl Table {
         ensures err { OnErr result (self.new ≡ self.old) }
     {
         let floor = self.floor(now);
-        let versions = self.versions.get();
-        self.tablets
+        let versions = self.contents.versions.get();
+        self.contents
+            .tablets
             .begin(alloc, row, kind, floor, versions, number)
     }
 
@@ -237,14 +257,14 @@ impl Table {
         ensures ok { OnOk result (self.new ≡ with_tablets (λ ts. (installs_in finished ts).1) self.old) }
         ensures err { OnErr result (self.new ≡ self.old) }
     {
-        self.tablets.install(alloc, finished)
+        self.contents.tablets.install(alloc, finished)
     }
 
     /// The number of the first of its tablets, in the order of rows, that is due for work of this kind. It takes no memory.
     pub fn due(&self, kind: DueKind) -> Option<u64>
         ensures { result ≡ first_due kind self.now.tablets }
     {
-        self.tablets.due(kind)
+        self.contents.tablets.due(kind)
     }
 
     /// The least row of its tablet with this number, if there is one: the end row before it and a zero byte, or the empty row.
@@ -253,14 +273,14 @@ impl Table {
     pub fn start_of(&self, alloc: Global, number: u64) -> Result<Option<ByteString>, AllocError>
         ensures { IfOk result (λ row. row ≡ start_of number None self.now.tablets) }
     {
-        self.tablets.start_of(alloc, number)
+        self.contents.tablets.start_of(alloc, number)
     }
 
     /// The end rows of its tablets, rising.
     pub fn ends(&self, alloc: Global) -> Result<Items<ByteString>, AllocError>
         ensures { IfOk result (λ ends. ends ≡ ends_of self.now.tablets) }
     {
-        self.tablets.ends(alloc)
+        self.contents.tablets.ends(alloc)
     }
 
     /// All that the tablet at a place holds, as a version; places are counted from 0 in the order of rows. The table stays as it is: no
@@ -272,22 +292,22 @@ impl Table {
         requires { place < length self.now.tablets }
         ensures { IfOk result (λ v. sorted v ≡ sorted (records_in (tablet_at self.now.tablets place))) }
     {
-        self.tablets.version_at(alloc, place)
+        self.contents.tablets.version_at(alloc, place)
     }
 
     /// How many tablets there are; 2^64 - 1 for any number above it.
     pub fn tablet_count(&self) -> u64
         ensures { result ≡ told_count (length self.now.tablets) }
     {
-        self.tablets.len()
+        self.contents.tablets.len()
     }
 
     // The time below which no update is accepted any more.
     fn floor(&self, now: i64) -> i64
         ensures { result ≡ floor_of self.now.settings.time now self.now.settings.horizon }
     {
-        match self.time {
-            TimeMode::Any => self.horizon,
+        match self.contents.time {
+            TimeMode::Any => self.contents.horizon,
             TimeMode::Server => now,
         }
     }
@@ -298,9 +318,9 @@ impl Table {
         ensures { result ≡ counts_of self.now.tablets }
     {
         Counts {
-            tablets: self.tablets.len(),
-            sources: self.tablets.count_sources(),
-            records: self.tablets.count_records(),
+            tablets: self.contents.tablets.len(),
+            sources: self.contents.tablets.count_sources(),
+            records: self.contents.tablets.count_records(),
         }
     }
 }

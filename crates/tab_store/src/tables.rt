@@ -101,12 +101,8 @@ impl Tables {
         ensures names { RiseByName self.new }
         ensures err { OnErr result (self.new ≡ self.old) }
     {
-        put(
-            &mut self.by_name,
-            self.alloc,
-            name,
-            Table::new(self.alloc, time, versions, number),
-        )
+        let table = Table::new(self.alloc, time, versions, number)?;
+        self.put_table(name, table)
     }
 
     /// Puts a table under this name, in the place of one that there is. An error leaves the tables as they were.
