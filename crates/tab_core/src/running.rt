@@ -4,18 +4,18 @@ ghost use Rattle.tab_policy.specs.Entries.{at_name};
 ghost use Rattle.tab_history.specs.Bases.{new_core};
 ghost use Rattle.tab_history.specs.Histories.{world_of};
 ghost use Rattle.tab_history.specs.Legal.{Legal, LacksWhereItMay};
-ghost use Rattle.tab_history.specs.Answers.{is_open};
 ghost use Rattle.tab_store.specs.Chains.{IsExactRun};
 ghost use Rattle.tab_core.specs.Slots.{history_of, NextFrom, ManyFrom, CloseFrom};
 ghost use Rattle.tab_core.specs.declared.job_slots.JobSlot.{JobSlot};
 ghost use Rattle.tab_core.specs.Owners.{RunsOn, LeavesOthers, slots_of};
+ghost use Rattle.tab_core.specs.Stepping.{asked_at};
 
 use crate::job_slots::JobSlots;
 use crate::slots::Slots;
 use crate::state::Core;
 use std::alloc::{AllocError, Global};
 use std::collections::BTreeMap;
-use tab_history::{Act, Event, Refusal, Reply, Step};
+use tab_history::{Act, Event, Refusal, Reply, Scan, Step};
 use tab_key::{Bounds, Items, Name};
 use tab_policy::NameKey;
 
@@ -81,30 +81,28 @@ fn run_event(
 ) -> Reply
     ensures { RunsOn core.old owners.old.entries jobs.old (Step.Event event.old) result core.new owners.new.entries jobs.new }
 {
-    if opens(&event.act) {
-        run_open(alloc, core, owners, event)
-    } else {
-        jobs.step(alloc, core, &event.user, event.moment, &mut event.act)
+    match &mut event.act {
+        Act::Open(scan) => run_open(alloc, core, owners, &event.user, event.moment, scan),
+        act => jobs.step(alloc, core, &event.user, event.moment, act),
     }
-}
-
-// Whether the act opens a session.
-fn opens(act: &Act) -> bool
-    ensures { result ≡ is_open act.now }
-{
-    matches!(act, Act::Open(_))
 }
 
 // An Open, whose session is kept in its user's next slot.
-fn run_open(alloc: Global, core: &mut Core, owners: &mut Owners, event: &mut Event) -> Reply
-    requires { is_open event.old.act ≡ true }
-    ensures { (jobs : List JobSlot) → RunsOn core.old owners.old.entries jobs (Step.Event event.old) result core.new owners.new.entries jobs }
+fn run_open(
+    alloc: Global,
+    core: &mut Core,
+    owners: &mut Owners,
+    user: &Name,
+    moment: i64,
+    scan: &mut Scan,
+) -> Reply
+    ensures { (jobs : List JobSlot) → RunsOn core.old owners.old.entries jobs (Step.Event (asked_at user.now moment (Act.Open scan.old))) result core.new owners.new.entries jobs }
 {
-    if make_owner(alloc, owners, &event.user).is_err() {
+    if make_owner(alloc, owners, user).is_err() {
         return Reply::Refused(Refusal::NoMemory);
     }
-    match owners.get_mut(&event.user) {
-        Some(slots) => slots.open(alloc, core, &event.user, event.moment, &mut event.act),
+    match owners.get_mut(user) {
+        Some(slots) => slots.open(alloc, core, user, moment, scan),
         // he is among the owners by now
         None => Reply::Refused(Refusal::NoMemory),
     }

@@ -14,7 +14,7 @@ use crate::state::Core;
 use std::alloc::{AllocError, Global};
 use std::marker::Model;
 use std::mem;
-use tab_history::{Act, Refusal, Reply};
+use tab_history::{Act, Refusal, Reply, Scan};
 use tab_key::{Bounds, MAX_OPENED, MAX_SESSIONS, Name, Part};
 
 /// One user's sessions by their numbers; none where it was closed. A number is given out once.
@@ -72,17 +72,17 @@ impl Slots {
     }
 
     /// The core answers the user's Open at this moment, and a session that it hands out is kept in the next slot. Where no session can be
-    /// opened any more the event doesn't happen, and neither where there is no memory for the slot. What the core keeps of the Open it may
-    /// take out of the act, as [`Core::step_lent`] does.
+    /// opened any more the event doesn't happen, and neither where there is no memory for the slot. What the core keeps of the scan it may
+    /// take out of it, as [`Core::open_lent`] does.
     pub fn open(
         &mut self,
         alloc: Global,
         core: &mut Core,
         user: &Name,
         moment: i64,
-        act: &mut Act,
+        scan: &mut Scan,
     ) -> Reply
-        ensures { OpensIn core.old self.old (asked_at user.now moment act.old) result core.new self.new }
+        ensures { OpensIn core.old self.old (asked_at user.now moment (Act.Open scan.old)) result core.new self.new }
     {
         if self.are_full() {
             return Reply::Refused(Refusal::TooLarge(Part::Sessions));
@@ -90,7 +90,7 @@ impl Slots {
         if self.slots.reserve(1).is_err() {
             return Reply::Refused(Refusal::NoMemory);
         }
-        let (reply, session) = with_session(core.step_lent(alloc, user, moment, act));
+        let (reply, session) = with_session(core.open_lent(alloc, user, moment, scan));
         keep(&mut self.slots, &mut self.open, session);
         reply
     }

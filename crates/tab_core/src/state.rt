@@ -16,7 +16,7 @@ use crate::reply::{Answer, move_clock};
 use crate::store::Store;
 use std::alloc::{AllocError, Global};
 use std::marker::Model;
-use tab_history::{Act, Event, Refusal, Reply};
+use tab_history::{Act, Event, Refusal, Reply, Scan};
 use tab_key::{ByteString, Name};
 use tab_label::KnownLabels;
 use tab_policy::Policy;
@@ -161,6 +161,18 @@ impl Core {
         keep_markers(act);
         let now = later(self.store.clock, moment);
         let reply = self.store.answer(alloc, now, user, act, &mut self.known);
+        move_clock(&mut self.store.clock, now, &reply);
+        reply
+    }
+
+    /// The same for an Open of a scan that is lent as it is. What the core keeps of the scan, its columns and its authorizations, it may take
+    /// out of it.
+    pub fn open_lent(&mut self, alloc: Global, user: &Name, moment: i64, scan: &mut Scan) -> Answer
+        ensures steps { Steps (base_of self.old) (asked_at user.now moment (Act.Open scan.old)) result (base_of self.new) }
+        ensures exact { StepsWith self.old None (asked_at user.now moment (Act.Open scan.old)) result self.new }
+    {
+        let now = later(self.store.clock, moment);
+        let reply = self.store.answer_open(alloc, now, user, scan);
         move_clock(&mut self.store.clock, now, &reply);
         reply
     }

@@ -12,10 +12,10 @@ use crate::scans::open;
 use crate::writes::write;
 use std::alloc::Global;
 use std::mem;
-use tab_history::{Act, Reply};
+use tab_history::{Act, Reply, Scan};
 use tab_key::{ByteString, Name};
 use tab_label::{AuthSet, KnownLabels};
-use tab_policy::Policy;
+use tab_policy::{Action, Policy, TableAction};
 use tab_rules::ConstraintSet;
 use tab_store::Tables;
 
@@ -115,5 +115,18 @@ impl Store {
             ),
             Act::Install(table, given) => self.install_none(now, user, table, *given),
         }
+    }
+
+    /// The same for an Open of a scan that is lent as it is.
+    pub fn answer_open(&mut self, alloc: Global, now: i64, user: &Name, scan: &mut Scan) -> Answer
+        requires { IsCore (held self.old) }
+        ensures { Acts (event_answer (base_of (held self.old)) [] now user.now (Act.Open scan.old)) (held self.old) now None user.now (Act.Open scan.old) result (held self.new) }
+    {
+        let action = Action::OnTable(TableAction::Open, &scan.table);
+        let caller = match self.policy.decide(user, &action) {
+            Ok(caller) => caller,
+            Err(denial) => return Reply::Refused(refusal_of(*user, denial)),
+        };
+        open(alloc, &mut self.tables, caller.authorizations, scan)
     }
 }

@@ -1,5 +1,5 @@
 //! A core that answers the requests of one connection.
-ghost use Rattle.std.specs.Prelude.{◌≡◌, true, false};
+ghost use Rattle.std.specs.Prelude.{◌≡◌, false};
 ghost use Rattle.tab_history.specs.Answers.{is_open};
 ghost use Rattle.tab_core.specs.Slots.{are_full};
 ghost use Rattle.tab_serve.specs.CoreAnswers.{CoreAnswers};
@@ -8,7 +8,7 @@ use crate::{Moments, Service};
 use std::alloc::Global;
 use std::mem;
 use tab_core::{Core, Slots, told};
-use tab_history::{Act, Refusal, Reply};
+use tab_history::{Act, Refusal, Reply, Scan};
 use tab_key::{Name, Part};
 use tab_wire::Request;
 
@@ -64,33 +64,30 @@ impl<'a, M: Moments> CoreService<'a, M> {
     fn act(&mut self, user: &Name, act: &mut Act) -> Reply
         ensures { CoreAnswers M.gives self.old user.now (Request.Act act.old) result self.new }
     {
-        if opens(act) {
-            self.open(user, act)
-        } else {
-            self.apply(user, act)
+        match act {
+            Act::Open(scan) => self.open(user, scan),
+            act => self.apply(user, act),
         }
     }
 
     // An Open. Past the limit of sessions it takes no moment, and doesn't happen.
-    fn open(&mut self, user: &Name, act: &mut Act) -> Reply
-        requires { is_open act.old ≡ true }
-        ensures { CoreAnswers M.gives self.old user.now (Request.Act act.old) result self.new }
+    fn open(&mut self, user: &Name, scan: &mut Scan) -> Reply
+        ensures { CoreAnswers M.gives self.old user.now (Request.Act (Act.Open scan.old)) result self.new }
     {
         if self.slots.are_full() {
             Reply::Refused(Refusal::TooLarge(Part::Sessions))
         } else {
-            self.open_next(user, act)
+            self.open_next(user, scan)
         }
     }
 
     // An Open where one more session can be opened, which is kept under the next number.
-    fn open_next(&mut self, user: &Name, act: &mut Act) -> Reply
-        requires opens { is_open act.old ≡ true }
-        requires room { are_full self.old.slots.now ≡ false }
-        ensures { CoreAnswers M.gives self.old user.now (Request.Act act.old) result self.new }
+    fn open_next(&mut self, user: &Name, scan: &mut Scan) -> Reply
+        requires { are_full self.old.slots.now ≡ false }
+        ensures { CoreAnswers M.gives self.old user.now (Request.Act (Act.Open scan.old)) result self.new }
     {
         let moment = self.moments.next();
-        self.slots.open(self.alloc, self.core, user, moment, act)
+        self.slots.open(self.alloc, self.core, user, moment, scan)
     }
 
     // An event that opens no session.
@@ -101,13 +98,6 @@ impl<'a, M: Moments> CoreService<'a, M> {
         let moment = self.moments.next();
         told(self.core.step_lent(self.alloc, user, moment, act))
     }
-}
-
-// Whether the act opens a session.
-fn opens(act: &Act) -> bool
-    ensures { result ≡ is_open act.now }
-{
-    matches!(act, Act::Open(_))
 }
 
 // Puts the reply in the place of the one before.

@@ -22,6 +22,10 @@ kept_is : (b : Bool) (bytes gone : List ℕ) → b ≡ false → KeptOrLost b by
 kept_is false bytes gone is h = h
 kept_is true bytes gone is h = absurd cc
 
+-- where the bytes aren't lost they are the line
+pub text_is : (p : Pending) (gone : List ℕ) → p.lost ≡ false → Pends p gone → p.bytes.items ≡ gone
+text_is p gone kept h = kept_is p.lost p.bytes.items gone kept h.kept
+
 lost_is : (b : Bool) (bytes gone : List ℕ) → b ≡ true → KeptOrLost b bytes gone → 0 < length gone
 lost_is true bytes gone is h = h
 lost_is false bytes gone is h = absurd cc

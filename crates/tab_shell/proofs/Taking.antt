@@ -107,6 +107,12 @@ front_line (x ∷ xs) lt =
           rw one (inside, ap (λ (ys : List ℕ). x ∷ ys) h.1)
     ] refl lt
 
+-- what stands in front of a line's end is of the line
+pub inside_before : (front : List ℕ) (at : ℕ) → at ≡ prefix_len is_inside front → at < length front → IsInside (take at front)
+inside_before front at is lt =
+    let small : prefix_len is_inside front < length front = omega (arith, is, lt) in
+    subst (λ n. IsInside (take n front)) (sym is) (front_line front small).0
+
 pub takes_line : (r r' : Option (List ℕ)) (p p' : Pending) (said : Result Line LineError) (front : List ℕ) (at : ℕ) → at ≡ prefix_len is_inside front → at < length front → Consumes r r' (take (at + 1) front)
     → ((gone : List ℕ) → Pends p gone → ReadsLine said (gone ++ take at front)) → Pends p' [] → TakesLine r p said r' p'
 takes_line None r' p p' said front at is lt eats says none = λ (todo : List ℕ) (ahead : Ahead None p todo). absurd ahead

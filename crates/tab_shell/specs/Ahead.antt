@@ -1,5 +1,6 @@
 -- What is ahead of a reader, with the line that has begun.
 use Rattle.std.specs.Prelude.{ℕ, ◌≡◌, ◌<◌, Bool, true, false, List, [], ◌∷◌, ◌++◌, length, Result, Ok, Err, Option, Some, None}
+use Rattle.std.specs.List.{prefix_len}
 use Rattle.tab_history.specs.Answers.{is_open}
 use Rattle.tab_lines.specs.declared.line.Line.{Line}
 use Rattle.tab_lines.specs.declared.line.Line.TheVariants as line
@@ -7,7 +8,7 @@ use Rattle.tab_lines.specs.declared.line_error.LineError.{LineError}
 use Rattle.tab_lines.specs.Gives.{Gives}
 use Rattle.tab_lines.specs.Lines.{line_of}
 use Rattle.tab_shell.specs.declared.pending.Pending.{Pending}
-use Rattle.tab_shell.specs.Scripts.{IsInside}
+use Rattle.tab_shell.specs.Scripts.{is_inside, IsInside}
 
 -- the bytes are kept, or lost, and then there are some
 abbrev pub KeptOrLost : Bool → List ℕ → List ℕ → Type 0
@@ -44,6 +45,10 @@ AtEnd r p gone = (r ≡ Some []) × Pends p gone
 abbrev pub TakesLine : Option (List ℕ) → Pending → Result Line LineError → Option (List ℕ) → Pending → Type 0
 TakesLine r p said r' p' = (todo : List ℕ) → Ahead r p todo
     → (line : List ℕ) × (after : List ℕ) × ReadsLine said line × IsInside line × (todo ≡ line ++ 10 ∷ after) × IsNext r' p' after
+
+-- the first line of these bytes ends at this place of them
+abbrev pub IsLineEnd : List ℕ → ℕ → Type 0
+IsLineEnd front at = (at ≡ prefix_len is_inside front) × (at < length front)
 
 -- no line ends in what was there
 abbrev pub TakesOn : Option (List ℕ) → Pending → Option (List ℕ) → Pending → Type 0

@@ -55,6 +55,10 @@ AnswersOrAccepts g old said new o o' (Ok (Some file)) = IsAccepted old said file
 AnswersOrAccepts g old said new o o' (Err e) =
     ((text : List ℕ) × ScriptAnswersLine old said text new × HasPutPart g o o' text) ⊎ ((file : FileLine) × IsAccepted old said file new × HasPutPart g o o' [])
 
+-- the same of a line that was read so
+abbrev pub AnswersRead : {W E : Type 0} → Ghosts W → ScriptState → (Result Line LineError → Type 0) → ScriptState → W → W → Result (Option FileLine) E → Type 0
+AnswersRead g old Reads new o o' r = (said : Result Line LineError) × Reads said × AnswersOrAccepts g old said new o o' r
+
 -- the file line is handed back, and nothing is held; or the flush failed
 abbrev pub HandsBack : {W E : Type 0} → Ghosts W → FileLine → W → W → Result (Option FileLine) E → Type 0
 HandsBack g file o o' (Ok None) = ⊥

@@ -3,9 +3,11 @@ ghost use Rattle.std.specs.Prelude.{◌≡◌, MatchBool, MatchResult};
 ghost use Rattle.tab_shell.specs.Progress.{HandsBack};
 ghost use Rattle.tab_shell.specs.Scripts.{file_act};
 
+use std::alloc::Global;
+use std::mem;
 use tab_history::{Act, Reply};
 use tab_io::{Output, WriteFault};
-use tab_lines::{FileKind, FileLine};
+use tab_lines::{FileKind, FileLine, FileName};
 
 /// What a file line asks the core before anything is done with its file.
 pub fn file_act(kind: FileKind) -> Act
@@ -22,6 +24,17 @@ pub fn is_done(reply: &Reply) -> bool
     ensures { MatchBool result (reply.now ≡ Reply.Done) (reply.now ≡ Reply.Done → ⊥) }
 {
     matches!(reply, Reply::Done)
+}
+
+/// The file line, taken out of its place, in which its kind is left alone.
+pub fn taken(alloc: Global, file: &mut FileLine) -> FileLine
+    ensures { result ≡ file.old }
+{
+    let none = FileName::new(Vec::new(alloc)).unwrap();
+    FileLine {
+        kind: file.kind,
+        name: mem::replace(&mut file.name, none),
+    }
 }
 
 /// Hands back a file line that was accepted, with nothing held unwritten.

@@ -1,7 +1,7 @@
 //! The line that has begun, and how the next one is taken.
-ghost use Rattle.std.specs.Prelude.{◌≡◌, ◌<◌, ◌^◌, ◌++◌, ℕ, List, [], length, IfSome, MatchBool, MatchOption};
+ghost use Rattle.std.specs.Prelude.{◌≡◌, ◌<◌, ◌^◌, ◌++◌, ℕ, List, [], length, IfSome, IfNone, MatchBool, MatchOption};
 ghost use Rattle.tab_shell.specs.Scripts.{IsInside};
-ghost use Rattle.tab_shell.specs.Ahead.{Pends, AddsOn, ReadsLine, TakesLine, TakesOn, OpensNoSession};
+ghost use Rattle.tab_shell.specs.Ahead.{Pends, AddsOn, ReadsLine, TakesLine, TakesOn, IsLineEnd, OpensNoSession};
 
 use std::alloc::Global;
 use tab_io::{Input, length_before};
@@ -57,6 +57,13 @@ impl Pending {
         self.lost || !self.bytes.is_empty()
     }
 
+    // The bytes of the line, unless they are lost.
+    pub(crate) fn text(&self) -> Option<&[u8]>
+        ensures { IfSome result (λ text. (gone : List ℕ) → Pends self.now gone → text.now ≡ gone) }
+    {
+        if self.lost { None } else { Some(&self.bytes) }
+    }
+
     /// What the line says, which ends in this part.
     pub fn said(&mut self, alloc: Global, part: &[u8]) -> Result<Line, LineError>
         ensures line { (gone : List ℕ) → Pends self.old gone → ReadsLine result (gone ++ part.now) }
@@ -75,6 +82,28 @@ impl Pending {
     }
 }
 
+// Where the first line of these bytes ends, if it ends there.
+pub(crate) fn line_end(front: &[u8]) -> Option<usize>
+    ensures some { IfSome result (λ at. IsLineEnd front.now at) }
+    ensures none { IfNone result (IsInside front.now) }
+{
+    let at = length_before(b'\n', front);
+    if at == front.len() { None } else { Some(at) }
+}
+
+// Takes all of the front, in which no line ends.
+pub(crate) fn take_part<R: Input>(input: &mut R, pending: &mut Pending)
+    requires { IsInside (R.front input.old) }
+    ensures front { R.front input.new ≡ [] }
+    ensures on { TakesOn (R.remaining input.old) pending.old (R.remaining input.new) pending.new }
+    ensures calls { (R.faults input.new ≡ R.faults input.old) × (R.budget input.new ≡ R.budget input.old) }
+{
+    let front = input.front();
+    let length = front.len();
+    pending.add(front);
+    input.consume(length);
+}
+
 /// Takes the next line of the front, or else all of the front.
 pub fn take_line<R: Input>(
     alloc: Global,
@@ -88,14 +117,11 @@ pub fn take_line<R: Input>(
     ensures fits { length (R.front input.old) < 2 ^ 64 }
     ensures calls { (R.faults input.new ≡ R.faults input.old) × (R.budget input.new ≡ R.budget input.old) }
 {
-    let front = input.front();
-    let at = length_before(b'\n', front);
-    if at == front.len() {
-        pending.add(front);
-        input.consume(at);
+    let Some(at) = line_end(input.front()) else {
+        take_part(input, pending);
         return None;
-    }
-    let said = pending.said(alloc, front.split_at(at).0);
+    };
+    let said = pending.said(alloc, input.front().split_at(at).0);
     pending.clear();
     input.consume(at + 1);
     Some(said)

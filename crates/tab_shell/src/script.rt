@@ -1,20 +1,19 @@
 //! Scripts: a core that answers lines.
-ghost use Rattle.std.specs.Prelude.{◌≡◌, [], true, false, is_some, IfOk, IfErr, OnOk};
+ghost use Rattle.std.specs.Prelude.{◌≡◌, ◌<◌, ◌^◌, ◌++◌, ℕ, List, [], length, true, false, is_some, IfOk, IfErr, OnOk};
 ghost use Rattle.tab_history.specs.Answers.{told_of, is_open};
-ghost use Rattle.tab_history.specs.declared.event.Scan.{Scan as Scans};
 ghost use Rattle.tab_io.specs.Streams.{FailsByFault};
 ghost use Rattle.tab_io.specs.Writing.{Puts};
 ghost use Rattle.tab_replies.specs.Texts.{refusal_text, reply_text};
 ghost use Rattle.tab_policy.specs.Roots.{root};
 ghost use Rattle.tab_policy.specs.Entries.{at_name};
 ghost use Rattle.tab_shell.specs.Sessions.{kept_of, is_spent};
-ghost use Rattle.tab_shell.specs.Scripts.{new_script, replaced};
-ghost use Rattle.tab_shell.specs.Ahead.{OpensNoSession};
-ghost use Rattle.tab_shell.specs.Progress.{PrintsAnswer, AnswersOrAccepts, AnswersFront, IsEmptied, EndsAhead, StopsAhead, FailedSide, RunsScript, ComesFurther};
+ghost use Rattle.tab_shell.specs.Scripts.{new_script, replaced, IsInside};
+ghost use Rattle.tab_shell.specs.Ahead.{Pends, ReadsLine, TakesLine, IsLineEnd, OpensNoSession};
+ghost use Rattle.tab_shell.specs.Progress.{PrintsAnswer, AnswersOrAccepts, AnswersRead, AnswersFront, IsEmptied, EndsAhead, StopsAhead, FailedSide, RunsScript, ComesFurther};
 
 use crate::batches::put_session;
-use crate::file_lines::{file_act, hand_back, is_done, printed};
-use crate::pending::{Pending, take_line};
+use crate::file_lines::{file_act, hand_back, is_done, printed, taken};
+use crate::pending::{Pending, line_end, take_part};
 use crate::sessions::Sessions;
 use std::alloc::Global;
 use std::marker::Model;
@@ -22,7 +21,7 @@ use tab_core::{Answer, Core, JobSlots, told};
 use tab_history::{Act, Refusal, Reply, Scan};
 use tab_io::{Input, Output, WriteFault};
 use tab_key::{Bounds, Items, Name, Part};
-use tab_lines::{FileLine, Line, LineError};
+use tab_lines::{FileLine, Line, LineError, read_line};
 use tab_replies::{put_begun, put_next, put_opened, put_refusal, write_reply};
 
 /// How a run of a script ended.
@@ -87,7 +86,7 @@ fn write_told<W: Output>(output: &mut W, reply: Answer) -> Result<(), WriteFault
 }
 
 // Writes the refusal of a scan, which isn't done.
-fn write_refused<W: Output>(output: &mut W, _scan: Scan, refusal: Refusal) -> Result<(), WriteFault>
+fn write_refused<W: Output>(output: &mut W, refusal: Refusal) -> Result<(), WriteFault>
     ensures { Puts W.Output output.old output.new (refusal_text refusal) result }
 {
     put_refusal(output, &refusal)
@@ -124,14 +123,56 @@ impl Script {
         self.jobs = JobSlots::new(self.alloc);
     }
 
-    // Does what the line says, and prints the replies. A file line that the core accepts is handed back.
+    // Does what the line says that ends in this part, and prints the replies. A file line that the core accepts is handed back.
     fn answer<W: Output>(
         &mut self,
-        said: Result<Line, LineError>,
+        pending: &mut Pending,
+        part: &[u8],
         output: &mut W,
     ) -> Result<Option<FileLine>, WriteFault>
-        requires { OpensNoSession said }
-        ensures { AnswersOrAccepts W.Output self.old said self.new output.old output.new result }
+        requires { IsInside part.now }
+        ensures { AnswersRead W.Output self.old (λ said. (gone : List ℕ) → Pends pending.old gone → ReadsLine said (gone ++ part.now)) self.new output.old output.new result }
+    {
+        if pending.has_begun() {
+            pending.add(part);
+            return self.answer_pending(pending, output);
+        }
+        self.answer_text(part, output)
+    }
+
+    // The same for a line that is gathered whole.
+    fn answer_pending<W: Output>(
+        &mut self,
+        pending: &Pending,
+        output: &mut W,
+    ) -> Result<Option<FileLine>, WriteFault>
+        ensures { AnswersRead W.Output self.old (λ said. (gone : List ℕ) → Pends pending.now gone → ReadsLine said gone) self.new output.old output.new result }
+    {
+        match pending.text() {
+            Some(text) => self.answer_text(text, output),
+            None => printed(self.lacks_memory(output)),
+        }
+    }
+
+    // The same for a line that is here whole.
+    fn answer_text<W: Output>(
+        &mut self,
+        text: &[u8],
+        output: &mut W,
+    ) -> Result<Option<FileLine>, WriteFault>
+        ensures { AnswersRead W.Output self.old (λ said. ReadsLine said text.now) self.new output.old output.new result }
+    {
+        self.answer_read(&mut read_line(self.alloc, text), output)
+    }
+
+    // The same for what was read of it.
+    fn answer_read<W: Output>(
+        &mut self,
+        said: &mut Result<Line, LineError>,
+        output: &mut W,
+    ) -> Result<Option<FileLine>, WriteFault>
+        requires { OpensNoSession said.old }
+        ensures { AnswersOrAccepts W.Output self.old said.old self.new output.old output.new result }
     {
         match said {
             Ok(line) => self.does(line, output),
@@ -143,23 +184,23 @@ impl Script {
     // The same for a line of the grammar.
     fn does<W: Output>(
         &mut self,
-        line: Line,
+        line: &mut Line,
         output: &mut W,
     ) -> Result<Option<FileLine>, WriteFault>
-        requires { OpensNoSession (Ok line) }
-        ensures { AnswersOrAccepts W.Output self.old (Ok line) self.new output.old output.new result }
+        requires { OpensNoSession (Ok line.old) }
+        ensures { AnswersOrAccepts W.Output self.old (Ok line.old) self.new output.old output.new result }
     {
         match line {
             Line::Blank => printed(self.says_nothing(output)),
             Line::As(user) => printed(self.sets_user(user, output)),
-            Line::At(moment) => printed(self.sets_moment(moment, output)),
+            Line::At(moment) => printed(self.sets_moment(*moment, output)),
             Line::Act(act) => printed(self.act(act, output)),
             Line::Scan(scan) => printed(self.scan(scan, output)),
             Line::Open(scan) => printed(self.open(scan, output)),
-            Line::Next(number, count) => printed(self.next(number, count, output)),
-            Line::Many(number, ranges) => printed(self.many(number, ranges, output)),
-            Line::Close(number) => printed(self.close(number, output)),
-            Line::Merge(job) => printed(self.merge(job, output)),
+            Line::Next(number, count) => printed(self.next(*number, *count, output)),
+            Line::Many(number, ranges) => printed(self.many(*number, ranges, output)),
+            Line::Close(number) => printed(self.close(*number, output)),
+            Line::Merge(job) => printed(self.merge(*job, output)),
             Line::File(file) => self.file(file, output),
         }
     }
@@ -167,10 +208,10 @@ impl Script {
     // Asks the core whether what the file line says may be done. A refusal is printed.
     fn file<W: Output>(
         &mut self,
-        file: FileLine,
+        file: &mut FileLine,
         output: &mut W,
     ) -> Result<Option<FileLine>, WriteFault>
-        ensures { AnswersOrAccepts W.Output self.old (Ok (Line.File file)) self.new output.old output.new result }
+        ensures { AnswersOrAccepts W.Output self.old (Ok (Line.File file.old)) self.new output.old output.new result }
     {
         let mut act = file_act(file.kind);
         let answer = self.jobs.step(
@@ -181,7 +222,7 @@ impl Script {
             &mut act,
         );
         if is_done(&answer) {
-            return hand_back(file, output);
+            return hand_back(taken(self.alloc, file), output);
         }
         printed(write_reply(output, &answer))
     }
@@ -193,10 +234,10 @@ impl Script {
         Ok(())
     }
 
-    fn sets_user<W: Output>(&mut self, user: Name, output: &mut W) -> Result<(), WriteFault>
-        ensures { PrintsAnswer W.Output self.old (Ok (Line.As user)) self.new output.old output.new result }
+    fn sets_user<W: Output>(&mut self, user: &Name, output: &mut W) -> Result<(), WriteFault>
+        ensures { PrintsAnswer W.Output self.old (Ok (Line.As user.now)) self.new output.old output.new result }
     {
-        self.user = user;
+        self.user = *user;
         Ok(())
     }
 
@@ -223,54 +264,39 @@ impl Script {
     }
 
     // One step of the core. A job that it begins is kept under the next number, and the merge that it installs is taken from its slot.
-    fn act<W: Output>(&mut self, act: Act, output: &mut W) -> Result<(), WriteFault>
-        requires { is_open act ≡ false }
-        ensures { PrintsAnswer W.Output self.old (Ok (Line.Act act)) self.new output.old output.new result }
+    fn act<W: Output>(&mut self, act: &mut Act, output: &mut W) -> Result<(), WriteFault>
+        requires { is_open act.old ≡ false }
+        ensures { PrintsAnswer W.Output self.old (Ok (Line.Act act.old)) self.new output.old output.new result }
     {
-        let mut act = act;
         let number = self.jobs.begun();
-        let reply = self.jobs.step(
-            self.alloc,
-            &mut self.core,
-            &self.user,
-            self.moment,
-            &mut act,
-        );
+        let reply = self
+            .jobs
+            .step(self.alloc, &mut self.core, &self.user, self.moment, act);
         put_begun(output, number, &reply)
     }
 
     // One line and several steps: an Open, batches until one isn't full, and a Close.
-    fn scan<W: Output>(&mut self, scan: Scan, output: &mut W) -> Result<(), WriteFault>
-        ensures { PrintsAnswer W.Output self.old (Ok (Line.Scan scan)) self.new output.old output.new result }
+    fn scan<W: Output>(&mut self, scan: &mut Scan, output: &mut W) -> Result<(), WriteFault>
+        ensures { PrintsAnswer W.Output self.old (Ok (Line.Scan scan.old)) self.new output.old output.new result }
     {
         if self.sessions.ready(self.alloc, &self.user).is_err() {
-            return write_refused(output, scan, Refusal::NoMemory);
+            return write_refused(output, Refusal::NoMemory);
         }
         if self.sessions.is_spent(&self.user) {
-            return write_refused(output, scan, Refusal::TooLarge(Part::Sessions));
+            return write_refused(output, Refusal::TooLarge(Part::Sessions));
         }
         self.read_all(scan, output)
     }
 
     // The same where one more session can be opened. It is read to the end, or until memory lacks, and dropped.
-    fn read_all<W: Output>(&mut self, scan: Scan, output: &mut W) -> Result<(), WriteFault>
+    fn read_all<W: Output>(&mut self, scan: &mut Scan, output: &mut W) -> Result<(), WriteFault>
         requires there { is_some (at_name self.old.asker.user self.old.kept) ≡ true }
         requires few { is_spent (kept_of self.old.kept self.old.asker.user) ≡ false }
-        ensures { PrintsAnswer W.Output self.old (Ok (Line.Scan scan)) self.new output.old output.new result }
-    {
-        let mut act = Act::Open(scan);
-        self.read_opened(&mut act, output)
-    }
-
-    // The same for an Open of the scan.
-    fn read_opened<W: Output>(&mut self, act: &mut Act, output: &mut W) -> Result<(), WriteFault>
-        requires there { is_some (at_name self.old.asker.user self.old.kept) ≡ true }
-        requires few { is_spent (kept_of self.old.kept self.old.asker.user) ≡ false }
-        ensures { (scan : Scans) → act.old ≡ Act.Open scan → PrintsAnswer W.Output self.old (Ok (Line.Scan scan)) self.new output.old output.new result }
+        ensures { PrintsAnswer W.Output self.old (Ok (Line.Scan scan.old)) self.new output.old output.new result }
     {
         match self
             .core
-            .step_lent(self.alloc, &self.user, self.moment, act)
+            .open_lent(self.alloc, &self.user, self.moment, scan)
         {
             Reply::Opened(session) => {
                 self.sessions.count_scan(&self.user);
@@ -281,33 +307,28 @@ impl Script {
     }
 
     // Opens a session and keeps it.
-    fn open<W: Output>(&mut self, scan: Scan, output: &mut W) -> Result<(), WriteFault>
-        ensures { PrintsAnswer W.Output self.old (Ok (Line.Open scan)) self.new output.old output.new result }
+    fn open<W: Output>(&mut self, scan: &mut Scan, output: &mut W) -> Result<(), WriteFault>
+        ensures { PrintsAnswer W.Output self.old (Ok (Line.Open scan.old)) self.new output.old output.new result }
     {
         if self.sessions.ready(self.alloc, &self.user).is_err() {
-            return write_refused(output, scan, Refusal::NoMemory);
+            return write_refused(output, Refusal::NoMemory);
         }
         if self.sessions.is_spent(&self.user) {
-            return write_refused(output, scan, Refusal::TooLarge(Part::Sessions));
+            return write_refused(output, Refusal::TooLarge(Part::Sessions));
         }
         self.keep(scan, output)
     }
 
     // The same where one more session can be opened.
-    fn keep<W: Output>(&mut self, scan: Scan, output: &mut W) -> Result<(), WriteFault>
+    fn keep<W: Output>(&mut self, scan: &mut Scan, output: &mut W) -> Result<(), WriteFault>
         requires there { is_some (at_name self.old.asker.user self.old.kept) ≡ true }
         requires few { is_spent (kept_of self.old.kept self.old.asker.user) ≡ false }
-        ensures { PrintsAnswer W.Output self.old (Ok (Line.Open scan)) self.new output.old output.new result }
+        ensures { PrintsAnswer W.Output self.old (Ok (Line.Open scan.old)) self.new output.old output.new result }
     {
-        let mut act = Act::Open(scan);
         let number = self.sessions.numbers_given(&self.user);
-        let reply = self.sessions.open(
-            self.alloc,
-            &mut self.core,
-            &self.user,
-            self.moment,
-            &mut act,
-        );
+        let reply = self
+            .sessions
+            .open(self.alloc, &mut self.core, &self.user, self.moment, scan);
         put_opened(output, number, &reply)
     }
 
@@ -321,10 +342,10 @@ impl Script {
     fn many<W: Output>(
         &mut self,
         number: u32,
-        ranges: Items<Bounds>,
+        ranges: &Items<Bounds>,
         output: &mut W,
     ) -> Result<(), WriteFault>
-        ensures { PrintsAnswer W.Output self.old (Ok (Line.Many number ranges)) self.new output.old output.new result }
+        ensures { PrintsAnswer W.Output self.old (Ok (Line.Many number ranges.now)) self.new output.old output.new result }
     {
         let reply = self
             .sessions
@@ -360,14 +381,35 @@ impl Script {
         ensures reads { (R.faults input.new ≡ R.faults input.old) × (R.budget input.new ≡ R.budget input.old) }
         ensures writes { FailsByFault result (W.faults output.old) (W.faults output.new) (W.budget output.new) }
     {
-        while let Some(said) = take_line(self.alloc, input, pending) {
-            match self.answer(said, output) {
+        while let Some(at) = line_end(input.front()) {
+            match self.answer_line(pending, input, at, output) {
                 Ok(None) => {}
                 Ok(Some(file)) => return Ok(Some(file)),
                 Err(fault) => return Err(fault),
             }
         }
+        take_part(input, pending);
         Ok(None)
+    }
+
+    // Answers the line that ends at this place of the front, and takes it.
+    fn answer_line<R: Input, W: Output>(
+        &mut self,
+        pending: &mut Pending,
+        input: &mut R,
+        at: usize,
+        output: &mut W,
+    ) -> Result<Option<FileLine>, WriteFault>
+        requires { IsLineEnd (R.front input.old) at }
+        ensures lines { AnswersRead W.Output self.old (λ said. TakesLine (R.remaining input.old) pending.old said (R.remaining input.new) pending.new) self.new output.old output.new result }
+        ensures shorter { length (R.front input.new) < length (R.front input.old) }
+        ensures fits { length (R.front input.old) < 2 ^ 64 }
+        ensures reads { (R.faults input.new ≡ R.faults input.old) × (R.budget input.new ≡ R.budget input.old) }
+    {
+        let answered = self.answer(pending, input.front().split_at(at).0, output);
+        pending.clear();
+        input.consume(at + 1);
+        answered
     }
 
     // Answers all lines that end, and ends with no byte in the front and none gathered; or up to a file line that the core accepts.
@@ -431,8 +473,7 @@ impl Script {
         if !pending.has_begun() {
             return Ok(Ended::Input);
         }
-        let said = pending.said(self.alloc, b"");
-        match self.answer(said, output) {
+        match self.answer(&mut pending, b"", output) {
             Ok(None) => {}
             Ok(Some(file)) => return Ok(Ended::File(file)),
             Err(_) => return Err(ScriptFault::Write),

@@ -8,7 +8,7 @@ use std::alloc::{AllocError, Global};
 use std::collections::BTreeMap;
 use std::marker::Model;
 use tab_core::{Core, Slots};
-use tab_history::{Act, Refusal, Reply};
+use tab_history::{Act, Refusal, Reply, Scan};
 use tab_key::{Bounds, MAX_OPENED, MAX_SESSIONS, Name};
 use tab_policy::NameKey;
 
@@ -112,19 +112,19 @@ impl Sessions {
     }
 
     /// The core answers the user's Open at this moment. A session that it hands out is kept under his next number. What the core keeps of the
-    /// Open it may take out of the act.
+    /// scan it may take out of it.
     pub fn open(
         &mut self,
         alloc: Global,
         core: &mut Core,
         user: &Name,
         moment: i64,
-        act: &mut Act,
+        scan: &mut Scan,
     ) -> Reply
         requires { is_some (at_name user.now self.old) ≡ true }
-        ensures { OpenIn core.old self.old user.now (asked_at user.now moment act.old) result core.new self.new }
+        ensures { OpenIn core.old self.old user.now (asked_at user.now moment (Act.Open scan.old)) result core.new self.new }
     {
-        open(alloc, &mut self.by_user, core, user, moment, act)
+        open(alloc, &mut self.by_user, core, user, moment, scan)
     }
 
     /// The next cells of the user's session of this number.
@@ -201,13 +201,13 @@ fn open(
     core: &mut Core,
     user: &Name,
     moment: i64,
-    act: &mut Act,
+    scan: &mut Scan,
 ) -> Reply
     requires { is_some (at_name user.now by_user.old.entries) ≡ true }
-    ensures { OpenIn core.old by_user.old.entries user.now (asked_at user.now moment act.old) result core.new by_user.new.entries }
+    ensures { OpenIn core.old by_user.old.entries user.now (asked_at user.now moment (Act.Open scan.old)) result core.new by_user.new.entries }
 {
     match by_user.get_mut(user) {
-        Some(kept) => kept.numbered.open(alloc, core, user, moment, act),
+        Some(kept) => kept.numbered.open(alloc, core, user, moment, scan),
         // he is there by now
         None => Reply::Refused(Refusal::NoMemory),
     }

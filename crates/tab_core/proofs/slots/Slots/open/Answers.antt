@@ -1,4 +1,5 @@
 use Rattle.std.proofs.Common.{◌≡◌, ℤ, None, inr, false, subst, rules, ◌∙◌, to_z, of_z, w64}
+use Rattle.tab_history.specs.declared.event.Act.TheVariants.{Open}
 use Rattle.tab_history.specs.Answers.{session_of}
 use Rattle.tab_store.specs.Stores.{base_of}
 use Rattle.tab_core.specs.Slots.{are_full}
@@ -10,7 +11,7 @@ pub returns : goal.returns
 returns c =
     let room : are_full c.args.self.now ≡ false = search rules in
     let trip : to_z w64 (of_z w64 c.args.moment) ≡ c.args.moment = search rules in
-    let steps = subst (λ (m : ℤ). Steps (base_of c.args.core.now) (asked_at c.args.user.now m c.args.act.now) c.step_lent.result (base_of c.step_lent.new.self)) trip c.step_lent.ensures.steps in
-    let exact = subst (λ (m : ℤ). StepsWith c.args.core.now None (asked_at c.args.user.now m c.args.act.now) c.step_lent.result c.step_lent.new.self) trip c.step_lent.ensures.exact in
-    let kept : c.keep.new.slots.items ≡ kept_with c.args.self.now (session_of c.step_lent.result) = c.keep.ensures.slots ∙ (λ i. kept_with ((c.reserve.ensures.items ∙ c.self.view_is) i) (c.with_session-reply.ensures.session i)) in
-    inr (inr (room, (c.step_lent.result, steps, exact, c.with_session-reply.ensures.told, kept)))
+    let steps = subst (λ (m : ℤ). Steps (base_of c.args.core.now) (asked_at c.args.user.now m (Open c.args.scan.now)) c.open_lent.result (base_of c.open_lent.new.self)) trip c.open_lent.ensures.steps in
+    let exact = subst (λ (m : ℤ). StepsWith c.args.core.now None (asked_at c.args.user.now m (Open c.args.scan.now)) c.open_lent.result c.open_lent.new.self) trip c.open_lent.ensures.exact in
+    let kept : c.keep.new.slots.items ≡ kept_with c.args.self.now (session_of c.open_lent.result) = c.keep.ensures.slots ∙ (λ i. kept_with ((c.reserve.ensures.items ∙ c.self.view_is) i) (c.with_session-reply.ensures.session i)) in
+    inr (inr (room, (c.open_lent.result, steps, exact, c.with_session-reply.ensures.told, kept)))

@@ -17,9 +17,9 @@ returns g c =
     let new : Held = c.step-reply.new.core in
     let jobs : List JobSlot = c.step-reply.new.self in
     let trip : to_z w64 (of_z w64 c.self.inside.moment) ≡ c.self.inside.moment = search rules in
-    let is : asked_at c.self.inside.user (to_z w64 (of_z w64 c.self.inside.moment)) c.args.act ≡ event_by v.asker c.args.act = λ i. asked_at c.self.inside.user (trip i) c.args.act in
-    let steps : StepsIn v.core v.jobs (event_by v.asker c.args.act) c.step-reply.result new jobs = subst (λ (e : Event). StepsIn v.core v.jobs e c.step-reply.result new jobs) is c.step-reply.ensures in
+    let is : asked_at c.self.inside.user (to_z w64 (of_z w64 c.self.inside.moment)) c.args.act.now ≡ event_by v.asker c.args.act.now = λ i. asked_at c.self.inside.user (trip i) c.args.act.now in
+    let steps : StepsIn v.core v.jobs (event_by v.asker c.args.act.now) c.step-reply.result new jobs = subst (λ (e : Event). StepsIn v.core v.jobs e c.step-reply.result new jobs) is c.step-reply.ensures in
     let text : List ℕ = begun_text c.begun-number.result c.step-reply.result in
-    let answered : ScriptAnswersLine v (Ok (line.Act c.args.act)) text (with_core v new jobs) =
-    subst (λ (n : ℕ). ScriptAnswersLine v (Ok (line.Act c.args.act)) (begun_text n c.step-reply.result) (with_core v new jobs)) (sym c.begun-number.ensures) (act_answered v new jobs c.args.act c.step-reply.result c.requires steps) in
-    subst (λ (s : ScriptState). PrintsAnswer g.W.Output s (Ok (line.Act c.args.act)) (with_core v new jobs) c.args.output.now c.put_begun.new.output c.put_begun.result) c.self.view_is (text, answered, c.put_begun.ensures)
+    let answered : ScriptAnswersLine v (Ok (line.Act c.args.act.now)) text (with_core v new jobs) =
+    subst (λ (n : ℕ). ScriptAnswersLine v (Ok (line.Act c.args.act.now)) (begun_text n c.step-reply.result) (with_core v new jobs)) (sym c.begun-number.ensures) (act_answered v new jobs c.args.act.now c.step-reply.result c.requires steps) in
+    subst (λ (s : ScriptState). PrintsAnswer g.W.Output s (Ok (line.Act c.args.act.now)) (with_core v new jobs) c.args.output.now c.put_begun.new.output c.put_begun.result) c.self.view_is (text, answered, c.put_begun.ensures)

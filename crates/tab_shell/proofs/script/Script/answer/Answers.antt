@@ -1,14 +1,18 @@
-use Rattle.std.proofs.Common.{rules}
-use Rattle.tab_shell.specs.Progress.{PrintsAnswer}
-use Rattle.tab_shell.proofs.Saying.{printed_answers}
+use Rattle.std.proofs.Common.{◌≡◌, ◌<◌, ◌++◌, List, [], ℕ, false, length, sym, rules, subst}
+use Rattle.tab_shell.specs.Ahead.{ReadsLine}
+use Rattle.tab_shell.proofs.Ending.{when_false}
 use Rattle.tab_shell.proofs.script.Script.answer.Goals as goal
 
-pub returns-in-Err-Fault : goal.returns-in-Err-Fault
-returns-in-Err-Fault g c =
-    let prints : PrintsAnswer g.W.Output c.args.self.now c.args.said c.faults.new.self c.args.output.now c.faults.new.output c.faults.result = search rules in
-    printed_answers g.W.Output c.args.self.now c.faults.new.self c.args.said c.args.output.now c.faults.new.output c.faults.result c.printed.result c.printed.ensures prints
+pub returns-then-has_begun : goal.returns-then-has_begun
+returns-then-has_begun g c =
+    let read = c.answer_pending.ensures in
+    (read.0, λ gone h. read.1 (gone ++ c.args.part.now) (c.add.ensures gone h), read.2)
 
-pub returns-in-Err-NoMemory : goal.returns-in-Err-NoMemory
-returns-in-Err-NoMemory g c =
-    let prints : PrintsAnswer g.W.Output c.args.self.now c.args.said c.lacks_memory.new.self c.args.output.now c.lacks_memory.new.output c.lacks_memory.result = search rules in
-    printed_answers g.W.Output c.args.self.now c.lacks_memory.new.self c.args.said c.args.output.now c.lacks_memory.new.output c.lacks_memory.result c.printed-in-Err-NoMemory.result c.printed-in-Err-NoMemory.ensures prints
+pub returns : goal.returns
+returns g c =
+    let read = c.answer_text.ensures in
+    let none : c.has_begun.result ≡ false = search rules in (
+      read.0,
+      λ gone h. subst (λ (xs : List ℕ). ReadsLine read.0 (xs ++ c.args.part.now)) (sym (when_false c.has_begun.result (0 < length gone) (gone ≡ []) none (c.has_begun.ensures gone h))) read.1,
+      read.2,
+    )

@@ -14,8 +14,8 @@ returns g c =
     let v : ScriptState = record { core = c.self.inside.core; asker = record { user = c.self.inside.user; moment = c.self.inside.moment }; kept = c.self.inside.sessions; jobs = c.self.inside.jobs } in
     let kept : Keeping = c.many-reply.new.self in
     let text : List ℕ = reply_text c.many-reply.result in
-    let lent : c.as_slice.result.now ≡ c.args.ranges = search rules in
-    let many : ManyIn v.kept v.asker.user c.args.number c.args.ranges c.many-reply.result = subst (λ (rs : List Bounds). ManyIn v.kept v.asker.user c.args.number rs c.many-reply.result) lent c.many-reply.ensures.answers in
-    let same : ScriptAnswersLine v (Ok (line.Many c.args.number c.args.ranges)) text v = many_answered v c.args.number c.args.ranges c.many-reply.result many in
-    let answered : ScriptAnswersLine v (Ok (line.Many c.args.number c.args.ranges)) text (with_kept v kept) = subst (λ (k : Keeping). ScriptAnswersLine v (Ok (line.Many c.args.number c.args.ranges)) text (with_kept v k)) (sym c.many-reply.ensures.same) same in
-    subst (λ (s : ScriptState). PrintsAnswer g.W.Output s (Ok (line.Many c.args.number c.args.ranges)) (with_kept v kept) c.args.output.now c.write_reply.new.output c.write_reply.result) c.self.view_is (text, answered, c.write_reply.ensures)
+    let lent : c.as_slice.result.now ≡ c.args.ranges.now = search rules in
+    let many : ManyIn v.kept v.asker.user c.args.number c.args.ranges.now c.many-reply.result = subst (λ (rs : List Bounds). ManyIn v.kept v.asker.user c.args.number rs c.many-reply.result) lent c.many-reply.ensures.answers in
+    let same : ScriptAnswersLine v (Ok (line.Many c.args.number c.args.ranges.now)) text v = many_answered v c.args.number c.args.ranges.now c.many-reply.result many in
+    let answered : ScriptAnswersLine v (Ok (line.Many c.args.number c.args.ranges.now)) text (with_kept v kept) = subst (λ (k : Keeping). ScriptAnswersLine v (Ok (line.Many c.args.number c.args.ranges.now)) text (with_kept v k)) (sym c.many-reply.ensures.same) same in
+    subst (λ (s : ScriptState). PrintsAnswer g.W.Output s (Ok (line.Many c.args.number c.args.ranges.now)) (with_kept v kept) c.args.output.now c.write_reply.new.output c.write_reply.result) c.self.view_is (text, answered, c.write_reply.ensures)

@@ -54,13 +54,14 @@ returns-in-Ok-Some-answer-clause-run g c =
     let o = c.args.output.now in
     let o1 = c.answer_all.new.output in
     let ended : EndsAhead g.W.Output None a r p o b r1 p1 o1 = subst (λ (file : Option FileLine). EndsAhead g.W.Output file a r p o b r1 p1 o1) c.in-Ok-None.field-0-is c.in-Ok-None.ensures.ok in
+    let read = c.in-Ok-Some-answer.ensures in
     let d : ScriptState = c.answer.new.self in
     let o2 = c.answer.new.output in
     let yes : c.has_begun.result ≡ true = search rules in
     let some : (gone : List ℕ) → Pends p1 gone → 0 < length gone = λ gone h. when_true c.has_begun.result (0 < length gone) (gone ≡ []) yes (c.has_begun.ensures gone h) in
-    let accepted : AnswersOrAccepts {E = WriteFault} g.W.Output b c.said-said.result d o1 o2 (Ok (Some c.in-Ok-Some-answer.file)) =
-    subst (λ (file : Option FileLine). AnswersOrAccepts {E = WriteFault} g.W.Output b c.said-said.result d o1 o2 (Ok file)) c.in-Ok-Some-answer.field-0-is c.in-Ok-Some-answer.ensures in
-    (ends_in_file g.W.Output a b d c.said-said.result c.in-Ok-Some-answer.file r r1 p p1 o o1 o2 c.new-pending.ensures ended.0 c.said-said.ensures.line accepted.0 accepted.1 accepted.2, accepted.2)
+    let accepted : AnswersOrAccepts {E = WriteFault} g.W.Output b read.0 d o1 o2 (Ok (Some c.in-Ok-Some-answer.file)) =
+    subst (λ (file : Option FileLine). AnswersOrAccepts {E = WriteFault} g.W.Output b read.0 d o1 o2 (Ok file)) c.in-Ok-Some-answer.field-0-is read.2 in
+    (ends_in_file g.W.Output a b d read.0 c.in-Ok-Some-answer.file r r1 p p1 o o1 o2 c.new-pending.ensures ended.0 read.1 accepted.0 accepted.1 accepted.2, accepted.2)
 
 pub returns-in-Err-answer-clause-run : goal.returns-in-Err-answer-clause-run
 returns-in-Err-answer-clause-run g c =
@@ -73,12 +74,13 @@ returns-in-Err-answer-clause-run g c =
     let o = c.args.output.now in
     let o1 = c.answer_all.new.output in
     let ended : EndsAhead g.W.Output None a r p o b r1 p1 o1 = subst (λ (file : Option FileLine). EndsAhead g.W.Output file a r p o b r1 p1 o1) c.in-Ok-None.field-0-is c.in-Ok-None.ensures.ok in
+    let read = c.in-Err-answer.ensures in
     let d : ScriptState = c.answer.new.self in
     let o2 = c.answer.new.output in
     let yes : c.has_begun.result ≡ true = search rules in
     let some : (gone : List ℕ) → Pends p1 gone → 0 < length gone = λ gone h. when_true c.has_begun.result (0 < length gone) (gone ≡ []) yes (c.has_begun.ensures gone h) in (
-      stops_open g.W.Output a b d c.said-said.result r r1 p p1 o o1 o2 c.new-pending.ensures ended.0 some c.said-said.ensures.line c.in-Err-answer.ensures,
-      later_fault g.W.Output o o1 o2 c.in-Ok-None.ensures.writes (fault_at g.W.Output b d c.said-said.result o1 o2 c.in-Err-answer.ensures),
+      stops_open g.W.Output a b d read.0 r r1 p p1 o o1 o2 c.new-pending.ensures ended.0 some read.1 read.2,
+      later_fault g.W.Output o o1 o2 c.in-Ok-None.ensures.writes (fault_at g.W.Output b d read.0 o1 o2 read.2),
     )
 
 pub returns-in-Ok-clause-run : goal.returns-in-Ok-clause-run
@@ -92,14 +94,15 @@ returns-in-Ok-clause-run g c =
     let o = c.args.output.now in
     let o1 = c.answer_all.new.output in
     let ended : EndsAhead g.W.Output None a r p o b r1 p1 o1 = subst (λ (file : Option FileLine). EndsAhead g.W.Output file a r p o b r1 p1 o1) c.in-Ok-None.field-0-is c.in-Ok-None.ensures.ok in
+    let read = c.in-Ok-None-answer.ensures in
     let d : ScriptState = c.answer.new.self in
     let o2 = c.answer.new.output in
     let yes : c.has_begun.result ≡ true = search rules in
     let some : (gone : List ℕ) → Pends p1 gone → 0 < length gone = λ gone h. when_true c.has_begun.result (0 < length gone) (gone ≡ []) yes (c.has_begun.ensures gone h) in
-    let answered : AnswersOrAccepts {E = WriteFault} g.W.Output b c.said-said.result d o1 o2 (Ok None) =
-    subst (λ (file : Option FileLine). AnswersOrAccepts {E = WriteFault} g.W.Output b c.said-said.result d o1 o2 (Ok file)) c.in-Ok-None-answer.field-0-is c.in-Ok-None-answer.ensures in
+    let answered : AnswersOrAccepts {E = WriteFault} g.W.Output b read.0 d o1 o2 (Ok None) =
+    subst (λ (file : Option FileLine). AnswersOrAccepts {E = WriteFault} g.W.Output b read.0 d o1 o2 (Ok file)) c.in-Ok-None-answer.field-0-is read.2 in
     let o3 = c.flush.new.self in (
-      ends_open g.W.Output a b d c.said-said.result r r1 p p1 o o1 o2 o3 c.new-pending.ensures ended.0 some c.said-said.ensures.line answered
+      ends_open g.W.Output a b d read.0 r r1 p p1 o o1 o2 o3 c.new-pending.ensures ended.0 some read.1 answered
           (flush_put g.W.Output o2 o3 c.in-Ok.ensures.bytes c.in-Ok.ensures.faults) c.in-Ok.ensures.bytes.1,
       c.in-Ok.ensures.bytes.1,
     )
@@ -115,14 +118,15 @@ returns-clause-run g c =
     let o = c.args.output.now in
     let o1 = c.answer_all.new.output in
     let ended : EndsAhead g.W.Output None a r p o b r1 p1 o1 = subst (λ (file : Option FileLine). EndsAhead g.W.Output file a r p o b r1 p1 o1) c.in-Ok-None.field-0-is c.in-Ok-None.ensures.ok in
+    let read = c.in-Ok-None-answer.ensures in
     let d : ScriptState = c.answer.new.self in
     let o2 = c.answer.new.output in
     let yes : c.has_begun.result ≡ true = search rules in
     let some : (gone : List ℕ) → Pends p1 gone → 0 < length gone = λ gone h. when_true c.has_begun.result (0 < length gone) (gone ≡ []) yes (c.has_begun.ensures gone h) in
-    let answered : AnswersOrAccepts {E = WriteFault} g.W.Output b c.said-said.result d o1 o2 (Ok None) =
-    subst (λ (file : Option FileLine). AnswersOrAccepts {E = WriteFault} g.W.Output b c.said-said.result d o1 o2 (Ok file)) c.in-Ok-None-answer.field-0-is c.in-Ok-None-answer.ensures in
+    let answered : AnswersOrAccepts {E = WriteFault} g.W.Output b read.0 d o1 o2 (Ok None) =
+    subst (λ (file : Option FileLine). AnswersOrAccepts {E = WriteFault} g.W.Output b read.0 d o1 o2 (Ok file)) c.in-Ok-None-answer.field-0-is read.2 in
     let o3 = c.flush.new.self in
     let flush : HasPutPart g.W.Output o2 o3 [] = flush_part g.W.Output o2 o3 c.in-Err-flush.ensures.bytes c.in-Err-flush.ensures.faults in (
-      stops_open g.W.Output a b d c.said-said.result r r1 p p1 o o1 o3 c.new-pending.ensures ended.0 some c.said-said.ensures.line (inl (flush_behind g.W.Output b d c.said-said.result o1 o2 o3 answered flush)),
+      stops_open g.W.Output a b d read.0 r r1 p p1 o o1 o3 c.new-pending.ensures ended.0 some read.1 (inl (flush_behind g.W.Output b d read.0 o1 o2 o3 answered flush)),
       later_fault g.W.Output o o2 o3 (answered.2.faults ∙ c.in-Ok-None.ensures.writes) flush.failed,
     )

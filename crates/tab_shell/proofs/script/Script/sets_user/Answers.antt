@@ -9,4 +9,4 @@ pub returns : goal.returns
 returns g c =
     let v : ScriptState = record { core = c.self.inside.core; asker = record { user = c.self.inside.user; moment = c.self.inside.moment }; kept = c.self.inside.sessions; jobs = c.self.inside.jobs } in
     let o = c.args.output.now in
-    subst (λ (s : ScriptState). (text : List ℕ) × ScriptAnswersLine s (Ok (line.As c.args.user)) text (with_user v c.args.user) × HasPut g.W.Output o o text) c.self.view_is (user_prints g.W.Output v c.args.user o)
+    subst (λ (s : ScriptState). (text : List ℕ) × ScriptAnswersLine s (Ok (line.As c.args.user.now)) text (with_user v c.args.user.now) × HasPut g.W.Output o o text) c.self.view_is (user_prints g.W.Output v c.args.user.now o)
