@@ -6,6 +6,7 @@ use Rattle.tab_history.specs.declared.reply.Reply.TheVariants.{Refused, Batch}
 use Rattle.std.specs.Prelude.{slice_set}
 use Rattle.tab_core.specs.Slots.{NextFrom}
 use Rattle.tab_core.proofs.OwnerLemmas.{next_past, next_none, next_batch, next_refused}
+use Rattle.tab_core.proofs.SlotLemmas.{count_back}
 use Rattle.tab_core.proofs.slots.Slots.next.Goals as goal
 use Rattle.tab_core.proofs.slots.Slots.next.Goals.{in-Ok, in-Err}
 
@@ -41,3 +42,11 @@ returns-after-cells c =
           subst P (sym w.result-is) (subst (λ (ss : List (Option SessionState)). NextFrom ss c.args.slot c.args.count (Refused NoMemory) new) c.self.view_is
           (next_refused items c.args.slot c.args.count c.index_mut.result.now c.replace.new.dest c.replace-in-Some.new.dest c.in-Some.session c.next_batch-cells.new.self lt c.index_mut.ensures.value (sym same ∙ c.in-Some.is) after put))
     ]
+
+pub invariant_of-self-in-Some : goal.invariant_of-self-in-Some
+invariant_of-self-in-Some c =
+    let items : List (Option SessionState) = c.self.inside.slots.items in
+    let lt : c.args.slot < length items = search rules in
+    let same : c.replace.result ≡ c.index_mut.result.now = search rules in
+    let put : c.replace-in-Some.new.dest ≡ Some c.next_batch-cells.new.self = search rules in
+    c.self.invariant ∙ sym (count_back items c.args.slot c.index_mut.result.now c.replace.new.dest c.replace-in-Some.new.dest c.in-Some.session c.next_batch-cells.new.self lt c.index_mut.ensures.value (sym same ∙ c.in-Some.is) put)
