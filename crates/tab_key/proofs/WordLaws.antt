@@ -13,10 +13,11 @@ use Rattle.tab_key.specs.Words.{worth, word_of, IsWord, mark_of}
 use Rattle.tab_key.proofs.BigEndian.{worth_bound}
 
 -- ---- the number tells its bytes
-abbrev AreBytes : List ℕ → Type 0
+abbrev pub AreBytes : List ℕ → Type 0
 AreBytes = AllByRecursion (λ b. b < 256)
 
-same_digits : (xs ys : List ℕ) → length xs ≡ length ys → AreBytes xs → AreBytes ys → worth xs ≡ worth ys → xs ≡ ys
+-- as many bytes that are worth the same are the same
+pub same_digits : (xs ys : List ℕ) → length xs ≡ length ys → AreBytes xs → AreBytes ys → worth xs ≡ worth ys → xs ≡ ys
 same_digits [] [] s a b e = refl
 same_digits [] (y ∷ ys) s a b e = absurd (omega (arith, s))
 same_digits (x ∷ xs) [] s a b e = absurd (omega (arith, s))

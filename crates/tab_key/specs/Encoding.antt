@@ -104,7 +104,10 @@ lengths r = four_bytes (length r.key.row) ++ four_bytes (length r.key.family) ++
 abbrev pub numbers : ℕ → view.Record → List ℕ
 numbers mark r = eight_bytes (cast_unsigned w64 r.key.timestamp) ++ (mark ∷ []) ++ eight_bytes r.seq ++ four_bytes r.idx
 
--- a record's bytes
+-- its head, and a record's bytes
+abbrev pub head_bytes : ℕ → view.Record → List ℕ
+head_bytes mark r = lengths r ++ numbers mark r
+
 abbrev pub encoded : ℕ → view.Record → List ℕ
 encoded mark r = lengths r ++ numbers mark r ++ packed r
 

@@ -1,7 +1,7 @@
 //! How a record lies in a body of bytes: a head of 41 bytes, and then its five byte strings in one piece.
 ghost use Rattle.std.specs.Prelude.{◌≡◌, ◌≤◌, ◌+◌, ◌++◌, ◌∷◌, [], IfOk, OnOk, length, nat_le, ◌&&◌, take};
 ghost use Rattle.std.specs.Int.{w64, cast_unsigned};
-ghost use Rattle.tab_key.specs.Encoding.{length_at, number_at, kind_of, span_at, record_at, record_size, IsAt, IsShort, FitsNumbers, four_bytes, eight_bytes, encoded};
+ghost use Rattle.tab_key.specs.Encoding.{length_at, number_at, kind_of, span_at, record_at, record_size, IsAt, IsShort, FitsNumbers, four_bytes, eight_bytes, head_bytes, encoded};
 ghost use Rattle.tab_key.specs.KeyOf.{key_of};
 ghost use Rattle.tab_key.specs.RecordSpans.{record_in, IsWithin};
 ghost use Rattle.tab_key.specs.declared.part.TheConstants.{MAX_PART_LEN};
@@ -39,67 +39,48 @@ pub(crate) fn are_short(key: Key<'_>, value: &[u8]) -> bool
         && value.len() <= MAX_PART_LEN
 }
 
-// Puts the number at the end, in four bytes.
+// The length of a part, in four bytes.
+#[inline]
 #[tactic(auto, unfolding(crate::specs::Encoding::four_bytes))]
-fn put_four(body: &mut Vec<u8>, number: u32) -> Result<(), AllocError>
-    ensures ok { OnOk result (body.new.items ≡ body.old.items ++ four_bytes number) }
-    ensures front { take (length body.old.items) body.new.items ≡ body.old.items }
-{
-    body.extend_from_slice(&number.to_be_bytes())
-}
-
-// Puts the number at the end, in eight bytes.
-#[tactic(auto, unfolding(crate::specs::Encoding::eight_bytes))]
-fn put_eight(body: &mut Vec<u8>, number: u64) -> Result<(), AllocError>
-    ensures ok { OnOk result (body.new.items ≡ body.old.items ++ eight_bytes number) }
-    ensures front { take (length body.old.items) body.new.items ≡ body.old.items }
-{
-    body.extend_from_slice(&number.to_be_bytes())
-}
-
-// Puts the length of the part at the end.
-fn put_length(body: &mut Vec<u8>, part: &[u8]) -> Result<(), AllocError>
+fn length_of(part: &[u8]) -> [u8; 4]
     requires { length part.now ≤ MAX_PART_LEN }
-    ensures ok { OnOk result (body.new.items ≡ body.old.items ++ four_bytes (length part.now)) }
-    ensures front { take (length body.old.items) body.new.items ≡ body.old.items }
+    ensures { result ≡ four_bytes (length part.now) }
 {
-    put_four(body, part.len() as u32)
+    (part.len() as u32).to_be_bytes()
 }
 
-// Puts the five lengths at the end.
-fn put_lengths(body: &mut Vec<u8>, key: Key<'_>, value: &[u8]) -> Result<(), AllocError>
+// The five lengths.
+#[inline]
+#[tactic(auto, unfolding(crate::specs::Encoding::four_bytes))]
+fn lengths_of(key: Key<'_>, value: &[u8]) -> [u8; 20]
     requires row { length key.row.now ≤ MAX_PART_LEN }
     requires family { length key.family.now ≤ MAX_PART_LEN }
     requires qualifier { length key.qualifier.now ≤ MAX_PART_LEN }
     requires label { length key.label.now ≤ MAX_PART_LEN }
     requires value { length value.now ≤ MAX_PART_LEN }
-    ensures ok { OnOk result (body.new.items ≡ body.old.items ++ (four_bytes (length key.entry.row.now) ++ four_bytes (length key.entry.family.now) ++ four_bytes (length key.entry.qualifier.now) ++ four_bytes (length key.entry.label.now) ++ four_bytes (length value.now))) }
-    ensures front { take (length body.old.items) body.new.items ≡ body.old.items }
+    ensures { result ≡ four_bytes (length key.entry.row.now) ++ four_bytes (length key.entry.family.now) ++ four_bytes (length key.entry.qualifier.now) ++ four_bytes (length key.entry.label.now) ++ four_bytes (length value.now) }
 {
-    put_length(body, key.row)?;
-    put_length(body, key.family)?;
-    put_length(body, key.qualifier)?;
-    put_length(body, key.label)?;
-    put_length(body, value)
+    let [a, b, c, d] = length_of(key.row);
+    let [e, f, g, h] = length_of(key.family);
+    let [i, j, k, l] = length_of(key.qualifier);
+    let [m, n, o, p] = length_of(key.label);
+    let [q, r, s, t] = length_of(value);
+    [a, b, c, d, e, f, g, h, i, j, k, l, m, n, o, p, q, r, s, t]
 }
 
-// Puts what isn't bytes of a record at the end.
-fn put_numbers(
-    body: &mut Vec<u8>,
-    timestamp: i64,
-    mark: u8,
-    seq: u64,
-    idx: u32,
-) -> Result<(), AllocError>
-    ensures ok { OnOk result (body.new.items ≡ body.old.items ++ (eight_bytes (cast_unsigned w64 timestamp) ++ (mark ∷ []) ++ eight_bytes seq ++ four_bytes idx)) }
+// What isn't bytes of a record.
+#[inline]
+#[tactic(auto, unfolding(crate::specs::Encoding::four_bytes, crate::specs::Encoding::eight_bytes))]
+fn numbers_of(timestamp: i64, mark: u8, seq: u64, idx: u32) -> [u8; 21]
+    ensures bytes { result ≡ eight_bytes (cast_unsigned w64 timestamp) ++ (mark ∷ []) ++ eight_bytes seq ++ four_bytes idx }
     ensures fits { FitsNumbers timestamp seq idx }
-    ensures front { take (length body.old.items) body.new.items ≡ body.old.items }
 {
-    let bits = timestamp.cast_unsigned();
-    put_eight(body, bits)?;
-    body.push(mark)?;
-    put_eight(body, seq)?;
-    put_four(body, idx)
+    let [a, b, c, d, e, f, g, h] = timestamp.cast_unsigned().to_be_bytes();
+    let [i, j, k, l, m, n, o, p] = seq.to_be_bytes();
+    let [q, r, s, t] = idx.to_be_bytes();
+    [
+        a, b, c, d, e, f, g, h, mark, i, j, k, l, m, n, o, p, q, r, s, t,
+    ]
 }
 
 // Puts the five byte strings at the end.
@@ -114,7 +95,26 @@ fn put_parts(body: &mut Vec<u8>, key: Key<'_>, value: &[u8]) -> Result<(), Alloc
     body.extend_from_slice(value)
 }
 
-// Puts a record at the end, with this byte for its kind. Memory is asked for once.
+// Puts the head of a record at the end, with this byte for its kind. Memory is asked for once, for the five byte strings too.
+fn put_head(
+    body: &mut Vec<u8>,
+    key: Key<'_>,
+    mark: u8,
+    value: &[u8],
+    seq: u64,
+    idx: u32,
+) -> Result<(), AllocError>
+    requires { IsShort (record { key = key_of key; kind = kind_of mark; value = value.now; seq = seq; idx = idx }) }
+    ensures ok { OnOk result (body.new.items ≡ body.old.items ++ head_bytes mark (record { key = key_of key.entry; kind = kind_of mark; value = value.now; seq = seq; idx = idx })) }
+    ensures fits { OnOk result (FitsNumbers key.entry.timestamp seq idx) }
+    ensures front { take (length body.old.items) body.new.items ≡ body.old.items }
+{
+    body.reserve(byte_count(key, value))?;
+    body.extend_from_slice(&lengths_of(key, value))?;
+    body.extend_from_slice(&numbers_of(key.timestamp, mark, seq, idx))
+}
+
+// Puts a record at the end, with this byte for its kind.
 fn put_record(
     body: &mut Vec<u8>,
     key: Key<'_>,
@@ -128,10 +128,37 @@ fn put_record(
     ensures fits { OnOk result (FitsNumbers key.entry.timestamp seq idx) }
     ensures front { take (length body.old.items) body.new.items ≡ body.old.items }
 {
-    body.reserve(byte_count(key, value))?;
-    put_lengths(body, key, value)?;
-    put_numbers(body, key.timestamp, mark, seq, idx)?;
+    put_head(body, key, mark, value, seq, idx)?;
     put_parts(body, key, value)
+}
+
+// The same, all but the row in one piece.
+fn put_joined(
+    body: &mut Vec<u8>,
+    key: Key<'_>,
+    mark: u8,
+    value: &[u8],
+    joined: &[u8],
+    seq: u64,
+    idx: u32,
+) -> Result<(), AllocError>
+    requires short { IsShort (record { key = key_of key; kind = kind_of mark; value = value.now; seq = seq; idx = idx }) }
+    requires joined { joined.now ≡ key.family.now ++ key.qualifier.now ++ key.label.now ++ value.now }
+    ensures ok { OnOk result (body.new.items ≡ body.old.items ++ encoded mark (record { key = key_of key.entry; kind = kind_of mark; value = value.now; seq = seq; idx = idx })) }
+    ensures fits { OnOk result (FitsNumbers key.entry.timestamp seq idx) }
+    ensures front { take (length body.old.items) body.new.items ≡ body.old.items }
+{
+    put_head(body, key, mark, value, seq, idx)?;
+    put_both(body, key.row, joined)
+}
+
+// Puts two byte strings at the end.
+fn put_both(body: &mut Vec<u8>, row: &[u8], joined: &[u8]) -> Result<(), AllocError>
+    ensures ok { OnOk result (body.new.items ≡ body.old.items ++ (row.now ++ joined.now)) }
+    ensures front { take (length body.old.items) body.new.items ≡ body.old.items }
+{
+    body.extend_from_slice(row)?;
+    body.extend_from_slice(joined)
 }
 
 /// Puts a record at the end of the body, and says where its head begins. Each part may have at most 1,048,576 bytes. Memory is asked for
@@ -156,6 +183,31 @@ pub fn append(
     let place = body.len();
     let mark = mark_of(kind, key.label);
     put_record(body, key, mark, value, seq, idx)?;
+    Ok(place)
+}
+
+/// The same for a record whose family, qualifier, label and value lie one after another already, in `joined`: they are copied in one
+/// piece.
+pub fn append_joined(
+    body: &mut Vec<u8>,
+    key: Key<'_>,
+    kind: Kind,
+    value: &[u8],
+    joined: &[u8],
+    seq: u64,
+    idx: u32,
+) -> Result<usize, AllocError>
+    requires short { IsShort (record { key = key_of key; kind = kind; value = value.now; seq = seq; idx = idx }) }
+    requires joined { joined.now ≡ key.family.now ++ key.qualifier.now ++ key.label.now ++ value.now }
+    ensures place { IfOk result (λ p. p ≡ length body.old.items) }
+    ensures within { IfOk result (λ p. IsAt body.new.items p) }
+    ensures front { take (length body.old.items) body.new.items ≡ body.old.items }
+    ensures record { IfOk result (λ p. record_at body.new.items p ≡ record { key = key_of key.entry; kind = kind; value = value.now; seq = seq; idx = idx }) }
+    ensures end { IfOk result (λ p. (span_at body.new.items p).end ≡ length body.new.items) }
+{
+    let place = body.len();
+    let mark = mark_of(kind, key.label);
+    put_joined(body, key, mark, value, joined, seq, idx)?;
     Ok(place)
 }
 

@@ -59,7 +59,7 @@ pub use byte_string::ByteString;
 pub use cell::CellRef;
 pub use cells::Cells;
 pub use column::{Column, is_selected};
-pub use encoding::{append, append_copy, end_of};
+pub use encoding::{append, append_copy, append_joined, end_of};
 pub use items::Items;
 pub use key::{Key, Kind};
 pub use name::{MAX_NAME_LEN, Name};

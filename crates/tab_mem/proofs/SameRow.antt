@@ -1,25 +1,10 @@
 -- Rows of one length, of 16 bytes at most, that have one number are one row.
-use Rattle.std.proofs.Common.{◌≡◌, ◌∙◌, ℕ, ◌+◌, ◌*◌, ◌^◌, ◌<◌, ◌≤◌, List, [], ◌∷◌, refl, sym, ap, subst, length, take, arith}
-use Rattle.std.specs.List.{AllByRecursion}
+use Rattle.std.proofs.Common.{◌≡◌, ◌∙◌, ℕ, ◌≤◌, List, sym, ap, length, take, arith}
 use Rattle.std.proofs.lemmas.List.{take_all}
-use Rattle.std.proofs.lemmas.Nat.{same_from_place}
 use Rattle.tab_key.specs.RowPrefix.{padded, IsRowPrefix}
 use Rattle.tab_key.specs.Words.{worth}
-use Rattle.tab_key.proofs.BigEndian.{worth_bound, is_worth}
-use Rattle.tab_key.proofs.WordLaws.{length_padded, take_padded}
-
--- as many bytes that are worth the same are the same
-same_digits : (xs ys : List ℕ) → length xs ≡ length ys → AllByRecursion (λ b. b < 256) xs → AllByRecursion (λ b. b < 256) ys → worth xs ≡ worth ys → xs ≡ ys
-same_digits [] [] s a b e = refl
-same_digits [] (y ∷ ys) s a b e = absurd (omega (arith, s))
-same_digits (x ∷ xs) [] s a b e = absurd (omega (arith, s))
-same_digits (x ∷ xs) (y ∷ ys) s a b e =
-    let same : length xs ≡ length ys = omega (arith, s) in
-    let low : worth xs < 256 ^ length ys = subst (λ (n : ℕ). worth xs < 256 ^ n) same (worth_bound xs a.1) in
-    let turned : x * 256 ^ length ys + worth xs ≡ y * 256 ^ length ys + worth ys = subst (λ (n : ℕ). x * 256 ^ n + worth xs ≡ y * 256 ^ length ys + worth ys) same e in
-    let both = same_from_place x (worth xs) y (worth ys) (256 ^ length ys) low (worth_bound ys b.1) turned in
-    let rest : xs ≡ ys = same_digits xs ys same a.1 b.1 both.1 in
-    λ i. both.0 i ∷ rest i
+use Rattle.tab_key.proofs.BigEndian.{is_worth}
+use Rattle.tab_key.proofs.WordLaws.{same_digits, length_padded, take_padded}
 
 -- a short string is the front of itself with zeros behind
 front : (xs : List ℕ) → length xs ≤ 16 → take (length xs) (padded 16 xs) ≡ xs

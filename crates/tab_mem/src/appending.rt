@@ -9,7 +9,7 @@ ghost use Rattle.tab_mem.specs.Parting.{records_in};
 
 use crate::item::Item;
 use std::alloc::AllocError;
-use tab_key::{Key, append};
+use tab_key::{Key, append_joined};
 use tab_mutation::{Mutation, UpdateRef};
 
 /// Puts the record of an update at the end of the body, with the number of its mutation, its place there and, where it
@@ -37,7 +37,15 @@ fn append_one(
         label: update.label(),
         timestamp: update.timestamp().unwrap_or(clock),
     };
-    append(body, key, update.kind(), update.value(), seq, idx)
+    append_joined(
+        body,
+        key,
+        update.kind(),
+        update.value(),
+        update.joined(),
+        seq,
+        idx,
+    )
 }
 
 /// Puts the records of a mutation behind so many that the body holds, the last update's first, and says how many there are then. What

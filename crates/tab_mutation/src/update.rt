@@ -1,5 +1,5 @@
 //! An update of a mutation, lent.
-ghost use Rattle.std.specs.Prelude.{◌≡◌, Option, None, IfSome, is_some, nat_le, length};
+ghost use Rattle.std.specs.Prelude.{◌≡◌, ◌++◌, Option, None, IfSome, is_some, nat_le, length};
 ghost use Rattle.tab_key.specs.Words.{IsWord};
 ghost use Rattle.tab_mutation.specs.UpdateSpans.{update_in, IsWithin};
 ghost use Rattle.tab_mutation.specs.Shape.{long_name, long_value};
@@ -89,6 +89,14 @@ impl<'a> UpdateRef<'a> {
         ensures { result.now ≡ self.now.value }
     {
         &self.body[self.span.label_end..self.span.end]
+    }
+
+    /// Family, qualifier, label and value, one after another in one piece.
+    #[tactic(auto, using(tab_key::proofs::Columns::four_parts))]
+    pub fn joined(&self) -> &[u8]
+        ensures { result.now ≡ self.now.family ++ self.now.qualifier ++ self.now.label ++ self.now.value }
+    {
+        &self.body[self.span.start..self.span.end]
     }
 
     // The first of family, qualifier and label that is too long.
