@@ -22,6 +22,7 @@ use tab_history::Extent;
 use tab_key::{Bound, ByteString, Name};
 
 /// Takes a word that spells a name.
+#[inline(always)]
 pub fn a_name(alloc: Global, words: &mut Words) -> Result<Name, LineError>
     ensures { Gives (λ x. (x, words_left words.new)) result (field name_of (words_left words.old)) }
 {
@@ -148,6 +149,7 @@ pub fn name_alone(alloc: Global, words: &mut Words) -> Result<Name, LineError>
 }
 
 /// No word may be left.
+#[inline]
 pub fn ends(words: &mut Words) -> Result<(), LineError>
     ensures { Gives (λ x. []) result (ends (words_left words.old)) }
 {

@@ -51,7 +51,7 @@
 //! | `spelling`, `names`, `numbers`, `bounds`, `columns` | what one word says |
 //! | `lists` | what the parts of a word between commas say |
 //! | `fields`, `updates`, `permissions` | one word after another, the updates of a mutation, and what is granted to whom |
-//! | `command`, `line` | the first word, and the lines |
+//! | `command`, `line`, `named` | the first word, and the lines; among them those of one name |
 //! | `file_line` | the lines that name a file |
 //! | `line_error` | why a line wasn't read |
 //! | `laws` | reading is exactly the forms of lines |
@@ -72,6 +72,7 @@ mod laws;
 mod line;
 mod line_error;
 mod lists;
+mod named;
 mod names;
 mod numbers;
 mod permissions;

@@ -10,13 +10,15 @@ use crate::bounds::bound_of;
 use crate::command::{Command, command_of};
 use crate::fields::{
     a_bound, a_byte_string, a_compaction, a_file_name, a_list, a_name, a_number, a_small,
-    an_extent, an_unsigned, ends, name_alone,
+    an_extent, an_unsigned, ends,
 };
 use crate::file_line::{FileKind, FileLine};
 use crate::lists::{columns_of, constraints_of};
+use crate::named::{
+    as_user, createuser, droptable, dropuser, flush, grant, revoke, rights, splits, status,
+};
 use crate::names::time_word;
 use crate::numbers::versions_word;
-use crate::permissions::a_grant;
 use crate::updates::{TimestampForm, a_row, add_delete, add_put, add_updates};
 use crate::words::Words;
 use std::alloc::Global;
@@ -84,6 +86,7 @@ fn settings(words: &mut Words) -> Result<(TimeMode, Versions), LineError>
 }
 
 // Each of these takes the words behind its command.
+#[inline(never)]
 #[tactic(auto, unfolding(crate::specs::Lines::createtable_of))]
 fn createtable(alloc: Global, words: &mut Words) -> Result<Line, LineError>
     ensures { Gives (λ x. x) result (createtable_of (words_left words.old)) }
@@ -93,6 +96,7 @@ fn createtable(alloc: Global, words: &mut Words) -> Result<Line, LineError>
     Ok(Line::Act(Act::CreateTable(table, time, versions)))
 }
 
+#[inline(never)]
 #[tactic(auto, unfolding(crate::specs::Lines::setauths_of))]
 fn setauths(alloc: Global, words: &mut Words) -> Result<Line, LineError>
     ensures { Gives (λ x. x) result (setauths_of (words_left words.old)) }
@@ -104,6 +108,7 @@ fn setauths(alloc: Global, words: &mut Words) -> Result<Line, LineError>
     Ok(Line::Act(Act::SetAuths(user, auths)))
 }
 
+#[inline(never)]
 #[tactic(auto, unfolding(crate::specs::Lines::constraints_line_of))]
 fn constraints(alloc: Global, words: &mut Words) -> Result<Line, LineError>
     ensures { Gives (λ x. x) result (constraints_line_of (words_left words.old)) }
@@ -118,6 +123,7 @@ fn constraints(alloc: Global, words: &mut Words) -> Result<Line, LineError>
     Ok(Line::Act(Act::SetConstraints(table, constraints)))
 }
 
+#[inline(never)]
 #[tactic(auto, unfolding(crate::specs::Lines::insert_of))]
 fn insert(alloc: Global, words: &mut Words) -> Result<Line, LineError>
     ensures { Gives (λ x. x) result (insert_of (words_left words.old)) }
@@ -129,6 +135,7 @@ fn insert(alloc: Global, words: &mut Words) -> Result<Line, LineError>
     Ok(Line::Act(Act::Write(table, mutation)))
 }
 
+#[inline(never)]
 #[tactic(auto, unfolding(crate::specs::Lines::delete_line_of))]
 fn delete(alloc: Global, words: &mut Words) -> Result<Line, LineError>
     ensures { Gives (λ x. x) result (delete_line_of (words_left words.old)) }
@@ -140,6 +147,7 @@ fn delete(alloc: Global, words: &mut Words) -> Result<Line, LineError>
     Ok(Line::Act(Act::Write(table, mutation)))
 }
 
+#[inline(never)]
 #[tactic(auto, unfolding(crate::specs::Lines::mutate_of))]
 fn mutate(alloc: Global, words: &mut Words) -> Result<Line, LineError>
     ensures { Gives (λ x. x) result (mutate_of (words_left words.old)) }
@@ -176,6 +184,7 @@ fn any_columns(alloc: Global, words: &mut Words) -> Result<Items<Column>, LineEr
 }
 
 // Takes all that is left: what a scan asks.
+#[inline(always)]
 #[tactic(auto, unfolding(crate::specs::Lines::scan_words))]
 fn scan(alloc: Global, words: &mut Words) -> Result<Scan, LineError>
     ensures { Gives (λ x. x) result (scan_words (words_left words.old)) }
@@ -194,6 +203,7 @@ fn scan(alloc: Global, words: &mut Words) -> Result<Scan, LineError>
     })
 }
 
+#[inline(never)]
 #[tactic(auto, unfolding(crate::specs::Lines::next_of))]
 fn next(words: &mut Words) -> Result<Line, LineError>
     ensures { Gives (λ x. x) result (next_of (words_left words.old)) }
@@ -217,6 +227,7 @@ fn ranges(alloc: Global, words: &mut Words) -> Result<Vec<Bounds>, LineError>
     Ok(ranges)
 }
 
+#[inline(never)]
 #[tactic(auto, unfolding(crate::specs::Lines::many_of))]
 fn many(alloc: Global, words: &mut Words) -> Result<Line, LineError>
     ensures { Gives (λ x. x) result (many_of (words_left words.old)) }
@@ -226,6 +237,7 @@ fn many(alloc: Global, words: &mut Words) -> Result<Line, LineError>
     Ok(Line::Many(session, Items::from_vec(ranges)))
 }
 
+#[inline(never)]
 #[tactic(auto, unfolding(crate::specs::Lines::close_of))]
 fn close(words: &mut Words) -> Result<Line, LineError>
     ensures { Gives (λ x. x) result (close_of (words_left words.old)) }
@@ -235,6 +247,7 @@ fn close(words: &mut Words) -> Result<Line, LineError>
     Ok(Line::Close(session))
 }
 
+#[inline(never)]
 #[tactic(auto, unfolding(crate::specs::Lines::compact_of))]
 fn compact(alloc: Global, words: &mut Words) -> Result<Line, LineError>
     ensures { Gives (λ x. x) result (compact_of (words_left words.old)) }
@@ -245,6 +258,7 @@ fn compact(alloc: Global, words: &mut Words) -> Result<Line, LineError>
     Ok(Line::Act(Act::Compact(table, extent)))
 }
 
+#[inline(never)]
 #[tactic(auto, unfolding(crate::specs::Lines::begin_of))]
 fn begin(alloc: Global, words: &mut Words) -> Result<Line, LineError>
     ensures { Gives (λ x. x) result (begin_of (words_left words.old)) }
@@ -256,6 +270,7 @@ fn begin(alloc: Global, words: &mut Words) -> Result<Line, LineError>
     Ok(Line::Act(Act::Begin(table, row, kind)))
 }
 
+#[inline(never)]
 #[tactic(auto, unfolding(crate::specs::Lines::merge_of))]
 fn merge(words: &mut Words) -> Result<Line, LineError>
     ensures { Gives (λ x. x) result (merge_of (words_left words.old)) }
@@ -265,6 +280,7 @@ fn merge(words: &mut Words) -> Result<Line, LineError>
     Ok(Line::Merge(job))
 }
 
+#[inline(never)]
 #[tactic(auto, unfolding(crate::specs::Lines::install_of))]
 fn install(alloc: Global, words: &mut Words) -> Result<Line, LineError>
     ensures { Gives (λ x. x) result (install_of (words_left words.old)) }
@@ -275,6 +291,7 @@ fn install(alloc: Global, words: &mut Words) -> Result<Line, LineError>
     Ok(Line::Act(Act::Install(table, Given::InSlot(job))))
 }
 
+#[inline(never)]
 #[tactic(auto, unfolding(crate::specs::Lines::addsplit_of))]
 fn addsplit(alloc: Global, words: &mut Words) -> Result<Line, LineError>
     ensures { Gives (λ x. x) result (addsplit_of (words_left words.old)) }
@@ -285,6 +302,7 @@ fn addsplit(alloc: Global, words: &mut Words) -> Result<Line, LineError>
     Ok(Line::Act(Act::AddSplit(table, row)))
 }
 
+#[inline(never)]
 #[tactic(auto, unfolding(crate::specs::Lines::splitsize_of))]
 fn splitsize(alloc: Global, words: &mut Words) -> Result<Line, LineError>
     ensures { Gives (λ x. x) result (splitsize_of (words_left words.old)) }
@@ -296,6 +314,7 @@ fn splitsize(alloc: Global, words: &mut Words) -> Result<Line, LineError>
     Ok(Line::Act(Act::SplitBySize(table, row, limit)))
 }
 
+#[inline(never)]
 #[tactic(auto, unfolding(crate::specs::Lines::file_of))]
 fn file(alloc: Global, kind: FileKind, words: &mut Words) -> Result<Line, LineError>
     ensures { Gives (λ x. x) result (file_of kind (words_left words.old)) }
@@ -305,6 +324,7 @@ fn file(alloc: Global, kind: FileKind, words: &mut Words) -> Result<Line, LineEr
     Ok(Line::File(FileLine { kind, name }))
 }
 
+#[inline(never)]
 #[tactic(auto, unfolding(crate::specs::Lines::at_of))]
 fn at(words: &mut Words) -> Result<Line, LineError>
     ensures { Gives (λ x. x) result (at_of (words_left words.old)) }
@@ -314,45 +334,55 @@ fn at(words: &mut Words) -> Result<Line, LineError>
     Ok(Line::At(moment))
 }
 
-// What the words behind a command say.
+// A scan whose session is read to its end, and one whose session is kept.
+#[inline(never)]
+fn whole_scan(alloc: Global, words: &mut Words) -> Result<Line, LineError>
+    ensures { Gives (λ x. x) result (commanded Command.Scan (words_left words.old)) }
+{
+    Ok(Line::Scan(scan(alloc, words)?))
+}
+
+#[inline(never)]
+fn open(alloc: Global, words: &mut Words) -> Result<Line, LineError>
+    ensures { Gives (λ x. x) result (commanded Command.Open (words_left words.old)) }
+{
+    Ok(Line::Open(scan(alloc, words)?))
+}
+
+// What the words behind a command say. Each command is a function that isn't inlined: room for what a line says is filled with zeros
+// where a function is entered, so all commands in one would pay for all of them.
 fn commanded(alloc: Global, command: Command, words: &mut Words) -> Result<Line, LineError>
     ensures { Gives (λ x. x) result (commanded command (words_left words.old)) }
 {
     match command {
-        Command::As => Ok(Line::As(name_alone(alloc, words)?)),
+        Command::As => as_user(alloc, words),
         Command::At => at(words),
         Command::CreateTable => createtable(alloc, words),
-        Command::DropTable => Ok(Line::Act(Act::DropTable(name_alone(alloc, words)?))),
-        Command::CreateUser => Ok(Line::Act(Act::CreateUser(name_alone(alloc, words)?))),
-        Command::DropUser => Ok(Line::Act(Act::DropUser(name_alone(alloc, words)?))),
+        Command::DropTable => droptable(alloc, words),
+        Command::CreateUser => createuser(alloc, words),
+        Command::DropUser => dropuser(alloc, words),
         Command::SetAuths => setauths(alloc, words),
-        Command::Grant => {
-            let (user, permission) = a_grant(alloc, words)?;
-            Ok(Line::Act(Act::Grant(user, permission)))
-        }
-        Command::Revoke => {
-            let (user, permission) = a_grant(alloc, words)?;
-            Ok(Line::Act(Act::Revoke(user, permission)))
-        }
-        Command::Rights => Ok(Line::Act(Act::Rights(name_alone(alloc, words)?))),
+        Command::Grant => grant(alloc, words),
+        Command::Revoke => revoke(alloc, words),
+        Command::Rights => rights(alloc, words),
         Command::Constraints => constraints(alloc, words),
         Command::Insert => insert(alloc, words),
         Command::Delete => delete(alloc, words),
         Command::Mutate => mutate(alloc, words),
-        Command::Scan => Ok(Line::Scan(scan(alloc, words)?)),
-        Command::Open => Ok(Line::Open(scan(alloc, words)?)),
+        Command::Scan => whole_scan(alloc, words),
+        Command::Open => open(alloc, words),
         Command::Next => next(words),
         Command::Many => many(alloc, words),
         Command::Close => close(words),
-        Command::Flush => Ok(Line::Act(Act::Flush(name_alone(alloc, words)?))),
+        Command::Flush => flush(alloc, words),
         Command::Compact => compact(alloc, words),
         Command::Begin => begin(alloc, words),
         Command::Merge => merge(words),
         Command::Install => install(alloc, words),
-        Command::Status => Ok(Line::Act(Act::Status(name_alone(alloc, words)?))),
+        Command::Status => status(alloc, words),
         Command::AddSplit => addsplit(alloc, words),
         Command::SplitSize => splitsize(alloc, words),
-        Command::Splits => Ok(Line::Act(Act::Splits(name_alone(alloc, words)?))),
+        Command::Splits => splits(alloc, words),
         Command::Save => file(alloc, FileKind::Save, words),
         Command::Load => file(alloc, FileKind::Load, words),
     }

@@ -13,6 +13,7 @@ use tab_key::Name;
 use tab_rules::Constraint;
 
 /// The name of a user or a table that a word spells.
+#[inline(always)]
 pub fn name_of(alloc: Global, word: &[u8]) -> Result<Name, LineError>
     ensures { Gives (λ x. x) result (name_of word.now) }
 {
@@ -24,6 +25,7 @@ pub fn name_of(alloc: Global, word: &[u8]) -> Result<Name, LineError>
 }
 
 // The bytes as a name, if they are one.
+#[inline(always)]
 #[tactic(auto, using(crate::proofs::NameLemmas::named))]
 fn checked_name(bytes: &[u8]) -> Option<Name>
     ensures { result ≡ only_if is_name bytes.now }
