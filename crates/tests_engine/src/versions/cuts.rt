@@ -131,6 +131,7 @@ fn reads_many_tablets(rt: HostRuntime) {
     for _ in 0..40 {
         let mut table = Vec::new(alloc);
         let version = random_version(&rt, alloc, &mut random, &mut table);
+        assert!(rt; !version.is_empty());
         sort(&mut table);
         expect_raw(&rt, alloc, &version, &table);
         for _ in 0..8 {
@@ -139,4 +140,15 @@ fn reads_many_tablets(rt: HostRuntime) {
         }
     }
     assert!(rt; shown > 2000, "{shown} records were shown");
+}
+
+#[test]
+fn tablets_without_a_record_are_an_empty_version(rt: HostRuntime) {
+    let alloc = rt.alloc();
+    let none = Clips::of(Vec::new(alloc), Vec::new(alloc));
+    let tablets = cut(alloc, none, &ROWS).expect(&rt, "memory");
+    assert!(rt; tablets.len() == ROWS.len() + 1);
+    let version = Version::of(tablets);
+    assert!(rt; version.is_empty());
+    expect_raw(&rt, alloc, &version, &[])
 }
