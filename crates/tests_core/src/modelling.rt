@@ -108,7 +108,13 @@ fn scan_of(rt: &impl Abort, alloc: Global, query: &Query) -> Scan {
     }
 }
 
-// The session of the scan, unless it is refused.
+// What root is answered whose scan is lent.
+fn lent(rt: &impl Abort, core: &mut Core, alloc: Global, moment: u8, mut scan: Scan) -> Answer {
+    let user = named(rt, b"root");
+    core.open_lent(alloc, &user, i64::from(moment), &mut scan)
+}
+
+// The session of the scan, unless it is refused. At odd moments the scan is lent, at even ones the Open is handed over.
 fn session_of(
     rt: &impl Abort,
     alloc: Global,
@@ -116,7 +122,10 @@ fn session_of(
     moment: u8,
     scan: Scan,
 ) -> Option<Session> {
-    let answer = asked(rt, core, alloc, moment, Act::Open(scan));
+    let answer = match moment % 2 {
+        0 => asked(rt, core, alloc, moment, Act::Open(scan)),
+        _ => lent(rt, core, alloc, moment, scan),
+    };
     let (_told, session, _job) = answer.into_parts();
     session
 }
