@@ -1,7 +1,8 @@
 #!/usr/bin/env python3
 """What whole connections cost: the frames of docs/PROTOCOL.md through the program `frames`, beside a plain Rust program over std's
 BTreeMap (rustc -O, serve/plain.rs) that answers the same ones. A table of 100 cells a row, written a row a frame, and one of a cell a
-row, both in random order; then whole scans in batches, and of the second table many short ranges. Seconds are the processor's.
+row, both in random order; then whole scans in batches, and of the second table many short ranges. Seconds are the processor's: first
+through pipes, part by part, and then over memory, from a file in /dev/shm to /dev/null, which leaves out what the pipes take.
 
 Usage: bench/serve.py [CELLS [ROUNDS]]   (from anywhere; builds the program if it isn't built)
   CELLS   cells of each table, a multiple of 100; 1000000 where unsaid
@@ -24,6 +25,8 @@ from phases import phases
 from script import LABELS, LETTERS, NEIGHBOURS
 
 WIDE, BATCH, RANGES, RANGES_A_FRAME, VALUE = 100, 1_000, 100_000, 100, 20
+# how often a part that can be asked again is asked over memory, since it is over too soon to be told from what is before it
+TIMES = 10
 A_LETTER = bytes(ord(LETTERS[byte % len(LETTERS)]) for byte in range(256))
 
 
@@ -73,13 +76,20 @@ def ranges(session, rows, random):
 
 
 def workloads(cells):
-    """The parts of each connection by their names, a part as its bytes and how many requests it has."""
+    """The parts of each connection by their names: a part as its bytes, how many requests it has, and, where it can be asked again, its
+    bytes TIMES times over."""
     random = Random(1)
     puts, shown = updates(cells, random)
-    scans = {"first whole scan": scan(0, shown), "whole scan": scan(1, shown)}
-    wide = {"writes": BEGINNING + writes(puts, WIDE, random), **scans}
-    tall = {"writes": BEGINNING + writes(puts, 1, random), **scans, f"{RANGES} ranges": ranges(1, cells, random)}
-    return [{f"{kind}, {name}": (b"".join(map(field, bodies)), len(bodies)) for name, bodies in parts.items()} for kind, parts in (("wide", wide), ("tall", tall))]
+
+    def part(bodies, again=()):
+        return b"".join(map(field, bodies)), len(bodies), b"".join(map(field, again))
+
+    scans = {"first whole scan": part(scan(0, shown)), "whole scan": part(scan(1, shown), [body for at in range(TIMES) for body in scan(1 + at, shown)])}
+    wide = {"writes": part(BEGINNING + writes(puts, WIDE, random)), **scans}
+    tall = {"writes": part(BEGINNING + writes(puts, 1, random)), **scans}
+    many = ranges(1, cells, random)
+    tall[f"{RANGES} ranges"] = part(many, many * TIMES)
+    return {"wide": wide, "tall": tall}
 
 
 def lengths(told, counts):
@@ -99,25 +109,59 @@ def answers(command, texts):
 
 def with_lengths(commands, parts):
     """The parts with the lengths of their answers, once both programs are seen to answer them alike."""
-    texts, counts = zip(*parts)
+    texts, counts, _ = zip(*parts)
     ours, theirs = (answers(command, texts) for command in commands)
     if ours != theirs:
         sys.exit("the two disagree")
     return list(zip(texts, lengths(ours, counts)))
 
 
-def measured(commands, parts, rounds):
-    """For each program the parts' seconds, each the median of all rounds; the two run in turn."""
-    runs = [[[numbers[0] for numbers in phases(parts, command)] for command in commands] for _ in range(rounds)]
+def in_turn(commands, rounds, seconds):
+    """For each program the parts' seconds as `seconds` tells them of one run, each the median of all rounds; the two run in turn."""
+    runs = [[seconds(command) for command in commands] for _ in range(rounds)]
     return [[median(part) for part in zip(*(run[who] for run in runs))] for who in range(len(commands))]
 
 
+def through_pipes(commands, parts, rounds):
+    told = with_lengths(commands, parts)
+    return in_turn(commands, rounds, lambda command: [numbers[0] for numbers in phases(told, command)])
+
+
+def spent(command, asked):
+    """The processor's seconds of a run over the file, whose answers are dropped."""
+    with open(asked, "rb") as requests:
+        process = subprocess.Popen(command, stdin=requests, stdout=subprocess.DEVNULL)
+        _, status, used = os.wait4(process.pid, 0)
+    process.returncode = os.waitstatus_to_exitcode(status)
+    if process.returncode != 0:
+        sys.exit("it failed")
+    return used.ru_utime + used.ru_stime
+
+
+def over_memory(commands, parts, rounds):
+    """A part's seconds are those of a run that ends with it, TIMES times over where it can be asked again, less those of one that ends
+    before it."""
+    with tempfile.TemporaryDirectory(dir="/dev/shm") as memory:
+        def file(name, texts):
+            path = Path(memory, name)
+            path.write_bytes(b"".join(texts))
+            return path
+
+        texts = [text for text, _, _ in parts]
+        before = [file(f"before {at}", texts[:at]) for at in range(len(parts))]
+        behind = [file(f"behind {at}", [*texts[:at], again or text]) for at, (text, _, again) in enumerate(parts)]
+        times = [TIMES if again else 1 for _, _, again in parts]
+        ends = in_turn(commands, rounds, lambda command: [spent(command, path) for path in before + behind])
+    return [[(end[len(parts) + at] - end[at]) / times[at] for at in range(len(parts))] for end in ends]
+
+
 def compare(commands, cells, rounds):
-    loads = [(names, with_lengths(commands, names.values())) for names in workloads(cells)]
-    print(f"{f'{cells} cells':28} {'tabd':>11} {'rust':>11} {'ratio':>8}")
-    for names, parts in loads:
-        for name, ours, theirs in zip(names, *measured(commands, parts, rounds)):
-            print(f"{name:28} {ours:9.3f} s {theirs:9.3f} s {ours / theirs:8.2f}")
+    loads = workloads(cells)
+    for way, measured in {"through pipes": through_pipes, "over memory": over_memory}.items():
+        print(f"{f'{cells} cells, {way}':30} {'tabd':>11} {'rust':>11} {'ratio':>8}")
+        for kind, parts in loads.items():
+            for name, ours, theirs in zip(parts, *measured(commands, list(parts.values()), rounds)):
+                print(f"{f'{kind}, {name}':30} {ours:9.3f} s {theirs:9.3f} s {ours / theirs:8.2f}")
 
 
 def main(cells=1_000_000, rounds=5):
