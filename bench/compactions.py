@@ -78,10 +78,7 @@ def in_turn(commands, rounds):
 
 
 def main(cells=1_000_000, rounds=5):
-    program = os.environ.get("TABD")
-    if not program:
-        subprocess.run([TOP / "tabd", "--version"], stdout=subprocess.DEVNULL, check=True)
-        program = TOP / "crates/tabd/out/tabd"
+    program = os.environ.get("TABD") or subprocess.check_output([TOP / "release/program"], text=True).strip()
     with tempfile.TemporaryDirectory() as work:
         plain = f"{work}/plain"
         subprocess.run(["rustc", "-O", "-o", plain, TOP / "bench/store/plain.rs"], check=True)

@@ -203,10 +203,7 @@ def main():
     parser.add_argument("--plain", action="store_true", help="a plain Rust server too")
     parser.add_argument("--ahead", action="store_true", help="in the real-time class")
     asked = parser.parse_args()
-    program = os.environ.get("TABD")
-    if not program:
-        subprocess.run([TOP / "tabd", "--version"], stdout=subprocess.DEVNULL, check=True)
-        program = str(TOP / "crates/tabd/out/tabd")
+    program = os.environ.get("TABD") or subprocess.check_output([TOP / "release/program"], text=True).strip()
     numbers = [int(number) for number in asked.compactors.split(",")]
     with tempfile.TemporaryDirectory() as work:
         for helper in ("reader", "echo"):

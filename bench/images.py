@@ -29,9 +29,7 @@ def parts(cells, image):
 
 
 def main(cells=1000000, rounds=3):
-    program = os.environ.get("TABD", str(TOP / "crates" / "tabd" / "out" / "tabd"))
-    if "TABD" not in os.environ:
-        subprocess.run([TOP / "tabd", "--version"], stdout=subprocess.DEVNULL, check=True)
+    program = os.environ.get("TABD") or subprocess.check_output([TOP / "release/program"], text=True).strip()
     with tempfile.TemporaryDirectory() as room:
         image = f"{room}/image"
         given = parts(cells, image)

@@ -6,7 +6,7 @@ top=$(cd "$(dirname -- "${BASH_SOURCE[0]}")/.." && pwd)
 rounds=${1:-5}
 work=$(mktemp -d)
 trap 'rm -rf "$work"' EXIT
-"$top/tabd" --version >/dev/null
+program=${TABD:-$("$top/release/program")}
 
 awk 'BEGIN { for (i = 0; i < 1000000; i++) print "# a comment line of some forty bytes, no. " i }' >"$work/comments"
 { echo 'createtable t'; awk 'BEGIN { for (i = 0; i < 200000; i++) print "scan t \\0" }'; } >"$work/scans"
@@ -29,7 +29,7 @@ least() { # FILE CMD..
 
 printf '%-28s %10s %10s %8s\n' lines tabd awk ratio
 for case in comments scans both; do
-    ours=$(least "$work/$case" "$top/crates/tabd/out/tabd" script)
+    ours=$(least "$work/$case" "$program" script)
     awks=$(least "$work/$case" awk '{print "end"}')
     awk -v c="$case" -v a="$ours" -v b="$awks" 'BEGIN { printf "%-28s %8.1fms %8.1fms %8.2f\n", c, a / 1e6, b / 1e6, a / b }'
 done

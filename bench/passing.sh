@@ -9,10 +9,7 @@ rounds=${1:-5}
 work=$(mktemp -d)
 trap 'rm -rf "$work"' EXIT
 
-if [ -z "${TABD:-}" ]; then
-    "$top/tabd" --version >/dev/null
-    TABD=$top/crates/tabd/out/tabd
-fi
+TABD=${TABD:-$("$top/release/program")}
 
 # The least seconds of so many scans of a table, as microseconds a scan.
 row() { # TABLE SCANS TEXT

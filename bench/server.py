@@ -99,10 +99,7 @@ def show(asked, ours, theirs):
 
 def main():
     asked = arguments()
-    program = os.environ.get("TABD")
-    if not program:
-        subprocess.run([TOP / "tabd", "--version"], stdout=subprocess.DEVNULL, check=True)
-        program = str(TOP / "crates/tabd/out/tabd")
+    program = os.environ.get("TABD") or subprocess.check_output([TOP / "release/program"], text=True).strip()
     with tempfile.TemporaryDirectory() as work:
         for name in ("plain", "client"):
             subprocess.run(["rustc", "--edition=2021", "-O", "-o", f"{work}/{name}", TOP / f"bench/server/{name}.rs"], check=True)

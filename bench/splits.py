@@ -105,10 +105,7 @@ def splits(command, rounds):
 
 
 def main(cells=1_000_000, tablets=1_000, rounds=5):
-    program = os.environ.get("TABD")
-    if not program:
-        subprocess.run([TOP / "tabd", "--version"], stdout=subprocess.DEVNULL, check=True)
-        program = TOP / "crates/tabd/out/tabd"
+    program = os.environ.get("TABD") or subprocess.check_output([TOP / "release/program"], text=True).strip()
     compare([program, "script"], cells, tablets, rounds)
     splits([program, "script"], rounds)
 

@@ -17,10 +17,7 @@ scans=20000
 work=$(mktemp -d)
 trap 'rm -rf "$work"' EXIT
 
-if [ -z "${TABD:-}" ]; then
-    "$top/tabd" --version >/dev/null
-    TABD=$top/crates/tabd/out/tabd
-fi
+TABD=${TABD:-$("$top/release/program")}
 rustc -O -o "$work/plain" "$top/bench/store/plain.rs"
 
 # Makes the parts of the scripts: the inserts, one scan of all, many short ones, and nothing.

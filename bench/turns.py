@@ -33,10 +33,7 @@ def parts(turns):
 
 
 def main(turns=20_000, rounds=3):
-    program = os.environ.get("TABD")
-    if not program:
-        subprocess.run([TOP / "tabd", "--version"], stdout=subprocess.DEVNULL, check=True)
-        program = TOP / "crates/tabd/out/tabd"
+    program = os.environ.get("TABD") or subprocess.check_output([TOP / "release/program"], text=True).strip()
     script = list(parts(turns))
     runs = [[numbers for numbers in phases(script, [program, "script"])] for _ in range(rounds)]
     print(f"{'turns behind':>12} {'us a turn':>10} {'MiB':>8}")

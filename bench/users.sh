@@ -7,8 +7,5 @@
 #   TABD    in the environment: another built program, measured in place of this folder's
 set -eu
 top=$(cd "$(dirname -- "${BASH_SOURCE[0]}")/.." && pwd)
-if [ -z "${TABD:-}" ]; then
-    "$top/tabd" --version >/dev/null
-    TABD=$top/crates/tabd/out/tabd
-fi
+TABD=${TABD:-$("$top/release/program")}
 python3 "$top/bench/users/phases.py" "$TABD" "${1:-1000}" "${2:-3}"

@@ -4,13 +4,13 @@
 # as if that line were not there (a long scan stands up to the batch that is refused), or it ends with status 1 before the
 # first line. Where a freeze is refused in the middle of what it takes one by one, nothing of what was written is lost. Lines that drop,
 # revoke or count are never refused. A save that is refused leaves no part of an image behind.
-# Usage: tests/allocations.sh   (from anywhere; wants a C compiler; builds the program if it isn't built)
+# Usage: tests/allocations.sh   (from anywhere; wants a C compiler; TABD names another program)
 set -eu
 top=$(cd "$(dirname -- "${BASH_SOURCE[0]}")/.." && pwd)
 work=$(mktemp -d)
 trap 'rm -rf "$work"' EXIT
-"$top/tabd" --version >/dev/null
-program=$top/crates/tabd/out/tabd
+. "$top/tests/needs" "${CC:-cc}"
+program=${TABD:-$("$top/release/program")} || exit 1
 
 cat >"$work/failing.c" <<'C'
 #define _GNU_SOURCE

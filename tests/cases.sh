@@ -1,13 +1,12 @@
 #!/usr/bin/env bash
 # The scripts of tests/cases: a line that begins with `> ` is a line of the script, the others are what is printed, and a title
 # that begins with `# ` begins the next script.
-# Usage: tests/cases.sh   (from anywhere; builds the program if it isn't built)
+# Usage: tests/cases.sh   (from anywhere; TABD names another program)
 set -u
 top=$(cd "$(dirname -- "${BASH_SOURCE[0]}")/.." && pwd)
 work=$(mktemp -d) || exit 1
 trap 'rm -rf "$work"' EXIT
-"$top/tabd" --version >/dev/null || exit 1
-program=$top/crates/tabd/out/tabd
+program=${TABD:-$("$top/release/program")} || exit 1
 passed=0 failed=0
 for file in "$top"/tests/cases/*.txt; do
     mkdir "$work/now"

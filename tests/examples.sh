@@ -1,13 +1,13 @@
 #!/usr/bin/env bash
 # The examples print what stands beside them: examples/clinic.txt as a script, and examples/clinic.py over a server on a free port.
-# Usage: tests/examples.sh   (from anywhere; wants python3; builds the program if it isn't built; TABD names another one)
+# Usage: tests/examples.sh   (from anywhere; wants python3; TABD names another program)
 set -u
 top=$(cd "$(dirname -- "${BASH_SOURCE[0]}")/.." && pwd)
 work=$(mktemp -d) || exit 1
 server=
 trap '[ -z "$server" ] || kill "$server" 2>/dev/null; rm -rf "$work"' EXIT
-program=${TABD:-$top/crates/tabd/out/tabd}
-[ -n "${TABD-}" ] || "$top/tabd" --version >/dev/null || exit 1
+. "$top/tests/needs" python3
+program=${TABD:-$("$top/release/program")} || exit 1
 passed=0 failed=0
 
 # Counts one example.

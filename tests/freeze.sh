@@ -2,18 +2,13 @@
 # The memory that a freeze takes at its peak beside what was written, at most one and a half times as much: behind the writes comes what
 # freezes them first, a scan or a split, rows in any order or rising. (What merges holds what it reads beside what it makes.) And what is
 # frozen at once, which lies in several bodies or goes by parts, shows what is frozen bit by bit, which doesn't.
-# Usage: tests/freeze.sh   (from anywhere; wants python3; builds the program if it isn't built)
+# Usage: tests/freeze.sh   (from anywhere; wants python3; TABD names another program)
 set -u
 top=$(cd "$(dirname -- "${BASH_SOURCE[0]}")/.." && pwd)
-if ! command -v python3 >/dev/null; then
-    echo 'python3 is not installed, so the memory of a freeze is not measured'
-    echo '0 passed, 0 failed'
-    exit 0
-fi
+. "$top/tests/needs" python3
 work=$(mktemp -d) || exit 1
 trap 'rm -rf "$work"' EXIT
-"$top/tabd" --version >/dev/null || exit 1
-program=$top/crates/tabd/out/tabd
+program=${TABD:-$("$top/release/program")} || exit 1
 cd "$work" || exit 1
 passed=0 failed=0
 

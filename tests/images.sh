@@ -1,12 +1,12 @@
 #!/usr/bin/env bash
 # Images in files: what `save`, `load` and `--image` do, what they tell, and what is left of the old file where a save fails.
-# Usage: tests/images.sh   (from anywhere; wants python3; builds the program if it isn't built)
+# Usage: tests/images.sh   (from anywhere; wants python3; TABD names another program)
 set -u
 top=$(cd "$(dirname -- "${BASH_SOURCE[0]}")/.." && pwd)
 work=$(mktemp -d) || exit 1
 trap 'rm -rf "$work"' EXIT
-"$top/tabd" --version >/dev/null || exit 1
-program=$top/crates/tabd/out/tabd
+. "$top/tests/needs" python3
+program=${TABD:-$("$top/release/program")} || exit 1
 cd "$work" || exit 1
 passed=0 failed=0
 

@@ -1,35 +1,45 @@
 #!/usr/bin/env bash
-# What the launcher `tabd` does: when it builds, what it says, and what it leaves alone. It runs over a small checkout with a
-# stand-in for `rt`, so that nothing is proved here.
+# Which program the launcher `tabd` takes, when it builds, what it says and what it leaves alone. It runs over a small checkout with a
+# stand-in for build.sh and for `rt`, so that nothing is proved here.
 # Usage: tests/launcher.sh   (from anywhere)
 set -u
 top=$(cd "$(dirname -- "${BASH_SOURCE[0]}")/.." && pwd)
 work=$(mktemp -d) || exit 1
 trap 'rm -rf "$work"' EXIT
 here=$work/checkout caller=$work/caller bin=$work/bin
-mkdir -p "$here" "$caller" "$bin"
-cp "$top/tabd" "$top/build.sh" "$here/"
-printf 'low:\nother:\nhigh: low other std\ntabd: high low\n' >"$here/crates.txt"
-for crate in low other high tabd; do
+mkdir -p "$here/release" "$caller" "$bin"
+cp "$top/tabd" "$here/"
+cp "$top/release/program" "$top/release/sources" "$here/release/"
+printf 'low:\nother:\ntabd: low std\n' >"$here/crates.txt"
+for crate in low other tabd; do
     mkdir -p "$here/crates/$crate/src" "$here/crates/$crate/specs"
     echo "// $crate" >"$here/crates/$crate/src/lib.rt"
 done
-# `rt lib` makes a library of the crate in whose folder it runs, `rt run` the program; calls are counted in $work/calls.
-cat >"$bin/rt" <<'STAND_IN'
-#!/usr/bin/env bash
-set -u
-[ "${STAND_IN:-}" != fails ] || { echo 'not proved'; exit 1; }
-[ "${STAND_IN:-}" != slow ] || sleep 1
-echo "$1 $(basename "$PWD")" >>"$CALLS"
-[ "${STAND_IN:-}" != edits ] || { sleep 0.02; echo '// saved meanwhile' >>"$SOURCE"; }
-mkdir -p out
-case $1 in
-lib) mkdir -p out/rlib && echo it >out/rlib/stamp ;;
-run) printf '#!/bin/sh\necho "ran in $PWD with $*"\nexit 7\n' >out/tabd && chmod +x out/tabd ;;
-esac
+export CALLS=$work/calls SOURCE=$here/crates/low/src/lib.rt HOME=$work/home
+unset XDG_CACHE_HOME
+# A program that says what it is, and as clap does refuses a word that it doesn't know, and answers --help.
+program_of() { # NAME
+    cat <<STAND_IN
+#!/bin/sh
+case " \$* " in *' nonsense '*) exit 2 ;; *' --help '*|*' --version '*) echo "$1 helps"; exit 0 ;; esac
+echo "$1 in \$PWD with \$*"
+exit 7
 STAND_IN
-chmod +x "$bin/rt"
-export CALLS=$work/calls SOURCE=$here/crates/low/src/lib.rt
+}
+# Each build is counted, and makes a program that tells of which source it is.
+cat >"$here/build.sh" <<STAND_IN
+#!/usr/bin/env bash
+echo build >>"\$CALLS"
+echo 'not proved' >"\$1"
+[ "\${STAND_IN:-}" != fails ] || exit 1
+[ "\${STAND_IN:-}" != slow ] || sleep 2
+cd "$here/crates/tabd/out" && cat >tabd <"$work/built" && chmod +x tabd
+[ "\${STAND_IN:-}" != edits ] || echo '// saved meanwhile' >>"\$SOURCE"
+STAND_IN
+program_of built >"$work/built"
+program_of released >"$work/released"
+printf '#!/bin/sh\nexit 1\n' >"$bin/rt"
+chmod +x "$here/build.sh" "$bin/rt"
 passed=0 failed=0
 
 count() { # NAME, with the status of the test that went before
@@ -40,73 +50,130 @@ count() { # NAME, with the status of the test that went before
     fi
 }
 
-# Starts the launcher in the caller's folder; its status goes to $status, and what was called of `rt` to $calls.
+# Starts the launcher in the caller's folder; its status goes to $status, and how often it built to $builds.
 start() { # WORD ..
     : >"$CALLS"
     (cd "$caller" && PATH=$bin:$PATH "$here/tabd" "$@") >"$work/out" 2>"$work/err" </dev/null
     status=$?
-    calls=$(sort "$CALLS" | tr '\n' ' ')
+    builds=$(grep -c build "$CALLS")
 }
 
-ran() { # Whether the program ran, with its words and its status passed through.
-    [ "$status" -eq 7 ] && [ "$(cat "$work/out")" = "ran in $caller with one two words" ]
+ran() { # PROGRAM   whether it ran, with its words and its status passed through, and nothing was said.
+    [ "$status" -eq 7 ] && [ "$(cat "$work/out")" = "$1 in $caller with one two words" ] && [ ! -s "$work/err" ]
 }
 
+edit() {
+    echo '// changed' >>"$SOURCE"
+}
+
+# ---- Without a release.
 start one 'two words'
-ran && [ "$calls" = 'lib high lib low lib other run tabd ' ] &&
-    [ "$(grep -c '^tabd: proving [a-z]*, [1-4] of 4$' "$work/err")" -eq 4 ] && [ "$(tail -n 1 "$work/err")" = 'tabd: proving tabd, 4 of 4' ]
-count 'the first start builds each crate, and says how far it is' $?
-[ -z "$(ls -A "$caller")" ] && [ ! -e "$here/crates/tabd/out/build" ]
-count "nothing is left in the caller's folder, and no folder of the build" $?
+ran built && [ "$builds" -eq 1 ]
+count 'the first start builds' $?
+[ -z "$(ls -A "$caller")" ]
+count "nothing is left in the caller's folder" $?
 start one 'two words'
-ran && [ -z "$calls" ] && [ ! -s "$work/err" ]
+ran built && [ "$builds" -eq 0 ]
 count 'where nothing changed, nothing is built' $?
-sleep 0.02
-echo '// changed' >>"$SOURCE"
+edit
 start one 'two words'
-ran && [ "$calls" = 'run tabd ' ]
+ran built && [ "$builds" -eq 1 ]
 count 'a source that changed leads to a build' $?
-sleep 0.02
-rm "$here/crates/other/src/lib.rt"
+echo '// changed' >>"$here/crates/other/src/lib.rt"
 start one 'two words'
-ran && [ "$calls" = 'run tabd ' ]
+ran built && [ "$builds" -eq 0 ]
+count 'a source on which the program does not stand leads to none' $?
+touch "$SOURCE" && ln "$SOURCE" "$work/link" && start one 'two words' && ran built && [ "$builds" -eq 0 ]
+ran built && [ "$builds" -eq 0 ]
+count 'a source that was touched and linked leads to none' $?
+cp -R "$here" "$work/copy" && (cd "$caller" && : >"$CALLS" && PATH=$bin:$PATH "$work/copy/tabd" one 'two words') >"$work/out" 2>"$work/err" </dev/null
+status=$? && ran built && [ ! -s "$CALLS" ]
+count 'a copy of a checkout is as good' $?
+cp "$SOURCE" "$work/kept" && rm "$SOURCE"
+start one 'two words'
+ran built && [ "$builds" -eq 1 ]
 count 'a source that was deleted leads to a build' $?
-touch -d '2001-01-01' "$work/old" && cp -p "$work/old" "$SOURCE"
+touch -d '2001-01-01' "$work/kept" && cp -p "$work/kept" "$SOURCE"
 start one 'two words'
-ran && [ "$calls" = 'run tabd ' ]
+ran built && [ "$builds" -eq 1 ]
 count 'a source put back with an old date leads to a build' $?
-sleep 0.02
-echo '// changed' >>"$SOURCE"
+edit
 STAND_IN=edits start one 'two words'
 start one 'two words'
-ran && [ "$calls" = 'run tabd ' ]
+ran built && [ "$builds" -eq 1 ]
 count 'an edit saved while a build runs leads to another build' $?
-sleep 0.02
-echo '// changed' >>"$SOURCE"
+echo '# more' >>"$here/crates/tabd/out/tabd"
+start one 'two words'
+ran built && [ "$builds" -eq 1 ]
+count 'a program that was changed by hand is built anew' $?
+edit
 STAND_IN=fails start one
 [ "$status" -eq 1 ] && grep -q '^not proved$' "$work/err" && grep -q '^fault: the program could not be built; the whole log is /' "$work/err"
 count 'a failed build shows the end of its log' $?
+for words in --help --version 'script --help' nonsense 'script nonsense' serve 'shell --port 1'; do
+    # shellcheck disable=SC2086
+    STAND_IN=fails start $words
+    [ "$builds" -eq 0 ] && [ "$status" -ne 1 ]
+    count "\`$words\` is answered without a build" $?
+done
 start one 'two words'
-ran && [ "$calls" = 'run tabd ' ]
+ran built && [ "$builds" -eq 1 ]
 count 'what failed is built at the next start' $?
-
-# Two starts at once.
-sleep 0.02
-echo '// changed' >>"$SOURCE"
+edit
+: >"$CALLS"
 (cd "$caller" && STAND_IN=slow PATH=$bin:$PATH "$here/tabd" first >"$work/first" 2>&1 </dev/null) &
-sleep 0.5
+for _ in $(seq 100); do [ ! -s "$CALLS" ] || break; sleep 0.05; done
 start one 'two words'
 wait
-ran && [ "$(cat "$work/err")" = 'tabd: waiting for another build of this checkout' ] && grep -q 'with first$' "$work/first"
+[ "$status" -eq 7 ] && [ "$builds" -eq 0 ] && [ "$(cat "$work/err")" = 'tabd: waiting for another build of this checkout' ] && grep -q 'with first$' "$work/first"
 count 'a second start says that it waits, and finds all built' $?
 
-# What can't be built.
-rm -rf "$here"/crates/*/out
+# ---- With a release.
+release() { # DIGEST
+    gzip -9nc "$work/released" >"$here/release/tabd.gz"
+    printf 'version: 1\nsources: %s\nprogram: %s\n' "$1" "$(sha256sum <"$work/released" | cut -d ' ' -f 1)" >"$here/release/release.txt"
+}
+release "$("$here/release/sources")"
+start one 'two words'
+ran built && [ "$builds" -eq 0 ]
+count 'what was built here of these sources goes before the release' $?
+rm -rf "$here/crates/tabd/out"
+start one 'two words'
+ran released && [ "$builds" -eq 0 ]
+count 'a release of these sources is taken without a build' $?
+start one 'two words'
+ran released && [ "$builds" -eq 0 ]
+count 'and again' $?
+(cd "$caller" && PATH=/usr/bin:/bin "$here/tabd" one 'two words') >"$work/out" 2>"$work/err" </dev/null
+status=$? && ran released
+count 'it needs no kit' $?
+rm -rf "$here/crates/tabd/out" && : >"$here/crates/tabd/out"
+start one 'two words'
+ran released && [ "$builds" -eq 0 ] && [ -x "$HOME"/.cache/tabd/*/tabd ]
+count "a checkout that can't be written has it in the user's cache" $?
+rm "$here/crates/tabd/out"
+gzip -9nc "$work/built" >"$here/release/tabd.gz"
+rm -rf "$HOME"
+start one
+[ "$status" -eq 1 ] && grep -q "^fault: release/tabd.gz isn't what release/release.txt says$" "$work/err"
+count "a release that isn't what its digest says is refused" $?
+release other
+start one 'two words'
+ran built && [ "$builds" -eq 1 ]
+count 'a release of other sources leads to a build' $?
+rm -rf "$here/crates/tabd/out"
+for words in --help --version nonsense serve; do
+    start $words
+    [ "$builds" -eq 0 ] && [ "$status" -ne 1 ]
+    count "\`$words\` is answered by a release of other sources" $?
+done
+
+# ---- What can't be built.
 (cd "$caller" && PATH=/usr/bin:/bin "$here/tabd" one) >"$work/out" 2>"$work/err" </dev/null
 status=$?
-PATH=/usr/bin:/bin command -v rt >/dev/null || { [ "$status" -eq 1 ] && [ "$(wc -l <"$work/err")" -eq 1 ] && grep -q '^fault: there is no `rt`: install' "$work/err"; }
+[ "$status" -eq 1 ] && [ "$(wc -l <"$work/err")" -eq 1 ] && grep -q '^fault: no program fits these sources, and there is no `rt` to build one: install' "$work/err"
 count 'a missing kit is one line that says what to do' $?
-: >"$here/crates/tabd/out"
+rm -rf "$here/crates/tabd/out" && : >"$here/crates/tabd/out"
 start one
 [ "$status" -eq 1 ] && [ "$(wc -l <"$work/err")" -eq 1 ] && grep -q "^fault: the program isn't built, and .* can't be written: run this in" "$work/err"
 count "a checkout that can't be written is one line that says what to do" $?

@@ -2,10 +2,15 @@
 crate, one function each. Mutants of different functions are applied to one copy of the crate, and the prover is asked for these
 functions: each must be left unproved, and for what it ensures, not for a name that a proof no longer finds. What a copy
 of many doesn't show is tried again, at last alone. A turned definition that no function is proved from is refused by an example of
-specs/, or by a lemma for the crates above: their file is named in the function's place."""
+specs/, or by a lemma for the crates above: their file is named in the function's place.
+
+mutants.seen keeps of each mutant that was refused the sum of all that its refusal stands on: its entry, its crate, what the crates
+below state, and the kit. Where that sum is still its own it isn't tried again, but for --all."""
 import collections
 import concurrent.futures
+import functools
 import glob
+import hashlib
 import itertools
 import os
 import queue
@@ -20,6 +25,8 @@ from stubs import copy_proof, finish, functions_of, stubs_in, touched_in, twin_i
 
 TOP = os.path.dirname(os.path.dirname(os.path.abspath(__file__)))
 KIT = os.path.dirname(subprocess.run(["rt", "doc"], capture_output=True, text=True, check=True).stdout.strip())
+# The sums of the mutants that were refused, and where each run leaves those of today: whoever commits them copies them there.
+SEEN, SEEN_NOW = f"{TOP}/tests/mutants.seen", f"{TOP}/tests/out/mutants.seen"
 # What a copy of a crate gets, so that the prover reads a file of examples or lemmas.
 READS = "reads_it"
 # An error of a proof that no longer finds a name, or that stands on one that was rejected: it says nothing of the contract.
@@ -91,6 +98,46 @@ def dependencies():
     """Returns what each crate names in crates.txt."""
     rows = [line.partition(":") for line in read(f"{TOP}/crates.txt").splitlines() if ":" in line and line[0] != "#"]
     return {name.split()[0]: named.split() for name, _, named in rows}
+
+
+def below(crate, named):
+    """Returns the crates of the repository below a crate."""
+    found = set()
+    for it in named[crate]:
+        if it in named and it not in found:
+            found |= {it} | below(it, named)
+    return found
+
+
+@functools.lru_cache(maxsize=None)
+def text_of(crate, parts):
+    """Returns the sum of a crate's files in these folders, by path and contents."""
+    files = sorted(path for part in parts for path in glob.glob(f"{folder(crate)}/{part}/**", recursive=True) if os.path.isfile(path))
+    return sum_of([*(os.path.relpath(it, TOP) for it in files), *map(read, files)])
+
+
+def sum_of(texts):
+    """Returns a sum of some texts."""
+    return hashlib.sha256("\0".join(texts).encode()).hexdigest()[:24]
+
+
+def sum_for(mutant, named, kit):
+    """Returns the sum of all that the refusal of a mutant stands on. What a crate below states is in its src and specs."""
+    entry = [str(mutant), str(mutant.function), str(mutant.file), *(text for pair in mutant.pairs for text in pair)]
+    states = [text_of(it, ("src", "specs")) for it in sorted(below(mutant.crate, named))]
+    return sum_of([kit, *entry, text_of(mutant.crate, ("src", "specs", "proofs")), *states])
+
+
+def seen_before():
+    """Returns the sums that were kept, by mutant."""
+    return dict(line.split() for line in read(SEEN).splitlines()) if os.path.exists(SEEN) else {}
+
+
+def note_seen(sums):
+    """Leaves the sums of the mutants that are refused."""
+    os.makedirs(os.path.dirname(SEEN_NOW), exist_ok=True)
+    with open(SEEN_NOW, "w", encoding="utf-8") as file:
+        file.writelines(f"{mutant} {it}\n" for mutant, it in sorted(sums.items()))
 
 
 def mutants_of(crate):
@@ -343,9 +390,14 @@ def tell(found):
     return refused, len(found) - refused
 
 
-def main(crates, log):
-    named = dependencies()
-    left = [found for crate in crates or named if (found := mutants_of(crate))]
+def main(crates, log, tries_all):
+    named, seen = dependencies(), {} if tries_all else seen_before()
+    kit = subprocess.run(["rt", "version"], capture_output=True, text=True, check=True).stdout
+    sums = {it: sum_for(it, named, kit) for crate in crates or named for it in mutants_of(crate)}
+    known = {str(it): of for it, of in sums.items() if seen.get(str(it)) == of}
+    left = [found for crate in crates or named if (found := [it for it in sums if it.crate == crate and str(it) not in known])]
+    begun = list(left)
+    print(f"{len(known)} were seen refused before, with all as it is", flush=True)
     lacking = {it for found in left for it in named[found[0].crate] if os.path.isdir(folder(it)) and not os.path.isdir(library(it))}
     if lacking and not log:
         sys.exit(f"mutants: {', '.join(sorted(lacking))}: not built yet (./tabd builds them)")
@@ -357,8 +409,12 @@ def main(crates, log):
                 workers.add(weighs(found), tried_of, found, named[found[0].crate], workers)
             left = [it for it in left if it not in ready]
             time.sleep(5 if left else 0)
-        counts = [tell(found) for found in workers.results()]
-    passed, failed = (sum(them) for them in zip(*counts, (0, 0)))
+        counts = []
+        for found in workers.results():
+            counts.append(tell(found))
+            known |= {str(it): sums[it] for it, why in found.items() if why}
+    passed, failed = (sum(them) for them in zip(*counts, (len(sums) - sum(map(len, begun)), 0)))
+    note_seen(known | ({it: of for it, of in seen_before().items() if it.split("/")[0] not in crates} if crates else {}))
     took = os.times()
     print(f"{(took.children_user + took.children_system) / 60:.1f} minutes of a processor")
     print(f"{passed} passed, {failed} failed")
@@ -366,6 +422,6 @@ def main(crates, log):
 
 
 if __name__ == "__main__":
-    words = sys.argv[1:]
+    words = [it for it in sys.argv[1:] if it != "--all"]
     behind = words[:1] == ["--behind"]
-    sys.exit(main(words[2:] if behind else words, words[1] if behind else None))
+    sys.exit(main(words[2:] if behind else words, words[1] if behind else None, "--all" in sys.argv))

@@ -1,12 +1,12 @@
 #!/usr/bin/env bash
 # Each permission alone, beside each line that needs one: what it admits, and of the others the first permission that would do.
-# Usage: tests/permissions.sh   (from anywhere; builds the program if it isn't built)
+# Usage: tests/permissions.sh   (from anywhere; TABD names another program)
 set -u
 top=$(cd "$(dirname -- "${BASH_SOURCE[0]}")/.." && pwd)
 work=$(mktemp -d) || exit 1
 trap 'rm -rf "$work"' EXIT
-"$top/tabd" --version >/dev/null || exit 1
-program=$top/crates/tabd/out/tabd
+program=${TABD:-$("$top/release/program")} || exit 1
+cd "$work" || exit 1
 
 # Of each line: what it says, the permissions of which any admits it, and what an admitted one prints.
 cat >"$work/needs" <<'NEEDS'
@@ -21,6 +21,13 @@ flush t|System.ALTER_TABLE Table.ALTER_TABLE Table.WRITE|ok
 compact t partial|System.ALTER_TABLE Table.ALTER_TABLE Table.WRITE|ok
 compact t full|System.ALTER_TABLE Table.ALTER_TABLE Table.WRITE|ok
 status t|System.ALTER_TABLE Table.ALTER_TABLE|tablets
+addsplit t m|System.ALTER_TABLE Table.ALTER_TABLE|ok
+splits t|System.ALTER_TABLE Table.ALTER_TABLE|end
+splitsize t r 1|System.ALTER_TABLE Table.ALTER_TABLE|refused 20 BadSplit small
+begin t r full|System.ALTER_TABLE Table.ALTER_TABLE Table.WRITE|job 1
+install t 0|System.ALTER_TABLE Table.ALTER_TABLE Table.WRITE|ok
+save saved.image|System.SYSTEM|ok
+load none.image|System.SYSTEM|fault load io
 createuser eve|System.CREATE_USER|ok
 dropuser dan|System.DROP_USER|ok
 setauths dan A|System.ALTER_USER|ok
@@ -38,6 +45,7 @@ for held in none System.CREATE_TABLE System.DROP_TABLE System.ALTER_TABLE System
         [ "$table" = u ] || table=t
         {
             printf '%s\n' 'createtable t' 'createtable u' 'createuser dan' 'createuser bob' 'grant dan WRITE t' 'grant dan CREATE_TABLE'
+            printf '%s\n' 'insert t r f q A v' 'begin t r minor' 'merge 0'
             case $held in
             System.*) echo "grant bob ${held#*.}" ;;
             Table.*) echo "grant bob ${held#*.} $table" ;;

@@ -1,13 +1,13 @@
 #!/usr/bin/env bash
 # How often the program asks for memory: not for each cell that a scan shows, nor for each label that it judges, nor for what a
 # session reads next for its labels anew, and for an insert of one cell once.
-# Usage: tests/requests.sh   (from anywhere; wants a C compiler; builds the program if it isn't built)
+# Usage: tests/requests.sh   (from anywhere; wants a C compiler; TABD names another program)
 set -eu
 top=$(cd "$(dirname -- "${BASH_SOURCE[0]}")/.." && pwd)
 work=$(mktemp -d)
 trap 'rm -rf "$work"' EXIT
-"$top/tabd" --version >/dev/null
-program=$top/crates/tabd/out/tabd
+. "$top/tests/needs" "${CC:-cc}"
+program=${TABD:-$("$top/release/program")} || exit 1
 
 cat >"$work/counting.c" <<'C'
 #define _GNU_SOURCE

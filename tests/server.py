@@ -10,8 +10,8 @@ import sys
 import tempfile
 import time
 
-TOP = sys.argv[1]
-PROGRAM = os.path.join(TOP, "crates/tabd/out/tabd")
+TOP = os.path.dirname(os.path.dirname(os.path.abspath(__file__)))
+PROGRAM = sys.argv[1]
 PATIENCE = 15
 passed = failed = 0
 

@@ -1,12 +1,11 @@
 #!/usr/bin/env bash
 # Scripts at sizes past the program's blocks and at its limits: long lines, labels, values, mutations, and many rounds and users.
-# Usage: tests/size.sh   (from anywhere; builds the program if it isn't built)
+# Usage: tests/size.sh   (from anywhere; TABD names another program)
 set -u
 top=$(cd "$(dirname -- "${BASH_SOURCE[0]}")/.." && pwd)
 work=$(mktemp -d) || exit 1
 trap 'rm -rf "$work"' EXIT
-"$top/tabd" --version >/dev/null || exit 1
-program=$top/crates/tabd/out/tabd
+program=${TABD:-$("$top/release/program")} || exit 1
 cd "$work" || exit 1
 passed=0 failed=0
 

@@ -229,10 +229,7 @@ def main():
     parser.add_argument("--memory", type=float, default=2048, help="the bound in MiB")
     parser.add_argument("--seed", type=int, default=1)
     asked = parser.parse_args()
-    program = os.environ.get("TABD")
-    if not program:
-        subprocess.run([TOP / "tabd", "--version"], stdout=subprocess.DEVNULL, check=True)
-        program = str(TOP / "crates/tabd/out/tabd")
+    program = os.environ.get("TABD") or subprocess.check_output([TOP / "release/program"], text=True).strip()
     soak = Soak(program, asked)
     try:
         faults = soak.run()

@@ -1,13 +1,12 @@
 #!/usr/bin/env bash
 # Random scripts in which splits fall anywhere, beside compactions: no scan may be answered otherwise than without them; where a table
 # is split, and what is told of its tablets.
-# Usage: tests/splits.sh [SCRIPTS]   (from anywhere; builds the program if it isn't built; 150 scripts where unsaid)
+# Usage: tests/splits.sh [SCRIPTS]   (from anywhere; TABD names another program; 150 scripts where unsaid)
 set -u
 top=$(cd "$(dirname -- "${BASH_SOURCE[0]}")/.." && pwd)
 work=$(mktemp -d) || exit 1
 trap 'rm -rf "$work"' EXIT
-"$top/tabd" --version >/dev/null || exit 1
-program=$top/crates/tabd/out/tabd
+program=${TABD:-$("$top/release/program")} || exit 1
 cd "$work" || exit 1
 passed=0 failed=0
 

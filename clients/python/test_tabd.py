@@ -1,6 +1,6 @@
-"""Tests of the client, against a running server: `tabd serve` of crates/tabd/out/tabd (or of the program that TABD names), started on a free
-port for each test. Where that program isn't built, or has no `serve`, the tests of one connection run over the pipes of crates/frames/out/frames
-(or FRAMES), which is one connection to a new store at moment 0, and the others are skipped.
+"""Tests of the client, against a running server: `tabd serve` of the program that TABD names, or else release/program, started on a free port for each
+test. Where it has no `serve`, the tests of one connection run over the pipes of crates/frames/out/frames (or FRAMES), which is one connection
+to a new store at moment 0, and the others are skipped.
 
 Usage: python3 clients/python/test_tabd.py   (from anywhere)
 """
@@ -21,7 +21,7 @@ sys.dont_write_bytecode = True
 import tabd  # noqa: E402
 from tabd import Delete, Put, Range  # noqa: E402
 
-PROGRAM = os.environ.get("TABD", str(TOP / "crates/tabd/out/tabd"))
+PROGRAM = os.environ.get("TABD") or subprocess.check_output([TOP / "release/program"], text=True).strip()
 FRAMES = os.environ.get("FRAMES", str(TOP / "crates/frames/out/frames"))
 CONNECTIONS = 8
 MIB = 1 << 20
