@@ -1,0 +1,155 @@
+#!/usr/bin/env bash
+# What packaging/ makes: an installed program that runs, with its man page, client and unit, a Debian package of the same, and both away again.
+# Usage: tests/packaging.sh   (from anywhere; builds the program if it isn't built; TABD names another one)
+set -u
+top=$(cd "$(dirname -- "${BASH_SOURCE[0]}")/.." && pwd)
+work=$(mktemp -d) || exit 1
+server=
+trap '[ -z "$server" ] || kill "$server" 2>/dev/null; rm -rf "$work"' EXIT
+TABD=${TABD:-$("$top/release/program")} || exit 1
+export TABD
+cd "$work" || exit 1
+passed=0 failed=0 skipped=0
+
+count() { # NAME, with the status of the test that went before
+    if [ "$2" -eq 0 ]; then passed=$((passed + 1)); else
+        failed=$((failed + 1))
+        echo "FAILED: $1"
+        cat out err 2>/dev/null | head -n 10
+    fi
+}
+
+lacks() { # COMMAND WHAT   whether the command isn't there, so that the test of this is skipped
+    ! command -v "$1" >/dev/null || return 1
+    skipped=$((skipped + 1))
+    echo "skipped: $2 (there is no $1)"
+}
+
+# Whether the program answers a script in which one scan is shown and one refused.
+answers() { # PROGRAM
+    "$1" script >out 2>err <<'.' &&
+createtable t
+insert t r f q \e hello
+scan t \0
+scan t secret
+.
+        [ "$(cat out)" = $'ok\nok\nr f q \\e 0 hello\nend\nrefused 4 BadAuthorizations secret' ] && [ ! -s err ]
+}
+
+files() { # FOLDER   what is in it, but for folders
+    (cd "$1" && find . ! -type d | sort)
+}
+
+parts='./bin/tabd
+./lib/python3/dist-packages/tabd.py
+./lib/systemd/system/tabd.service
+./share/man/man1/tabd.1.gz'
+prefix=$work/prefix
+
+# ---- Installed.
+"$top/packaging/install" "$prefix" >out 2>err
+[ "$?,$(cat out err)" = 0, ] && [ "$(files "$prefix")" = "$parts" ]
+count 'four files are installed' $?
+answers "$prefix/bin/tabd"
+count 'the installed program answers a script' $?
+[ "$("$prefix/bin/tabd" --version 2>err)" = "tabd $(cat "$top/VERSION")" ]
+count 'its version is the one of VERSION' $?
+cmp "$top/clients/python/tabd.py" "$prefix/lib/python3/dist-packages/tabd.py" >out 2>err
+count 'the client is the one of clients/python' $?
+! grep /usr/bin "$prefix/lib/systemd/system/tabd.service" >out && grep -qxF "ExecStart=$prefix/bin/tabd serve \$TABD_OPTIONS" "$prefix/lib/systemd/system/tabd.service"
+count 'the unit names the program where it is' $?
+DESTDIR=$work/stage "$top/packaging/install" /opt/tabd >out 2>err &&
+    [ "$(files stage/opt/tabd)" = "$parts" ] && [ "$(files stage)" = "${parts//.\//./opt/tabd/}" ] &&
+    grep -qxF 'ExecStart=/opt/tabd/bin/tabd serve $TABD_OPTIONS' stage/opt/tabd/lib/systemd/system/tabd.service
+count 'DESTDIR stands in front of what is written, and not in the unit' $?
+for words in '' '--uninstall' '--bogus' "$work/a b"; do
+    if [ -n "$words" ]; then "$top/packaging/install" "$words"; else "$top/packaging/install"; fi >out 2>err
+    [ "$?,$(wc -l <err)" = 1,1 ] && [ ! -s out ] && grep -q '^fault: ' err
+    count "packaging/install '$words' is refused" $?
+done
+
+# ---- The unit's command, and the client that is installed.
+if ! lacks python3 'a server by the command of the unit'; then
+    port=$(python3 -c 'import socket; print(socket.create_server(("127.0.0.1", 0)).getsockname()[1])')
+    options=$(sed -n 's/^Environment="TABD_OPTIONS=\(.*\)"$/\1/p' "$prefix/lib/systemd/system/tabd.service")
+    read -r -a command < <(sed -n "s|^ExecStart=||p" "$prefix/lib/systemd/system/tabd.service" | sed "s|\$TABD_OPTIONS|${options/9997/$port}|")
+    mkfifo said
+    "${command[@]}" >said 2>err </dev/null &
+    server=$!
+    read -r told <said
+    [ "$told" = "listening $port" ]
+    count 'the command of the unit listens' $?
+    PYTHONPATH=$prefix/lib/python3/dist-packages python3 - "$port" >out 2>err <<'.'
+import sys
+import tabd
+with tabd.connect(int(sys.argv[1]), "root") as root:
+    root.create_table("t")
+    root.write("t", "r", [tabd.Put("f", "q", "hello")])
+    print(*[cell.value for cell in root.scan("t")])
+.
+    [ "$(cat out)" = "b'hello'" ]
+    count 'the installed client is answered' $?
+    kill "$server"
+    wait "$server" 2>/dev/null
+    [ $? -eq 143 ]
+    count 'a signal ends the server' $?
+    server=
+fi
+if ! lacks systemd-analyze 'the unit is verified'; then
+    systemd-analyze verify --man=no "$prefix/lib/systemd/system/tabd.service" >out 2>err
+    [ $? -eq 0 ] && ! grep -q 'tabd' out err
+    count 'the unit is verified' $?
+fi
+
+# ---- The man page.
+gzip -dc "$prefix/share/man/man1/tabd.1.gz" >tabd.1
+if ! lacks groff 'the man page is rendered'; then
+    groff -man -Tutf8 -P-c -rLL=300n -ww tabd.1 2>err | sed 's/.\x08//g' >page
+    [ -s page ] && cp err out && [ ! -s err ]
+    count 'the man page is rendered without a warning' $?
+    for words in '' script serve shell; do
+        # shellcheck disable=SC2086
+        "$TABD" $words --help
+    done | sed -nE 's/^ *((-., )?--[^ ]*( <[^ ]*>)?).*/\1/p; s/^  ([^ -].*)/\1/p' | sed 's/  */ /g' | sort -u >wanted
+    sed 's/^ *//; s/  */ /g' page | tr '\n' ' ' >flat
+    : >out
+    while read -r line; do grep -qF -- "$line" flat || echo "not in the page: $line"; done <wanted >out
+    [ "$(wc -l <wanted)" -gt 50 ] && [ ! -s out ]
+    count 'it has each option, each line and each word of --help' $?
+fi
+
+# ---- Away again.
+echo mine >"$prefix/bin/other"
+mkdir -p "$prefix/lib/python3/dist-packages/__pycache__"
+: >"$prefix/lib/python3/dist-packages/__pycache__/tabd.cpython-311.pyc"
+"$top/packaging/install" --uninstall "$prefix" >out 2>err
+[ "$?,$(cat out err),$(files "$prefix")" = 0,,./bin/other ] && [ ! -e "$prefix/lib/python3/dist-packages/__pycache__" ]
+count 'what was installed is away, and nothing else' $?
+
+# ---- The Debian package.
+package=tabd_$(cat "$top/VERSION")_amd64.deb
+if ! lacks dpkg-deb 'the Debian package'; then
+    [ "$("$top/packaging/deb" 2>err)" = "$work/$package" ] && [ ! -s err ]
+    count 'the package is built' $?
+    mkdir again && "$top/packaging/deb" again >out 2>err && cmp "$package" "again/$package" >out 2>err
+    count 'it is built with the same bytes again' $?
+    dpkg-deb -x "$package" unpacked >out 2>err &&
+        [ "$(files unpacked | grep -v ^./usr/share/doc/)" = "${parts//.\//./usr/}" ] && answers unpacked/usr/bin/tabd &&
+        cmp "$top/packaging/tabd.service" unpacked/usr/lib/systemd/system/tabd.service >out 2>err
+    count 'it has the four files, and its program answers a script' $?
+    root=()
+    [ "$(id -u)" -eq 0 ] || root=(fakeroot)
+    if ! lacks "${root[0]:-dpkg}" 'the package is put in and taken out'; then
+        mkdir -p root/var/lib/dpkg/info root/var/lib/dpkg/updates && : >root/var/lib/dpkg/status
+        packages() { # WORD ..   dpkg, in a folder of its own
+            PATH=$PATH:/usr/sbin:/sbin "${root[@]}" dpkg --root="$work/root" --log=/dev/null --force-not-root --force-depends \
+                --force-script-chrootless "$@"
+        }
+        packages -i "$package" >out 2>&1 && packages --verify tabd >out 2>&1 && [ ! -s out ] && answers root/usr/bin/tabd
+        count 'it is put in' $?
+        packages --purge tabd >out 2>&1 && [ -z "$(files root | grep -v ^./var/lib/dpkg/)" ]
+        count 'and taken out, and nothing is left' $?
+    fi
+fi
+[ "$skipped" -eq 0 ] && echo "$passed passed, $failed failed" || echo "$passed passed, $failed failed, $skipped skipped"
+[ "$failed" -eq 0 ]
