@@ -54,6 +54,9 @@ answers "$prefix/bin/tabd"
 count 'the installed program answers a script' $?
 [ "$("$prefix/bin/tabd" --version 2>err)" = "tabd $(cat "$top/VERSION")" ]
 count 'its version is the one of VERSION' $?
+cmp "$TABD" "$prefix/bin/tabd" >out 2>err ||
+    [ "$(sha256sum <"$prefix/bin/tabd")" = "$(sed -n 's/^program: //p' "$top/release/release.txt")  -" ]
+count 'it is the program that is tested, or the release of it' $?
 cmp "$top/clients/python/tabd.py" "$prefix/lib/python3/dist-packages/tabd.py" >out 2>err
 count 'the client is the one of clients/python' $?
 ! grep /usr/bin "$prefix/lib/systemd/system/tabd.service" >out && grep -qxF "ExecStart=$prefix/bin/tabd serve \$TABD_OPTIONS" "$prefix/lib/systemd/system/tabd.service"
@@ -147,7 +150,7 @@ if ! lacks dpkg-deb 'the Debian package'; then
         }
         packages -i "$package" >out 2>&1 && packages --verify tabd >out 2>&1 && [ ! -s out ] && answers root/usr/bin/tabd
         count 'it is put in' $?
-        packages --purge tabd >out 2>&1 && [ -z "$(files root | grep -v ^./var/lib/dpkg/)" ]
+        packages --purge tabd >out 2>&1 && ! files root | grep -qv ^./var/lib/dpkg/
         count 'and taken out, and nothing is left' $?
     fi
 fi
