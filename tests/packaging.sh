@@ -71,32 +71,53 @@ for words in '' '--uninstall' '--bogus' "$work/a b"; do
     count "packaging/install '$words' is refused" $?
 done
 
-# ---- The unit's command, and the client that is installed.
-if ! lacks python3 'a server by the command of the unit'; then
-    port=$(python3 -c 'import socket; print(socket.create_server(("127.0.0.1", 0)).getsockname()[1])')
-    options=$(sed -n 's/^Environment="TABD_OPTIONS=\(.*\)"$/\1/p' "$prefix/lib/systemd/system/tabd.service")
-    read -r -a command < <(sed -n "s|^ExecStart=||p" "$prefix/lib/systemd/system/tabd.service" | sed "s|\$TABD_OPTIONS|${options/9997/$port}|")
-    mkfifo said
-    "${command[@]}" >said 2>err </dev/null &
+# ---- Servers: the command of the unit, and the examples of the documents, with what is installed.
+# Starts a server by these words, the port in them, and waits until it listens.
+serve() { # PORT WORD ..
+    local told=
+    rm -f said && mkfifo said
+    "${@:2}" >said 2>err </dev/null &
     server=$!
     read -r told <said
-    [ "$told" = "listening $port" ]
-    count 'the command of the unit listens' $?
-    PYTHONPATH=$prefix/lib/python3/dist-packages python3 - "$port" >out 2>err <<'.'
-import sys
-import tabd
-with tabd.connect(int(sys.argv[1]), "root") as root:
-    root.create_table("t")
-    root.write("t", "r", [tabd.Put("f", "q", "hello")])
-    print(*[cell.value for cell in root.scan("t")])
-.
-    [ "$(cat out)" = "b'hello'" ]
-    count 'the installed client is answered' $?
-    kill "$server"
+    [ "$told" = "listening $1" ]
+}
+
+# Ends the server by a signal; its status goes to $status.
+stop() {
+    kill "$server" 2>/dev/null
     wait "$server" 2>/dev/null
-    [ $? -eq 143 ]
-    count 'a signal ends the server' $?
+    status=$?
     server=
+}
+
+free_port() {
+    python3 -c 'import socket; print(socket.create_server(("127.0.0.1", 0)).getsockname()[1])'
+}
+
+example() { # FILE N PORT   the Nth example of a document, over what is installed and this port
+    awk -v wanted="$2" '/^```/ { inside = !inside; seen += inside; next } inside && seen == wanted' "$top/$1" |
+        sed -e "s|^\(\./\)*tabd|$prefix/bin/tabd|; s|clients/python|$prefix/lib/python3/dist-packages|; s|9997|$3|g"
+}
+
+if ! lacks python3 'servers, and the client in Python'; then
+    port=$(free_port)
+    unit=$prefix/lib/systemd/system/tabd.service
+    options=$(sed -n 's/^Environment="TABD_OPTIONS=\(.*\)"$/\1/p' "$unit")
+    read -r -a command < <(sed -n 's/^ExecStart=//p' "$unit" | sed "s|\$TABD_OPTIONS|${options/9997/$port}|")
+    serve "$port" "${command[@]}"
+    count 'the command of the unit listens' $?
+    example README.md 4 "$port" >lines && bash lines >out 2>err
+    [ "$(grep -cx ok out)" -eq 6 ] && grep -vx ok out | diff - <(example README.md 5 "$port") >>err && [ ! -s err ]
+    count "README's server and client print what it says" $?
+    stop
+    [ "$status" -eq 143 ]
+    count 'a signal ends the server' $?
+    port=$(free_port)
+    example docs/OPERATING.md 2 "$port" >lines
+    sed '$d' lines | bash >out 2>err && [ "$(sort -u out)" = ok ] && read -r -a command < <(tail -n 1 lines) && serve "$port" "${command[@]}" &&
+        [ "$(echo 'scan patients medical' | "$prefix/bin/tabd" shell --port "$port" --user nurse)" = $'ann record diagnosis medical 0 asthma\nend' ]
+    count "a server begins with what docs/OPERATING.md's script saved" $?
+    stop
 fi
 if ! lacks systemd-analyze 'the unit is verified'; then
     systemd-analyze verify --man=no "$prefix/lib/systemd/system/tabd.service" >out 2>err
