@@ -1,0 +1,76 @@
+#!/usr/bin/env bash
+# What build.sh does: the order of crates, what it says, what it keeps, and what it leaves where it fails or is interrupted. It runs over a
+# small checkout with a stand-in for `rt`, so that nothing is proved here.
+# Usage: tests/build.sh   (from anywhere; wants python3)
+set -u
+top=$(cd "$(dirname -- "${BASH_SOURCE[0]}")/.." && pwd)
+. "$top/tests/needs" python3
+work=$(mktemp -d) || exit 1
+trap 'rm -rf "$work"' EXIT
+here=$work/checkout bin=$work/bin
+mkdir -p "$here" "$bin"
+cp -R "$top/build.sh" "$top/dev" "$here/"
+printf 'low:\nother:\nhigh: low other std\ntabd: high low\n' >"$here/crates.txt"
+for crate in low other high tabd; do
+    mkdir -p "$here/crates/$crate/src" "$here/crates/$crate/specs"
+    echo "// $crate" >"$here/crates/$crate/src/lib.rt"
+done
+# `rt lib` makes a library of the crate in whose folder it runs, `rt run` the program; calls are counted in $work/calls.
+cat >"$bin/rt" <<'STAND_IN'
+#!/usr/bin/env bash
+set -u
+[ "${STAND_IN:-}" != fails ] || { echo 'not proved'; exit 1; }
+[ "${STAND_IN:-}" != slow ] || sleep 1
+echo "$1 $(basename "$PWD")" >>"$CALLS"
+mkdir -p out
+case $1 in
+lib) mkdir -p out/rlib && echo it >out/rlib/stamp ;;
+run) printf '#!/bin/sh\n' >out/tabd && chmod +x out/tabd ;;
+esac
+STAND_IN
+chmod +x "$bin/rt"
+export CALLS=$work/calls PATH=$bin:$PATH
+passed=0 failed=0
+
+count() { # NAME, with the status of the test that went before
+    if [ "$2" -eq 0 ]; then passed=$((passed + 1)); else
+        failed=$((failed + 1))
+        echo "FAILED: $1"
+        cat "$work/err"
+    fi
+}
+
+# Builds from nothing; its status goes to $status, and what was called of `rt` to $calls.
+build() { # [--keep]
+    rm -rf "$here"/crates/*/out
+    : >"$CALLS"
+    "$here/build.sh" "$work/log" "$@" 2>"$work/err"
+    status=$?
+    calls=$(tr '\n' ' ' <"$CALLS")
+}
+
+build
+[ "$status" -eq 0 ] && [ -x "$here/crates/tabd/out/tabd" ] && [[ $calls =~ ^lib\ (low\ lib\ other|other\ lib\ low)\ lib\ high\ run\ tabd\ $ ]]
+count 'it builds each crate behind those that it stands on' $?
+grep -q '^tabd: 4 of 4 crates are to be proved and built: about 1 minute on ' "$work/err" &&
+    [ "$(grep -c '^tabd: proving [a-z]*, [1-4] of 4; [0-9]*% done, about 1 minute left$' "$work/err")" -eq 4 ]
+count 'it says what it takes and how far it is' $?
+[ ! -e "$here/crates/tabd/out/build" ] && [ -z "$(find "$here/crates" -name rlib)" ]
+count 'of the build only the program is left' $?
+build --keep
+[ "$status" -eq 0 ] && [ "$(find "$here/crates" -name rlib | wc -l)" -eq 3 ]
+count 'with --keep the libraries stay' $?
+STAND_IN=fails build
+[ "$status" -eq 1 ] && grep -q '^not proved$' "$work/log" && [ ! -e "$here/crates/tabd/out/build" ]
+count 'where a crate fails, the log says why' $?
+rm -rf "$here"/crates/*/out
+: >"$CALLS"
+STAND_IN=slow "$here/build.sh" "$work/log" 2>"$work/err" &
+for _ in $(seq 100); do ! grep -q proving "$work/err" || break; sleep 0.05; done
+kill -INT $!
+wait $!
+[ $? -eq 130 ] && sleep 1.5 && [ ! -s "$CALLS" ] && [ ! -e "$here/crates/tabd/out/build" ]
+count 'where it is interrupted, nothing goes on' $?
+
+echo "$passed passed, $failed failed"
+[ "$failed" -eq 0 ]
