@@ -1,6 +1,6 @@
 #!/usr/bin/env bash
 # What packaging/ makes: an installed program that runs, with its man page, client and unit, a Debian package of the same, and both away again.
-# Usage: tests/packaging.sh   (from anywhere; builds the program if it isn't built; TABD names another one)
+# Usage: tests/packaging.sh   (from anywhere; TABD names another program)
 set -u
 top=$(cd "$(dirname -- "${BASH_SOURCE[0]}")/.." && pwd)
 work=$(mktemp -d) || exit 1
@@ -52,8 +52,9 @@ prefix=$work/prefix
 count 'four files are installed' $?
 answers "$prefix/bin/tabd"
 count 'the installed program answers a script' $?
-[ "$("$prefix/bin/tabd" --version 2>err)" = "tabd $(cat "$top/VERSION")" ]
-count 'its version is the one of VERSION' $?
+version=$(sed -n 's/^version: //p' "$top/release/release.txt")
+[ "$("$prefix/bin/tabd" --version 2>err)" = "tabd $version" ]
+count 'its version is the one of the release' $?
 cmp "$TABD" "$prefix/bin/tabd" >out 2>err ||
     [ "$(sha256sum <"$prefix/bin/tabd")" = "$(sed -n 's/^program: //p' "$top/release/release.txt")  -" ]
 count 'it is the program that is tested, or the release of it' $?
@@ -151,7 +152,7 @@ mkdir -p "$prefix/lib/python3/dist-packages/__pycache__"
 count 'what was installed is away, and nothing else' $?
 
 # ---- The Debian package.
-package=tabd_$(cat "$top/VERSION")_amd64.deb
+package=tabd_${version}_amd64.deb
 if ! lacks dpkg-deb 'the Debian package'; then
     [ "$("$top/packaging/deb" 2>err)" = "$work/$package" ] && [ ! -s err ]
     count 'the package is built' $?
