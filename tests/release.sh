@@ -54,7 +54,7 @@ else
     count "README's first example prints what it says" $?
     [ "$took" -lt 2000 ]
     count "its replies come within two seconds ($took ms)" $?
-    tests/run cases permissions >"$work/tests" 2>&1
+    tests/run cases examples >"$work/tests" 2>&1
     count "README's test command runs there" $?
 fi
 echo "$passed passed, $failed failed$([ "$skipped" -eq 0 ] || echo ", $skipped skipped")"
