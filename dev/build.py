@@ -108,13 +108,16 @@ class Plan:
     def next(self):
         """The crates that can begin now, those with the longest way up first, each with the processors that it gets.
 
-        One each while as many are ready as processors; else all that are idle, shared out."""
+        Each gets one, and the first of them what no other takes. What the whole build waits for longest gets half of all even where others wait."""
         ready = [it for it in self.uses if it not in self.done and it not in self.running and self.done.issuperset(self.uses[it])]
         ready.sort(key=lambda it: -self.ways[it])
+        longest = max((self.ways[it] for it in [*ready, *self.running]), default=0)
         idle = self.lanes - sum(jobs for _, jobs in self.running.values())
         found = []
-        for at, crate in enumerate(ready[: max(idle, 0)]):
-            jobs = -(-idle // (len(ready) - at)) if len(ready) < self.lanes else 1
+        while ready and idle > 0:
+            crate = ready.pop(0)
+            least = self.lanes // 2 if self.ways[crate] == longest else 1
+            jobs = max(min(least, idle), idle - len(ready), 1)
             found.append((crate, jobs))
             idle -= jobs
         return found
