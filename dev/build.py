@@ -210,6 +210,8 @@ class Build:
         self.begun += 1
         self.say(f"proving {crate}, {self.begun} of {len(self.uses)}; {self.how_far()}")
         folder = crate_folder(crate) if crate == PROGRAM else self.own_folder(crate)
+        if crate == PROGRAM and not os.path.isdir(f"{folder}/out/incremental"):
+            self.mark_passing(crate)
         words = ["run", "--jobs", str(jobs), "--", "--version"] if crate == PROGRAM else ["lib", "--jobs", str(jobs)]
         with open(f"{PLACE}/{crate}.log", "wb") as log:
             how = {"stdin": subprocess.DEVNULL, "stdout": log, "stderr": log, "preexec_fn": end_with_parent}
@@ -229,13 +231,18 @@ class Build:
                 self.measured[crate] = (used.ru_utime + used.ru_stime) / (1 + FURTHER * (jobs - 1))
                 yield crate, status == 0
 
+    def mark_passing(self, crate):
+        """Notes, where this build keeps nothing, that what it makes of the crate is to go."""
+        if not self.keeps:
+            open(f"{crate_folder(crate)}/{PASSING}", "w").close()
+
     def take_library(self, crate):
         """Moves what was made of the crate to its place."""
         made, out = f"{PLACE}/{crate}/crates/{crate}/out", f"{crate_folder(crate)}/out"
         os.makedirs(out, exist_ok=True)
+        self.mark_passing(crate)
         if not self.keeps:
             remove(f"{made}/incremental")
-            open(f"{crate_folder(crate)}/{PASSING}", "w").close()
         for name in os.listdir(made):
             remove(f"{out}/{name}")
             os.rename(f"{made}/{name}", f"{out}/{name}")
@@ -286,11 +293,8 @@ class Build:
             out = f"{crate_folder(crate)}/out"
             if os.path.isfile(f"{crate_folder(crate)}/{PASSING}"):
                 remove(f"{crate_folder(crate)}/{PASSING}")
-                for name in [] if self.keeps else ["rlib", "incremental"]:
+                for name in [] if self.keeps else ["rlib", "incremental", f"{PROGRAM}.o"]:
                     remove(f"{out}/{name}")
-            if not self.keeps and crate == PROGRAM:
-                remove(f"{out}/incremental")
-                remove(f"{out}/{PROGRAM}.o")
             if os.path.isdir(out) and not os.listdir(out):
                 os.rmdir(out)
 
