@@ -52,8 +52,8 @@ build() { # [--keep]
 build
 [ "$status" -eq 0 ] && [ -x "$here/crates/tabd/out/tabd" ] && [[ $calls =~ ^lib\ (low\ lib\ other|other\ lib\ low)\ lib\ high\ run\ tabd\ $ ]]
 count 'it builds each crate behind those that it stands on' $?
-grep -q '^tabd: 4 of 4 crates are to be proved and built: about 1 minute on ' "$work/err" &&
-    [ "$(grep -c '^tabd: proving [a-z]*, [1-4] of 4; [0-9]*% done, about 1 minute left$' "$work/err")" -eq 4 ]
+grep -q '^tabd: 4 of 4 crates are to be proved and built: about [0-9]* minutes* on ' "$work/err" &&
+    [ "$(grep -c '^tabd: proving [a-z]*, [1-4] of 4; [0-9]*% done, about [0-9]* minutes* left$' "$work/err")" -eq 4 ]
 count 'it says what it takes and how far it is' $?
 [ ! -e "$here/crates/tabd/out/build" ] && [ -z "$(find "$here/crates" -name rlib)" ]
 count 'of the build only the program is left' $?
