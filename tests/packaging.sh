@@ -52,9 +52,9 @@ prefix=$work/prefix
 count 'four files are installed' $?
 answers "$prefix/bin/tabd"
 count 'the installed program answers a script' $?
-version=$(sed -n 's/^version: //p' "$top/release/release.txt")
-[ "$("$prefix/bin/tabd" --version 2>err)" = "tabd $version" ]
-count 'its version is the one of the release' $?
+version=$("$prefix/bin/tabd" --version 2>err | cut -d ' ' -f 2)
+grep -q "^## $version (" "$top/CHANGELOG.md"
+count 'CHANGELOG.md tells of its version' $?
 cmp "$TABD" "$prefix/bin/tabd" >out 2>err ||
     [ "$(sha256sum <"$prefix/bin/tabd")" = "$(sed -n 's/^program: //p' "$top/release/release.txt")  -" ]
 count 'it is the program that is tested, or the release of it' $?
