@@ -1,8 +1,8 @@
 //! A string of bytes that owns its memory.
-ghost use Rattle.std.specs.Prelude.{◌≡◌, ◌↔◌, [], length, IsTrue, IfOk};
-ghost use Rattle.std.specs.Ordering.{nat_cmp, as_partial_cmp, eq_by_cmp};
-ghost use Rattle.std.specs.Cmp.Lexicographic.{slice_cmp, nat_list_cmp_total};
-ghost use Rattle.std.specs.Cmp.{partial_equiv_from_equiv, eq_by_cmp_equiv, partial_order_from_own_ties};
+ghost use Rattle.std.specs.Prelude.{◌≡◌, ◌↔◌, [], length, nat_eq, IsTrue, IfOk};
+ghost use Rattle.std.specs.Ordering.{nat_cmp, as_partial_cmp};
+ghost use Rattle.std.specs.Cmp.Lexicographic.{pointwise, slice_cmp, nat_list_cmp_total};
+ghost use Rattle.std.specs.Cmp.{partial_order_from_own_ties};
 ghost use Rattle.std.specs.Cmp.Rules.{comparing};
 ghost use Rattle.std.proofs.Common.{rules};
 
@@ -94,17 +94,17 @@ impl Clone for ByteString {
 }
 
 impl PartialEq for ByteString {
-    ghost eq = { eq_by_cmp (slice_cmp nat_cmp) };
+    ghost eq = { pointwise nat_eq };
 
-    ghost laws = { partial_equiv_from_equiv (eq_by_cmp_equiv nat_list_cmp_total) };
+    ghost laws = { Prim.search (comparing, rules) };
 
     fn eq(&self, other: &ByteString) -> bool {
-        self.cmp(other).is_eq()
+        self.as_bytes() == other.as_bytes()
     }
 }
 
 impl Eq for ByteString {
-    ghost laws = { eq_by_cmp_equiv nat_list_cmp_total };
+    ghost laws = { Prim.search (comparing, rules) };
 }
 
 impl Ord for ByteString {

@@ -1,9 +1,9 @@
 //! Names of users and tables.
-ghost use Rattle.std.specs.Prelude.{◌≡◌, ◌↔◌, IsTrue, IsSome, IfSome, ◌≤◌, ◌-◌, ◌++◌, length, replicate, drop};
+ghost use Rattle.std.specs.Prelude.{◌≡◌, ◌↔◌, IsTrue, IsSome, IfSome, ◌≤◌, ◌-◌, ◌++◌, length, nat_eq, replicate, drop};
 ghost use Rattle.std.specs.List.{list_all};
-ghost use Rattle.std.specs.Ordering.{nat_cmp, as_partial_cmp, eq_by_cmp};
-ghost use Rattle.std.specs.Cmp.Lexicographic.{slice_cmp, nat_list_cmp_total};
-ghost use Rattle.std.specs.Cmp.{partial_equiv_from_equiv, eq_by_cmp_equiv, partial_order_from_own_ties};
+ghost use Rattle.std.specs.Ordering.{nat_cmp, as_partial_cmp};
+ghost use Rattle.std.specs.Cmp.Lexicographic.{pointwise, slice_cmp, nat_list_cmp_total};
+ghost use Rattle.std.specs.Cmp.{partial_order_from_own_ties};
 ghost use Rattle.std.specs.Cmp.Rules.{comparing};
 ghost use Rattle.std.proofs.Common.{rules};
 ghost use Rattle.tab_key.specs.Names.{IsName, is_name_byte};
@@ -88,17 +88,17 @@ fn is_spelled(bytes: &[u8]) -> bool
 }
 
 impl PartialEq for Name {
-    ghost eq = { eq_by_cmp (slice_cmp nat_cmp) };
+    ghost eq = { pointwise nat_eq };
 
-    ghost laws = { partial_equiv_from_equiv (eq_by_cmp_equiv nat_list_cmp_total) };
+    ghost laws = { Prim.search (comparing, rules) };
 
     fn eq(&self, other: &Name) -> bool {
-        self.cmp(other).is_eq()
+        self.as_bytes() == other.as_bytes()
     }
 }
 
 impl Eq for Name {
-    ghost laws = { eq_by_cmp_equiv nat_list_cmp_total };
+    ghost laws = { Prim.search (comparing, rules) };
 }
 
 impl Ord for Name {
