@@ -34,6 +34,21 @@ impl Clone for AuthSet {
     }
 }
 
+impl PartialEq for AuthSet {
+    ghost use Rattle.std.specs.Prelude.{bytes_eq};
+    ghost use Rattle.std.specs.Cmp.Lexicographic.{pointwise};
+    ghost use Rattle.std.specs.Cmp.Rules.{comparing};
+    ghost use Rattle.std.proofs.Common.{rules};
+
+    ghost eq = { pointwise bytes_eq };
+
+    ghost laws = { Prim.search (comparing, rules) };
+
+    fn eq(&self, other: &AuthSet) -> bool {
+        self.terms() == other.terms()
+    }
+}
+
 impl AuthSet {
     /// The set of these byte strings, in whatever order and however often they stand there.
     /// Takes no memory: it sorts in place and drops what stands twice.
