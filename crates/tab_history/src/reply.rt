@@ -9,7 +9,7 @@ use tab_rules::Violation;
 
 /// Why a step is refused. A refused event changes no user, cell, right or table; all but `NoMemory`, a full
 /// list of sessions and `NoJob` move the clock.
-#[derive(Drop)]
+#[derive(PartialEq, Drop)]
 pub enum Refusal {
     /// There is no user of the caller's name.
     UnknownUser(Name),

@@ -9,7 +9,7 @@ use crate::permission::{SystemPermission, TablePermission};
 use std::alloc::{AllocError, Global};
 
 /// A set of system permissions. A contract reads it by `system_contains`.
-#[derive(Clone, Copy, Debug)]
+#[derive(Clone, Copy, Debug, PartialEq, Eq)]
 pub struct SystemPermissions {
     grant: bool,
     create_table: bool,
@@ -22,7 +22,7 @@ pub struct SystemPermissions {
 }
 
 /// A set of permissions for one table. A contract reads it by `table_contains`.
-#[derive(Clone, Copy, Debug)]
+#[derive(Clone, Copy, Debug, PartialEq, Eq)]
 pub struct TablePermissions {
     read: bool,
     write: bool,
