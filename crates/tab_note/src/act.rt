@@ -166,15 +166,23 @@ impl KeptAct {
     }
 
     /// Whether the two are one act.
+    #[tactic(auto, using(crate::proofs::Keeping::plain_apart))]
     pub fn same(&self, other: &KeptAct) -> bool
         ensures { IsTrue result ↔ (act_in self.now ≡ act_in other.now) }
     {
-        match self {
-            KeptAct::Open(scan) => is_open(other, scan),
-            KeptAct::Write(table, mutation) => is_write(other, table, mutation),
-            KeptAct::SetConstraints(table, set) => is_constraints(other, table, set),
-            KeptAct::SetAuths(name, auths) => is_auths(other, name, auths),
-            KeptAct::Plain(plain) => is_plain(other, plain),
+        match (self, other) {
+            (KeptAct::Open(scan), KeptAct::Open(asked)) => same_scan(scan, asked),
+            (KeptAct::Write(table, mutation), KeptAct::Write(place, written)) => {
+                table == place && same_mutation(mutation, written)
+            }
+            (KeptAct::SetConstraints(table, set), KeptAct::SetConstraints(place, given)) => {
+                table == place && same_constraints(set, given)
+            }
+            (KeptAct::SetAuths(name, auths), KeptAct::SetAuths(user, given)) => {
+                name == user && same_auths(auths, given)
+            }
+            (KeptAct::Plain(plain), KeptAct::Plain(asked)) => same_plain(plain, asked),
+            _ => false,
         }
     }
 }
@@ -210,65 +218,14 @@ fn authorizations(alloc: Global, name: &Name, auths: &AuthSet) -> Result<KeptAct
     Ok(KeptAct::SetAuths(text(alloc, name)?, auths.clone()?))
 }
 
-// Whether the act is an Open of this scan.
-fn is_open(act: &KeptAct, scan: &KeptScan) -> bool
-    ensures { IsTrue result ↔ (Act.Open (scan_in scan.now) ≡ act_in act.now) }
-{
-    match act {
-        KeptAct::Open(other) => same_scan(scan, other),
-        _ => false,
-    }
-}
-
 // Whether the two ask for the same.
 fn same_scan(a: &KeptScan, b: &KeptScan) -> bool
     ensures { IsTrue result ↔ (scan_in a.now ≡ scan_in b.now) }
 {
     a.table == b.table
         && same_bounds(&a.bounds, &b.bounds)
-        && same_columns(a.columns.as_slice(), b.columns.as_slice())
+        && same_columns(&a.columns, &b.columns)
         && same_auths(&a.authorizations, &b.authorizations)
-}
-
-// Whether the act writes this mutation to the table.
-fn is_write(act: &KeptAct, table: &Text, mutation: &Mutation) -> bool
-    ensures { IsTrue result ↔ (Act.Write table.now mutation.now ≡ act_in act.now) }
-{
-    match act {
-        KeptAct::Write(other, written) => table == other && same_mutation(mutation, written),
-        _ => false,
-    }
-}
-
-// Whether the act sets these constraints of the table.
-fn is_constraints(act: &KeptAct, table: &Text, set: &ConstraintSet) -> bool
-    ensures { IsTrue result ↔ (Act.SetConstraints table.now set.now ≡ act_in act.now) }
-{
-    match act {
-        KeptAct::SetConstraints(other, given) => table == other && same_constraints(set, given),
-        _ => false,
-    }
-}
-
-// Whether the act gives the user these authorizations.
-fn is_auths(act: &KeptAct, name: &Text, auths: &AuthSet) -> bool
-    ensures { IsTrue result ↔ (Act.SetAuths name.now auths.now ≡ act_in act.now) }
-{
-    match act {
-        KeptAct::SetAuths(other, given) => name == other && same_auths(auths, given),
-        _ => false,
-    }
-}
-
-// Whether the act is this one.
-#[tactic(auto, using(crate::proofs::Keeping::plain_apart))]
-fn is_plain(act: &KeptAct, plain: &PlainAct) -> bool
-    ensures { IsTrue result ↔ (plain_in plain.now ≡ act_in act.now) }
-{
-    match act {
-        KeptAct::Plain(other) => same_plain(plain, other),
-        _ => false,
-    }
 }
 
 // Whether the two are one act.

@@ -2,7 +2,7 @@
 ghost use Rattle.std.specs.Prelude.{◌≡◌, ◌↔◌, IsTrue, length};
 
 use tab_history::Rights;
-use tab_key::{Bound, Bounds, ByteString, Column, Name};
+use tab_key::{Bounds, ByteString, Column, Items, Name};
 use tab_label::AuthSet;
 use tab_mutation::{Mutation, UpdateRef};
 use tab_policy::{
@@ -43,10 +43,11 @@ fn same_update(a: &UpdateRef<'_>, b: &UpdateRef<'_>) -> bool
 }
 
 /// Whether the two sets have the same members.
+#[tactic(auto, using(tab_key::proofs::Each::lists_equal))]
 pub fn same_auths(a: &AuthSet, b: &AuthSet) -> bool
     ensures { IsTrue result ↔ (a.now ≡ b.now) }
 {
-    a.terms() == b.terms()
+    a == b
 }
 
 /// Whether the two sets have the same members.
@@ -62,141 +63,43 @@ pub fn same_constraints(a: &ConstraintSet, b: &ConstraintSet) -> bool
 }
 
 /// Whether the two lists have the same columns, in the same order.
-pub fn same_columns(a: &[Column], b: &[Column]) -> bool
+#[tactic(auto, using(tab_key::proofs::Each::lists_equal))]
+pub fn same_columns(a: &Items<Column>, b: &Items<Column>) -> bool
     ensures { IsTrue result ↔ (a.now ≡ b.now) }
 {
-    a.len() == b.len() && each_same(a, b)
-}
-
-// Whether two lists of equally many columns have the same ones.
-fn each_same(a: &[Column], b: &[Column]) -> bool
-    requires { length a.now ≡ length b.now }
-    ensures { IsTrue result ↔ (a.now ≡ b.now) }
-{
-    for index in 0..a.len() {
-        if !same_column(&a[index], &b[index]) {
-            return false;
-        }
-    }
-    true
-}
-
-// Whether the two columns are the same.
-fn same_column(a: &Column, b: &Column) -> bool
-    ensures { IsTrue result ↔ (a.now ≡ b.now) }
-{
-    match a {
-        Column::Family(family) => is_family(b, family),
-        Column::Qualified(family, qualifier) => is_qualified(b, family, qualifier),
-    }
-}
-
-// Whether the column is this family with all its qualifiers.
-fn is_family(column: &Column, family: &ByteString) -> bool
-    ensures { IsTrue result ↔ (column.now ≡ Column.Family family.now) }
-{
-    match column {
-        Column::Family(other) => other.as_bytes() == family.as_bytes(),
-        Column::Qualified(_, _) => false,
-    }
-}
-
-// Whether the column is this family and this qualifier.
-fn is_qualified(column: &Column, family: &ByteString, qualifier: &ByteString) -> bool
-    ensures { IsTrue result ↔ (column.now ≡ Column.Qualified family.now qualifier.now) }
-{
-    match column {
-        Column::Family(_) => false,
-        Column::Qualified(first, second) => {
-            first.as_bytes() == family.as_bytes() && second.as_bytes() == qualifier.as_bytes()
-        }
-    }
+    a == b
 }
 
 /// Whether the two have the same ends.
 pub fn same_bounds(a: &Bounds, b: &Bounds) -> bool
     ensures { IsTrue result ↔ (a.now ≡ b.now) }
 {
-    same_bound(&a.low, &b.low) && same_bound(&a.high, &b.high)
-}
-
-// Whether the two ends are the same.
-fn same_bound(a: &Bound, b: &Bound) -> bool
-    ensures { IsTrue result ↔ (a.now ≡ b.now) }
-{
-    match a {
-        Bound::Unbounded => matches!(b, Bound::Unbounded),
-        Bound::Inclusive(row) => is_inclusive(b, row),
-        Bound::Exclusive(row) => is_exclusive(b, row),
-    }
-}
-
-// Whether the end is this row, which is in the range.
-fn is_inclusive(bound: &Bound, row: &ByteString) -> bool
-    ensures { IsTrue result ↔ (bound.now ≡ Bound.Inclusive row.now) }
-{
-    match bound {
-        Bound::Inclusive(other) => other.as_bytes() == row.as_bytes(),
-        _ => false,
-    }
-}
-
-// Whether the end is this row, which is not in the range.
-fn is_exclusive(bound: &Bound, row: &ByteString) -> bool
-    ensures { IsTrue result ↔ (bound.now ≡ Bound.Exclusive row.now) }
-{
-    match bound {
-        Bound::Exclusive(other) => other.as_bytes() == row.as_bytes(),
-        _ => false,
-    }
+    a == b
 }
 
 /// Whether the two are one name.
 pub fn same_name(a: &Name, b: &Name) -> bool
     ensures { IsTrue result ↔ (a.now ≡ b.now) }
 {
-    a.as_bytes() == b.as_bytes()
+    a == b
 }
 
 /// Whether the two are one string.
 pub fn same_string(a: &ByteString, b: &ByteString) -> bool
     ensures { IsTrue result ↔ (a.now ≡ b.now) }
 {
-    a.as_bytes() == b.as_bytes()
+    a == b
 }
 
 /// Whether the two are one permission.
 pub fn same_permission(a: &Permission, b: &Permission) -> bool
     ensures { IsTrue result ↔ (a.now ≡ b.now) }
 {
-    match a {
-        Permission::OfSystem(system) => is_system(b, *system),
-        Permission::OfTable(right, table) => is_table(b, *right, table),
-    }
-}
-
-// Whether it is this permission for the whole server.
-fn is_system(permission: &Permission, system: SystemPermission) -> bool
-    ensures { IsTrue result ↔ (Permission.OfSystem system ≡ permission.now) }
-{
-    match permission {
-        Permission::OfSystem(other) => system == *other,
-        _ => false,
-    }
-}
-
-// Whether it is this permission for the table.
-fn is_table(permission: &Permission, right: TablePermission, table: &Name) -> bool
-    ensures { IsTrue result ↔ (Permission.OfTable right table.now ≡ permission.now) }
-{
-    match permission {
-        Permission::OfTable(other, place) => right == *other && same_name(table, place),
-        _ => false,
-    }
+    a == b
 }
 
 /// Whether the two lists have the same violations, in the same order.
-pub fn same_violations(a: &[Violation], b: &[Violation]) -> bool
+pub fn same_violations(a: &Items<Violation>, b: &Items<Violation>) -> bool
     ensures { IsTrue result ↔ (a.now ≡ b.now) }
 {
     a == b
@@ -250,21 +153,9 @@ fn same_table(a: &TablePermissions, b: &TablePermissions) -> bool
 }
 
 /// Whether the two lists have the same rows, in the same order.
-pub fn same_rows(a: &[ByteString], b: &[ByteString]) -> bool
-    ensures { IsTrue result ↔ (a.now ≡ b.now) }
+#[tactic(auto, using(tab_key::proofs::Each::lists_equal))]
+pub fn same_rows(rows: &[ByteString], others: &[ByteString]) -> bool
+    ensures { IsTrue result ↔ (rows.now ≡ others.now) }
 {
-    a.len() == b.len() && each_same_row(a, b)
-}
-
-// Whether two lists of equally many rows have the same ones.
-fn each_same_row(a: &[ByteString], b: &[ByteString]) -> bool
-    requires { length a.now ≡ length b.now }
-    ensures { IsTrue result ↔ (a.now ≡ b.now) }
-{
-    for index in 0..a.len() {
-        if !same_string(&a[index], &b[index]) {
-            return false;
-        }
-    }
-    true
+    rows == others
 }

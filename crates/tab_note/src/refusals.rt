@@ -81,7 +81,7 @@ fn is_violation(refusal: &Refusal, found: &Items<Violation>) -> bool
     ensures { IsTrue result ↔ (Refusal.ConstraintViolation found.now ≡ refusal.now) }
 {
     match refusal {
-        Refusal::ConstraintViolation(other) => same_violations(found.as_slice(), other.as_slice()),
+        Refusal::ConstraintViolation(other) => same_violations(found, other),
         _ => false,
     }
 }
