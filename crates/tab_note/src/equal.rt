@@ -1,14 +1,12 @@
 //! Whether two parts of events or of replies are equal.
 ghost use Rattle.std.specs.Prelude.{◌≡◌, ◌↔◌, IsTrue, length};
 
-use tab_history::Rights;
-use tab_key::{Bounds, ByteString, Column, Items, Name};
+use tab_history::{Refusal, Rights};
+use tab_key::{Bounds, ByteString, Column, Items};
 use tab_label::AuthSet;
 use tab_mutation::{Mutation, UpdateRef};
-use tab_policy::{
-    Permission, SystemPermission, SystemPermissions, TablePermission, TablePermissions,
-};
-use tab_rules::{Constraint, ConstraintSet, Violation};
+use tab_policy::{SystemPermission, SystemPermissions, TablePermission, TablePermissions};
+use tab_rules::{Constraint, ConstraintSet};
 
 /// Whether the two mutations have the same row and the same updates, in the same order.
 pub fn same_mutation(a: &Mutation, b: &Mutation) -> bool
@@ -77,34 +75,6 @@ pub fn same_bounds(a: &Bounds, b: &Bounds) -> bool
     a == b
 }
 
-/// Whether the two are one name.
-pub fn same_name(a: &Name, b: &Name) -> bool
-    ensures { IsTrue result ↔ (a.now ≡ b.now) }
-{
-    a == b
-}
-
-/// Whether the two are one string.
-pub fn same_string(a: &ByteString, b: &ByteString) -> bool
-    ensures { IsTrue result ↔ (a.now ≡ b.now) }
-{
-    a == b
-}
-
-/// Whether the two are one permission.
-pub fn same_permission(a: &Permission, b: &Permission) -> bool
-    ensures { IsTrue result ↔ (a.now ≡ b.now) }
-{
-    a == b
-}
-
-/// Whether the two lists have the same violations, in the same order.
-pub fn same_violations(a: &Items<Violation>, b: &Items<Violation>) -> bool
-    ensures { IsTrue result ↔ (a.now ≡ b.now) }
-{
-    a == b
-}
-
 /// Whether the two tell the same.
 pub fn same_rights(a: &Rights, b: &Rights) -> bool
     ensures { IsTrue result ↔ (a.now ≡ b.now) }
@@ -158,4 +128,11 @@ pub fn same_rows(rows: &[ByteString], others: &[ByteString]) -> bool
     ensures { IsTrue result ↔ (rows.now ≡ others.now) }
 {
     rows == others
+}
+
+/// Whether the two are one refusal.
+pub fn same_refusal(refusal: &Refusal, other: &Refusal) -> bool
+    ensures { IsTrue result ↔ (refusal.now ≡ other.now) }
+{
+    refusal == other
 }

@@ -7,7 +7,7 @@
 //! |---|---|
 //! | `note`, `act` | events and acts at rest |
 //! | `text` | bytes in memory of their own |
-//! | `equal`, `refusals` | whether parts of events and of replies are equal |
+//! | `equal` | whether parts of events and of replies are equal |
 //!
 //! Of the definitions in `specs`, `Acts` and `Notes` say which act and which event is kept.
 #![tactic(auto)]
@@ -15,9 +15,7 @@
 mod act;
 mod equal;
 mod note;
-mod refusals;
 mod text;
 
-pub use equal::{same_rights, same_rows};
+pub use equal::{same_refusal, same_rights, same_rows};
 pub use note::Note;
-pub use refusals::same_refusal;
