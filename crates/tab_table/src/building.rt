@@ -1,5 +1,5 @@
 //! Tables built of what a source has left.
-ghost use Rattle.std.specs.Prelude.{◌≡◌, IfOk, length};
+ghost use Rattle.std.specs.Prelude.{◌≡◌, true, IfOk, OnOk, IsErr, length};
 ghost use Rattle.tab_key.specs.Encoding.{records_at, AreAt};
 ghost use Rattle.tab_mem.specs.Fronts.{AreFronts};
 ghost use Rattle.tab_table.specs.Sizes.{encoded_size};
@@ -48,22 +48,35 @@ fn gather<S: Source>(
     })
 }
 
+// An error where the source is unpositioned; what it has left stays.
+fn see_positioned<S: Source>(source: &mut S) -> Result<(), NoMemory>
+    ensures rest { OnOk result (S.rest source.new ≡ S.rest source.old) }
+    ensures unpositioned { S.is_unpositioned source.old ≡ true → IsErr result }
+{
+    if source.top().is_none() {
+        source.advance()?;
+    }
+    Ok(())
+}
+
 impl Table {
     ghost use Rattle.tab_table.specs.Tables.{records};
 
     /// A table of the records that the source has left, which it reads to its end. Each is copied once.
     ///
     /// There is room from the start for so many records in so many bytes, and what isn't needed of it is given back. Where the source
-    /// has more, the table may take twice the memory that it keeps while it grows. After an error, which only want of memory gives,
-    /// some of the records are passed.
+    /// has more, the table may take twice the memory that it keeps while it grows. A source that want of memory left unpositioned has
+    /// no table: the answer is NoMemory once more. After an error, which only want of memory gives, some of the records are passed.
     pub fn build<S: Source>(
         alloc: Global,
         source: &mut S,
         count: usize,
         bytes: usize,
     ) -> Result<Table, NoMemory>
-        ensures { IfOk result (λ t. records t ≡ S.rest source.old) }
+        ensures records { IfOk result (λ t. records t ≡ S.rest source.old) }
+        ensures unpositioned { S.is_unpositioned source.old ≡ true → IsErr result }
     {
+        see_positioned(source)?;
         let Gathered {
             mut body,
             mut places,

@@ -9,7 +9,7 @@ use Rattle.tab_table.proofs.table.Table.build.Goals as goal
 
 pub invariant_of-result : goal.invariant_of-result
 invariant_of-result g c =
-    let source = c.args.source.now in
+    let source = c.see_positioned.new.source in
     let rest = g.S.Source.rest source in
     let whole = g.S.Source.whole source in
     let suffix = g.met.S.Source.rest_is_suffix source in
