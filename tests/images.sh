@@ -202,6 +202,17 @@ answers 'save where there is no folder' 'save missing/one\nscan t \\0\n' 'fault 
 answers 'save over a folder' 'save folder\nscan t \\0\n' 'fault save io\nr f q \\e 5 v\nend\n' --image one
 [ "$(ls folder)" = one ]
 count 'the folder stands' $?
+# A pipe or a device is never replaced, nor a link to one; a link stands in for the machine's own devices.
+mkfifo pipe
+ln -s /dev/null null
+ln -s /dev/full device
+ln -s pipe piped
+for name in pipe null device piped; do
+    answers "save over $name" "save $name\nscan t \\\\0\n" 'fault save io\nr f q \\e 5 v\nend\n' --image one
+done
+[ -p pipe ] && [ -L null ] && [ -c null ] && [ -L device ] && [ -c device ] && [ -L piped ] && [ -p piped ] && [ -z "$(find . -name '*.part')" ]
+count 'a pipe and a device stand as they were' $?
+rm pipe null device piped
 # a file may take no more than half a block: the save fails, the last image stands, and nothing is left beside it
 cp new full
 before=$(ls -a)

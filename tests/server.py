@@ -7,102 +7,11 @@ import socket
 import struct
 import subprocess
 import sys
-import tempfile
 import time
 
+from serving import HELLO, MAKE, OK, PATIENCE, PROGRAM, Server, count, field, frame, free_port, read_exactly, read_frame, run, run_parts
+
 TOP = os.path.dirname(os.path.dirname(os.path.abspath(__file__)))
-PROGRAM = sys.argv[1]
-PATIENCE = 15
-passed = failed = 0
-
-
-def count(name, good, told=""):
-    global passed, failed
-    if good:
-        passed += 1
-    else:
-        failed += 1
-        print("FAILED: %s %s" % (name, str(told)[:300]), flush=True)
-
-
-def free_port():
-    with socket.socket() as probe:
-        probe.bind(("127.0.0.1", 0))
-        return probe.getsockname()[1]
-
-
-class Server:
-    """A server on a free port, once it listens."""
-
-    def __init__(self, *words):
-        for _ in range(3):
-            self.port = free_port()
-            self.process = subprocess.Popen(
-                [PROGRAM, "serve", "--port", str(self.port), *words], stdin=subprocess.DEVNULL,
-                stdout=subprocess.PIPE, stderr=subprocess.PIPE)
-            ready, _, _ = select.select([self.process.stdout], [], [], PATIENCE)
-            self.said = self.process.stdout.readline() if ready else b""
-            if self.said:
-                return
-
-    def connect(self):
-        stream = socket.create_connection(("127.0.0.1", self.port), timeout=PATIENCE)
-        stream.setsockopt(socket.IPPROTO_TCP, socket.TCP_NODELAY, 1)
-        return stream
-
-    def shell(self, lines, *words, user="root"):
-        return subprocess.run(
-            [PROGRAM, "shell", "--port", str(self.port), "--user", user, *words], input=lines,
-            stdout=subprocess.PIPE, stderr=subprocess.PIPE, timeout=60)
-
-    def ends(self):
-        """The status, or None where it goes on."""
-        try:
-            return self.process.wait(timeout=PATIENCE)
-        except subprocess.TimeoutExpired:
-            return None
-
-    def __enter__(self):
-        return self
-
-    def __exit__(self, *_):
-        if self.process.poll() is None:
-            self.process.kill()
-        self.process.communicate()
-
-
-def frame(body):
-    return struct.pack(">I", len(body)) + body
-
-
-def field(text):
-    return struct.pack(">I", len(text)) + text
-
-
-def read_exactly(stream, length):
-    got = b""
-    while len(got) < length:
-        piece = stream.recv(length - len(got))
-        if not piece:
-            return got
-        got += piece
-    return got
-
-
-def read_frame(stream):
-    head = read_exactly(stream, 4)
-    return head + read_exactly(stream, struct.unpack(">I", head)[0]) if len(head) == 4 else head
-
-
-HELLO = frame(b"\x01" + field(b"root"))
-OK = frame(b"\x80")
-MAKE = frame(b"\x02" + field(b"t") + b"\x00" + struct.pack(">I", 1))
-
-
-def run(*words, stdin=b"", **how):
-    how.setdefault("stdout", subprocess.PIPE)
-    return subprocess.run([PROGRAM, *words], input=stdin, stderr=subprocess.PIPE, timeout=60, **how)
-
 
 # ---- Command lines.
 def refused_command_lines():
@@ -141,6 +50,33 @@ def statuses():
         count("and it ends", server.ends() == 0, server.process.returncode)
 
 
+def other_addresses():
+    """Addresses of this machine beside 127.0.0.1: what listens on all of them is reached there."""
+    yield socket.AF_INET, "127.0.0.2"
+    if socket.has_ipv6:
+        yield socket.AF_INET6, "::1"
+    with socket.socket(socket.AF_INET, socket.SOCK_DGRAM) as probe:
+        try:
+            probe.connect(("192.0.2.1", 9))  # it sends nothing, and takes the address from which it would
+            yield socket.AF_INET, probe.getsockname()[0]
+        except OSError:
+            pass
+
+
+def this_machine_alone():
+    with Server() as server:
+        for family, address in other_addresses():
+            with socket.socket(family) as stream:
+                stream.settimeout(PATIENCE)
+                reached = None
+                try:
+                    reached = stream.connect_ex((address, server.port)) == 0
+                except OSError:
+                    reached = False
+                count("it doesn't listen on " + address, reached is False)
+        server.connect().close()
+
+
 # ---- Frames.
 def frames():
     with Server() as server:
@@ -156,6 +92,15 @@ def frames():
             stream.sendall(b"\x00\x00\x00\x00")
             count("what is no frame is told", read_frame(stream) == frame(b"\x81\x10\x01"))
             count("and ends the connection", stream.recv(1) == b"")
+
+
+def moments():
+    """The timestamp of a write without one is the machine's clock, in milliseconds."""
+    with Server("--compactors", "0") as server:
+        ran = server.shell(b"createtable t time=server\ninsert t r f q \\e v\nscan t \\0\n")
+        told = ran.stdout.split(b"\n")
+        timestamp = int(told[2].split()[4]) if len(told) == 5 else 0
+        count("moments are milliseconds since 1970", abs(timestamp - time.time() * 1000) < 60_000, ran)
 
 
 def side_by_side():
@@ -299,8 +244,17 @@ MANY = b"createtable m\n" + b"".join(b"insert m r%05d f q \\e v 1\n" % n for n i
 
 LINES = b"""createtable t
 insert t r f q \\e v 5
+insert t s f q \\e v 5
+open t \\0
 scan t \\0
 splits t
+many 0 [a [b [r [r [t \\0
+many 0 [s \\0 [t \\0
+many 0 [t \\0
+next 0 0
+next 0 1
+next 0 1
+next 0 1
 addsplit t r
 splits t
 status t
@@ -382,6 +336,104 @@ def one_by_one(server):
     count("status 0 at the end of its lines", process.wait(timeout=PATIENCE) == 0)
 
 
+class StandIn:
+    """A shell whose server this is."""
+
+    def __enter__(self):
+        with socket.socket() as listener:
+            listener.bind(("127.0.0.1", 0))
+            listener.listen()
+            self.process = subprocess.Popen([PROGRAM, "shell", "--port", str(listener.getsockname()[1]), "--user", "root"],
+                                            stdin=subprocess.PIPE, stdout=subprocess.PIPE, stderr=subprocess.PIPE)
+            self.stream, _ = listener.accept()
+        self.stream.settimeout(PATIENCE)
+        return self
+
+    def lines(self, lines):
+        self.process.stdin.write(lines)
+        self.process.stdin.flush()
+
+    def __exit__(self, *_):
+        self.stream.close()
+        if self.process.poll() is None:
+            self.process.kill()
+        self.process.communicate()
+
+
+# The frames of replies, and what a shell prints of each.
+PRINTED = [
+    (b"\x80", b"ok"),
+    (b"\x81\x01" + field(b"u"), b"refused 1 UnknownUser u"),
+    (b"\x81\x02" + field(b"t"), b"refused 2 NoTable t"),
+    *((b"\x81\x03\x00" + bytes([place]), b"refused 3 PermissionDenied System." + name) for place, name in enumerate(
+        (b"GRANT", b"CREATE_TABLE", b"DROP_TABLE", b"ALTER_TABLE", b"CREATE_USER", b"DROP_USER", b"ALTER_USER", b"SYSTEM"))),
+    *((b"\x81\x03\x01" + bytes([place]) + field(b"t"), b"refused 3 PermissionDenied Table." + name + b" t") for place, name in enumerate(
+        (b"READ", b"WRITE", b"ALTER_TABLE", b"GRANT", b"DROP_TABLE"))),
+    (b"\x81\x04" + field(b"A"), b"refused 4 BadAuthorizations A"),
+    (b"\x81\x05" + struct.pack(">II", 3, 70_000), b"refused 5 MalformedVisibility 3 70000"),
+    (b"\x81\x06" + struct.pack(">IBBIBBI", 2, 1, 2, 3, 4, 5, 70_000), b"refused 6 ConstraintViolation 1:2:3 4:5:70000"),
+    (b"\x81\x07" + struct.pack(">I", 70_000), b"refused 7 TimestampNotAllowed 70000"),
+    (b"\x81\x08", b"refused 8 EmptyMutation"),
+    *((b"\x81\x09" + bytes([part]), b"refused 9 TooLarge " + name) for part, name in enumerate(
+        (b"updates", b"row", b"family", b"qualifier", b"label", b"value", b"columns", b"authorizations", b"ranges", b"sessions",
+         b"numbers"), 1)),
+    (b"\x81\x0a" + field(b"t"), b"refused 10 TableExists t"),
+    (b"\x81\x0b" + field(b"u"), b"refused 11 UserExists u"),
+    (b"\x81\x0c" + field(b"u"), b"refused 12 NoUser u"),
+    (b"\x81\x0d", b"refused 13 BadRange"),
+    (b"\x81\x0f" + struct.pack(">I", 70_000), b"refused 15 NoSession 70000"),
+    *((b"\x81\x10" + bytes([reason]), b"refused 16 BadFrame " + name) for reason, name in enumerate(
+        (b"empty", b"toolong", b"cut", b"opcode", b"field", b"order"), 1)),
+    (b"\x81\x11", b"refused 17 NoMemory"),
+    (b"\x81\x12", b"refused 18 RootFixed"),
+    (b"\x81\x13", b"refused 19 GrantInvalid"),
+    *((b"\x81\x14" + bytes([why]), b"refused 20 BadSplit " + name) for why, name in enumerate((b"present", b"small", b"onerow"))),
+    (b"\x84" + struct.pack(">I", 70_000), b"session 70000"),
+    (b"\x87" + struct.pack(">QQQ", 1, 2, 3 << 40), b"tablets 1 sources 2 records %d" % (3 << 40)),
+]
+
+
+def each_reply():
+    """Whatever a server tells, the shell prints the text that a script has for it."""
+    with StandIn() as stand_in:
+        told = OK
+        for reply, _ in PRINTED:
+            stand_in.lines(b"rights t\n")
+            told += frame(reply)
+        stand_in.stream.sendall(told)
+        out, err = stand_in.process.communicate(timeout=PATIENCE)
+        printed, wanted = out.split(b"\n"), [text for _, text in PRINTED] + [b""]
+        count("a shell prints each reply", (stand_in.process.returncode, err, len(printed)) == (0, b"", len(wanted)), (out[-200:], err))
+        for at, (line, text) in enumerate(zip(printed, wanted)):
+            count("a shell prints " + text.decode(), line == text, (at, line))
+
+
+def scans_close_sessions():
+    """Each scan of a shell closes its session, also one that is refused on its way."""
+    cell = frame(b"\x82" + field(b"r") + field(b"f") + field(b"q") + field(b"") + struct.pack(">q", 5) + field(b"v"))
+    more = 1000 * cell + frame(b"\x83\x00")
+    for name, batches, printed in (
+        ("of no cell", [frame(b"\x83\x01")], b"end\n"),
+        ("of 1,001 cells", [more, cell + frame(b"\x83\x01")], 1001 * b"r f q \\e 5 v\n" + b"end\n"),
+        ("that is refused", [more, frame(b"\x81\x11")], 1000 * b"r f q \\e 5 v\n" + b"refused 17 NoMemory\n"),
+    ):
+        with StandIn() as stand_in:
+            stand_in.lines(b"scan t \\0\n")
+            stream = stand_in.stream
+            asked = [read_frame(stream), read_frame(stream)]
+            stream.sendall(OK + frame(b"\x84\x00\x01\x02\x03"))
+            for batch in batches:
+                asked.append(read_frame(stream))
+                stream.sendall(batch)
+            asked.append(read_frame(stream))
+            stream.sendall(OK)
+            out, err = stand_in.process.communicate(timeout=PATIENCE)
+            fetch = frame(b"\x0c\x00\x01\x02\x03" + struct.pack(">I", 1000))
+            count("a scan %s closes its session" % name, asked == [HELLO, open_range(b"t"), *len(batches) * [fetch],
+                                                                    frame(b"\x0e\x00\x01\x02\x03")], asked)
+            count("a scan %s is printed" % name, (stand_in.process.returncode, out, err) == (0, printed, b""), (out[-99:], err))
+
+
 def goes_away():
     """A server that ends while a shell is there, one that isn't ours, and one that tells less than a reply."""
     for name, reply, fault in (
@@ -392,31 +444,16 @@ def goes_away():
         ("bytes left over", OK + frame(b"\x80\x00"), b"fault: the server's reply isn't understood\n"),
         ("a count that no frame holds", OK + frame(b"\x88\x00\x00\xff\xff\xff\xff"), b"fault: the server's reply isn't understood\n"),
     ):
-        with socket.socket() as listener:
-            listener.bind(("127.0.0.1", 0))
-            listener.listen()
-            process = subprocess.Popen([PROGRAM, "shell", "--port", str(listener.getsockname()[1]), "--user", "root"],
-                                       stdin=subprocess.PIPE, stdout=subprocess.PIPE, stderr=subprocess.PIPE)
-            stream, _ = listener.accept()
-            process.stdin.write(b"bogus\nrights t\n")
-            process.stdin.flush()
-            stream.settimeout(PATIENCE)
-            stream.recv(65536)
-            stream.sendall(reply)
-            stream.shutdown(socket.SHUT_WR)
+        with StandIn() as stand_in:
+            stand_in.lines(b"bogus\nrights t\n")
+            stand_in.stream.recv(65536)
+            stand_in.stream.sendall(reply)
+            stand_in.stream.shutdown(socket.SHUT_WR)
+            process = stand_in.process
             out, err = process.communicate(timeout=PATIENCE)
-            stream.close()
             count("a server that goes away: " + name, (process.returncode, out, err) == (1, b"line fault\n", fault),
                   (process.returncode, out, err))
 
 
-with tempfile.TemporaryDirectory() as work:
-    os.chdir(work)
-    for part in (refused_command_lines, statuses, frames, side_by_side, stuck_peers, own_write_is_read, compacted_beside,
-                 shell_over_loopback, shells):
-        try:
-            part()
-        except Exception as fault:  # a part that doesn't come to its end is one failure
-            count(part.__name__, False, repr(fault))
-print("%d passed, %d failed" % (passed, failed))
-sys.exit(1 if failed else 0)
+run_parts(refused_command_lines, statuses, this_machine_alone, frames, moments, side_by_side, stuck_peers, own_write_is_read,
+          compacted_beside, shell_over_loopback, shells, each_reply, scans_close_sessions)

@@ -5,4 +5,4 @@
 top=$(cd "$(dirname -- "${BASH_SOURCE[0]}")/.." && pwd)
 . "$top/tests/needs" python3
 program=${TABD:-$("$top/release/program")} || exit 1
-exec timeout 110 python3 "$top/tests/server.py" "$program"
+exec timeout 300 python3 -B "$top/tests/server.py" "$program"

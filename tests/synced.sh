@@ -1,0 +1,80 @@
+#!/usr/bin/env bash
+# What a save asks of the disk, and in which order: the new file is synced whole before it gets its name, and its folder afterwards. Where
+# the disk can't sync it, the save fails, and the old file stands.
+# Usage: tests/synced.sh   (from anywhere; wants a C compiler; TABD names another program)
+set -eu
+top=$(cd "$(dirname -- "${BASH_SOURCE[0]}")/.." && pwd)
+work=$(mktemp -d)
+trap 'rm -rf "$work"' EXIT
+. "$top/tests/needs" "${CC:-cc}"
+program=${TABD:-$("$top/release/program")} || exit 1
+
+cat >"$work/noting.c" <<'C'
+#define _GNU_SOURCE
+#include <dlfcn.h>
+#include <errno.h>
+#include <stdio.h>
+#include <stdlib.h>
+#include <string.h>
+#include <sys/stat.h>
+#include <unistd.h>
+/* Writes a line to NOTES for each file or folder that is synced, with the bytes of a file, and for each that gets another name.
+   With UNSYNCED no file can be synced. */
+static void note(const char *what, const char *which, long size) {
+    FILE *notes = fopen(getenv("NOTES"), "a");
+    const char *name = strrchr(which, '/');
+    fprintf(notes, "%s %s", what, name ? name + 1 : which);
+    if (size >= 0) fprintf(notes, " %ld", size);
+    fputc('\n', notes);
+    fclose(notes);
+}
+static int synced(int file, const char *call) {
+    char link[64], name[4096];
+    struct stat is;
+    snprintf(link, sizeof link, "/proc/self/fd/%d", file);
+    ssize_t length = readlink(link, name, sizeof name - 1);
+    if (length < 0 || fstat(file, &is) != 0) return -1;
+    name[length] = 0;
+    note(S_ISDIR(is.st_mode) ? "sync folder" : "sync", name, S_ISDIR(is.st_mode) ? -1 : (long)is.st_size);
+    if (getenv("UNSYNCED") && !S_ISDIR(is.st_mode)) { errno = EIO; return -1; }
+    return ((int (*)(int))dlsym(RTLD_NEXT, call))(file);
+}
+int fsync(int file) { return synced(file, "fsync"); }
+int fdatasync(int file) { return synced(file, "fdatasync"); }
+int rename(const char *from, const char *to) {
+    note("rename", to, -1);
+    return ((int (*)(const char *, const char *))dlsym(RTLD_NEXT, "rename"))(from, to);
+}
+C
+${CC:-cc} -shared -fPIC -O1 -o "$work/noting.so" "$work/noting.c" -ldl
+
+passed=0 failed=0
+mkdir "$work/images"
+
+# What a script answers in the folder of images, and what it asked of the disk; the old file is left as it says.
+saves() { # NAME LINES REPLIES NOTES [VARIABLE]
+    rm -f "$work/notes"
+    (cd "$work/images" && printf "$2" | env "${5:-SYNCED=1}" NOTES="$work/notes" LD_PRELOAD="$work/noting.so" "$program" script) >"$work/out"
+    if [ "$(cat "$work/out")" = "$(printf "$3")" ] && [ "$(cat "$work/notes")" = "$(printf "$4")" ]; then
+        passed=$((passed + 1))
+    else
+        failed=$((failed + 1))
+        echo "FAILED: $1:"
+        cat "$work/out" "$work/notes"
+    fi
+}
+
+saves 'a save' 'save one\n' 'ok\n' 'sync one.0.part 49\nrename one\nsync folder images\n'
+saves 'a save over an image' 'createtable t\nsave one\n' 'ok\nok\n' 'sync one.0.part 85\nrename one\nsync folder images\n'
+saves 'two saves' 'save one\nsave two\n' 'ok\nok\n' 'sync one.0.part 49\nrename one\nsync folder images\nsync two.0.part 49\nrename two\nsync folder images\n'
+mkdir "$work/images/more"
+saves 'a save in another folder' 'save more/one\n' 'ok\n' 'sync one.0.part 49\nrename one\nsync folder more\n'
+cp "$work/images/one" "$work/before"
+saves 'a save that is not synced' 'createtable t\nsave one\nsplits t\n' 'ok\nfault save io\nend\n' 'sync one.0.part 85\n' UNSYNCED=1
+if cmp -s "$work/images/one" "$work/before" && [ -z "$(find "$work" -name '*.part')" ]; then passed=$((passed + 1)); else
+    failed=$((failed + 1))
+    echo 'FAILED: the old file stands, and nothing is left beside it'
+fi
+
+echo "$passed passed, $failed failed"
+[ "$failed" -eq 0 ]
