@@ -1,5 +1,5 @@
 //! Taking one frame after another from a stream.
-ghost use Rattle.std.specs.Prelude.{◌≡◌, ◌<◌, ◌≤◌, ◌++◌, ℕ, List, Option, [], cond, IfOk, IfSome, length};
+ghost use Rattle.std.specs.Prelude.{◌≡◌, ◌<◌, ◌≤◌, ◌++◌, ℕ, List, Option, [], false, cond, IfOk, IfSome, length};
 ghost use Rattle.tab_io.specs.Streams.{FailsByFault};
 ghost use Rattle.tab_wire.specs.Taking.{TakesHead, Holds, Took, Gathered, TookPiece, TakesPiece, Costs, CostsNoLess, frame_in};
 ghost use Rattle.tab_wire.specs.Stream.{body_at};
@@ -109,7 +109,8 @@ impl FrameBuffer {
 
     // Forgets the frame, and keeps its memory for the next one.
     fn clear(&mut self)
-        ensures { Holds self.new [] }
+        ensures bytes { Holds self.new [] }
+        ensures lost { self.new.lost ≡ false }
     {
         self.bytes.clear();
         self.lost = false;

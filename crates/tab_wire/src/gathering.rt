@@ -1,5 +1,5 @@
 //! Bytes that are gathered in memory before they are sent.
-ghost use Rattle.std.specs.Prelude.{◌≡◌, [], Some};
+ghost use Rattle.std.specs.Prelude.{◌≡◌, [], false, Some};
 
 use std::alloc::Global;
 use tab_io::{Output, WriteFault};
@@ -24,7 +24,8 @@ impl Gathering {
 
     /// Forgets the bytes, and keeps their memory.
     pub fn clear(&mut self)
-        ensures { self.new.bytes.items ≡ [] }
+        ensures bytes { self.new.bytes.items ≡ [] }
+        ensures lost { self.new.lost ≡ false }
     {
         self.bytes.clear();
         self.lost = false;
