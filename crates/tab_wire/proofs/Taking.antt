@@ -1,10 +1,11 @@
 -- Bytes taken of a stream, one after another.
-use Rattle.std.proofs.Common.{◌≡◌, ℕ, ◌<◌, Bool, true, false, cond, ltb, List, [], ◌∷◌, ◌++◌, length, take, drop, Option, Some, None, refl, sym, ap, subst, ◌∙◌, append_assoc, append-nil, length-append, arith}
-use Rattle.std.specs.Prelude.{Result, Ok, Err, IfOk, IfSome}
+use Rattle.std.proofs.Common.{◌≡◌, ℕ, ◌<◌, ◌≤◌, ◌==◌, Bool, true, false, cond, ltb, List, [], ◌∷◌, ◌++◌, length, take, drop, Option, Some, None, refl, sym, ap, subst, ◌∙◌, append_assoc, append-nil, length-append, arith}
+use Rattle.std.specs.Prelude.{Result, Ok, Err, IfOk, OnErr, IfSome}
 use Rattle.std.specs.Int.{w32, from_be_bytes}
 use Rattle.std.specs.Io.KnownBytes.{Consumes, Keeps}
 use Rattle.std.proofs.KnownBytes.{Consumes-nil, Consumes-trans}
 use Rattle.std.proofs.lemmas.Bool.{le-ltb, lt-ltb}
+use Rattle.std.proofs.lemmas.Bool.Decides.{nat_tests}
 use Rattle.std.proofs.lemmas.List.{take_at, drop_at}
 use Rattle.tab_io.specs.declared.reading.ReadFault.{ReadFault}
 use Rattle.tab_io.specs.Streams.{IsEnd, Fills}
@@ -14,8 +15,8 @@ use Rattle.tab_wire.specs.declared.head.Head.{Head}
 use Rattle.tab_wire.specs.declared.head.Head.TheVariants as head
 use Rattle.tab_wire.specs.declared.frame.Taken.TheVariants as taken
 use Rattle.tab_wire.specs.declared.reason.Reason.TheVariants as reason
-use Rattle.tab_wire.specs.Stream.{Piece, Broken, body_at, piece_at}
-use Rattle.tab_wire.specs.Taking.{EndsAfter, Holds, Took, TakesByte, TakesHead, TookPiece, TakesPiece}
+use Rattle.tab_wire.specs.Stream.{Piece, Broken, max_frame, body_at, piece_at}
+use Rattle.tab_wire.specs.Taking.{EndsAfter, Holds, Took, TakesByte, TakesHead, TookPiece, TakesPiece, IsPart, TakesPart, TakesFewer, TakesFewerOfFrame}
 
 pub took_none : (r : Option (List ℕ)) (b : FrameBuffer) → Took r r b b []
 took_none r b = record { consumed = Consumes-nil r; added = λ gone h lost. h lost ∙ sym (append-nil gone) }
@@ -102,3 +103,30 @@ head_length all mid left frame h n (Ok what) took is behind = by_all all mid (su
     by_all None m t b = tt
     by_all (Some ahead) None t b = absurd t.3
     by_all (Some ahead) (Some more) t b = behind_head ahead t.0 more n what frame left t.3 t.1 t.2 b
+
+-- ---- parts of a piece
+-- fewer bytes than a length has
+short_is_part : (part : List ℕ) → length part < 4 → IsPart part
+unfolding piece_at
+short_is_part part few = ap (λ t. (cond t (Broken reason.Cut, []) (body_at (from_be_bytes w32 (take 4 part)) (drop 4 part))).0) (lt-ltb (length part) 4 few)
+
+pub few_part : (a b : Option (List ℕ)) → TakesFewer 4 a b → TakesPart a b
+few_part a b few = (few.0, short_is_part few.0 few.1, few.2)
+
+-- fewer bytes than a length says
+body_is_part : (four part : List ℕ) (n : ℕ) → length four ≡ 4 → n ≡ from_be_bytes w32 four → 0 < n → n ≤ max_frame → length part < n → IsPart (four ++ part)
+body_is_part four part n len n_is some most few =
+    let a : (n == 0) ≡ false = grind (arith, nat_tests) in
+    let b : ltb max_frame n ≡ false = le-ltb max_frame n most in
+    let c : ltb (length part) n ≡ true = lt-ltb (length part) n few in
+    ap (λ (p : Piece × List ℕ). p.0) (piece_behind four part len) ∙ ap (λ (m : ℕ). (body_at m part).0) (sym n_is) ∙ rw (a, b, c) refl
+
+head_part : (all mid left : Option (List ℕ)) (h : Head) (n : ℕ) → TakesHead all h mid → h ≡ head.Length n → TakesFewerOfFrame n mid left → TakesPart all left
+head_part all mid left h n took is few = behind (subst (λ (k : Head). TakesHead all k mid) is took)
+  where
+    behind : TakesHead all (head.Length n) mid → TakesPart all left
+    behind t = (t.0 ++ few.2.0, body_is_part t.0 few.2.0 n t.1 t.2 few.0 few.1 few.2.1, Consumes-trans all mid left t.0 few.2.0 t.3 few.2.2)
+
+pub head_on_part : {E : Type 0} (all mid left : Option (List ℕ)) (h : Head) (n : ℕ) (r : Result Taken E) → TakesHead all h mid → h ≡ head.Length n → OnErr r (TakesFewerOfFrame n mid left) → OnErr r (TakesPart all left)
+head_on_part all mid left h n (Ok what) took is few = tt
+head_on_part all mid left h n (Err e) took is few = head_part all mid left h n took is few

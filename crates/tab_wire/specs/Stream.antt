@@ -50,6 +50,12 @@ pieces_within (suc k) (b ∷ bytes) = let next = piece_at (b ∷ bytes) in next.
 unfoldable pub pieces_of : List ℕ → List Piece
 pieces_of bytes = pieces_within (length bytes) bytes
 
+-- the bytes begin with these pieces, one behind the other, and this stands behind the last of them
+abbrev pub AtFront : List ℕ → List Piece → List ℕ → Type 0
+AtFront bytes [] behind = behind ≡ bytes
+AtFront [] (piece ∷ pieces) behind = ⊥
+AtFront (b ∷ bytes) (piece ∷ pieces) behind = let next = piece_at (b ∷ bytes) in (next.0 ≡ piece) × AtFront next.1 pieces behind
+
 -- ---- The law: a stream is split in one way, and that is the one computed.
 abbrev pub StreamsSplitOnce : Type 0
 StreamsSplitOnce = (bytes : List ℕ) (pieces : List Piece) → IsBytes bytes → (pieces_of bytes ≡ pieces) ↔ IsStream bytes pieces

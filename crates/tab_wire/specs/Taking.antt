@@ -9,7 +9,24 @@ use Rattle.tab_wire.specs.declared.frame.Taken.TheVariants as taken
 use Rattle.tab_wire.specs.declared.head.Head.{Head}
 use Rattle.tab_wire.specs.declared.head.Head.TheVariants as head
 use Rattle.tab_wire.specs.declared.frame.FrameBuffer.{FrameBuffer}
-use Rattle.tab_wire.specs.Stream.{Piece, Frame, Broken, piece_at}
+use Rattle.tab_wire.specs.declared.reason.Reason.TheVariants as reason
+use Rattle.tab_wire.specs.Stream.{Piece, Frame, Broken, max_frame, piece_at}
+
+-- no piece is whole in these bytes: no frame, and no length that is none
+abbrev pub IsPart : List ℕ → Type 0
+IsPart bytes = (piece_at bytes).0 ≡ Broken reason.Cut
+
+-- a part of a piece was taken of what is ahead, and the rest is left
+abbrev pub TakesPart : Option (List ℕ) → Option (List ℕ) → Type 0
+TakesPart old new = (part : List ℕ) × IsPart part × Consumes old new part
+
+-- fewer bytes than so many were taken of what is ahead, and the rest is left
+abbrev pub TakesFewer : ℕ → Option (List ℕ) → Option (List ℕ) → Type 0
+TakesFewer count old new = (part : List ℕ) × (length part < count) × Consumes old new part
+
+-- the same of the bytes of a frame, of which there are so many
+abbrev pub TakesFewerOfFrame : ℕ → Option (List ℕ) → Option (List ℕ) → Type 0
+TakesFewerOfFrame count old new = (0 < count) × (count ≤ max_frame) × TakesFewer count old new
 
 -- these bytes are all that is ahead
 abbrev pub EndsAfter : Option (List ℕ) → List ℕ → Type 0

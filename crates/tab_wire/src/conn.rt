@@ -6,7 +6,7 @@ ghost use Rattle.tab_wire.specs.Asking.{new_conn, IsRead, IsBy, MayAsk, Hears, A
 ghost use Rattle.tab_wire.specs.Heard.{heard_by, next_by};
 ghost use Rattle.tab_wire.specs.Replies.{sent_bytes, sent_of};
 ghost use Rattle.tab_wire.specs.Stream.{Frame};
-ghost use Rattle.tab_wire.specs.Taking.{Costs};
+ghost use Rattle.tab_wire.specs.Taking.{TakesPart, Costs};
 
 use crate::frame::{FrameBuffer, Taken};
 use crate::read::read_request;
@@ -60,7 +60,7 @@ impl Conn {
     /// A request is one of the connection's user, who is known by then: Hello has named him, or names him.
     ///
     /// How the input is cut into reads makes no difference. A frame for which memory lacks is read to its end. After an error a
-    /// beginning of a frame may be lost, and nothing more can be asked.
+    /// beginning of a frame may be lost, no whole one is, and nothing more can be asked.
     pub fn ask<R: Input>(
         &mut self,
         alloc: Global,
@@ -69,6 +69,7 @@ impl Conn {
         ensures ahead { IfOk result (λ asked. IfSome (R.remaining input.old) (λ ahead. Asks (is_some self.old.user) ahead (next_by self.new.user asked) (R.remaining input.new))) }
         ensures ok { IfOk result (λ asked. Knows self.old (next_by self.new.user asked) self.new) }
         ensures err { OnErr result (self.new ≡ self.old) }
+        ensures left { OnErr result (TakesPart (R.remaining input.old) (R.remaining input.new)) }
         ensures faults { FailsByFault result (R.faults input.old) (R.faults input.new) (R.budget input.new) }
         ensures costs { IfOk result (λ _. Costs R.Input input.old input.new) }
     {

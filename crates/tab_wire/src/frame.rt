@@ -1,7 +1,7 @@
 //! Taking one frame after another from a stream.
-ghost use Rattle.std.specs.Prelude.{◌≡◌, ◌<◌, ◌≤◌, ◌++◌, ℕ, List, Option, [], false, cond, IfOk, IfSome, length};
+ghost use Rattle.std.specs.Prelude.{◌≡◌, ◌<◌, ◌≤◌, ◌++◌, ℕ, List, Option, [], false, cond, IfOk, OnErr, IfSome, length};
 ghost use Rattle.tab_io.specs.Streams.{FailsByFault};
-ghost use Rattle.tab_wire.specs.Taking.{TakesHead, Holds, Took, Gathered, TookPiece, TakesPiece, Costs, CostsNoLess, frame_in};
+ghost use Rattle.tab_wire.specs.Taking.{TakesHead, Holds, Took, Gathered, TookPiece, TakesPiece, TakesPart, TakesFewer, TakesFewerOfFrame, Costs, CostsNoLess, frame_in};
 ghost use Rattle.tab_wire.specs.Stream.{body_at};
 
 use crate::Reason;
@@ -54,9 +54,10 @@ impl FrameBuffer {
     }
 
     /// Takes the next frame, or what is no frame. Behind a frame the rest of the stream is left; behind what is no frame nothing is
-    /// said of it. After an error a beginning of a frame may be lost: nothing more can be taken.
+    /// said of it. After an error a beginning of a frame may be lost, and no whole one is: nothing more can be taken.
     pub fn take<R: Input>(&mut self, input: &mut R) -> Result<Taken, ReadFault>
         ensures bytes { IfOk result (λ taken. IfSome (R.remaining input.old) (λ ahead. TakesPiece ahead taken (frame_in self.new) (R.remaining input.new))) }
+        ensures err { OnErr result (TakesPart (R.remaining input.old) (R.remaining input.new)) }
         ensures faults { FailsByFault result (R.faults input.old) (R.faults input.new) (R.budget input.new) }
         ensures costs { IfOk result (λ _. Costs R.Input input.old input.new) }
     {
@@ -67,6 +68,7 @@ impl FrameBuffer {
     // Takes what stands behind this.
     fn take_behind<R: Input>(&mut self, input: &mut R, head: Head) -> Result<Taken, ReadFault>
         ensures bytes { (all : Option (List ℕ)) → TakesHead all head (R.remaining input.old) → IfOk result (λ taken. IfSome all (λ ahead. TakesPiece ahead taken (frame_in self.new) (R.remaining input.new))) }
+        ensures err { (all : Option (List ℕ)) → TakesHead all head (R.remaining input.old) → OnErr result (TakesPart all (R.remaining input.new)) }
         ensures faults { FailsByFault result (R.faults input.old) (R.faults input.new) (R.budget input.new) }
         ensures costs { IfOk result (λ _. CostsNoLess R.Input input.old input.new) }
     {
@@ -80,6 +82,7 @@ impl FrameBuffer {
     // Takes the bytes behind a length.
     fn take_body<R: Input>(&mut self, input: &mut R, count: u32) -> Result<Taken, ReadFault>
         ensures bytes { IfOk result (λ taken. IfSome (R.remaining input.old) (λ more. TookPiece (body_at count more) taken (frame_in self.new) (R.remaining input.new))) }
+        ensures err { OnErr result (TakesFewerOfFrame count (R.remaining input.old) (R.remaining input.new)) }
         ensures faults { FailsByFault result (R.faults input.old) (R.faults input.new) (R.budget input.new) }
         ensures costs { IfOk result (λ _. CostsNoLess R.Input input.old input.new) }
     {
@@ -149,6 +152,7 @@ impl FrameBuffer {
     // Takes so many bytes. Whether they were there.
     fn gather<R: Input>(&mut self, input: &mut R, count: u32) -> Result<bool, ReadFault>
         ensures bytes { IfOk result (λ whole. Gathered (R.remaining input.old) (R.remaining input.new) self.old self.new count whole) }
+        ensures err { OnErr result (TakesFewer count (R.remaining input.old) (R.remaining input.new)) }
         ensures faults { FailsByFault result (R.faults input.old) (R.faults input.new) (R.budget input.new) }
         ensures costs { IfOk result (λ _. CostsNoLess R.Input input.old input.new) }
     {

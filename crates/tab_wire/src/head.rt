@@ -1,7 +1,8 @@
 //! What stands before the bytes of a frame: its length.
-ghost use Rattle.std.specs.Prelude.{IfOk};
+ghost use Rattle.std.specs.Prelude.{IfOk, OnErr};
+ghost use Rattle.std.specs.Io.KnownBytes.{Keeps};
 ghost use Rattle.tab_io.specs.Streams.{Fills, FailsByFault};
-ghost use Rattle.tab_wire.specs.Taking.{TakesByte, TakesHead, Costs, Looked};
+ghost use Rattle.tab_wire.specs.Taking.{TakesByte, TakesHead, TakesFewer, Costs, Looked};
 
 use tab_io::{Input, ReadFault};
 
@@ -31,6 +32,7 @@ pub fn has_more<R: Input>(input: &mut R) -> Result<bool, ReadFault>
 // Takes one byte, if there is one.
 fn next_byte<R: Input>(input: &mut R) -> Result<Option<u8>, ReadFault>
     ensures bytes { IfOk result (λ byte. TakesByte (R.remaining input.old) byte (R.remaining input.new)) }
+    ensures err { OnErr result (Keeps (R.remaining input.old) (R.remaining input.new)) }
     ensures faults { FailsByFault result (R.faults input.old) (R.faults input.new) (R.budget input.new) }
     ensures costs { IfOk result (λ _. Costs R.Input input.old input.new) }
 {
@@ -42,9 +44,10 @@ fn next_byte<R: Input>(input: &mut R) -> Result<Option<u8>, ReadFault>
     Ok(Some(byte))
 }
 
-/// Takes a length.
+/// Takes a length. After an error a part of it may be lost.
 pub fn take_head<R: Input>(input: &mut R) -> Result<Head, ReadFault>
     ensures bytes { IfOk result (λ head. TakesHead (R.remaining input.old) head (R.remaining input.new)) }
+    ensures err { OnErr result (TakesFewer 4 (R.remaining input.old) (R.remaining input.new)) }
     ensures faults { FailsByFault result (R.faults input.old) (R.faults input.new) (R.budget input.new) }
     ensures costs { IfOk result (λ _. Costs R.Input input.old input.new) }
 {

@@ -1,8 +1,14 @@
 use Rattle.std.proofs.Common.{◌++◌, inr, ◌∙◌, arith, length-append}
+use Rattle.std.proofs.KnownBytes.{Consumes-kept}
 use Rattle.tab_wire.specs.Taking.{CostsNoLess}
 use Rattle.tab_wire.proofs.Taking.{kept_by, kept_took, took_more}
 use Rattle.tab_wire.proofs.Costing.{both_cost, looked_some}
 use Rattle.tab_wire.proofs.frame.FrameBuffer.gather.Goals as goal
+
+pub returns-in-Err-clause-err : goal.returns-in-Err-clause-err
+returns-in-Err-clause-err g c =
+    let before = c.loop-need.invariant.0 in
+    (before.0, omega (arith, before.1, c.loop-need-test.true), Consumes-kept _ _ _ before.0 before.2.consumed c.in-Err.ensures.bytes)
 
 pub loop-need-preserved : goal.loop-need-preserved
 loop-need-preserved g c =
