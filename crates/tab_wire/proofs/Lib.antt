@@ -2,10 +2,12 @@ pub mod FrameLaw
 pub mod Gathered
 pub mod RequestLaw
 pub mod ReasonLaw
+pub mod TellLaw
 pub mod NoSlots
 pub mod StreamLaw
 pub mod Seen
 pub mod SetLemmas
+pub mod BitSteps
 pub mod Loop
 pub mod Updating
 pub mod OpcodeLemmas

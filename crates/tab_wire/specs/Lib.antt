@@ -4,6 +4,9 @@ pub mod Requests
 pub mod Forms
 pub mod Stream
 pub mod Replies
+pub mod Tells
+pub mod Answering
+pub mod TellLaws
 pub mod Values
 pub mod Updating
 pub mod Gives

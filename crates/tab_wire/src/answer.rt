@@ -1,4 +1,6 @@
 //! What one request is answered: of one frame, or of a list of them.
+ghost use Rattle.std.specs.Prelude.{◌≡◌, ◌&&◌};
+ghost use Rattle.tab_wire.specs.Answering.{SoFar, listed, none_so_far, is_empty, ended, alone, comes, Says};
 
 use crate::client::ReceiveFault;
 use crate::reason::Reason;
@@ -29,7 +31,9 @@ pub struct Listed {
 
 impl Listed {
     /// Nothing was told yet.
-    pub fn new(alloc: Global) -> Listed {
+    pub fn new(alloc: Global) -> Listed
+        ensures { listed result ≡ none_so_far }
+    {
         Listed {
             alloc,
             cells: Cells::new(alloc),
@@ -50,19 +54,25 @@ impl Listed {
         }
     }
 
-    fn is_empty(&self) -> bool {
-        self.cells.is_empty() && self.ranges.is_empty() && self.rows.is_empty()
+    fn is_empty(&self) -> bool
+        ensures { result ≡ (is_empty self.now.cells && (is_empty self.now.ranges.items && is_empty self.now.rows.items)) }
+    {
+        self.cells.is_empty() && (self.ranges.is_empty() && self.rows.is_empty())
     }
 
-    fn add_cell(&mut self, record: Record) -> Result<Option<Answer>, ReceiveFault> {
+    fn add_cell(&mut self, shown: Record) -> Result<Option<Answer>, ReceiveFault>
+        ensures { Says (comes (listed self.old) (Told.Cell shown)) result (listed self.new) }
+    {
         if !self.rows.is_empty() {
             return Err(ReceiveFault::Bad);
         }
-        self.cells.push(&record.as_ref())?;
+        self.cells.push(&shown.as_ref())?;
         Ok(None)
     }
 
-    fn end_range(&mut self) -> Result<Option<Answer>, ReceiveFault> {
+    fn end_range(&mut self) -> Result<Option<Answer>, ReceiveFault>
+        ensures { Says (comes (listed self.old) Told.RangeEnd) result (listed self.new) }
+    {
         if !self.rows.is_empty() {
             return Err(ReceiveFault::Bad);
         }
@@ -72,7 +82,9 @@ impl Listed {
         Ok(None)
     }
 
-    fn add_row(&mut self, row: ByteString) -> Result<Option<Answer>, ReceiveFault> {
+    fn add_row(&mut self, row: ByteString) -> Result<Option<Answer>, ReceiveFault>
+        ensures { Says (comes (listed self.old) (Told.Row row)) result (listed self.new) }
+    {
         if !self.cells.is_empty() || !self.ranges.is_empty() {
             return Err(ReceiveFault::Bad);
         }
@@ -81,7 +93,9 @@ impl Listed {
     }
 
     // The whole list. Cells behind the last range are in none.
-    fn end(&mut self) -> Result<Option<Answer>, ReceiveFault> {
+    fn end(&mut self) -> Result<Option<Answer>, ReceiveFault>
+        ensures { Says (ended (listed self.old)) result (listed self.new) }
+    {
         let cells = mem::replace(&mut self.cells, Cells::new(self.alloc));
         let ranges = mem::replace(&mut self.ranges, Vec::new(self.alloc));
         let rows = mem::replace(&mut self.rows, Vec::new(self.alloc));
@@ -99,7 +113,9 @@ impl Listed {
 }
 
 // The answer of one frame.
-fn alone(told: Told) -> Result<Option<Answer>, ReceiveFault> {
+fn alone(told: Told) -> Result<Option<Answer>, ReceiveFault>
+    ensures { (s : SoFar) → Says (alone told) result s }
+{
     match told {
         Told::Done => Ok(Some(Answer::Reply(Reply::Done))),
         Told::Refused(refusal) => Ok(Some(Answer::Reply(Reply::Refused(refusal)))),

@@ -4,12 +4,15 @@ ghost use Rattle.tab_label.specs.Sets.{byte_lists, set_of};
 ghost use Rattle.tab_parts.specs.Reading.{u32_at, parts_at, counted_at, list_at};
 ghost use Rattle.tab_wire.specs.Gives.{Gives, bytes_left};
 ghost use Rattle.tab_wire.specs.FrameReading.{columns_at, ranges_at};
+ghost use Rattle.tab_wire.specs.Tells.{violations_at};
 
 use crate::fields::{Fields, a_field, a_number};
 use crate::parts::{a_column, a_range};
+use crate::told::a_violation;
 use crate::unread::Unread;
 use std::alloc::Global;
 use tab_key::{Bounds, Column, Items};
+use tab_rules::Violation;
 
 /// What can stand behind a count.
 pub trait Part: Drop {
@@ -75,6 +78,21 @@ impl Part for Bounds {
     }
 }
 
+impl Part for Violation {
+    ghost use Rattle.tab_rules.specs.declared.violation.Violation.{Violation as Failing};
+    ghost use Rattle.tab_wire.specs.Tells.{violation_at};
+
+    ghost Meaning = { Failing };
+
+    ghost meaning_of = { λ v. v };
+
+    ghost reads = { violation_at };
+
+    fn take(_alloc: Global, fields: &mut Fields) -> Result<Violation, Unread> {
+        a_violation(fields)
+    }
+}
+
 // Takes that many parts.
 fn parts<T: Part>(alloc: Global, count: u32, fields: &mut Fields) -> Result<Vec<T>, Unread>
     ensures { Gives (λ x. (map T.meaning_of x.items, bytes_left fields.new)) result (parts_at T.reads count (bytes_left fields.old)) }
@@ -121,6 +139,14 @@ fn ranges(alloc: Global, fields: &mut Fields) -> Result<Vec<Bounds>, Unread>
     counted(alloc, 2, fields)
 }
 
+// Takes a count of what fails, and that much of it.
+#[tactic(auto, unfolding(crate::specs::Tells::violations_at), using(crate::proofs::Seen::seen_whole))]
+fn violations(alloc: Global, fields: &mut Fields) -> Result<Vec<Violation>, Unread>
+    ensures { Gives (λ x. (x.items, bytes_left fields.new)) result (violations_at (bytes_left fields.old)) }
+{
+    counted(alloc, 6, fields)
+}
+
 /// Takes a list of columns.
 pub fn some_columns(alloc: Global, fields: &mut Fields) -> Result<Items<Column>, Unread>
     ensures { Gives (λ x. (x, bytes_left fields.new)) result (columns_at (bytes_left fields.old)) }
@@ -133,4 +159,11 @@ pub fn some_ranges(alloc: Global, fields: &mut Fields) -> Result<Items<Bounds>, 
     ensures { Gives (λ x. (x, bytes_left fields.new)) result (ranges_at (bytes_left fields.old)) }
 {
     Ok(Items::from_vec(ranges(alloc, fields)?))
+}
+
+/// Takes a list of what fails.
+pub fn some_violations(alloc: Global, fields: &mut Fields) -> Result<Items<Violation>, Unread>
+    ensures { Gives (λ x. (x, bytes_left fields.new)) result (violations_at (bytes_left fields.old)) }
+{
+    Ok(Items::from_vec(violations(alloc, fields)?))
 }

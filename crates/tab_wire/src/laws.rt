@@ -2,6 +2,7 @@
 ghost use Rattle.tab_wire.specs.Forms.{RequestsAreForms, RequestsInTurn, ReasonsAreFirst};
 ghost use Rattle.tab_wire.specs.Stream.{StreamsSplitOnce};
 ghost use Rattle.tab_wire.specs.TalkLaws.{TalksStayLegal};
+ghost use Rattle.tab_wire.specs.TellLaws.{RefusalsAreTold};
 
 /// Reading the bytes of a frame gives exactly what the forms of requests say.
 #[tactic(auto, using(crate::proofs::RequestLaw::requests_are_forms))]
@@ -31,4 +32,10 @@ pub fn streams_split_once()
 #[tactic(auto, using(crate::proofs::WholeTalks::talks_stay))]
 pub fn talks_stay_legal()
     ensures { TalksStayLegal }
+{}
+
+/// A refusal is read of the frame that is written of it, and of no other one, and so is why a frame asked nothing.
+#[tactic(auto, using(crate::proofs::TellLaw::refusals_are_told))]
+pub fn refusals_are_told()
+    ensures { RefusalsAreTold }
 {}

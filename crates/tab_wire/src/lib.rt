@@ -50,15 +50,15 @@
 //! | `asking`, `sending`, `gathering` | the bytes of requests, gathered as a client sends them |
 //! | `told`, `answer` | what one frame of a reply tells, and what all frames of one do |
 //! | `client` | the client's side of a connection: `Client` |
-//! | `laws` | reading is exactly the forms, the first reason is told, a stream is split in one way, a connection makes a legal history |
+//! | `laws` | reading is exactly the forms, the first reason is told, refusals are read as they are written, a stream is split in one way, a connection makes a legal history |
 //!
 //! In `specs`, `Forms` says what each frame asks, with one form for each opcode, and nothing of how it is read; `Requests` reads it, of
 //! the parts in `FrameParts` and `FrameReading` and those of crate `tab_parts`. `Stream` says how bytes are split into frames, `Replies` has
-//! the bytes of each reply, `Values` what they are put of, `Gives` and `Updating` say what the code's results stand for, and `Examples`
+//! the bytes of each reply, `Tells` reads what one of its frames tells, with the law on that in `TellLaws`, `Values` what they are put of, `Gives` and `Updating` say what the code's results stand for, and `Examples`
 //! computes examples. `Taking` says what is taken of a stream, `Heard` what is asked and by whom, `Asking` what a connection knows and what comes next on it, and `Talking`
 //! what a whole connection comes to, frame by frame: the steps that its bytes spell, the moments that its events take, and what is replied;
 //! `TalkLaws` has the law on that. `Sending` has the bytes of each request, of which a client makes its frames. In `proofs`, `FrameLaw` and `RequestLaw` show that reading is exactly the forms, `ReasonLaw` which reason is
-//! first, `NoSlots` that no frame names the slot of a job, `StreamLaw` that a stream is split in one way, `WholeTalks` that a connection makes a legal history; the others have lemmas for the code.
+//! first, `TellLaw` that a refusal is read as it is written, `NoSlots` that no frame names the slot of a job, `StreamLaw` that a stream is split in one way, `WholeTalks` that a connection makes a legal history; the others have lemmas for the code.
 #![tactic(auto)]
 
 mod answer;
@@ -93,7 +93,8 @@ pub use asked::Asked;
 pub use client::{Client, ReceiveFault, SendFault};
 pub use conn::Conn;
 pub use laws::{
-    reasons_are_first, requests_are_forms, requests_in_turn, streams_split_once, talks_stay_legal,
+    reasons_are_first, refusals_are_told, requests_are_forms, requests_in_turn, streams_split_once,
+    talks_stay_legal,
 };
 pub use opcode::Opcode;
 pub use read::{Stop, read_request};

@@ -1,6 +1,10 @@
 //! What the frames of replies tell, read.
+ghost use Rattle.tab_parts.specs.Reading.{u8_at, picked, tagged};
+ghost use Rattle.tab_wire.specs.Gives.{Gives, bytes_left};
+ghost use Rattle.tab_wire.specs.Tells.{part_of, reason_of, split_fault_of, constraint_of, end_of, table_of, violation_at, malformed_at, below_by, refusal_by, refused_at, cell_at, counts_at, rights_at, told_by, told_in};
 
-use crate::counted::a_list;
+use crate::bits::{system_in, table_in};
+use crate::counted::{a_list, some_violations};
 use crate::fields::{
     Fields, a_byte, a_byte_string, a_field, a_long_number, a_name, a_number, a_signed_number,
 };
@@ -9,9 +13,9 @@ use crate::reason::Reason;
 use crate::unread::Unread;
 use std::alloc::Global;
 use tab_history::{Counts, Refusal, Rights, SplitFault};
-use tab_key::{ByteString, Items, Key, Kind, Part, Record};
+use tab_key::{ByteString, Key, Kind, Part, Record};
 use tab_label::AuthSet;
-use tab_policy::{SystemPermission, SystemPermissions, TablePermission, TablePermissions};
+use tab_policy::TablePermissions;
 use tab_rules::{Constraint, Violation};
 
 /// What one frame of a reply tells.
@@ -40,7 +44,10 @@ pub enum Told {
 }
 
 /// What the frame tells; the bytes are those of one frame, without its length. `Field` where no reply has such a frame.
-pub fn read_told(alloc: Global, frame: &[u8]) -> Result<Told, Unread> {
+#[tactic(auto, unfolding(crate::specs::Tells::told_in))]
+pub fn read_told(alloc: Global, frame: &[u8]) -> Result<Told, Unread>
+    ensures { Gives (λ x. x) result (told_in frame.now) }
+{
     let mut fields = Fields::of(frame);
     let told = opcode_and_fields(alloc, &mut fields)?;
     if !fields.rest.is_empty() {
@@ -50,7 +57,9 @@ pub fn read_told(alloc: Global, frame: &[u8]) -> Result<Told, Unread> {
 }
 
 // Takes an opcode, and its fields.
-fn opcode_and_fields(alloc: Global, fields: &mut Fields) -> Result<Told, Unread> {
+fn opcode_and_fields(alloc: Global, fields: &mut Fields) -> Result<Told, Unread>
+    ensures { Gives (λ x. (x, bytes_left fields.new)) result (tagged told_by (bytes_left fields.old)) }
+{
     match a_byte(fields)? {
         0x80 => Ok(Told::Done),
         0x81 => a_refused(alloc, fields),
@@ -66,14 +75,19 @@ fn opcode_and_fields(alloc: Global, fields: &mut Fields) -> Result<Told, Unread>
 }
 
 // Takes the byte of an end.
-fn an_end(fields: &mut Fields) -> Result<Told, Unread> {
+fn an_end(fields: &mut Fields) -> Result<Told, Unread>
+    ensures { Gives (λ x. (x, bytes_left fields.new)) result (picked end_of u8_at (bytes_left fields.old)) }
+{
     match a_byte(fields)? {
         0 | 1 => Ok(Told::End),
         _ => Err(Unread::Field),
     }
 }
 
-fn a_cell(alloc: Global, fields: &mut Fields) -> Result<Record, Unread> {
+#[tactic(auto, unfolding(crate::specs::Tells::cell_at))]
+fn a_cell(alloc: Global, fields: &mut Fields) -> Result<Record, Unread>
+    ensures { Gives (λ x. (x, bytes_left fields.new)) result (cell_at (bytes_left fields.old)) }
+{
     let row = a_field(fields)?;
     let family = a_field(fields)?;
     let qualifier = a_field(fields)?;
@@ -93,7 +107,10 @@ fn a_cell(alloc: Global, fields: &mut Fields) -> Result<Record, Unread> {
     }
 }
 
-fn some_counts(fields: &mut Fields) -> Result<Counts, Unread> {
+#[tactic(auto, unfolding(crate::specs::Tells::counts_at))]
+fn some_counts(fields: &mut Fields) -> Result<Counts, Unread>
+    ensures { Gives (λ x. (x, bytes_left fields.new)) result (counts_at (bytes_left fields.old)) }
+{
     let tablets = a_long_number(fields)?;
     let sources = a_long_number(fields)?;
     let records = a_long_number(fields)?;
@@ -104,13 +121,12 @@ fn some_counts(fields: &mut Fields) -> Result<Counts, Unread> {
     })
 }
 
-fn some_rights(alloc: Global, fields: &mut Fields) -> Result<Rights, Unread> {
+#[tactic(auto, unfolding(crate::specs::Tells::rights_at))]
+fn some_rights(alloc: Global, fields: &mut Fields) -> Result<Rights, Unread>
+    ensures { Gives (λ x. (x, bytes_left fields.new)) result (rights_at (bytes_left fields.old)) }
+{
     let system = system_in(a_byte(fields)?);
-    let bits = a_byte(fields)?;
-    if bits >= 32 {
-        return Err(Unread::Field);
-    }
-    let table = table_in(bits);
+    let table = some_table_rights(fields)?;
     let authorizations = AuthSet::new(a_list(alloc, fields)?);
     Ok(Rights {
         system,
@@ -119,34 +135,22 @@ fn some_rights(alloc: Global, fields: &mut Fields) -> Result<Rights, Unread> {
     })
 }
 
-// The permissions whose bits are set; bit 0 is the first one.
-fn system_in(bits: u8) -> SystemPermissions {
-    let mut rest = bits;
-    let mut held = SystemPermissions::none();
-    for permission in SystemPermission::ALL {
-        if rest % 2 == 1 {
-            held = held.with(permission);
-        }
-        rest /= 2;
+fn some_table_rights(fields: &mut Fields) -> Result<TablePermissions, Unread>
+    ensures { Gives (λ x. (x, bytes_left fields.new)) result (picked table_of u8_at (bytes_left fields.old)) }
+{
+    let bits = a_byte(fields)?;
+    if bits < 32 {
+        Ok(table_in(bits))
+    } else {
+        Err(Unread::Field)
     }
-    held
-}
-
-// The same for the permissions on a table.
-fn table_in(bits: u8) -> TablePermissions {
-    let mut rest = bits;
-    let mut held = TablePermissions::none();
-    for permission in TablePermission::ALL {
-        if rest % 2 == 1 {
-            held = held.with(permission);
-        }
-        rest /= 2;
-    }
-    held
 }
 
 // Takes the number of a refusal, and what it tells.
-fn a_refused(alloc: Global, fields: &mut Fields) -> Result<Told, Unread> {
+#[tactic(auto, unfolding(crate::specs::Tells::refused_at))]
+fn a_refused(alloc: Global, fields: &mut Fields) -> Result<Told, Unread>
+    ensures { Gives (λ x. (x, bytes_left fields.new)) result (refused_at (bytes_left fields.old)) }
+{
     let number = a_byte(fields)?;
     if number == 16 {
         return Ok(Told::BadFrame(a_reason(fields)?));
@@ -155,7 +159,9 @@ fn a_refused(alloc: Global, fields: &mut Fields) -> Result<Told, Unread> {
 }
 
 // Takes what goes with the number of a refusal.
-fn a_refusal(alloc: Global, number: u8, fields: &mut Fields) -> Result<Refusal, Unread> {
+fn a_refusal(alloc: Global, number: u8, fields: &mut Fields) -> Result<Refusal, Unread>
+    ensures { Gives (λ x. (x, bytes_left fields.new)) result (refusal_by number (bytes_left fields.old)) }
+{
     match number {
         1 => Ok(Refusal::UnknownUser(a_name(fields)?)),
         2 => Ok(Refusal::NoTable(a_name(fields)?)),
@@ -181,40 +187,30 @@ fn a_refusal(alloc: Global, number: u8, fields: &mut Fields) -> Result<Refusal, 
     }
 }
 
-fn a_malformed_visibility(fields: &mut Fields) -> Result<Refusal, Unread> {
+#[tactic(auto, unfolding(crate::specs::Tells::malformed_at))]
+fn a_malformed_visibility(fields: &mut Fields) -> Result<Refusal, Unread>
+    ensures { Gives (λ x. (x, bytes_left fields.new)) result (malformed_at (bytes_left fields.old)) }
+{
     let update = a_number(fields)?;
     let offset = a_number(fields)?;
     Ok(Refusal::MalformedVisibility(update, offset))
 }
 
-fn a_refusal_by_time(fields: &mut Fields) -> Result<Refusal, Unread> {
+fn a_refusal_by_time(fields: &mut Fields) -> Result<Refusal, Unread>
+    ensures { Gives (λ x. (x, bytes_left fields.new)) result (tagged below_by (bytes_left fields.old)) }
+{
     match a_byte(fields)? {
         1 => Ok(Refusal::BelowHorizon(a_number(fields)?)),
         _ => Err(Unread::Field),
     }
 }
 
-// Takes a count, and that many violations of six bytes. A count that the rest can't hold takes no memory.
-fn some_violations(alloc: Global, fields: &mut Fields) -> Result<Items<Violation>, Unread> {
-    let count = a_number(fields)?;
-    if fields.rest.len() < count as usize * 6 {
-        return Err(Unread::Field);
-    }
-    let mut violations = Vec::new(alloc);
-    for _ in 0..count {
-        violations.push(a_violation(fields)?)?;
-    }
-    Ok(Items::from_vec(violations))
-}
-
-fn a_violation(fields: &mut Fields) -> Result<Violation, Unread> {
-    let constraint = match a_byte(fields)? {
-        1 => Constraint::KeySize,
-        2 => Constraint::Alphanumeric,
-        3 => Constraint::Numeric,
-        4 => Constraint::Visibility,
-        _ => return Err(Unread::Field),
-    };
+/// Takes what fails: a constraint's number, the code, and the update.
+#[tactic(auto, unfolding(crate::specs::Tells::violation_at))]
+pub fn a_violation(fields: &mut Fields) -> Result<Violation, Unread>
+    ensures { Gives (λ x. (x, bytes_left fields.new)) result (violation_at (bytes_left fields.old)) }
+{
+    let constraint = a_constraint(fields)?;
     let code = a_byte(fields)?;
     let update = a_number(fields)?;
     Ok(Violation {
@@ -224,7 +220,21 @@ fn a_violation(fields: &mut Fields) -> Result<Violation, Unread> {
     })
 }
 
-fn a_part(fields: &mut Fields) -> Result<Part, Unread> {
+fn a_constraint(fields: &mut Fields) -> Result<Constraint, Unread>
+    ensures { Gives (λ x. (x, bytes_left fields.new)) result (picked constraint_of u8_at (bytes_left fields.old)) }
+{
+    match a_byte(fields)? {
+        1 => Ok(Constraint::KeySize),
+        2 => Ok(Constraint::Alphanumeric),
+        3 => Ok(Constraint::Numeric),
+        4 => Ok(Constraint::Visibility),
+        _ => Err(Unread::Field),
+    }
+}
+
+fn a_part(fields: &mut Fields) -> Result<Part, Unread>
+    ensures { Gives (λ x. (x, bytes_left fields.new)) result (picked part_of u8_at (bytes_left fields.old)) }
+{
     match a_byte(fields)? {
         1 => Ok(Part::Updates),
         2 => Ok(Part::Row),
@@ -241,7 +251,9 @@ fn a_part(fields: &mut Fields) -> Result<Part, Unread> {
     }
 }
 
-fn a_reason(fields: &mut Fields) -> Result<Reason, Unread> {
+fn a_reason(fields: &mut Fields) -> Result<Reason, Unread>
+    ensures { Gives (λ x. (x, bytes_left fields.new)) result (picked reason_of u8_at (bytes_left fields.old)) }
+{
     match a_byte(fields)? {
         1 => Ok(Reason::Empty),
         2 => Ok(Reason::TooLong),
@@ -253,7 +265,9 @@ fn a_reason(fields: &mut Fields) -> Result<Reason, Unread> {
     }
 }
 
-fn a_split_fault(fields: &mut Fields) -> Result<SplitFault, Unread> {
+fn a_split_fault(fields: &mut Fields) -> Result<SplitFault, Unread>
+    ensures { Gives (λ x. (x, bytes_left fields.new)) result (picked split_fault_of u8_at (bytes_left fields.old)) }
+{
     match a_byte(fields)? {
         0 => Ok(SplitFault::Present),
         1 => Ok(SplitFault::Small),
