@@ -11,7 +11,7 @@ pub trait Gate {
     /// Before the sources of a compaction are merged.
     fn before_merge(&self);
 
-    /// Before a batch of a session is cut.
+    /// Before a batch of a session is cut: at each Next of a connection, and at no Many.
     fn before_batch(&self);
 
     /// Behind each Write that was done.

@@ -17,7 +17,7 @@ use tab_serve::{Moments, ServeFault, converse};
 /// Each event is the seat's next one, at the next moment, in the order of the frames: the book does it, and its receipt, without its
 /// session, is added to those that are lent. Its reply is what is told, and the gate is told of a Write that was done. The connection begins
 /// without sessions, which end with it; a batch is cut from the session that came with the receipt of its Open, outside of the book's lock,
-/// once the gate was asked. Hello, what is asked of a session, what is no request, and an Open past the limit of sessions take no moment.
+/// and so is the answer in ranges. The gate is asked before each Next, whether its session is there or not, and before no Many. Hello, what is asked of a session, what is no request, and an Open past the limit of sessions take no moment.
 /// Where the receipts, the sessions or the book's history can't grow, the event is refused for want of memory, and doesn't happen.
 ///
 /// How the input is cut into reads makes no difference. Replies are written before a read that may wait. After an error the requests

@@ -65,6 +65,9 @@ fn install_to<L: Origin>(
 
 /// A book under a lock. Each event of each thread is one step of the book; nothing is read, written, merged or waited for while it is
 /// locked.
+///
+/// A contract sees nothing of what lies under the lock, since other threads may change it at any time: which book that is, how many seats
+/// it has given, and what its core holds. What isn't said for that reason is said by the calls of the book that are made there.
 #[derive(Drop)]
 pub struct Shared<L: Origin> {
     desk: Mutex<Desk<L>>,
@@ -80,7 +83,8 @@ impl<L: Origin> Shared<L> {
         }
     }
 
-    /// A new seat, which has seen nothing and has no entry. There are 4,294,967,295 of them.
+    /// A new seat, which has seen nothing and has no entry. There are 4,294,967,295 of them, and none behind the last: that there is one
+    /// until then isn't said here, but by [`Book::join`].
     pub fn join(&self, rt: &impl Wait) -> Option<Seat<L>>
         ensures { IfSome result (λ s. (s.seen ≡ 0) × (s.count ≡ 0)) }
     {
@@ -166,6 +170,9 @@ impl<L: Origin> Shared<L> {
 
     /// What is due first, with the table and the least row of its tablet: none where nothing is. It takes time linear in the tablets, and
     /// memory for the row alone.
+    ///
+    /// It is what is due in the book's own core at some moment of the call. Here it is said of a core that refines a history, legal from what
+    /// the book's core held at first: that this is the book's isn't.
     pub fn due(
         &self,
         rt: &impl Wait,
@@ -177,7 +184,8 @@ impl<L: Origin> Shared<L> {
         due_in(alloc, &desk.book)
     }
 
-    /// Ends it, where all seats are back. The book has as many entries as they counted.
+    /// Ends it, where all seats are back. The book has as many entries as they counted. Else all comes back, with the number of seats that
+    /// are out: that there are some is said here, and by [`Book::end`] how many.
     pub fn end(self, seats: Vec<Seat<L>>) -> Result<Book<L>, (Shared<L>, Vec<Seat<L>>, SeatsOut)>
         ensures ok { IfOk result (λ b. next_of b ≡ sum_by (λ s. s.count) seats.items) }
         ensures err { IfErr result (λ r. (r.1 ≡ seats) × (0 < r.2.0)) }
