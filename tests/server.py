@@ -6,12 +6,12 @@ import select
 import socket
 import struct
 import subprocess
-import sys
 import time
 
 from serving import HELLO, MAKE, OK, PATIENCE, PROGRAM, Server, count, field, frame, free_port, read_exactly, read_frame, run, run_parts
 
 TOP = os.path.dirname(os.path.dirname(os.path.abspath(__file__)))
+
 
 # ---- Command lines.
 def refused_command_lines():
