@@ -1,6 +1,6 @@
 #!/usr/bin/env bash
-# What build.sh does: the order of crates, what it says, what it keeps, and what it leaves where it fails or is interrupted. It runs over a
-# small checkout with a stand-in for `rt`, so that nothing is proved here.
+# What build.sh does: the order of crates, what it says, what it keeps, and what it leaves where it fails or is interrupted; and what ./prove
+# says of the release. They run over a small checkout with a stand-in for `rt`, so that nothing is proved here.
 # Usage: tests/build.sh   (from anywhere; wants python3)
 set -u
 top=$(cd "$(dirname -- "${BASH_SOURCE[0]}")/.." && pwd)
@@ -9,7 +9,11 @@ work=$(mktemp -d) || exit 1
 trap 'rm -rf "$work"' EXIT
 here=$work/checkout bin=$work/bin
 mkdir -p "$here" "$bin"
-cp -R "$top/build.sh" "$top/dev" "$here/"
+cp -R "$top/build.sh" "$top/dev" "$top/prove" "$here/"
+mkdir "$here/release"
+cp "$top/release/program" "$top/release/sources" "$here/release/"
+printf '#!/bin/sh\ncat "$1"\n' >"$here/release/stripped"
+chmod +x "$here/release/stripped"
 printf 'low:\nother:\nhigh: low other std\ntabd: high low\n' >"$here/crates.txt"
 for crate in low other high tabd; do
     mkdir -p "$here/crates/$crate/src" "$here/crates/$crate/specs"
@@ -24,8 +28,9 @@ set -u
 echo "$1 $(basename "$PWD")" >>"$CALLS"
 mkdir -p out
 case $1 in
+version) echo "a kit" ;;
 lib) mkdir -p out/rlib && echo it >out/rlib/stamp ;;
-run) printf '#!/bin/sh\n' >out/tabd && chmod +x out/tabd ;;
+run) printf '#!/bin/sh\n%s\n' "${PROGRAM:-}" >out/tabd && chmod +x out/tabd ;;
 esac
 STAND_IN
 chmod +x "$bin/rt"
@@ -71,6 +76,32 @@ kill -INT $!
 wait $!
 [ $? -eq 130 ] && sleep 1.5 && [ ! -s "$CALLS" ] && [ ! -e "$here/crates/tabd/out/build" ]
 count 'where it is interrupted, nothing goes on' $?
+
+# ---- ./prove, beside a release.
+release() { # KIT DIGEST
+    printf 'kit: %s\nsources: %s\nprogram: %s\n' "$1" "$2" "$(printf '#!/bin/sh\n\n' | sha256sum | cut -d ' ' -f 1)" >"$here/release/release.txt"
+}
+proves() { # STATUS LAST-LINE [WORD]
+    rm -rf "$here"/crates/*/out
+    "$here/prove" ${3-} >"$work/out" 2>"$work/err"
+    [ $? -eq "$1" ] && tail -n 1 "$work/out" "$work/err" | grep -qxF "$2" && [ -x "$here/crates/tabd/out/tabd" ] && [ ! -e "$here/crates/tabd/out/prove" ]
+}
+digest=$("$here/release/sources")
+release 'a kit' "$digest"
+proves 0 "it is the release's program, byte for byte" && [ -z "$(find "$here/crates" -name rlib)" ]
+count './prove ends with the release' $?
+[ "$("$here/release/program" --current)" = "$here/crates/tabd/out/tabd" ]
+count 'what ./prove built is what runs from then on' $?
+proves 0 "it is the release's program, byte for byte" --keep && [ "$(find "$here/crates" -name rlib | wc -l)" -eq 3 ]
+count './prove --keep keeps the libraries' $?
+PROGRAM='# other bytes' proves 1 "fault: the program isn't the release's: its bytes differ"
+count 'other bytes than the release has are a fault' $?
+release 'another kit' "$digest"
+PROGRAM='# other bytes' proves 0 'not compared with the release: that was made by another kit, and this is a kit'
+count 'the release of another kit is not compared' $?
+release 'a kit' other
+proves 0 'not compared with the release: that was made of other sources'
+count 'a release of other sources is not compared' $?
 
 echo "$passed passed, $failed failed"
 [ "$failed" -eq 0 ]
