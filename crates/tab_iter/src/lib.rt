@@ -15,6 +15,7 @@
 //! | `named_column` | where the columns that a scan names begin in a row |
 //! | `verdicts`, `hints` | verdicts on labels, kept and found again, and where those on longer labels were found last |
 //! | `known_verdicts`, `guesses` | verdicts on short labels, found by number, and guesses at them |
+//! | `system_iterators` | a source filtered by one of these four rules alone: deleting, fetching, visible, versioning |
 //! | `layers` | what a scan reads: its rules, one behind the other, in one layer |
 //! | `merged` | what a merge writes: its rules, one behind the other, in one layer |
 //!
@@ -40,6 +41,7 @@ mod named_column;
 mod rule;
 mod source;
 mod source_order;
+mod system_iterators;
 mod then_rule;
 mod verdicts;
 mod versioning_rule;
@@ -55,6 +57,9 @@ pub use merged::{MergeRule, Merged, merged_of};
 pub use merging::Merging;
 pub use rule::Rule;
 pub use source::{NoMemory, Source};
+pub use system_iterators::{
+    Deleting, Fetching, Versioning, Visible, deleting, fetching, versioning, visible,
+};
 pub use then_rule::ThenRule;
 pub use verdicts::Verdicts;
 pub use versioning_rule::VersioningRule;
