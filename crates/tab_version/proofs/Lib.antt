@@ -7,3 +7,6 @@ pub mod PartsByIndex
 pub mod Reaching
 pub mod Alike
 pub mod TakenOut
+pub mod Chosen
+pub mod Choosing
+pub mod Equals

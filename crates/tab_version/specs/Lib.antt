@@ -1,3 +1,5 @@
+pub mod ChoiceExamples
+pub mod Choices
 pub mod Clips
 pub mod InTurn
 pub mod OneOf

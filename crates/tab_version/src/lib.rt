@@ -13,6 +13,7 @@
 //! | `lists` | lists of records, one behind the other |
 //! | `in_turn` | the records of such lists, of which one is read at a time |
 //! | `tablets` | tablets as such lists |
+//! | `laws`, `specs/Choices` | that what is left behind sources that are taken out is what a choice of the inputs leaves |
 //! | `version` | the records of tablets, and the stack of layers over them that a scan reads |
 #![tactic(auto)]
 
@@ -21,6 +22,7 @@ mod clips;
 mod cutting;
 mod held;
 mod in_turn;
+mod laws;
 mod lists;
 mod one_of;
 mod sought;
@@ -33,6 +35,7 @@ mod whole;
 pub use clip::{Clip, Part};
 pub use clips::{ClipCursor, Clips};
 pub use in_turn::InTurn;
+pub use laws::left_by_choice;
 pub use lists::Lists;
 pub use one_of::OneOf;
 pub use table_clip::TableClip;
