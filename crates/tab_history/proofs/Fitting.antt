@@ -1,8 +1,9 @@
 -- What an accepted event changes keeps to the settings of its table.
-use Rattle.std.proofs.Common.{◌≡◌, ◌⊎◌, inl, inr, ℕ, ◌+◌, List, [], ◌∷◌, ◌++◌, Bool, true, false, cond, refl, sym, subst, arith}
-use Rattle.std.specs.Prelude.{ℤ, int_le, int_lt, Option, Some, None, map, reverse, unwrap_or, is_some, option_map}
+use Rattle.std.proofs.Common.{◌≡◌, ◌⊎◌, inl, inr, ℕ, ◌+◌, ◌≤◌, List, [], ◌∷◌, ◌++◌, Bool, true, false, cond, refl, sym, subst, arith}
+use Rattle.std.specs.Prelude.{ℤ, int_le, int_lt, nat_lt, not, Option, Some, None, map, reverse, unwrap_or, is_some, option_map}
 use Rattle.std.specs.List.{AllByRecursion}
 use Rattle.std.proofs.lemmas.Int.{ints}
+use Rattle.std.proofs.lemmas.Bool.Decides.{nat_tests}
 use Rattle.std.proofs.lemmas.Grind.{reverse_onto}
 use mathlib.Core.Bool.{true≢false}
 use Rattle.tab_policy.specs.declared.permission.Permission.{Permission}
@@ -10,23 +11,23 @@ use Rattle.tab_policy.specs.declared.permission.Permission.TheVariants.{OfSystem
 use Rattle.tab_history.specs.declared.event.TimeMode.{TimeMode}
 use Rattle.tab_history.specs.declared.event.TimeMode.TheVariants.{Any, Server}
 use Rattle.tab_history.specs.declared.event.Act.{Act}
-use Rattle.tab_history.specs.declared.event.Act.TheVariants.{Open, Write, CreateTable, DropTable, SetConstraints, CreateUser, DropUser, SetAuths, Grant, Revoke, Rights, Status, Flush, Compact, AddSplit, SplitBySize, Splits, Save, Load, Begin, Install}
+use Rattle.tab_history.specs.declared.event.Act.TheVariants.{Write, CreateTable, DropTable, SetConstraints, SetVersions, SetHorizon, CreateUser, DropUser, SetAuths, Grant, Revoke}
 use Rattle.tab_history.specs.declared.event.Step.{Step}
-use Rattle.tab_history.specs.declared.reply.Refusal.TheVariants.{TimestampNotAllowed, BelowHorizon}
+use Rattle.tab_history.specs.declared.reply.Refusal.TheVariants.{TimestampNotAllowed, BelowHorizon, VersionsRaised, HorizonLowered, ServerTime}
 use Rattle.tab_key.specs.Records.{Record}
 use Rattle.tab_key.specs.Sorted.{IsIn}
 use Rattle.tab_history.specs.Answers.{Told, changes_by}
 use Rattle.tab_history.specs.Bases.{Base}
 use Rattle.tab_cells.specs.Written.{TimedUpdate, timed, records_of}
-use Rattle.tab_history.specs.Changes.{Change, Written, given, taken, changes_of}
-use Rattle.tab_history.specs.Checks.{standing, user_named, exists_in, shape_refusal, malformed, stamped, outdated, violated, mutation_checks, refusal_of}
+use Rattle.tab_history.specs.Changes.{Change, VersionsSet, HorizonSet, Written, given, taken, changes_of}
+use Rattle.tab_history.specs.Checks.{standing, user_named, exists_in, shape_refusal, malformed, stamped, outdated, violated, mutation_checks, version_checks, horizon_checks, refusal_of}
 use Rattle.tab_history.specs.Held.{floor_of}
 use Rattle.tab_history.specs.Histories.{Entry, World, clock_of, clock_at, journal}
 use Rattle.tab_history.specs.Legal.{IsAnswer, LacksMemory}
 use Rattle.tab_mutation.specs.Mutations.{Update, Mutation}
 use Rattle.tab_history.specs.Readings.{next_number}
 use Rattle.tab_history.specs.Settings.{Settings, takes_timestamps}
-use Rattle.tab_mutation.specs.Shape.{first_some, first_index, shape_error}
+use Rattle.tab_mutation.specs.Shape.{first_some, when, first_index, shape_error}
 use Rattle.tab_rules.specs.Verdict.{violations}
 use Rattle.tab_history.proofs.Options.{or_else_left, or_else_right, unmapped}
 use Rattle.tab_history.proofs.Accepted.{own_pass, of_legal}
@@ -83,6 +84,13 @@ in_numbered low seq row [] a u h = absurd h
 in_numbered low seq row (p ∷ ps) a u (inl e) = subst (λ (r : Record). int_le low r.key.timestamp ≡ true) e a.0
 in_numbered low seq row (p ∷ ps) a u (inr h) = in_numbered low seq row ps a.1 u h
 
+unwanted : {X : Type 0} (v : Bool) (x : X) → when v x ≡ None → v ≡ false
+unwanted true x e = absurd (cc)
+unwanted false x e = refl
+
+no_less : (n many : ℕ) → nat_lt n many ≡ false → many ≤ n
+no_less n many e = grind (arith, nat_tests)
+
 -- ---- by acts
 module _ (b : Base) (j : List Change) (now : ℤ) (user : List ℕ) where
   write_fits : (there : Bool) (t : List ℕ) (m : Mutation) → refusal_of (standing b j user) there now user (Write t m) ≡ None → Fits b j now (Written t m.row (reverse (map (timed now) m.updates)))
@@ -95,6 +103,20 @@ module _ (b : Base) (j : List Change) (now : ℤ) (user : List ℕ) where
       tail : first_some (stamped s m ∷ outdated s now m ∷ violated (violations s.constraints (standing b j user).auths m) ∷ []) ≡ None
       tail = or_else_right (malformed m) _ (or_else_right (option_map shape_refusal (shape_error m)) _ passed)
 
+  versions_fit : (there : Bool) (t : List ℕ) (many : ℕ) → refusal_of (standing b j user) there now user (SetVersions t many) ≡ None → Fits b j now (VersionsSet t many)
+  unfolding standing
+  versions_fit there t many e s q = no_less s.versions many (unwanted (nat_lt s.versions many) (VersionsRaised s.versions) (or_else_left _ _ passed))
+    where
+      passed : first_some (version_checks (Some s) many) ≡ None
+      passed = subst (λ o. first_some (version_checks o many) ≡ None) q (own_pass (standing b j user) there now user (SetVersions t many) e)
+
+  horizon_fits : (there : Bool) (t : List ℕ) (low : ℤ) → refusal_of (standing b j user) there now user (SetHorizon t low) ≡ None → Fits b j now (HorizonSet t low)
+  unfolding standing
+  horizon_fits there t low e s q = not_under low s.horizon (unwanted (int_lt low s.horizon) (HorizonLowered s.horizon) (or_else_left _ _ (or_else_right (when (not (takes_timestamps s.time)) ServerTime) _ passed)))
+    where
+      passed : first_some (horizon_checks (Some s) low) ≡ None
+      passed = subst (λ o. first_some (horizon_checks o low) ≡ None) q (own_pass (standing b j user) there now user (SetHorizon t low) e)
+
   given_fits : (n : List ℕ) (p : Permission) → FitAll b j now (given n p ∷ [])
   given_fits n (OfSystem p) = (tt, tt)
   given_fits n (OfTable p t) = (tt, tt)
@@ -106,26 +128,17 @@ module _ (b : Base) (j : List Change) (now : ℤ) (user : List ℕ) where
   -- the changes of an event that isn't refused fit
   act_fits : (there : Bool) (act : Act) → refusal_of (standing b j user) there now user act ≡ None → FitAll b j now (changes_of now user act)
   act_fits there (Write t m) e = (tt, write_fits there t m e)
-  act_fits there (Open scan) e = tt
   act_fits there (CreateTable t time n) e = ((((((tt, tt), tt), tt), tt), tt), tt)
   act_fits there (DropTable t) e = (tt, tt)
   act_fits there (SetConstraints t cs) e = (tt, tt)
+  act_fits there (SetVersions t many) e = (tt, versions_fit there t many e)
+  act_fits there (SetHorizon t low) e = (tt, horizon_fits there t low e)
   act_fits there (CreateUser n) e = (tt, tt)
   act_fits there (DropUser n) e = (tt, tt)
   act_fits there (SetAuths n auths) e = (tt, tt)
   act_fits there (Grant n p) e = given_fits n p
   act_fits there (Revoke n p) e = taken_fits n p
-  act_fits there (Rights t) e = tt
-  act_fits there (Status t) e = tt
-  act_fits there (Flush t) e = tt
-  act_fits there (Compact t extent) e = tt
-  act_fits there (AddSplit t row) e = tt
-  act_fits there (SplitBySize t row limit) e = tt
-  act_fits there (Splits t) e = tt
-  act_fits there Save e = tt
-  act_fits there Load e = tt
-  act_fits there (Begin t row kind) e = tt
-  act_fits there (Install t given) e = tt
+  act_fits there act e = tt
 
 -- and so do those of each entry of a legal history
 pub fits_legal : (w : World) (es own : List Entry) (step : Step) (r : Told) → IsAnswer w es own step r ⊎ LacksMemory step r → FitAll w.base (journal w es) (clock_at (clock_of w es) step) (changes_by (clock_at (clock_of w es) step) step r)

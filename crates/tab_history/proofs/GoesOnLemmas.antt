@@ -5,9 +5,9 @@ use mathlib.Core.Bool.{true≢false}
 use Rattle.std.specs.Prelude.{ℕ, ℤ, Some, None}
 use Rattle.tab_key.specs.declared.part.Part.TheVariants.{Sessions}
 use Rattle.tab_history.specs.declared.event.Step.{Step}
-use Rattle.tab_history.specs.declared.event.Step.TheVariants.{Event, Next, Many, Close, Merge}
+use Rattle.tab_history.specs.declared.event.Step.TheVariants.{Event, Next}
 use Rattle.tab_history.specs.declared.event.Act.{Act}
-use Rattle.tab_history.specs.declared.event.Act.TheVariants.{Open, Write, CreateTable, DropTable, SetConstraints, CreateUser, DropUser, SetAuths, Grant, Revoke, Rights, Status, Flush, Compact, AddSplit, SplitBySize, Splits, Save, Load, Begin, Install}
+use Rattle.tab_history.specs.declared.event.Act.TheVariants.{Install}
 use Rattle.tab_history.specs.declared.event.Given.TheVariants.{InSlot, ByHand}
 use Rattle.tab_history.specs.declared.reply.Refusal.TheVariants.{TooLarge, NoMemory, NoSession, NoJob}
 use Rattle.tab_history.specs.declared.reply.Reply.TheVariants.{Refused}
@@ -26,28 +26,9 @@ use Rattle.tab_history.proofs.GoOn.{list_same, events_down}
 
 -- an act that names no slot is answered alike whatever jobs there are
 no_slot : (act : Act) (jobs : List JobMove) → NamesNoSlot act → empty_slot jobs act ≡ None
-no_slot (Open scan) jobs n = refl
-no_slot (Write t m) jobs n = refl
-no_slot (CreateTable t time k) jobs n = refl
-no_slot (DropTable t) jobs n = refl
-no_slot (SetConstraints t cs) jobs n = refl
-no_slot (CreateUser u) jobs n = refl
-no_slot (DropUser u) jobs n = refl
-no_slot (SetAuths u auths) jobs n = refl
-no_slot (Grant u p) jobs n = refl
-no_slot (Revoke u p) jobs n = refl
-no_slot (Rights t) jobs n = refl
-no_slot (Status t) jobs n = refl
-no_slot (Flush t) jobs n = refl
-no_slot (Compact t extent) jobs n = refl
-no_slot (AddSplit t row) jobs n = refl
-no_slot (SplitBySize t row limit) jobs n = refl
-no_slot (Splits t) jobs n = refl
-no_slot Save jobs n = refl
-no_slot Load jobs n = refl
-no_slot (Begin t row kind) jobs n = refl
 no_slot (Install t (InSlot slot)) jobs n = absurd n
 no_slot (Install t (ByHand job)) jobs n = refl
+no_slot act jobs n = refl
 
 -- where there is room for a session, and no slot is named, it doesn't matter which there are
 room_answer : (b : Base) (j : List Change) (now : ℤ) (step : Step) (w : World) (own : List Entry) → HasRoom w own step → answer b j [] [] now step ≡ answer b j (moves_of w (user_of step) own) (jobs_of own) now step
@@ -61,9 +42,7 @@ room_answer b j now (Event e) w own room = go (is_open e.act) room.0
     go true room = ap (λ v. cond v (Refused (TooLarge Sessions)) (slotted (empty_slot [] e.act) (event_answer b j now e.user e.act))) (sym (room refl)) ∙ ap (λ o. cond (is_full (moves_of w e.user own)) (Refused (TooLarge Sessions)) (slotted o (event_answer b j now e.user e.act))) slots
     go false room = ap (λ o. slotted o (event_answer b j now e.user e.act)) slots
 room_answer b j now (Next user slot n) w own room = absurd room
-room_answer b j now (Many user slot ranges) w own room = absurd room
-room_answer b j now (Close user slot) w own room = absurd room
-room_answer b j now (Merge slot) w own room = absurd room
+room_answer b j now step w own room = absurd room
 
 room_too : (w : World) (h own : List Entry) (step : Step) (r : Told) → HasRoom w own step → IsAnswer w h [] step r ⊎ LacksMemory step r → IsAnswer w h own step r ⊎ LacksMemory step r
 unfolding moves_of jobs_of

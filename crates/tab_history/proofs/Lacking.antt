@@ -1,6 +1,6 @@
 -- Want of memory is no answer, so in a legal history it stands only where memory may lack.
 use Rattle.std.proofs.Common.{◌≡◌, ◌⊎◌, inl, inr, ℕ, ◌+◌, List, [], ◌∷◌, Bool, true, false, cond, ◌&&◌, not, refl, sym, ◌∙◌, ap}
-use Rattle.std.specs.Prelude.{ℤ, bytes_eq, nat_lt, length, is_some, Option, Some, None, Result, Ok, Err, option_map}
+use Rattle.std.specs.Prelude.{ℤ, bytes_eq, nat_lt, int_lt, length, is_some, Option, Some, None, Result, Ok, Err, option_map}
 use mathlib.Core.Bool.{true≢false}
 use Rattle.tab_key.specs.Ranges.{is_bad_range}
 use Rattle.tab_key.specs.declared.range.Bounds.{Bounds}
@@ -20,17 +20,17 @@ use Rattle.tab_policy.specs.declared.decision.Denial.TheVariants as policy
 use Rattle.tab_policy.specs.declared.permission.Permission.{Permission}
 use Rattle.tab_policy.specs.declared.permission.Permission.TheVariants.{OfSystem, OfTable}
 use Rattle.tab_history.specs.declared.event.Act.{Act}
-use Rattle.tab_history.specs.declared.event.Act.TheVariants.{Open, Write, CreateTable, DropTable, SetConstraints, CreateUser, DropUser, SetAuths, Grant, Revoke, Rights as AsksRights, Status, Flush, Compact, AddSplit, SplitBySize, Splits, Save, Load, Begin, Install}
+use Rattle.tab_history.specs.declared.event.Act.TheVariants.{Open, Write, CreateTable, SetVersions, SetHorizon, CreateUser, DropUser, SetAuths, Grant, Revoke, Status, AddSplit, SplitBySize, Splits, Begin, Install}
 use Rattle.tab_history.specs.declared.event.Scan.{Scan}
 use Rattle.tab_history.specs.declared.event.Step.{Step}
 use Rattle.tab_history.specs.declared.event.Step.TheVariants.{Event, Next, Many, Close, Merge}
 use Rattle.tab_history.specs.declared.reply.Refusal.{Refusal}
-use Rattle.tab_history.specs.declared.reply.Refusal.TheVariants.{NoMemory, TooLarge, TableExists, UserExists, NoUser, BadAuthorizations, BadRange, TimestampNotAllowed, BelowHorizon, RootFixed, GrantInvalid}
+use Rattle.tab_history.specs.declared.reply.Refusal.TheVariants.{NoMemory, TooLarge, TableExists, UserExists, NoUser, BadAuthorizations, BadRange, TimestampNotAllowed, BelowHorizon, VersionsRaised, HorizonLowered, ServerTime, RootFixed, GrantInvalid}
 use Rattle.tab_history.specs.declared.reply.Reply.TheVariants.{Refused}
 use Rattle.tab_history.specs.Settings.{Settings, takes_timestamps}
 use Rattle.tab_history.specs.Bases.{Base}
 use Rattle.tab_history.specs.Changes.{Change}
-use Rattle.tab_history.specs.Checks.{Caller, standing, user_named, exists_in, action_of, denial, shape_refusal, malformed_at, malformed, stamped, outdated, violated, mutation_checks, too_many_auths, scan_checks, is_grant, right_checks, own_checks, refusal_of, many_checks}
+use Rattle.tab_history.specs.Checks.{Caller, standing, user_named, exists_in, action_of, denial, shape_refusal, malformed_at, malformed, stamped, outdated, violated, mutation_checks, version_checks, horizon_checks, too_many_auths, scan_checks, is_grant, right_checks, own_checks, refusal_of, many_checks}
 use Rattle.tab_history.specs.Answers.{Told, granted, told, are_used_up, numbered, event_answer, is_open, next_answer, many_answer, close_answer, merge_answer, empty_slot, slotted, answer, leaves_open, MayTell}
 use Rattle.tab_history.specs.Sessions.{Move, is_full, session_in}
 use Rattle.tab_history.specs.Jobs.{JobMove, job_in, is_waiting}
@@ -133,28 +133,28 @@ of_right : (there : Bool) (n : List ℕ) (p : Permission) → All (right_checks 
 of_right there n (OfSystem p) = (unless (is_grant p) GrantInvalid refl, (unless (not there) (NoUser n) refl, (unless (bytes_eq n root) RootFixed refl, tt)))
 of_right there n (OfTable p t) = (unless (not there) (NoUser n) refl, tt)
 
+of_versions : (o : Option Settings) (many : ℕ) → All (version_checks o many)
+of_versions None many = tt
+of_versions (Some s) many = (unless (nat_lt s.versions many) (VersionsRaised s.versions) refl, tt)
+
+of_horizon : (o : Option Settings) (low : ℤ) → All (horizon_checks o low)
+of_horizon None low = tt
+of_horizon (Some s) low = (unless (not (takes_timestamps s.time)) ServerTime refl, (unless (int_lt low s.horizon) (HorizonLowered s.horizon) refl, tt))
+
 of_own : (c : Caller) (there : Bool) (now : ℤ) (act : Act) → All (own_checks c there now act)
 of_own c there now (Open scan) = of_scan c.auths scan
 of_own c there now (Write t m) = of_mutation (c.settings t) c.auths now m
 of_own c there now (CreateTable t time n) = (unless (is_some (c.settings t)) (TableExists t) refl, tt)
-of_own c there now (DropTable t) = tt
-of_own c there now (SetConstraints t cs) = tt
+of_own c there now (SetVersions t many) = of_versions (c.settings t) many
+of_own c there now (SetHorizon t low) = of_horizon (c.settings t) low
 of_own c there now (CreateUser n) = (unless there (UserExists n) refl, tt)
 of_own c there now (DropUser n) = (unless (not there) (NoUser n) refl, (unless (bytes_eq n root) RootFixed refl, tt))
 of_own c there now (SetAuths n auths) = (unless (too_many_auths auths) (TooLarge Authorizations) refl, (unless (not there) (NoUser n) refl, tt))
 of_own c there now (Grant n p) = of_right there n p
 of_own c there now (Revoke n p) = of_right there n p
-of_own c there now (AsksRights t) = tt
-of_own c there now (Status t) = tt
-of_own c there now (Flush t) = tt
-of_own c there now (Compact t extent) = tt
 of_own c there now (AddSplit t row) = (unless _ _ refl, tt)
 of_own c there now (SplitBySize t row limit) = (unless _ _ refl, tt)
-of_own c there now (Splits t) = tt
-of_own c there now Save = tt
-of_own c there now Load = tt
-of_own c there now (Begin t row kind) = tt
-of_own c there now (Install t given) = tt
+of_own c there now act = tt
 
 of_refusal : (c : Caller) (there : Bool) (now : ℤ) (user : List ℕ) (act : Act) → Speaks (refusal_of c there now user act)
 unfolding refusal_of
@@ -221,8 +221,7 @@ of_open (SplitBySize t row limit) plain reply p o (inr (inr (inl e))) = ap tells
 of_open (SplitBySize t row limit) plain reply p o (inr (inr (inr e))) = ap tells_want e
 of_open (Splits t) plain reply p o m = ap tells_want m.1
 of_open (Begin t row kind) plain reply p o (inl e) = ap tells_want e
-of_open (Begin t row kind) plain reply p o (inr (inl e)) = ap tells_want e
-of_open (Begin t row kind) plain reply p o (inr (inr e)) = ap tells_want e
+of_open (Begin t row kind) plain reply p o (inr e) = ap tells_want e
 of_open (Install t given) plain reply p o (inl e) = ap tells_want e ∙ p
 of_open (Install t given) plain reply p o (inr s) = ap tells_want s.1
 of_open _ plain reply p o m = absurd (true≢false (sym o))

@@ -5,7 +5,7 @@ use Rattle.std.proofs.lemmas.Grind.{reverse_onto}
 use mathlib.Core.Bool.{true≢false}
 use Rattle.tab_key.specs.declared.part.Part.TheVariants.{Sessions}
 use Rattle.tab_history.specs.declared.event.Step.{Step}
-use Rattle.tab_history.specs.declared.event.Step.TheVariants.{Event, Next, Many, Close, Merge}
+use Rattle.tab_history.specs.declared.event.Step.TheVariants.{Event}
 use Rattle.tab_history.specs.declared.reply.Refusal.TheVariants.{NoMemory, TooLarge, NoSession, NoJob}
 use Rattle.tab_history.specs.declared.reply.Reply.TheVariants.{Refused}
 use Rattle.tab_history.specs.Answers.{Told}
@@ -77,10 +77,7 @@ unmoved_by w es (Event e) (Refused (TooLarge Sessions)) n = refl
 unmoved_by w es (Event e) (Refused (NoSession slot)) n = refl
 unmoved_by w es (Event e) (Refused (NoJob slot)) n = refl
 unmoved_by w es (Event e) r n = absurd n
-unmoved_by w es (Next user slot n) r h = refl
-unmoved_by w es (Many user slot ranges) r h = refl
-unmoved_by w es (Close user slot) r h = refl
-unmoved_by w es (Merge slot) r h = refl
+unmoved_by w es step r h = refl
 
 pub unmoved : Unmoved
 unmoved w es e n = unmoved_by w es e.step e.reply n

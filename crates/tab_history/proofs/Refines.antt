@@ -1,5 +1,5 @@
 -- Worlds of which one refines the other answer alike, and go on doing so.
-use Rattle.std.proofs.Common.{◌≡◌, ℕ, ◌+◌, ◌-◌, List, [], ◌∷◌, ◌++◌, Bool, true, false, cond, refl, sym, ◌∙◌, ap, subst, arith}
+use Rattle.std.proofs.Common.{◌≡◌, ℕ, ◌+◌, ◌-◌, ◌≤◌, List, [], ◌∷◌, ◌++◌, Bool, true, false, cond, refl, sym, ◌∙◌, ap, subst, arith}
 use Rattle.std.specs.Prelude.{ℤ, int_le, bytes_eq, Option, Some, None, unwrap_or}
 use Rattle.std.proofs.lemmas.Int.{ints}
 use Rattle.std.specs.Cmp.Lexicographic.{bytes_decides}
@@ -7,13 +7,13 @@ use Rattle.tab_key.specs.Records.{Record}
 use Rattle.tab_key.specs.Sorted.{IsIn}
 use Rattle.tab_history.specs.Bases.{Base}
 use Rattle.tab_cells.specs.Written.{TimedUpdate, records_of}
-use Rattle.tab_history.specs.Changes.{Change, UserMade, UserDropped, AuthsSet, SystemGiven, SystemTaken, TableGiven, TableTaken, TableMade, TableDropped, ConstraintsSet, Written}
+use Rattle.tab_history.specs.Changes.{Change, UserMade, UserDropped, AuthsSet, SystemGiven, SystemTaken, TableGiven, TableTaken, TableMade, TableDropped, ConstraintsSet, VersionsSet, HorizonSet, Written}
 use Rattle.tab_history.specs.Held.{floor_of, RefinesTable}
 use Rattle.tab_history.specs.Histories.{World}
-use Rattle.tab_history.specs.Readings.{has_user, user_count, held_auths, has_system_right, has_table_right, table_count, constrained, settings_of, next_number, updates_of}
+use Rattle.tab_history.specs.Readings.{has_user, user_count, held_auths, has_system_right, has_table_right, table_count, constrained, limited, closed_below, settings_of, next_number, updates_of}
 use Rattle.tab_history.specs.Settings.{Settings, made_with}
 use Rattle.tab_history.specs.Refinement.{Refines}
-use Rattle.tab_history.proofs.Holds.{holds_nothing, holds_higher, holds_beside, holds_written}
+use Rattle.tab_history.proofs.Holds.{holds_nothing, holds_higher, holds_fewer, holds_beside, holds_written}
 use Rattle.tab_rules.specs.declared.constraint.Constraint.{Constraint}
 use Rattle.tab_history.specs.declared.event.TimeMode.{TimeMode}
 use Rattle.tab_history.specs.declared.event.TimeMode.TheVariants.{Any, Server}
@@ -75,6 +75,8 @@ module _ (a b : Base) (i j : List Change) where
   settings_more t e (TableMade s time v) = ap (cond (bytes_eq s t) (Some (made_with time v))) e
   settings_more t e (TableDropped s) = ap (cond (bytes_eq s t) None) e
   settings_more t e (ConstraintsSet s cs) = λ k. cond (bytes_eq s t) (constrained cs (e k)) (e k)
+  settings_more t e (VersionsSet s many) = λ k. cond (bytes_eq s t) (limited many (e k)) (e k)
+  settings_more t e (HorizonSet s low) = λ k. cond (bytes_eq s t) (closed_below low (e k)) (e k)
   settings_more t e _ = e
 
 -- ---- and the records of a table
@@ -84,6 +86,8 @@ table_floor s clock = floor_of s.time clock s.horizon
 -- what an accepted event's change keeps to, where the clock is this
 abbrev pub Fits : Base → List Change → ℤ → Change → Type 0
 Fits b j now (Written t row ps) = (s : Settings) → settings_of b j t ≡ Some s → (u : Record) → IsIn (records_of (next_number b j) row ps) u → int_le (table_floor s now) u.key.timestamp ≡ true
+Fits b j now (VersionsSet t many) = (s : Settings) → settings_of b j t ≡ Some s → many ≤ s.versions
+Fits b j now (HorizonSet t low) = (s : Settings) → settings_of b j t ≡ Some s → int_le s.horizon low ≡ true
 Fits b j now _ = Unit {0}
 
 abbrev pub FitAll : Base → List Change → ℤ → List Change → Type 0
@@ -120,6 +124,21 @@ constraints_more false cs held us next now o h s e = h s e
 constraints_more true cs held us next now None h s e = none_some s e
 constraints_more true cs held us next now (Some x) h s e = subst (λ (y : Settings). RefinesTable held us next y.versions (table_floor y now)) (same_some (record x { constraints = cs }) s e) (h x refl)
 
+pub versions_more : (v : Bool) (many : ℕ) (held us : List Record) (next : ℕ) (now : ℤ) (o : Option Settings) → (v ≡ true → (s : Settings) → o ≡ Some s → many ≤ s.versions) → Holding held us next now o → Holding held us next now (cond v (limited many o) o)
+versions_more false many held us next now o fit h s e = h s e
+versions_more true many held us next now None fit h s e = none_some s e
+versions_more true many held us next now (Some x) fit h s e = subst (λ (y : Settings). RefinesTable held us next y.versions (table_floor y now)) (same_some (record x { versions = many }) s e) (holds_fewer held us next x.versions many (table_floor x now) (fit refl x refl) (h x refl))
+
+-- a horizon that rises lowers no floor
+pub floor_raised : (time : TimeMode) (now horizon low : ℤ) → int_le horizon low ≡ true → int_le (floor_of time now horizon) (floor_of time now low) ≡ true
+floor_raised Any now horizon low le = le
+floor_raised Server now horizon low le = grind (arith, ints)
+
+pub horizon_more : (v : Bool) (low : ℤ) (held us : List Record) (next : ℕ) (now : ℤ) (o : Option Settings) → (v ≡ true → (s : Settings) → o ≡ Some s → int_le s.horizon low ≡ true) → Holding held us next now o → Holding held us next now (cond v (closed_below low o) o)
+horizon_more false low held us next now o fit h s e = h s e
+horizon_more true low held us next now None fit h s e = none_some s e
+horizon_more true low held us next now (Some x) fit h s e = subst (λ (y : Settings). RefinesTable held us next y.versions (table_floor y now)) (same_some (record x { horizon = low }) s e) (holds_higher held us next x.versions (table_floor x now) (floor_of x.time now low) (floor_raised x.time now x.horizon low (fit refl x refl)) (h x refl))
+
 pub written_more : (v : Bool) (row : List ℕ) (ps : List TimedUpdate) (held us : List Record) (next : ℕ) (now : ℤ) (o : Option Settings) → (v ≡ true → (s : Settings) → o ≡ Some s → (u : Record) → IsIn (records_of next row ps) u → int_le (table_floor s now) u.key.timestamp ≡ true)
     → Holding held us next now o → Holding (cond v (records_of next row ps ++ held) held) (cond v (records_of next row ps ++ us) us) (next + 1) now o
 written_more true row ps held us next now o fit h s e = holds_written held us next s.versions (table_floor s now) row ps (fit refl s e) (h s e)
@@ -133,6 +152,8 @@ tables_more a b i j now t n (Written s row ps) fit h =
 tables_more a b i j now t n (TableMade s time v) fit h = made_more (bytes_eq s t) _ (updates_of a i t) (updates_of b j t) (next_number b j) now (settings_of b j t) h
 tables_more a b i j now t n (TableDropped s) fit h = dropped_more (bytes_eq s t) (updates_of a i t) (updates_of b j t) (next_number b j) now (settings_of b j t) h
 tables_more a b i j now t n (ConstraintsSet s cs) fit h = constraints_more (bytes_eq s t) cs (updates_of a i t) (updates_of b j t) (next_number b j) now (settings_of b j t) h
+tables_more a b i j now t n (VersionsSet s many) fit h = versions_more (bytes_eq s t) many (updates_of a i t) (updates_of b j t) (next_number b j) now (settings_of b j t) (λ e x q. fit x (ap (settings_of b j) ((bytes_decides s t).0 e) ∙ q)) h
+tables_more a b i j now t n (HorizonSet s low) fit h = horizon_more (bytes_eq s t) low (updates_of a i t) (updates_of b j t) (next_number b j) now (settings_of b j t) (λ e x q. fit x (ap (settings_of b j) ((bytes_decides s t).0 e) ∙ q)) h
 tables_more a b i j now t n _ fit h = h
 
 -- ---- one more change, several, and a later clock

@@ -8,7 +8,7 @@ use Rattle.tab_policy.specs.Permissions.{same_system}
 use Rattle.tab_policy.specs.Roots.{root}
 use Rattle.tab_mutation.specs.Shape.{first_some, when}
 use Rattle.tab_history.specs.declared.event.Act.{Act}
-use Rattle.tab_history.specs.declared.event.Act.TheVariants.{Open, Write, CreateTable, DropTable, SetConstraints, CreateUser, DropUser, SetAuths, Grant, Revoke, Rights, Status, Flush, Compact, AddSplit, SplitBySize, Splits, Save, Load, Begin, Install}
+use Rattle.tab_history.specs.declared.event.Act.TheVariants.{Write, CreateTable, DropTable, SetConstraints, SetVersions, SetHorizon, CreateUser, DropUser, SetAuths, Grant, Revoke}
 use Rattle.tab_history.specs.declared.reply.Refusal.TheVariants.{NoUser, RootFixed, GrantInvalid}
 use Rattle.tab_history.specs.Bases.{Base, new_core}
 use Rattle.tab_history.specs.Changes.{Change, UserMade, UserDropped, SystemGiven, SystemTaken, changes_of}
@@ -86,11 +86,12 @@ alone_passed : {X : Type 0} (o : Option X) → first_some (o ∷ []) ≡ None �
 alone_passed o e = or_else_left o _ e
 
 act_keeps : (c : Caller) (there : Bool) (now : ℤ) (user : List ℕ) (act : Act) → refusal_of c there now user act ≡ None → KeepAll (changes_of now user act)
-act_keeps c there now user (Open scan) e = tt
 act_keeps c there now user (Write t m) e = (tt, tt)
 act_keeps c there now user (CreateTable t time n) e = ((((((tt, tt), tt), tt), tt), tt), tt)
 act_keeps c there now user (DropTable t) e = (tt, tt)
 act_keeps c there now user (SetConstraints t cs) e = (tt, tt)
+act_keeps c there now user (SetVersions t many) e = (tt, tt)
+act_keeps c there now user (SetHorizon t low) e = (tt, tt)
 act_keeps c there now user (CreateUser n) e = (tt, tt)
 act_keeps c there now user (DropUser n) e = (tt, unless (bytes_eq n root) RootFixed (alone_passed _ (or_else_right (when (not there) (NoUser n)) _ (own_pass c there now user (DropUser n) e))))
 act_keeps c there now user (SetAuths n auths) e = (tt, tt)
@@ -98,17 +99,7 @@ act_keeps c there now user (Grant n (OfSystem p)) e = (tt, unless (is_grant p) G
 act_keeps c there now user (Grant n (OfTable p t)) e = (tt, tt)
 act_keeps c there now user (Revoke n (OfSystem p)) e = (tt, tt)
 act_keeps c there now user (Revoke n (OfTable p t)) e = (tt, tt)
-act_keeps c there now user (Rights t) e = tt
-act_keeps c there now user (Status t) e = tt
-act_keeps c there now user (Flush t) e = tt
-act_keeps c there now user (Compact t extent) e = tt
-act_keeps c there now user (AddSplit t row) e = tt
-act_keeps c there now user (SplitBySize t row limit) e = tt
-act_keeps c there now user (Splits t) e = tt
-act_keeps c there now user Save e = tt
-act_keeps c there now user Load e = tt
-act_keeps c there now user (Begin t row kind) e = tt
-act_keeps c there now user (Install t given) e = tt
+act_keeps c there now user act e = tt
 
 -- ---- histories
 entry_keeps : (w : World) (es own : List Entry) (e : Entry) → IsAnswer w es own e.step e.reply ⊎ LacksMemory e.step e.reply → IsRooted w.base (journal w es) → IsRooted w.base (journal w (e ∷ es))

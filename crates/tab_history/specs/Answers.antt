@@ -16,8 +16,9 @@ use Rattle.tab_key.specs.declared.part.Part.TheVariants.{Sessions, Numbers}
 use Rattle.tab_key.specs.declared.range.Bounds.{Bounds}
 use Rattle.tab_history.specs.declared.event.Scan.{Scan}
 use Rattle.tab_history.specs.declared.event.Act.{Act}
-use Rattle.tab_history.specs.declared.event.Act.TheVariants.{Open, Write, CreateTable, DropTable, SetConstraints, CreateUser, DropUser, SetAuths, Grant, Revoke, Rights as AsksRights, Status, Flush, Compact, AddSplit, SplitBySize, Splits, Save, Load, Begin, Install}
+use Rattle.tab_history.specs.declared.event.Act.TheVariants.{Open, Write, CreateTable, CreateUser, Rights as AsksRights, Status, AddSplit, SplitBySize, Splits, Begin, Install}
 use Rattle.tab_history.specs.declared.event.Given.TheVariants.{InSlot, ByHand}
+use Rattle.tab_history.specs.Kinds.{kind_of, is_untold}
 use Rattle.tab_history.specs.declared.event.Step.{Step}
 use Rattle.tab_history.specs.declared.event.Step.TheVariants.{Event, Next, Many, Close, Merge}
 use Rattle.tab_history.specs.declared.counts.Counts.{Counts}
@@ -54,54 +55,20 @@ told_of Nothing = Nothing
 
 -- the session that goes with a reply
 abbrev pub session_of : {S J : Type 0} → Reply S J → Option S
-session_of Done = None
-session_of (Refused refusal) = None
 session_of (Opened session) = Some session
-session_of (Batch cells) = None
-session_of (Ranges ranges) = None
-session_of (Rights rights) = None
-session_of (Counted counts) = None
-session_of (Rows rows) = None
-session_of (Begun job) = None
-session_of Nothing = None
+session_of reply = None
 
 -- the job that goes with a reply
 abbrev pub job_of : {S J : Type 0} → Reply S J → Option J
-job_of Done = None
-job_of (Refused refusal) = None
-job_of (Opened session) = None
-job_of (Batch cells) = None
-job_of (Ranges ranges) = None
-job_of (Rights rights) = None
-job_of (Counted counts) = None
-job_of (Rows rows) = None
 job_of (Begun job) = Some job
-job_of Nothing = None
+job_of reply = None
 
 -- ---- answers
 -- What the caller is told of an event that isn't refused. Where that is left open (`MayTell`) Done stands here for all of it.
 abbrev pub granted : Caller → Act → Told
 granted c (Open scan) = told_opened
-granted c (Write t m) = Done
-granted c (CreateTable t time n) = Done
-granted c (DropTable t) = Done
-granted c (SetConstraints t cs) = Done
-granted c (CreateUser n) = Done
-granted c (DropUser n) = Done
-granted c (SetAuths n auths) = Done
-granted c (Grant n p) = Done
-granted c (Revoke n p) = Done
 granted c (AsksRights t) = Rights (own_rights c t)
-granted c (Status t) = Done
-granted c (Flush t) = Done
-granted c (Compact t extent) = Done
-granted c (AddSplit t row) = Done
-granted c (SplitBySize t row limit) = Done
-granted c (Splits t) = Done
-granted c Save = Done
-granted c Load = Done
-granted c (Begin t row kind) = Done
-granted c (Install t given) = Done
+granted c act = Done
 
 -- the refusal, if there is one
 abbrev pub told : Option Refusal → Told → Told
@@ -114,24 +81,7 @@ abbrev pub are_used_up : Base → List Change → Act → Bool
 are_used_up b j (Write t m) = nat_le 18446744073709551615 (next_number b j)
 are_used_up b j (CreateTable t time n) = nat_le 4294967295 (table_count b j)
 are_used_up b j (CreateUser n) = nat_le 4294967295 (user_count b j)
-are_used_up b j (Open scan) = false
-are_used_up b j (DropTable t) = false
-are_used_up b j (SetConstraints t cs) = false
-are_used_up b j (DropUser n) = false
-are_used_up b j (SetAuths n auths) = false
-are_used_up b j (Grant n p) = false
-are_used_up b j (Revoke n p) = false
-are_used_up b j (AsksRights t) = false
-are_used_up b j (Status t) = false
-are_used_up b j (Flush t) = false
-are_used_up b j (Compact t extent) = false
-are_used_up b j (AddSplit t row) = false
-are_used_up b j (SplitBySize t row limit) = false
-are_used_up b j (Splits t) = false
-are_used_up b j Save = false
-are_used_up b j Load = false
-are_used_up b j (Begin t row kind) = false
-are_used_up b j (Install t given) = false
+are_used_up b j act = false
 
 -- the reply to what isn't refused by its checks: where the numbers are used up it is refused for that, last of all
 abbrev pub numbered : Bool → Told → Told
@@ -178,26 +128,7 @@ without_merge jobs slot = cond (is_merged (job_in jobs slot)) None (Some slot)
 abbrev pub empty_slot : List JobMove → Act → Option ℕ
 empty_slot jobs (Install t (InSlot slot)) = without_merge jobs slot
 empty_slot jobs (Install t (ByHand job)) = None
-empty_slot jobs (Open scan) = None
-empty_slot jobs (Write t m) = None
-empty_slot jobs (CreateTable t time n) = None
-empty_slot jobs (DropTable t) = None
-empty_slot jobs (SetConstraints t cs) = None
-empty_slot jobs (CreateUser n) = None
-empty_slot jobs (DropUser n) = None
-empty_slot jobs (SetAuths n auths) = None
-empty_slot jobs (Grant n p) = None
-empty_slot jobs (Revoke n p) = None
-empty_slot jobs (AsksRights t) = None
-empty_slot jobs (Status t) = None
-empty_slot jobs (Flush t) = None
-empty_slot jobs (Compact t extent) = None
-empty_slot jobs (AddSplit t row) = None
-empty_slot jobs (SplitBySize t row limit) = None
-empty_slot jobs (Splits t) = None
-empty_slot jobs Save = None
-empty_slot jobs Load = None
-empty_slot jobs (Begin t row kind) = None
+empty_slot jobs act = None
 
 -- that the slot holds no finished merge, if there is such a slot
 abbrev pub slotted : Option ℕ → Told → Told
@@ -217,54 +148,20 @@ answer b j moves jobs now (Merge slot) = merge_answer (is_waiting (job_in jobs s
 -- ---- open answers: no history tells where records lie, and so neither what is told of that
 -- whether what is told of the event is left open, once no check refuses it
 abbrev pub leaves_open : Act → Bool
-leaves_open (Open scan) = false
-leaves_open (Write t m) = false
-leaves_open (CreateTable t time n) = false
-leaves_open (DropTable t) = false
-leaves_open (SetConstraints t cs) = false
-leaves_open (CreateUser n) = false
-leaves_open (DropUser n) = false
-leaves_open (SetAuths n auths) = false
-leaves_open (Grant n p) = false
-leaves_open (Revoke n p) = false
-leaves_open (AsksRights t) = false
-leaves_open (Status t) = true
-leaves_open (Flush t) = false
-leaves_open (Compact t extent) = false
-leaves_open (AddSplit t row) = true
-leaves_open (SplitBySize t row limit) = true
-leaves_open (Splits t) = true
-leaves_open Save = false
-leaves_open Load = false
-leaves_open (Begin t row kind) = true
-leaves_open (Install t given) = true
+leaves_open act = is_untold (kind_of act)
 
 -- What may be told of an event that no check refuses. Of a Status it is any counts, of a Splits any rows. A split may be done, or refused for
--- where the table is split already, for what its tablet holds, or for the number of end rows. A Begin may begin a job or find nothing to merge,
--- or the numbers of jobs are used up; an Install may be done, or refused where what was merged doesn't stand there any more, with any count of
--- what does. Of each other act it is the one answer, here plain.
+-- where the table is split already, for what its tablet holds, or for the number of end rows. A Begin may begin a job or find nothing to merge;
+-- an Install may be done, or refused where what was merged doesn't stand there any more, with any count of what does. Of each other act it is
+-- the one answer, here plain.
 abbrev pub MayTell : Act → Told → Told → Type 0
-MayTell (Open scan) plain reply = reply ≡ plain
-MayTell (Write t m) plain reply = reply ≡ plain
-MayTell (CreateTable t time n) plain reply = reply ≡ plain
-MayTell (DropTable t) plain reply = reply ≡ plain
-MayTell (SetConstraints t cs) plain reply = reply ≡ plain
-MayTell (CreateUser n) plain reply = reply ≡ plain
-MayTell (DropUser n) plain reply = reply ≡ plain
-MayTell (SetAuths n auths) plain reply = reply ≡ plain
-MayTell (Grant n p) plain reply = reply ≡ plain
-MayTell (Revoke n p) plain reply = reply ≡ plain
-MayTell (AsksRights t) plain reply = reply ≡ plain
 MayTell (Status t) plain reply = (counts : Counts) × (reply ≡ Counted counts)
-MayTell (Flush t) plain reply = reply ≡ plain
-MayTell (Compact t extent) plain reply = reply ≡ plain
 MayTell (AddSplit t row) plain reply = (reply ≡ plain) ⊎ (reply ≡ Refused (BadSplit Present)) ⊎ (reply ≡ Refused (TooLarge Numbers))
 MayTell (SplitBySize t row limit) plain reply = (reply ≡ plain) ⊎ (reply ≡ Refused (BadSplit Small)) ⊎ (reply ≡ Refused (BadSplit OneRow)) ⊎ (reply ≡ Refused (TooLarge Numbers))
 MayTell (Splits t) plain reply = (rows : List (List ℕ)) × (reply ≡ Rows rows)
-MayTell Save plain reply = reply ≡ plain
-MayTell Load plain reply = reply ≡ plain
-MayTell (Begin t row kind) plain reply = (reply ≡ told_begun) ⊎ (reply ≡ Nothing) ⊎ (reply ≡ Refused (TooLarge Numbers))
+MayTell (Begin t row kind) plain reply = (reply ≡ told_begun) ⊎ (reply ≡ Nothing)
 MayTell (Install t given) plain reply = (reply ≡ plain) ⊎ ((count : ℕ) × (reply ≡ Refused (Stale count)))
+MayTell act plain reply = reply ≡ plain
 
 -- The reply answers the act, of which plain is the answer: it is that refusal, or what may be told in the place of what isn't one.
 abbrev pub IsEventReply : Act → Told → Told → Type 0
@@ -274,10 +171,7 @@ IsEventReply act plain reply = MayTell act plain reply
 -- the same of a step
 abbrev pub IsReply : Step → Told → Told → Type 0
 IsReply (Event e) plain reply = IsEventReply e.act plain reply
-IsReply (Next user slot n) plain reply = reply ≡ plain
-IsReply (Many user slot ranges) plain reply = reply ≡ plain
-IsReply (Close user slot) plain reply = reply ≡ plain
-IsReply (Merge slot) plain reply = reply ≡ plain
+IsReply step plain reply = reply ≡ plain
 
 -- ---- what a step does
 -- what the scan asks of its table
@@ -310,58 +204,22 @@ moves_by b j _ _ = []
 -- a job was begun, where that is told
 abbrev pub begun_by : Told → List JobMove
 begun_by (Begun job) = Beginning ∷ []
-begun_by Done = []
-begun_by (Refused refusal) = []
-begun_by (Opened session) = []
-begun_by (Batch cells) = []
-begun_by (Ranges ranges) = []
-begun_by (Rights rights) = []
-begun_by (Counted counts) = []
-begun_by (Rows rows) = []
-begun_by Nothing = []
+begun_by reply = []
 
 -- what an event and its reply do to the jobs; an Install names its slot, whatever it is told
 abbrev pub event_job_moves : Act → Told → List JobMove
 event_job_moves (Begin t row kind) reply = begun_by reply
 event_job_moves (Install t (InSlot slot)) reply = Installing slot ∷ []
 event_job_moves (Install t (ByHand job)) reply = []
-event_job_moves (Open scan) reply = []
-event_job_moves (Write t m) reply = []
-event_job_moves (CreateTable t time n) reply = []
-event_job_moves (DropTable t) reply = []
-event_job_moves (SetConstraints t cs) reply = []
-event_job_moves (CreateUser n) reply = []
-event_job_moves (DropUser n) reply = []
-event_job_moves (SetAuths n auths) reply = []
-event_job_moves (Grant n p) reply = []
-event_job_moves (Revoke n p) reply = []
-event_job_moves (AsksRights t) reply = []
-event_job_moves (Status t) reply = []
-event_job_moves (Flush t) reply = []
-event_job_moves (Compact t extent) reply = []
-event_job_moves (AddSplit t row) reply = []
-event_job_moves (SplitBySize t row limit) reply = []
-event_job_moves (Splits t) reply = []
-event_job_moves Save reply = []
-event_job_moves Load reply = []
+event_job_moves act reply = []
 
 -- what the merge of the job in the slot and its reply do: it is finished, where that was done, and else still to be made
 abbrev pub merge_job_moves : ℕ → Told → List JobMove
 merge_job_moves slot Done = Merging slot ∷ []
-merge_job_moves slot (Refused refusal) = []
-merge_job_moves slot (Opened session) = []
-merge_job_moves slot (Batch cells) = []
-merge_job_moves slot (Ranges ranges) = []
-merge_job_moves slot (Rights rights) = []
-merge_job_moves slot (Counted counts) = []
-merge_job_moves slot (Rows rows) = []
-merge_job_moves slot (Begun job) = []
-merge_job_moves slot Nothing = []
+merge_job_moves slot reply = []
 
 -- what a step and its reply do to the jobs, which all users share
 abbrev pub job_moves_by : Step → Told → List JobMove
 job_moves_by (Event e) reply = event_job_moves e.act reply
-job_moves_by (Next user slot n) reply = []
-job_moves_by (Many user slot ranges) reply = []
-job_moves_by (Close user slot) reply = []
 job_moves_by (Merge slot) reply = merge_job_moves slot reply
+job_moves_by step reply = []

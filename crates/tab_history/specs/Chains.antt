@@ -8,11 +8,11 @@ use Rattle.tab_history.specs.Histories.{Entry, World, world_of, world_after, jou
 use Rattle.tab_history.specs.Legal.{IsAnswer, LacksMemory, LegalAlone}
 use Rattle.tab_history.specs.Refinement.{Refines, IsSound, IsAlike}
 use Rattle.tab_history.specs.declared.event.Act.{Act}
-use Rattle.tab_history.specs.declared.event.Act.TheVariants.{Open, Write, CreateTable, DropTable, SetConstraints, CreateUser, DropUser, SetAuths, Grant, Revoke, Rights, Status, Flush, Compact, AddSplit, SplitBySize, Splits, Save, Load, Begin, Install}
+use Rattle.tab_history.specs.declared.event.Act.TheVariants.{Install}
 use Rattle.tab_history.specs.declared.event.Given.{Given}
 use Rattle.tab_history.specs.declared.event.Given.TheVariants.{InSlot, ByHand}
 use Rattle.tab_history.specs.declared.event.Step.{Step}
-use Rattle.tab_history.specs.declared.event.Step.TheVariants.{Event, Next, Many, Close, Merge}
+use Rattle.tab_history.specs.declared.event.Step.TheVariants.{Event}
 
 -- ---- one step of a core, seen from the core alone
 -- the entry is legal on what the core holds, and the next core refines that entry on it
@@ -30,34 +30,12 @@ RightStep = (before : Base) (e : Entry) (after : Base) → IsSound (world_of bef
 abbrev pub NamesNoSlot : Act → Type 0
 NamesNoSlot (Install t (InSlot slot)) = ⊥
 NamesNoSlot (Install t (ByHand job)) = Unit {0}
-NamesNoSlot (Open scan) = Unit {0}
-NamesNoSlot (Write t m) = Unit {0}
-NamesNoSlot (CreateTable t time n) = Unit {0}
-NamesNoSlot (DropTable t) = Unit {0}
-NamesNoSlot (SetConstraints t cs) = Unit {0}
-NamesNoSlot (CreateUser n) = Unit {0}
-NamesNoSlot (DropUser n) = Unit {0}
-NamesNoSlot (SetAuths n auths) = Unit {0}
-NamesNoSlot (Grant n p) = Unit {0}
-NamesNoSlot (Revoke n p) = Unit {0}
-NamesNoSlot (Rights t) = Unit {0}
-NamesNoSlot (Status t) = Unit {0}
-NamesNoSlot (Flush t) = Unit {0}
-NamesNoSlot (Compact t extent) = Unit {0}
-NamesNoSlot (AddSplit t row) = Unit {0}
-NamesNoSlot (SplitBySize t row limit) = Unit {0}
-NamesNoSlot (Splits t) = Unit {0}
-NamesNoSlot Save = Unit {0}
-NamesNoSlot Load = Unit {0}
-NamesNoSlot (Begin t row kind) = Unit {0}
+NamesNoSlot act = Unit {0}
 
 -- the step is an event, if it opens a session there is room for one among those of its user, and if it installs a merge it came with that
 abbrev pub HasRoom : World → List Entry → Step → Type 0
 HasRoom w own (Event e) = (is_open e.act ≡ true → is_full (moves_of w e.user own) ≡ false) × NamesNoSlot e.act
-HasRoom w own (Next user slot n) = ⊥
-HasRoom w own (Many user slot ranges) = ⊥
-HasRoom w own (Close user slot) = ⊥
-HasRoom w own (Merge slot) = ⊥
+HasRoom w own step = ⊥
 
 -- what the step means after the entries h of w, for which the core stood before
 pub record GoesOnFrom (w : World) (h : List Entry) (before : Base) (e : Entry) (after : Base) : Type 0 where

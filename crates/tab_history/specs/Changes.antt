@@ -9,7 +9,7 @@ use Rattle.tab_policy.specs.declared.permission.Permission.{Permission}
 use Rattle.tab_policy.specs.declared.permission.Permission.TheVariants.{OfSystem, OfTable}
 use Rattle.tab_history.specs.declared.event.TimeMode.{TimeMode}
 use Rattle.tab_history.specs.declared.event.Act.{Act}
-use Rattle.tab_history.specs.declared.event.Act.TheVariants.{Open, Write, CreateTable, DropTable, SetConstraints, CreateUser, DropUser, SetAuths, Grant, Revoke, Rights, Status, Flush, Compact, AddSplit, SplitBySize, Splits, Save, Load, Begin, Install}
+use Rattle.tab_history.specs.declared.event.Act.TheVariants.{Write, CreateTable, DropTable, SetConstraints, SetVersions, SetHorizon, CreateUser, DropUser, SetAuths, Grant, Revoke}
 
 -- one change
 pub data Change : Type 0 where
@@ -33,6 +33,10 @@ pub data Change : Type 0 where
   TableDropped : List ℕ → Change
   -- the table has these constraints, and no others
   ConstraintsSet : List ℕ → List Constraint → Change
+  -- the table shows so many versions of a column
+  VersionsSet : List ℕ → ℕ → Change
+  -- the table takes no update below this time
+  HorizonSet : List ℕ → ℤ → Change
   -- the table, the row and the updates, the last of them first
   Written : List ℕ → List ℕ → List TimedUpdate → Change
 
@@ -53,24 +57,15 @@ taken n (OfTable p t) = TableTaken n p t
 -- What an accepted event of the user changes, where the clock is now. A compaction, whole or in parts, or a split changes nothing that is read
 -- here, and who may save or load an image has changed nothing yet.
 abbrev pub changes_of : ℤ → List ℕ → Act → List Change
-changes_of now user (Open scan) = []
 changes_of now user (Write t m) = Written t m.row (reverse (map (timed now) m.updates)) ∷ []
 changes_of now user (CreateTable t time n) = all_rights user t (TableMade t time n ∷ [])
 changes_of now user (DropTable t) = TableDropped t ∷ []
 changes_of now user (SetConstraints t cs) = ConstraintsSet t cs ∷ []
+changes_of now user (SetVersions t many) = VersionsSet t many ∷ []
+changes_of now user (SetHorizon t low) = HorizonSet t low ∷ []
 changes_of now user (CreateUser n) = UserMade n ∷ []
 changes_of now user (DropUser n) = UserDropped n ∷ []
 changes_of now user (SetAuths n auths) = AuthsSet n auths ∷ []
 changes_of now user (Grant n p) = given n p ∷ []
 changes_of now user (Revoke n p) = taken n p ∷ []
-changes_of now user (Rights t) = []
-changes_of now user (Status t) = []
-changes_of now user (Flush t) = []
-changes_of now user (Compact t extent) = []
-changes_of now user (AddSplit t row) = []
-changes_of now user (SplitBySize t row limit) = []
-changes_of now user (Splits t) = []
-changes_of now user Save = []
-changes_of now user Load = []
-changes_of now user (Begin t row kind) = []
-changes_of now user (Install t given) = []
+changes_of now user act = []

@@ -30,9 +30,9 @@ use Rattle.tab_policy.specs.Actions as action
 use Rattle.tab_policy.specs.Actions.{Action}
 use Rattle.tab_history.specs.declared.event.Scan.{Scan}
 use Rattle.tab_history.specs.declared.event.Act.{Act}
-use Rattle.tab_history.specs.declared.event.Act.TheVariants.{Open, Write, CreateTable, DropTable, SetConstraints, CreateUser, DropUser, SetAuths, Grant, Revoke, Rights, Status, Flush, Compact, AddSplit, SplitBySize, Splits, Save, Load, Begin, Install}
+use Rattle.tab_history.specs.declared.event.Act.TheVariants.{Open, Write, CreateTable, DropTable, SetConstraints, SetVersions, SetHorizon, CreateUser, DropUser, SetAuths, Grant, Revoke, Rights, Status, Flush, Compact, AddSplit, SplitBySize, Splits, Save, Rotate, Load, Begin, Install}
 use Rattle.tab_history.specs.declared.reply.Refusal.{Refusal}
-use Rattle.tab_history.specs.declared.reply.Refusal.TheVariants.{UnknownUser, NoTable, PermissionDenied, BadAuthorizations, MalformedVisibility, ConstraintViolation, TimestampNotAllowed, EmptyMutation, TooLarge, TableExists, UserExists, NoUser, BadRange, RootFixed, GrantInvalid, BelowHorizon}
+use Rattle.tab_history.specs.declared.reply.Refusal.TheVariants.{UnknownUser, NoTable, PermissionDenied, BadAuthorizations, MalformedVisibility, ConstraintViolation, TimestampNotAllowed, EmptyMutation, TooLarge, TableExists, UserExists, NoUser, BadRange, RootFixed, GrantInvalid, BelowHorizon, VersionsRaised, HorizonLowered, ServerTime}
 
 -- ---- what the checks of an event look at
 -- the caller's standing with the policy, the authorizations that he holds, and what each table is set to
@@ -56,22 +56,7 @@ user_named (DropUser n) = Some n
 user_named (SetAuths n auths) = Some n
 user_named (Grant n p) = Some n
 user_named (Revoke n p) = Some n
-user_named (Open scan) = None
-user_named (Write t m) = None
-user_named (CreateTable t time n) = None
-user_named (DropTable t) = None
-user_named (SetConstraints t cs) = None
-user_named (Rights t) = None
-user_named (Status t) = None
-user_named (Flush t) = None
-user_named (Compact t extent) = None
-user_named (AddSplit t row) = None
-user_named (SplitBySize t row limit) = None
-user_named (Splits t) = None
-user_named Save = None
-user_named Load = None
-user_named (Begin t row kind) = None
-user_named (Install t given) = None
+user_named act = None
 
 -- whether that user exists, where one is named
 abbrev pub exists_in : Base → List Change → Option (List ℕ) → Bool
@@ -86,6 +71,8 @@ action_of (Write t m) = action.OnTable on.Write t
 action_of (CreateTable t time n) = action.OnServer server.CreateTable
 action_of (DropTable t) = action.OnTable on.DropTable t
 action_of (SetConstraints t cs) = action.OnTable on.SetConstraints t
+action_of (SetVersions t many) = action.OnTable on.SetVersions t
+action_of (SetHorizon t low) = action.OnTable on.SetHorizon t
 action_of (CreateUser n) = action.OnServer server.CreateUser
 action_of (DropUser n) = action.OnServer server.DropUser
 action_of (SetAuths n auths) = action.OnServer server.SetAuths
@@ -99,6 +86,7 @@ action_of (AddSplit t row) = action.OnTable on.AddSplit t
 action_of (SplitBySize t row limit) = action.OnTable on.SplitBySize t
 action_of (Splits t) = action.OnTable on.Splits t
 action_of Save = action.OnServer server.Save
+action_of Rotate = action.OnServer server.Rotate
 action_of Load = action.OnServer server.Load
 action_of (Begin t row kind) = action.OnTable on.Begin t
 action_of (Install t given) = action.OnTable on.Install t
@@ -167,29 +155,31 @@ right_checks there n (OfTable p t) = when (not there) (NoUser n) ∷ []
 abbrev pub row_checks : List ℕ → List (Option Refusal)
 row_checks row = when (is_too_long row) (TooLarge Row) ∷ []
 
+-- the number of versions isn't raised
+abbrev pub version_checks : Option Settings → ℕ → List (Option Refusal)
+version_checks None many = []
+version_checks (Some s) many = when (nat_lt s.versions many) (VersionsRaised s.versions) ∷ []
+
+-- the table takes timestamps, and its horizon isn't lowered
+abbrev pub horizon_checks : Option Settings → ℤ → List (Option Refusal)
+horizon_checks None low = []
+horizon_checks (Some s) low = when (not (takes_timestamps s.time)) ServerTime ∷ when (int_lt low s.horizon) (HorizonLowered s.horizon) ∷ []
+
 -- the checks that are an event's own, where the clock is now; there says whether the user that it names exists
 abbrev pub own_checks : Caller → Bool → ℤ → Act → List (Option Refusal)
 own_checks c there now (Open scan) = scan_checks c.auths scan
 own_checks c there now (Write t m) = mutation_checks (c.settings t) c.auths now m
 own_checks c there now (CreateTable t time n) = when (is_some (c.settings t)) (TableExists t) ∷ []
-own_checks c there now (DropTable t) = []
-own_checks c there now (SetConstraints t cs) = []
+own_checks c there now (SetVersions t many) = version_checks (c.settings t) many
+own_checks c there now (SetHorizon t low) = horizon_checks (c.settings t) low
 own_checks c there now (CreateUser n) = when there (UserExists n) ∷ []
 own_checks c there now (DropUser n) = when (not there) (NoUser n) ∷ when (bytes_eq n root) RootFixed ∷ []
 own_checks c there now (SetAuths n auths) = when (too_many_auths auths) (TooLarge Authorizations) ∷ when (not there) (NoUser n) ∷ []
 own_checks c there now (Grant n p) = right_checks there n p
 own_checks c there now (Revoke n p) = right_checks there n p
-own_checks c there now (Rights t) = []
-own_checks c there now (Status t) = []
-own_checks c there now (Flush t) = []
-own_checks c there now (Compact t extent) = []
 own_checks c there now (AddSplit t row) = row_checks row
 own_checks c there now (SplitBySize t row limit) = row_checks row
-own_checks c there now (Splits t) = []
-own_checks c there now Save = []
-own_checks c there now Load = []
-own_checks c there now (Begin t row kind) = []
-own_checks c there now (Install t given) = []
+own_checks c there now act = []
 
 -- why the event is refused: the first failing check, the policy's before its own
 unfoldable pub refusal_of : Caller → Bool → ℤ → List ℕ → Act → Option Refusal

@@ -1,6 +1,6 @@
 -- Worked examples, computed: lists of steps from a new core, and the replies to them that say more than that all went well. Where a
 -- reply is left open they show one: of a Status zeros, of a Splits no rows, a split and an Install as done, and a Begin as begun.
-use Rattle.std.specs.Prelude.{◌≡◌, ℕ, ◌-◌, ℤ, pos, nat_le, length, List, [], ◌∷◌, ◌++◌, Bool, true, false, cond, Option, Some, None, codes, reverse, replicate, refl}
+use Rattle.std.specs.Prelude.{negsuc, ◌≡◌, ℕ, ◌-◌, ℤ, pos, nat_le, length, List, [], ◌∷◌, ◌++◌, Bool, true, false, cond, Option, Some, None, codes, reverse, replicate, refl}
 use Rattle.std.proofs.Common.{inl, inr, subst}
 use Rattle.tab_key.specs.Records.{Cell}
 use Rattle.tab_key.specs.Order.{column_cmp, key_cmp, place_cmp, newer_cmp}
@@ -47,7 +47,7 @@ use Rattle.tab_history.specs.declared.event.Act.{Act}
 use Rattle.tab_history.specs.declared.event.Act.TheVariants as act
 use Rattle.tab_history.specs.declared.event.Step.{Step}
 use Rattle.tab_history.specs.declared.event.Step.TheVariants.{Next, Many, Close, Merge}
-use Rattle.tab_history.specs.declared.reply.Refusal.TheVariants.{UnknownUser, NoTable, PermissionDenied, BadAuthorizations, MalformedVisibility, ConstraintViolation, TimestampNotAllowed, EmptyMutation, TooLarge, TableExists, UserExists, NoUser, BadRange, NoSession, NoJob, Stale, NoMemory, RootFixed, GrantInvalid, BelowHorizon, BadSplit}
+use Rattle.tab_history.specs.declared.reply.Refusal.TheVariants.{VersionsRaised, HorizonLowered, ServerTime, UnknownUser, NoTable, PermissionDenied, BadAuthorizations, MalformedVisibility, ConstraintViolation, TimestampNotAllowed, EmptyMutation, TooLarge, TableExists, UserExists, NoUser, BadRange, NoSession, NoJob, Stale, NoMemory, RootFixed, GrantInvalid, BelowHorizon, BadSplit}
 use Rattle.tab_history.specs.declared.reply.Reply.TheVariants.{Done, Refused, Opened, Batch, Ranges, Rights, Counted, Rows, Nothing}
 use Rattle.tab_history.specs.ExampleWords.{t, r, f, q, v, bob, everywhere, asks, as_root, as_bob}
 
@@ -635,10 +635,10 @@ shared_jobs : replies (make ∷ make_bob ∷ as_root (act.Grant bob (OfTable tab
 unfolding everything
 shared_jobs = refl
 
--- a Begin begins a job, or there is nothing to merge, or the numbers of jobs are used up
-may_begin : MayBeTold (begins part.Full) told_begun × MayBeTold (begins part.Full) Nothing × MayBeTold (begins part.Full) (Refused (TooLarge Numbers))
+-- a Begin begins a job, or there is nothing to merge
+may_begin : MayBeTold (begins part.Full) told_begun × MayBeTold (begins part.Full) Nothing
 unfolding everything
-may_begin = (inl refl, inr (inl refl), inr (inr refl))
+may_begin = (inl refl, inr refl)
 
 -- whether the reply says no more than that it was done
 abbrev SaysDone : Told → Type 0
@@ -649,8 +649,7 @@ SaysDone _ = ⊥
 never_done : MayBeTold (begins part.Full) Done → ⊥
 unfolding everything
 never_done (inl e) = subst SaysDone e tt
-never_done (inr (inl e)) = subst SaysDone e tt
-never_done (inr (inr e)) = subst SaysDone e tt
+never_done (inr e) = subst SaysDone e tt
 
 -- an Install is done, or stale with any count
 may_install : (count : ℕ) → MayBeTold (by_hand 0) Done × MayBeTold (by_hand 0) (Refused (Stale count))
@@ -819,3 +818,28 @@ no_user b full = (λ i. nat_le 4294967295 (full i), λ i. nat_le 4294967295 (ful
 counted : (user_count new_core [] ≡ 1) × (table_count new_core [] ≡ 0) × (user_count new_core (journal (world_of new_core) (played (world_of new_core) [] (make ∷ make_bob ∷ as_root (act.CreateUser bob) ∷ as_root (act.DropTable t) ∷ make ∷ []))) ≡ 2) × (table_count new_core (journal (world_of new_core) (played (world_of new_core) [] (make ∷ make_bob ∷ as_root (act.DropTable t) ∷ make ∷ []))) ≡ 1)
 unfolding everything
 counted = (refl, refl, refl, refl)
+
+-- ---- settings that change
+-- what is below the horizon is refused, a lower horizon and more versions too; the present ones again are not
+one_way : replies (make ∷ as_root (act.SetHorizon t (pos 10)) ∷ as_root (act.SetHorizon t (pos 10)) ∷ as_root (act.SetVersions t 1) ∷ as_root (writes r (put [] v (Some (pos 9)) ∷ [])) ∷ as_root (act.SetHorizon t (pos 9)) ∷ as_root (act.SetVersions t 2) ∷ [])
+    ≡ Refused (BelowHorizon 0) ∷ Refused (HorizonLowered (pos 10)) ∷ Refused (VersionsRaised 1) ∷ []
+unfolding everything
+one_way = refl
+
+-- a session that was opened before shows as many versions as then, one behind it fewer
+lowered : replies (as_root (act.CreateTable t Any 3) ∷ as_root (writes r (put [] (codes "x") (Some (pos 1)) ∷ put [] (codes "y") (Some (pos 2)) ∷ put [] (codes "z") (Some (pos 3)) ∷ [])) ∷ as_root (opens everywhere []) ∷ as_root (act.SetVersions t 2) ∷ scan [] 1 ++ Next root 0 9 ∷ [])
+    ≡ Batch (cell r [] (pos 3) (codes "z") ∷ cell r [] (pos 2) (codes "y") ∷ []) ∷ Batch (cell r [] (pos 3) (codes "z") ∷ cell r [] (pos 2) (codes "y") ∷ cell r [] (pos 1) (codes "x") ∷ []) ∷ []
+unfolding everything
+lowered = refl
+
+-- the clock below the horizon: an update without a timestamp is refused, one at it is taken
+clock_below : replies (make ∷ as_root (act.SetHorizon t (pos 10)) ∷ as_root (writes r (put [] v None ∷ [])) ∷ asks root (pos 10) (writes r (put [] v None ∷ [])) ∷ scan [] 0)
+    ≡ Refused (BelowHorizon 0) ∷ Batch (cell r [] (pos 10) v ∷ []) ∷ []
+unfolding everything
+clock_below = refl
+
+-- a table that gives the timestamps has no horizon, also no least one; a new life begins with neither
+server_horizon : replies (as_root (act.CreateTable t Server 1) ∷ as_root (act.SetHorizon t (negsuc 9223372036854775807)) ∷ as_root (act.DropTable t) ∷ make ∷ as_root (act.SetHorizon t (pos 5)) ∷ as_root (act.DropTable t) ∷ make ∷ as_root (writes r (put [] v (Some (pos 1)) ∷ [])) ∷ scan [] 0)
+    ≡ Refused ServerTime ∷ Batch (cell r [] (pos 1) v ∷ []) ∷ []
+unfolding everything
+server_horizon = refl

@@ -4,9 +4,9 @@ use Rattle.tab_history.specs.Answers.{Told, answer, IsReply}
 use Rattle.tab_history.specs.Histories.{Entry, World, clock_of, clock_at, journal, user_of, moves_of, jobs_of}
 use Rattle.tab_key.specs.declared.part.Part.TheVariants.{Numbers}
 use Rattle.tab_history.specs.declared.event.Act.{Act}
-use Rattle.tab_history.specs.declared.event.Act.TheVariants.{Open, Write, CreateTable, DropTable, SetConstraints, CreateUser, DropUser, SetAuths, Grant, Revoke, Rights, Status, Flush, Compact, AddSplit, SplitBySize, Splits, Save, Load, Begin, Install}
+use Rattle.tab_history.specs.Kinds.{kind_of, is_taking}
 use Rattle.tab_history.specs.declared.event.Step.{Step}
-use Rattle.tab_history.specs.declared.event.Step.TheVariants.{Event, Next, Many, Close, Merge}
+use Rattle.tab_history.specs.declared.event.Step.TheVariants.{Event, Close}
 use Rattle.tab_history.specs.declared.reply.Refusal.TheVariants.{NoMemory, TooLarge}
 use Rattle.tab_history.specs.declared.reply.Reply.TheVariants.{Refused}
 
@@ -22,35 +22,13 @@ IsAnswer w es own step reply = IsReply step (answer_at w es own step) reply
 -- Whether the act takes memory: those don't that only take away, put what was handed in in place of what is there, count, or only ask
 -- whether an image may be saved or loaded.
 abbrev pub takes_memory : Act → Bool
-takes_memory (DropTable t) = false
-takes_memory (SetConstraints t cs) = false
-takes_memory (DropUser n) = false
-takes_memory (SetAuths n auths) = false
-takes_memory (Revoke n p) = false
-takes_memory (Status t) = false
-takes_memory Save = false
-takes_memory Load = false
-takes_memory (Open scan) = true
-takes_memory (Write t m) = true
-takes_memory (CreateTable t time n) = true
-takes_memory (CreateUser n) = true
-takes_memory (Grant n p) = true
-takes_memory (Rights t) = true
-takes_memory (Flush t) = true
-takes_memory (Compact t extent) = true
-takes_memory (AddSplit t row) = true
-takes_memory (SplitBySize t row limit) = true
-takes_memory (Splits t) = true
-takes_memory (Begin t row kind) = true
-takes_memory (Install t given) = true
+takes_memory act = is_taking (kind_of act)
 
 -- whether memory may lack for the step
 abbrev pub may_lack : Step → Bool
 may_lack (Event e) = takes_memory e.act
-may_lack (Next user slot n) = true
-may_lack (Many user slot ranges) = true
 may_lack (Close user slot) = false
-may_lack (Merge slot) = true
+may_lack step = true
 
 -- memory lacked for a step that takes some
 abbrev pub LacksMemory : Step → Told → Type 0

@@ -1,3 +1,4 @@
+pub mod Kinds
 pub mod Settings
 pub mod Bases
 pub mod Changes

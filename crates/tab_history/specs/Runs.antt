@@ -5,45 +5,25 @@ use Rattle.tab_history.specs.Histories.{Entry, World, world_after, steps_of}
 use Rattle.tab_history.specs.Legal.{answer_at, Legal, LegalAlone, HasMemory, LacksWhereItMay}
 use Rattle.tab_key.specs.declared.part.Part.TheVariants.{Sessions}
 use Rattle.tab_history.specs.declared.event.Act.{Act}
-use Rattle.tab_history.specs.declared.event.Act.TheVariants.{Open, Write, CreateTable, DropTable, SetConstraints, CreateUser, DropUser, SetAuths, Grant, Revoke, Rights, Status, Flush, Compact, AddSplit, SplitBySize, Splits, Save, Load, Begin, Install}
+use Rattle.tab_history.specs.declared.event.Act.TheVariants.{Status, Splits, Begin}
 use Rattle.tab_history.specs.declared.event.Step.{Step}
-use Rattle.tab_history.specs.declared.event.Step.TheVariants.{Event, Next, Many, Close, Merge}
+use Rattle.tab_history.specs.declared.event.Step.TheVariants.{Event}
 use Rattle.tab_history.specs.declared.reply.Refusal.TheVariants.{NoMemory, TooLarge, NoSession, NoJob}
 use Rattle.tab_history.specs.declared.reply.Reply.TheVariants.{Refused, Counted, Rows}
 
 -- ---- The law: each list of steps has a legal history.
 -- one of what may be told of an event that isn't refused
 abbrev pub one_of : Act → Told → Told
-one_of (Open scan) plain = plain
-one_of (Write t m) plain = plain
-one_of (CreateTable t time n) plain = plain
-one_of (DropTable t) plain = plain
-one_of (SetConstraints t cs) plain = plain
-one_of (CreateUser n) plain = plain
-one_of (DropUser n) plain = plain
-one_of (SetAuths n auths) plain = plain
-one_of (Grant n p) plain = plain
-one_of (Revoke n p) plain = plain
-one_of (Rights t) plain = plain
 one_of (Status t) plain = Counted (record { tablets = 0; sources = 0; records = 0 })
-one_of (Flush t) plain = plain
-one_of (Compact t extent) plain = plain
-one_of (AddSplit t row) plain = plain
-one_of (SplitBySize t row limit) plain = plain
 one_of (Splits t) plain = Rows []
-one_of Save plain = plain
-one_of Load plain = plain
 one_of (Begin t row kind) plain = told_begun
-one_of (Install t given) plain = plain
+one_of act plain = plain
 
 -- one of the replies to a step with this answer
 abbrev pub one_reply : Step → Told → Told
 one_reply (Event e) (Refused r) = Refused r
 one_reply (Event e) plain = one_of e.act plain
-one_reply (Next user slot n) plain = plain
-one_reply (Many user slot ranges) plain = plain
-one_reply (Close user slot) plain = plain
-one_reply (Merge slot) plain = plain
+one_reply step plain = plain
 
 -- one of the replies to a step after these entries, in one run
 abbrev pub answer_to : World → List Entry → Step → Told
@@ -62,10 +42,7 @@ EveryRunIsAnswered = (w : World) (steps : List Step) → (es : List Entry) × Le
 -- whether what is told of the step is left open
 abbrev pub is_left_open : Step → Bool
 is_left_open (Event e) = leaves_open e.act
-is_left_open (Next user slot n) = false
-is_left_open (Many user slot ranges) = false
-is_left_open (Close user slot) = false
-is_left_open (Merge slot) = false
+is_left_open step = false
 
 -- the step of an entry, and its reply where that is left open
 abbrev pub asked_of : Entry → Step × Option Told
@@ -88,10 +65,7 @@ IsNoEvent (Event e) (Refused (TooLarge Sessions)) = Unit {0}
 IsNoEvent (Event e) (Refused (NoSession slot)) = Unit {0}
 IsNoEvent (Event e) (Refused (NoJob slot)) = Unit {0}
 IsNoEvent (Event e) reply = ⊥
-IsNoEvent (Next user slot n) reply = Unit {0}
-IsNoEvent (Many user slot ranges) reply = Unit {0}
-IsNoEvent (Close user slot) reply = Unit {0}
-IsNoEvent (Merge slot) reply = Unit {0}
+IsNoEvent step reply = Unit {0}
 
 -- users, rights, tables and the clock stay as they were
 abbrev pub Unmoved : Type 0

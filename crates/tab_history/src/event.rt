@@ -70,6 +70,10 @@ pub enum Act {
     DropTable(Name),
     /// Set which constraints the table has, in place of those that it had. (Accumulo user manual: constraints)
     SetConstraints(Name, ConstraintSet),
+    /// Show so many versions of a column of the table, no more than it shows.
+    SetVersions(Name, Versions),
+    /// Take no update of the table below this time, which isn't below the one that it has. Refused where the table gives the timestamps.
+    SetHorizon(Name, i64),
     /// Make a user without rights and authorizations, whatever a dropped user of the name had. Refused where there is a user of the name,
     /// and last of all where there are 2^32 - 1 users.
     CreateUser(Name),
@@ -113,6 +117,8 @@ pub enum Act {
     /// Ask whether an image may be loaded in place of all users, rights and tables. Where it is done the caller may load one: the event
     /// itself changes nothing but the clock.
     Load,
+    /// Ask whether a history may be handed out. The event itself changes nothing but the clock.
+    Rotate,
     /// Begin a compaction of this kind in the tablet that holds the row, which may be of any length. What was written to the tablet since it
     /// was last frozen is frozen, and it is settled what is to be merged: all runs, some of the sorted tables, chosen by their sizes, or all
     /// that the tablet holds. The job that is handed out makes the merge, apart from all events, and an `Install` puts it in place; scans and
@@ -203,6 +209,8 @@ fn copied_act(act: &Act) -> Result<Act, AllocError>
         Act::CreateTable(table, time, versions) => Act::CreateTable(*table, *time, *versions),
         Act::DropTable(table) => Act::DropTable(*table),
         Act::SetConstraints(table, set) => Act::SetConstraints(*table, set.clone()?),
+        Act::SetVersions(table, versions) => Act::SetVersions(*table, *versions),
+        Act::SetHorizon(table, horizon) => Act::SetHorizon(*table, *horizon),
         Act::CreateUser(name) => Act::CreateUser(*name),
         Act::DropUser(name) => Act::DropUser(*name),
         Act::SetAuths(name, auths) => Act::SetAuths(*name, auths.clone()?),
@@ -217,6 +225,7 @@ fn copied_act(act: &Act) -> Result<Act, AllocError>
         Act::Splits(table) => Act::Splits(*table),
         Act::Save => Act::Save,
         Act::Load => Act::Load,
+        Act::Rotate => Act::Rotate,
         Act::Begin(table, row, kind) => Act::Begin(*table, row.clone()?, *kind),
         Act::Install(table, given) => Act::Install(*table, *given),
     })

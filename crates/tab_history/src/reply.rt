@@ -55,6 +55,12 @@ pub enum Refusal {
     GrantInvalid,
     /// The first update whose timestamp is below the table's horizon.
     BelowHorizon(u32),
+    /// More versions are asked for than the table shows; the present number.
+    VersionsRaised(u32),
+    /// The horizon asked for is below the table's; the present one.
+    HorizonLowered(i64),
+    /// The table gives the timestamps, and has no horizon.
+    ServerTime,
     /// The tablet isn't split, for this reason.
     BadSplit(SplitFault),
 }

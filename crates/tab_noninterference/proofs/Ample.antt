@@ -11,7 +11,7 @@ use Rattle.tab_history.specs.Jobs.{JobMove}
 use Rattle.tab_history.specs.Answers.{Told, told, granted, are_used_up, numbered, event_answer, is_open, next_answer, many_answer, close_answer, empty_slot, slotted, answer}
 use Rattle.tab_history.specs.Legal.{IsExhausted}
 use Rattle.tab_history.specs.declared.event.Act.{Act}
-use Rattle.tab_history.specs.declared.event.Act.TheVariants.{Open, Write, CreateTable, DropTable, SetConstraints, CreateUser, DropUser, SetAuths, Grant, Revoke, Rights, Status, Flush, Compact, AddSplit, SplitBySize, Splits, Save, Load, Begin, Install}
+use Rattle.tab_history.specs.declared.event.Act.TheVariants.{Install}
 use Rattle.tab_history.specs.declared.event.Step.{Step}
 use Rattle.tab_history.specs.declared.event.Step.TheVariants.{Event, Next, Many, Close, Merge}
 use Rattle.tab_history.specs.declared.reply.Refusal.{Refusal}
@@ -38,27 +38,8 @@ not_numbered (Some r) used_up reply n = refl
 
 -- the act names no slot, where it isn't aside
 outer_slot : (act : Act) (jobs : List JobMove) → is_inner act ≡ false → empty_slot jobs act ≡ None
-outer_slot (Open scan) jobs e = refl
-outer_slot (Write t m) jobs e = refl
-outer_slot (CreateTable t time n) jobs e = refl
-outer_slot (DropTable t) jobs e = refl
-outer_slot (SetConstraints t cs) jobs e = refl
-outer_slot (CreateUser n) jobs e = refl
-outer_slot (DropUser n) jobs e = refl
-outer_slot (SetAuths n auths) jobs e = refl
-outer_slot (Grant n p) jobs e = refl
-outer_slot (Revoke n p) jobs e = refl
-outer_slot (Rights t) jobs e = refl
-outer_slot (Status t) jobs e = refl
-outer_slot (Flush t) jobs e = refl
-outer_slot (Compact t extent) jobs e = refl
-outer_slot (AddSplit t row) jobs e = refl
-outer_slot (SplitBySize t row limit) jobs e = refl
-outer_slot (Splits t) jobs e = refl
-outer_slot Save jobs e = refl
-outer_slot Load jobs e = refl
-outer_slot (Begin t row kind) jobs e = refl
 outer_slot (Install t given) jobs e = absurd (true≢false e)
+outer_slot act jobs e = refl
 
 -- an answer that isn't that something ran out is the one by the checks alone, where the step isn't aside
 pub is_ample : (b : Base) (j : List Change) (moves : List Move) (jobs : List JobMove) (now : ℤ) (step : Step) → is_aside step ≡ false → (IsExhausted (answer b j moves jobs now step) → ⊥) → answer b j moves jobs now step ≡ ample_answer b j moves now step
@@ -74,7 +55,5 @@ is_ample b j moves jobs now (Event e) a n = go (is_open e.act && is_full moves) 
     go false n =
         ap (λ o. slotted o (event_answer b j now e.user e.act)) slots
         ∙ not_numbered (refusal_of (standing b j e.user) (exists_in b j (user_named e.act)) now e.user e.act) (are_used_up b j e.act) (granted (standing b j e.user) e.act) (subst (λ o. IsExhausted (slotted o (event_answer b j now e.user e.act)) → ⊥) slots n)
-is_ample b j moves jobs now (Next user slot k) a n = refl
-is_ample b j moves jobs now (Many user slot ranges) a n = refl
-is_ample b j moves jobs now (Close user slot) a n = refl
 is_ample b j moves jobs now (Merge slot) a n = absurd (true≢false a)
+is_ample b j moves jobs now step a n = refl

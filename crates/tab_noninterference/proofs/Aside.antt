@@ -7,7 +7,7 @@ use Rattle.tab_history.specs.Changes.{Change, changes_of}
 use Rattle.tab_history.specs.Answers.{Told, leaves_open, is_open, changes_by, moves_by}
 use Rattle.tab_history.specs.Runs.{is_left_open}
 use Rattle.tab_history.specs.declared.event.Act.{Act}
-use Rattle.tab_history.specs.declared.event.Act.TheVariants.{Open, Write, CreateTable, DropTable, SetConstraints, CreateUser, DropUser, SetAuths, Grant, Revoke, Rights, Status, Flush, Compact, AddSplit, SplitBySize, Splits, Save, Load, Begin, Install}
+use Rattle.tab_history.specs.declared.event.Act.TheVariants.{Status, Flush, Compact, AddSplit, SplitBySize, Splits, Save, Rotate, Load, Begin, Install}
 use Rattle.tab_history.specs.declared.event.Step.{Step}
 use Rattle.tab_history.specs.declared.event.Step.TheVariants.{Event, Next, Many, Close, Merge}
 use Rattle.tab_noninterference.specs.Views.{is_inner, is_aside}
@@ -28,34 +28,21 @@ inner_does_nothing (AddSplit t row) e = record { changes = λ now user. refl; op
 inner_does_nothing (SplitBySize t row limit) e = record { changes = λ now user. refl; opens = refl; uncovered = refl }
 inner_does_nothing (Splits t) e = record { changes = λ now user. refl; opens = refl; uncovered = refl }
 inner_does_nothing Save e = record { changes = λ now user. refl; opens = refl; uncovered = refl }
+inner_does_nothing Rotate e = record { changes = λ now user. refl; opens = refl; uncovered = refl }
 inner_does_nothing Load e = record { changes = λ now user. refl; opens = refl; uncovered = refl }
 inner_does_nothing (Begin t row kind) e = record { changes = λ now user. refl; opens = refl; uncovered = refl }
 inner_does_nothing (Install t given) e = record { changes = λ now user. refl; opens = refl; uncovered = refl }
-inner_does_nothing (Open scan) e = absurd (true≢false (sym e))
-inner_does_nothing (Write t m) e = absurd (true≢false (sym e))
-inner_does_nothing (CreateTable t time n) e = absurd (true≢false (sym e))
-inner_does_nothing (DropTable t) e = absurd (true≢false (sym e))
-inner_does_nothing (SetConstraints t cs) e = absurd (true≢false (sym e))
-inner_does_nothing (CreateUser n) e = absurd (true≢false (sym e))
-inner_does_nothing (DropUser n) e = absurd (true≢false (sym e))
-inner_does_nothing (SetAuths n auths) e = absurd (true≢false (sym e))
-inner_does_nothing (Grant n p) e = absurd (true≢false (sym e))
-inner_does_nothing (Revoke n p) e = absurd (true≢false (sym e))
-inner_does_nothing (Rights t) e = absurd (true≢false (sym e))
+inner_does_nothing act e = absurd (true≢false (sym e))
 
 pub aside_changes : (now : ℤ) (step : Step) (r : Told) → is_aside step ≡ true → changes_by now step r ≡ []
 aside_changes now (Event e) r a = no_changes now e.user e.moment e.act r ((inner_does_nothing e.act a).changes now e.user)
-aside_changes now (Next u slot n) r a = absurd (true≢false (sym a))
-aside_changes now (Many u slot ranges) r a = absurd (true≢false (sym a))
-aside_changes now (Close u slot) r a = absurd (true≢false (sym a))
 aside_changes now (Merge slot) r a = refl
+aside_changes now step r a = absurd (true≢false (sym a))
 
 pub aside_moves : (b : Base) (j : List Change) (step : Step) (r : Told) → is_aside step ≡ true → moves_by b j step r ≡ []
 aside_moves b j (Event e) r a = no_moves b j e.user e.moment e.act r (inner_does_nothing e.act a).opens
-aside_moves b j (Next u slot n) r a = absurd (true≢false (sym a))
-aside_moves b j (Many u slot ranges) r a = absurd (true≢false (sym a))
-aside_moves b j (Close u slot) r a = absurd (true≢false (sym a))
 aside_moves b j (Merge slot) r a = refl
+aside_moves b j step r a = absurd (true≢false (sym a))
 
 pub aside_heard : (b : Base) (j : List Change) (step : Step) (r : Told) → is_aside step ≡ true → heard_of b j step r ≡ []
 aside_heard b j (Event e) r a = rw (inner_does_nothing e.act a).uncovered refl
@@ -67,30 +54,13 @@ aside_heard b j (Merge slot) r a = refl
 -- what is told of the other steps isn't left open
 outer_closed : (act : Act) → is_inner act ≡ false → leaves_open act ≡ false
 outer_closed (Status t) e = absurd (true≢false e)
-outer_closed (Flush t) e = refl
-outer_closed (Compact t extent) e = refl
 outer_closed (AddSplit t row) e = absurd (true≢false e)
 outer_closed (SplitBySize t row limit) e = absurd (true≢false e)
 outer_closed (Splits t) e = absurd (true≢false e)
-outer_closed Save e = refl
-outer_closed Load e = refl
 outer_closed (Begin t row kind) e = absurd (true≢false e)
 outer_closed (Install t given) e = absurd (true≢false e)
-outer_closed (Open scan) e = refl
-outer_closed (Write t m) e = refl
-outer_closed (CreateTable t time n) e = refl
-outer_closed (DropTable t) e = refl
-outer_closed (SetConstraints t cs) e = refl
-outer_closed (CreateUser n) e = refl
-outer_closed (DropUser n) e = refl
-outer_closed (SetAuths n auths) e = refl
-outer_closed (Grant n p) e = refl
-outer_closed (Revoke n p) e = refl
-outer_closed (Rights t) e = refl
+outer_closed act e = refl
 
 pub outside_closed : (step : Step) → is_aside step ≡ false → is_left_open step ≡ false
 outside_closed (Event e) a = outer_closed e.act a
-outside_closed (Next u slot n) a = refl
-outside_closed (Many u slot ranges) a = refl
-outside_closed (Close u slot) a = refl
-outside_closed (Merge slot) a = refl
+outside_closed step a = refl

@@ -22,7 +22,7 @@ use Rattle.tab_history.specs.Answers.{Told, told_opened, told, granted, is_open,
 use Rattle.tab_history.specs.Histories.{user_of}
 use Rattle.tab_history.specs.declared.event.Scan.{Scan}
 use Rattle.tab_history.specs.declared.event.Act.{Act}
-use Rattle.tab_history.specs.declared.event.Act.TheVariants.{Open, Write, CreateTable, DropTable, SetConstraints, CreateUser, DropUser, SetAuths, Grant, Revoke, Rights, Status, Flush, Compact, AddSplit, SplitBySize, Splits, Save, Load, Begin, Install}
+use Rattle.tab_history.specs.declared.event.Act.TheVariants.{Open, Write, CreateUser, DropUser, SetAuths, Grant, Revoke, Rights}
 use Rattle.tab_history.specs.declared.event.Step.{Step}
 use Rattle.tab_history.specs.declared.event.Step.TheVariants.{Event, Next, Many, Close, Merge}
 use Rattle.tab_history.specs.declared.reply.Refusal.{Refusal}
@@ -172,9 +172,6 @@ module _ (held : List (List ℕ)) (b : Base) (user : List ℕ) (low : (t : List 
   event_effect m (Open scan) within = open_effect m scan within
   event_effect m (Write t x) within = plain_effect m (Write t x) refl refl (λ r. listless c b his j user m (Write t x) r refl)
   event_effect m (Rights t) within = plain_effect m (Rights t) refl refl (λ r. listless c b his j user m (Rights t) r refl)
-  event_effect m (CreateTable t time n) within = plain_effect m (CreateTable t time n) refl refl (λ x. refl)
-  event_effect m (DropTable t) within = plain_effect m (DropTable t) refl refl (λ x. refl)
-  event_effect m (SetConstraints t cs) within = plain_effect m (SetConstraints t cs) refl refl (λ x. refl)
   event_effect m (CreateUser n) within = named_effect m (CreateUser n) n refl refl refl (unseen_one n _)
   event_effect m (DropUser n) within = named_effect m (DropUser n) n refl refl refl (unseen_one n _)
   event_effect m (Grant n (OfSystem p)) within = named_effect m (Grant n (OfSystem p)) n refl refl refl (unseen_one n _)
@@ -182,16 +179,7 @@ module _ (held : List (List ℕ)) (b : Base) (user : List ℕ) (low : (t : List 
   event_effect m (Revoke n (OfSystem p)) within = named_effect m (Revoke n (OfSystem p)) n refl refl refl (unseen_one n _)
   event_effect m (Revoke n (OfTable p t)) within = named_effect m (Revoke n (OfTable p t)) n refl refl refl (unseen_one n _)
   event_effect m (SetAuths n auths) within = named_effect m (SetAuths n auths) n refl refl refl (unseen_one n _)
-  event_effect m (Status t) within = plain_effect m (Status t) refl refl (λ x. refl)
-  event_effect m (Flush t) within = plain_effect m (Flush t) refl refl (λ x. refl)
-  event_effect m (Compact t extent) within = plain_effect m (Compact t extent) refl refl (λ x. refl)
-  event_effect m (AddSplit t row) within = plain_effect m (AddSplit t row) refl refl (λ x. refl)
-  event_effect m (SplitBySize t row limit) within = plain_effect m (SplitBySize t row limit) refl refl (λ x. refl)
-  event_effect m (Splits t) within = plain_effect m (Splits t) refl refl (λ x. refl)
-  event_effect m Save within = plain_effect m Save refl refl (λ x. refl)
-  event_effect m Load within = plain_effect m Load refl refl (λ x. refl)
-  event_effect m (Begin t row kind) within = plain_effect m (Begin t row kind) refl refl (λ x. refl)
-  event_effect m (Install t given) within = plain_effect m (Install t given) refl refl (λ x. refl)
+  event_effect m act within = plain_effect m act refl refl (λ x. refl)
 
   pub own_effect : (step : Step) → user_of step ≡ user → IsSubset (auths_given b user j) held → Same step
   unfolding ample_answer

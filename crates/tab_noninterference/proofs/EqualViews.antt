@@ -12,9 +12,9 @@ use Rattle.tab_history.specs.Answers.{Told, is_open, changes_by, moves_by}
 use Rattle.tab_history.specs.Histories.{Entry, World, world_of, clock_of, clock_at, journal, moves_of, jobs_of, is_by, user_of}
 use Rattle.tab_history.specs.Legal.{answer_at, IsAnswer, Legal, IsAmple, IsExhausted, LacksMemory}
 use Rattle.tab_history.specs.declared.event.Act.{Act}
-use Rattle.tab_history.specs.declared.event.Act.TheVariants.{Open, Write, CreateTable, DropTable, SetConstraints, CreateUser, DropUser, SetAuths, Grant, Revoke, Rights, Status, Flush, Compact, AddSplit, SplitBySize, Splits, Save, Load, Begin, Install}
+use Rattle.tab_history.specs.declared.event.Act.TheVariants.{Open}
 use Rattle.tab_history.specs.declared.event.Step.{Step}
-use Rattle.tab_history.specs.declared.event.Step.TheVariants.{Event, Next, Many, Close, Merge}
+use Rattle.tab_history.specs.declared.event.Step.TheVariants.{Event, Next}
 use Rattle.tab_history.specs.declared.reply.Refusal.TheVariants.{TooLarge}
 use Rattle.tab_history.specs.declared.reply.Reply.TheVariants.{Refused}
 use Rattle.tab_noninterference.proofs.Ample.{is_ample, ample_event, ample_answer}
@@ -48,40 +48,16 @@ clock_irrelevant b j moves clock (Event e) = go (is_open e.act && is_full moves)
     go true = refl
     go false = refl
 clock_irrelevant b j moves clock (Next u slot n) = refl
-clock_irrelevant b j moves clock (Many u slot ranges) = refl
-clock_irrelevant b j moves clock (Close u slot) = refl
-clock_irrelevant b j moves clock (Merge slot) = refl
+clock_irrelevant b j moves clock step = refl
 
 -- and neither do the changes
 event_changes_irrelevant : (moves : List Move) (clock : ℤ) (u : List ℕ) (m : ℤ) (act : Act) (r : Told) → changes_by (shown_clock moves clock (asks u m act)) (asks u m act) r ≡ changes_by (clock_at clock (asks u m act)) (asks u m act) r
 event_changes_irrelevant moves clock u m (Open scan) r = no_changes (shown_clock moves clock (asks u m (Open scan))) u m (Open scan) r refl ∙ sym (no_changes (clock_at clock (asks u m (Open scan))) u m (Open scan) r refl)
-event_changes_irrelevant moves clock u m (Write t x) r = refl
-event_changes_irrelevant moves clock u m (CreateTable t time n) r = refl
-event_changes_irrelevant moves clock u m (DropTable t) r = refl
-event_changes_irrelevant moves clock u m (SetConstraints t cs) r = refl
-event_changes_irrelevant moves clock u m (CreateUser n) r = refl
-event_changes_irrelevant moves clock u m (DropUser n) r = refl
-event_changes_irrelevant moves clock u m (Grant n p) r = refl
-event_changes_irrelevant moves clock u m (Revoke n p) r = refl
-event_changes_irrelevant moves clock u m (Rights t) r = refl
-event_changes_irrelevant moves clock u m (SetAuths n auths) r = refl
-event_changes_irrelevant moves clock u m (Status t) r = refl
-event_changes_irrelevant moves clock u m (Flush t) r = refl
-event_changes_irrelevant moves clock u m (Compact t extent) r = refl
-event_changes_irrelevant moves clock u m (AddSplit t row) r = refl
-event_changes_irrelevant moves clock u m (SplitBySize t row limit) r = refl
-event_changes_irrelevant moves clock u m (Splits t) r = refl
-event_changes_irrelevant moves clock u m Save r = refl
-event_changes_irrelevant moves clock u m Load r = refl
-event_changes_irrelevant moves clock u m (Begin t row kind) r = refl
-event_changes_irrelevant moves clock u m (Install t given) r = refl
+event_changes_irrelevant moves clock u m act r = refl
 
 changes_irrelevant : (moves : List Move) (clock : ℤ) (step : Step) (r : Told) → changes_by (shown_clock moves clock step) step r ≡ changes_by (clock_at clock step) step r
 changes_irrelevant moves clock (Event e) r = event_changes_irrelevant moves clock e.user e.moment e.act r
-changes_irrelevant moves clock (Next u slot n) r = refl
-changes_irrelevant moves clock (Many u slot ranges) r = refl
-changes_irrelevant moves clock (Close u slot) r = refl
-changes_irrelevant moves clock (Merge slot) r = refl
+changes_irrelevant moves clock step r = refl
 
 module _ (b : Base) (clock : ℤ) (held : List (List ℕ)) (user : List ℕ) (low : (t : List ℕ) → NumbersBelow b.next (base_records (base_table b t))) where
   -- what he may read of the base

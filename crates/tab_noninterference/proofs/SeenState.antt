@@ -7,9 +7,9 @@ use Rattle.tab_policy.specs.declared.permission.SystemPermission.{SystemPermissi
 use Rattle.tab_policy.specs.declared.permission.TablePermission.{TablePermission}
 use Rattle.tab_history.specs.Settings.{Settings, made_with}
 use Rattle.tab_history.specs.Bases.{Base}
-use Rattle.tab_history.specs.Changes.{Change, UserMade, UserDropped, AuthsSet, SystemGiven, SystemTaken, TableGiven, TableTaken, TableMade, TableDropped, ConstraintsSet, Written}
+use Rattle.tab_history.specs.Changes.{Change, UserMade, UserDropped, AuthsSet, SystemGiven, SystemTaken, TableGiven, TableTaken, TableMade, TableDropped, ConstraintsSet, VersionsSet, HorizonSet, Written}
 use Rattle.tab_cells.specs.Written.{TimedUpdate}
-use Rattle.tab_history.specs.Readings.{has_user, held_auths, has_system_right, has_table_right, constrained, settings_of}
+use Rattle.tab_history.specs.Readings.{has_user, held_auths, has_system_right, has_table_right, constrained, limited, closed_below, settings_of}
 use Rattle.tab_history.specs.Checks.{standing}
 use Rattle.tab_noninterference.proofs.SeenBase.{base_seen, base_settings_seen}
 use Rattle.tab_noninterference.specs.Concerns.{only_if, if_any, may_read, visible}
@@ -46,6 +46,8 @@ module _ (held : List (List ℕ)) (b : Base) (user : List ℕ) where
   user_visible (TableMade s time v ∷ j) = user_visible j
   user_visible (TableDropped s ∷ j) = user_visible j
   user_visible (ConstraintsSet s cs ∷ j) = user_visible j
+  user_visible (VersionsSet s many ∷ j) = user_visible j
+  user_visible (HorizonSet s low ∷ j) = user_visible j
   user_visible (Written s row ps ∷ j) = any_or_none (λ k. has_user c k user) s row (filter (may_read held) ps) (see j) (λ x qs. refl) ∙ user_visible j
 
   pub auths_visible : (j : List Change) → held_auths c (see j) user ≡ held_auths b j user
@@ -61,6 +63,8 @@ module _ (held : List (List ℕ)) (b : Base) (user : List ℕ) where
   auths_visible (TableMade s time v ∷ j) = auths_visible j
   auths_visible (TableDropped s ∷ j) = auths_visible j
   auths_visible (ConstraintsSet s cs ∷ j) = auths_visible j
+  auths_visible (VersionsSet s many ∷ j) = auths_visible j
+  auths_visible (HorizonSet s low ∷ j) = auths_visible j
   auths_visible (Written s row ps ∷ j) = any_or_none (λ k. held_auths c k user) s row (filter (may_read held) ps) (see j) (λ x qs. refl) ∙ auths_visible j
 
   -- ---- his rights
@@ -77,6 +81,8 @@ module _ (held : List (List ℕ)) (b : Base) (user : List ℕ) where
   system_visible p (TableMade s time v ∷ j) = system_visible p j
   system_visible p (TableDropped s ∷ j) = system_visible p j
   system_visible p (ConstraintsSet s cs ∷ j) = system_visible p j
+  system_visible p (VersionsSet s many ∷ j) = system_visible p j
+  system_visible p (HorizonSet s low ∷ j) = system_visible p j
   system_visible p (Written s row ps ∷ j) = any_or_none (λ k. has_system_right c k user p) s row (filter (may_read held) ps) (see j) (λ x qs. refl) ∙ system_visible p j
 
   pub table_visible : (p : TablePermission) (t : List ℕ) (j : List Change) → has_table_right c (see j) user p t ≡ has_table_right b j user p t
@@ -92,6 +98,8 @@ module _ (held : List (List ℕ)) (b : Base) (user : List ℕ) where
   table_visible p t (TableMade s time v ∷ j) = ap (cond (bytes_eq s t) false) (table_visible p t j)
   table_visible p t (TableDropped s ∷ j) = ap (cond (bytes_eq s t) false) (table_visible p t j)
   table_visible p t (ConstraintsSet s cs ∷ j) = table_visible p t j
+  table_visible p t (VersionsSet s many ∷ j) = table_visible p t j
+  table_visible p t (HorizonSet s low ∷ j) = table_visible p t j
   table_visible p t (Written s row ps ∷ j) = any_or_none (λ k. has_table_right c k user p t) s row (filter (may_read held) ps) (see j) (λ x qs. refl) ∙ table_visible p t j
 
   -- ---- tables
@@ -108,6 +116,8 @@ module _ (held : List (List ℕ)) (b : Base) (user : List ℕ) where
   settings_visible t (TableMade s time v ∷ j) = ap (cond (bytes_eq s t) (Some (made_with time v))) (settings_visible t j)
   settings_visible t (TableDropped s ∷ j) = ap (cond (bytes_eq s t) None) (settings_visible t j)
   settings_visible t (ConstraintsSet s cs ∷ j) = ap (λ (x : Option Settings). cond (bytes_eq s t) (constrained cs x) x) (settings_visible t j)
+  settings_visible t (VersionsSet s many ∷ j) = ap (λ (x : Option Settings). cond (bytes_eq s t) (limited many x) x) (settings_visible t j)
+  settings_visible t (HorizonSet s low ∷ j) = ap (λ (x : Option Settings). cond (bytes_eq s t) (closed_below low x) x) (settings_visible t j)
   settings_visible t (Written s row ps ∷ j) = any_or_none (λ k. settings_of c k t) s row (filter (may_read held) ps) (see j) (λ x qs. refl) ∙ settings_visible t j
 
   -- all that the checks of his events look at is the same

@@ -9,7 +9,7 @@ use Rattle.tab_key.proofs.Numbers.{each_cond}
 use Rattle.tab_label.specs.Holding.{label_holds}
 use Rattle.tab_history.specs.Bases.{Base}
 use Rattle.tab_cells.specs.Cells.{Query, cells}
-use Rattle.tab_history.specs.Changes.{Change, UserMade, UserDropped, AuthsSet, SystemGiven, SystemTaken, TableGiven, TableTaken, TableMade, TableDropped, ConstraintsSet, Written}
+use Rattle.tab_history.specs.Changes.{Change, UserMade, UserDropped, AuthsSet, SystemGiven, SystemTaken, TableGiven, TableTaken, TableMade, TableDropped, ConstraintsSet, VersionsSet, HorizonSet, Written}
 use Rattle.tab_cells.specs.Written.{TimedUpdate, record_of, records_of}
 use Rattle.tab_history.specs.Readings.{base_table, base_records, next_number, updates_of}
 use Rattle.tab_cells.proofs.Written.{records_below, records_newer, below_newer}
@@ -109,6 +109,8 @@ module _ (held : List (List ℕ)) where
     updates_visible user (TableMade s time v ∷ j) t = matched_new (bytes_eq s t) _ _ (updates_visible user j t)
     updates_visible user (TableDropped s ∷ j) t = matched_new (bytes_eq s t) _ _ (updates_visible user j t)
     updates_visible user (ConstraintsSet s cs ∷ j) t = updates_visible user j t
+    updates_visible user (VersionsSet s many ∷ j) t = updates_visible user j t
+    updates_visible user (HorizonSet s low ∷ j) t = updates_visible user j t
     updates_visible user (Written s row ps ∷ j) t = go (bytes_eq s t) refl (updates_visible user j t)
       where
         older : List Change

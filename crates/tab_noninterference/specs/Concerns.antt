@@ -1,7 +1,7 @@
 -- What concerns a user of the changes that events make: tables and their settings, himself and his rights, and updates whose label holds for him.
 use Rattle.std.specs.Prelude.{ℕ, List, [], ◌∷◌, ◌++◌, Bool, cond, filter, bytes_eq}
 use Rattle.tab_label.specs.Holding.{label_holds}
-use Rattle.tab_history.specs.Changes.{Change, UserMade, UserDropped, AuthsSet, SystemGiven, SystemTaken, TableGiven, TableTaken, TableMade, TableDropped, ConstraintsSet, Written}
+use Rattle.tab_history.specs.Changes.{Change, UserMade, UserDropped, AuthsSet, SystemGiven, SystemTaken, TableGiven, TableTaken, TableMade, TableDropped, ConstraintsSet, VersionsSet, HorizonSet, Written}
 use Rattle.tab_cells.specs.Written.{TimedUpdate}
 
 -- the change, where the test holds
@@ -29,6 +29,8 @@ concerning held user (TableTaken n p t) = only_if (bytes_eq n user) (TableTaken 
 concerning held user (TableMade t time v) = TableMade t time v ∷ []
 concerning held user (TableDropped t) = TableDropped t ∷ []
 concerning held user (ConstraintsSet t cs) = ConstraintsSet t cs ∷ []
+concerning held user (VersionsSet t many) = VersionsSet t many ∷ []
+concerning held user (HorizonSet t low) = HorizonSet t low ∷ []
 concerning held user (Written t row ps) = if_any t row (filter (may_read held) ps)
 
 -- what concerns him of several changes

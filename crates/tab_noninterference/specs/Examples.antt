@@ -19,7 +19,7 @@ use Rattle.tab_policy.specs.State.{user_exists, user_count as policy_users, auth
 use Rattle.tab_policy.specs.declared.permission.Permission.TheVariants.{OfTable}
 use Rattle.tab_policy.specs.declared.permission.TablePermission.TheVariants as table
 use Rattle.tab_history.specs.Bases.{new_core}
-use Rattle.tab_history.specs.Changes.{UserMade, AuthsSet, TableGiven, TableMade, ConstraintsSet, Written}
+use Rattle.tab_history.specs.Changes.{UserMade, AuthsSet, TableGiven, TableMade, ConstraintsSet, VersionsSet, HorizonSet, Written}
 use Rattle.tab_cells.specs.Written.{TimedUpdate, records_of}
 use Rattle.tab_history.specs.Readings.{has_user, user_count, held_auths, has_system_right, has_table_right, table_count, settings_of, next_number, updates_of}
 use Rattle.tab_cells.specs.Cells.{matches, cells}
@@ -298,3 +298,15 @@ own_steps : (sees (make ++ asks root (pos 9) (act.CreateUser eve) ∷ asks bob (
     ≡ Asked (asks bob (pos 12) opens) (Some (pos 12)) ∷ Asked (Next bob 0 5) None ∷ Asked (asks bob (pos 3) (writes [])) (Some (pos 9)) ∷ (sees make).sights
 unfolding everything
 own_steps = refl
+
+-- ---- settings that change
+-- others' settings are seen, by whomever and whenever; refused ones aren't
+settings_seen : sees (make ++ as_root (act.CreateUser eve) ∷ asks root (pos 7) (act.SetVersions t 1) ∷ asks root (pos 8) (act.SetHorizon t (pos 5)) ∷ asks root (pos 9) (act.SetHorizon t (pos 4)) ∷ [])
+    ≡ record { held = codes "A" ∷ []; sights = Changed (HorizonSet t (pos 5)) ∷ Changed (VersionsSet t 1) ∷ (sees make).sights }
+unfolding everything
+settings_seen = refl
+
+-- a Rotate, by himself or by others, isn't seen but by its clock
+rotate_aside : (sees (make ++ asks bob (pos 8) act.Rotate ∷ asks root (pos 9) act.Rotate ∷ as_bob (writes []) ∷ [])).sights ≡ Asked (as_bob (writes [])) (Some (pos 9)) ∷ (sees make).sights
+unfolding everything
+rotate_aside = refl

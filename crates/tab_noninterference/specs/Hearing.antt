@@ -6,7 +6,7 @@ use Rattle.tab_history.specs.Changes.{Change}
 use Rattle.tab_history.specs.Answers.{Told, session_list}
 use Rattle.tab_history.specs.Histories.{Entry, World, journal, is_by}
 use Rattle.tab_history.specs.declared.event.Act.{Act}
-use Rattle.tab_history.specs.declared.event.Act.TheVariants.{Open, Write, CreateTable, DropTable, SetConstraints, CreateUser, DropUser, SetAuths, Grant, Revoke, Rights, Status, Flush, Compact, AddSplit, SplitBySize, Splits, Save, Load, Begin, Install}
+use Rattle.tab_history.specs.Kinds.{kind_of, is_heard}
 use Rattle.tab_history.specs.declared.event.Step.{Step}
 use Rattle.tab_history.specs.declared.event.Step.TheVariants.{Event, Next, Many, Close, Merge}
 use Rattle.tab_history.specs.declared.reply.Reply.TheVariants.{Opened}
@@ -18,27 +18,7 @@ pub record Heard : Type 0 where
 
 -- the covered events: scans, writes, and the question for one's own rights
 abbrev pub is_covered_act : Act → Bool
-is_covered_act (Open scan) = true
-is_covered_act (Write t m) = true
-is_covered_act (Rights t) = true
-is_covered_act (CreateTable t time n) = false
-is_covered_act (DropTable t) = false
-is_covered_act (SetConstraints t cs) = false
-is_covered_act (CreateUser n) = false
-is_covered_act (DropUser n) = false
-is_covered_act (SetAuths n auths) = false
-is_covered_act (Grant n p) = false
-is_covered_act (Revoke n p) = false
-is_covered_act (Status t) = false
-is_covered_act (Flush t) = false
-is_covered_act (Compact t extent) = false
-is_covered_act (AddSplit t row) = false
-is_covered_act (SplitBySize t row limit) = false
-is_covered_act (Splits t) = false
-is_covered_act Save = false
-is_covered_act Load = false
-is_covered_act (Begin t row kind) = false
-is_covered_act (Install t given) = false
+is_covered_act act = is_heard (kind_of act)
 
 -- the steps of that kind: these events, batches, and what is asked for in ranges
 abbrev pub is_covered : Step → Bool

@@ -6,9 +6,9 @@ use Rattle.tab_history.specs.Sessions.{Move, is_full}
 use Rattle.tab_history.specs.Answers.{Told, changes_by, is_open}
 use Rattle.tab_history.specs.Histories.{Entry, World, world_of, clock_of, clock_at, journal, moves_of, is_by}
 use Rattle.tab_history.specs.declared.event.Act.{Act}
-use Rattle.tab_history.specs.declared.event.Act.TheVariants.{Open, Write, CreateTable, DropTable, SetConstraints, CreateUser, DropUser, SetAuths, Grant, Revoke, Rights, Status, Flush, Compact, AddSplit, SplitBySize, Splits, Save, Load, Begin, Install}
+use Rattle.tab_history.specs.Kinds.{kind_of, is_unread}
 use Rattle.tab_history.specs.declared.event.Step.{Step}
-use Rattle.tab_history.specs.declared.event.Step.TheVariants.{Event, Next, Many, Close, Merge}
+use Rattle.tab_history.specs.declared.event.Step.TheVariants.{Event, Merge}
 use Rattle.tab_noninterference.specs.Given.{auths_given}
 use Rattle.tab_noninterference.specs.Concerns.{visible}
 
@@ -22,43 +22,18 @@ pub data Sight : Type 0 where
 -- the clock after an event of his; an Open past the limit of sessions is none
 abbrev pub clock_shown : List Move → ℤ → Step → Option ℤ
 clock_shown moves now (Event e) = cond (is_open e.act && is_full moves) None (Some now)
-clock_shown moves now (Next user slot n) = None
-clock_shown moves now (Many user slot ranges) = None
-clock_shown moves now (Close user slot) = None
-clock_shown moves now (Merge slot) = None
+clock_shown moves now step = None
 
 -- whether the event only asks where records lie or whether an image may be saved or loaded, or lays records otherwise: it changes nothing that a
 -- history reads but the clock
 abbrev pub is_inner : Act → Bool
-is_inner (Open scan) = false
-is_inner (Write t m) = false
-is_inner (CreateTable t time n) = false
-is_inner (DropTable t) = false
-is_inner (SetConstraints t cs) = false
-is_inner (CreateUser n) = false
-is_inner (DropUser n) = false
-is_inner (SetAuths n auths) = false
-is_inner (Grant n p) = false
-is_inner (Revoke n p) = false
-is_inner (Rights t) = false
-is_inner (Status t) = true
-is_inner (Flush t) = true
-is_inner (Compact t extent) = true
-is_inner (AddSplit t row) = true
-is_inner (SplitBySize t row limit) = true
-is_inner (Splits t) = true
-is_inner Save = true
-is_inner Load = true
-is_inner (Begin t row kind) = true
-is_inner (Install t given) = true
+is_inner act = is_unread (kind_of act)
 
 -- the steps of that kind; the merge of a job is one
 abbrev pub is_aside : Step → Bool
 is_aside (Event e) = is_inner e.act
-is_aside (Next user slot n) = false
-is_aside (Many user slot ranges) = false
-is_aside (Close user slot) = false
 is_aside (Merge slot) = true
+is_aside step = false
 
 -- what he sees of a step of his own: the step, without its reply, and nothing of one that is aside
 abbrev pub own_sight : List Move → ℤ → Step → List Sight
