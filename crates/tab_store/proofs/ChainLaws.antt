@@ -18,11 +18,11 @@ use Rattle.tab_history.specs.Histories.{Entry, World, clock_of, journal, world_o
 use Rattle.tab_history.specs.Refinement.{Refines}
 use Rattle.tab_history.specs.Chains.{GoesRight, NamesNoSlot, IsChain}
 use Rattle.tab_history.specs.declared.event.Act.{Act}
-use Rattle.tab_history.specs.declared.event.Act.TheVariants.{Open, Write, CreateTable, DropTable, SetConstraints, CreateUser, DropUser, SetAuths, Grant, Revoke, Rights, Status, Flush, Compact, AddSplit, SplitBySize, Splits, Save, Load, Begin, Install}
+use Rattle.tab_history.specs.declared.event.Act.TheVariants.{Install}
 use Rattle.tab_history.specs.declared.event.Event.{Event}
 use Rattle.tab_history.specs.declared.event.Given.TheVariants.{InSlot, ByHand}
 use Rattle.tab_history.specs.declared.event.Step.{Step}
-use Rattle.tab_history.specs.declared.event.Step.TheVariants.{Event as IsEvent, Next, Many, Close, Merge}
+use Rattle.tab_history.specs.declared.event.Step.TheVariants.{Event as IsEvent, Next}
 use Rattle.tab_history.proofs.Chains.{sound_refines_itself, chains_refine}
 use Rattle.tab_history.proofs.GoesOnLemmas.{goes_on}
 use Rattle.tab_history.proofs.Playing.{unmoved}
@@ -57,26 +57,7 @@ stores_are_sound h store q = subst (λ us. IsDistinct us × ((u : Record) → Co
 by_hand_alone : (begun : List TabletMerge) (act : Act) → NamesNoSlot (act_by_hand begun act)
 by_hand_alone begun (Install t (InSlot slot)) = tt
 by_hand_alone begun (Install t (ByHand number)) = tt
-by_hand_alone begun (Open scan) = tt
-by_hand_alone begun (Write t m) = tt
-by_hand_alone begun (CreateTable t time n) = tt
-by_hand_alone begun (DropTable t) = tt
-by_hand_alone begun (SetConstraints t cs) = tt
-by_hand_alone begun (CreateUser n) = tt
-by_hand_alone begun (DropUser n) = tt
-by_hand_alone begun (SetAuths n auths) = tt
-by_hand_alone begun (Grant n p) = tt
-by_hand_alone begun (Revoke n p) = tt
-by_hand_alone begun (Rights t) = tt
-by_hand_alone begun (Status t) = tt
-by_hand_alone begun (Flush t) = tt
-by_hand_alone begun (Compact t extent) = tt
-by_hand_alone begun (AddSplit t row) = tt
-by_hand_alone begun (SplitBySize t row limit) = tt
-by_hand_alone begun (Splits t) = tt
-by_hand_alone begun Save = tt
-by_hand_alone begun Load = tt
-by_hand_alone begun (Begin t row kind) = tt
+by_hand_alone begun act = tt
 
 -- and leaves what the event leaves
 by_hand_leaves : (w : World) (es : List Entry) (begun : List TabletMerge) (user : List ℕ) (moment : ℤ) (act : Act) (r : Told)
@@ -104,9 +85,7 @@ module _ (w : World) (es : List Entry) (before last : Running) where
         subst (Refines (world_of (base_of last.held))) (by_hand_leaves w es before.begun event.user event.moment event.act r) (goes_on w es (base_of before.held) (entry_of asked r) (base_of last.held) refines x.1.right).refines,
       )
   goes_exactly (Next user slot n) r x store refines = absurd x
-  goes_exactly (Many user slot ranges) r x store refines = absurd x
-  goes_exactly (Close user slot) r x store refines = absurd x
-  goes_exactly (Merge slot) r x store refines = absurd x
+  goes_exactly step r x store refines = absurd x
 
   -- an entry of a run leaves a store that refines what the entry leaves
   pub entry_stays : (e : Entry) → EntryGoes before e last → IsStore before.held → Refines (world_of (base_of before.held)) (world_after w es) → Ends e
@@ -123,10 +102,7 @@ chains_stay first last (e ∷ es) store chain =
 -- ---- a core behind a connection
 served_exactly : (w : World) (es : List Entry) (before last : Held) (step : Step) (r : Told) → DoesAlone before step r last → Refines (world_of (base_of before)) (world_after w es) → Refines (world_of (base_of last)) (world_after w (record { step = step; reply = r } ∷ es))
 served_exactly w es before last (IsEvent event) r x refines = (goes_on w es (base_of before) (entry_of event r) (base_of last) refines x.1.right).refines
-served_exactly w es before last (Next user slot n) r x refines = absurd x
-served_exactly w es before last (Many user slot ranges) r x refines = absurd x
-served_exactly w es before last (Close user slot) r x refines = absurd x
-served_exactly w es before last (Merge slot) r x refines = absurd x
+served_exactly w es before last step r x refines = absurd x
 
 -- an entry leaves a core that refines what the entry leaves
 pub served_refines : (w : World) (es : List Entry) (before last : Held) (e : Entry) → ServedGoes before e last → Refines (world_of (base_of before)) (world_after w es) → Refines (world_of (base_of last)) (world_after w (e ∷ es))
@@ -137,10 +113,7 @@ served_refines w es before last e (inr x) refines = subst (λ (h : Held). Refine
 -- each exact step is a right one
 right_step : (before last : Held) (step : Step) (r : Told) → DoesExactly before step r last → GoesRight (base_of before) (record { step = step; reply = r }) (base_of last)
 right_step before last (IsEvent event) r x = x.3.right
-right_step before last (Next user slot n) r x = absurd x
-right_step before last (Many user slot ranges) r x = absurd x
-right_step before last (Close user slot) r x = absurd x
-right_step before last (Merge slot) r x = absurd x
+right_step before last step r x = absurd x
 
 right_chain : (first last : Held) (es : List Entry) → IsChain EventGoes first es last → IsChain GoesRight (base_of first) es (base_of last)
 right_chain first last [] same = ap base_of same

@@ -8,23 +8,24 @@ use Rattle.tab_key.specs.Records.{Record}
 use Rattle.tab_key.specs.Sorted.{sorted}
 use Rattle.tab_key.proofs.Rising.{in_from}
 use Rattle.tab_mutation.specs.Mutations.{Mutation}
-use Rattle.tab_rules.specs.declared.constraint.Constraint.{Constraint}
 use Rattle.tab_cells.specs.Written.{mutation_records}
 use Rattle.tab_cells.specs.declared.compaction.Compaction.{Compaction}
 use Rattle.tab_tablets.specs.Tablets.{Tablet, written, frozen, compacted}
 use Rattle.tab_tablets.specs.ByRow.{at_row, records_of_all}
 use Rattle.tab_tablets.specs.Parts.{TabletMerge, begins_at, installs_in}
 use Rattle.tab_tablets.specs.Splits.{splits, halves}
-use Rattle.tab_history.specs.Settings.{made_with}
+use Rattle.tab_history.specs.Settings.{Settings, made_with}
 use Rattle.tab_history.specs.Held.{floor_of}
-use Rattle.tab_history.specs.Readings.{settings_of, updates_of, table_count, constrained}
+use Rattle.tab_history.specs.Readings.{settings_of, updates_of, table_count, constrained, limited, closed_below}
 use Rattle.tab_history.specs.Answers.{Told}
 use Rattle.tab_history.specs.declared.event.TimeMode.{TimeMode}
+use Rattle.tab_store.specs.declared.setting.Setting.{Setting}
+use Rattle.tab_store.specs.declared.setting.Setting.TheVariants.{Constraints, Versions, Horizon}
 use Rattle.tab_store.specs.Stores.{HeldTable, Held, base_of, base_table_of, table_in, tablets_found, tablets_in}
 use Rattle.tab_store.specs.Stepping.{TabletWork, Freezing, Writing, Compacting, Counting, Splitting, Halving, Listing, Beginning, Installing, Making, Dropping, On, place_of, told_job, told_install, begun_by, lays, lays_in, told_by, laid_by, job_by}
 use Rattle.tab_store.specs.Keeping.{settings_in}
 use Rattle.tab_store.specs.Rightness.{IsStore}
-use Rattle.tab_store.specs.Tables.{TableState, made_table, with_tablets, with_constraints, state_of, table_at, changed_table, settings_at, tablets_of, begun_in}
+use Rattle.tab_store.specs.Tables.{TableState, made_table, with_tablets, with_setting, state_of, table_at, changed_table, settings_at, tablets_of, begun_in}
 use Rattle.tab_store.proofs.Reading.{bases_read}
 
 -- ---- what is read of a table
@@ -60,6 +61,12 @@ next_unused h store q u c = go (table_in h q) refl c
     go : (o : Option HeldTable) → table_in h q ≡ o → Contains (records_of_all (tablets_of (option_map state_of o))) u → u.seq < h.next
     go None e k = absurd (in_from [] u k)
     go (Some t) e k = (store.tables q t e).numbered u k
+
+-- what histories read of a table that is set so
+abbrev pub read_so : Setting → Option Settings → Option Settings
+read_so (Constraints cs) = constrained cs
+read_so (Versions many) = limited many
+read_so (Horizon low) = closed_below low
 
 -- ---- one core and the next one
 same_either : {X : Type 0} (v : Bool) (x : X) → x ≡ cond v x x
@@ -173,13 +180,17 @@ module _ (old new : Held) (t : List ℕ) where
   pub settings_dropped : Renews None → (q : List ℕ) → settings_of (base_of new) [] q ≡ cond (bytes_eq t q) None (settings_of (base_of old) [] q)
   settings_dropped f = reset None f
 
-  pub settings_constrained : (cs : List Constraint) → Changes (with_constraints cs) → (q : List ℕ) → settings_of (base_of new) [] q ≡ cond (bytes_eq t q) (constrained cs (settings_of (base_of old) [] q)) (settings_of (base_of old) [] q)
-  settings_constrained cs f q = settings_read new q ∙ ap settings_at (f q) ∙ go (bytes_eq t q) (table_at old.tables q) ∙ ap (λ s. cond (bytes_eq t q) (constrained cs s) s) (sym (settings_read old q))
+  pub settings_set : (setting : Setting) → Changes (with_setting setting) → (q : List ℕ) → settings_of (base_of new) [] q ≡ cond (bytes_eq t q) (read_so setting (settings_of (base_of old) [] q)) (settings_of (base_of old) [] q)
+  settings_set setting f q = settings_read new q ∙ ap settings_at (f q) ∙ go setting (bytes_eq t q) (table_at old.tables q) ∙ ap (λ s. cond (bytes_eq t q) (read_so setting s) s) (sym (settings_read old q))
     where
-      go : (v : Bool) (o : Option TableState) → settings_at (cond v (option_map (with_constraints cs) o) o) ≡ cond v (constrained cs (settings_at o)) (settings_at o)
-      go true None = refl
-      go true (Some s) = refl
-      go false o = refl
+      go : (x : Setting) (v : Bool) (o : Option TableState) → settings_at (cond v (option_map (with_setting x) o) o) ≡ cond v (read_so x (settings_at o)) (settings_at o)
+      go (Constraints cs) true None = refl
+      go (Constraints cs) true (Some s) = refl
+      go (Versions many) true None = refl
+      go (Versions many) true (Some s) = refl
+      go (Horizon low) true None = refl
+      go (Horizon low) true (Some s) = refl
+      go x false o = refl
 
   -- where f leaves it
   pub settings_kept : (f : TableState → TableState) → ((s : TableState) → (f s).settings ≡ s.settings) → Changes f → (q : List ℕ) → settings_of (base_of new) [] q ≡ settings_of (base_of old) [] q

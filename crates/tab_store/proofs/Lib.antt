@@ -24,3 +24,4 @@ pub mod Missing
 pub mod DueTables
 pub mod Named
 pub mod Changed
+pub mod Fewer

@@ -21,7 +21,7 @@ use Rattle.tab_tablets.specs.ByRow.{records_of_all}
 use Rattle.tab_tablets.specs.Parts.{TabletMerge}
 use Rattle.tab_history.specs.Settings.{Settings, made_with}
 use Rattle.tab_history.specs.Bases.{Base}
-use Rattle.tab_history.specs.Readings.{constrained, settings_of, next_number, updates_of}
+use Rattle.tab_history.specs.Readings.{constrained, limited, closed_below, settings_of, next_number, updates_of}
 use Rattle.tab_history.specs.Held.{floor_of, RefinesTable}
 use Rattle.tab_history.specs.Checks.{Caller, standing, exists_in, user_named, refusal_of}
 use Rattle.tab_history.specs.Sessions.{opened, closed, is_full}
@@ -31,7 +31,7 @@ use Rattle.tab_history.specs.Legal.{answer_at, IsAnswer, takes_memory, LacksMemo
 use Rattle.tab_history.specs.Chains.{NamesNoSlot}
 use Rattle.tab_history.specs.declared.event.TimeMode.{TimeMode}
 use Rattle.tab_history.specs.declared.event.Act.{Act}
-use Rattle.tab_history.specs.declared.event.Act.TheVariants.{Open, Write, CreateTable, DropTable, SetConstraints, CreateUser, DropUser, SetAuths, Grant, Revoke, Rights as AsksRights, Status, Flush, Compact, AddSplit, SplitBySize, Splits, Save, Load, Begin, Install}
+use Rattle.tab_history.specs.declared.event.Act.TheVariants.{Open, Write, CreateTable, DropTable, SetConstraints, SetVersions, SetHorizon, Grant, Revoke, Status, Flush, Compact, AddSplit, SplitBySize, Splits, Begin, Install}
 use Rattle.tab_history.specs.declared.event.Given.TheVariants.{InSlot, ByHand}
 use Rattle.tab_history.specs.declared.event.Event.{Event}
 use Rattle.tab_history.specs.declared.event.Step.{Step}
@@ -41,14 +41,15 @@ use Rattle.tab_history.specs.declared.reply.Refusal.TheVariants.{NoMemory, TooLa
 use Rattle.tab_history.specs.declared.reply.Reply.TheVariants.{Done, Refused}
 use Rattle.tab_history.proofs.GoOn.{max_left, clock_grows}
 use Rattle.tab_history.proofs.Fitting.{fits_legal}
-use Rattle.tab_history.proofs.Holds.{holds_nothing}
+use Rattle.tab_history.proofs.Holds.{holds_nothing, holds_higher, holds_fewer}
 use Rattle.tab_history.proofs.LeftOpen.{of_told}
-use Rattle.tab_history.proofs.Refines.{FitAll}
+use Rattle.tab_history.proofs.Refines.{FitAll, floor_raised}
 use Rattle.tab_store.specs.Stores.{HeldTable, Held, base_of, table_in, tablets_found, tablets_in}
 use Rattle.tab_store.specs.Stepping.{Freezing, Writing, Compacting, Counting, Splitting, Halving, Listing, Beginning, Installing, Making, Dropping, On, kind_of, work_of, lays_in, told_by, laid_by, told_exactly, laid_told}
 use Rattle.tab_store.specs.Keeping.{settings_in, AreSound}
 use Rattle.tab_store.specs.Rightness.{IsStore, LeavesExactly, StepsAreRight}
-use Rattle.tab_store.proofs.Sound.{new_tables_are_sound}
+use Rattle.tab_store.proofs.Sound.{new_tables_are_sound, sound_grown}
+use Rattle.tab_store.proofs.Fewer.{sound_with_fewer}
 use Rattle.tab_store.proofs.Reading.{bases_read}
 use Rattle.tab_store.proofs.Telling.{tells_legally}
 use Rattle.tab_store.proofs.OneTable.{at_table, Both, stays, happens}
@@ -173,6 +174,43 @@ module _ (old new : Held) (store : IsStore old) (given : Option TabletMerge) (us
       go true k = with_them (settings_of b [] q) refl k
       go false k = kept same s k
 
+  -- fewer versions, and a later floor
+  fewer_both : (next n fewer : ℕ) (floor : ℤ) → fewer ≤ n → Both new q (updates_of b [] q) next n floor → Both new q (updates_of b [] q) next fewer floor
+  fewer_both next n fewer floor le h = record { refines = holds_fewer (updates_of (base_of new) [] q) (updates_of b [] q) next n fewer floor le h.refines; sound = sound_with_fewer (tablets_in new q) next n fewer floor le h.sound }
+
+  higher_both : (next n : ℕ) (floor higher : ℤ) → int_le floor higher ≡ true → Both new q (updates_of b [] q) next n floor → Both new q (updates_of b [] q) next n higher
+  higher_both next n floor higher le h = record { refines = holds_higher (updates_of (base_of new) [] q) (updates_of b [] q) next n floor higher le h.refines; sound = sound_grown (tablets_in new q) next next n floor higher (omega arith) le h.sound }
+
+  versions_right : (t : List ℕ) (many : ℕ) → tablets_in new q ≡ tablets_in old q → Fit (SetVersions t many) Done → Goal (SetVersions t many) Done
+  unfolding next_number updates_of settings_of
+  versions_right t many same fits s e = go (bytes_eq t q) refl e
+    where
+      At : Settings → Type 0
+      At x = Both new q (updates_of b [] q) old.next x.versions (floor_of x.time now x.horizon)
+
+      with_them : (o : Option Settings) → settings_of b [] q ≡ o → ((x : Settings) → o ≡ Some x → many ≤ x.versions) → limited many o ≡ Some s → At s
+      with_them None w f k = absurd (cc)
+      with_them (Some y) w f k = subst At (some_is (record y { versions = many }) s k) (fewer_both old.next y.versions many (floor_of y.time now y.horizon) (f y refl) (kept same y w))
+
+      go : (v : Bool) → bytes_eq t q ≡ v → cond v (limited many (settings_of b [] q)) (settings_of b [] q) ≡ Some s → At s
+      go true w k = with_them (settings_of b [] q) refl (λ x p. fits.1 x (ap (settings_of b []) ((bytes_decides t q).0 w) ∙ p)) k
+      go false w k = kept same s k
+
+  horizon_right : (t : List ℕ) (low : ℤ) → tablets_in new q ≡ tablets_in old q → Fit (SetHorizon t low) Done → Goal (SetHorizon t low) Done
+  unfolding next_number updates_of settings_of
+  horizon_right t low same fits s e = go (bytes_eq t q) refl e
+    where
+      At : Settings → Type 0
+      At x = Both new q (updates_of b [] q) old.next x.versions (floor_of x.time now x.horizon)
+
+      with_them : (o : Option Settings) → settings_of b [] q ≡ o → ((x : Settings) → o ≡ Some x → int_le x.horizon low ≡ true) → closed_below low o ≡ Some s → At s
+      with_them None w f k = absurd (cc)
+      with_them (Some y) w f k = subst At (some_is (record y { horizon = low }) s k) (higher_both old.next y.versions (floor_of y.time now y.horizon) (floor_of y.time now low) (floor_raised y.time now y.horizon low (f y refl)) (kept same y w))
+
+      go : (v : Bool) → bytes_eq t q ≡ v → cond v (closed_below low (settings_of b [] q)) (settings_of b [] q) ≡ Some s → At s
+      go true w k = with_them (settings_of b [] q) refl (λ x p. fits.1 x (ap (settings_of b []) ((bytes_decides t q).0 w) ∙ p)) k
+      go false w k = kept same s k
+
   grant_right : (n : List ℕ) (p : Permission) → tablets_in new q ≡ tablets_in old q → Goal (Grant n p) Done
   unfolding next_number updates_of settings_of
   grant_right n (OfSystem p) same = kept same
@@ -190,22 +228,19 @@ module _ (old new : Held) (store : IsStore old) (given : Option TabletMerge) (us
   granted_right c (CreateTable t time n) same fits = create_right t time n Done same
   granted_right c (DropTable t) same fits = drop_right t Done same
   granted_right c (SetConstraints t cs) same fits = constraints_right t cs same
-  granted_right c (CreateUser n) same fits = kept same
-  granted_right c (DropUser n) same fits = kept same
-  granted_right c (SetAuths n auths) same fits = kept same
+  granted_right c (SetVersions t many) same fits = versions_right t many same fits
+  granted_right c (SetHorizon t low) same fits = horizon_right t low same fits
   granted_right c (Grant n p) same fits = grant_right n p same
   granted_right c (Revoke n p) same fits = revoke_right n p same
-  granted_right c (AsksRights t) same fits = kept same
   granted_right c (Status t) same fits = counted_right t Done same
   granted_right c (Flush t) same fits = compacted_right t Minor Done same
   granted_right c (Compact t e) same fits = compacted_right t (kind_of e) Done same
   granted_right c (AddSplit t row) same fits = split_right t row Done same
   granted_right c (SplitBySize t row limit) same fits = halved_right t row limit Done same
   granted_right c (Splits t) same fits = listed_right t Done same
-  granted_right c Save same fits = kept same
-  granted_right c Load same fits = kept same
   granted_right c (Begin t row kind) same fits = begun_right t row kind Done same
   granted_right c (Install t by) same fits = installed_right t Done same
+  granted_right c act same fits = kept same
 
   -- what is told where it is left open changes nothing that is read
   open_right : (c : Caller) (act : Act) (r : Told) → MayTell act (granted c act) r → tablets_in new q ≡ laid_by old now (work_of given act) (granted c act) q → leaves_open act ≡ true → Goal act r
@@ -220,8 +255,7 @@ module _ (old new : Held) (store : IsStore old) (given : Option TabletMerge) (us
   open_right c (SplitBySize t row limit) r (inr (inr (inr e))) same o = subst (Goal (SplitBySize t row limit)) (sym e) (halved_right t row limit Done same)
   open_right c (Splits t) r m same o = subst (Goal (Splits t)) (sym m.1) (listed_right t Done same)
   open_right c (Begin t row kind) r (inl e) same o = subst (Goal (Begin t row kind)) (sym e) (begun_right t row kind Done same)
-  open_right c (Begin t row kind) r (inr (inl e)) same o = subst (Goal (Begin t row kind)) (sym e) (begun_right t row kind Done same)
-  open_right c (Begin t row kind) r (inr (inr e)) same o = subst (Goal (Begin t row kind)) (sym e) (begun_right t row kind Done same)
+  open_right c (Begin t row kind) r (inr e) same o = subst (Goal (Begin t row kind)) (sym e) (begun_right t row kind Done same)
   open_right c (Install t by) r (inl e) same o = subst (Goal (Install t by)) (sym e) (installed_right t Done same)
   open_right c (Install t by) r (inr m) same o = subst (Goal (Install t by)) (sym m.1) (installed_right t Done same)
   open_right c act r m same o = absurd (true≢false (sym o))
@@ -250,8 +284,7 @@ module _ (old new : Held) (store : IsStore old) (given : Option TabletMerge) (us
   open_laid c (SplitBySize t row limit) r (inr (inr (inr e))) o = ap (λ z. laid_told z old now given (SplitBySize t row limit) Done q) e
   open_laid c (Splits t) r m o = ap (λ z. laid_told z old now given (Splits t) Done q) m.1
   open_laid c (Begin t row kind) r (inl e) o = ap (λ z. laid_told z old now given (Begin t row kind) Done q) e
-  open_laid c (Begin t row kind) r (inr (inl e)) o = ap (λ z. laid_told z old now given (Begin t row kind) Done q) e
-  open_laid c (Begin t row kind) r (inr (inr e)) o = ap (λ z. laid_told z old now given (Begin t row kind) Done q) e
+  open_laid c (Begin t row kind) r (inr e) o = ap (λ z. laid_told z old now given (Begin t row kind) Done q) e
   open_laid c (Install t by) r (inl e) o = ap (λ z. laid_told z old now given (Install t by) Done q) e
   open_laid c (Install t by) r (inr m) o = ap (λ z. laid_told z old now given (Install t by) Done q) m.1
   open_laid c act r m o = absurd (true≢false (sym o))

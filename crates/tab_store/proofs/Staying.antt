@@ -25,7 +25,7 @@ use Rattle.tab_history.specs.Answers.{Told, told, numbered, granted, changes_by}
 use Rattle.tab_history.specs.Histories.{clock_of, journal}
 use Rattle.tab_history.specs.Chains.{NamesNoSlot}
 use Rattle.tab_history.specs.declared.event.Act.{Act}
-use Rattle.tab_history.specs.declared.event.Act.TheVariants.{Open, Write, CreateTable, DropTable, SetConstraints, CreateUser, DropUser, SetAuths, Grant, Revoke, Rights as AsksRights, Status, Flush, Compact, AddSplit, SplitBySize, Splits, Save, Load, Begin, Install}
+use Rattle.tab_history.specs.declared.event.Act.TheVariants.{Write, CreateTable, DropTable, Grant, Revoke, Compact, AddSplit}
 use Rattle.tab_history.specs.declared.event.Event.{Event}
 use Rattle.tab_history.specs.declared.event.Step.TheVariants.{Event as IsEvent}
 use Rattle.tab_history.specs.declared.reply.Refusal.{Refusal}
@@ -92,22 +92,8 @@ module _ (P : Record → Type 0) (old : Held) (has : EachHas P old) where
     act_has (Grant n (OfTable p t)) a q s e u i = had q u i
     act_has (Revoke n (OfSystem p)) a q s e u i = had q u i
     act_has (Revoke n (OfTable p t)) a q s e u i = had q u i
-    act_has (Open scan) a q s e u i = had q u i
-    act_has (SetConstraints t cs) a q s e u i = had q u i
-    act_has (CreateUser n) a q s e u i = had q u i
-    act_has (DropUser n) a q s e u i = had q u i
-    act_has (SetAuths n auths) a q s e u i = had q u i
-    act_has (AsksRights t) a q s e u i = had q u i
-    act_has (Status t) a q s e u i = had q u i
-    act_has (Flush t) a q s e u i = had q u i
     act_has (Compact t e) a q s h u i = had q u i
-    act_has (AddSplit t row) a q s e u i = had q u i
-    act_has (SplitBySize t row limit) a q s e u i = had q u i
-    act_has (Splits t) a q s e u i = had q u i
-    act_has Save a q s e u i = had q u i
-    act_has Load a q s e u i = had q u i
-    act_has (Begin t row kind) a q s e u i = had q u i
-    act_has (Install t by) a q s e u i = had q u i
+    act_has act a q s e u i = had q u i
 
 -- What each record of a store has, and each that an event adds, each has afterwards.
 pub each_stays : (P : Record → Type 0) (old new : Held) (given job : Option TabletMerge) (event : Event) (r : Told) → IsStore old → NamesNoSlot event.act → LeavesExactly old given event r job new → EachHas P old → (refusal old event ≡ None → AddedHave P old (now_at old event) event.act) → EachHas P new
@@ -139,26 +125,7 @@ module _ (old : Held) (user : List ℕ) (moment : ℤ) where
   -- the row of a split is within its limit
   split_passed : (given : Option TabletMerge) (act : Act) → refusal old (event_of act) ≡ None → WorkFits (work_of given act)
   split_passed given (AddSplit t row) passed = short row (unmet (is_too_long row) (TooLarge Row) (none_left _ None (own_pass (caller old (event_of (AddSplit t row))) true (int_max old.clock moment) user (AddSplit t row) passed)))
-  split_passed given (Open scan) passed = tt
-  split_passed given (Write t m) passed = tt
-  split_passed given (CreateTable t time n) passed = tt
-  split_passed given (DropTable t) passed = tt
-  split_passed given (SetConstraints t cs) passed = tt
-  split_passed given (CreateUser n) passed = tt
-  split_passed given (DropUser n) passed = tt
-  split_passed given (SetAuths n auths) passed = tt
-  split_passed given (Grant n p) passed = tt
-  split_passed given (Revoke n p) passed = tt
-  split_passed given (AsksRights t) passed = tt
-  split_passed given (Status t) passed = tt
-  split_passed given (Flush t) passed = tt
-  split_passed given (Compact t e) passed = tt
-  split_passed given (SplitBySize t row limit) passed = tt
-  split_passed given (Splits t) passed = tt
-  split_passed given Save passed = tt
-  split_passed given Load passed = tt
-  split_passed given (Begin t row kind) passed = tt
-  split_passed given (Install t by) passed = tt
+  split_passed given act passed = tt
 
 -- ---- end rows
 -- those of no table, and of a new one

@@ -59,6 +59,10 @@ InstallsKeep = (m : Merge) (t : Tablet) (us : List Record) (next n : ℕ) (floor
 abbrev pub LaterKeeps : Type 0
 LaterKeeps = (t : Tablet) (us : List Record) (next n : ℕ) (floor higher : ℤ) → int_le floor higher ≡ true → TabletRefines t us next n floor → TabletRefines t us next n higher
 
+-- a number of versions that is lowered
+abbrev pub FewerKeeps : Type 0
+FewerKeeps = (t : Tablet) (us : List Record) (next n fewer : ℕ) (floor : ℤ) → fewer ≤ n → TabletRefines t us next n floor → TabletRefines t us next fewer floor
+
 -- whether a record's row is up to an end row, or above it
 abbrev pub is_low : Option (List ℕ) → Record → Bool
 is_low end u = is_up_to end u.key.row
@@ -159,6 +163,10 @@ NewTablesAreSound = (number next n : ℕ) (floor : ℤ) → AreSound (new_tablet
 -- ---- The law: it stays so while the clock or the horizon rises, and where other tables are written.
 abbrev pub SoundLater : Type 0
 SoundLater = (ts : List Tablet) (next more n : ℕ) (floor higher : ℤ) → int_le floor higher ≡ true → AreSound ts next n floor → AreSound ts (next + more) n higher
+
+-- ---- The law: and so it stays with fewer versions.
+abbrev pub SoundWithFewer : Type 0
+SoundWithFewer = (ts : List Tablet) (next n fewer : ℕ) (floor : ℤ) → fewer ≤ n → AreSound ts next n floor → AreSound ts next fewer floor
 
 -- ---- The law: what histories read of a core is what its tablets hold.
 -- a table's settings, if it exists

@@ -27,7 +27,7 @@ use Rattle.tab_history.specs.declared.event.TimeMode.TheVariants.{Any}
 use Rattle.tab_history.specs.declared.event.Extent.{Extent}
 use Rattle.tab_history.specs.declared.event.Extent.TheVariants as extent
 use Rattle.tab_history.specs.declared.event.Act.{Act}
-use Rattle.tab_history.specs.declared.event.Act.TheVariants.{Open, Write, CreateTable, DropTable, SetConstraints, CreateUser, DropUser, SetAuths, Grant, Revoke, Rights, Status, Flush, Compact, AddSplit, SplitBySize, Splits, Save, Load, Begin, Install}
+use Rattle.tab_history.specs.declared.event.Act.TheVariants.{Open, Write, CreateTable, DropTable, Status, Flush, Compact, AddSplit, SplitBySize, Splits, Begin, Install}
 use Rattle.tab_history.specs.declared.event.Event.{Event}
 use Rattle.tab_history.specs.declared.event.Step.TheVariants.{Event as IsEvent}
 use Rattle.tab_history.specs.declared.split_fault.SplitFault.TheVariants as fault
@@ -79,23 +79,15 @@ work_of given (Open scan) = On scan.table Freezing
 work_of given (Write t m) = On t (Writing m)
 work_of given (CreateTable t time n) = Making t
 work_of given (DropTable t) = Dropping t
-work_of given (SetConstraints t cs) = Aside
-work_of given (CreateUser n) = Aside
-work_of given (DropUser n) = Aside
-work_of given (SetAuths n auths) = Aside
-work_of given (Grant n p) = Aside
-work_of given (Revoke n p) = Aside
-work_of given (Rights t) = Aside
 work_of given (Status t) = On t Counting
 work_of given (Flush t) = On t (Compacting Minor)
 work_of given (Compact t e) = On t (Compacting (kind_of e))
 work_of given (AddSplit t row) = On t (Splitting row)
 work_of given (SplitBySize t row limit) = On t (Halving row limit)
 work_of given (Splits t) = On t Listing
-work_of given Save = Aside
-work_of given Load = Aside
 work_of given (Begin t row kind) = On t (Beginning row kind)
 work_of given (Install t by) = On t (Installing given)
+work_of given act = Aside
 
 -- ---- what that does to the tablets of one table
 -- what an event finds beside the tablets: the settings of the table, the clock with the event's moment in it, and the numbers of the next

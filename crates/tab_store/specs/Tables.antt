@@ -7,9 +7,11 @@ use Rattle.tab_tablets.specs.Tablets.{Tablet, new_tablet}
 use Rattle.tab_cells.specs.declared.compaction.Compaction.{Compaction}
 use Rattle.tab_tablets.specs.Parts.{TabletMerge, begun_at}
 use Rattle.tab_tablets.specs.Restored.{restored}
-use Rattle.tab_history.specs.Settings.{Settings, made_with, least}
+use Rattle.tab_history.specs.Settings.{Settings, made_with}
 use Rattle.tab_history.specs.Held.{floor_of}
 use Rattle.tab_history.specs.declared.event.TimeMode.{TimeMode}
+use Rattle.tab_store.specs.declared.setting.Setting.{Setting}
+use Rattle.tab_store.specs.declared.setting.Setting.TheVariants.{Constraints, Versions, Horizon}
 use Rattle.tab_store.specs.Stores.{HeldTable}
 
 -- a table without its name
@@ -25,17 +27,23 @@ named_table e = record { name = e.0; settings = e.1.settings; tablets = e.1.tabl
 abbrev pub made_table : TimeMode → ℕ → ℕ → TableState
 made_table time versions number = record { settings = made_with time versions; tablets = new_tablet number None ∷ [] }
 
--- a table as it is restored: without horizon, with tablets that are numbered from this number on, end at these rows and hold these records
-abbrev pub restored_table : TimeMode → ℕ → List Constraint → ℕ → List (List ℕ) → List Record → TableState
-restored_table time versions constraints number ends us = record { settings = record { time = time; versions = versions; constraints = constraints; horizon = least }; tablets = restored number ends us }
+-- a table as it is restored: with these settings, and tablets that are numbered from this number on, end at these rows and hold these records
+abbrev pub restored_table : TimeMode → ℕ → List Constraint → ℤ → ℕ → List (List ℕ) → List Record → TableState
+restored_table time versions constraints horizon number ends us = record { settings = record { time = time; versions = versions; constraints = constraints; horizon = horizon }; tablets = restored number ends us }
 
 -- the table with its tablets changed so
 abbrev pub with_tablets : (List Tablet → List Tablet) → TableState → TableState
 with_tablets f t = record t { tablets = f t.tablets }
 
--- the table with these constraints
-abbrev pub with_constraints : List Constraint → TableState → TableState
-with_constraints cs t = record t { settings = record (t.settings) { constraints = cs } }
+-- the settings with one of them put in place of what it was
+abbrev pub set_so : Setting → Settings → Settings
+set_so (Constraints cs) s = record s { constraints = cs }
+set_so (Versions many) s = record s { versions = many }
+set_so (Horizon low) s = record s { horizon = low }
+
+-- the table set so
+abbrev pub with_setting : Setting → TableState → TableState
+with_setting setting t = record t { settings = set_so setting t.settings }
 
 -- the table of this name, without the name
 abbrev pub state_of : HeldTable → TableState

@@ -1,6 +1,6 @@
 //! Laws of the definitions. Each is the contract of a function that does nothing, so that it is proved.
 ghost use Rattle.tab_store.specs.Stepping.{TellsLegally, CapturesAreThere};
-ghost use Rattle.tab_store.specs.Keeping.{FreezesKeep, WritesKeep, CompactionsKeep, BeginningsKeep, InstallsKeep, SplitsKeep, LaterKeeps, WorkKeeps, StaysWhole, TabletsHoldAll, SoundTabletsLieApart, MiddlesLieInside, WorkStaysSound, NewTablesAreSound, SoundLater, BasesRead};
+ghost use Rattle.tab_store.specs.Keeping.{FreezesKeep, WritesKeep, CompactionsKeep, BeginningsKeep, InstallsKeep, SplitsKeep, LaterKeeps, FewerKeeps, SoundWithFewer, WorkKeeps, StaysWhole, TabletsHoldAll, SoundTabletsLieApart, MiddlesLieInside, WorkStaysSound, NewTablesAreSound, SoundLater, BasesRead};
 ghost use Rattle.tab_store.specs.Rightness.{NewStoresAreStores, StoresAreSound, StepsAreRight, StoresStay};
 ghost use Rattle.tab_store.specs.Chains.{ChainsStay, ChainsAreLegal};
 
@@ -122,4 +122,14 @@ pub fn chains_stay()
 /// A chain of events alone is a legal history.
 pub fn chains_are_legal()
     ensures { ChainsAreLegal }
+{}
+
+/// A number of versions that is lowered leaves a tablet refining the updates in its rows.
+pub fn fewer_keeps()
+    ensures { FewerKeeps }
+{}
+
+/// Sound tablets are sound with fewer versions.
+pub fn sound_with_fewer()
+    ensures { SoundWithFewer }
 {}

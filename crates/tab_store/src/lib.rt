@@ -12,6 +12,7 @@
 //! | `specs/Examples` | worked examples, computed |
 //! | `specs/Tables` | tables by name, and what calls change of them |
 //! | `specs/Due` | which work is due, and where it is to be done |
+//! | `setting` | what of a table may be set |
 //! | `table` | one table: its settings, and its tablets |
 //! | `tables` | tables by name |
 //! | `due` | work that is due, and where it is to be done |
@@ -21,7 +22,7 @@
 //! | `proofs/CutTablet`, `SplitTablets`, `SplitCases` | a split leaves them so too |
 //! | `proofs/InstallCases` | how an install may end |
 //! | `proofs/Accepted` | what tablets hold was accepted, and lies in their rows |
-//! | `proofs/Sound`, `OneTable` | what a core keeps of a table by itself |
+//! | `proofs/Sound`, `Fewer`, `OneTable` | what a core keeps of a table by itself, also with fewer versions |
 //! | `proofs/Apart` | its tablets hold what they hold one behind the other |
 //! | `proofs/Middles` | the row in the middle of one of them is no end row |
 //! | `proofs/Reading`, `Telling`, `Right` | exact steps are right ones, act by act |
@@ -35,17 +36,19 @@
 
 mod due;
 mod laws;
+mod setting;
 mod table;
 mod tables;
 
 pub use due::Due;
 pub use laws::{
     bases_read, beginnings_keep, captures_are_there, chains_are_legal, chains_stay,
-    compactions_keep, freezes_keep, installs_keep, later_keeps, middles_lie_inside,
-    new_stores_are_stores, new_tables_are_sound, sound_later, sound_tablets_lie_apart, splits_keep,
-    stays_whole, steps_are_right, stores_are_sound, stores_stay, tablets_hold_all, tells_legally,
-    work_keeps, work_stays_sound, writes_keep,
+    compactions_keep, fewer_keeps, freezes_keep, installs_keep, later_keeps, middles_lie_inside,
+    new_stores_are_stores, new_tables_are_sound, sound_later, sound_tablets_lie_apart,
+    sound_with_fewer, splits_keep, stays_whole, steps_are_right, stores_are_sound, stores_stay,
+    tablets_hold_all, tells_legally, work_keeps, work_stays_sound, writes_keep,
 };
+pub use setting::Setting;
 pub use tab_tablets::{DueKind, FinishedJob, Installed, Split, TabletJob};
 pub use table::Table;
 pub use tables::Tables;

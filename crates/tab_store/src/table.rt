@@ -16,8 +16,9 @@ ghost use Rattle.tab_tablets.specs.Splits.{splits, halves};
 ghost use Rattle.tab_tablets.specs.Parts.{begun_at, begins_at, installs_in};
 ghost use Rattle.tab_tablets.specs.Due.{first_due, start_of};
 ghost use Rattle.tab_store.specs.Stores.{told_count, counts_of};
-ghost use Rattle.tab_store.specs.Tables.{made_table, restored_table, with_tablets, with_constraints};
+ghost use Rattle.tab_store.specs.Tables.{made_table, restored_table, with_tablets, with_setting};
 
+use crate::Setting;
 use std::alloc::{AllocError, Global};
 use std::marker::Model;
 use std::mem::size_of;
@@ -69,11 +70,18 @@ impl Table {
         ensures { IfOk result (λ t. t ≡ made_table time versions number) }
     {
         let tablets = Tablets::new(alloc, number);
-        Table::holding(alloc, time, versions, ConstraintSet::none(), tablets)
+        Table::holding(
+            alloc,
+            time,
+            versions,
+            ConstraintSet::none(),
+            i64::MIN,
+            tablets,
+        )
     }
 
-    /// A table with these settings and no horizon, whose tablets are numbered from this number on, end at these rows and hold these
-    /// records: each those of its rows, as one sorted table, or no source where there are none.
+    /// A table with these settings, whose tablets are numbered from this number on, end at these rows and hold these records: each those of
+    /// its rows, as one sorted table, or no source where there are none.
     ///
     /// It takes time linear in the records. Beside the records, which are given back once it is done, it takes the memory that the sorted
     /// tables keep, and some for its place; NoMemory says that it lacked.
@@ -82,33 +90,35 @@ impl Table {
         time: TimeMode,
         versions: Versions,
         constraints: ConstraintSet,
+        horizon: i64,
         number: u64,
         ends: Items<ByteString>,
         records: Records,
     ) -> Result<Table, NoMemory>
         requires ends { EndRowsRise ends }
         requires records { IsRising records }
-        ensures { IfOk result (λ t. t ≡ restored_table time versions constraints number ends records) }
+        ensures { IfOk result (λ t. t ≡ restored_table time versions constraints horizon number ends records) }
     {
         let tablets = Tablets::restored(alloc, number, ends, records)?;
-        Table::holding(alloc, time, versions, constraints, tablets)
+        Table::holding(alloc, time, versions, constraints, horizon, tablets)
     }
 
-    // A table with these settings, no horizon, and these tablets.
+    // A table with these settings and these tablets.
     fn holding(
         alloc: Global,
         time: TimeMode,
         versions: Versions,
         constraints: ConstraintSet,
+        horizon: i64,
         tablets: Tablets,
     ) -> Result<Table, AllocError>
-        ensures { IfOk result (λ t. t ≡ record { settings = record { time = time; versions = versions; constraints = constraints; horizon = least }; tablets = tablets }) }
+        ensures { IfOk result (λ t. t ≡ record { settings = record { time = time; versions = versions; constraints = constraints; horizon = horizon }; tablets = tablets }) }
     {
         let contents = Contents {
             time,
             versions,
             constraints,
-            horizon: i64::MIN,
+            horizon,
             tablets,
         };
         let contents = Box::new(alloc, contents)?;
@@ -143,11 +153,15 @@ impl Table {
         self.contents.horizon
     }
 
-    /// Sets its constraints.
-    pub fn set_constraints(&mut self, constraints: ConstraintSet)
-        ensures { self.new ≡ with_constraints constraints self.old }
+    /// Sets it so.
+    pub fn set(&mut self, setting: Setting)
+        ensures { self.new ≡ with_setting setting self.old }
     {
-        self.contents.constraints = constraints;
+        match setting {
+            Setting::Constraints(constraints) => self.contents.constraints = constraints,
+            Setting::Versions(versions) => self.contents.versions = versions,
+            Setting::Horizon(horizon) => self.contents.horizon = horizon,
+        }
     }
 
     /// Writes a mutation, whose shape was accepted, to the tablet that holds its row: each update with this number and, where it

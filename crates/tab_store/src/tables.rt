@@ -15,9 +15,9 @@ ghost use Rattle.tab_tablets.specs.ByRow.{at_row, records_of_all, LieApart};
 ghost use Rattle.tab_tablets.specs.Splits.{splits, halves};
 ghost use Rattle.tab_tablets.specs.Parts.{begins_at, installs_in};
 ghost use Rattle.tab_store.specs.Stores.{RiseByName};
-ghost use Rattle.tab_store.specs.Tables.{TableState, named_table, made_table, with_tablets, with_constraints, table_at, changed_table, tablets_of, begun_in};
+ghost use Rattle.tab_store.specs.Tables.{TableState, named_table, made_table, with_tablets, with_setting, table_at, changed_table, tablets_of, begun_in};
 
-use crate::Table;
+use crate::{Setting, Table};
 use std::alloc::{AllocError, Global};
 use std::collections::BTreeMap;
 use std::collections::btree_map::Iter;
@@ -28,7 +28,6 @@ use tab_iter::NoMemory;
 use tab_key::{Bounds, ByteString, Name};
 use tab_mutation::Mutation;
 use tab_policy::NameKey;
-use tab_rules::ConstraintSet;
 use tab_tablets::{FinishedJob, Installed, Split, TabletJob, Version};
 
 /// The tables that there are, in the order of their names. A contract sees them as definitions have them, with their tablets.
@@ -124,13 +123,13 @@ impl Tables {
         take_away(&mut self.by_name, name);
     }
 
-    /// Sets the table's constraints, if there is such a table.
-    pub fn set_constraints(&mut self, name: &Name, constraints: ConstraintSet)
-        ensures tables { (q : List ℕ) → table_at self.new q ≡ changed_table name.now (with_constraints constraints) self.old q }
+    /// Sets the table so, if there is such a table.
+    pub fn set(&mut self, name: &Name, setting: Setting)
+        ensures tables { (q : List ℕ) → table_at self.new q ≡ changed_table name.now (with_setting setting) self.old q }
         ensures count { length self.new ≡ length self.old }
         ensures names { RiseByName self.new }
     {
-        set_constraints(&mut self.by_name, name, constraints);
+        set(&mut self.by_name, name, setting);
     }
 
     /// Writes a mutation, whose shape was accepted, to the table's tablet of its row, if there is such a table.
@@ -300,13 +299,13 @@ fn take_away(tables: &mut BTreeMap<NameKey, Table>, name: &Name)
     let _ = tables.remove(name);
 }
 
-fn set_constraints(tables: &mut BTreeMap<NameKey, Table>, name: &Name, constraints: ConstraintSet)
-    ensures names { (q : List ℕ) → at_name q tables.new.entries ≡ changed_at name.now (with_constraints constraints) tables.old.entries q }
+fn set(tables: &mut BTreeMap<NameKey, Table>, name: &Name, setting: Setting)
+    ensures names { (q : List ℕ) → at_name q tables.new.entries ≡ changed_at name.now (with_setting setting) tables.old.entries q }
     ensures count { length tables.new.entries ≡ length tables.old.entries }
     ensures ordered { IsOrdered bytes_cmp tables.new }
 {
     if let Some(table) = tables.get_mut(name) {
-        table.set_constraints(constraints);
+        table.set(setting);
     }
 }
 
