@@ -3,7 +3,7 @@ use Rattle.std.proofs.Common.{◌≡◌, false, refl, sym, ap, ◌∙◌}
 use Rattle.tab_policy.specs.declared.permission.Permission.{Permission}
 use Rattle.tab_policy.specs.declared.permission.Permission.TheVariants.{OfSystem, OfTable}
 use Rattle.tab_history.specs.declared.event.Act.{Act}
-use Rattle.tab_history.specs.declared.event.Act.TheVariants.{CreateTable, DropTable, CreateUser, DropUser, Grant, Revoke, Rights, Status, Flush, Compact, AddSplit, SplitBySize, Splits, Load, Begin, Install}
+use Rattle.tab_history.specs.declared.event.Act.TheVariants.{CreateTable, DropTable, SetVersions, SetHorizon, CreateUser, DropUser, Grant, Revoke, Rights, Status, Flush, Compact, AddSplit, SplitBySize, Splits, Load, Rotate, Begin, Install}
 use Rattle.tab_note.specs.declared.act.KeptPermission.{KeptPermission}
 use Rattle.tab_note.specs.declared.act.KeptPermission.TheVariants as permission
 use Rattle.tab_note.specs.declared.act.PlainAct.{PlainAct}
@@ -22,6 +22,8 @@ permission_back (permission.OfTable p t) = refl
 abbrev plain_of : Act → PlainAct
 plain_of (CreateTable t time n) = plain.CreateTable t time n
 plain_of (DropTable t) = plain.DropTable t
+plain_of (SetVersions t many) = plain.SetVersions t many
+plain_of (SetHorizon t low) = plain.SetHorizon t low
 plain_of (CreateUser n) = plain.CreateUser n
 plain_of (DropUser n) = plain.DropUser n
 plain_of (Grant n p) = plain.Grant n (permission_of p)
@@ -34,28 +36,15 @@ plain_of (AddSplit t row) = plain.AddSplit t row
 plain_of (SplitBySize t row limit) = plain.SplitBySize t row limit
 plain_of (Splits t) = plain.Splits t
 plain_of Load = plain.Load
+plain_of Rotate = plain.Rotate
 plain_of (Begin t row kind) = plain.Begin t row kind
 plain_of (Install t given) = plain.Install t given
 plain_of _ = plain.Save
 
 plain_back : (a : PlainAct) → plain_of (plain_in a) ≡ a
-plain_back (plain.CreateTable t time n) = refl
-plain_back (plain.DropTable t) = refl
-plain_back (plain.CreateUser n) = refl
-plain_back (plain.DropUser n) = refl
 plain_back (plain.Grant n p) = ap (plain.Grant n) (permission_back p)
 plain_back (plain.Revoke n p) = ap (plain.Revoke n) (permission_back p)
-plain_back (plain.Rights t) = refl
-plain_back (plain.Status t) = refl
-plain_back (plain.Flush t) = refl
-plain_back (plain.Compact t extent) = refl
-plain_back (plain.AddSplit t row) = refl
-plain_back (plain.SplitBySize t row limit) = refl
-plain_back (plain.Splits t) = refl
-plain_back plain.Save = refl
-plain_back plain.Load = refl
-plain_back (plain.Begin t row kind) = refl
-plain_back (plain.Install t given) = refl
+plain_back act = refl
 
 -- two plain acts that are kept as one are one
 pub plain_apart : (a b : PlainAct) → plain_in a ≡ plain_in b → a ≡ b
@@ -64,19 +53,4 @@ plain_apart a b same = sym (plain_back a) ∙ ap plain_of same ∙ plain_back b
 -- and none is kept as a Write
 pub plain_writes_none : (a : PlainAct) → is_write (plain_in a) ≡ false
 plain_writes_none (plain.CreateTable t time n) = refl
-plain_writes_none (plain.DropTable t) = refl
-plain_writes_none (plain.CreateUser n) = refl
-plain_writes_none (plain.DropUser n) = refl
-plain_writes_none (plain.Grant n p) = refl
-plain_writes_none (plain.Revoke n p) = refl
-plain_writes_none (plain.Rights t) = refl
-plain_writes_none (plain.Status t) = refl
-plain_writes_none (plain.Flush t) = refl
-plain_writes_none (plain.Compact t extent) = refl
-plain_writes_none (plain.AddSplit t row) = refl
-plain_writes_none (plain.SplitBySize t row limit) = refl
-plain_writes_none (plain.Splits t) = refl
-plain_writes_none plain.Save = refl
-plain_writes_none plain.Load = refl
-plain_writes_none (plain.Begin t row kind) = refl
-plain_writes_none (plain.Install t given) = refl
+plain_writes_none act = refl

@@ -4,7 +4,7 @@ use Rattle.tab_policy.specs.declared.permission.Permission.{Permission}
 use Rattle.tab_policy.specs.declared.permission.Permission.TheVariants.{OfSystem, OfTable}
 use Rattle.tab_history.specs.declared.event.Scan.{Scan}
 use Rattle.tab_history.specs.declared.event.Act.{Act}
-use Rattle.tab_history.specs.declared.event.Act.TheVariants.{Open, Write, CreateTable, DropTable, SetConstraints, CreateUser, DropUser, SetAuths, Grant, Revoke, Rights, Status, Flush, Compact, AddSplit, SplitBySize, Splits, Save, Load, Begin, Install}
+use Rattle.tab_history.specs.declared.event.Act.TheVariants.{Open, Write, CreateTable, DropTable, SetConstraints, SetVersions, SetHorizon, CreateUser, DropUser, SetAuths, Grant, Revoke, Rights, Status, Flush, Compact, AddSplit, SplitBySize, Splits, Save, Load, Rotate, Begin, Install}
 use Rattle.tab_note.specs.declared.act.KeptPermission.{KeptPermission}
 use Rattle.tab_note.specs.declared.act.KeptPermission.TheVariants as permission
 use Rattle.tab_note.specs.declared.act.KeptScan.{KeptScan}
@@ -26,6 +26,8 @@ scan_in s = record { table = s.table; bounds = s.bounds; columns = s.columns; au
 abbrev pub plain_in : PlainAct → Act
 plain_in (plain.CreateTable t time n) = CreateTable t time n
 plain_in (plain.DropTable t) = DropTable t
+plain_in (plain.SetVersions t many) = SetVersions t many
+plain_in (plain.SetHorizon t low) = SetHorizon t low
 plain_in (plain.CreateUser n) = CreateUser n
 plain_in (plain.DropUser n) = DropUser n
 plain_in (plain.Grant n p) = Grant n (permission_in p)
@@ -39,6 +41,7 @@ plain_in (plain.SplitBySize t row limit) = SplitBySize t row limit
 plain_in (plain.Splits t) = Splits t
 plain_in plain.Save = Save
 plain_in plain.Load = Load
+plain_in plain.Rotate = Rotate
 plain_in (plain.Begin t row kind) = Begin t row kind
 plain_in (plain.Install t given) = Install t given
 

@@ -40,6 +40,8 @@ pub struct KeptScan {
 pub enum PlainAct {
     CreateTable(Text, TimeMode, u32),
     DropTable(Text),
+    SetVersions(Text, u32),
+    SetHorizon(Text, i64),
     CreateUser(Text),
     DropUser(Text),
     Grant(Text, KeptPermission),
@@ -53,6 +55,7 @@ pub enum PlainAct {
     Splits(Text),
     Save,
     Load,
+    Rotate,
     Begin(Text, Text, Compaction),
     Install(Text, Given),
 }
@@ -122,6 +125,10 @@ impl KeptAct {
                 PlainAct::CreateTable(text(alloc, table)?, *time, versions.get())
             }
             Act::DropTable(table) => PlainAct::DropTable(text(alloc, table)?),
+            Act::SetVersions(table, versions) => {
+                PlainAct::SetVersions(text(alloc, table)?, versions.get())
+            }
+            Act::SetHorizon(table, horizon) => PlainAct::SetHorizon(text(alloc, table)?, *horizon),
             Act::CreateUser(name) => PlainAct::CreateUser(text(alloc, name)?),
             Act::DropUser(name) => PlainAct::DropUser(text(alloc, name)?),
             Act::Grant(name, permission) => {
@@ -137,14 +144,11 @@ impl KeptAct {
             Act::AddSplit(table, row) => {
                 PlainAct::AddSplit(text(alloc, table)?, row_text(alloc, row)?)
             }
-            Act::SplitBySize(table, row, limit) => PlainAct::SplitBySize(
-                text(alloc, table)?,
-                row_text(alloc, row)?,
-                *limit,
-            ),
+            Act::SplitBySize(table, row, limit) => split_by_size(alloc, table, row, *limit)?,
             Act::Splits(table) => PlainAct::Splits(text(alloc, table)?),
             Act::Save => PlainAct::Save,
             Act::Load => PlainAct::Load,
+            Act::Rotate => PlainAct::Rotate,
             Act::Begin(table, row, kind) => {
                 PlainAct::Begin(text(alloc, table)?, row_text(alloc, row)?, *kind)
             }
@@ -216,6 +220,18 @@ fn authorizations(alloc: Global, name: &Name, auths: &AuthSet) -> Result<KeptAct
     ensures { IfOk result (λ kept. act_in kept ≡ Act.SetAuths name.now auths.now) }
 {
     Ok(KeptAct::SetAuths(text(alloc, name)?, auths.clone()?))
+}
+
+// A split by size, kept.
+fn split_by_size(
+    alloc: Global,
+    table: &Name,
+    row: &ByteString,
+    limit: u64,
+) -> Result<PlainAct, AllocError>
+    ensures { IfOk result (λ kept. plain_in kept ≡ Act.SplitBySize table.now row.now limit) }
+{
+    Ok(PlainAct::SplitBySize(text(alloc, table)?, row_text(alloc, row)?, limit))
 }
 
 // Whether the two ask for the same.
