@@ -13,7 +13,7 @@ use Rattle.tab_history.specs.declared.event.Given.{Given}
 use Rattle.tab_history.specs.declared.event.Given.TheVariants.{ByHand}
 use Rattle.tab_history.specs.declared.reply.Refusal.TheVariants.{NoMemory, Stale}
 use Rattle.tab_history.specs.declared.reply.Reply.{Reply}
-use Rattle.tab_history.specs.declared.reply.Reply.TheVariants.{Done, Refused, Opened, Batch, Ranges, Rights, Counted, Rows, Begun, Nothing}
+use Rattle.tab_history.specs.declared.reply.Reply.TheVariants.{Done, Refused, Opened}
 use Rattle.tab_history.specs.Held.{floor_of}
 use Rattle.tab_history.specs.Answers.{Told, told_of, job_of}
 use Rattle.tab_history.specs.Changes.{changes_of}
@@ -48,15 +48,7 @@ began_so t row kind now number ts new (Err e) names count began changed = tt
 none_opened : (r : Reply SessionState TabletMerge) (j : Option TabletMerge) (all : List Cell) → told_of r ≡ told_job j → HandsOut r all
 none_opened (Opened u) None all e = absurd (cc)
 none_opened (Opened u) (Some m) all e = absurd (cc)
-none_opened Done j all e = tt
-none_opened (Refused r) j all e = tt
-none_opened (Batch cells) j all e = tt
-none_opened (Ranges ranges) j all e = tt
-none_opened (Rights rights) j all e = tt
-none_opened (Counted counts) j all e = tt
-none_opened (Rows rows) j all e = tt
-none_opened (Begun m) j all e = tt
-none_opened Nothing j all e = tt
+none_opened reply j all e = tt
 
 -- histories read no change
 none_changed : (now : ℤ) (user : List ℕ) (a : Act) (j : Option TabletMerge) → changes_of now user a ≡ [] → changes_told now user a (told_job j) ≡ []
@@ -132,15 +124,7 @@ installed_so t m ts new (Err e) names count told changed = tt
 none_shown : (r : Reply SessionState TabletMerge) (s : Installed) (all : List Cell) → told_of r ≡ told_install Done s → HandsOut r all
 none_shown (Opened u) installed.Done all e = absurd (cc)
 none_shown (Opened u) (installed.Stale n) all e = absurd (cc)
-none_shown Done s all e = tt
-none_shown (Refused r) s all e = tt
-none_shown (Batch cells) s all e = tt
-none_shown (Ranges ranges) s all e = tt
-none_shown (Rights rights) s all e = tt
-none_shown (Counted counts) s all e = tt
-none_shown (Rows rows) s all e = tt
-none_shown (Begun m) s all e = tt
-none_shown Nothing s all e = tt
+none_shown reply s all e = tt
 
 none_read : (now : ℤ) (user : List ℕ) (a : Act) (s : Installed) → changes_of now user a ≡ [] → changes_told now user a (told_install Done s) ≡ []
 none_read now user a installed.Done none = none

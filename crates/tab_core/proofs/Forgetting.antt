@@ -1,9 +1,9 @@
 -- An event that is told what takes memory to copy changed nothing and takes memory itself: so it can be refused for want of memory instead.
 use Rattle.std.proofs.Common.{◌≡◌, ◌⊎◌, inl, inr, ℕ, ℤ, Bool, true, false, cond, List, [], ◌∷◌, Option, Some, None, refl, sym, ap, ◌∙◌, subst}
-use Rattle.std.specs.Prelude.{not, bytes_eq}
+use Rattle.std.specs.Prelude.{not, nat_lt, int_lt, bytes_eq}
 use Rattle.std.specs.List.{AllByRecursion}
 use Rattle.std.proofs.lemmas.Slice.Eq.{bytes_eq-Decides}
-use Rattle.tab_key.specs.declared.part.Part.TheVariants.{Authorizations, Numbers}
+use Rattle.tab_key.specs.declared.part.Part.TheVariants.{Authorizations}
 use Rattle.std.specs.Int.{int_max}
 use Rattle.tab_mutation.specs.Shape.{or_else, first_some, when}
 use Rattle.tab_policy.specs.Roots.{root}
@@ -12,14 +12,15 @@ use Rattle.tab_policy.specs.declared.permission.Permission.TheVariants.{OfSystem
 use Rattle.tab_policy.specs.declared.decision.Denial.{Denial}
 use Rattle.tab_policy.specs.declared.decision.Denial.TheVariants as policy
 use Rattle.tab_cells.specs.SessionState.{SessionState}
-use Rattle.tab_history.specs.Checks.{Caller, standing, exists_in, user_named, action_of, denial, too_many_auths, is_grant, own_checks, refusal_of}
+use Rattle.tab_history.specs.Checks.{Caller, standing, exists_in, user_named, action_of, denial, too_many_auths, is_grant, version_checks, horizon_checks, own_checks, refusal_of}
+use Rattle.tab_history.specs.Settings.{Settings, takes_timestamps}
 use Rattle.tab_history.specs.declared.event.Given.TheVariants.{ByHand}
 use Rattle.tab_history.specs.Answers.{Told, told, told_of, job_of, numbered, granted, are_used_up, event_answer}
 use Rattle.tab_history.specs.Legal.{takes_memory}
 use Rattle.tab_history.specs.declared.event.Act.{Act}
 use Rattle.tab_history.specs.declared.event.Act.TheVariants as act
 use Rattle.tab_history.specs.declared.reply.Refusal.{Refusal}
-use Rattle.tab_history.specs.declared.reply.Refusal.TheVariants.{BadAuthorizations, ConstraintViolation, TooLarge, NoUser, RootFixed, GrantInvalid, NoMemory}
+use Rattle.tab_history.specs.declared.reply.Refusal.TheVariants.{BadAuthorizations, ConstraintViolation, TooLarge, NoUser, RootFixed, GrantInvalid, VersionsRaised, HorizonLowered, ServerTime, NoMemory}
 use Rattle.tab_history.specs.declared.reply.Reply.{Reply}
 use Rattle.tab_history.specs.declared.reply.Reply.TheVariants.{Done, Refused, Begun}
 use Rattle.tab_store.specs.Parts.{TabletMerge}
@@ -53,10 +54,20 @@ short_denial user (Some policy.UnknownUser) = refl
 short_denial user (Some (policy.NoTable t)) = refl
 short_denial user (Some (policy.PermissionDenied p)) = refl
 
+short_versions : (o : Option Settings) (many : ℕ) → AllByRecursion IsShort (version_checks o many)
+short_versions None many = tt
+short_versions (Some s) many = (short_when (nat_lt s.versions many) (VersionsRaised s.versions) refl, tt)
+
+short_horizon : (o : Option Settings) (low : ℤ) → AllByRecursion IsShort (horizon_checks o low)
+short_horizon None low = tt
+short_horizon (Some s) low = (short_when (not (takes_timestamps s.time)) ServerTime refl, (short_when (int_lt low s.horizon) (HorizonLowered s.horizon) refl, tt))
+
 -- those of an act that takes no memory
 short_own : (c : Caller) (there : Bool) (now : ℤ) (a : Act) → takes_memory a ≡ false → AllByRecursion IsShort (own_checks c there now a)
 short_own c there now (act.DropTable t) e = tt
 short_own c there now (act.SetConstraints t cs) e = tt
+short_own c there now (act.SetVersions t many) e = short_versions (c.settings t) many
+short_own c there now (act.SetHorizon t low) e = short_horizon (c.settings t) low
 short_own c there now (act.DropUser n) e = (short_when (not there) (NoUser n) refl, (short_when (bytes_eq n root) RootFixed refl, tt))
 short_own c there now (act.SetAuths n auths) e = (short_when (too_many_auths auths) (TooLarge Authorizations) refl, (short_when (not there) (NoUser n) refl, tt))
 short_own c there now (act.Revoke n (OfSystem p)) e = (short_when (is_grant p) GrantInvalid refl, (short_when (not there) (NoUser n) refl, (short_when (bytes_eq n root) RootFixed refl, tt)))
@@ -64,6 +75,7 @@ short_own c there now (act.Revoke n (OfTable p t)) e = (short_when (not there) (
 short_own c there now (act.Status t) e = tt
 short_own c there now act.Save e = tt
 short_own c there now act.Load e = tt
+short_own c there now act.Rotate e = tt
 short_own c there now _ e = absurd (cc)
 
 long_takes : (c : Caller) (there : Bool) (now : ℤ) (user : List ℕ) (a : Act) (x : Refusal) (b : Bool) → takes_memory a ≡ b → first_some (denial user (decision c.policy (action_of a)) ∷ own_checks c there now a) ≡ Some x → is_long_refusal x ≡ true → b ≡ true
@@ -109,27 +121,12 @@ short_job (Some m) = refl
 
 forgets_done : (old : Held) (now : ℤ) (user : List ℕ) (a : Act) (c : Caller) (r : Told) → r ≡ told_exactly old now None a (granted c a) → is_long r ≡ true → Forgets old now user a (granted c a) r
 unfolding lays
-forgets_done old now user (act.Open scan) c r is long = never r _ is refl long
-forgets_done old now user (act.Write t m) c r is long = never r _ is refl long
-forgets_done old now user (act.CreateTable t time n) c r is long = never r _ is refl long
-forgets_done old now user (act.DropTable t) c r is long = never r _ is refl long
-forgets_done old now user (act.SetConstraints t cs) c r is long = never r _ is refl long
-forgets_done old now user (act.CreateUser n) c r is long = never r _ is refl long
-forgets_done old now user (act.DropUser n) c r is long = never r _ is refl long
-forgets_done old now user (act.SetAuths n auths) c r is long = never r _ is refl long
-forgets_done old now user (act.Grant n p) c r is long = never r _ is refl long
-forgets_done old now user (act.Revoke n p) c r is long = never r _ is refl long
 forgets_done old now user (act.Rights t) c r is long = subst (λ (x : Told). Forgets old now user (act.Rights t) (granted c (act.Rights t)) x) (sym is) (record { takes = refl; laid = λ q. refl; still = refl })
-forgets_done old now user (act.Status t) c r is long = never r _ is refl long
-forgets_done old now user (act.Flush t) c r is long = never r _ is refl long
-forgets_done old now user (act.Compact t extent) c r is long = never r _ is refl long
 forgets_done old now user (act.AddSplit t row) c r is long = never r _ is (short_split _) long
 forgets_done old now user (act.SplitBySize t row limit) c r is long = never r _ is (short_split _) long
 forgets_done old now user (act.Splits t) c r is long = subst (λ (x : Told). Forgets old now user (act.Splits t) (granted c (act.Splits t)) x) (sym is) (record { takes = refl; laid = λ q. either (bytes_eq t q) (tablets_in old q); still = refl })
-forgets_done old now user act.Save c r is long = never r _ is refl long
-forgets_done old now user act.Load c r is long = never r _ is refl long
 forgets_done old now user (act.Begin t row kind) c r is long = never r _ is (short_job _) long
-forgets_done old now user (act.Install t by) c r is long = never r _ is refl long
+forgets_done old now user act c r is long = never r _ is refl long
 
 forgets : (old : Held) (now : ℤ) (user : List ℕ) (a : Act) (c : Caller) (used : Bool) (r : Told) (o : Option Refusal) → ((x : Refusal) → o ≡ Some x → is_long_refusal x ≡ true → takes_memory a ≡ true)
     → r ≡ told_exactly old now None a (told o (numbered used (granted c a))) → is_long r ≡ true → Forgets old now user a (told o (numbered used (granted c a))) r

@@ -5,7 +5,7 @@ use Rattle.std.proofs.Math.Dec.{eqb-zero-suc, eqb-suc-zero, eqb-suc-suc}
 use Rattle.std.proofs.lemmas.Bool.Decides.{nat_tests}
 use Rattle.std.proofs.lemmas.List.{append-nil}
 use Rattle.tab_history.specs.declared.event.Act.{Act}
-use Rattle.tab_history.specs.declared.event.Act.TheVariants.{Open, Write, CreateTable, DropTable, SetConstraints, CreateUser, DropUser, SetAuths, Grant, Revoke, Rights as AsksRights, Status, Flush, Compact, AddSplit, SplitBySize, Splits, Save, Load, Begin, Install}
+use Rattle.tab_history.specs.declared.event.Act.TheVariants.{Open, Begin, Install}
 use Rattle.tab_history.specs.declared.event.Event.{Event}
 use Rattle.tab_history.specs.declared.event.Given.TheVariants.{InSlot, ByHand}
 use Rattle.tab_history.specs.declared.event.Step.{Step}
@@ -402,15 +402,7 @@ merged_jobs : (moves : List JobMove) (ss : List JobSlot) (slot : ℕ) (reply : T
 merged_jobs moves ss slot Done from are =
     let was = waited ss slot (slot_in ss slot) refl from.answers in
     subst (λ (s : JobSlot). JobsAre (Merging slot ∷ moves) (slice_set ss slot (made s))) (sym was.1) (jobs_merged moves ss slot was.0 (slot_there ss slot was.0 (ap merge_in was.1)) are)
-merged_jobs moves ss slot (Refused x) from are = subst (λ l. JobsAre moves l) (sym (same_slot ss slot)) are
-merged_jobs moves ss slot (Opened u) from are = subst (λ l. JobsAre moves l) (sym (same_slot ss slot)) are
-merged_jobs moves ss slot (Batch cells) from are = subst (λ l. JobsAre moves l) (sym (same_slot ss slot)) are
-merged_jobs moves ss slot (Ranges ranges) from are = subst (λ l. JobsAre moves l) (sym (same_slot ss slot)) are
-merged_jobs moves ss slot (Rights rights) from are = subst (λ l. JobsAre moves l) (sym (same_slot ss slot)) are
-merged_jobs moves ss slot (Counted counts) from are = subst (λ l. JobsAre moves l) (sym (same_slot ss slot)) are
-merged_jobs moves ss slot (Rows rows) from are = subst (λ l. JobsAre moves l) (sym (same_slot ss slot)) are
-merged_jobs moves ss slot (Begun u) from are = subst (λ l. JobsAre moves l) (sym (same_slot ss slot)) are
-merged_jobs moves ss slot Nothing from are = subst (λ l. JobsAre moves l) (sym (same_slot ss slot)) are
+merged_jobs moves ss slot reply from are = subst (λ l. JobsAre moves l) (sym (same_slot ss slot)) are
 
 -- it lengthens each history that core and slots refined, and leaves the core as it was
 pub merge_lengthens : (core : Base) (ss ss' : List JobSlot) (slot : ℕ) (reply : Told) → MergesIn ss slot reply ss' → (w : World) (h : List Entry) → Refines (world_of core) (world_after w h) → JobsAre (jobs_of h) ss → Lengthened w h (Merge slot) reply core ss'

@@ -8,7 +8,8 @@ pub mod Compacting
 pub mod Limits
 pub mod LabelLemmas
 pub mod Opening
-pub mod OwnerLemmas
+pub mod KeptLemmas
+pub mod PlaceLemmas
 pub mod PolicyActs
 pub mod Runs
 pub mod SlotLemmas

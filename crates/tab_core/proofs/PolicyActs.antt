@@ -201,7 +201,7 @@ pub right_taken : (h : Held) (p : State) (now : ℤ) (user n : List ℕ) (x : Pe
 unfolding has_user
 right_taken h p now user n x core passes read = ruled h p now user (act.Revoke n x) core refl (ap (λ o. told o Done) passes) (read ∙ taken_reads h n x) (taken_ruling h n x)
 
--- ---- saves and loads, which change nothing
+-- ---- saves, loads and rotations, which change nothing
 pub saved : (h : Held) (now : ℤ) (user : List ℕ) → IsCore h → Acts (own_answer (base_of h) now user act.Save) h now None user act.Save Done h
 unfolding readings next_number has_user user_count held_auths has_system_right has_table_right table_count settings_of
 saved h now user core = ruled h h.policy now user act.Save core refl refl refl (record { numbers = refl; tables = refl; settings = λ t. refl })
@@ -209,3 +209,7 @@ saved h now user core = ruled h h.policy now user act.Save core refl refl refl (
 pub loaded : (h : Held) (now : ℤ) (user : List ℕ) → IsCore h → Acts (own_answer (base_of h) now user act.Load) h now None user act.Load Done h
 unfolding readings next_number has_user user_count held_auths has_system_right has_table_right table_count settings_of
 loaded h now user core = ruled h h.policy now user act.Load core refl refl refl (record { numbers = refl; tables = refl; settings = λ t. refl })
+
+pub rotated : (h : Held) (now : ℤ) (user : List ℕ) → IsCore h → Acts (own_answer (base_of h) now user act.Rotate) h now None user act.Rotate Done h
+unfolding readings next_number has_user user_count held_auths has_system_right has_table_right table_count settings_of
+rotated h now user core = ruled h h.policy now user act.Rotate core refl refl refl (record { numbers = refl; tables = refl; settings = λ t. refl })

@@ -7,7 +7,7 @@ use Rattle.tab_history.specs.Histories.{Entry, world_of, journal}
 use Rattle.tab_history.specs.declared.event.Act.{Act}
 use Rattle.tab_history.specs.declared.event.Event.{Event}
 use Rattle.tab_history.specs.declared.reply.Reply.{Reply}
-use Rattle.tab_history.specs.declared.reply.Reply.TheVariants.{Done, Refused, Opened, Batch, Ranges, Rights, Counted, Rows, Begun, Nothing}
+use Rattle.tab_history.specs.declared.reply.Reply.TheVariants.{Opened}
 use Rattle.tab_store.specs.Parts.{TabletMerge}
 use Rattle.tab_store.specs.Stores.{Held, base_of}
 use Rattle.tab_core.specs.Stepping.{HandsOut, Steps, StepsWith, IsCore}
@@ -26,16 +26,8 @@ begun h core = itself h core
 
 shown : (base : Base) (h : List Entry) (act : Act) (reply : Reply SessionState TabletMerge) → HandsOut reply (session_list base (journal (world_of base) h) act) → ShowsAnswer base h act (session_of reply)
 unfolding ShowsAnswer
-shown base h act Done hands = tt
-shown base h act (Refused r) hands = tt
 shown base h act (Opened session) hands = hands
-shown base h act (Batch cells) hands = tt
-shown base h act (Ranges ranges) hands = tt
-shown base h act (Rights rights) hands = tt
-shown base h act (Counted counts) hands = tt
-shown base h act (Rows rows) hands = tt
-shown base h act (Begun job) hands = tt
-shown base h act Nothing hands = tt
+shown base h act reply hands = tt
 
 -- both sides of a step, in those words
 pub steps_on : (old new : Held) (given : Option TabletMerge) (e : Event) (reply : Reply SessionState TabletMerge) → Steps (base_of old) e reply (base_of new) → StepsWith old given e reply new → StepsOn old given e reply new

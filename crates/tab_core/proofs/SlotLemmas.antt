@@ -9,7 +9,7 @@ use Rattle.tab_key.specs.Records.{Cell}
 use Rattle.tab_cells.specs.SessionState.{SessionState, gave}
 use Rattle.tab_history.specs.Sessions.{Move, Opening, Taking, Closing, opened, closed, session_in, is_full}
 use Rattle.tab_core.specs.Slots.{slot_at, changed_at, are_full, SlotsAre}
-use Rattle.tab_core.proofs.OwnerLemmas.{set_twice}
+use Rattle.tab_core.proofs.PlaceLemmas.{set_twice}
 
 pub slot_appended : (ss : List (Option SessionState)) (s : Option SessionState) (k : ℕ) → slot_at (ss ++ s ∷ []) k ≡ cond (length ss == k) s (slot_at ss k)
 slot_appended [] s zero = refl

@@ -14,7 +14,7 @@ use Rattle.tab_history.specs.declared.event.Act.{Act}
 use Rattle.tab_history.specs.declared.event.Act.TheVariants as act
 use Rattle.tab_history.specs.declared.reply.Refusal.TheVariants.{NoMemory, TooLarge}
 use Rattle.tab_history.specs.declared.reply.Reply.{Reply}
-use Rattle.tab_history.specs.declared.reply.Reply.TheVariants.{Done, Refused, Opened, Batch, Ranges, Rights, Counted, Rows, Begun, Nothing}
+use Rattle.tab_history.specs.declared.reply.Reply.TheVariants.{Done, Refused, Opened, Rows, Begun}
 use Rattle.tab_history.specs.Answers.{Told, told, told_of, job_of}
 use Rattle.tab_history.specs.Checks.{standing, exists_in, user_named, row_checks, own_checks}
 use Rattle.tab_history.specs.Changes.{changes_of}
@@ -36,15 +36,7 @@ none_handed (Opened u) split.Present all e = absurd (cc)
 none_handed (Opened u) split.Small all e = absurd (cc)
 none_handed (Opened u) split.OneRow all e = absurd (cc)
 none_handed (Opened u) split.Full all e = absurd (cc)
-none_handed Done s all e = tt
-none_handed (Refused r) s all e = tt
-none_handed (Batch cells) s all e = tt
-none_handed (Ranges ranges) s all e = tt
-none_handed (Rights rights) s all e = tt
-none_handed (Counted counts) s all e = tt
-none_handed (Rows rows) s all e = tt
-none_handed (Begun m) s all e = tt
-none_handed Nothing s all e = tt
+none_handed reply s all e = tt
 
 -- and no job
 none_begun : (r : Reply SessionState TabletMerge) (s : Split) → told_of r ≡ told_split Done s → job_of r ≡ None
@@ -53,15 +45,7 @@ none_begun (Begun m) split.Present e = absurd (cc)
 none_begun (Begun m) split.Small e = absurd (cc)
 none_begun (Begun m) split.OneRow e = absurd (cc)
 none_begun (Begun m) split.Full e = absurd (cc)
-none_begun Done s e = refl
-none_begun (Refused r) s e = refl
-none_begun (Opened u) s e = refl
-none_begun (Batch cells) s e = refl
-none_begun (Ranges ranges) s e = refl
-none_begun (Rights rights) s e = refl
-none_begun (Counted counts) s e = refl
-none_begun (Rows rows) s e = refl
-none_begun Nothing s e = refl
+none_begun reply s e = refl
 
 -- no job is numbered
 same_jobs : (s : Split) (n : ℕ) → n ≡ job_told (told_split Done s) n

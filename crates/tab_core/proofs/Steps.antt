@@ -14,7 +14,7 @@ use Rattle.tab_history.specs.declared.event.Step.TheVariants.{Event as IsEvent}
 use Rattle.tab_history.specs.declared.reply.Refusal.{Refusal}
 use Rattle.tab_history.specs.declared.reply.Refusal.TheVariants as refusal
 use Rattle.tab_history.specs.declared.reply.Reply.{Reply}
-use Rattle.tab_history.specs.declared.reply.Reply.TheVariants.{Done, Refused, Opened, Batch, Ranges, Rights, Counted, Rows, Begun, Nothing}
+use Rattle.tab_history.specs.declared.reply.Reply.TheVariants.{Done, Refused}
 use Rattle.tab_history.specs.Bases.{Base, BaseTable}
 use Rattle.tab_history.specs.Changes.{Change}
 use Rattle.tab_history.specs.Readings.{has_user, user_count, held_auths, has_system_right, has_table_right, table_count, base_settings, settings_of, next_number}
@@ -52,61 +52,18 @@ new_is_core h new unknown = record {
 -- ---- the clock
 refusal_moved : (e : Event) (x : Refusal) (c : ℤ) → clock_after (IsEvent e) (Refused x) c ≡ cond (moves_clock (Refused x)) (int_max c e.moment) c
 refusal_moved e refusal.NoMemory c = refl
-refusal_moved e (refusal.NoSession slot) c = refl
 refusal_moved e (refusal.TooLarge part.Sessions) c = refl
-refusal_moved e (refusal.TooLarge part.Updates) c = refl
-refusal_moved e (refusal.TooLarge part.Row) c = refl
-refusal_moved e (refusal.TooLarge part.Family) c = refl
-refusal_moved e (refusal.TooLarge part.Qualifier) c = refl
-refusal_moved e (refusal.TooLarge part.Label) c = refl
-refusal_moved e (refusal.TooLarge part.Value) c = refl
-refusal_moved e (refusal.TooLarge part.Columns) c = refl
-refusal_moved e (refusal.TooLarge part.Authorizations) c = refl
-refusal_moved e (refusal.TooLarge part.Ranges) c = refl
-refusal_moved e (refusal.TooLarge part.Numbers) c = refl
-refusal_moved e (refusal.UnknownUser n) c = refl
-refusal_moved e (refusal.NoTable n) c = refl
-refusal_moved e (refusal.PermissionDenied p) c = refl
-refusal_moved e (refusal.BadAuthorizations t) c = refl
-refusal_moved e (refusal.MalformedVisibility i o) c = refl
-refusal_moved e (refusal.ConstraintViolation fs) c = refl
-refusal_moved e (refusal.TimestampNotAllowed i) c = refl
-refusal_moved e refusal.EmptyMutation c = refl
-refusal_moved e (refusal.TableExists n) c = refl
-refusal_moved e (refusal.UserExists n) c = refl
-refusal_moved e (refusal.NoUser n) c = refl
-refusal_moved e refusal.BadRange c = refl
-refusal_moved e refusal.RootFixed c = refl
-refusal_moved e refusal.GrantInvalid c = refl
-refusal_moved e (refusal.BelowHorizon i) c = refl
-refusal_moved e (refusal.BadSplit f) c = refl
-refusal_moved e (refusal.Stale n) c = refl
-refusal_moved e (refusal.NoJob slot) c = refl
+refusal_moved e (refusal.TooLarge x) c = refl
+refusal_moved e x c = refl
 
 clock_moved : (e : Event) (r : Told) (c : ℤ) → clock_after (IsEvent e) r c ≡ cond (moves_clock r) (int_max c e.moment) c
-clock_moved e Done c = refl
 clock_moved e (Refused x) c = refusal_moved e x c
-clock_moved e (Opened u) c = refl
-clock_moved e (Batch cells) c = refl
-clock_moved e (Ranges ranges) c = refl
-clock_moved e (Rights rights) c = refl
-clock_moved e (Counted counts) c = refl
-clock_moved e (Rows rows) c = refl
-clock_moved e (Begun u) c = refl
-clock_moved e Nothing c = refl
+clock_moved e reply c = refl
 
 -- ---- one step, seen from the core alone
 changes_alike : (now : ℤ) (e : Event) (r : Told) → changes_by now (IsEvent e) r ≡ changes_told now e.user e.act r
 changes_alike now e Done = refl
-changes_alike now e (Refused x) = refl
-changes_alike now e (Opened u) = refl
-changes_alike now e (Batch cells) = refl
-changes_alike now e (Ranges ranges) = refl
-changes_alike now e (Rights rights) = refl
-changes_alike now e (Counted counts) = refl
-changes_alike now e (Rows rows) = refl
-changes_alike now e (Begun u) = refl
-changes_alike now e Nothing = refl
+changes_alike now e reply = refl
 
 -- no session was opened in no entry
 room_alone : (w : World) (e : Event) → NamesNoSlot e.act → HasRoom w [] (IsEvent e)

@@ -8,22 +8,26 @@ use Rattle.tab_policy.specs.declared.permission.TablePermission.{TablePermission
 use Rattle.tab_policy.specs.declared.permission.TablePermission.TheVariants as table
 use Rattle.tab_policy.specs.Permissions.{same_table}
 use Rattle.tab_policy.specs.State.{State, Readings, readings, user_exists, table_granted, table_exists}
+use Rattle.tab_history.specs.declared.event.Act.{Act}
 use Rattle.tab_history.specs.declared.event.Act.TheVariants as act
 use Rattle.tab_history.specs.declared.event.TimeMode.{TimeMode}
+use Rattle.tab_history.specs.declared.reply.Refusal.{Refusal}
 use Rattle.tab_history.specs.declared.reply.Refusal.TheVariants.{TableExists, TooLarge}
 use Rattle.tab_history.specs.declared.reply.Reply.TheVariants.{Done, Refused}
 use Rattle.tab_history.specs.Settings.{Settings, made_with}
 use Rattle.tab_history.specs.Changes.{changes_of}
-use Rattle.tab_history.specs.Readings.{has_user, user_count, held_auths, has_system_right, has_table_right, table_count, constrained, settings_of, next_number}
-use Rattle.tab_history.specs.Checks.{standing}
+use Rattle.tab_history.specs.Readings.{has_user, user_count, held_auths, has_system_right, has_table_right, table_count, settings_of, next_number}
+use Rattle.tab_history.specs.Checks.{standing, version_checks, horizon_checks}
 use Rattle.tab_history.specs.Answers.{told, numbered}
+use Rattle.tab_store.specs.declared.setting.Setting.{Setting}
+use Rattle.tab_store.specs.declared.setting.Setting.TheVariants.{Constraints, Versions, Horizon}
 use Rattle.tab_store.specs.Stores.{HeldTable, Held, RiseByName, base_of}
-use Rattle.tab_store.specs.Stepping.{Aside, Making, Dropping}
+use Rattle.tab_store.specs.Stepping.{Aside, Making, Dropping, work_of}
 use Rattle.tab_store.specs.Tablets.{next_number as next_tablet}
-use Rattle.tab_store.specs.Tables.{TableState, made_table, with_constraints, table_at, changed_table, settings_at}
-use Rattle.tab_store.proofs.Changed.{settings_read, count_read, tablets_kept, settings_constrained, settings_made, settings_dropped}
+use Rattle.tab_store.specs.Tables.{TableState, made_table, with_setting, table_at, changed_table, settings_at}
+use Rattle.tab_store.proofs.Changed.{read_so, settings_read, count_read, tablets_kept, settings_set, settings_made, settings_dropped}
 use Rattle.tab_store.proofs.Changed as changed
-use Rattle.tab_core.specs.Stepping.{Acts, own_answer, IsAdmitted, IsCore}
+use Rattle.tab_core.specs.Stepping.{Acts, Becomes, own_answer, IsAdmitted, IsCore}
 use Rattle.tab_core.proofs.Acting.{becomes, done_exactly, refused, own_refused}
 
 -- whether there is a table of this name, as it is looked up
@@ -34,24 +38,70 @@ there_alike h t = ap is_some (settings_read h t) ∙ go (table_at h.tables t)
     go None = refl
     go (Some s) = refl
 
--- ---- constraints
-pub constraints_set : (h : Held) (ts : List HeldTable) (now : ℤ) (user t : List ℕ) (cs : List Constraint) → IsCore h → RiseByName ts → length ts ≡ length h.tables → ((q : List ℕ) → table_at ts q ≡ changed_table t (with_constraints cs) h.tables q)
+-- ---- a table set
+-- what it is set to doesn't say whether it is there
+set_there : (x : Setting) (v : Bool) (o : Option Settings) → is_some (cond v (read_so x o) o) ≡ is_some o
+set_there (Constraints cs) true None = refl
+set_there (Constraints cs) true (Some s) = refl
+set_there (Versions many) true None = refl
+set_there (Versions many) true (Some s) = refl
+set_there (Horizon low) true None = refl
+set_there (Horizon low) true (Some s) = refl
+set_there x false o = refl
+
+-- the table t is set so, if it is there, and all others stay
+abbrev pub Sets : Held → List HeldTable → List ℕ → Setting → Type 0
+Sets h ts t x = (q : List ℕ) → table_at ts q ≡ changed_table t (with_setting x) h.tables q
+
+-- an act that passes its checks, and whose changes say the same
+set_done : (h : Held) (ts : List HeldTable) (now : ℤ) (user t : List ℕ) (a : Act) (x : Setting) → IsCore h → work_of None a ≡ Aside → own_answer (base_of h) now user a ≡ Done → Becomes (base_of h) (changes_of now user a) (base_of (record h { tables = ts })) → RiseByName ts → Sets h ts t x
+    → Acts (own_answer (base_of h) now user a) h now None user a Done (record h { tables = ts })
+set_done h ts now user t a x core aside passes becomes names sets =
+    let new : Held = record h { tables = ts } in
+    record {
+      exact = done_exactly h new now a (own_answer (base_of h) now user a) Aside aside (sym passes) refl (tablets_kept h new t (with_setting x) (λ s. refl) sets) names refl refl;
+      becomes = becomes;
+      hands = tt;
+      knows = λ q. core.knows q ∙ sym (ap is_some (settings_set h new t x sets q) ∙ set_there x (bytes_eq t q) (settings_of (base_of h) [] q));
+    }
+
+pub constraints_set : (h : Held) (ts : List HeldTable) (now : ℤ) (user t : List ℕ) (cs : List Constraint) → IsCore h → RiseByName ts → length ts ≡ length h.tables → Sets h ts t (Constraints cs)
     → Acts (own_answer (base_of h) now user (act.SetConstraints t cs)) h now None user (act.SetConstraints t cs) Done (record h { tables = ts })
 unfolding readings next_number has_user user_count held_auths has_system_right has_table_right table_count settings_of
-constraints_set h ts now user t cs core names count sets =
-    let new : Held = record h { tables = ts } in
-    let settings : (q : List ℕ) → settings_of (base_of new) [] q ≡ cond (bytes_eq t q) (constrained cs (settings_of (base_of h) [] q)) (settings_of (base_of h) [] q) = settings_constrained h new t cs sets in
-    record {
-      exact = done_exactly h new now (act.SetConstraints t cs) Done Aside refl refl refl (tablets_kept h new t (with_constraints cs) (λ s. refl) sets) names refl refl;
-      becomes = becomes h h.next h.policy ts (changes_of now user (act.SetConstraints t cs)) (table_exists h.policy) refl refl (count ∙ sym (count_read h)) settings;
-      hands = tt;
-      knows = λ q. core.knows q ∙ sym (ap is_some (settings q) ∙ go (bytes_eq t q) (settings_of (base_of h) [] q));
-    }
-  where
-    go : (v : Bool) (o : Option Settings) → is_some (cond v (constrained cs o) o) ≡ is_some o
-    go true None = refl
-    go true (Some s) = refl
-    go false o = refl
+constraints_set h ts now user t cs core names count sets = set_done h ts now user t (act.SetConstraints t cs) (Constraints cs) core refl refl
+    (becomes h h.next h.policy ts (changes_of now user (act.SetConstraints t cs)) (table_exists h.policy) refl refl (count ∙ sym (count_read h)) (settings_set h (record h { tables = ts }) t (Constraints cs) sets)) names sets
+
+-- ---- the number of versions
+pub versions_refused : (h : Held) (now : ℤ) (user t : List ℕ) (many : ℕ) (r : Refusal) → IsCore h → first_some (version_checks (settings_at (table_at h.tables t)) many) ≡ Some r
+    → Acts (own_answer (base_of h) now user (act.SetVersions t many)) h now None user (act.SetVersions t many) (Refused r) h
+unfolding standing
+versions_refused h now user t many r core e = own_refused h now user (act.SetVersions t many) r core (ap (λ o. first_some (version_checks o many)) (settings_read h t) ∙ e)
+
+versions_pass : (h : Held) (now : ℤ) (user t : List ℕ) (many : ℕ) → first_some (version_checks (settings_at (table_at h.tables t)) many) ≡ None → own_answer (base_of h) now user (act.SetVersions t many) ≡ Done
+unfolding standing
+versions_pass h now user t many e = ap (λ o. told o Done) (ap (λ o. first_some (version_checks o many)) (settings_read h t) ∙ e)
+
+pub versions_set : (h : Held) (ts : List HeldTable) (now : ℤ) (user t : List ℕ) (many : ℕ) → IsCore h → first_some (version_checks (settings_at (table_at h.tables t)) many) ≡ None → RiseByName ts → length ts ≡ length h.tables → Sets h ts t (Versions many)
+    → Acts (own_answer (base_of h) now user (act.SetVersions t many)) h now None user (act.SetVersions t many) Done (record h { tables = ts })
+unfolding readings next_number has_user user_count held_auths has_system_right has_table_right table_count settings_of
+versions_set h ts now user t many core passes names count sets = set_done h ts now user t (act.SetVersions t many) (Versions many) core refl (versions_pass h now user t many passes)
+    (becomes h h.next h.policy ts (changes_of now user (act.SetVersions t many)) (table_exists h.policy) refl refl (count ∙ sym (count_read h)) (settings_set h (record h { tables = ts }) t (Versions many) sets)) names sets
+
+-- ---- the horizon
+pub horizon_refused : (h : Held) (now : ℤ) (user t : List ℕ) (low : ℤ) (r : Refusal) → IsCore h → first_some (horizon_checks (settings_at (table_at h.tables t)) low) ≡ Some r
+    → Acts (own_answer (base_of h) now user (act.SetHorizon t low)) h now None user (act.SetHorizon t low) (Refused r) h
+unfolding standing
+horizon_refused h now user t low r core e = own_refused h now user (act.SetHorizon t low) r core (ap (λ o. first_some (horizon_checks o low)) (settings_read h t) ∙ e)
+
+horizon_passes : (h : Held) (now : ℤ) (user t : List ℕ) (low : ℤ) → first_some (horizon_checks (settings_at (table_at h.tables t)) low) ≡ None → own_answer (base_of h) now user (act.SetHorizon t low) ≡ Done
+unfolding standing
+horizon_passes h now user t low e = ap (λ o. told o Done) (ap (λ o. first_some (horizon_checks o low)) (settings_read h t) ∙ e)
+
+pub horizon_set : (h : Held) (ts : List HeldTable) (now : ℤ) (user t : List ℕ) (low : ℤ) → IsCore h → first_some (horizon_checks (settings_at (table_at h.tables t)) low) ≡ None → RiseByName ts → length ts ≡ length h.tables → Sets h ts t (Horizon low)
+    → Acts (own_answer (base_of h) now user (act.SetHorizon t low)) h now None user (act.SetHorizon t low) Done (record h { tables = ts })
+unfolding readings next_number has_user user_count held_auths has_system_right has_table_right table_count settings_of
+horizon_set h ts now user t low core passes names count sets = set_done h ts now user t (act.SetHorizon t low) (Horizon low) core refl (horizon_passes h now user t low passes)
+    (becomes h h.next h.policy ts (changes_of now user (act.SetHorizon t low)) (table_exists h.policy) refl refl (count ∙ sym (count_read h)) (settings_set h (record h { tables = ts }) t (Horizon low) sets)) names sets
 
 -- ---- a table made
 pub table_exists_already : (h : Held) (now : ℤ) (user t : List ℕ) (time : TimeMode) (v : ℕ) → IsCore h → is_some (table_at h.tables t) ≡ true

@@ -11,6 +11,7 @@ use Rattle.tab_history.specs.Checks.{too_many_auths}
 use Rattle.tab_history.specs.Readings.{settings_of}
 use Rattle.tab_history.specs.Rooted.{IsRooted}
 use Rattle.tab_history.specs.Settings.{Settings, least}
+use Rattle.tab_history.specs.declared.event.TimeMode.TheVariants.{Server}
 use Rattle.tab_history.specs.declared.event.Act.{Act}
 use Rattle.tab_history.specs.declared.event.Act.TheVariants.{Write}
 use Rattle.tab_store.specs.ByRow.{records_of_all}
@@ -21,12 +22,12 @@ abbrev pub IsBareRecord : Record → Type 0
 IsBareRecord u = u.kind ≡ Delete → u.value ≡ []
 
 -- Each user's authorizations are within their limits; root is there, has all system permissions, and it alone may grant them; no table
--- has a horizon; no marker has a value; and there are fewer than 2^32 users, and fewer than 2^32 tables.
+-- that gives its timestamps has a horizon; no marker has a value; and there are fewer than 2^32 users, and fewer than 2^32 tables.
 pub record IsBounded (h : Held) : Type 0 where
   pub auths : (n : List ℕ) → too_many_auths (auths_of h.policy n) ≡ false
   pub rooted : IsRooted (base_of h) []
   pub root_has_all : (p : SystemPermission) → system_granted h.policy root p ≡ true
-  pub no_horizon : (q : List ℕ) (s : Settings) → settings_of (base_of h) [] q ≡ Some s → s.horizon ≡ least
+  pub server_horizon : (q : List ℕ) (s : Settings) → settings_of (base_of h) [] q ≡ Some s → s.time ≡ Server → s.horizon ≡ least
   pub markers : (q : List ℕ) (t : HeldTable) → table_in h q ≡ Some t → (u : Record) → Contains (records_of_all t.tablets) u → IsBareRecord u
   pub users : user_count h.policy < 2 ^ 32
   pub tables : length h.tables < 2 ^ 32

@@ -26,13 +26,9 @@ is_long_refusal _ = false
 
 -- whether a copy of what is told takes memory; cells of a session aren't told of an event, and aren't copied
 abbrev pub is_long : Told → Bool
-is_long Done = false
 is_long (Refused r) = is_long_refusal r
-is_long (Opened u) = false
 is_long (Batch cells) = true
 is_long (Ranges ranges) = true
 is_long (Rights r) = true
-is_long (Counted counts) = false
 is_long (Rows rows) = true
-is_long (Begun u) = false
-is_long Nothing = false
+is_long reply = false

@@ -1,4 +1,6 @@
 pub mod Owners
+pub mod Sessions
+pub mod Lending
 pub mod Holding
 pub mod Bounded
 pub mod Slots

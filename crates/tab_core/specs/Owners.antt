@@ -1,6 +1,5 @@
--- The sessions that a run keeps for its users, and what each step does to them and to the jobs.
+-- What each step of a run does to the sessions of its users and to the jobs.
 use Rattle.std.specs.Prelude.{ℕ, ◌≡◌, ◌⊎◌, true, false, List, [], ◌∷◌, ◌++◌, Option, Some, None, bytes_eq}
-use Rattle.tab_policy.specs.Entries.{at_name}
 use Rattle.tab_key.specs.declared.part.Part.TheVariants.{Sessions}
 use Rattle.tab_history.specs.declared.event.Event.{Event}
 use Rattle.tab_history.specs.declared.event.Step.{Step}
@@ -16,38 +15,30 @@ use Rattle.tab_history.specs.Refinement.{Refines}
 use Rattle.tab_store.specs.Stores.{Held, base_of}
 use Rattle.tab_store.specs.Parts.{TabletMerge}
 use Rattle.tab_core.specs.Slots.{SlotsAre, are_full}
+use Rattle.tab_core.specs.Sessions.{Keeping, kept_of}
 use Rattle.tab_core.specs.declared.job_slots.JobSlot.{JobSlot}
 use Rattle.tab_core.specs.JobSlots.{JobsAre, GoesExactly}
 use Rattle.tab_core.specs.Stepping.{Steps, StepsWith}
 
--- users, each with the slots of his sessions
-abbrev pub Owners : Type 0
-Owners = List (List ℕ × List (Option SessionState))
-
--- the slots that were found, none where there was nothing
-abbrev pub slots_in : Option (List (Option SessionState)) → List (Option SessionState)
-slots_in None = []
-slots_in (Some slots) = slots
-
 -- the slots of this user
-abbrev pub slots_of : Owners → List ℕ → List (Option SessionState)
-slots_of os user = slots_in (at_name user os)
+abbrev pub slots_of : Keeping → List ℕ → List (Option SessionState)
+slots_of os user = (kept_of os user).numbered
 
 -- all other users have the slots that they had
-abbrev pub LeavesOthers : List ℕ → Owners → Owners → Type 0
+abbrev pub LeavesOthers : List ℕ → Keeping → Keeping → Type 0
 LeavesOthers user old new = (other : List ℕ) → bytes_eq user other ≡ false → slots_of new other ≡ slots_of old other
 
 -- each user's slots are those of the history
-abbrev pub OwnersRefine : Owners → World → List Entry → Type 0
+abbrev pub OwnersRefine : Keeping → World → List Entry → Type 0
 OwnersRefine os w h = (user : List ℕ) → SlotsAre (moves_of w user h) (slots_of os user)
 
 -- Whatever legal history core, sessions and jobs refined, they refine the one with this entry, which is legal.
-abbrev pub Lengthens : Base → Owners → List JobSlot → Step → Told → Base → Owners → List JobSlot → Type 0
+abbrev pub Lengthens : Base → Keeping → List JobSlot → Step → Told → Base → Keeping → List JobSlot → Type 0
 Lengthens old os jobs step reply new os' jobs' = (w : World) (h : List Entry) → Refines (world_of old) (world_after w h) → OwnersRefine os w h → JobsAre (jobs_of h) jobs → Legal w h
     → let longer : List Entry = record { step = step; reply = reply } ∷ h in Refines (world_of new) (world_after w longer) × OwnersRefine os' w longer × JobsAre (jobs_of longer) jobs' × Legal w longer
 
 -- A step of a run: histories go on by it, and so does the core, exactly.
-pub record RunsOn (old : Held) (os : Owners) (jobs : List JobSlot) (step : Step) (reply : Told) (new : Held) (os' : Owners) (jobs' : List JobSlot) : Type 0 where
+pub record RunsOn (old : Held) (os : Keeping) (jobs : List JobSlot) (step : Step) (reply : Told) (new : Held) (os' : Keeping) (jobs' : List JobSlot) : Type 0 where
   -- each legal history that core, sessions and jobs refined
   pub histories : Lengthens (base_of old) os jobs step reply (base_of new) os' jobs'
   -- an event is an exact step, with the merge of its slot's job if it names one; and what is none leaves the core as it was

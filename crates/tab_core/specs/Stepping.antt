@@ -1,5 +1,5 @@
 -- What one step of a core does, seen from the core alone and from every history that it refined.
-use Rattle.std.specs.Prelude.{ℕ, ℤ, ◌≡◌, ◌⊎◌, Bool, true, false, List, [], ◌∷◌, ◌++◌, nat_le, is_some, IfSome, Option, Some, None}
+use Rattle.std.specs.Prelude.{ℕ, ℤ, pos, ◌≡◌, ◌⊎◌, Bool, true, false, List, [], ◌∷◌, ◌++◌, nat_le, is_some, IfSome, Option, Some, None}
 use Rattle.tab_key.specs.Records.{Cell}
 use Rattle.tab_key.specs.declared.part.Part.TheVariants.{Sessions, Numbers}
 use Rattle.tab_mutation.specs.Shape.{first_some, when}
@@ -9,14 +9,14 @@ use Rattle.tab_policy.specs.State.{table_exists, auths_of, IsCaller}
 use Rattle.tab_policy.specs.declared.decision.Caller.{Caller}
 use Rattle.tab_cells.specs.SessionState.{SessionState}
 use Rattle.tab_history.specs.declared.event.Act.{Act}
-use Rattle.tab_history.specs.declared.event.Act.TheVariants.{Rights as OwnRights, Install}
+use Rattle.tab_history.specs.declared.event.Act.TheVariants.{SetHorizon, Rights as OwnRights, Install}
 use Rattle.tab_history.specs.declared.event.Given.TheVariants.{InSlot, ByHand}
 use Rattle.tab_history.specs.declared.event.Event.{Event}
 use Rattle.tab_history.specs.declared.event.Step.TheVariants.{Event as IsEvent}
 use Rattle.tab_history.specs.declared.reply.Refusal.{Refusal}
 use Rattle.tab_history.specs.declared.reply.Refusal.TheVariants.{NoMemory, TooLarge, NoSession, NoJob}
 use Rattle.tab_history.specs.declared.reply.Reply.{Reply}
-use Rattle.tab_history.specs.declared.reply.Reply.TheVariants.{Done, Refused, Opened, Batch, Ranges, Rights, Counted, Rows, Begun, Nothing}
+use Rattle.tab_history.specs.declared.reply.Reply.TheVariants.{Refused, Opened}
 use Rattle.tab_history.specs.Bases.{Base}
 use Rattle.tab_history.specs.Settings.{Settings}
 use Rattle.tab_history.specs.Changes.{Change, changes_of}
@@ -47,15 +47,7 @@ installs_at user moment t m = asked_at user moment (Install t (ByHand m.merge.nu
 -- a session that is handed out shows these cells, and none of them was given
 abbrev pub HandsOut : Reply SessionState TabletMerge → List Cell → Type 0
 HandsOut (Opened session) all = session ≡ record { all = all; given = 0 }
-HandsOut Done all = Unit {0}
-HandsOut (Refused refusal) all = Unit {0}
-HandsOut (Batch cells) all = Unit {0}
-HandsOut (Ranges ranges) all = Unit {0}
-HandsOut (Rights rights) all = Unit {0}
-HandsOut (Counted counts) all = Unit {0}
-HandsOut (Rows rows) all = Unit {0}
-HandsOut (Begun job) all = Unit {0}
-HandsOut Nothing all = Unit {0}
+HandsOut reply all = Unit {0}
 
 -- What an event did to a core that was old before, as every history sees it that the core refined.
 pub record Steps (old : Base) (event : Event) (reply : Reply SessionState TabletMerge) (new : Base) : Type 0 where
@@ -124,6 +116,11 @@ pub record Acts (answer : Told) (old : Held) (now : ℤ) (given : Option TabletM
   pub hands : HandsOut reply (session_list (base_of old) [] act)
   -- the policy knows the tables that there are then
   pub knows : KnowsTables new
+
+-- the horizon that an act asks for, 0 where it asks for none
+abbrev pub horizon_asked : Act → ℤ
+horizon_asked (SetHorizon t low) = low
+horizon_asked act = pos 0
 
 -- the answer to an act that the policy admits
 abbrev pub own_answer : Base → ℤ → List ℕ → Act → Told

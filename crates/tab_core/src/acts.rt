@@ -3,7 +3,7 @@ ghost use Rattle.tab_store.specs.Stores.{base_of};
 ghost use Rattle.tab_core.specs.Holding.{held};
 ghost use Rattle.tab_core.specs.Stepping.{Does, IsCore, IsAdmitted};
 
-use crate::checking::too_many_auths;
+use crate::checking::{horizon_refusal, too_many_auths, versions_refusal};
 use crate::numbering::next_number;
 use crate::reply::Answer;
 use crate::store::Store;
@@ -12,6 +12,7 @@ use tab_history::{Act, Refusal, Reply, TimeMode, Versions};
 use tab_key::{Name, Part};
 use tab_label::AuthSet;
 use tab_rules::ConstraintSet;
+use tab_store::Setting;
 
 // How many tables there may be.
 const MAX_TABLES: usize = u32::MAX as usize;
@@ -74,7 +75,43 @@ impl Store {
         requires { IsCore (held self.old) }
         ensures { Does self.old now user.now (Act.SetConstraints table.now constraints) result self.new }
     {
-        self.tables.set_constraints(table, constraints);
+        self.tables.set(table, Setting::Constraints(constraints));
+        Reply::Done
+    }
+
+    // How many versions of a column the table shows, no more than it did. It takes no memory.
+    pub(crate) fn set_versions(
+        &mut self,
+        now: i64,
+        user: &Name,
+        table: &Name,
+        versions: Versions,
+    ) -> Answer
+        requires { IsCore (held self.old) }
+        ensures { Does self.old now user.now (Act.SetVersions table.now versions) result self.new }
+    {
+        if let Some(refusal) = versions_refusal(&self.tables, table, versions) {
+            return Reply::Refused(refusal);
+        }
+        self.tables.set(table, Setting::Versions(versions));
+        Reply::Done
+    }
+
+    // The time below which the table takes no update, no lower than it was. It takes no memory.
+    pub(crate) fn set_horizon(
+        &mut self,
+        now: i64,
+        user: &Name,
+        table: &Name,
+        horizon: i64,
+    ) -> Answer
+        requires { IsCore (held self.old) }
+        ensures { Does self.old now user.now (Act.SetHorizon table.now horizon) result self.new }
+    {
+        if let Some(refusal) = horizon_refusal(&self.tables, table, horizon) {
+            return Reply::Refused(refusal);
+        }
+        self.tables.set(table, Setting::Horizon(horizon));
         Reply::Done
     }
 

@@ -1,11 +1,12 @@
 //! The checks that are an event's own, and those of a request for ranges.
 ghost use Rattle.std.specs.Prelude.{◌≡◌, ◌<◌, ◌≤◌, ◌⊎◌, ◌^◌, ℕ, Some, None, true, false, length, IsSome};
 ghost use Rattle.tab_mutation.specs.Shape.{first_some, shape_error};
-ghost use Rattle.tab_history.specs.Checks.{stamped, outdated, violated, mutation_checks, scan_checks, too_many_auths, shape_refusal, right_checks, many_checks, has_bad_range};
+ghost use Rattle.tab_history.specs.Checks.{stamped, outdated, violated, mutation_checks, scan_checks, too_many_auths, shape_refusal, right_checks, version_checks, horizon_checks, many_checks, has_bad_range};
+ghost use Rattle.tab_store.specs.Tables.{table_at, settings_at};
 
 use crate::labels::malformed;
 use std::alloc::{AllocError, Global};
-use tab_history::{Refusal, Scan, TimeMode};
+use tab_history::{Refusal, Scan, TimeMode, Versions};
 use tab_key::{
     Bounds, ByteString, Items, MAX_AUTHORIZATION_LEN, MAX_AUTHORIZATIONS, MAX_COLUMNS, MAX_RANGES,
     Name, Part, is_bad_range,
@@ -14,7 +15,7 @@ use tab_label::{AuthSet, KnownLabels};
 use tab_mutation::{Mutation, ShapeError};
 use tab_policy::{Permission, SystemPermission, is_root};
 use tab_rules::{Violation, check};
-use tab_store::Table;
+use tab_store::{Table, Tables};
 
 fn shape_refusal(error: ShapeError) -> Refusal
     ensures { result ≡ shape_refusal error }
@@ -96,6 +97,37 @@ pub fn mutation_refusal(
         Ok(failing) => violated(failing),
         Err(AllocError) => Some(Refusal::NoMemory),
     }
+}
+
+/// Why the table, if it is there, isn't set to show so many versions.
+pub fn versions_refusal(tables: &Tables, name: &Name, versions: Versions) -> Option<Refusal>
+    ensures { result ≡ first_some (version_checks (settings_at (table_at tables.now name.now)) versions) }
+{
+    let Some(table) = tables.get(name) else {
+        return None;
+    };
+    let shown = table.versions().get();
+    if versions.get() > shown {
+        return Some(Refusal::VersionsRaised(shown));
+    }
+    None
+}
+
+/// Why the table, if it is there, isn't set to this horizon.
+pub fn horizon_refusal(tables: &Tables, name: &Name, horizon: i64) -> Option<Refusal>
+    ensures { result ≡ first_some (horizon_checks (settings_at (table_at tables.now name.now)) horizon) }
+{
+    let Some(table) = tables.get(name) else {
+        return None;
+    };
+    if table.time() == TimeMode::Server {
+        return Some(Refusal::ServerTime);
+    }
+    let present = table.horizon();
+    if horizon < present {
+        return Some(Refusal::HorizonLowered(present));
+    }
+    None
 }
 
 /// Whether there are over 1,024 authorizations, or one of over 1,024 bytes.

@@ -78,6 +78,9 @@ fn refused(refusal: &Refusal) -> Result<EventReply, AllocError>
         Refusal::RootFixed => Refusal::RootFixed,
         Refusal::GrantInvalid => Refusal::GrantInvalid,
         Refusal::BelowHorizon(index) => Refusal::BelowHorizon(*index),
+        Refusal::VersionsRaised(present) => Refusal::VersionsRaised(*present),
+        Refusal::HorizonLowered(present) => Refusal::HorizonLowered(*present),
+        Refusal::ServerTime => Refusal::ServerTime,
         Refusal::BadSplit(fault) => Refusal::BadSplit(*fault),
     };
     Ok(EventReply::Refused(copy))

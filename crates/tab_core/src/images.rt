@@ -1,4 +1,4 @@
-//! Saves and loads of an image: whoever may do one is told so, and nothing changes.
+//! Saves and loads of an image, and histories handed out: whoever may do one is told so, and nothing changes.
 ghost use Rattle.tab_core.specs.Holding.{held};
 ghost use Rattle.tab_core.specs.Stepping.{Does, IsCore};
 
@@ -20,6 +20,14 @@ impl Store {
     pub(crate) fn load(&self, now: i64, user: &Name) -> Answer
         requires { IsCore (held self.now) }
         ensures { Does self.now now user.now Act.Load result self.now }
+    {
+        Reply::Done
+    }
+
+    // A history to be handed out. It takes no memory.
+    pub(crate) fn rotate(&self, now: i64, user: &Name) -> Answer
+        requires { IsCore (held self.now) }
+        ensures { Does self.now now user.now Act.Rotate result self.now }
     {
         Reply::Done
     }

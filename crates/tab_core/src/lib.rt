@@ -8,19 +8,20 @@
 //! |---|---|
 //! | `state` | the core, and its step |
 //! | `store` | what a core holds, and what an event does to it: the policy decides once, then the act is done |
-//! | `policing` | what the policy is asked, the refusal of whom it doesn't admit, and which acts name a slot |
+//! | `policing` | what the policy is asked, the refusal of whom it doesn't admit, which acts name a slot, and the horizon that one asks for |
 //! | `acts`, `users`, `granting`, `writes`, `scans`, `tablets`, `splits`, `jobs`, `images` | what each act does |
 //! | `numbering` | the numbers of tablets and jobs |
 //! | `checking` | the checks that are an event's own, and those of a request for ranges |
 //! | `labels` | the labels of a mutation, judged |
 //! | `reply` | replies with and without what they hand out |
 //! | `event_reply`, `recording` | what an event is told, copied, and the step whose history is recorded |
-//! | `slots`, `job_slots`, `running` | the sessions of one user in a run, the jobs of all, and runs of steps |
+//! | `slots`, `sessions`, `job_slots` | the sessions of one user, those of all users by name, and the jobs of all |
+//! | `running` | runs of steps |
 //! | `comparing` | two runs compared by what one user is told in them |
 //!
 //! Of the definitions in `specs`, `Stepping` says what a step does, `Holding` what a store holds, `Bounded` which limits a core keeps to
 //! beside those of its tables, `EventReplies` what an event is told, `Recording` what a step means for a history that is recorded beside
-//! the core, `Slots`, `JobSlots` and `Owners` what a run keeps, and `Comparing` what two runs tell; `ComparingExamples` computes it for a small history.
+//! the core, `Slots`, `Sessions` and `JobSlots` what a run or a script keeps, `Lending` what is left of sessions that were lent, `Owners` what a step of a run does, and `Comparing` what two runs tell; `ComparingExamples` computes it for a small history.
 #![tactic(auto)]
 
 mod acts;
@@ -38,6 +39,7 @@ mod recording;
 mod reply;
 mod running;
 mod scans;
+mod sessions;
 mod slots;
 mod splits;
 mod state;
@@ -51,6 +53,7 @@ pub use event_reply::EventReply;
 pub use job_slots::{JobSlot, JobSlots};
 pub use reply::{Answer, told};
 pub use running::run;
+pub use sessions::{Kept, Sessions};
 pub use slots::Slots;
 pub use state::Core;
 pub use tab_session::Session;

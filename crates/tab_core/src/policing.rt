@@ -1,8 +1,9 @@
-//! What the policy is asked, what its decision refuses, and which acts name a slot.
+//! What the policy is asked, what its decision refuses, which acts name a slot, and the horizon that one asks for.
 ghost use Rattle.std.specs.Prelude.{◌≡◌, Some, IfSome, IfNone};
 ghost use Rattle.tab_policy.specs.Actions.{asked_for};
 ghost use Rattle.tab_history.specs.Checks.{action_of, denial};
 ghost use Rattle.tab_history.specs.Chains.{NamesNoSlot};
+ghost use Rattle.tab_core.specs.Stepping.{horizon_asked};
 
 use tab_history::{Act, Given, Refusal};
 use tab_key::Name;
@@ -18,6 +19,8 @@ pub fn action_of(act: &Act) -> Action<'_>
         Act::CreateTable(_, _, _) => Action::OnServer(ServerAction::CreateTable),
         Act::DropTable(table) => Action::OnTable(TableAction::DropTable, table),
         Act::SetConstraints(table, _) => Action::OnTable(TableAction::SetConstraints, table),
+        Act::SetVersions(table, _) => Action::OnTable(TableAction::SetVersions, table),
+        Act::SetHorizon(table, _) => Action::OnTable(TableAction::SetHorizon, table),
         Act::CreateUser(_) => Action::OnServer(ServerAction::CreateUser),
         Act::DropUser(_) => Action::OnServer(ServerAction::DropUser),
         Act::SetAuths(_, _) => Action::OnServer(ServerAction::SetAuths),
@@ -32,6 +35,7 @@ pub fn action_of(act: &Act) -> Action<'_>
         Act::Splits(table) => Action::OnTable(TableAction::Splits, table),
         Act::Save => Action::OnServer(ServerAction::Save),
         Act::Load => Action::OnServer(ServerAction::Load),
+        Act::Rotate => Action::OnServer(ServerAction::Rotate),
         Act::Begin(table, _, _) => Action::OnTable(TableAction::Begin, table),
         Act::Install(table, _) => Action::OnTable(TableAction::Install, table),
     }
@@ -48,6 +52,16 @@ pub fn named_slot(act: &Act) -> Option<(&Name, u64)>
             Given::ByHand(_) => None,
         },
         _ => None,
+    }
+}
+
+/// The horizon that the act asks for, 0 where it asks for none.
+pub fn horizon_asked(act: &Act) -> i64
+    ensures { result ≡ horizon_asked act.now }
+{
+    match act {
+        Act::SetHorizon(_, horizon) => *horizon,
+        _ => 0,
     }
 }
 

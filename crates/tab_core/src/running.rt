@@ -1,26 +1,20 @@
 //! Runs of steps.
-ghost use Rattle.std.specs.Prelude.{◌≡◌, true, List, ℕ, IfOk, OnOk, is_some, length};
-ghost use Rattle.tab_policy.specs.Entries.{at_name};
+ghost use Rattle.std.specs.Prelude.{◌≡◌, List, IfOk, length};
 ghost use Rattle.tab_history.specs.Bases.{new_core};
 ghost use Rattle.tab_history.specs.Histories.{world_of};
 ghost use Rattle.tab_history.specs.Legal.{Legal, LacksWhereItMay};
 ghost use Rattle.tab_store.specs.Chains.{IsExactRun};
-ghost use Rattle.tab_core.specs.Slots.{history_of, NextFrom, ManyFrom, CloseFrom};
+ghost use Rattle.tab_core.specs.Slots.{history_of};
 ghost use Rattle.tab_core.specs.declared.job_slots.JobSlot.{JobSlot};
-ghost use Rattle.tab_core.specs.Owners.{RunsOn, LeavesOthers, slots_of};
+ghost use Rattle.tab_core.specs.Owners.{RunsOn};
 ghost use Rattle.tab_core.specs.Stepping.{asked_at};
 
 use crate::job_slots::JobSlots;
-use crate::slots::Slots;
+use crate::sessions::Sessions;
 use crate::state::Core;
 use std::alloc::{AllocError, Global};
-use std::collections::BTreeMap;
 use tab_history::{Act, Event, Refusal, Reply, Scan, Step};
-use tab_key::{Bounds, Items, Name};
-use tab_policy::NameKey;
-
-// The sessions that a run keeps for each user, by his name.
-type Owners = BTreeMap<NameKey, Slots>;
+use tab_key::Name;
 
 /// Answers the steps in order, beginning with a new core, and keeps each user's sessions, and the jobs.
 ///
@@ -41,12 +35,12 @@ pub fn run(alloc: Global, steps: Vec<Step>) -> Result<Vec<Reply>, AllocError>
     ensures exact { IfOk result (λ replies. IsExactRun (history_of steps.items replies.items)) }
 {
     let mut core = Core::new(alloc)?;
-    let mut owners = BTreeMap::new(alloc);
+    let mut sessions = Sessions::new(alloc);
     let mut jobs = JobSlots::new(alloc);
     let mut replies = Vec::new(alloc);
     for step in steps {
         replies.reserve(1)?;
-        let reply = run_step(alloc, &mut core, &mut owners, &mut jobs, step);
+        let reply = run_step(alloc, &mut core, &mut sessions, &mut jobs, step);
         replies.push_reserved(reply);
     }
     Ok(replies)
@@ -56,17 +50,17 @@ pub fn run(alloc: Global, steps: Vec<Step>) -> Result<Vec<Reply>, AllocError>
 fn run_step(
     alloc: Global,
     core: &mut Core,
-    owners: &mut Owners,
+    sessions: &mut Sessions,
     jobs: &mut JobSlots,
     step: Step,
 ) -> Reply
-    ensures { RunsOn core.old owners.old.entries jobs.old step result core.new owners.new.entries jobs.new }
+    ensures { RunsOn core.old sessions.old jobs.old step result core.new sessions.new jobs.new }
 {
     match step {
-        Step::Event(mut event) => run_event(alloc, core, owners, jobs, &mut event),
-        Step::Next { user, slot, count } => run_next(alloc, owners, &user, slot, count),
-        Step::Many { user, slot, ranges } => run_many(alloc, owners, &user, slot, ranges),
-        Step::Close { user, slot } => run_close(owners, &user, slot),
+        Step::Event(mut event) => run_event(alloc, core, sessions, jobs, &mut event),
+        Step::Next { user, slot, count } => sessions.next(alloc, &user, slot, count),
+        Step::Many { user, slot, ranges } => sessions.many(alloc, &user, slot, ranges.as_slice()),
+        Step::Close { user, slot } => sessions.close(&user, slot),
         Step::Merge { slot } => jobs.merge(alloc, slot),
     }
 }
@@ -75,14 +69,14 @@ fn run_step(
 fn run_event(
     alloc: Global,
     core: &mut Core,
-    owners: &mut Owners,
+    sessions: &mut Sessions,
     jobs: &mut JobSlots,
     event: &mut Event,
 ) -> Reply
-    ensures { RunsOn core.old owners.old.entries jobs.old (Step.Event event.old) result core.new owners.new.entries jobs.new }
+    ensures { RunsOn core.old sessions.old jobs.old (Step.Event event.old) result core.new sessions.new jobs.new }
 {
     match &mut event.act {
-        Act::Open(scan) => run_open(alloc, core, owners, &event.user, event.moment, scan),
+        Act::Open(scan) => run_open(alloc, core, sessions, &event.user, event.moment, scan),
         act => jobs.step(alloc, core, &event.user, event.moment, act),
     }
 }
@@ -91,79 +85,15 @@ fn run_event(
 fn run_open(
     alloc: Global,
     core: &mut Core,
-    owners: &mut Owners,
+    sessions: &mut Sessions,
     user: &Name,
     moment: i64,
     scan: &mut Scan,
 ) -> Reply
-    ensures { (jobs : List JobSlot) → RunsOn core.old owners.old.entries jobs (Step.Event (asked_at user.now moment (Act.Open scan.old))) result core.new owners.new.entries jobs }
+    ensures { (jobs : List JobSlot) → RunsOn core.old sessions.old jobs (Step.Event (asked_at user.now moment (Act.Open scan.old))) result core.new sessions.new jobs }
 {
-    if make_owner(alloc, owners, user).is_err() {
-        return Reply::Refused(Refusal::NoMemory);
-    }
-    match owners.get_mut(user) {
-        Some(slots) => slots.open(alloc, core, user, moment, scan),
-        // he is among the owners by now
+    match sessions.kept_for(alloc, user) {
+        Some(kept) => kept.numbered.open(alloc, core, user, moment, scan),
         None => Reply::Refused(Refusal::NoMemory),
-    }
-}
-
-// Makes the user an owner. Where he isn't one, he comes with no session.
-fn make_owner(alloc: Global, owners: &mut Owners, user: &Name) -> Result<(), AllocError>
-    ensures slots { (other : List ℕ) → slots_of owners.new.entries other ≡ slots_of owners.old.entries other }
-    ensures there { OnOk result (is_some (at_name user.now owners.new.entries) ≡ true) }
-{
-    if owners.get(user).is_some() {
-        return Ok(());
-    }
-    let key = NameKey::new(alloc, user)?;
-    owners.insert(key, Slots::new(alloc))?;
-    Ok(())
-}
-
-// The next cells of a session.
-fn run_next(alloc: Global, owners: &mut Owners, user: &Name, slot: u32, count: u32) -> Reply
-    ensures own { NextFrom (slots_of owners.old.entries user.now) slot count result (slots_of owners.new.entries user.now) }
-    ensures others { LeavesOthers user.now owners.old.entries owners.new.entries }
-{
-    match owners.get_mut(user) {
-        Some(slots) => slots.next(alloc, slot, count),
-        None => Reply::Refused(Refusal::NoSession(slot)),
-    }
-}
-
-// What a session shows in ranges of rows.
-fn run_many(
-    alloc: Global,
-    owners: &mut Owners,
-    user: &Name,
-    slot: u32,
-    ranges: Items<Bounds>,
-) -> Reply
-    ensures answers { ManyFrom (slots_of owners.old.entries user.now) slot ranges result }
-    ensures same { owners.new.entries ≡ owners.old.entries }
-{
-    many_of(alloc, owners, user, slot, ranges.as_slice())
-}
-
-// The same of ranges that are lent.
-fn many_of(alloc: Global, owners: &mut Owners, user: &Name, slot: u32, ranges: &[Bounds]) -> Reply
-    ensures answers { ManyFrom (slots_of owners.old.entries user.now) slot ranges.now result }
-    ensures same { owners.new.entries ≡ owners.old.entries }
-{
-    match owners.get_mut(user) {
-        Some(slots) => slots.many(alloc, slot, ranges),
-        None => Reply::Refused(Refusal::NoSession(slot)),
-    }
-}
-
-// The end of a session.
-fn run_close(owners: &mut Owners, user: &Name, slot: u32) -> Reply
-    ensures own { CloseFrom (slots_of owners.old.entries user.now) slot result (slots_of owners.new.entries user.now) }
-    ensures others { LeavesOthers user.now owners.old.entries owners.new.entries }
-{
-    match owners.get_mut(user) {
-        Some(slots) => slots.close(slot),
-        None => Reply::Refused(Refusal::NoSession(slot)),
     }
 }

@@ -6,7 +6,7 @@ ghost use Rattle.tab_core.specs.Holding.{held};
 ghost use Rattle.tab_core.specs.Stepping.{Acts, IsCore};
 
 use crate::granting::rights;
-use crate::policing::{action_of, refusal_of};
+use crate::policing::{action_of, horizon_asked, refusal_of};
 use crate::reply::Answer;
 use crate::scans::open;
 use crate::writes::write;
@@ -56,6 +56,8 @@ impl Store {
             Ok(caller) => caller,
             Err(denial) => return Reply::Refused(refusal_of(*user, denial)),
         };
+        // (of a lent act that has a number a pattern binds one part)
+        let horizon = horizon_asked(act);
         match act {
             Act::Open(scan) => open(alloc, &mut self.tables, caller.authorizations, scan),
             Act::Write(table, mutation) => write(
@@ -78,6 +80,8 @@ impl Store {
                 table,
                 mem::replace(constraints, ConstraintSet::none()),
             ),
+            Act::SetVersions(table, versions) => self.set_versions(now, user, table, *versions),
+            Act::SetHorizon(table, _) => self.set_horizon(now, user, table, horizon),
             Act::CreateUser(name) => self.create_user(now, user, name),
             Act::DropUser(name) => self.drop_user(now, user, name),
             Act::SetAuths(name, auths) => self.set_auths(
@@ -105,6 +109,7 @@ impl Store {
             Act::Splits(table) => self.splits(alloc, now, user, table),
             Act::Save => self.save(now, user),
             Act::Load => self.load(now, user),
+            Act::Rotate => self.rotate(now, user),
             Act::Begin(table, row, kind) => self.begin(
                 alloc,
                 now,

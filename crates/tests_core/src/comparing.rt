@@ -163,9 +163,9 @@ fn add_words(rt: &impl Abort, lines: &mut Vec<u8>, words: &[&[u8]]) {
     }
 }
 
-// Who asks what the line of this number asks: bob, or root, who writes what bob sees.
+// Who asks what the line of this number asks: bob, or root, who writes what bob sees and sets what the table shows and takes.
 fn asker(kind: u64) -> &'static [u8] {
-    if kind > 8 && kind < 12 {
+    if kind > 8 && kind != 12 {
         b"as root\n"
     } else {
         b"as bob\n"
@@ -185,14 +185,16 @@ fn add_line(rt: &impl Abort, lines: &mut Vec<u8>, kind: u64, drawn: &Drawn) {
             lines,
             &[b"many ", &drawn.slot, b" [a \\0 [r \\0 [s \\0"],
         ),
+        13 => add_words(rt, lines, &[b"versions t ", &drawn.count, b""]),
+        14 => add_words(rt, lines, &[b"horizon t ", &drawn.slot, b""]),
         _ => add_insert(rt, lines, drawn),
     }
 }
 
-// At the moment, a line of bob, or one of root that writes what he sees.
+// At the moment, a line of bob, or one of root that he sees.
 fn random_line(rt: &impl Abort, alloc: Global, random: &mut Random, moment: u8) -> Vec<u8> {
     let drawn = random_words(random);
-    let kind = random.below(13);
+    let kind = random.below(15);
     let mut line = Vec::new(alloc);
     add(rt, &mut line, asker(kind));
     add(rt, &mut line, b"at ");
@@ -214,6 +216,7 @@ fn add_hidden(rt: &impl Abort, lines: &mut Vec<u8>, kind: u64, drawn: &Drawn) {
         1 => add_words(rt, lines, &[b"next ", &drawn.slot, b" 5"]),
         2 => add(rt, lines, b"createuser dan"),
         3 => add_delete(rt, lines, drawn),
+        4 => add(rt, lines, b"horizon t 4"),
         _ => add_insert(rt, lines, drawn),
     }
 }
@@ -232,7 +235,7 @@ fn add_unseen(rt: &impl Abort, lines: &mut Vec<u8>, random: &mut Random) {
         label,
         ..plain
     };
-    let kind = random.below(8);
+    let kind = random.below(9);
     add(rt, lines, b"as eve\nat 0\n");
     add_hidden(rt, lines, kind, &drawn);
     add(rt, lines, b"\n")

@@ -8,7 +8,8 @@
 //! | `runs` | runs of steps, and their sessions |
 //! | `comparing` | pairs of runs that look alike to one user, and what he is told |
 //! | `jobs` | compactions in three parts, in runs and in cores |
-//! | `modelling` | random writes, scans and compactions, beside the model |
+//! | `modelling` | random writes, scans, compactions and settings, beside the model |
+//! | `settings` | numbers of versions that are lowered, and horizons that are raised |
 //! | `steps` | helpers: steps from the lines of a script, and replies as text |
 #![tactic(auto)]
 
@@ -20,5 +21,7 @@ mod jobs;
 mod modelling;
 #[cfg(test)]
 mod runs;
+#[cfg(test)]
+mod settings;
 #[cfg(test)]
 mod steps;

@@ -1,4 +1,4 @@
-//! Random writes, scans, flushes, compactions and splits through a core, beside the model of the updates that it accepted.
+//! Random writes, scans, flushes, compactions, splits and settings through a core, beside the model of the updates that it accepted.
 
 use crate::steps::named;
 use std::alloc::Global;
@@ -9,6 +9,15 @@ use tab_key::{ByteString, Cells, Items};
 use tab_testing::{Query, Random, Update, auths_of, mutation_of, scanned};
 
 const ROWS: [&[u8]; 3] = [b"k", b"l", b"m"];
+
+// What the table shows and takes.
+#[derive(Clone, Copy)]
+struct Limits {
+    // so many versions of a column
+    versions: u32,
+    // no update below this time
+    horizon: i64,
+}
 
 // What root is answered.
 fn asked(rt: &impl Abort, core: &mut Core, alloc: Global, moment: u8, act: Act) -> Answer {
@@ -22,11 +31,14 @@ fn is_done(rt: &impl Abort, core: &mut Core, alloc: Global, moment: u8, act: Act
     matches!(asked(rt, core, alloc, moment, act), Reply::Done)
 }
 
+fn versions_of(rt: &impl Abort, many: u32) -> Versions {
+    Versions::new(u64::from(many)).expect(rt, "1 to 1,000")
+}
+
 // A core with the table `t`, which shows so many versions, and with root's authorizations A and B.
 fn prepared(rt: &impl Abort, alloc: Global, versions: u32) -> Core {
     let mut core = Core::new(alloc).expect(rt, "memory");
-    let versions = Versions::new(u64::from(versions)).expect(rt, "1 to 1,000");
-    let made = Act::CreateTable(named(rt, b"t"), TimeMode::Any, versions);
+    let made = Act::CreateTable(named(rt, b"t"), TimeMode::Any, versions_of(rt, versions));
     assert!(rt; is_done(rt, &mut core, alloc, 0, made));
     let held = auths_of(alloc, &[b"A", b"B"]).expect(rt, "memory");
     let held = Act::SetAuths(named(rt, b"root"), held);
@@ -48,9 +60,14 @@ fn random_updates(rt: &impl Abort, alloc: Global, random: &mut Random, moment: u
     updates
 }
 
-// A core accepts a mutation of well-formed labels, unless it is empty.
-fn is_acceptable(updates: &[Update]) -> bool {
-    !updates.is_empty() && updates.iter().all(|update| update.label != b"(".as_slice())
+// Whether the label is well-formed, and the time isn't below the horizon.
+fn is_fit(update: &Update, horizon: i64) -> bool {
+    update.label != b"(".as_slice() && update.timestamp >= horizon
+}
+
+// A core accepts a mutation of such updates, unless it is empty.
+fn is_acceptable(updates: &[Update], horizon: i64) -> bool {
+    !updates.is_empty() && updates.iter().all(|update| is_fit(update, horizon))
 }
 
 // Asks the core to write the mutation, and adds it to the table if the core is to accept it.
@@ -60,13 +77,14 @@ fn write(
     core: &mut Core,
     table: &mut Vec<Update>,
     moment: u8,
+    horizon: i64,
     updates: &[Update],
 ) {
     let row = updates.first().map_or(b"k".as_slice(), |update| update.row);
     let mutation = mutation_of(alloc, row, updates).expect(rt, "memory");
     let act = Act::Write(named(rt, b"t"), mutation);
     let is_accepted = is_done(rt, core, alloc, moment, act);
-    assert!(rt; is_accepted == is_acceptable(updates));
+    assert!(rt; is_accepted == is_acceptable(updates, horizon));
     if is_accepted {
         for update in updates {
             table.push(*update).expect(rt, "memory");
@@ -194,10 +212,62 @@ fn write_random(
     core: &mut Core,
     table: &mut Vec<Update>,
     moment: u8,
+    horizon: i64,
     random: &mut Random,
 ) {
     let updates = random_updates(rt, alloc, random, moment);
-    write(rt, alloc, core, table, moment, &updates)
+    write(rt, alloc, core, table, moment, horizon, &updates)
+}
+
+// From now on the table shows so many versions, unless these are more.
+fn lower_versions(
+    rt: &impl Abort,
+    alloc: Global,
+    core: &mut Core,
+    moment: u8,
+    limits: &mut Limits,
+    many: u32,
+) {
+    let act = Act::SetVersions(named(rt, b"t"), versions_of(rt, many));
+    let is_taken = many <= limits.versions;
+    assert!(rt; is_done(rt, core, alloc, moment, act) == is_taken);
+    if is_taken {
+        limits.versions = many;
+    }
+}
+
+// From now on the table takes nothing below this time, unless its horizon is higher.
+fn raise_horizon(
+    rt: &impl Abort,
+    alloc: Global,
+    core: &mut Core,
+    moment: u8,
+    limits: &mut Limits,
+    horizon: i64,
+) {
+    let act = Act::SetHorizon(named(rt, b"t"), horizon);
+    let is_taken = horizon >= limits.horizon;
+    assert!(rt; is_done(rt, core, alloc, moment, act) == is_taken);
+    if is_taken {
+        limits.horizon = horizon;
+    }
+}
+
+// Once in a while a setting of the table.
+fn set_random(
+    rt: &impl Abort,
+    alloc: Global,
+    core: &mut Core,
+    moment: u8,
+    limits: &mut Limits,
+    random: &mut Random,
+) {
+    let number = random.below(3) as u32;
+    match random.below(32) {
+        0 => lower_versions(rt, alloc, core, moment, limits, 1 + number),
+        1 => raise_horizon(rt, alloc, core, moment, limits, i64::from(number)),
+        _ => {}
+    }
 }
 
 // A scan by a random query of so many versions; how many cells were shown.
@@ -224,26 +294,29 @@ fn step(
     core: &mut Core,
     table: &mut Vec<Update>,
     moment: u8,
-    versions: u32,
+    limits: Limits,
     random: &mut Random,
 ) -> usize {
     match random.below(8) {
-        0..=1 => return scan_random(rt, alloc, core, table, moment, versions, random),
+        0..=1 => return scan_random(rt, alloc, core, table, moment, limits.versions, random),
         2..=3 => compact(rt, alloc, core, moment, random),
         4 => split(rt, alloc, core, moment, random),
-        _ => write_random(rt, alloc, core, table, moment, random),
+        _ => write_random(rt, alloc, core, table, moment, limits.horizon, random),
     }
     0
 }
 
-// Thirty of these over a new table; how many cells were shown.
+// Thirty of these over a new table, and settings between them; how many cells were shown.
 fn play(rt: &impl Abort, alloc: Global, random: &mut Random) -> usize {
     let versions = 1 + random.below(3) as u32;
+    let horizon = i64::MIN;
+    let mut limits = Limits { versions, horizon };
     let mut core = prepared(rt, alloc, versions);
     let mut table = Vec::new(alloc);
     let mut shown = 0usize;
     for moment in 0..30u8 {
-        let count = step(rt, alloc, &mut core, &mut table, moment, versions, random);
+        set_random(rt, alloc, &mut core, moment, &mut limits, random);
+        let count = step(rt, alloc, &mut core, &mut table, moment, limits, random);
         shown = shown.saturating_add(count);
     }
     shown

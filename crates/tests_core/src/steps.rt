@@ -124,6 +124,11 @@ fn add_number(rt: &impl Abort, alloc: Global, text: &mut Vec<u8>, number: i64) {
     add(rt, text, digits.as_bytes())
 }
 
+fn add_count(rt: &impl Abort, alloc: Global, text: &mut Vec<u8>, count: u64) {
+    let digits = format!(in alloc; "{count}").expect(rt, "memory");
+    add(rt, text, digits.as_bytes())
+}
+
 // The cells, as `label@timestamp=value` with a comma after each.
 fn add_cells(rt: &impl Abort, alloc: Global, text: &mut Vec<u8>, cells: &Cells) {
     for index in 0..cells.len() {
@@ -146,6 +151,10 @@ fn word_of(refusal: &Refusal) -> &'static [u8] {
         Refusal::Stale(1) => b"stale1",
         Refusal::TooLarge(_) => b"toolarge",
         Refusal::UnknownUser(_) => b"unknown",
+        Refusal::BelowHorizon(_) => b"below",
+        Refusal::VersionsRaised(_) => b"raised",
+        Refusal::HorizonLowered(_) => b"lowered",
+        Refusal::ServerTime => b"servertime",
         _ => b"refused",
     }
 }
@@ -175,7 +184,8 @@ fn add_reply(rt: &impl Abort, alloc: Global, text: &mut Vec<u8>, reply: &Reply) 
         Reply::Batch(cells) => add_cells(rt, alloc, text, cells),
         Reply::Ranges(ranges) => add_ranges(rt, alloc, text, ranges.as_slice()),
         Reply::Rights(rights) => add_terms(rt, text, &rights.authorizations),
-        Reply::Counted(_) | Reply::Rows(_) => add(rt, text, b"told"),
+        Reply::Counted(counts) => add_count(rt, alloc, text, counts.records),
+        Reply::Rows(_) => add(rt, text, b"told"),
         Reply::Begun(_) => add(rt, text, b"begun"),
         Reply::Nothing => add(rt, text, b"nothing"),
     }

@@ -15,7 +15,8 @@ use Rattle.tab_store.specs.Chains.{EntryGoes, IsExactRun, starting}
 use Rattle.tab_core.specs.Slots.{history_of}
 use Rattle.tab_core.specs.declared.job_slots.JobSlot.{JobSlot}
 use Rattle.tab_core.specs.JobSlots.{JobsAre, HoldMerges}
-use Rattle.tab_core.specs.Owners.{Owners, OwnersRefine}
+use Rattle.tab_core.specs.Sessions.{Keeping}
+use Rattle.tab_core.specs.Owners.{OwnersRefine}
 use Rattle.tab_core.proofs.JobLemmas.{hold_none}
 use Rattle.tab_core.proofs.Runs.{history_push, owners_none, after_none, none_before, goes_on_chain}
 use Rattle.tab_core.proofs.running.run.Goals as goal
@@ -24,7 +25,7 @@ pub loop-step-init : goal.loop-step-init
 loop-step-init c = record {
   count = search rules;
   refines = subst (λ (w : World). Refines (world_of (base_of c.in_ok-core.core)) w) (sym (after_none (world_of new_core))) c.in_ok-core.ensures.refines;
-  owners = let none : c.new-owners.result.entries ≡ [] = search rules in subst (λ (os : Owners). OwnersRefine os (world_of new_core) []) (sym none) (owners_none (world_of new_core));
+  owners = subst (λ (os : Keeping). OwnersRefine os (world_of new_core) []) (sym c.new-sessions.ensures) (owners_none (world_of new_core));
   jobs = none_before c.new-jobs.result c.new-jobs.ensures;
   legal = tt;
   exact = (c.in_ok-core.core, [], c.in_ok-core.ensures.new, subst (λ (ss : List JobSlot). HoldMerges ss []) (sym c.new-jobs.ensures) hold_none, refl);
@@ -43,7 +44,7 @@ loop-step-preserved c =
     record {
       count = length_push c.loop-step.yielded step ∙ ap (λ n. n + 1) c.loop-step.invariant.count ∙ sym (length_push c.loop-step.replies.items c.run_step-reply.result) ∙ ap length (sym grown);
       refines = subst (λ (h : List Entry). Refines (world_of (base_of c.run_step-reply.new.core)) (world_after (world_of new_core) h)) (sym more) after.0;
-      owners = subst (λ (h : List Entry). OwnersRefine c.run_step-reply.new.owners.entries (world_of new_core) h) (sym more) after.1;
+      owners = subst (λ (h : List Entry). OwnersRefine c.run_step-reply.new.sessions (world_of new_core) h) (sym more) after.1;
       jobs = subst (λ (h : List Entry). JobsAre (jobs_of h) c.run_step-reply.new.jobs) (sym more) after.2;
       legal = subst (λ (h : List Entry). Legal (world_of new_core) h) (sym more) after.3;
       exact = (chain.0, grown_chain.0, chain.2, grown_chain.1, subst (λ (h : List Entry). IsChain EntryGoes (starting chain.0) h (record { held = c.run_step-reply.new.core; begun = grown_chain.0 })) (sym more) grown_chain.2);

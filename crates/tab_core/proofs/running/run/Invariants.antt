@@ -17,7 +17,7 @@ abbrev pub invariant-loop-step : goal.invariant-loop-step
 invariant-loop-step l = record {
   count : length l.yielded ≡ length l.replies.items;
   refines : Refines (world_of (base_of l.core)) (world_after (world_of new_core) (history_of l.yielded l.replies.items));
-  owners : OwnersRefine l.owners.entries (world_of new_core) (history_of l.yielded l.replies.items);
+  owners : OwnersRefine l.sessions (world_of new_core) (history_of l.yielded l.replies.items);
   jobs : JobsAre (jobs_of (history_of l.yielded l.replies.items)) l.jobs;
   legal : Legal (world_of new_core) (history_of l.yielded l.replies.items);
   exact : (first : Held) × (merges : List TabletMerge) × IsNewStore first × HoldMerges l.jobs merges × IsChain EntryGoes (starting first) (history_of l.yielded l.replies.items) (record { held = l.core; begun = merges });

@@ -4,7 +4,7 @@ use Rattle.tab_cells.specs.SessionState.{SessionState}
 use Rattle.tab_history.specs.declared.reply.Refusal.TheVariants.{NoSession}
 use Rattle.tab_history.specs.declared.reply.Reply.TheVariants.{Done, Refused}
 use Rattle.tab_core.specs.Slots.{CloseFrom}
-use Rattle.tab_core.proofs.OwnerLemmas.{slot_found, close_past, close_empty, close_full}
+use Rattle.tab_core.proofs.PlaceLemmas.{slot_found, close_past, close_empty, close_full}
 use Rattle.tab_core.proofs.slots.Slots.close.Goals as goal
 
 pub returns-then-at-len : goal.returns-then-at-len

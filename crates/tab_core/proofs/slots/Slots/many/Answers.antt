@@ -3,7 +3,7 @@ use Rattle.tab_cells.specs.SessionState.{SessionState}
 use Rattle.tab_history.specs.declared.reply.Refusal.TheVariants.{NoSession}
 use Rattle.tab_history.specs.declared.reply.Reply.TheVariants.{Refused}
 use Rattle.tab_core.specs.Slots.{ManyFrom}
-use Rattle.tab_core.proofs.OwnerLemmas.{many_past, many_there, place_left}
+use Rattle.tab_core.proofs.PlaceLemmas.{many_past, many_there, place_left}
 use Rattle.tab_core.proofs.slots.Slots.many.Goals as goal
 
 pub returns-then-at-len-clause-answers : goal.returns-then-at-len-clause-answers

@@ -5,7 +5,7 @@ use Rattle.tab_history.specs.declared.reply.Refusal.TheVariants.{NoSession, NoMe
 use Rattle.tab_history.specs.declared.reply.Reply.TheVariants.{Refused, Batch}
 use Rattle.std.specs.Prelude.{slice_set}
 use Rattle.tab_core.specs.Slots.{NextFrom}
-use Rattle.tab_core.proofs.OwnerLemmas.{next_past, next_none, next_batch, next_refused}
+use Rattle.tab_core.proofs.PlaceLemmas.{next_past, next_none, next_batch, next_refused}
 use Rattle.tab_core.proofs.SlotLemmas.{count_back}
 use Rattle.tab_core.proofs.slots.Slots.next.Goals as goal
 use Rattle.tab_core.proofs.slots.Slots.next.Goals.{in-Ok, in-Err}

@@ -77,6 +77,17 @@ returns-in-SetConstraints c =
     let trip : to_z w64 (of_z w64 c.args.now) ≡ c.args.now = search rules in
     admitted (held c.args.self.now) (held c.set_constraints.new.self) c.args.now _ None c.args.user.now c.args.act.now _ _ c.set_constraints.result c.requires c.action_of.ensures c.in-Ok.ensures.decided (c.in-SetConstraints.is ∙ ap (λ x. act.SetConstraints c.in-SetConstraints.table x) (sym c.replace.ensures.value)) trip c.set_constraints.ensures
 
+pub returns-in-SetVersions : goal.returns-in-SetVersions
+returns-in-SetVersions c =
+    let trip : to_z w64 (of_z w64 c.args.now) ≡ c.args.now = search rules in
+    admitted (held c.args.self.now) (held c.set_versions.new.self) c.args.now _ None c.args.user.now c.args.act.now _ _ c.set_versions.result c.requires c.action_of.ensures c.in-Ok.ensures.decided c.in-SetVersions.is trip c.set_versions.ensures
+
+pub returns-in-SetHorizon : goal.returns-in-SetHorizon
+returns-in-SetHorizon c =
+    let trip : to_z w64 (of_z w64 c.args.now) ≡ c.args.now = search rules in
+    let low : c.in-SetHorizon.field-1 ≡ to_z w64 (of_z w64 c.horizon_asked-horizon.result) = search rules in
+    admitted (held c.args.self.now) (held c.set_horizon.new.self) c.args.now _ None c.args.user.now c.args.act.now _ _ c.set_horizon.result c.requires c.action_of.ensures c.in-Ok.ensures.decided (c.in-SetHorizon.is ∙ ap (λ n. act.SetHorizon c.in-SetHorizon.table n) low) trip c.set_horizon.ensures
+
 pub returns-in-CreateUser : goal.returns-in-CreateUser
 returns-in-CreateUser c =
     let trip : to_z w64 (of_z w64 c.args.now) ≡ c.args.now = search rules in
@@ -136,6 +147,11 @@ pub returns-in-Load : goal.returns-in-Load
 returns-in-Load c =
     let trip : to_z w64 (of_z w64 c.args.now) ≡ c.args.now = search rules in
     admitted (held c.args.self.now) (held c.args.self.now) c.args.now _ None c.args.user.now c.args.act.now _ _ c.load.result c.requires c.action_of.ensures c.in-Ok.ensures.decided c.in-Load.is trip c.load.ensures
+
+pub returns-in-Rotate : goal.returns-in-Rotate
+returns-in-Rotate c =
+    let trip : to_z w64 (of_z w64 c.args.now) ≡ c.args.now = search rules in
+    admitted (held c.args.self.now) (held c.args.self.now) c.args.now _ None c.args.user.now c.args.act.now _ _ c.rotate.result c.requires c.action_of.ensures c.in-Ok.ensures.decided c.in-Rotate.is trip c.rotate.ensures
 
 pub returns-in-Begin : goal.returns-in-Begin
 returns-in-Begin c =

@@ -1,22 +1,15 @@
--- The owners of sessions, and slots, as lists.
-use Rattle.std.proofs.Common.{ℕ, zero, suc, ◌≡◌, ◌≢◌, ◌<◌, ◌≤◌, Bool, true, false, cond, List, [], ◌∷◌, length, get_or, refl, sym, ap, ◌∙◌, subst, arith, Option, Some, None, ◌⊎◌, inl, inr}
-use Rattle.std.specs.Prelude.{bytes_eq, is_some, option_map, slice_set}
+-- A slot in its place, and what a step leaves there.
+use Rattle.std.proofs.Common.{ℕ, zero, suc, ◌≡◌, ◌<◌, ◌≤◌, Bool, true, false, List, [], ◌∷◌, length, get_or, refl, sym, ap, ◌∙◌, subst, arith, Option, Some, None, ◌⊎◌, inl, inr}
+use Rattle.std.specs.Prelude.{is_some, option_map, slice_set}
 use mathlib.Core.Bool.{true≢false}
-use Rattle.std.specs.Ordering.{is_eq}
-use Rattle.std.proofs.lemmas.Slice.Eq.{bytes_eq-Decides}
-use Rattle.tab_key.specs.Bytes.{bytes_cmp}
 use Rattle.tab_key.specs.Records.{Cell}
 use Rattle.tab_key.specs.declared.range.Bounds.{Bounds}
-use Rattle.tab_policy.specs.Entries.{at_name}
-use Rattle.tab_policy.proofs.NameLemmas.{same_name}
 use Rattle.tab_history.specs.declared.reply.Refusal.TheVariants.{NoMemory, NoSession}
 use Rattle.tab_history.specs.declared.reply.Reply.TheVariants.{Done, Refused, Batch}
 use Rattle.tab_history.specs.Answers.{Told, next_answer, many_answer, close_answer}
 use Rattle.tab_cells.specs.SessionState.{SessionState, gave, batch}
 use Rattle.tab_core.specs.Slots.{slot_at, changed_at, NextFrom, ManyFrom, CloseFrom}
-use Rattle.tab_core.specs.Owners.{Owners, slots_in, slots_of, LeavesOthers}
 
--- ---- slots
 pub slot_past : (ss : List (Option SessionState)) (at : ℕ) → length ss ≤ at → slot_at ss at ≡ None
 slot_past [] at le = refl
 slot_past (s ∷ ss) zero le = absurd (omega arith)
@@ -104,49 +97,3 @@ pub next_refused : (ss : List (Option SessionState)) (at n : ℕ) (s put put' : 
 next_refused ss at n s put put' held after lt is some same put_is =
     let found : slot_at ss at ≡ Some held = slot_found ss at s lt is ∙ some in
     record { answers = inr refl; after = set_twice ss at put put' lt ∙ put_back ss at (Some held) put' lt found (put_is ∙ ap Some same) }
-
--- ---- owners
--- the slots under the user's name are his
-pub own_found : (os : Owners) (user : List ℕ) (slots : List (Option SessionState)) → at_name user os ≡ Some slots → slots_of os user ≡ slots
-own_found os user slots had = ap slots_in had
-
--- what stands under each name once these slots stand under the user's
-abbrev pub Puts : List ℕ → List (Option SessionState) → Owners → Owners → Type 0
-Puts user slots old new = (q : List ℕ) → at_name q new ≡ cond (is_eq (bytes_cmp user q)) (Some slots) (at_name q old)
-
--- then they are his
-pub own_put : (user : List ℕ) (slots : List (Option SessionState)) (old new : Owners) → Puts user slots old new → slots_of new user ≡ slots
-own_put user slots old new puts = ap slots_in (puts user ∙ ap (λ b. cond b (Some slots) (at_name user old)) (same_name user user ∙ (bytes_eq-Decides user user).1 refl))
-
--- and the others have theirs
-pub others_left : (user : List ℕ) (slots : List (Option SessionState)) (old new : Owners) → Puts user slots old new → LeavesOthers user old new
-others_left user slots old new puts other away = ap slots_in (puts other ∙ ap (λ b. cond b (Some slots) (at_name other old)) (same_name user other ∙ away))
-
--- a step of his session is one of what stands under his name
-pub next_own : (old new : Owners) (user : List ℕ) (slot n : ℕ) (reply : Told) (before after : List (Option SessionState)) → at_name user old ≡ Some before → Puts user after old new → NextFrom before slot n reply after → NextFrom (slots_of old user) slot n reply (slots_of new user)
-next_own old new user slot n reply before after had puts from =
-    subst (λ (ss : List (Option SessionState)). NextFrom ss slot n reply (slots_of new user)) (sym (own_found old user before had))
-    (subst (λ (ss : List (Option SessionState)). NextFrom before slot n reply ss) (sym (own_put user after old new puts)) from)
-
-pub close_own : (old new : Owners) (user : List ℕ) (slot : ℕ) (reply : Told) (before after : List (Option SessionState)) → at_name user old ≡ Some before → Puts user after old new → CloseFrom before slot reply after → CloseFrom (slots_of old user) slot reply (slots_of new user)
-close_own old new user slot reply before after had puts from =
-    subst (λ (ss : List (Option SessionState)). CloseFrom ss slot reply (slots_of new user)) (sym (own_found old user before had))
-    (subst (λ (ss : List (Option SessionState)). CloseFrom before slot reply ss) (sym (own_put user after old new puts)) from)
-
--- a user who comes without sessions had none
-pub none_more : (user : List ℕ) (old new : Owners) → at_name user old ≡ None → Puts user [] old new → (u : List ℕ) → slots_of new u ≡ slots_of old u
-none_more user old new none puts u = go (bytes_eq user u) refl
-  where
-    go : (b : Bool) → bytes_eq user u ≡ b → slots_of new u ≡ slots_of old u
-    go true same = ap slots_in (puts u ∙ ap (λ v. cond v (Some []) (at_name u old)) (same_name user u ∙ same)) ∙ sym (ap slots_in (ap (λ n. at_name n old) (sym ((bytes_eq-Decides user u).0 same)) ∙ none))
-    go false away = others_left user [] old new puts u away
-
--- no session, where there is no owner
-pub next_nowhere : (os : Owners) (user : List ℕ) (slot n : ℕ) → at_name user os ≡ None → NextFrom (slots_of os user) slot n (Refused (NoSession slot)) (slots_of os user)
-next_nowhere os user slot n is = subst (λ (ss : List (Option SessionState)). NextFrom ss slot n (Refused (NoSession slot)) ss) (sym (ap slots_in is)) (record { answers = inl refl; after = refl })
-
-pub many_nowhere : (os : Owners) (user : List ℕ) (slot : ℕ) (ranges : List Bounds) → at_name user os ≡ None → ManyFrom (slots_of os user) slot ranges (Refused (NoSession slot))
-many_nowhere os user slot ranges is = inl (ap (λ (ss : List (Option SessionState)). many_answer (slot_at ss slot) slot ranges) (sym (ap slots_in is)))
-
-pub close_nowhere : (os : Owners) (user : List ℕ) (slot : ℕ) → at_name user os ≡ None → CloseFrom (slots_of os user) slot (Refused (NoSession slot)) (slots_of os user)
-close_nowhere os user slot is = subst (λ (ss : List (Option SessionState)). CloseFrom ss slot (Refused (NoSession slot)) ss) (sym (ap slots_in is)) (record { answers = refl; after = refl })

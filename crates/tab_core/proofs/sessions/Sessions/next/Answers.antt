@@ -1,0 +1,23 @@
+use Rattle.std.proofs.Common.{◌≡◌, None, Some, Option, MutBor, OnSome, subst, rules}
+use Rattle.tab_policy.specs.Entries.{at_name}
+use Rattle.tab_core.specs.declared.sessions.Kept.{Kept}
+use Rattle.tab_core.specs.Sessions.{Keeping}
+use Rattle.tab_core.specs.Lending.{Leaves}
+use Rattle.tab_core.proofs.KeptLemmas.{next_kept, next_nowhere}
+use Rattle.tab_core.proofs.sessions.Sessions.next.Goals as goal
+
+pub returns-in-Some : goal.returns-in-Some
+returns-in-Some c =
+    let old : Keeping = c.args.self.now in
+    let user = c.args.user.now in
+    let was : Kept = c.in-Some.kept.now in
+    let now : Kept = record { numbered = c.next.new.self; scanned = was.scanned } in
+    let had : at_name user old ≡ Some was = search rules in
+    let left = subst (λ (r : Option (MutBor Kept)). OnSome r (Leaves user old now (c.find.follows.lender now))) c.in-Some.is (c.find.follows.holds now) in
+    next_kept old _ user c.args.number c.args.count c.next.result was c.next.new.self had c.next.ensures left.keeps
+
+pub returns-in-None : goal.returns-in-None
+returns-in-None c =
+    let none : at_name c.args.user.now c.args.self.now ≡ None = search rules in
+    let same : c.find.follows.lender-at-none ≡ c.args.self.now = search rules in
+    next_nowhere c.args.self.now _ c.args.user.now c.args.number c.args.count none same
