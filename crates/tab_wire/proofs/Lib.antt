@@ -3,6 +3,7 @@ pub mod Gathered
 pub mod RequestLaw
 pub mod ReasonLaw
 pub mod TellLaw
+pub mod Answering
 pub mod NoSlots
 pub mod StreamLaw
 pub mod Seen

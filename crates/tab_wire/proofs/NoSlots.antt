@@ -3,7 +3,7 @@ use Rattle.std.proofs.Common.{ℕ, Bool, true, false, cond, ◌==◌, List, [], 
 use Rattle.std.specs.Prelude.{Result, Ok, Err}
 use Rattle.tab_history.specs.declared.event.Act.TheVariants as act
 use Rattle.tab_history.specs.Chains.{NamesNoSlot}
-use Rattle.tab_parts.specs.Reading.{◌>>=◌, whole, u32_at, field_at, name_at, list_at, bounds_at, time_at, versions_at, constraints_at}
+use Rattle.tab_parts.specs.Reading.{◌>>=◌, whole, u32_at, i64_at, field_at, name_at, list_at, bounds_at, time_at, versions_at, constraints_at}
 use Rattle.tab_wire.specs.declared.opcode.Opcode.{Opcode}
 use Rattle.tab_wire.specs.declared.opcode.Opcode.TheVariants as opcode
 use Rattle.tab_wire.specs.declared.request.Request.{Request}
@@ -12,7 +12,7 @@ use Rattle.tab_wire.specs.Heard as heard
 use Rattle.tab_wire.specs.declared.reason.Reason.{Reason}
 use Rattle.tab_wire.specs.declared.reason.Reason.TheVariants as reason
 use Rattle.tab_wire.specs.FrameReading.{columns_at, permission_at, extent_at, mutation_at, ranges_at}
-use Rattle.tab_wire.specs.Requests.{create_table_at, set_auths_at, grant_at, revoke_at, set_constraints_at, write_at, open_at, next_at, many_at, close_at, compact_at, add_split_at, named_at, fields_at, opcode_of, is_in_turn, or_field, asked_by, request_of}
+use Rattle.tab_wire.specs.Requests.{create_table_at, set_auths_at, grant_at, revoke_at, set_constraints_at, write_at, open_at, next_at, many_at, close_at, compact_at, add_split_at, set_versions_at, set_horizon_at, named_at, fields_at, opcode_of, is_in_turn, or_field, asked_by, request_of}
 use Rattle.tab_wire.specs.Asking.{IsRead}
 use Rattle.tab_wire.specs.Stream.{Piece, Frame, Broken}
 
@@ -82,6 +82,14 @@ add_split_free : (bytes : List ℕ) → IsFree (add_split_at bytes)
 unfolding add_split_at
 add_split_free bytes = after (name_at bytes) _ (λ t. after (field_at t.1) _ (λ r. tt))
 
+set_versions_free : (bytes : List ℕ) → IsFree (set_versions_at bytes)
+unfolding set_versions_at
+set_versions_free bytes = after (name_at bytes) _ (λ t. after (versions_at t.1) _ (λ v. tt))
+
+set_horizon_free : (bytes : List ℕ) → IsFree (set_horizon_at bytes)
+unfolding set_horizon_at
+set_horizon_free bytes = after (name_at bytes) _ (λ t. after (i64_at t.1) _ (λ z. tt))
+
 fields_free : (o : Opcode) (bytes : List ℕ) → IsFree (fields_at o bytes)
 fields_free opcode.Hello bytes = named (λ user. asks.Hello user) bytes (λ name. tt)
 fields_free opcode.CreateTable bytes = create_table_free bytes
@@ -103,6 +111,8 @@ fields_free opcode.AddSplit bytes = add_split_free bytes
 fields_free opcode.Splits bytes = named (λ table. asks.Act (act.Splits table)) bytes (λ name. tt)
 fields_free opcode.Status bytes = named (λ table. asks.Act (act.Status table)) bytes (λ name. tt)
 fields_free opcode.Rights bytes = named (λ table. asks.Act (act.Rights table)) bytes (λ name. tt)
+fields_free opcode.SetVersions bytes = set_versions_free bytes
+fields_free opcode.SetHorizon bytes = set_horizon_free bytes
 
 -- ---- whole frames
 -- nothing is asked, or what is asked names none

@@ -27,51 +27,19 @@ pub record StaysLegal (w : World) (h : List Entry) (user : List ℕ) (x : Exchan
 -- ---- what steps do to sessions, with the list of the session that is opened
 event_moves : (b : Base) (j : List Change) (user : List ℕ) (moment : ℤ) (a : Act) (told : Told) → moves_by b j (event user moment a) told ≡ moves_told (event user moment a) told (session_list b j a)
 event_moves b j user moment a reply.Done = refl
-event_moves b j user moment a (reply.Refused r) = refl
-event_moves b j user moment a (reply.Opened session) = refl
-event_moves b j user moment a (reply.Batch cells) = refl
-event_moves b j user moment a (reply.Ranges ranges) = refl
-event_moves b j user moment a (reply.Rights rights) = refl
-event_moves b j user moment a (reply.Counted counts) = refl
-event_moves b j user moment a (reply.Rows rows) = refl
-event_moves b j user moment a (reply.Begun job) = refl
-event_moves b j user moment a reply.Nothing = refl
+event_moves b j user moment a reply = refl
 
 next_moves : (b : Base) (j : List Change) (user : List ℕ) (slot n : ℕ) (told : Told) → moves_by b j (step.Next user slot n) told ≡ moves_told (step.Next user slot n) told []
 next_moves b j user slot n reply.Done = refl
-next_moves b j user slot n (reply.Refused r) = refl
-next_moves b j user slot n (reply.Opened session) = refl
-next_moves b j user slot n (reply.Batch cells) = refl
-next_moves b j user slot n (reply.Ranges ranges) = refl
-next_moves b j user slot n (reply.Rights rights) = refl
-next_moves b j user slot n (reply.Counted counts) = refl
-next_moves b j user slot n (reply.Rows rows) = refl
-next_moves b j user slot n (reply.Begun job) = refl
-next_moves b j user slot n reply.Nothing = refl
+next_moves b j user slot n reply = refl
 
 many_moves : (b : Base) (j : List Change) (user : List ℕ) (slot : ℕ) (ranges : List Bounds) (told : Told) → moves_by b j (step.Many user slot ranges) told ≡ moves_told (step.Many user slot ranges) told []
 many_moves b j user slot ranges reply.Done = refl
-many_moves b j user slot ranges (reply.Refused r) = refl
-many_moves b j user slot ranges (reply.Opened session) = refl
-many_moves b j user slot ranges (reply.Batch cells) = refl
-many_moves b j user slot ranges (reply.Ranges answers) = refl
-many_moves b j user slot ranges (reply.Rights rights) = refl
-many_moves b j user slot ranges (reply.Counted counts) = refl
-many_moves b j user slot ranges (reply.Rows rows) = refl
-many_moves b j user slot ranges (reply.Begun job) = refl
-many_moves b j user slot ranges reply.Nothing = refl
+many_moves b j user slot ranges reply = refl
 
 close_moves : (b : Base) (j : List Change) (user : List ℕ) (slot : ℕ) (told : Told) → moves_by b j (step.Close user slot) told ≡ moves_told (step.Close user slot) told []
 close_moves b j user slot reply.Done = refl
-close_moves b j user slot (reply.Refused r) = refl
-close_moves b j user slot (reply.Opened session) = refl
-close_moves b j user slot (reply.Batch cells) = refl
-close_moves b j user slot (reply.Ranges ranges) = refl
-close_moves b j user slot (reply.Rights rights) = refl
-close_moves b j user slot (reply.Counted counts) = refl
-close_moves b j user slot (reply.Rows rows) = refl
-close_moves b j user slot (reply.Begun job) = refl
-close_moves b j user slot reply.Nothing = refl
+close_moves b j user slot reply = refl
 
 -- ---- one exchange of a user whose sessions are known
 module _ (w : World) (h : List Entry) (user : List ℕ) (moves : List Move) (x : Exchange) (legal : Legal w h) (sessions : moves_of w user h ≡ moves) where

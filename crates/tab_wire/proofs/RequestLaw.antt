@@ -2,18 +2,18 @@
 use Rattle.std.proofs.Common.{◌≡◌, ℕ, zero, suc, List, [], ◌∷◌, ◌++◌, Some, refl, sym, ap, subst, ◌∙◌}
 use Rattle.tab_label.specs.Sets.{set_of}
 use Rattle.tab_history.specs.declared.event.Act.TheVariants as act
-use Rattle.tab_parts.specs.Parts.{IsBytes, IsU32, IsField, IsNameField, IsCounted, IsList, IsBounds, time_byte, IsTime, IsVersions, IsConstraints}
-use Rattle.tab_parts.specs.Reading.{◌>>=◌, Reader, and_then, mapped, whole, u32_at, field_at, name_at, list_at, bounds_at, time_at, versions_at, constraints_at}
+use Rattle.tab_parts.specs.Parts.{IsBytes, IsU32, IsI64, IsField, IsNameField, IsCounted, IsList, IsBounds, time_byte, IsTime, IsVersions, IsConstraints}
+use Rattle.tab_parts.specs.Reading.{◌>>=◌, Reader, and_then, mapped, whole, u32_at, i64_at, field_at, name_at, list_at, bounds_at, time_at, versions_at, constraints_at}
 use Rattle.tab_parts.specs.Exactness.{Exact}
 use Rattle.tab_parts.proofs.Exact.{Follows, exact_then, Becomes, exact_mapped, exact_u32, whole_sound, whole_complete}
-use Rattle.tab_parts.proofs.PartLaw.{exact_field, exact_name, exact_list}
+use Rattle.tab_parts.proofs.PartLaw.{exact_i64, exact_field, exact_name, exact_list}
 use Rattle.tab_parts.proofs.TagLaw.{exact_bounds, exact_time, exact_versions, exact_constraints}
 use Rattle.tab_wire.specs.declared.request.Request.{Request}
 use Rattle.tab_wire.specs.declared.request.Request.TheVariants as asks
 use Rattle.tab_wire.specs.FrameParts.{IsColumn, IsPermission, extent_byte, IsExtent, IsMutation}
 use Rattle.tab_wire.specs.FrameReading.{columns_at, permission_at, extent_at, mutation_at, ranges_at}
-use Rattle.tab_wire.specs.Requests.{create_table_at, set_auths_at, grant_at, revoke_at, set_constraints_at, write_at, open_at, next_at, many_at, close_at, compact_at, add_split_at, opcode_of, fields_at, request_in}
-use Rattle.tab_wire.specs.Forms.{IsRequest, hello, create_table, drop_table, create_user, drop_user, set_auths, grant, revoke, set_constraints, write, opens, next, many, close, flush, compact, add_split, splits, status, rights, RequestsAreForms}
+use Rattle.tab_wire.specs.Requests.{create_table_at, set_auths_at, grant_at, revoke_at, set_constraints_at, write_at, open_at, next_at, many_at, close_at, compact_at, add_split_at, set_versions_at, set_horizon_at, opcode_of, fields_at, request_in}
+use Rattle.tab_wire.specs.Forms.{IsRequest, hello, create_table, drop_table, create_user, drop_user, set_auths, grant, revoke, set_constraints, write, opens, next, many, close, flush, compact, add_split, splits, status, rights, set_versions, set_horizon, RequestsAreForms}
 use Rattle.tab_wire.proofs.FrameLaw.{exact_columns, exact_permission, exact_extent, exact_mutation, exact_ranges}
 
 -- ---- each opcode
@@ -171,6 +171,14 @@ sound_status fields r fits is = one_sound name_at IsNameField (λ t. asks.Act (a
 sound_rights : (fields : List ℕ) (r : Request) → IsBytes fields → whole (mapped (λ t. asks.Act (act.Rights t)) name_at fields) ≡ Some r → IsRequest (20 ∷ fields) r
 sound_rights fields r fits is = one_sound name_at IsNameField (λ t. asks.Act (act.Rights t)) exact_name 20 fields r fits is (λ p x a. rights p x a)
 
+sound_set_versions : (fields : List ℕ) (r : Request) → IsBytes fields → whole (set_versions_at fields) ≡ Some r → IsRequest (21 ∷ fields) r
+unfolding set_versions_at
+sound_set_versions fields r fits is = two_sound name_at versions_at IsNameField IsVersions (λ t v. asks.Act (act.SetVersions t v)) exact_name exact_versions 21 fields r fits is (λ p q x y a b. set_versions p q x y a b)
+
+sound_set_horizon : (fields : List ℕ) (r : Request) → IsBytes fields → whole (set_horizon_at fields) ≡ Some r → IsRequest (22 ∷ fields) r
+unfolding set_horizon_at
+sound_set_horizon fields r fits is = two_sound name_at i64_at IsNameField IsI64 (λ t z. asks.Act (act.SetHorizon t z)) exact_name exact_i64 22 fields r fits is (λ p q x y a b. set_horizon p q x y a b)
+
 request_sound : (op : ℕ) (fields : List ℕ) (r : Request) → IsBytes fields → (opcode_of op >>= λ opcode. whole (fields_at opcode fields)) ≡ Some r → IsRequest (op ∷ fields) r
 request_sound zero fields r fits is = absurd cc
 request_sound (suc zero) fields r fits is = sound_hello fields r fits is
@@ -193,11 +201,13 @@ request_sound (suc (suc (suc (suc (suc (suc (suc (suc (suc (suc (suc (suc (suc (
 request_sound (suc (suc (suc (suc (suc (suc (suc (suc (suc (suc (suc (suc (suc (suc (suc (suc (suc (suc zero)))))))))))))))))) fields r fits is = sound_splits fields r fits is
 request_sound (suc (suc (suc (suc (suc (suc (suc (suc (suc (suc (suc (suc (suc (suc (suc (suc (suc (suc (suc zero))))))))))))))))))) fields r fits is = sound_status fields r fits is
 request_sound (suc (suc (suc (suc (suc (suc (suc (suc (suc (suc (suc (suc (suc (suc (suc (suc (suc (suc (suc (suc zero)))))))))))))))))))) fields r fits is = sound_rights fields r fits is
-request_sound (suc (suc (suc (suc (suc (suc (suc (suc (suc (suc (suc (suc (suc (suc (suc (suc (suc (suc (suc (suc (suc n))))))))))))))))))))) fields r fits is = absurd cc
+request_sound (suc (suc (suc (suc (suc (suc (suc (suc (suc (suc (suc (suc (suc (suc (suc (suc (suc (suc (suc (suc (suc zero))))))))))))))))))))) fields r fits is = sound_set_versions fields r fits is
+request_sound (suc (suc (suc (suc (suc (suc (suc (suc (suc (suc (suc (suc (suc (suc (suc (suc (suc (suc (suc (suc (suc (suc zero)))))))))))))))))))))) fields r fits is = sound_set_horizon fields r fits is
+request_sound (suc (suc (suc (suc (suc (suc (suc (suc (suc (suc (suc (suc (suc (suc (suc (suc (suc (suc (suc (suc (suc (suc (suc n))))))))))))))))))))))) fields r fits is = absurd cc
 
 -- ---- each opcode, forwards
 request_complete : (bytes : List ℕ) (r : Request) → IsRequest bytes r → request_in bytes ≡ Some r
-unfolding request_in create_table_at set_auths_at grant_at revoke_at set_constraints_at write_at open_at next_at many_at close_at compact_at add_split_at
+unfolding request_in create_table_at set_auths_at grant_at revoke_at set_constraints_at write_at open_at next_at many_at close_at compact_at add_split_at set_versions_at set_horizon_at
 request_complete bytes r (hello p x a) = one_complete name_at IsNameField (λ user. asks.Hello user) exact_name p x a
 request_complete bytes r (create_table p s x y z a c) = three_complete name_at time_at versions_at IsNameField IsTime IsVersions (λ t m v. asks.Act (act.CreateTable t m v)) exact_name exact_time exact_versions p (time_byte y ∷ []) s x y z a refl c
 request_complete bytes r (drop_table p x a) = one_complete name_at IsNameField (λ t. asks.Act (act.DropTable t)) exact_name p x a
@@ -218,6 +228,8 @@ request_complete bytes r (add_split p q x y a b) = two_complete name_at field_at
 request_complete bytes r (splits p x a) = one_complete name_at IsNameField (λ t. asks.Act (act.Splits t)) exact_name p x a
 request_complete bytes r (status p x a) = one_complete name_at IsNameField (λ t. asks.Act (act.Status t)) exact_name p x a
 request_complete bytes r (rights p x a) = one_complete name_at IsNameField (λ t. asks.Act (act.Rights t)) exact_name p x a
+request_complete bytes r (set_versions p q x y a b) = two_complete name_at versions_at IsNameField IsVersions (λ t v. asks.Act (act.SetVersions t v)) exact_name exact_versions p q x y a b
+request_complete bytes r (set_horizon p q x y a b) = two_complete name_at i64_at IsNameField IsI64 (λ t z. asks.Act (act.SetHorizon t z)) exact_name exact_i64 p q x y a b
 
 bytes_sound : (bytes : List ℕ) (r : Request) → IsBytes bytes → request_in bytes ≡ Some r → IsRequest bytes r
 unfolding request_in

@@ -1,6 +1,8 @@
 -- A refusal is read of the frame that is written of it, and of no other one.
-use Rattle.std.proofs.Common.{◌≡◌, ℕ, ◌<◌, ◌≤◌, ◌^◌, ◌==◌, Bool, true, false, cond, List, [], ◌∷◌, ◌++◌, length, Option, Some, None, refl, sym, ap, subst, ◌∙◌, arith, inl, inr}
-use Rattle.std.specs.Int.{w32, w64, to_be_bytes}
+use Rattle.std.proofs.Common.{◌≡◌, ℕ, ℤ, ◌<◌, ◌≤◌, ◌^◌, ◌==◌, Bool, true, false, cond, List, [], ◌∷◌, ◌++◌, length, Option, Some, None, refl, sym, ap, subst, ◌∙◌, arith, inl, inr}
+use Rattle.std.specs.Prelude.{FitsSigned}
+use Rattle.std.specs.Int.{w32, w64, to_be_bytes, cast_signed, cast_unsigned}
+use Rattle.std.proofs.lemmas.Int.{of_z-to_z, to_z-of_z}
 use Rattle.std.specs.List.{flat_map}
 use Rattle.tab_key.specs.Names.{IsName}
 use Rattle.tab_key.specs.declared.part.Part.{Part}
@@ -16,11 +18,11 @@ use Rattle.tab_history.specs.declared.reply.Refusal.{Refusal}
 use Rattle.tab_history.specs.declared.reply.Refusal.TheVariants as refusal
 use Rattle.tab_history.specs.declared.split_fault.SplitFault.{SplitFault}
 use Rattle.tab_history.specs.declared.split_fault.SplitFault.TheVariants.{Present, Small, OneRow}
-use Rattle.tab_parts.specs.Parts.{IsBytes, IsByte, IsU32, IsU64, IsField, IsNameField, AreParts, IsCounted}
-use Rattle.tab_parts.specs.Reading.{◌>>=◌, Reader, and_then, mapped, picked, given, nothing_at, whole, u8_at, u32_at, u64_at, field_at, name_at, tagged}
+use Rattle.tab_parts.specs.Parts.{IsBytes, IsByte, IsU32, IsU64, IsI64, IsField, IsNameField, AreParts, IsCounted}
+use Rattle.tab_parts.specs.Reading.{◌>>=◌, Reader, and_then, mapped, picked, given, nothing_at, whole, u8_at, u32_at, u64_at, i64_at, field_at, name_at, tagged}
 use Rattle.tab_parts.specs.Exactness.{Exact}
 use Rattle.tab_parts.proofs.Exact.{some_inj, exact_as, Follows, exact_then, Becomes, exact_mapped, exact_picked, exact_nothing, exact_given, exact_u8, exact_u32, exact_u64, bytes-rest, whole_sound, whole_complete}
-use Rattle.tab_parts.proofs.PartLaw.{exact_field, exact_name, exact_counted, Tagged, exact_tagged, eq_is, Either, exact_either}
+use Rattle.tab_parts.proofs.PartLaw.{exact_i64, exact_field, exact_name, exact_counted, Tagged, exact_tagged, eq_is, Either, exact_either}
 use Rattle.tab_parts.proofs.TagLaw.{begins, Given, Nothing}
 use Rattle.tab_wire.specs.declared.reason.Reason.{Reason}
 use Rattle.tab_wire.specs.declared.reason.Reason.TheVariants as reason
@@ -28,10 +30,12 @@ use Rattle.tab_wire.specs.declared.told.Told.{Told}
 use Rattle.tab_wire.specs.declared.told.Told.TheVariants as told
 use Rattle.tab_wire.specs.FrameParts.{IsPermission}
 use Rattle.tab_wire.specs.FrameReading.{permission_at}
-use Rattle.tab_wire.specs.Replies.{u32, u64, field, part_number, reason_number, split_number, permission_bytes, violation_bytes, refusal_bytes}
-use Rattle.tab_wire.specs.Tells.{part_of, reason_of, split_fault_of, constraint_of, violation_at, violations_at, malformed_at, below_by, refusal_by, refused_by, refused_at, told_in}
+use Rattle.tab_wire.specs.Replies.{u32, u64, i64, field, part_number, reason_number, split_number, permission_bytes, violation_bytes, refusal_bytes}
+use Rattle.tab_wire.specs.Tells.{part_of, reason_of, split_fault_of, constraint_of, violation_at, violations_at, malformed_at, horizon_by, refusal_by, refused_by, refused_at, told_in}
 use Rattle.tab_wire.specs.TellLaws.{IsPermissionTold, ArePlacesTold, IsTold, RefusalsAreTold}
 use Rattle.tab_wire.proofs.FrameLaw.{exact_permission}
+use borrow.Author.Gap.{read_sfits}
+use mir.ValLaws.{of_z_fits}
 
 -- ---- what one byte says
 -- the one of this number, or one behind it
@@ -185,12 +189,37 @@ exact_malformed : Exact malformed_at IsMalformed
 unfolding malformed_at
 exact_malformed = exact_then u32_at IsU32 _ _ exact_u32 (λ update. exact_mapped (λ offset. refusal.MalformedVisibility update offset) u32_at IsU32 exact_u32)
 
--- ---- what goes with the flag of a time
-abbrev ByBelow : ℕ → List ℕ → Refusal → Type 0
-ByBelow flag = Either flag 1 (Becomes IsU32 (λ update. refusal.BelowHorizon update)) Nothing
+-- ---- a signed number
+signed_spelled : (bytes : List ℕ) (z : ℤ) → IsI64 bytes z → (bytes ≡ i64 z) × FitsSigned w64 z
+unfolding i64
+signed_spelled bytes z is =
+    (is.1.0 ∙ ap (to_be_bytes w64) (sym (ap (cast_unsigned w64) is.2 ∙ of_z-to_z w64 is.0 is.1.1)), subst (λ (y : ℤ). FitsSigned w64 y) (sym is.2) (read_sfits w64 is.0))
 
-exact_below : Exact (tagged below_by) (Tagged ByBelow)
-exact_below = exact_tagged below_by ByBelow (λ flag. exact_either flag 1 (mapped (λ update. refusal.BelowHorizon update) u32_at) nothing_at (Becomes IsU32 (λ update. refusal.BelowHorizon update)) Nothing (exact_mapped (λ update. refusal.BelowHorizon update) u32_at IsU32 exact_u32) exact_nothing)
+signed_told : (z : ℤ) → FitsSigned w64 z → IsI64 (i64 z) z
+unfolding i64
+signed_told z fits = (cast_unsigned w64 z, (refl, (of_z_fits w64 z fits).fits), sym (to_z-of_z w64 z fits))
+
+-- ---- what goes with the flag of a horizon
+abbrev IsLowered : List ℕ → Refusal → Type 0
+IsLowered = Becomes IsI64 (λ present. refusal.HorizonLowered present)
+
+abbrev IsBelow : List ℕ → Refusal → Type 0
+IsBelow = Becomes IsU32 (λ update. refusal.BelowHorizon update)
+
+abbrev ByHorizon : ℕ → List ℕ → Refusal → Type 0
+ByHorizon flag = Either flag 0 IsLowered (Either flag 1 IsBelow (Either flag 2 (Given refusal.ServerTime) Nothing))
+
+by_horizon : (flag : ℕ) → Exact (horizon_by flag) (ByHorizon flag)
+by_horizon flag =
+    let lowered = mapped (λ present. refusal.HorizonLowered present) i64_at in
+    let below = mapped (λ update. refusal.BelowHorizon update) u32_at in
+    let server : Reader Refusal = cond (flag == 2) (given refusal.ServerTime) nothing_at in
+    exact_either flag 0 lowered (cond (flag == 1) below server) IsLowered (Either flag 1 IsBelow (Either flag 2 (Given refusal.ServerTime) Nothing)) (exact_mapped (λ present. refusal.HorizonLowered present) i64_at IsI64 exact_i64)
+    (exact_either flag 1 below server IsBelow (Either flag 2 (Given refusal.ServerTime) Nothing) (exact_mapped (λ update. refusal.BelowHorizon update) u32_at IsU32 exact_u32)
+    (exact_either flag 2 (given refusal.ServerTime) nothing_at (Given refusal.ServerTime) Nothing (exact_given refusal.ServerTime) exact_nothing))
+
+exact_by_horizon : Exact (tagged horizon_by) (Tagged ByHorizon)
+exact_by_horizon = exact_tagged horizon_by ByHorizon by_horizon
 
 -- ---- forwards: what is written is read
 abbrev refusing : Reader Refusal → Reader Told
@@ -223,20 +252,18 @@ forwards (refusal.ConstraintViolation vs) is =
     one_back violations_at (IsCounted IsU32 IsViolation) exact_violations (λ x. refusal.ConstraintViolation x) (u32 (length vs) ++ flat_map violation_bytes vs) vs
     (u32 (length vs), flat_map violation_bytes vs, refl, (refl, is.0), told_parts vs is.1)
 forwards (refusal.TimestampNotAllowed update) is = one_back u32_at IsU32 exact_u32 (λ x. refusal.TimestampNotAllowed x) (u32 update) update (refl, is)
-forwards refusal.EmptyMutation is = refl
 forwards (refusal.TooLarge p) is = one_back (picked part_of u8_at) (IsNumber part_number) (exact_number part_number part_of part_again part_picks) (λ x. refusal.TooLarge x) (part_number p ∷ []) p refl
 forwards (refusal.TableExists table) is = one_back name_at IsNameField exact_name (λ x. refusal.TableExists x) (field table) table (name_field table is)
 forwards (refusal.UserExists user) is = one_back name_at IsNameField exact_name (λ x. refusal.UserExists x) (field user) user (name_field user is)
 forwards (refusal.NoUser user) is = one_back name_at IsNameField exact_name (λ x. refusal.NoUser x) (field user) user (name_field user is)
-forwards refusal.BadRange is = refl
 forwards (refusal.Stale count) is = one_back u64_at IsU64 exact_u64 (λ x. refusal.Stale x) (u64 count) count (refl, is)
 forwards (refusal.NoSession slot) is = one_back u32_at IsU32 exact_u32 (λ x. refusal.NoSession x) (u32 slot) slot (refl, is)
 forwards (refusal.NoJob slot) is = absurd is
-forwards refusal.NoMemory is = refl
-forwards refusal.RootFixed is = refl
-forwards refusal.GrantInvalid is = refl
 forwards (refusal.BadSplit fault) is = one_back (picked split_fault_of u8_at) (IsNumber split_number) (exact_number split_number split_fault_of split_again split_picks) (λ x. refusal.BadSplit x) (split_number fault ∷ []) fault refl
+forwards (refusal.VersionsRaised present) is = one_back u32_at IsU32 exact_u32 (λ x. refusal.VersionsRaised x) (u32 present) present (refl, is)
+forwards (refusal.HorizonLowered present) is = one_back i64_at IsI64 exact_i64 (λ x. refusal.HorizonLowered x) (i64 present) present (signed_told present is)
 forwards (refusal.BelowHorizon update) is = one_back u32_at IsU32 exact_u32 (λ x. refusal.BelowHorizon x) (u32 update) update (refl, is)
+forwards refusal is = refl
 
 -- ---- backwards: what is read was written
 abbrev Written : ℕ → List ℕ → Refusal → Type 0
@@ -266,11 +293,19 @@ unfolding u32
 permission_spelled bytes (OfSystem p) is = (is, tt)
 permission_spelled bytes (OfTable p table) is = (is.1 ∙ ap (λ (t : List ℕ). 1 ∷ table_place p ∷ t) is.2.0.0, is.2.1)
 
-below_written : (p : List ℕ) (x : Refusal) → Tagged ByBelow p x → Written 22 p x
+horizon_written : (p : List ℕ) (x : Refusal) → Tagged ByHorizon p x → Written 22 p x
 unfolding Either u32
-below_written p x t = elim t.next [
-  | inl h ↦ subst (λ (y : Refusal). Written 22 p y) h.1.becomes (ap (λ (z : List ℕ). 22 ∷ z) (begins p t.back t.flag 1 t.parts h.0 ∙ ap (λ (z : List ℕ). 1 ∷ z) h.1.says.0), h.1.says.1)
-  | inr h ↦ absurd h.1
+horizon_written p x t = elim t.next [
+  | inl h ↦
+      let s = signed_spelled t.back h.1.first h.1.says in
+      subst (λ (y : Refusal). Written 22 p y) h.1.becomes (ap (λ (z : List ℕ). 22 ∷ z) (begins p t.back t.flag 0 t.parts h.0 ∙ ap (λ (z : List ℕ). 0 ∷ z) s.0), s.1)
+  | inr h ↦ elim h.1 [
+    | inl g ↦ subst (λ (y : Refusal). Written 22 p y) g.1.becomes (ap (λ (z : List ℕ). 22 ∷ z) (begins p t.back t.flag 1 t.parts g.0 ∙ ap (λ (z : List ℕ). 1 ∷ z) g.1.says.0), g.1.says.1)
+    | inr g ↦ elim g.1 [
+      | inl k ↦ subst (λ (y : Refusal). Written 22 p y) k.1.1 (ap (λ (z : List ℕ). 22 ∷ z) (begins p t.back t.flag 2 t.parts k.0 ∙ ap (λ (z : List ℕ). 2 ∷ z) k.1.0), tt)
+      | inr k ↦ absurd k.1
+    ]
+  ]
 ]
 
 -- what a part changed gives is such a change
@@ -323,8 +358,9 @@ refusal_sound n fields r fits is =
     on_number n 18 _ _ fields r is (bare_written 18 refusal.RootFixed (refl, tt) fields r fits) (λ is.
     on_number n 19 _ _ fields r is (bare_written 19 refusal.GrantInvalid (refl, tt) fields r fits) (λ is.
     on_number n 20 _ _ fields r is (one_written 20 (picked split_fault_of u8_at) (IsNumber split_number) (exact_number split_number split_fault_of split_again split_picks) (λ x. refusal.BadSplit x) (λ p x h. (ap (λ (z : List ℕ). 20 ∷ z) h, tt)) fields r fits) (λ is.
-    on_number n 22 _ _ fields r is (written_of 22 (tagged below_by) (Tagged ByBelow) exact_below below_written fields r fits) (λ is.
-    absurd cc))))))))))))))))))))
+    on_number n 21 _ _ fields r is (one_written 21 u32_at IsU32 exact_u32 (λ x. refusal.VersionsRaised x) (λ p x h. (ap (λ (z : List ℕ). 21 ∷ z) h.0, h.1)) fields r fits) (λ is.
+    on_number n 22 _ _ fields r is (written_of 22 (tagged horizon_by) (Tagged ByHorizon) exact_by_horizon horizon_written fields r fits) (λ is.
+    absurd cc)))))))))))))))))))))
 
 backwards : (n : ℕ) (fields : List ℕ) (r : Refusal) → IsBytes fields → whole (refused_by n fields) ≡ Some (told.Refused r) → Written n fields r
 backwards n fields r fits is =

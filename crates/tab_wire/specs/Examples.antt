@@ -1,5 +1,5 @@
 -- Worked examples, computed: bytes of frames, what they ask, and the bytes of replies.
-use Rattle.std.specs.Prelude.{ℕ, pos, ◌≡◌, ◌==◌, ◌-◌, ◌+◌, ◌*◌, nat_le, true, false, List, [], ◌∷◌, codes, Option, Some, None, Ok, Err, refl, if◌then◌else◌}
+use Rattle.std.specs.Prelude.{ℕ, pos, negsuc, ◌≡◌, ◌==◌, ◌-◌, ◌+◌, ◌*◌, nat_le, true, false, List, [], ◌∷◌, codes, Option, Some, None, Ok, Err, refl, if◌then◌else◌}
 use Rattle.tab_key.specs.declared.key.Kind.TheVariants.{Put}
 use Rattle.tab_key.specs.declared.range.Bound.TheVariants.{Unbounded, Inclusive, Exclusive}
 use Rattle.tab_key.specs.Records.{Cell}
@@ -20,10 +20,13 @@ use Rattle.tab_parts.specs.Reading.{u16_at, u32_at, u64_at, i64_at, field_at, na
 use Rattle.tab_wire.specs.declared.request.Request.TheVariants as asks
 use Rattle.tab_wire.specs.declared.reason.Reason.TheVariants as reason
 use Rattle.tab_wire.specs.FrameReading.{column_at, permission_at, extent_at, timestamp_at, update_at, updates_at, columns_at, ranges_at, mutation_at}
-use Rattle.tab_wire.specs.Requests.{create_table_at, set_auths_at, grant_at, revoke_at, set_constraints_at, write_at, open_at, next_at, many_at, close_at, compact_at, add_split_at, request_in, request_of}
+use Rattle.tab_wire.specs.Requests.{create_table_at, set_auths_at, grant_at, revoke_at, set_constraints_at, write_at, open_at, next_at, many_at, close_at, compact_at, add_split_at, set_versions_at, set_horizon_at, request_in, request_of}
+use Rattle.tab_wire.specs.declared.told.Told.TheVariants as told
+use Rattle.tab_wire.specs.Tells.{refused_at, told_in}
 use Rattle.tab_wire.specs.Stream.{Frame, Broken, piece_at, pieces_of}
 use Rattle.tab_wire.specs.Replies as sent
 use Rattle.tab_wire.specs.Replies.{sent_bytes, sent_of, u32, u64, i64}
+use Rattle.tab_wire.specs.Sending.{act_bytes}
 
 -- ---- bytes in hexadecimal, as tables of frames are written: two digits a byte, spaces passed over
 abbrev pub digit : ℕ → ℕ
@@ -40,7 +43,7 @@ hex text = hex_from None text
 
 -- all that the examples look into
 looked_into : ℕ
-unfolding u16_at u32_at u64_at i64_at field_at name_at list_at bound_at bounds_at column_at permission_at extent_at kind_at timestamp_at update_at time_at versions_at constraints_at updates_at columns_at ranges_at mutation_at create_table_at set_auths_at grant_at revoke_at set_constraints_at write_at open_at next_at many_at close_at compact_at add_split_at request_in request_of piece_at pieces_of opened closed session_in u32 u64 i64
+unfolding u16_at u32_at u64_at i64_at field_at name_at list_at bound_at bounds_at column_at permission_at extent_at kind_at timestamp_at update_at time_at versions_at constraints_at updates_at columns_at ranges_at mutation_at create_table_at set_auths_at grant_at revoke_at set_constraints_at write_at open_at next_at many_at close_at compact_at add_split_at set_versions_at set_horizon_at request_in request_of refused_at told_in piece_at pieces_of opened closed session_in u32 u64 i64
 looked_into = 0
 
 -- ---- Hello, and what is no frame
@@ -149,6 +152,11 @@ unknown : request_of true (hex (codes "18")) ≡ Err reason.Opcode
 unfolding looked_into
 unknown = refl
 
+-- no frame asks for a rotation
+unknown_yet : request_of true (hex (codes "17")) ≡ Err reason.Opcode
+unfolding looked_into
+unknown_yet = refl
+
 -- no version is asked for
 no_version : request_of true (hex (codes "02 00000001 74 00 00000000")) ≡ Err reason.Field
 unfolding looked_into
@@ -214,6 +222,47 @@ ranges = refl
 sets_auths : request_of true (hex (codes "06 00000004 726f6f74 00000003 00000001 62 00000001 61 00000001 62")) ≡ Ok (asks.Act (act.SetAuths (codes "root") (codes "a" ∷ codes "b" ∷ [])))
 unfolding looked_into
 sets_auths = refl
+
+-- ---- settings that change
+sets_versions : request_of true (hex (codes "15 00000001 74 000003e8")) ≡ Ok (asks.Act (act.SetVersions t 1000))
+unfolding looked_into
+sets_versions = refl
+
+sets_no_versions : request_of true (hex (codes "15 00000001 74 00000000")) ≡ Err reason.Field
+unfolding looked_into
+sets_no_versions = refl
+
+sets_too_many_versions : request_of true (hex (codes "15 00000001 74 000003e9")) ≡ Err reason.Field
+unfolding looked_into
+sets_too_many_versions = refl
+
+sets_horizon : request_of true (hex (codes "16 00000001 74 0000000000000005")) ≡ Ok (asks.Act (act.SetHorizon t (pos 5)))
+unfolding looked_into
+sets_horizon = refl
+
+-- in two's complement
+sets_horizon_below_0 : request_of true (hex (codes "16 00000001 74 ffffffffffffffff")) ≡ Ok (asks.Act (act.SetHorizon t (negsuc 0)))
+unfolding looked_into
+sets_horizon_below_0 = refl
+
+sets_horizon_short : request_of true (hex (codes "16 00000001 74 00000000000005")) ≡ Err reason.Field
+unfolding looked_into
+sets_horizon_short = refl
+
+sets_horizon_long : request_of true (hex (codes "16 00000001 74 000000000000000500")) ≡ Err reason.Field
+unfolding looked_into
+sets_horizon_long = refl
+
+versions_sent : act_bytes (act.SetVersions t 1) ≡ hex (codes "15 00000001 74 00000001")
+unfolding looked_into
+versions_sent = refl
+
+horizon_sent : act_bytes (act.SetHorizon t (negsuc 0)) ≡ hex (codes "16 00000001 74 ffffffffffffffff")
+unfolding looked_into
+horizon_sent = refl
+
+rotation_not_sent : act_bytes act.Rotate ≡ []
+rotation_not_sent = refl
 
 -- ---- compactions, splits and counts
 flushes : request_of true (hex (codes "0f 00000001 74")) ≡ Ok (asks.Act (act.Flush t))
@@ -289,6 +338,39 @@ refused_split = refl
 refused_old : sent_bytes (sent.Refused (refusal.BelowHorizon 0)) ≡ hex (codes "00000007 81 16 01 00000000")
 unfolding looked_into
 refused_old = refl
+
+refused_more_versions : sent_bytes (sent.Refused (refusal.VersionsRaised 2)) ≡ hex (codes "00000006 81 15 00000002")
+unfolding looked_into
+refused_more_versions = refl
+
+refused_lower_horizon : sent_bytes (sent.Refused (refusal.HorizonLowered (negsuc 0))) ≡ hex (codes "0000000b 81 16 00 ffffffffffffffff")
+unfolding looked_into
+refused_lower_horizon = refl
+
+refused_horizon : sent_bytes (sent.Refused refusal.ServerTime) ≡ hex (codes "00000003 81 16 02")
+unfolding looked_into
+refused_horizon = refl
+
+-- a client reads them
+told_more_versions : told_in (hex (codes "81 15 00000002")) ≡ Some (told.Refused (refusal.VersionsRaised 2))
+unfolding looked_into
+told_more_versions = refl
+
+told_lower_horizon : told_in (hex (codes "81 16 00 8000000000000000")) ≡ Some (told.Refused (refusal.HorizonLowered (negsuc 9223372036854775807)))
+unfolding looked_into
+told_lower_horizon = refl
+
+told_old : told_in (hex (codes "81 16 01 00000003")) ≡ Some (told.Refused (refusal.BelowHorizon 3))
+unfolding looked_into
+told_old = refl
+
+told_horizon : told_in (hex (codes "81 16 02")) ≡ Some (told.Refused refusal.ServerTime)
+unfolding looked_into
+told_horizon = refl
+
+told_none : told_in (hex (codes "81 16 03")) ≡ None
+unfolding looked_into
+told_none = refl
 
 -- ---- several ranges of one session
 many_told : sent_bytes (sent.Ranges ([] ∷ (cell ∷ []) ∷ []))

@@ -1,5 +1,5 @@
 -- What the bytes of a frame ask, form by form, as a relation. It says nothing of how they are read.
-use Rattle.std.specs.Prelude.{ℕ, ◌≡◌, ◌≢◌, ◌↔◌, ◌≤◌, Bool, true, false, List, [], ◌∷◌, ◌++◌, Some, Ok, Err}
+use Rattle.std.specs.Prelude.{ℕ, ℤ, ◌≡◌, ◌≢◌, ◌↔◌, ◌≤◌, Bool, true, false, List, [], ◌∷◌, ◌++◌, Some, Ok, Err}
 use Rattle.tab_key.specs.declared.range.Bounds.{Bounds}
 use Rattle.tab_key.specs.declared.column.Column.{Column}
 use Rattle.tab_label.specs.Sets.{set_of}
@@ -9,7 +9,7 @@ use Rattle.tab_policy.specs.declared.permission.Permission.{Permission}
 use Rattle.tab_history.specs.declared.event.TimeMode.{TimeMode}
 use Rattle.tab_history.specs.declared.event.Extent.{Extent}
 use Rattle.tab_history.specs.declared.event.Act.TheVariants as act
-use Rattle.tab_parts.specs.Parts.{IsBytes, IsU32, IsField, IsNameField, IsCounted, IsList, IsBounds, time_byte, IsVersions, IsConstraints}
+use Rattle.tab_parts.specs.Parts.{IsBytes, IsU32, IsI64, IsField, IsNameField, IsCounted, IsList, IsBounds, time_byte, IsVersions, IsConstraints}
 use Rattle.tab_wire.specs.declared.request.Request.{Request}
 use Rattle.tab_wire.specs.declared.request.Request.TheVariants as asks
 use Rattle.tab_wire.specs.declared.reason.Reason.{Reason}
@@ -43,15 +43,17 @@ pub data IsRequest : List ℕ → Request → Type 0 where
   splits : (t table : List ℕ) → IsNameField t table → IsRequest (18 ∷ t) (asks.Act (act.Splits table))
   status : (t table : List ℕ) → IsNameField t table → IsRequest (19 ∷ t) (asks.Act (act.Status table))
   rights : (t table : List ℕ) → IsNameField t table → IsRequest (20 ∷ t) (asks.Act (act.Rights table))
+  set_versions : (t v table : List ℕ) (versions : ℕ) → IsNameField t table → IsVersions v versions → IsRequest (21 ∷ (t ++ v)) (asks.Act (act.SetVersions table versions))
+  set_horizon : (t z table : List ℕ) (horizon : ℤ) → IsNameField t table → IsI64 z horizon → IsRequest (22 ∷ (t ++ z)) (asks.Act (act.SetHorizon table horizon))
 
 -- ---- The law: reading gives exactly what the forms say.
 abbrev pub RequestsAreForms : Type 0
 RequestsAreForms = (bytes : List ℕ) (request : Request) → IsBytes bytes → (request_in bytes ≡ Some request) ↔ IsRequest bytes request
 
 -- ---- Why a frame asks nothing, after Hello or before it. An unknown opcode comes before the order, and the order before the fields.
--- the opcodes 01 to 14, in hexadecimal
+-- the opcodes 01 to 16, in hexadecimal
 abbrev pub IsKnown : ℕ → Type 0
-IsKnown op = (1 ≤ op) × (op ≤ 20)
+IsKnown op = (1 ≤ op) × (op ≤ 22)
 
 -- Hello is the first frame, and no other one
 abbrev pub InTurn : Bool → ℕ → Type 0

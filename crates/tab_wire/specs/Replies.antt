@@ -99,7 +99,10 @@ refusal_bytes refusal.NoMemory = 17 ∷ []
 refusal_bytes refusal.RootFixed = 18 ∷ []
 refusal_bytes refusal.GrantInvalid = 19 ∷ []
 refusal_bytes (refusal.BadSplit fault) = 20 ∷ split_number fault ∷ []
+refusal_bytes (refusal.VersionsRaised present) = 21 ∷ u32 present
+refusal_bytes (refusal.HorizonLowered present) = 22 ∷ 0 ∷ i64 present
 refusal_bytes (refusal.BelowHorizon update) = 22 ∷ 1 ∷ u32 update
+refusal_bytes refusal.ServerTime = 22 ∷ 2 ∷ []
 
 -- ---- replies
 -- A reply with what its frames need beside it: the number of a session, and whether a batch was as long as it was asked to be.

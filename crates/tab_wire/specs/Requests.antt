@@ -2,9 +2,9 @@
 use Rattle.std.specs.Prelude.{ℕ, zero, suc, Bool, true, false, List, [], ◌∷◌, slice_get, Option, Some, None, Result, Ok, Err, if◌then◌else◌}
 use Rattle.tab_label.specs.Sets.{set_of}
 use Rattle.tab_history.specs.declared.event.Act.TheVariants as act
-use Rattle.tab_parts.specs.Reading.{◌>>=◌, Reader, mapped, whole, u32_at, field_at, name_at, list_at, bounds_at, time_at, versions_at, constraints_at}
+use Rattle.tab_parts.specs.Reading.{◌>>=◌, Reader, mapped, whole, u32_at, i64_at, field_at, name_at, list_at, bounds_at, time_at, versions_at, constraints_at}
 use Rattle.tab_wire.specs.declared.opcode.Opcode.{Opcode}
-use Rattle.tab_wire.specs.declared.opcode.Opcode.TheVariants.{Hello, CreateTable, DropTable, CreateUser, DropUser, SetAuths, Grant, Revoke, SetConstraints, Write, Open, Next, Many, Close, Flush, Compact, AddSplit, Splits, Status, Rights}
+use Rattle.tab_wire.specs.declared.opcode.Opcode.TheVariants.{Hello, CreateTable, DropTable, CreateUser, DropUser, SetAuths, Grant, Revoke, SetConstraints, Write, Open, Next, Many, Close, Flush, Compact, AddSplit, Splits, Status, Rights, SetVersions, SetHorizon}
 use Rattle.tab_wire.specs.declared.request.Request.{Request}
 use Rattle.tab_wire.specs.declared.request.Request.TheVariants as asks
 use Rattle.tab_wire.specs.declared.reason.Reason.{Reason}
@@ -14,7 +14,7 @@ use Rattle.tab_wire.specs.FrameReading.{columns_at, permission_at, extent_at, mu
 -- ---- the first byte
 -- the opcodes from 1 on
 abbrev pub all_opcodes : List Opcode
-all_opcodes = Hello ∷ CreateTable ∷ DropTable ∷ CreateUser ∷ DropUser ∷ SetAuths ∷ Grant ∷ Revoke ∷ SetConstraints ∷ Write ∷ Open ∷ Next ∷ Many ∷ Close ∷ Flush ∷ Compact ∷ AddSplit ∷ Splits ∷ Status ∷ Rights ∷ []
+all_opcodes = Hello ∷ CreateTable ∷ DropTable ∷ CreateUser ∷ DropUser ∷ SetAuths ∷ Grant ∷ Revoke ∷ SetConstraints ∷ Write ∷ Open ∷ Next ∷ Many ∷ Close ∷ Flush ∷ Compact ∷ AddSplit ∷ Splits ∷ Status ∷ Rights ∷ SetVersions ∷ SetHorizon ∷ []
 
 abbrev pub opcode_of : ℕ → Option Opcode
 opcode_of zero = None
@@ -97,6 +97,18 @@ add_split_at bytes = do
   row ← field_at table.1
   Some (asks.Act (act.AddSplit table.0 row.0), row.1)
 
+unfoldable pub set_versions_at : Reader Request
+set_versions_at bytes = do
+  table ← name_at bytes
+  versions ← versions_at table.1
+  Some (asks.Act (act.SetVersions table.0 versions.0), versions.1)
+
+unfoldable pub set_horizon_at : Reader Request
+set_horizon_at bytes = do
+  table ← name_at bytes
+  horizon ← i64_at table.1
+  Some (asks.Act (act.SetHorizon table.0 horizon.0), horizon.1)
+
 -- the fields of an opcode
 abbrev pub fields_at : Opcode → Reader Request
 fields_at Hello bytes = named_at (λ user. asks.Hello user) bytes
@@ -119,6 +131,8 @@ fields_at AddSplit bytes = add_split_at bytes
 fields_at Splits bytes = named_at (λ table. asks.Act (act.Splits table)) bytes
 fields_at Status bytes = named_at (λ table. asks.Act (act.Status table)) bytes
 fields_at Rights bytes = named_at (λ table. asks.Act (act.Rights table)) bytes
+fields_at SetVersions bytes = set_versions_at bytes
+fields_at SetHorizon bytes = set_horizon_at bytes
 
 -- what all bytes of a frame ask, in their form
 unfoldable pub request_in : List ℕ → Option Request

@@ -58,13 +58,15 @@ abbrev pub scan_bytes : Scan → List ℕ
 scan_bytes scan = field scan.table ++ (bounds_bytes scan.bounds ++ (counted column_bytes scan.columns ++ list scan.authorizations))
 
 -- ---- requests
--- A split by size, a compaction in three parts, a save and a load are asked of a script alone: no frame asks them.
+-- No frame asks for a split by size, a compaction in three parts, a save, a load or a rotation.
 abbrev pub act_bytes : Act → List ℕ
 act_bytes (act.Open scan) = 11 ∷ scan_bytes scan
 act_bytes (act.Write table mutation) = 10 ∷ (field table ++ mutation_bytes mutation)
 act_bytes (act.CreateTable table time versions) = 2 ∷ (field table ++ time_byte time ∷ u32 versions)
 act_bytes (act.DropTable table) = 3 ∷ field table
 act_bytes (act.SetConstraints table constraints) = 9 ∷ (field table ++ constraint_bits constraints ∷ [])
+act_bytes (act.SetVersions table versions) = 21 ∷ (field table ++ u32 versions)
+act_bytes (act.SetHorizon table horizon) = 22 ∷ (field table ++ i64 horizon)
 act_bytes (act.CreateUser user) = 4 ∷ field user
 act_bytes (act.DropUser user) = 5 ∷ field user
 act_bytes (act.SetAuths user auths) = 6 ∷ (field user ++ list auths)
@@ -75,12 +77,8 @@ act_bytes (act.Status table) = 19 ∷ field table
 act_bytes (act.Flush table) = 15 ∷ field table
 act_bytes (act.Compact table extent) = 16 ∷ (field table ++ extent_byte extent ∷ [])
 act_bytes (act.AddSplit table row) = 17 ∷ (field table ++ field row)
-act_bytes (act.SplitBySize table row limit) = []
 act_bytes (act.Splits table) = 18 ∷ field table
-act_bytes act.Save = []
-act_bytes act.Load = []
-act_bytes (act.Begin table row kind) = []
-act_bytes (act.Install table given) = []
+act_bytes act = []
 
 abbrev pub request_bytes : Request → List ℕ
 request_bytes (asks.Hello user) = 1 ∷ field user

@@ -1,5 +1,6 @@
 -- What holds of reading what frames of replies tell.
-use Rattle.std.specs.Prelude.{ℕ, ◌≡◌, ◌<◌, ◌^◌, ◌↔◌, List, [], ◌∷◌, length, Some}
+use Rattle.std.specs.Prelude.{ℕ, ◌≡◌, ◌<◌, ◌^◌, ◌↔◌, List, [], ◌∷◌, length, Some, FitsSigned}
+use Rattle.std.specs.Int.{w64}
 use Rattle.tab_key.specs.Names.{IsName}
 use Rattle.tab_rules.specs.declared.violation.Violation.{Violation}
 use Rattle.tab_policy.specs.declared.permission.Permission.{Permission}
@@ -31,20 +32,16 @@ IsTold (refusal.BadAuthorizations term) = length term < 2 ^ 32
 IsTold (refusal.MalformedVisibility update offset) = (update < 2 ^ 32) × (offset < 2 ^ 32)
 IsTold (refusal.ConstraintViolation violations) = (length violations < 2 ^ 32) × ArePlacesTold violations
 IsTold (refusal.TimestampNotAllowed update) = update < 2 ^ 32
-IsTold refusal.EmptyMutation = Unit {0}
-IsTold (refusal.TooLarge part) = Unit {0}
 IsTold (refusal.TableExists table) = IsName table
 IsTold (refusal.UserExists user) = IsName user
 IsTold (refusal.NoUser user) = IsName user
-IsTold refusal.BadRange = Unit {0}
 IsTold (refusal.Stale count) = count < 2 ^ 64
 IsTold (refusal.NoSession slot) = slot < 2 ^ 32
 IsTold (refusal.NoJob slot) = ⊥
-IsTold refusal.NoMemory = Unit {0}
-IsTold refusal.RootFixed = Unit {0}
-IsTold refusal.GrantInvalid = Unit {0}
-IsTold (refusal.BadSplit fault) = Unit {0}
+IsTold (refusal.VersionsRaised present) = present < 2 ^ 32
+IsTold (refusal.HorizonLowered present) = FitsSigned w64 present
 IsTold (refusal.BelowHorizon update) = update < 2 ^ 32
+IsTold refusal = Unit {0}
 
 -- ---- The law: a refusal is read of the frame that is written of it, and of no other one; and so is why a frame asked nothing.
 pub record RefusalsAreTold : Type 0 where

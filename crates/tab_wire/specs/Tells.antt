@@ -73,8 +73,13 @@ malformed_at bytes = do
   offset ← u32_at update.1
   Some (refusal.MalformedVisibility update.0 offset.0, offset.1)
 
-abbrev pub below_by : ℕ → Reader Refusal
-below_by flag = if flag == 1 then mapped (λ update. refusal.BelowHorizon update) u32_at else nothing_at
+-- what goes with a refusal by the horizon
+abbrev pub horizon_by : ℕ → Reader Refusal
+horizon_by flag =
+    if flag == 0 then mapped (λ present. refusal.HorizonLowered present) i64_at
+    else if flag == 1 then mapped (λ update. refusal.BelowHorizon update) u32_at
+    else if flag == 2 then given refusal.ServerTime
+    else nothing_at
 
 -- what goes with the number of a refusal
 abbrev pub refusal_by : ℕ → Reader Refusal
@@ -98,7 +103,8 @@ refusal_by n =
     else if n == 18 then given refusal.RootFixed
     else if n == 19 then given refusal.GrantInvalid
     else if n == 20 then mapped (λ fault. refusal.BadSplit fault) (picked split_fault_of u8_at)
-    else if n == 22 then tagged below_by
+    else if n == 21 then mapped (λ present. refusal.VersionsRaised present) u32_at
+    else if n == 22 then tagged horizon_by
     else nothing_at
 
 -- 16 is a frame that asked nothing, all else a refusal

@@ -43,13 +43,15 @@ impl Listed {
     }
 
     /// Goes on by the next frame. The answer, where that ends it.
-    pub fn add(&mut self, told: Told) -> Result<Option<Answer>, ReceiveFault> {
+    pub fn add(&mut self, told: Told) -> Result<Option<Answer>, ReceiveFault>
+        ensures { Says (comes (listed self.old) told) result (listed self.new) }
+    {
         match told {
             Told::Cell(record) => self.add_cell(record),
             Told::RangeEnd => self.end_range(),
             Told::Row(row) => self.add_row(row),
             Told::End => self.end(),
-            told if self.is_empty() => alone(told),
+            _ if self.is_empty() => alone(told),
             _ => Err(ReceiveFault::Bad),
         }
     }

@@ -22,6 +22,8 @@
 //! | 10 | a major compaction | table, 0 for some sorted tables, 1 for all |
 //! | 11 | split a tablet | table, row as a field |
 //! | 12, 13, 14 | tell the end rows, count what there is, tell one's own rights | table |
+//! | 15 | show fewer versions of a table's columns | table, four bytes of versions: 1 to 1,000 |
+//! | 16 | raise a table's horizon | table, eight bytes of a timestamp |
 //!
 //! An update is 0 for a delete or 1 for a put, a field each for family, qualifier and label, 0, or 1 and a timestamp of eight bytes, and for
 //! a put a field for its value. A column is a field, and 0, or 1 and a field for its qualifier.

@@ -2,7 +2,7 @@
 ghost use Rattle.std.specs.Prelude.{◌≡◌, slice_get};
 ghost use Rattle.tab_wire.specs.Requests.{opcode_of, is_in_turn};
 
-/// What a frame asks for, as its first byte says: 1 to 20, in this order.
+/// What a frame asks for, as its first byte says: 1 to 22, in this order.
 #[derive(Clone, Copy, Debug, PartialEq, Eq)]
 pub enum Opcode {
     /// 1: who asks.
@@ -45,6 +45,10 @@ pub enum Opcode {
     Status,
     /// 20: tell the caller's own rights.
     Rights,
+    /// 21: show fewer versions of a table's columns.
+    SetVersions,
+    /// 22: raise a table's horizon.
+    SetHorizon,
 }
 
 // The opcode at this place, counted from 0.
@@ -56,7 +60,7 @@ fn nth(opcodes: &[Opcode], place: u8) -> Option<Opcode>
 
 impl Opcode {
     /// All of them, from 1 on.
-    pub const ALL: [Opcode; 20] = [
+    pub const ALL: [Opcode; 22] = [
         Opcode::Hello,
         Opcode::CreateTable,
         Opcode::DropTable,
@@ -77,6 +81,8 @@ impl Opcode {
         Opcode::Splits,
         Opcode::Status,
         Opcode::Rights,
+        Opcode::SetVersions,
+        Opcode::SetHorizon,
     ];
 
     /// The opcode of this byte, if it is one.

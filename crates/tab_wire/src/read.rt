@@ -2,10 +2,10 @@
 ghost use Rattle.std.specs.Prelude.{Some};
 ghost use Rattle.tab_parts.specs.Reading.{whole};
 ghost use Rattle.tab_wire.specs.Gives.{Gives, Asks, bytes_left};
-ghost use Rattle.tab_wire.specs.Requests.{create_table_at, set_auths_at, grant_at, revoke_at, set_constraints_at, write_at, open_at, next_at, many_at, close_at, compact_at, add_split_at, fields_at, or_field, request_of};
+ghost use Rattle.tab_wire.specs.Requests.{create_table_at, set_auths_at, grant_at, revoke_at, set_constraints_at, write_at, open_at, next_at, many_at, close_at, compact_at, add_split_at, set_versions_at, set_horizon_at, fields_at, or_field, request_of};
 
 use crate::counted::{a_list, some_columns, some_ranges};
-use crate::fields::{Fields, a_byte_string, a_name, a_number};
+use crate::fields::{Fields, a_byte_string, a_name, a_number, a_signed_number};
 use crate::parts::{a_constraint_set, a_permission, a_range, a_time, a_version_count, an_extent};
 use crate::unread::Unread;
 use crate::updates::a_mutation;
@@ -140,6 +140,24 @@ fn add_split(alloc: Global, fields: &mut Fields) -> Result<Request, Unread>
     Ok(Request::Act(Act::AddSplit(table, row)))
 }
 
+#[tactic(auto, unfolding(crate::specs::Requests::set_versions_at))]
+fn set_versions(fields: &mut Fields) -> Result<Request, Unread>
+    ensures { Gives (λ x. (x, bytes_left fields.new)) result (set_versions_at (bytes_left fields.old)) }
+{
+    let table = a_name(fields)?;
+    let versions = a_version_count(fields)?;
+    Ok(Request::Act(Act::SetVersions(table, versions)))
+}
+
+#[tactic(auto, unfolding(crate::specs::Requests::set_horizon_at))]
+fn set_horizon(fields: &mut Fields) -> Result<Request, Unread>
+    ensures { Gives (λ x. (x, bytes_left fields.new)) result (set_horizon_at (bytes_left fields.old)) }
+{
+    let table = a_name(fields)?;
+    let horizon = a_signed_number(fields)?;
+    Ok(Request::Act(Act::SetHorizon(table, horizon)))
+}
+
 // Takes the fields of the opcode.
 fn request(alloc: Global, opcode: Opcode, fields: &mut Fields) -> Result<Request, Unread>
     ensures { Gives (λ x. (x, bytes_left fields.new)) result (fields_at opcode (bytes_left fields.old)) }
@@ -165,6 +183,8 @@ fn request(alloc: Global, opcode: Opcode, fields: &mut Fields) -> Result<Request
         Opcode::Splits => Ok(Request::Act(Act::Splits(a_name(fields)?))),
         Opcode::Status => Ok(Request::Act(Act::Status(a_name(fields)?))),
         Opcode::Rights => Ok(Request::Act(Act::Rights(a_name(fields)?))),
+        Opcode::SetVersions => set_versions(fields),
+        Opcode::SetHorizon => set_horizon(fields),
     }
 }
 

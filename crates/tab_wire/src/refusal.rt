@@ -6,7 +6,7 @@ ghost use Rattle.std.specs.List.{flat_map};
 ghost use Rattle.tab_io.specs.Writing.{Puts};
 ghost use Rattle.tab_policy.specs.Permissions.{system_place, table_place};
 ghost use Rattle.tab_wire.specs.Replies as sent;
-ghost use Rattle.tab_wire.specs.Replies.{u32, u64, field, frame, part_number, reason_number, split_number, permission_bytes, violation_bytes, refusal_bytes, sent_bytes};
+ghost use Rattle.tab_wire.specs.Replies.{u32, u64, i64, field, frame, part_number, reason_number, split_number, permission_bytes, violation_bytes, refusal_bytes, sent_bytes};
 
 use crate::Reason;
 use crate::numbers::low;
@@ -45,7 +45,10 @@ pub fn put_refusal<W: Output>(output: &mut W, refusal: &Refusal) -> Result<(), W
         Refusal::RootFixed => put_bare(output, 18),
         Refusal::GrantInvalid => put_bare(output, 19),
         Refusal::BadSplit(fault) => put_code(output, 20, split_number(*fault)),
+        Refusal::VersionsRaised(present) => put_told(output, 21, *present),
+        Refusal::HorizonLowered(present) => put_lowered(output, *present),
         Refusal::BelowHorizon(update) => put_below(output, *update),
+        Refusal::ServerTime => put_code(output, 22, 2),
     }
 }
 
@@ -141,6 +144,20 @@ fn put_violated<W: Output>(output: &mut W, violations: &[Violation]) -> Result<(
             Value::Byte(REFUSED),
             Value::Byte(6),
             Value::Violations(violations),
+        ],
+    )
+}
+
+fn put_lowered<W: Output>(output: &mut W, present: i64) -> Result<(), WriteFault>
+    ensures { Puts W.Output output.old output.new (frame (129 ∷ 22 ∷ 0 ∷ i64 present)) result }
+{
+    put_frame(
+        output,
+        &[
+            Value::Byte(REFUSED),
+            Value::Byte(22),
+            Value::Byte(0),
+            Value::Signed(present),
         ],
     )
 }

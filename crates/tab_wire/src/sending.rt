@@ -7,7 +7,7 @@ ghost use Rattle.tab_io.specs.Writing.{Puts};
 ghost use Rattle.tab_parts.specs.Parts.{constraint_bits, time_byte};
 ghost use Rattle.tab_policy.specs.Permissions.{system_place, table_place};
 ghost use Rattle.tab_wire.specs.FrameParts.{extent_byte};
-ghost use Rattle.tab_wire.specs.Replies.{u32, field, list, permission_bytes};
+ghost use Rattle.tab_wire.specs.Replies.{u32, i64, field, list, permission_bytes};
 ghost use Rattle.tab_wire.specs.Sending.{act_bytes, request_bytes, scan_bytes, bounds_bytes, column_bytes, mutation_bytes, counted};
 
 use crate::Request;
@@ -25,7 +25,7 @@ use tab_policy::{Permission, SystemPermission, TablePermission};
 use tab_text::{PutItem, put_each};
 
 /// Puts the bytes of a request: its opcode and its fields, without the length of the frame. Nothing is put of a split by size, of a
-/// compaction in three parts, of a save or of a load, which no frame asks.
+/// compaction in three parts, of a save, of a load or of a rotation, which no frame asks.
 pub fn put_request<W: Output>(output: &mut W, request: &Request) -> Result<(), WriteFault>
     ensures { Puts W.Output output.old output.new (request_bytes request.now) result }
 {
@@ -51,6 +51,8 @@ fn put_act<W: Output>(output: &mut W, act: &Act) -> Result<(), WriteFault>
         Act::SetConstraints(table, constraints) => {
             put_marked(output, 0x09, table.as_bytes(), constraint_bits(constraints))
         }
+        Act::SetVersions(table, versions) => put_versions(output, table.as_bytes(), versions.get()),
+        Act::SetHorizon(table, horizon) => put_horizon(output, table.as_bytes(), *horizon),
         Act::CreateUser(user) => put_named(output, 0x04, user.as_bytes()),
         Act::DropUser(user) => put_named(output, 0x05, user.as_bytes()),
         Act::SetAuths(user, auths) => put_auths(output, user.as_bytes(), auths),
@@ -64,9 +66,12 @@ fn put_act<W: Output>(output: &mut W, act: &Act) -> Result<(), WriteFault>
         }
         Act::AddSplit(table, row) => put_row(output, table.as_bytes(), row.as_bytes()),
         Act::Splits(table) => put_named(output, 0x12, table.as_bytes()),
-        Act::SplitBySize(..) | Act::Save | Act::Load | Act::Begin(..) | Act::Install(..) => {
-            output.put(b"")
-        }
+        Act::SplitBySize(..)
+        | Act::Save
+        | Act::Load
+        | Act::Rotate
+        | Act::Begin(..)
+        | Act::Install(..) => output.put(b""),
     }
 }
 
@@ -139,6 +144,32 @@ fn put_create<W: Output>(
             Value::Field(table),
             Value::Byte(time_byte(time)),
             Value::Number(versions),
+        ],
+    )
+}
+
+fn put_versions<W: Output>(output: &mut W, table: &[u8], versions: u32) -> Result<(), WriteFault>
+    ensures { Puts W.Output output.old output.new (21 ∷ (field table.now ++ u32 versions)) result }
+{
+    put_values(
+        output,
+        &[
+            Value::Byte(0x15),
+            Value::Field(table),
+            Value::Number(versions),
+        ],
+    )
+}
+
+fn put_horizon<W: Output>(output: &mut W, table: &[u8], horizon: i64) -> Result<(), WriteFault>
+    ensures { Puts W.Output output.old output.new (22 ∷ (field table.now ++ i64 horizon)) result }
+{
+    put_values(
+        output,
+        &[
+            Value::Byte(0x16),
+            Value::Field(table),
+            Value::Signed(horizon),
         ],
     )
 }

@@ -1,7 +1,7 @@
 //! What the frames of replies tell, read.
 ghost use Rattle.tab_parts.specs.Reading.{u8_at, picked, tagged};
 ghost use Rattle.tab_wire.specs.Gives.{Gives, bytes_left};
-ghost use Rattle.tab_wire.specs.Tells.{part_of, reason_of, split_fault_of, constraint_of, end_of, table_of, violation_at, malformed_at, below_by, refusal_by, refused_at, cell_at, counts_at, rights_at, told_by, told_in};
+ghost use Rattle.tab_wire.specs.Tells.{part_of, reason_of, split_fault_of, constraint_of, end_of, table_of, violation_at, malformed_at, horizon_by, refusal_by, refused_at, cell_at, counts_at, rights_at, told_by, told_in};
 
 use crate::bits::{system_in, table_in};
 use crate::counted::{a_list, some_violations};
@@ -182,7 +182,8 @@ fn a_refusal(alloc: Global, number: u8, fields: &mut Fields) -> Result<Refusal, 
         18 => Ok(Refusal::RootFixed),
         19 => Ok(Refusal::GrantInvalid),
         20 => Ok(Refusal::BadSplit(a_split_fault(fields)?)),
-        22 => a_refusal_by_time(fields),
+        21 => Ok(Refusal::VersionsRaised(a_number(fields)?)),
+        22 => a_refusal_by_horizon(fields),
         _ => Err(Unread::Field),
     }
 }
@@ -196,11 +197,13 @@ fn a_malformed_visibility(fields: &mut Fields) -> Result<Refusal, Unread>
     Ok(Refusal::MalformedVisibility(update, offset))
 }
 
-fn a_refusal_by_time(fields: &mut Fields) -> Result<Refusal, Unread>
-    ensures { Gives (λ x. (x, bytes_left fields.new)) result (tagged below_by (bytes_left fields.old)) }
+fn a_refusal_by_horizon(fields: &mut Fields) -> Result<Refusal, Unread>
+    ensures { Gives (λ x. (x, bytes_left fields.new)) result (tagged horizon_by (bytes_left fields.old)) }
 {
     match a_byte(fields)? {
+        0 => Ok(Refusal::HorizonLowered(a_signed_number(fields)?)),
         1 => Ok(Refusal::BelowHorizon(a_number(fields)?)),
+        2 => Ok(Refusal::ServerTime),
         _ => Err(Unread::Field),
     }
 }
