@@ -16,6 +16,8 @@ pub const LINES: &str = "  as U
   revoke U TABLE_PERMISSION T
   rights T
   constraints T RULES
+  versions T N
+  horizon T TS
   insert T ROW FAM QUAL LABEL VALUE [TS]
   delete T ROW FAM QUAL LABEL [TS]
   mutate T ROW [UPDATE [; UPDATE]..]
@@ -48,6 +50,7 @@ pub const KINDS: &str = "  U                  a user's name: 1 to 128 of a-z A-Z
   STAMP              a timestamp, or - for none
   TIME               time=any or time=server
   VERSIONS           versions=N with N from 1 to 1000
+  N                  how many versions of a column are shown: a whole number from 1 to 1000
   AUTHS              byte words with commas between them, or \\0 for none
   RULES              keysize, alphanum, numeric, visibility: some with commas between them, or \\0 for none
   SYSTEM_PERMISSION  GRANT, CREATE_TABLE, DROP_TABLE, ALTER_TABLE, CREATE_USER, DROP_USER, ALTER_USER or SYSTEM

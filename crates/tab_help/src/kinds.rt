@@ -11,6 +11,7 @@ const PLACES: &str = "  U droptable _
   STAMP mutate t r del f q \\e _
   TIME createtable t _ versions=1
   VERSIONS createtable t time=any _
+  N versions t _
   AUTHS setauths u _
   RULES constraints t _
   SYSTEM_PERMISSION grant u _

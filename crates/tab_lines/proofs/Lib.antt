@@ -15,6 +15,7 @@ pub mod UpdateLaw
 pub mod PermissionLaw
 pub mod RangeLemmas
 pub mod SessionLaw
+pub mod SettingLaw
 pub mod SplitLaw
 pub mod JobLaw
 pub mod FileLemmas

@@ -37,7 +37,7 @@ use Rattle.tab_lines.specs.Forms.{IsNameWord, IsNumber, IsList, IsConstraint, Is
 use Rattle.tab_lines.specs.Forms.AreSettings.{neither as set_neither, time as set_time, versions as set_versions, both as set_both}
 use Rattle.tab_lines.specs.Forms.AreLimits.{all as limit_all, rows as limit_rows, columns as limit_columns}
 use Rattle.tab_lines.specs.Forms.IsScan.{asks as scan_asks}
-use Rattle.tab_lines.specs.Forms.Form.{blank as form_blank, asker as form_asker, at as form_at, createtable as form_createtable, droptable as form_droptable, createuser as form_createuser, dropuser as form_dropuser, setauths as form_setauths, grant as form_grant, revoke as form_revoke, rights as form_rights, constraints as form_constraints, insert as form_insert, delete as form_delete, mutate as form_mutate, scan as form_scan, opened as form_opened, next as form_next, many as form_many, close as form_close, flush as form_flush, compact as form_compact, begin as form_begin, merge as form_merge, install as form_install, status as form_status, addsplit as form_addsplit, splitsize as form_splitsize, splits as form_splits, save as form_save, load as form_load}
+use Rattle.tab_lines.specs.Forms.Form.{blank as form_blank, asker as form_asker, at as form_at, createtable as form_createtable, droptable as form_droptable, createuser as form_createuser, dropuser as form_dropuser, setauths as form_setauths, grant as form_grant, revoke as form_revoke, rights as form_rights, constraints as form_constraints, versions as form_versions, horizon as form_horizon, insert as form_insert, delete as form_delete, mutate as form_mutate, scan as form_scan, opened as form_opened, next as form_next, many as form_many, close as form_close, flush as form_flush, compact as form_compact, begin as form_begin, merge as form_merge, install as form_install, status as form_status, addsplit as form_addsplit, splitsize as form_splitsize, splits as form_splits, save as form_save, load as form_load}
 use Rattle.tab_lines.specs.Forms.IsLine.{comment as line_comment, words as line_words}
 use Rattle.tab_lines.proofs.WordLaw.{words_read}
 use Rattle.tab_lines.proofs.WordsLaw.{words_sound, words_complete}
@@ -47,6 +47,7 @@ use Rattle.tab_lines.proofs.ColumnLaw.{columns_read}
 use Rattle.tab_lines.proofs.PermissionLaw.{on_name_alone, name_alone_complete, on_grant, grant_complete}
 use Rattle.tab_lines.proofs.SessionLaw.{next_sound, next_complete, many_sound, many_complete, close_sound, close_complete}
 use Rattle.tab_lines.proofs.JobLaw.{begin_sound, begin_complete, merge_sound, merge_complete, install_sound, install_complete}
+use Rattle.tab_lines.proofs.SettingLaw.{versions_line_sound, versions_line_complete, horizon_sound, horizon_complete}
 use Rattle.tab_lines.proofs.SplitLaw.{addsplit_sound, addsplit_complete, splitsize_sound, splitsize_complete}
 use Rattle.tab_lines.proofs.FileLaw.{file_sound, file_complete}
 use Rattle.tab_lines.proofs.UpdateLaw.{put_with, delete_with, on_put, put_complete, on_delete, delete_complete, last_timestamp, last_complete, updates_sound, updates_complete}
@@ -83,7 +84,7 @@ time_sound word mode is =
 
 -- a word for the versions is none for the timestamps
 versions_no_time : (word : List ℕ) (n : ℕ) → IsVersions word n → time_word word ≡ None
-versions_no_time word n (digits, e, are, low, high) = ap (λ (w : List ℕ). time_word w) e
+versions_no_time word n (digits, e, count) = ap (λ (w : List ℕ). time_word w) e
 
 settings_sound : (words : Words) (mode : TimeMode) (n : ℕ) → settings words ≡ Some (mode, n) → AreSettings words mode n
 settings_sound [] mode n is =
@@ -356,6 +357,8 @@ command_name command.Grant = codes "grant"
 command_name command.Revoke = codes "revoke"
 command_name command.Rights = codes "rights"
 command_name command.Constraints = codes "constraints"
+command_name command.Versions = codes "versions"
+command_name command.Horizon = codes "horizon"
 command_name command.Insert = codes "insert"
 command_name command.Delete = codes "delete"
 command_name command.Mutate = codes "mutate"
@@ -389,25 +392,27 @@ command_sound word c is =
     on_cond (bytes_eq word (codes "revoke")) (Some command.Revoke) _ c (word ≡ command_name c) e8 (λ yes e. named (codes "revoke") command.Revoke yes refl e) (λ no9 e9.
     on_cond (bytes_eq word (codes "rights")) (Some command.Rights) _ c (word ≡ command_name c) e9 (λ yes e. named (codes "rights") command.Rights yes refl e) (λ no10 e10.
     on_cond (bytes_eq word (codes "constraints")) (Some command.Constraints) _ c (word ≡ command_name c) e10 (λ yes e. named (codes "constraints") command.Constraints yes refl e) (λ no11 e11.
-    on_cond (bytes_eq word (codes "insert")) (Some command.Insert) _ c (word ≡ command_name c) e11 (λ yes e. named (codes "insert") command.Insert yes refl e) (λ no12 e12.
-    on_cond (bytes_eq word (codes "delete")) (Some command.Delete) _ c (word ≡ command_name c) e12 (λ yes e. named (codes "delete") command.Delete yes refl e) (λ no13 e13.
-    on_cond (bytes_eq word (codes "mutate")) (Some command.Mutate) _ c (word ≡ command_name c) e13 (λ yes e. named (codes "mutate") command.Mutate yes refl e) (λ no14 e14.
-    on_cond (bytes_eq word (codes "scan")) (Some command.Scan) _ c (word ≡ command_name c) e14 (λ yes e. named (codes "scan") command.Scan yes refl e) (λ no15 e15.
-    on_cond (bytes_eq word (codes "open")) (Some command.Open) _ c (word ≡ command_name c) e15 (λ yes e. named (codes "open") command.Open yes refl e) (λ no16 e16.
-    on_cond (bytes_eq word (codes "next")) (Some command.Next) _ c (word ≡ command_name c) e16 (λ yes e. named (codes "next") command.Next yes refl e) (λ no17 e17.
-    on_cond (bytes_eq word (codes "many")) (Some command.Many) _ c (word ≡ command_name c) e17 (λ yes e. named (codes "many") command.Many yes refl e) (λ no18 e18.
-    on_cond (bytes_eq word (codes "close")) (Some command.Close) _ c (word ≡ command_name c) e18 (λ yes e. named (codes "close") command.Close yes refl e) (λ no19 e19.
-    on_cond (bytes_eq word (codes "flush")) (Some command.Flush) _ c (word ≡ command_name c) e19 (λ yes e. named (codes "flush") command.Flush yes refl e) (λ no20 e20.
-    on_cond (bytes_eq word (codes "compact")) (Some command.Compact) _ c (word ≡ command_name c) e20 (λ yes e. named (codes "compact") command.Compact yes refl e) (λ no21 e21.
-    on_cond (bytes_eq word (codes "begin")) (Some command.Begin) _ c (word ≡ command_name c) e21 (λ yes e. named (codes "begin") command.Begin yes refl e) (λ no22 e22.
-    on_cond (bytes_eq word (codes "merge")) (Some command.Merge) _ c (word ≡ command_name c) e22 (λ yes e. named (codes "merge") command.Merge yes refl e) (λ no23 e23.
-    on_cond (bytes_eq word (codes "install")) (Some command.Install) _ c (word ≡ command_name c) e23 (λ yes e. named (codes "install") command.Install yes refl e) (λ no24 e24.
-    on_cond (bytes_eq word (codes "status")) (Some command.Status) _ c (word ≡ command_name c) e24 (λ yes e. named (codes "status") command.Status yes refl e) (λ no25 e25.
-    on_cond (bytes_eq word (codes "addsplit")) (Some command.AddSplit) _ c (word ≡ command_name c) e25 (λ yes e. named (codes "addsplit") command.AddSplit yes refl e) (λ no26 e26.
-    on_cond (bytes_eq word (codes "splitsize")) (Some command.SplitSize) _ c (word ≡ command_name c) e26 (λ yes e. named (codes "splitsize") command.SplitSize yes refl e) (λ no27 e27.
-    on_cond (bytes_eq word (codes "splits")) (Some command.Splits) _ c (word ≡ command_name c) e27 (λ yes e. named (codes "splits") command.Splits yes refl e) (λ no28 e28.
-    on_cond (bytes_eq word (codes "save")) (Some command.Save) _ c (word ≡ command_name c) e28 (λ yes e. named (codes "save") command.Save yes refl e) (λ no29 e29.
-    on_cond (bytes_eq word (codes "load")) (Some command.Load) _ c (word ≡ command_name c) e29 (λ yes e. named (codes "load") command.Load yes refl e) (λ no30 e30. absurd cc))))))))))))))))))))))))))))))
+    on_cond (bytes_eq word (codes "versions")) (Some command.Versions) _ c (word ≡ command_name c) e11 (λ yes e. named (codes "versions") command.Versions yes refl e) (λ no12 e12.
+    on_cond (bytes_eq word (codes "horizon")) (Some command.Horizon) _ c (word ≡ command_name c) e12 (λ yes e. named (codes "horizon") command.Horizon yes refl e) (λ no13 e13.
+    on_cond (bytes_eq word (codes "insert")) (Some command.Insert) _ c (word ≡ command_name c) e13 (λ yes e. named (codes "insert") command.Insert yes refl e) (λ no14 e14.
+    on_cond (bytes_eq word (codes "delete")) (Some command.Delete) _ c (word ≡ command_name c) e14 (λ yes e. named (codes "delete") command.Delete yes refl e) (λ no15 e15.
+    on_cond (bytes_eq word (codes "mutate")) (Some command.Mutate) _ c (word ≡ command_name c) e15 (λ yes e. named (codes "mutate") command.Mutate yes refl e) (λ no16 e16.
+    on_cond (bytes_eq word (codes "scan")) (Some command.Scan) _ c (word ≡ command_name c) e16 (λ yes e. named (codes "scan") command.Scan yes refl e) (λ no17 e17.
+    on_cond (bytes_eq word (codes "open")) (Some command.Open) _ c (word ≡ command_name c) e17 (λ yes e. named (codes "open") command.Open yes refl e) (λ no18 e18.
+    on_cond (bytes_eq word (codes "next")) (Some command.Next) _ c (word ≡ command_name c) e18 (λ yes e. named (codes "next") command.Next yes refl e) (λ no19 e19.
+    on_cond (bytes_eq word (codes "many")) (Some command.Many) _ c (word ≡ command_name c) e19 (λ yes e. named (codes "many") command.Many yes refl e) (λ no20 e20.
+    on_cond (bytes_eq word (codes "close")) (Some command.Close) _ c (word ≡ command_name c) e20 (λ yes e. named (codes "close") command.Close yes refl e) (λ no21 e21.
+    on_cond (bytes_eq word (codes "flush")) (Some command.Flush) _ c (word ≡ command_name c) e21 (λ yes e. named (codes "flush") command.Flush yes refl e) (λ no22 e22.
+    on_cond (bytes_eq word (codes "compact")) (Some command.Compact) _ c (word ≡ command_name c) e22 (λ yes e. named (codes "compact") command.Compact yes refl e) (λ no23 e23.
+    on_cond (bytes_eq word (codes "begin")) (Some command.Begin) _ c (word ≡ command_name c) e23 (λ yes e. named (codes "begin") command.Begin yes refl e) (λ no24 e24.
+    on_cond (bytes_eq word (codes "merge")) (Some command.Merge) _ c (word ≡ command_name c) e24 (λ yes e. named (codes "merge") command.Merge yes refl e) (λ no25 e25.
+    on_cond (bytes_eq word (codes "install")) (Some command.Install) _ c (word ≡ command_name c) e25 (λ yes e. named (codes "install") command.Install yes refl e) (λ no26 e26.
+    on_cond (bytes_eq word (codes "status")) (Some command.Status) _ c (word ≡ command_name c) e26 (λ yes e. named (codes "status") command.Status yes refl e) (λ no27 e27.
+    on_cond (bytes_eq word (codes "addsplit")) (Some command.AddSplit) _ c (word ≡ command_name c) e27 (λ yes e. named (codes "addsplit") command.AddSplit yes refl e) (λ no28 e28.
+    on_cond (bytes_eq word (codes "splitsize")) (Some command.SplitSize) _ c (word ≡ command_name c) e28 (λ yes e. named (codes "splitsize") command.SplitSize yes refl e) (λ no29 e29.
+    on_cond (bytes_eq word (codes "splits")) (Some command.Splits) _ c (word ≡ command_name c) e29 (λ yes e. named (codes "splits") command.Splits yes refl e) (λ no30 e30.
+    on_cond (bytes_eq word (codes "save")) (Some command.Save) _ c (word ≡ command_name c) e30 (λ yes e. named (codes "save") command.Save yes refl e) (λ no31 e31.
+    on_cond (bytes_eq word (codes "load")) (Some command.Load) _ c (word ≡ command_name c) e31 (λ yes e. named (codes "load") command.Load yes refl e) (λ no32 e32. absurd cc))))))))))))))))))))))))))))))))
   where
     named : (text : List ℕ) (d : Command) → bytes_eq word text ≡ true → text ≡ command_name d → Some d ≡ Some c → word ≡ command_name c
     named text d same name e = (bytes_eq-Decides word text).0 same ∙ name ∙ ap command_name (some_inj d c e)
@@ -448,6 +453,8 @@ commanded_sound command.Grant words line is = grant_sound (codes "grant") (λ gr
 commanded_sound command.Revoke words line is = grant_sound (codes "revoke") (λ grant. says.Act (Revoke grant.0 grant.1)) words line form_revoke is
 commanded_sound command.Rights words line is = named_sound (codes "rights") (λ name. says.Act (Rights name)) words line form_rights is
 commanded_sound command.Constraints words line is = constraints_sound words line is
+commanded_sound command.Versions words line is = versions_line_sound words line is
+commanded_sound command.Horizon words line is = horizon_sound words line is
 commanded_sound command.Insert words line is = insert_sound words line is
 commanded_sound command.Delete words line is = delete_sound words line is
 commanded_sound command.Mutate words line is = mutate_sound words line is
@@ -486,6 +493,8 @@ said_complete words line (form_grant u user ws p name is) = ap (λ (o : Option (
 said_complete words line (form_revoke u user ws p name is) = ap (λ (o : Option (List ℕ × Permission)). option_map (λ g. says.Act (Revoke g.0 g.1)) o) (grant_complete u user ws p name is)
 said_complete words line (form_rights t table name) = ap (λ (o : Option (List ℕ)). option_map (λ n. says.Act (Rights n)) o) (name_alone_complete t table name)
 said_complete words line (form_constraints t l table members name list) = constraints_complete t l table members name list
+said_complete words line (form_versions t n table many name count) = versions_line_complete t n table many name count
+said_complete words line (form_horizon t s table timestamp name number) = horizon_complete t s table timestamp name number
 said_complete words line (form_insert t r f q l v table row family qualifier label value ws timestamp name w0 w1 w2 w3 w4 time) =
     insert_complete t r f q l v table row family qualifier label value ws timestamp name w0 w1 w2 w3 w4 time
 said_complete words line (form_delete t r f q l table row family qualifier label ws timestamp name w0 w1 w2 w3 time) =

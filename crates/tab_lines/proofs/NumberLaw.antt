@@ -12,8 +12,8 @@ use Rattle.std.proofs.lemmas.Slice.Eq.{bytes_eq-Decides}
 use Rattle.std.specs.Char.{is_ascii_digit}
 use Rattle.tab_history.specs.Settings.{is_version_count}
 use Rattle.tab_key.specs.declared.part.TheConstants.{MAX_VERSIONS}
-use Rattle.tab_lines.specs.Fields.{digits_on, magnitude_of, unsigned_of, small_of, positive, negative, signed_of, given_timestamp, timestamp_or_dash, only_if, versions_word}
-use Rattle.tab_lines.specs.Forms.{AreDigits, IsNumber, IsUnsigned, IsSmall, IsTimestamp, IsVersions}
+use Rattle.tab_lines.specs.Fields.{digits_on, magnitude_of, unsigned_of, small_of, positive, negative, signed_of, given_timestamp, timestamp_or_dash, only_if, version_count, versions_word}
+use Rattle.tab_lines.specs.Forms.{AreDigits, IsNumber, IsUnsigned, IsSmall, IsTimestamp, IsVersionCount, IsVersions}
 use Rattle.tab_lines.proofs.Inverting.{ReadsExactly, some_inj, on_map, on_then}
 
 -- one more digit behind others
@@ -234,30 +234,38 @@ timestamps_read = record { sound = timestamp_sound; complete = timestamp_complet
 
 -- ---- versions
 
+count_sound : (word : List ℕ) (n : ℕ) → version_count word ≡ Some n → IsVersionCount word n
+count_sound word n is = on_then (only_if is_version_count) (magnitude_of word) n (IsVersionCount word n) is (λ m read one.
+    elim (is_version_count m) as (λ b. is_version_count m ≡ b → cond b (Some m) None ≡ Some n → IsVersionCount word n) [
+      | true ↦ λ fits e.
+          let low : 1 ≤ m = grind (arith, nat_tests) in
+          let high : m ≤ MAX_VERSIONS = grind (arith, nat_tests) in
+          subst (λ (k : ℕ). IsVersionCount word k) (some_inj m n e) (magnitude_sound word m (omega arith) read, low, high)
+      | false ↦ λ fits e. absurd cc
+    ] refl one)
+
+count_complete : (word : List ℕ) (n : ℕ) → IsVersionCount word n → version_count word ≡ Some n
+count_complete word n (are, low, high) =
+    let fits : is_version_count n ≡ true = grind (arith, nat_tests) in
+    ap (λ (o : Option ℕ). option_and_then (only_if is_version_count) o) (magnitude_complete word n (omega arith) are)
+    ∙ ap (λ b. cond b (Some n) None) fits
+
+-- a number of versions is exactly what is read of its word
+pub counts_read : ReadsExactly version_count IsVersionCount
+counts_read = record { sound = count_sound; complete = count_complete }
+
 versions_sound : (word : List ℕ) (n : ℕ) → versions_word word ≡ Some n → IsVersions word n
 versions_sound word n is =
-    elim (bytes_eq (take 9 word) (codes "versions=")) as (λ b. bytes_eq (take 9 word) (codes "versions=") ≡ b → cond b (option_and_then (only_if is_version_count) (magnitude_of (drop 9 word))) None ≡ Some n → IsVersions word n) [
-      | true ↦ λ yes e. on_then (only_if is_version_count) (magnitude_of (drop 9 word)) n (IsVersions word n) e (λ m read one.
-          elim (is_version_count m) as (λ b. is_version_count m ≡ b → cond b (Some m) None ≡ Some n → IsVersions word n) [
-            | true ↦ λ fits e2.
-                let same : m ≡ n = some_inj m n e2 in
-                let low : 1 ≤ m = grind (arith, nat_tests) in
-                let high : m ≤ MAX_VERSIONS = grind (arith, nat_tests) in
-                let whole : word ≡ codes "versions=" ++ drop 9 word = sym (take-append-drop 9 word) ∙ ap (λ (t : List ℕ). t ++ drop 9 word) ((bytes_eq-Decides (take 9 word) (codes "versions=")).0 yes) in
-                subst (λ (k : ℕ). IsVersions word k) same (drop 9 word, whole, magnitude_sound (drop 9 word) m (omega arith) read, low, high)
-            | false ↦ λ fits e2. absurd cc
-          ] refl one)
+    elim (bytes_eq (take 9 word) (codes "versions=")) as (λ b. bytes_eq (take 9 word) (codes "versions=") ≡ b → cond b (version_count (drop 9 word)) None ≡ Some n → IsVersions word n) [
+      | true ↦ λ yes e.
+          let whole : word ≡ codes "versions=" ++ drop 9 word = sym (take-append-drop 9 word) ∙ ap (λ (t : List ℕ). t ++ drop 9 word) ((bytes_eq-Decides (take 9 word) (codes "versions=")).0 yes) in
+          (drop 9 word, whole, count_sound (drop 9 word) n e)
       | false ↦ λ no e. absurd cc
     ] refl is
 
 versions_complete : (word : List ℕ) (n : ℕ) → IsVersions word n → versions_word word ≡ Some n
-versions_complete word n (digits, e, are, low, high) =
-    let read : magnitude_of digits ≡ Some n = magnitude_complete digits n (omega arith) are in
-    let fits : is_version_count n ≡ true = grind (arith, nat_tests) in
-    ap (λ (w : List ℕ). versions_word w) e
-    ∙ ap (λ (o : Option ℕ). option_and_then (only_if is_version_count) o) read
-    ∙ ap (λ b. cond b (Some n) None) fits
+versions_complete word n (digits, e, count) = ap (λ (w : List ℕ). versions_word w) e ∙ count_complete digits n count
 
--- a number of versions is exactly what is read of its word
+-- what versions= and a number say is exactly what is read of the word
 pub versions_read : ReadsExactly versions_word IsVersions
 versions_read = record { sound = versions_sound; complete = versions_complete }

@@ -83,6 +83,10 @@ given_timestamp word = option_map (λ t. Some t) (signed_of word)
 abbrev pub timestamp_or_dash : List ℕ → Option (Option ℤ)
 timestamp_or_dash word = if bytes_eq word (codes "-") then Some None else given_timestamp word
 
+-- a number of versions
+abbrev pub version_count : List ℕ → Option ℕ
+version_count word = option_and_then (only_if is_version_count) (magnitude_of word)
+
 -- ---- words of a new table
 
 -- who gives the timestamps
@@ -91,7 +95,7 @@ time_word word = if bytes_eq word (codes "time=any") then Some Any else if bytes
 
 -- how many versions, behind the nine bytes versions=
 abbrev pub versions_word : List ℕ → Option ℕ
-versions_word word = if bytes_eq (take 9 word) (codes "versions=") then option_and_then (only_if is_version_count) (magnitude_of (drop 9 word)) else None
+versions_word word = if bytes_eq (take 9 word) (codes "versions=") then version_count (drop 9 word) else None
 
 -- ---- a word of a compaction
 

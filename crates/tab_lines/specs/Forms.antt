@@ -23,7 +23,7 @@ use Rattle.tab_history.specs.declared.event.Extent.{Extent}
 use Rattle.tab_history.specs.declared.event.Extent.TheVariants.{Partial, Full}
 use Rattle.tab_history.specs.declared.event.TimeMode.{TimeMode}
 use Rattle.tab_history.specs.declared.event.TimeMode.TheVariants.{Any, Server}
-use Rattle.tab_history.specs.declared.event.Act.TheVariants.{CreateTable, DropTable, CreateUser, DropUser, SetAuths, Grant, Revoke, SetConstraints, Write, Rights, Status, Flush, Compact, AddSplit, SplitBySize, Splits, Begin, Install}
+use Rattle.tab_history.specs.declared.event.Act.TheVariants.{CreateTable, DropTable, CreateUser, DropUser, SetAuths, Grant, Revoke, SetConstraints, SetVersions, SetHorizon, Write, Rights, Status, Flush, Compact, AddSplit, SplitBySize, Splits, Begin, Install}
 use Rattle.tab_history.specs.declared.event.Given.TheVariants.{InSlot}
 use Rattle.tab_history.specs.declared.event.Scan.{Scan}
 use Rattle.tab_lines.specs.declared.line.Line.{Line}
@@ -105,9 +105,13 @@ compaction_name merges.Minor = codes "minor"
 compaction_name merges.Partial = codes "partial"
 compaction_name merges.Full = codes "full"
 
+-- the word is a number from 1 to 1,000
+abbrev pub IsVersionCount : List ℕ → ℕ → Type 0
+IsVersionCount word n = AreDigits word n × (1 ≤ n) × (n ≤ MAX_VERSIONS)
+
 -- the word is versions= and a number from 1 to 1,000
 abbrev pub IsVersions : List ℕ → ℕ → Type 0
-IsVersions word n = (digits : List ℕ) × (word ≡ codes "versions=" ++ digits) × AreDigits digits n × (1 ≤ n) × (n ≤ MAX_VERSIONS)
+IsVersions word n = (digits : List ℕ) × (word ≡ codes "versions=" ++ digits) × IsVersionCount digits n
 
 -- ---- several words
 
@@ -184,6 +188,10 @@ pub data Form : List (List ℕ) → Line → Type 0 where
   rights : (t table : List ℕ) → IsNameWord t table → Form (codes "rights" ∷ t ∷ []) (line.Act (Rights table))
   constraints : (t l table : List ℕ) (members : List Constraint) → IsNameWord t table → IsList IsConstraint l members
       → Form (codes "constraints" ∷ t ∷ l ∷ []) (line.Act (SetConstraints table (constraint_set_of members)))
+  versions : (t n table : List ℕ) (many : ℕ) → IsNameWord t table → IsVersionCount n many
+      → Form (codes "versions" ∷ t ∷ n ∷ []) (line.Act (SetVersions table many))
+  horizon : (t s table : List ℕ) (timestamp : ℤ) → IsNameWord t table → IsNumber s timestamp
+      → Form (codes "horizon" ∷ t ∷ s ∷ []) (line.Act (SetHorizon table timestamp))
   insert : (t r f q l v table row family qualifier label value : List ℕ) (words : List (List ℕ)) (timestamp : Option ℤ)
       → IsNameWord t table → IsWord r row → IsWord f family → IsWord q qualifier → IsWord l label → IsWord v value → IsLastTimestamp words timestamp
       → Form (codes "insert" ∷ t ∷ r ∷ f ∷ q ∷ l ∷ v ∷ words)

@@ -9,7 +9,7 @@ use Rattle.tab_policy.specs.declared.permission.Permission.{Permission}
 use Rattle.tab_history.specs.declared.event.TimeMode.{TimeMode}
 use Rattle.tab_history.specs.declared.event.TimeMode.TheVariants.{Any}
 use Rattle.tab_rules.specs.Constraints.{constraint_set_of}
-use Rattle.tab_history.specs.declared.event.Act.TheVariants.{CreateTable, DropTable, CreateUser, DropUser, SetAuths, Grant, Revoke, SetConstraints, Write, Rights, Status, Flush, Compact, AddSplit, SplitBySize, Splits, Begin, Install}
+use Rattle.tab_history.specs.declared.event.Act.TheVariants.{CreateTable, DropTable, CreateUser, DropUser, SetAuths, Grant, Revoke, SetConstraints, SetVersions, SetHorizon, Write, Rights, Status, Flush, Compact, AddSplit, SplitBySize, Splits, Begin, Install}
 use Rattle.tab_history.specs.declared.event.Given.TheVariants.{InSlot}
 use Rattle.tab_history.specs.declared.event.Scan.{Scan}
 use Rattle.tab_lines.specs.declared.line.Line.{Line}
@@ -22,7 +22,7 @@ use Rattle.tab_lines.specs.declared.updates.TimestampForm.TheVariants.{Optional}
 use Rattle.tab_lines.specs.Gives.{◌>>=◌, field, ends, optional}
 use Rattle.tab_lines.specs.Words.{words_of}
 use Rattle.tab_text.specs.Reading.{bytes_of}
-use Rattle.tab_lines.specs.Fields.{name_of, unsigned_of, small_of, signed_of, time_word, versions_word, extent_word, compaction_word, file_name_of, system_permission, table_permission, list_of, constraints_of, bound_of, columns_of}
+use Rattle.tab_lines.specs.Fields.{name_of, unsigned_of, small_of, signed_of, time_word, version_count, versions_word, extent_word, compaction_word, file_name_of, system_permission, table_permission, list_of, constraints_of, bound_of, columns_of}
 use Rattle.tab_lines.specs.Updates.{row_of, with_updates, put_of, delete_of, updates_of}
 use Rattle.tab_mutation.specs.Mutations.{with_update}
 
@@ -85,6 +85,22 @@ constraints_line_of words = do
   constraints ← field constraints_of table.1
   end ← ends constraints.1
   Some (line.Act (SetConstraints table.0 (constraint_set_of constraints.0)))
+
+-- the words behind the command of a line versions T N
+unfoldable pub versions_line_of : List (List ℕ) → Option Line
+versions_line_of words = do
+  table ← field name_of words
+  many ← field version_count table.1
+  end ← ends many.1
+  Some (line.Act (SetVersions table.0 many.0))
+
+-- the words behind the command of a line horizon T TS
+unfoldable pub horizon_of : List (List ℕ) → Option Line
+horizon_of words = do
+  table ← field name_of words
+  timestamp ← field signed_of table.1
+  end ← ends timestamp.1
+  Some (line.Act (SetHorizon table.0 timestamp.0))
 
 -- the words behind the command of a line insert T ROW FAM QUAL LABEL VALUE [TS]
 unfoldable pub insert_of : List (List ℕ) → Option Line
@@ -235,6 +251,8 @@ command_of word =
     else if bytes_eq word (codes "revoke") then Some command.Revoke
     else if bytes_eq word (codes "rights") then Some command.Rights
     else if bytes_eq word (codes "constraints") then Some command.Constraints
+    else if bytes_eq word (codes "versions") then Some command.Versions
+    else if bytes_eq word (codes "horizon") then Some command.Horizon
     else if bytes_eq word (codes "insert") then Some command.Insert
     else if bytes_eq word (codes "delete") then Some command.Delete
     else if bytes_eq word (codes "mutate") then Some command.Mutate
@@ -269,6 +287,8 @@ commanded command.Grant words = option_map (λ grant. line.Act (Grant grant.0 gr
 commanded command.Revoke words = option_map (λ grant. line.Act (Revoke grant.0 grant.1)) (grant_of words)
 commanded command.Rights words = option_map (λ table. line.Act (Rights table)) (name_alone words)
 commanded command.Constraints words = constraints_line_of words
+commanded command.Versions words = versions_line_of words
+commanded command.Horizon words = horizon_of words
 commanded command.Insert words = insert_of words
 commanded command.Delete words = delete_line_of words
 commanded command.Mutate words = mutate_of words

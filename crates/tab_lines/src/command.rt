@@ -27,6 +27,10 @@ pub enum Command {
     Rights,
     /// `constraints`
     Constraints,
+    /// `versions`
+    Versions,
+    /// `horizon`
+    Horizon,
     /// `insert`
     Insert,
     /// `delete`
@@ -83,6 +87,8 @@ pub fn command_of(word: &[u8]) -> Option<Command>
         b"revoke" => Some(Command::Revoke),
         b"rights" => Some(Command::Rights),
         b"constraints" => Some(Command::Constraints),
+        b"versions" => Some(Command::Versions),
+        b"horizon" => Some(Command::Horizon),
         b"insert" => Some(Command::Insert),
         b"delete" => Some(Command::Delete),
         b"mutate" => Some(Command::Mutate),

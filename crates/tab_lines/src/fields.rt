@@ -5,7 +5,7 @@ ghost use Rattle.tab_lines.specs.Gives.{Gives, field, ends};
 ghost use Rattle.tab_lines.specs.Words.{words_left};
 ghost use Rattle.tab_text.specs.Reading.{bytes_of};
 ghost use Rattle.tab_lines.specs.Spelling.{bytes_spelled};
-ghost use Rattle.tab_lines.specs.Fields.{name_of, unsigned_of, small_of, signed_of, list_of, bound_of, extent_word, compaction_word, file_name_of};
+ghost use Rattle.tab_lines.specs.Fields.{name_of, unsigned_of, small_of, signed_of, version_count, list_of, bound_of, extent_word, compaction_word, file_name_of};
 ghost use Rattle.tab_lines.specs.Lines.{name_alone};
 
 use crate::LineError;
@@ -13,12 +13,12 @@ use crate::bounds::bound_of;
 use crate::file_line::FileName;
 use crate::lists::list_of;
 use crate::names::{compaction_word, extent_word, file_name_of, name_of};
-use crate::numbers::{signed_of, small_of, unsigned_of};
+use crate::numbers::{signed_of, small_of, unsigned_of, version_count};
 use crate::spelling::{Spelled, bytes_of, spelling_of};
 use crate::words::Words;
 use std::alloc::Global;
 use tab_cells::Compaction;
-use tab_history::Extent;
+use tab_history::{Extent, Versions};
 use tab_key::{Bound, ByteString, Name};
 
 /// Takes a word that spells a name.
@@ -90,6 +90,16 @@ pub fn a_small(words: &mut Words) -> Result<u32, LineError>
         return Err(LineError::Fault);
     };
     small_of(word)
+}
+
+/// Takes a word that spells a number of versions.
+pub fn a_version_count(words: &mut Words) -> Result<Versions, LineError>
+    ensures { Gives (λ x. (x, words_left words.new)) result (field version_count (words_left words.old)) }
+{
+    let Some(word) = words.next() else {
+        return Err(LineError::Fault);
+    };
+    version_count(word)
 }
 
 /// Takes a word that spells an end of a range.

@@ -16,6 +16,8 @@
 //! | `grant U P T`, `revoke U P T` | a table permission of a user |
 //! | `rights T` | tell the asking user his own rights, those on this table among them |
 //! | `constraints T LIST` | set which constraints a table has: `keysize`, `alphanum`, `numeric`, `visibility` |
+//! | `versions T N` | lower how many versions of a column a table shows |
+//! | `horizon T TS` | raise the time below which a table takes no update |
 //! | `insert T ROW FAM QUAL LABEL VALUE [TS]` | a mutation of one put |
 //! | `delete T ROW FAM QUAL LABEL [TS]` | a mutation of one delete |
 //! | `mutate T ROW`, updates parted by the word `;` | a mutation of `put FAM QUAL LABEL VALUE TS` and `del FAM QUAL LABEL TS`, TS a number or `-` for none |

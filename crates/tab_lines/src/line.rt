@@ -3,14 +3,14 @@ ghost use Rattle.std.specs.Prelude.{[]};
 ghost use Rattle.tab_lines.specs.Gives.{Gives, optional};
 ghost use Rattle.tab_lines.specs.Words.{words_left};
 ghost use Rattle.tab_lines.specs.Fields.{constraints_of, columns_of, versions_word};
-ghost use Rattle.tab_lines.specs.Lines.{settings, createtable_of, setauths_of, constraints_line_of, insert_of, delete_line_of, mutate_of, bounds_of, scan_words, next_of, ranges_of, many_of, close_of, compact_of, begin_of, merge_of, install_of, addsplit_of, splitsize_of, file_of, at_of, commanded, said, line_of};
+ghost use Rattle.tab_lines.specs.Lines.{settings, createtable_of, setauths_of, constraints_line_of, versions_line_of, horizon_of, insert_of, delete_line_of, mutate_of, bounds_of, scan_words, next_of, ranges_of, many_of, close_of, compact_of, begin_of, merge_of, install_of, addsplit_of, splitsize_of, file_of, at_of, commanded, said, line_of};
 
 use crate::LineError;
 use crate::bounds::bound_of;
 use crate::command::{Command, command_of};
 use crate::fields::{
     a_bound, a_byte_string, a_compaction, a_file_name, a_list, a_name, a_number, a_small,
-    an_extent, an_unsigned, ends,
+    a_version_count, an_extent, an_unsigned, ends,
 };
 use crate::file_line::{FileKind, FileLine};
 use crate::lists::{columns_of, constraints_of};
@@ -121,6 +121,28 @@ fn constraints(alloc: Global, words: &mut Words) -> Result<Line, LineError>
     ends(words)?;
     let constraints = ConstraintSet::of(&named);
     Ok(Line::Act(Act::SetConstraints(table, constraints)))
+}
+
+#[inline(never)]
+#[tactic(auto, unfolding(crate::specs::Lines::versions_line_of))]
+fn versions(alloc: Global, words: &mut Words) -> Result<Line, LineError>
+    ensures { Gives (λ x. x) result (versions_line_of (words_left words.old)) }
+{
+    let table = a_name(alloc, words)?;
+    let count = a_version_count(words)?;
+    ends(words)?;
+    Ok(Line::Act(Act::SetVersions(table, count)))
+}
+
+#[inline(never)]
+#[tactic(auto, unfolding(crate::specs::Lines::horizon_of))]
+fn horizon(alloc: Global, words: &mut Words) -> Result<Line, LineError>
+    ensures { Gives (λ x. x) result (horizon_of (words_left words.old)) }
+{
+    let table = a_name(alloc, words)?;
+    let timestamp = a_number(words)?;
+    ends(words)?;
+    Ok(Line::Act(Act::SetHorizon(table, timestamp)))
 }
 
 #[inline(never)]
@@ -366,6 +388,8 @@ fn commanded(alloc: Global, command: Command, words: &mut Words) -> Result<Line,
         Command::Revoke => revoke(alloc, words),
         Command::Rights => rights(alloc, words),
         Command::Constraints => constraints(alloc, words),
+        Command::Versions => versions(alloc, words),
+        Command::Horizon => horizon(alloc, words),
         Command::Insert => insert(alloc, words),
         Command::Delete => delete(alloc, words),
         Command::Mutate => mutate(alloc, words),

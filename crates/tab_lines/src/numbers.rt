@@ -2,7 +2,7 @@
 ghost use Rattle.std.specs.Prelude.{◌≡◌, ◌<◌, ◌^◌, nat_lt};
 ghost use Rattle.std.specs.Option.{option_and_then};
 ghost use Rattle.tab_lines.specs.Gives.{Gives};
-ghost use Rattle.tab_lines.specs.Fields.{only_if, with_digit, digits_on, unsigned_of, small_of, signed_of, given_timestamp, timestamp_or_dash, positive, negative, versions_word};
+ghost use Rattle.tab_lines.specs.Fields.{only_if, with_digit, digits_on, unsigned_of, small_of, signed_of, given_timestamp, timestamp_or_dash, positive, negative, version_count, versions_word};
 
 use crate::LineError;
 use tab_history::Versions;
@@ -59,6 +59,16 @@ pub fn timestamp_or_dash(word: &[u8]) -> Result<Option<i64>, LineError>
     given_timestamp(word)
 }
 
+/// The number of versions that a word spells without a sign, 1 to 1,000.
+pub fn version_count(word: &[u8]) -> Result<Versions, LineError>
+    ensures { Gives (λ x. x) result (version_count word.now) }
+{
+    match Versions::new(unsigned_of(word)?) {
+        Some(versions) => Ok(versions),
+        None => Err(LineError::Fault),
+    }
+}
+
 /// The number of versions that a word `versions=N` gives, 1 to 1,000.
 pub fn versions_word(word: &[u8]) -> Result<Versions, LineError>
     ensures { Gives (λ x. x) result (versions_word word.now) }
@@ -70,10 +80,7 @@ pub fn versions_word(word: &[u8]) -> Result<Versions, LineError>
     if front != b"versions=".as_slice() {
         return Err(LineError::Fault);
     }
-    match Versions::new(unsigned_of(digits)?) {
-        Some(versions) => Ok(versions),
-        None => Err(LineError::Fault),
-    }
+    version_count(digits)
 }
 
 // The number, if it fits without a minus.

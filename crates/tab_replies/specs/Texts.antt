@@ -1,7 +1,7 @@
 -- The lines of a text, and the texts of replies.
 use Rattle.std.specs.Prelude.{ℕ, ◌≡◌, ◌==◌, ◌⊎◌, Bool, cond, List, [], ◌∷◌, ◌++◌, length, map, codes, if◌then◌else◌}
 use Rattle.std.specs.List.{flat_map}
-use Rattle.std.specs.Fmt.{decimal}
+use Rattle.std.specs.Fmt.{decimal, signed_decimal}
 use Rattle.tab_key.specs.Records.{Cell}
 use Rattle.tab_key.specs.declared.part.Part.{Part}
 use Rattle.tab_key.specs.declared.part.Part.TheVariants as part
@@ -100,7 +100,10 @@ refusal_words refusal.NoMemory = codes "17" ∷ codes "NoMemory" ∷ []
 refusal_words refusal.RootFixed = codes "18" ∷ codes "RootFixed" ∷ []
 refusal_words refusal.GrantInvalid = codes "19" ∷ codes "GrantInvalid" ∷ []
 refusal_words (refusal.BadSplit f) = codes "20" ∷ codes "BadSplit" ∷ split_word f ∷ []
+refusal_words (refusal.VersionsRaised present) = codes "21" ∷ codes "VersionsRaised" ∷ decimal present ∷ []
+refusal_words (refusal.HorizonLowered present) = codes "22" ∷ codes "HorizonLowered" ∷ signed_decimal present ∷ []
 refusal_words (refusal.BelowHorizon update) = codes "22" ∷ codes "BelowHorizon" ∷ decimal update ∷ []
+refusal_words refusal.ServerTime = codes "22" ∷ codes "ServerTime" ∷ []
 
 abbrev pub refusal_text : Refusal → List ℕ
 refusal_text r = line_text (codes "refused" ∷ refusal_words r)

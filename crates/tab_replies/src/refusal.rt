@@ -46,7 +46,14 @@ pub fn put_refusal<W: Output>(output: &mut W, refusal: &Refusal) -> Result<(), W
         Refusal::RootFixed => put_bare(output, b"18", b"RootFixed"),
         Refusal::GrantInvalid => put_bare(output, b"19", b"GrantInvalid"),
         Refusal::BadSplit(fault) => put_text(output, b"20", b"BadSplit", split_word(*fault)),
+        Refusal::VersionsRaised(present) => {
+            put_number(output, b"21", b"VersionsRaised", *present as u64)
+        }
+        Refusal::HorizonLowered(present) => {
+            put_named(output, b"22", b"HorizonLowered", Word::Signed(*present))
+        }
         Refusal::BelowHorizon(update) => put_number(output, b"22", b"BelowHorizon", *update as u64),
+        Refusal::ServerTime => put_bare(output, b"22", b"ServerTime"),
     }
 }
 

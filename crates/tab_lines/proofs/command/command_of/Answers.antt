@@ -37,6 +37,12 @@ returns-in-rights c = found command_of c.args.word.now (codes "rights") (omega a
 pub returns-in-constraints : goal.returns-in-constraints
 returns-in-constraints c = found command_of c.args.word.now (codes "constraints") (omega arith) (search rules)
 
+pub returns-in-versions : goal.returns-in-versions
+returns-in-versions c = found command_of c.args.word.now (codes "versions") (omega arith) (search rules)
+
+pub returns-in-horizon : goal.returns-in-horizon
+returns-in-horizon c = found command_of c.args.word.now (codes "horizon") (omega arith) (search rules)
+
 pub returns-in-insert : goal.returns-in-insert
 returns-in-insert c = found command_of c.args.word.now (codes "insert") (omega arith) (search rules)
 

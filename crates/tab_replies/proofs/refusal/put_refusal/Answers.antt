@@ -33,3 +33,9 @@ returns-in-BelowHorizon g c = subst (λ (x : Refusal). Puts g.W.Output c.args.ou
 
 pub returns-in-NoJob : goal.returns-in-NoJob
 returns-in-NoJob g c = subst (λ (x : Refusal). Puts g.W.Output c.args.output.now c.put_number-in-NoJob.new.output (refusal_text x) c.put_number-in-NoJob.result) (sym c.in-NoJob.is) c.put_number-in-NoJob.ensures
+
+pub returns-in-VersionsRaised : goal.returns-in-VersionsRaised
+returns-in-VersionsRaised g c = subst (λ (x : Refusal). Puts g.W.Output c.args.output.now c.put_number-in-VersionsRaised.new.output (refusal_text x) c.put_number-in-VersionsRaised.result) (sym c.in-VersionsRaised.is) c.put_number-in-VersionsRaised.ensures
+
+pub returns-in-ServerTime : goal.returns-in-ServerTime
+returns-in-ServerTime g c = subst (λ (x : Refusal). Puts g.W.Output c.args.output.now c.put_bare-in-ServerTime.new.output (refusal_text x) c.put_bare-in-ServerTime.result) (sym c.in-ServerTime.is) c.put_bare-in-ServerTime.ensures
