@@ -11,8 +11,10 @@ use Rattle.tab_cells.specs.SessionState.{SessionState, gave}
 use Rattle.tab_history.specs.Sessions.{Move, Opening, Taking, Closing, opened, closed, is_full, session_in}
 use Rattle.tab_core.specs.Slots.{slot_at, changed_at}
 use Rattle.tab_core.proofs.SlotLemmas.{slot_appended, slot_changed, length_changed, count_same, count_closed, count_appended}
-use Rattle.tab_core.proofs.OwnerLemmas.{slot_past}
-use Rattle.tab_shell.specs.Sessions.{Kept, is_spent, slot_named, KeptAre}
+use Rattle.tab_core.proofs.PlaceLemmas.{slot_past}
+use Rattle.tab_core.specs.declared.sessions.Kept.{Kept}
+use Rattle.tab_core.specs.Sessions.{is_spent}
+use Rattle.tab_shell.specs.Numbers.{slot_named, KeptAre}
 
 -- ---- slots
 -- the slot of the next session holds nothing, and no slot behind it

@@ -6,7 +6,6 @@ pub mod JobSteps
 pub mod Saying
 pub mod Batching
 pub mod Keeping
-pub mod KeptLemmas
 pub mod Scanning
 pub mod OwnSteps
 pub mod Opening

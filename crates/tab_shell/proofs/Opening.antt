@@ -3,7 +3,6 @@ use Rattle.std.proofs.Common.{ℕ, ◌≡◌, ◌≤◌, Bool, true, false, cond
 use Rattle.std.specs.Prelude.{bytes_eq, count_by, is_some, nat_le}
 use mathlib.Core.Bool.{true≢false}
 use Rattle.std.proofs.lemmas.Bool.{leb-true, le-leb}
-use Rattle.std.proofs.lemmas.Slice.Eq.{bytes_eq-Decides}
 use Rattle.tab_key.specs.Records.{Cell}
 use Rattle.tab_cells.specs.SessionState.{SessionState}
 use Rattle.tab_history.specs.declared.event.Scan.{Scan}
@@ -18,15 +17,17 @@ use Rattle.tab_core.specs.Stores.{Held, base_of}
 use Rattle.tab_core.specs.Parts.{TabletMerge}
 use Rattle.tab_core.specs.Stepping.{Steps}
 use Rattle.tab_core.specs.Slots.{are_full}
-use Rattle.tab_core.specs.Owners.{kept_with}
+use Rattle.tab_core.specs.Owners.{kept_with, OpensIn}
 use Rattle.tab_lines.specs.declared.line.Line.TheVariants as line
-use Rattle.tab_shell.specs.Sessions.{Kept, Keeping, Numbers, kept_of, opened_in, is_spent, with_number, KeptAre, KeepsFor, OpenIn}
+use Rattle.tab_core.specs.declared.sessions.Kept.{Kept}
+use Rattle.tab_core.specs.Sessions.{Keeping, kept_of, opened_in, is_spent, KeepsFor}
+use Rattle.tab_shell.specs.Numbers.{Numbers, with_number, KeptAre}
 use Rattle.tab_replies.specs.Texts.{refusal_text, opened_text}
 use Rattle.tab_shell.specs.Scripts.{Asker, ScriptState, ScriptRefines, ScriptAnswersLine, numbers_told, event_by, entry}
 use Rattle.tab_shell.proofs.Saying.{same_cond}
 use Rattle.tab_shell.proofs.JobSteps.{OpensExactly, opens_exactly, jobs_stay}
 use Rattle.tab_shell.proofs.Keeping.{kept_opened}
-use Rattle.tab_shell.proofs.Scanning.{own_kept, with_sessions, bytes_self, open_moves, other_moves, kept_by_user, legal_open, starved_opens, kept_counts, with_kept}
+use Rattle.tab_shell.proofs.Scanning.{own_kept, with_sessions, bytes_self, open_moves, other_moves, kept_by_user, kept_same, legal_open, starved_opens, recounted, with_kept}
 
 -- the user's list of slots is full only where the script's is
 full_is_spent : (kept : Kept) → is_spent kept ≡ false → are_full kept.numbered ≡ false
@@ -43,16 +44,8 @@ full_is_spent kept = go (nat_le 65536 (count_by is_some kept.numbered)) (nat_le 
 abbrev IsQuiet : Scan → Told → Type 0
 IsQuiet scan reply = (w : World) (who : Asker) (h : List Entry) (n : List ℕ) → moves_of w n (entry (event_by who (Open scan)) reply ∷ h) ≡ moves_of w n h
 
-abbrev with_slots : Kept → List (Option SessionState) → Kept
+abbrev pub with_slots : Kept → List (Option SessionState) → Kept
 with_slots kept slots = record kept { numbered = slots }
-
--- what is kept is what it was
-kept_same : (s : ScriptState) (kept : Keeping) (slots : List (Option SessionState)) → KeepsFor s.asker.user (with_slots (own_kept s) slots) s.kept kept → slots ≡ (own_kept s).numbered → (n : List ℕ) → kept_of kept n ≡ kept_of s.kept n
-kept_same s kept slots keeps same n = go (bytes_eq s.asker.user n) refl
-  where
-    go : (b : Bool) → bytes_eq s.asker.user n ≡ b → kept_of kept n ≡ kept_of s.kept n
-    go true is = keeps n ∙ ap (λ (b : Bool). cond b (with_slots (own_kept s) slots) (kept_of s.kept n)) is ∙ ap (with_slots (own_kept s)) same ∙ ap (kept_of s.kept) ((bytes_eq-Decides s.asker.user n).0 is)
-    go false away = keeps n ∙ ap (λ (b : Bool). cond b (with_slots (own_kept s) slots) (kept_of s.kept n)) away
 
 -- the core answered, and opened no session
 quiet_answered : (s : ScriptState) (core : Held) (kept : Keeping) (slots : List (Option SessionState)) (scan : Scan) (r : Reply SessionState TabletMerge) → is_spent (own_kept s) ≡ false
@@ -67,7 +60,7 @@ quiet_answered s core kept slots scan r room steps exact keeps same quiet still 
       let e : Entry = entry (event_by s.asker (Open scan)) reply in
       let stands : ScriptRefines (with_sessions s core kept) numbers w (e ∷ h) = record {
         core = steps.refines w h refines.core;
-        sessions = λ n. subst (λ (k : Kept). KeptAre (moves_of w n (e ∷ h)) (numbers n) k) (sym (kept_same s kept slots keeps same n)) (subst (λ (ms : List Move). KeptAre ms (numbers n) (kept_of s.kept n)) (sym (quiet w s.asker h n)) (refines.sessions n));
+        sessions = λ n. subst (λ (k : Kept). KeptAre (moves_of w n (e ∷ h)) (numbers n) k) (sym (kept_same s.asker.user (with_slots (own_kept s) slots) s.kept kept keeps (sym (ap (with_slots (own_kept s)) same)) n)) (subst (λ (ms : List Move). KeptAre ms (numbers n) (kept_of s.kept n)) (sym (quiet w s.asker h n)) (refines.sessions n));
         jobs = jobs_stay s.jobs e h refl refines.jobs;
       } in (
         e ∷ [],
@@ -144,13 +137,15 @@ core_answered s core kept slots scan Nothing room steps exact keeps same =
     quiet_answered s core kept slots scan Nothing room steps exact keeps same (λ w who h n. same_cond (bytes_eq who.user n) (moves_of w n h)) (λ ns u k. refl) (λ a b. refl)
 
 -- a session is opened, or the Open is refused
-pub open_answered : (s : ScriptState) (core : Held) (kept : Keeping) (scan : Scan) (reply : Told) → is_spent (own_kept s) ≡ false → OpenIn s.core s.kept s.asker.user (event_by s.asker (Open scan)) reply core kept
+pub open_answered : (s : ScriptState) (core : Held) (kept : Keeping) (slots : List (Option SessionState)) (scan : Scan) (reply : Told) → is_spent (own_kept s) ≡ false
+    → OpensIn s.core (own_kept s).numbered (event_by s.asker (Open scan)) reply core slots → KeepsFor s.asker.user (with_slots (own_kept s) slots) s.kept kept
     → ScriptAnswersLine s (Ok (line.Open scan)) (opened_text (length (own_kept s).numbered) reply) (with_sessions s core kept)
-open_answered s core kept scan reply room (slots, inl full, keeps) = absurd (true≢false (sym full.0 ∙ full_is_spent (own_kept s) room))
-open_answered s core kept scan reply room (slots, inr (inl (lacks, still, same)), keeps) =
-    let starved : ScriptAnswersLine s (Ok (line.Open scan)) (refusal_text NoMemory) (with_kept s kept) = kept_counts s kept (Ok (line.Open scan)) (refusal_text NoMemory) (kept_same s kept slots keeps same) (starved_opens s scan) in
+open_answered s core kept slots scan reply room (inl full) keeps = absurd (true≢false (sym full.0 ∙ full_is_spent (own_kept s) room))
+open_answered s core kept slots scan reply room (inr (inl (lacks, still, same))) keeps =
+    let all : (n : List ℕ) → kept_of kept n ≡ kept_of s.kept n = kept_same s.asker.user (with_slots (own_kept s) slots) s.kept kept keeps (sym (ap (with_slots (own_kept s)) same)) in
+    let starved : ScriptAnswersLine s (Ok (line.Open scan)) (refusal_text NoMemory) (with_kept s kept) = recounted s s kept (Ok (line.Open scan)) (refusal_text NoMemory) all (starved_opens s scan) in
     subst (λ (t : Told). ScriptAnswersLine s (Ok (line.Open scan)) (opened_text (length (own_kept s).numbered) t) (with_sessions s core kept)) (sym lacks)
     (subst (λ (x : Held). ScriptAnswersLine s (Ok (line.Open scan)) (refusal_text NoMemory) (with_sessions s x kept)) (sym still) starved)
-open_answered s core kept scan reply room (slots, inr (inr (free, (r, steps, exact, is, more))), keeps) =
+open_answered s core kept slots scan reply room (inr (inr (free, (r, steps, exact, is, more)))) keeps =
     subst (λ (t : Told). ScriptAnswersLine s (Ok (line.Open scan)) (opened_text (length (own_kept s).numbered) t) (with_sessions s core kept)) (sym is)
     (core_answered s core kept slots scan r room steps (opens_exactly s core scan r exact) keeps more)

@@ -23,7 +23,9 @@ use Rattle.tab_core.specs.Shape.{first_some, when}
 use Rattle.tab_core.specs.Stores.{base_of}
 use Rattle.tab_core.specs.Slots.{slot_at, changed_at, after_next, after_close}
 use Rattle.tab_lines.specs.declared.line.Line.TheVariants as line
-use Rattle.tab_shell.specs.Sessions.{Kept, Keeping, Numbers, kept_of, KeptAre, KeepsFor, NextIn, ManyIn, CloseIn}
+use Rattle.tab_core.specs.declared.sessions.Kept.{Kept}
+use Rattle.tab_core.specs.Sessions.{Keeping, kept_of, KeepsFor, NextIn, ManyIn, CloseIn}
+use Rattle.tab_shell.specs.Numbers.{Numbers, KeptAre}
 use Rattle.tab_replies.specs.Texts.{reply_text, next_text, renumbered}
 use Rattle.tab_shell.specs.Scripts.{ScriptState, ScriptRefines, ScriptGoes, ScriptAnswersLine, slot_of, own_entry}
 use Rattle.tab_shell.proofs.Saying.{same_cond}

@@ -16,7 +16,7 @@ use Rattle.tab_lines.specs.declared.line.Line.TheVariants as line
 use Rattle.tab_lines.specs.declared.line_error.LineError.{LineError}
 use Rattle.tab_shell.specs.declared.pending.Pending.{Pending}
 use Rattle.tab_replies.specs.Texts.{lines_of}
-use Rattle.tab_shell.specs.Sessions.{Numbers}
+use Rattle.tab_shell.specs.Numbers.{Numbers}
 use Rattle.tab_shell.specs.Scripts.{Asker, ScriptState, ScriptRefines, asker_after, numbers_after, ScriptAnswersLine, LinesAnswered, ScriptAnswersLines, IsInside}
 use Rattle.tab_shell.specs.Ahead.{Pends, ReadsLine, Ahead, IsNext, AtEnd, TakesLine, TakesOn}
 use Rattle.tab_shell.specs.Progress.{AnswersWhole, AnswersToFile, BeginsWithFile, IsAccepted, HasAnswered, HasAnsweredPart, HasAccepted, HasAcceptedPart, HasFailed, HasEnded, IsEmptied, ComesFurther}

@@ -11,10 +11,10 @@ use Rattle.tab_lines.specs.declared.file_line.FileKind.TheVariants.{Save, Load}
 use Rattle.tab_lines.specs.declared.updates.TimestampForm.TheVariants.{Optional}
 use Rattle.tab_lines.specs.Gives.{◌>>=◌, Gives, field, ends}
 use Rattle.tab_lines.specs.Words.{words_of}
-use Rattle.tab_lines.specs.Fields.{name_of, unsigned_of, small_of, signed_of, extent_word, compaction_word, file_name_of, list_of, constraints_of}
+use Rattle.tab_lines.specs.Fields.{name_of, unsigned_of, small_of, signed_of, version_count, extent_word, compaction_word, file_name_of, list_of, constraints_of}
 use Rattle.tab_lines.specs.Updates.{row_of, put_of, delete_of, updates_of}
 use Rattle.tab_text.specs.Reading.{bytes_of}
-use Rattle.tab_lines.specs.Lines.{settings, createtable_of, setauths_of, constraints_line_of, insert_of, delete_line_of, mutate_of, scan_words, next_of, ranges_of, many_of, close_of, compact_of, begin_of, merge_of, install_of, addsplit_of, splitsize_of, file_of, at_of, name_alone, grant_of, command_of, commanded, said, is_comment, line_of}
+use Rattle.tab_lines.specs.Lines.{settings, createtable_of, setauths_of, constraints_line_of, versions_line_of, horizon_of, insert_of, delete_line_of, mutate_of, scan_words, next_of, ranges_of, many_of, close_of, compact_of, begin_of, merge_of, install_of, addsplit_of, splitsize_of, file_of, at_of, name_alone, grant_of, command_of, commanded, said, is_comment, line_of}
 use Rattle.tab_shell.specs.Ahead.{OpensNoSession}
 
 -- nothing is read, or what is read is no bare act that opens a session
@@ -41,6 +41,14 @@ setauths_shut words = after (field name_of words) _ (λ u. after (field list_of 
 constraints_shut : (words : List (List ℕ)) → IsShut (constraints_line_of words)
 unfolding constraints_line_of
 constraints_shut words = after (field name_of words) _ (λ t. after (field constraints_of t.1) _ (λ c. after (ends c.1) _ (λ e. refl)))
+
+versions_shut : (words : List (List ℕ)) → IsShut (versions_line_of words)
+unfolding versions_line_of
+versions_shut words = after (field name_of words) _ (λ t. after (field version_count t.1) _ (λ n. after (ends n.1) _ (λ e. refl)))
+
+horizon_shut : (words : List (List ℕ)) → IsShut (horizon_of words)
+unfolding horizon_of
+horizon_shut words = after (field name_of words) _ (λ t. after (field signed_of t.1) _ (λ s. after (ends s.1) _ (λ e. refl)))
 
 insert_shut : (words : List (List ℕ)) → IsShut (insert_of words)
 unfolding insert_of
@@ -109,6 +117,8 @@ commanded_shut command.Revoke words = mapped (grant_of words) _ (λ grant. refl)
 commanded_shut command.Rights words = mapped (name_alone words) _ (λ table. refl)
 commanded_shut command.SetAuths words = setauths_shut words
 commanded_shut command.Constraints words = constraints_shut words
+commanded_shut command.Versions words = versions_shut words
+commanded_shut command.Horizon words = horizon_shut words
 commanded_shut command.Insert words = insert_shut words
 commanded_shut command.Delete words = delete_shut words
 commanded_shut command.Mutate words = mutate_shut words

@@ -5,7 +5,7 @@ use mathlib.Core.Bool.{true≢false}
 use Rattle.tab_history.specs.declared.event.Act.{Act}
 use Rattle.tab_history.specs.declared.event.Event.{Event}
 use Rattle.tab_history.specs.declared.event.Step.TheVariants.{Event as IsEvent, Merge}
-use Rattle.tab_history.specs.declared.reply.Reply.TheVariants.{Done, Refused, Opened, Batch, Ranges, Rights as OwnRights, Counted, Rows, Begun, Nothing}
+use Rattle.tab_history.specs.declared.reply.Reply.TheVariants.{Done, Refused, Opened}
 use Rattle.tab_history.specs.declared.reply.Refusal.{Refusal}
 use Rattle.tab_history.specs.declared.reply.Refusal.TheVariants as refusal
 use Rattle.tab_history.specs.Answers.{Told, told, is_open, answer, IsEventReply, session_list}
@@ -27,7 +27,8 @@ use Rattle.tab_lines.specs.declared.line.Line.TheVariants as line
 use Rattle.tab_lines.specs.declared.line_error.LineError.{LineError}
 use Rattle.tab_lines.specs.declared.line_error.LineError.TheVariants as stop
 use Rattle.tab_replies.specs.Texts.{reply_text, begun_text, refusal_text, fault_text}
-use Rattle.tab_shell.specs.Sessions.{Numbers, kept_of, KeptAre}
+use Rattle.tab_core.specs.Sessions.{kept_of}
+use Rattle.tab_shell.specs.Numbers.{Numbers, KeptAre}
 use Rattle.tab_shell.specs.Scripts.{Asker, ScriptState, ScriptRefines, ScriptGoes, LineAnswered, ScriptAnswersLine, ScriptAcceptsFile, asker_after, numbers_after, event_by, entry, own_entry, file_act}
 use Rattle.tab_shell.specs.Progress.{PrintsAnswer, IsAccepted, AnswersOrAccepts, HandsBack}
 use Rattle.tab_shell.proofs.JobSteps.{goes_nowhere}
@@ -97,17 +98,9 @@ same_cond false x = refl
 -- it opens shut session
 act_moves : (w : World) (user : List ℕ) (h : List Entry) (event : Event) (r : Told) → is_open event.act ≡ false → moves_of w user (entry event r ∷ h) ≡ moves_of w user h
 unfolding moves_of
-act_moves w user h event Done shut = same_cond (is_by user (IsEvent event)) (moves_of w user h)
-act_moves w user h event (Refused r) shut = same_cond (is_by user (IsEvent event)) (moves_of w user h)
 act_moves w user h event (Opened u) shut =
     ap (λ (t : Bool). cond (is_by user (IsEvent event)) (cond t (Opening (session_list w.base (journal w h) event.act) ∷ []) [] ++ moves_of w user h) (moves_of w user h)) shut ∙ same_cond (is_by user (IsEvent event)) (moves_of w user h)
-act_moves w user h event (Batch cells) shut = same_cond (is_by user (IsEvent event)) (moves_of w user h)
-act_moves w user h event (Ranges ranges) shut = same_cond (is_by user (IsEvent event)) (moves_of w user h)
-act_moves w user h event (OwnRights rights) shut = same_cond (is_by user (IsEvent event)) (moves_of w user h)
-act_moves w user h event (Counted counts) shut = same_cond (is_by user (IsEvent event)) (moves_of w user h)
-act_moves w user h event (Rows rows) shut = same_cond (is_by user (IsEvent event)) (moves_of w user h)
-act_moves w user h event (Begun job) shut = same_cond (is_by user (IsEvent event)) (moves_of w user h)
-act_moves w user h event Nothing shut = same_cond (is_by user (IsEvent event)) (moves_of w user h)
+act_moves w user h event reply shut = same_cond (is_by user (IsEvent event)) (moves_of w user h)
 
 -- the script with another core, and these jobs
 abbrev pub with_core : ScriptState → Held → List JobSlot → ScriptState

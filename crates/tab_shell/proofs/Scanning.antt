@@ -12,7 +12,7 @@ use Rattle.tab_history.specs.declared.event.Step.TheVariants.{Event as IsEvent, 
 use Rattle.tab_history.specs.declared.reply.Refusal.{Refusal}
 use Rattle.tab_history.specs.declared.reply.Refusal.TheVariants.{NoMemory, TooLarge}
 use Rattle.tab_history.specs.declared.reply.Reply.{Reply}
-use Rattle.tab_history.specs.declared.reply.Reply.TheVariants.{Done, Refused, Opened, Batch, Ranges, Rights as OwnRights, Counted, Rows, Begun, Nothing}
+use Rattle.tab_history.specs.declared.reply.Reply.TheVariants.{Done, Refused, Opened, Batch}
 use Rattle.tab_history.specs.Checks.{standing, refusal_of, exists_in, user_named}
 use Rattle.tab_history.specs.Answers.{Told, told, answer, event_answer, IsEventReply, moves_by, session_list, next_answer, close_answer, told_of}
 use Rattle.tab_cells.specs.SessionState.{SessionState, gave}
@@ -33,7 +33,9 @@ use Rattle.tab_lines.specs.declared.line.Line.TheVariants as line
 use Rattle.tab_replies.specs.Texts.{reply_text, refusal_text}
 use Rattle.tab_shell.specs.Batches.{left_of}
 use Rattle.tab_shell.specs.Readings.{ReadingEnd, AllRead, Lacking, CanEnd, IsReadingText, reading_text, reading_steps, batch_at, batches}
-use Rattle.tab_shell.specs.Sessions.{Kept, Keeping, Numbers, kept_of, is_spent, KeptAre, KeepsFor}
+use Rattle.tab_core.specs.declared.sessions.Kept.{Kept}
+use Rattle.tab_core.specs.Sessions.{Keeping, kept_of, is_spent, KeepsFor}
+use Rattle.tab_shell.specs.Numbers.{Numbers, KeptAre}
 use Rattle.tab_shell.proofs.Keeping.{kept_scanned, spent_alike, differ}
 use Rattle.tab_shell.proofs.Saying.{same_cond}
 use Rattle.tab_core.proofs.JobLemmas.{stays_exact}
@@ -461,16 +463,9 @@ refused_answered s core scan r room steps exact = record {
 
 -- an Open isn't answered otherwise
 abbrev Opens : Told → Type 0
-Opens Done = ⊥
 Opens (Refused r) = Unit {0}
 Opens (Opened u) = Unit {0}
-Opens (Batch cells) = ⊥
-Opens (Ranges ranges) = ⊥
-Opens (OwnRights rights) = ⊥
-Opens (Counted counts) = ⊥
-Opens (Rows rows) = ⊥
-Opens (Begun job) = ⊥
-Opens Nothing = ⊥
+Opens reply = ⊥
 
 opens : (reply : Told) → (reply ≡ Opened tt) ⊎ ((r : Refusal) × (reply ≡ Refused r)) → Opens reply
 opens reply (inl e) = subst Opens (sym e) tt
@@ -485,14 +480,7 @@ pub kept_answered : (s : ScriptState) (core : Held) (scan : Scan) (reply : Reply
     → ScriptAnswersLine s (Ok (line.Scan scan)) (reply_text (told_of reply)) (with_new_core s core)
 kept_answered s core scan (Refused r) lt steps exact other = refused_answered s core scan r lt steps exact
 kept_answered s core scan (Opened session) lt steps exact other = absurd (other session refl)
-kept_answered s core scan Done lt steps exact other = never s core scan (reply_text Done) (λ w h numbers refines. opens Done (not_done w h s.asker scan Done (legal_open s core scan Done w h numbers lt steps refines)))
-kept_answered s core scan (Batch cells) lt steps exact other = never s core scan (reply_text (Batch cells)) (λ w h numbers refines. opens (Batch cells) (not_done w h s.asker scan (Batch cells) (legal_open s core scan (Batch cells) w h numbers lt steps refines)))
-kept_answered s core scan (Ranges ranges) lt steps exact other = never s core scan (reply_text (Ranges ranges)) (λ w h numbers refines. opens (Ranges ranges) (not_done w h s.asker scan (Ranges ranges) (legal_open s core scan (Ranges ranges) w h numbers lt steps refines)))
-kept_answered s core scan (OwnRights rights) lt steps exact other = never s core scan (reply_text (OwnRights rights)) (λ w h numbers refines. opens (OwnRights rights) (not_done w h s.asker scan (OwnRights rights) (legal_open s core scan (OwnRights rights) w h numbers lt steps refines)))
-kept_answered s core scan (Counted counts) lt steps exact other = never s core scan (reply_text (Counted counts)) (λ w h numbers refines. opens (Counted counts) (not_done w h s.asker scan (Counted counts) (legal_open s core scan (Counted counts) w h numbers lt steps refines)))
-kept_answered s core scan (Rows rows) lt steps exact other = never s core scan (reply_text (Rows rows)) (λ w h numbers refines. opens (Rows rows) (not_done w h s.asker scan (Rows rows) (legal_open s core scan (Rows rows) w h numbers lt steps refines)))
-kept_answered s core scan (Begun job) lt steps exact other = never s core scan (reply_text (Begun tt)) (λ w h numbers refines. opens (Begun tt) (not_done w h s.asker scan (Begun tt) (legal_open s core scan (Begun job) w h numbers lt steps refines)))
-kept_answered s core scan Nothing lt steps exact other = never s core scan (reply_text Nothing) (λ w h numbers refines. opens Nothing (not_done w h s.asker scan Nothing (legal_open s core scan Nothing w h numbers lt steps refines)))
+kept_answered s core scan reply lt steps exact other = never s core scan (reply_text (told_of reply)) (λ w h numbers refines. opens (told_of reply) (not_done w h s.asker scan (told_of reply) (legal_open s core scan reply w h numbers lt steps refines)))
 
 -- ---- a full list of sessions
 spent_right : (w : World) (h : List Entry) (who : Asker) (scan : Scan) → is_full (moves_of w who.user h) ≡ true → IsAnswer w h h (IsEvent (event_by who (Open scan))) (Refused (TooLarge Sessions))
@@ -576,20 +564,20 @@ with_kept s kept = record s { kept = kept }
 rekept : (s : ScriptState) (kept : Keeping) (numbers : Numbers) (w : World) (h : List Entry) → ((n : List ℕ) → kept_of kept n ≡ kept_of s.kept n) → ScriptRefines s numbers w h → ScriptRefines (with_kept s kept) numbers w h
 rekept s kept numbers w h same refines = record { core = refines.core; sessions = λ n. subst (λ (k : Kept). KeptAre (moves_of w n h) (numbers n) k) (sym (same n)) (refines.sessions n); jobs = refines.jobs }
 
-pub recounted : (s : ScriptState) (kept : Keeping) (said : Result Line LineError) (text : List ℕ) (new : ScriptState) → ((n : List ℕ) → kept_of kept n ≡ kept_of s.kept n)
-    → ScriptAnswersLine (with_kept s kept) said text new → ScriptAnswersLine s said text new
-recounted s kept said text new same answered = record {
-  asker = answered.asker;
-  extends = λ w h numbers refines legal.
-      let x = answered.extends w h numbers (rekept s kept numbers w h same refines) legal in
-      (x.0, x.1, record { legal = x.2.legal; exact = x.2.exact; refines = x.2.refines });
-}
-
-pub kept_counts : (s : ScriptState) (kept : Keeping) (said : Result Line LineError) (text : List ℕ) → ((n : List ℕ) → kept_of kept n ≡ kept_of s.kept n)
-    → ScriptAnswersLine s said text s → ScriptAnswersLine s said text (with_kept s kept)
-kept_counts s kept said text same answered = record {
+-- what it was answered stays so where the script that it left reads the same
+pub recounted : (s new : ScriptState) (kept : Keeping) (said : Result Line LineError) (text : List ℕ) → ((n : List ℕ) → kept_of kept n ≡ kept_of new.kept n)
+    → ScriptAnswersLine s said text new → ScriptAnswersLine s said text (with_kept new kept)
+recounted s new kept said text same answered = record {
   asker = answered.asker;
   extends = λ w h numbers refines legal.
       let x = answered.extends w h numbers refines legal in
-      (x.0, x.1, record { legal = x.2.legal; exact = x.2.exact; refines = rekept s kept (numbers_after s.asker numbers w h said x.0) w (x.0 ++ h) same x.2.refines });
+      (x.0, x.1, record { legal = x.2.legal; exact = x.2.exact; refines = rekept new kept (numbers_after s.asker numbers w h said x.0) w (x.0 ++ h) same x.2.refines });
 }
+
+-- all is kept as it was, where this is what was kept for the user
+pub kept_same : (user : List ℕ) (own : Kept) (old new : Keeping) → KeepsFor user own old new → kept_of old user ≡ own → (n : List ℕ) → kept_of new n ≡ kept_of old n
+kept_same user own old new keeps is n = go (bytes_eq user n) refl
+  where
+    go : (b : Bool) → bytes_eq user n ≡ b → kept_of new n ≡ kept_of old n
+    go true same = keeps n ∙ ap (λ (b : Bool). cond b own (kept_of old n)) same ∙ sym is ∙ ap (kept_of old) ((bytes_eq-Decides user n).0 same)
+    go false away = keeps n ∙ ap (λ (b : Bool). cond b own (kept_of old n)) away

@@ -1,10 +1,14 @@
 -- How far a script has come with its input, and what was put of its answers.
-use Rattle.std.specs.Prelude.{ℕ, ◌≡◌, ◌+◌, ◌<◌, ◌^◌, ◌⊎◌, List, [], ◌∷◌, ◌++◌, length, Result, Ok, Err, Option, Some, None, IfSome}
+use Rattle.std.specs.Prelude.{ℕ, ℤ, ◌≡◌, ◌+◌, ◌<◌, ◌^◌, ◌⊎◌, List, [], ◌∷◌, ◌++◌, length, Result, Ok, Err, Option, Some, None, IfSome}
 use Rattle.std.specs.Io.KnownBytes.{Appends}
 use Rattle.tab_io.specs.Streams.{AppendsPart}
 use Rattle.tab_io.specs.Writing.{HasPut, HasPutPart, Puts, WriteFailed}
 use Rattle.tab_io.specs.declared.reading.Input.{Ghosts as InputGhosts}
 use Rattle.tab_io.specs.declared.writing.Output.{Ghosts}
+use Rattle.tab_core.specs.Stores.{Held}
+use Rattle.tab_core.specs.Sessions.{Keeping, kept_of, KeepsFor}
+use Rattle.tab_core.specs.declared.job_slots.JobSlot.{JobSlot}
+use Rattle.tab_core.specs.declared.sessions.Kept.{Kept}
 use Rattle.tab_lines.specs.declared.file_line.FileLine.{FileLine}
 use Rattle.tab_lines.specs.declared.line.Line.{Line}
 use Rattle.tab_lines.specs.declared.line.Line.TheVariants as line
@@ -43,6 +47,11 @@ AnswersToFile old bytes file new left Holds = (mid : ScriptState) × AnswersWhol
 -- the line was answered, and its text put, or a beginning of it
 abbrev pub PrintsAnswer : {W E : Type 0} → Ghosts W → ScriptState → Result Line LineError → ScriptState → W → W → Result (Unit {0}) E → Type 0
 PrintsAnswer g old said new o o' r = (text : List ℕ) × ScriptAnswersLine old said text new × Puts g o o' text r
+
+-- The same in parts, for whatever script has this core, is asked so, and keeps this for the asker: now the core is the new one, and this is kept for him.
+abbrev pub PrintsFor : {W E : Type 0} → Ghosts W → Held → Kept → List ℕ → ℤ → Result Line LineError → Held → Kept → W → W → Result (Unit {0}) E → Type 0
+PrintsFor g core kept user moment said core' kept' o o' r = (keeping keeping' : Keeping) (jobs : List JobSlot) → kept_of keeping user ≡ kept → KeepsFor user kept' keeping keeping'
+    → PrintsAnswer g (record { core = core; asker = record { user = user; moment = moment }; kept = keeping; jobs = jobs }) said (record { core = core'; asker = record { user = user; moment = moment }; kept = keeping'; jobs = jobs }) o o' r
 
 -- the line is this file line, which was accepted
 abbrev pub IsAccepted : ScriptState → Result Line LineError → FileLine → ScriptState → Type 0

@@ -10,7 +10,7 @@ use Rattle.tab_history.specs.declared.event.Step.{Step}
 use Rattle.tab_history.specs.declared.event.Step.TheVariants.{Event as IsEvent, Next, Many, Close, Merge}
 use Rattle.tab_history.specs.declared.reply.Refusal.{Refusal}
 use Rattle.tab_history.specs.declared.reply.Refusal.TheVariants as refusal
-use Rattle.tab_history.specs.declared.reply.Reply.TheVariants.{Done, Refused, Opened, Batch, Ranges, Rights as OwnRights, Counted, Rows, Begun, Nothing}
+use Rattle.tab_history.specs.declared.reply.Reply.TheVariants.{Done, Refused, Opened}
 use Rattle.tab_history.specs.Answers.{Told, session_list}
 use Rattle.tab_history.specs.Sessions.{opened}
 use Rattle.tab_history.specs.Jobs.{begun}
@@ -29,7 +29,8 @@ use Rattle.tab_lines.specs.declared.line_error.LineError.{LineError}
 use Rattle.tab_lines.specs.declared.line_error.LineError.TheVariants as line_error
 use Rattle.tab_lines.specs.Gives.{Gives}
 use Rattle.tab_lines.specs.Lines.{line_of}
-use Rattle.tab_shell.specs.Sessions.{Keeping, Numbers, kept_of, with_number, slot_named, KeptAre}
+use Rattle.tab_core.specs.Sessions.{Keeping, kept_of}
+use Rattle.tab_shell.specs.Numbers.{Numbers, with_number, slot_named, KeptAre}
 use Rattle.tab_replies.specs.Texts.{reply_text, opened_text, begun_text, next_text, renumbered, refusal_text, fault_text}
 use Rattle.tab_shell.specs.Readings.{ReadingEnd, CanEnd, reading_text, reading_steps}
 
@@ -86,14 +87,7 @@ ScanSteps who w h event (Opened session) es text =
     let all : List Cell = session_list w.base (journal w (entry event (Opened session) ∷ h)) event.act in
     (end : ReadingEnd) × CanEnd all end × (text ≡ reading_text all end)
     × (es ≡ reading_steps who.user (opened (moves_of w who.user h)) all end ++ entry event (Opened session) ∷ [])
-ScanSteps who w h event Done es text = ⊥
-ScanSteps who w h event (Batch cells) es text = ⊥
-ScanSteps who w h event (Ranges ranges) es text = ⊥
-ScanSteps who w h event (OwnRights rights) es text = ⊥
-ScanSteps who w h event (Counted counts) es text = ⊥
-ScanSteps who w h event (Rows rows) es text = ⊥
-ScanSteps who w h event (Begun job) es text = ⊥
-ScanSteps who w h event Nothing es text = ⊥
+ScanSteps who w h event reply es text = ⊥
 
 -- the slot that a number of the asker's stands for
 abbrev pub slot_of : Asker → Numbers → World → List Entry → ℕ → ℕ

@@ -7,11 +7,11 @@
 //! | `script` | a core that answers lines: one line, the lines that are here, a whole input |
 //! | `file_lines` | the lines that name a file |
 //! | `batches` | a scan's cells, batch by batch |
-//! | `sessions` | the sessions that are kept for each user, by their numbers |
+//! | `scans` | the sessions that lines open: read at once, or kept |
 //! | `pending` | the line that has begun, and how the next one is taken |
 //! | `laws` | two runs of a script are one |
 //!
-//! `specs/Sessions` has the sessions that are kept and what their numbers stand for, `specs/Readings` how a scan reads its session, `specs/Scripts` what a line adds to every history that the script refines, how its core and its jobs go on,
+//! `specs/Numbers` says what the numbers of sessions stand for, `specs/Readings` how a scan reads its session, `specs/Scripts` what a line adds to every history that the script refines, how its core and its jobs go on,
 //! and what is printed, `specs/Batches` what reading a session puts, `specs/Ahead` what is to come where a line has begun,
 //! and `specs/Progress` how far a run has come, also where the reader or the writer failed.
 #![tactic(auto)]
@@ -20,8 +20,8 @@ mod batches;
 mod file_lines;
 mod laws;
 mod pending;
+mod scans;
 mod script;
-mod sessions;
 
 pub use laws::runs_are_one;
 pub use pending::{Pending, take_line};

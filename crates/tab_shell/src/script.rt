@@ -1,28 +1,23 @@
 //! Scripts: a core that answers lines.
 ghost use Rattle.std.specs.Prelude.{◌≡◌, ◌<◌, ◌^◌, ◌++◌, ℕ, List, [], length, true, false, is_some, IfOk, IfErr, OnOk};
-ghost use Rattle.tab_history.specs.Answers.{told_of, is_open};
+ghost use Rattle.tab_history.specs.Answers.{is_open};
 ghost use Rattle.tab_io.specs.Streams.{FailsByFault};
-ghost use Rattle.tab_io.specs.Writing.{Puts};
-ghost use Rattle.tab_replies.specs.Texts.{refusal_text, reply_text};
 ghost use Rattle.tab_policy.specs.Roots.{root};
-ghost use Rattle.tab_policy.specs.Entries.{at_name};
-ghost use Rattle.tab_shell.specs.Sessions.{kept_of, is_spent};
 ghost use Rattle.tab_shell.specs.Scripts.{new_script, replaced, IsInside};
 ghost use Rattle.tab_shell.specs.Ahead.{Pends, ReadsLine, TakesLine, IsLineEnd, OpensNoSession};
 ghost use Rattle.tab_shell.specs.Progress.{PrintsAnswer, AnswersOrAccepts, AnswersRead, AnswersFront, IsEmptied, EndsAhead, StopsAhead, FailedSide, RunsScript, ComesFurther};
 
-use crate::batches::put_session;
 use crate::file_lines::{file_act, hand_back, is_done, printed, taken};
 use crate::pending::{Pending, line_end, take_part};
-use crate::sessions::Sessions;
+use crate::scans::{open_numbered, scan_now, write_refused};
 use std::alloc::Global;
 use std::marker::Model;
-use tab_core::{Answer, Core, JobSlots, told};
-use tab_history::{Act, Refusal, Reply, Scan};
+use tab_core::{Core, JobSlots, Sessions};
+use tab_history::{Act, Refusal, Scan};
 use tab_io::{Input, Output, WriteFault};
-use tab_key::{Bounds, Items, Name, Part};
+use tab_key::{Bounds, Items, Name};
 use tab_lines::{FileLine, Line, LineError, read_line};
-use tab_replies::{put_begun, put_next, put_opened, put_refusal, write_reply};
+use tab_replies::{put_begun, put_next, write_reply};
 
 /// How a run of a script ended.
 #[derive(Drop)]
@@ -75,21 +70,6 @@ fn root_name() -> Name
     ensures { result ≡ root }
 {
     Name::new(b"root").unwrap()
-}
-
-// Writes what is told of the reply.
-fn write_told<W: Output>(output: &mut W, reply: Answer) -> Result<(), WriteFault>
-    ensures { Puts W.Output output.old output.new (reply_text (told_of reply)) result }
-{
-    let reply = told(reply);
-    write_reply(output, &reply)
-}
-
-// Writes the refusal of a scan, which isn't done.
-fn write_refused<W: Output>(output: &mut W, refusal: Refusal) -> Result<(), WriteFault>
-    ensures { Puts W.Output output.old output.new (refusal_text refusal) result }
-{
-    put_refusal(output, &refusal)
 }
 
 impl Script {
@@ -275,34 +255,21 @@ impl Script {
         put_begun(output, number, &reply)
     }
 
-    // One line and several steps: an Open, batches until one isn't full, and a Close.
+    // Opens a session, and reads it at once.
     fn scan<W: Output>(&mut self, scan: &mut Scan, output: &mut W) -> Result<(), WriteFault>
         ensures { PrintsAnswer W.Output self.old (Ok (Line.Scan scan.old)) self.new output.old output.new result }
     {
-        if self.sessions.ready(self.alloc, &self.user).is_err() {
-            return write_refused(output, Refusal::NoMemory);
-        }
-        if self.sessions.is_spent(&self.user) {
-            return write_refused(output, Refusal::TooLarge(Part::Sessions));
-        }
-        self.read_all(scan, output)
-    }
-
-    // The same where one more session can be opened. It is read to the end, or until memory lacks, and dropped.
-    fn read_all<W: Output>(&mut self, scan: &mut Scan, output: &mut W) -> Result<(), WriteFault>
-        requires there { is_some (at_name self.old.asker.user self.old.kept) ≡ true }
-        requires few { is_spent (kept_of self.old.kept self.old.asker.user) ≡ false }
-        ensures { PrintsAnswer W.Output self.old (Ok (Line.Scan scan.old)) self.new output.old output.new result }
-    {
-        match self
-            .core
-            .open_lent(self.alloc, &self.user, self.moment, scan)
-        {
-            Reply::Opened(session) => {
-                self.sessions.count_scan(&self.user);
-                put_session(self.alloc, session, output)
-            }
-            reply => write_told(output, reply),
+        match self.sessions.kept_for(self.alloc, &self.user) {
+            Some(kept) => scan_now(
+                self.alloc,
+                &mut self.core,
+                kept,
+                &self.user,
+                self.moment,
+                scan,
+                output,
+            ),
+            None => write_refused(output, Refusal::NoMemory),
         }
     }
 
@@ -310,26 +277,18 @@ impl Script {
     fn open<W: Output>(&mut self, scan: &mut Scan, output: &mut W) -> Result<(), WriteFault>
         ensures { PrintsAnswer W.Output self.old (Ok (Line.Open scan.old)) self.new output.old output.new result }
     {
-        if self.sessions.ready(self.alloc, &self.user).is_err() {
-            return write_refused(output, Refusal::NoMemory);
+        match self.sessions.kept_for(self.alloc, &self.user) {
+            Some(kept) => open_numbered(
+                self.alloc,
+                &mut self.core,
+                kept,
+                &self.user,
+                self.moment,
+                scan,
+                output,
+            ),
+            None => write_refused(output, Refusal::NoMemory),
         }
-        if self.sessions.is_spent(&self.user) {
-            return write_refused(output, Refusal::TooLarge(Part::Sessions));
-        }
-        self.keep(scan, output)
-    }
-
-    // The same where one more session can be opened.
-    fn keep<W: Output>(&mut self, scan: &mut Scan, output: &mut W) -> Result<(), WriteFault>
-        requires there { is_some (at_name self.old.asker.user self.old.kept) ≡ true }
-        requires few { is_spent (kept_of self.old.kept self.old.asker.user) ≡ false }
-        ensures { PrintsAnswer W.Output self.old (Ok (Line.Open scan.old)) self.new output.old output.new result }
-    {
-        let number = self.sessions.numbers_given(&self.user);
-        let reply = self
-            .sessions
-            .open(self.alloc, &mut self.core, &self.user, self.moment, scan);
-        put_opened(output, number, &reply)
     }
 
     fn next<W: Output>(&mut self, number: u32, count: u32, output: &mut W) -> Result<(), WriteFault>

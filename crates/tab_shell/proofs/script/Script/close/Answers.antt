@@ -1,7 +1,7 @@
 use Rattle.std.proofs.Common.{ℕ, List, Ok, subst}
 use Rattle.tab_lines.specs.declared.line.Line.TheVariants as line
 use Rattle.tab_replies.specs.Texts.{reply_text}
-use Rattle.tab_shell.specs.Sessions.{Keeping}
+use Rattle.tab_core.specs.Sessions.{Keeping}
 use Rattle.tab_shell.proofs.Scanning.{with_kept}
 use Rattle.tab_shell.proofs.OwnSteps.{close_answered}
 use Rattle.tab_shell.specs.Scripts.{ScriptState, ScriptAnswersLine}

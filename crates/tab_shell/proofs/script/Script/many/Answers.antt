@@ -2,7 +2,7 @@ use Rattle.std.proofs.Common.{◌≡◌, ℕ, List, Ok, sym, subst, rules}
 use Rattle.tab_lines.specs.declared.line.Line.TheVariants as line
 use Rattle.tab_replies.specs.Texts.{reply_text}
 use Rattle.tab_key.specs.declared.range.Bounds.{Bounds}
-use Rattle.tab_shell.specs.Sessions.{Keeping, ManyIn}
+use Rattle.tab_core.specs.Sessions.{Keeping, ManyIn}
 use Rattle.tab_shell.proofs.Scanning.{with_kept}
 use Rattle.tab_shell.proofs.OwnSteps.{many_answered}
 use Rattle.tab_shell.specs.Scripts.{ScriptState, ScriptAnswersLine}

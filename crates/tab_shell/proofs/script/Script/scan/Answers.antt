@@ -1,36 +1,30 @@
-use Rattle.std.proofs.Common.{◌≡◌, ℕ, List, Ok, true, sym, ap, ◌∙◌, subst, rules}
-use Rattle.tab_key.specs.declared.part.Part.TheVariants.{Sessions}
-use Rattle.tab_history.specs.declared.reply.Refusal.TheVariants.{TooLarge, NoMemory}
+use Rattle.std.proofs.Common.{◌≡◌, ℕ, ℤ, List, Ok, Some, Option, MutBor, OnSome, subst, rules, to_z, of_z, w64}
+use Rattle.tab_history.specs.declared.reply.Refusal.TheVariants.{NoMemory}
 use Rattle.tab_lines.specs.declared.line.Line.TheVariants as line
 use Rattle.tab_replies.specs.Texts.{refusal_text}
-use Rattle.tab_shell.specs.Sessions.{Keeping, is_spent}
+use Rattle.tab_core.specs.declared.sessions.Kept.{Kept}
+use Rattle.tab_core.specs.Sessions.{Keeping, kept_of, KeepsFor}
 use Rattle.tab_shell.specs.Scripts.{ScriptState, ScriptAnswersLine}
-use Rattle.tab_shell.specs.Progress.{PrintsAnswer}
-use Rattle.tab_shell.proofs.Scanning.{own_kept, with_kept, spent_answered, starved_answered, kept_counts, recounted}
+use Rattle.tab_shell.specs.Progress.{PrintsAnswer, PrintsFor}
+use Rattle.tab_shell.proofs.Scanning.{with_kept, with_sessions, starved_answered, recounted}
 use Rattle.tab_shell.proofs.script.Script.scan.Goals as goal
 
-pub returns-then-is_err : goal.returns-then-is_err
-returns-then-is_err g c =
+pub returns-in-Some : goal.returns-in-Some
+returns-in-Some g c =
     let v : ScriptState = record { core = c.self.inside.core; asker = record { user = c.self.inside.user; moment = c.self.inside.moment }; kept = c.self.inside.sessions; jobs = c.self.inside.jobs } in
-    let kept : Keeping = c.ready.new.self in
+    let now : Kept = c.scan_now.new.kept in
+    let kept : Keeping = c.kept_for.follows.lender now in
+    let new : ScriptState = with_sessions v c.scan_now.new.core kept in
+    let own : kept_of v.kept v.asker.user ≡ c.in-Some.kept.now = search rules in
+    let keeps = subst (λ (r : Option (MutBor Kept)). OnSome r (KeepsFor v.asker.user now v.kept kept)) c.in-Some.is (c.kept_for.follows.holds now) in
+    let trip : to_z w64 (of_z w64 c.self.inside.moment) ≡ c.self.inside.moment = search rules in
+    let prints = subst (λ (m : ℤ). PrintsFor g.W.Output v.core c.in-Some.kept.now v.asker.user m (Ok (line.Scan c.args.scan.now)) c.scan_now.new.core now c.args.output.now c.scan_now.new.output c.scan_now.result) trip c.scan_now.ensures in
+    subst (λ (s : ScriptState). PrintsAnswer g.W.Output s (Ok (line.Scan c.args.scan.now)) new c.args.output.now c.scan_now.new.output c.scan_now.result) c.self.view_is (prints v.kept kept v.jobs own keeps)
+
+pub returns-in-None : goal.returns-in-None
+returns-in-None g c =
+    let v : ScriptState = record { core = c.self.inside.core; asker = record { user = c.self.inside.user; moment = c.self.inside.moment }; kept = c.self.inside.sessions; jobs = c.self.inside.jobs } in
+    let kept : Keeping = c.kept_for.follows.lender-at-none in
     let text : List ℕ = refusal_text NoMemory in
-    let answered : ScriptAnswersLine v (Ok (line.Scan c.args.scan.now)) text (with_kept v kept) = kept_counts v kept (Ok (line.Scan c.args.scan.now)) text c.ready.ensures.same (starved_answered v c.args.scan.now) in
+    let answered : ScriptAnswersLine v (Ok (line.Scan c.args.scan.now)) text (with_kept v kept) = recounted v v kept (Ok (line.Scan c.args.scan.now)) text c.kept_for.follows.holds-at-none (starved_answered v c.args.scan.now) in
     subst (λ (s : ScriptState). PrintsAnswer g.W.Output s (Ok (line.Scan c.args.scan.now)) (with_kept v kept) c.args.output.now c.write_refused.new.output c.write_refused.result) c.self.view_is (text, answered, c.write_refused.ensures)
-
-pub returns-then-is_spent : goal.returns-then-is_spent
-returns-then-is_spent g c =
-    let v : ScriptState = record { core = c.self.inside.core; asker = record { user = c.self.inside.user; moment = c.self.inside.moment }; kept = c.self.inside.sessions; jobs = c.self.inside.jobs } in
-    let kept : Keeping = c.ready.new.self in
-    let text : List ℕ = refusal_text (TooLarge Sessions) in
-    let yes : c.is_spent.result ≡ true = search rules in
-    let spent : is_spent (own_kept v) ≡ true = ap is_spent (sym (c.ready.ensures.same v.asker.user)) ∙ sym c.is_spent.ensures ∙ yes in
-    let answered : ScriptAnswersLine v (Ok (line.Scan c.args.scan.now)) text (with_kept v kept) = kept_counts v kept (Ok (line.Scan c.args.scan.now)) text c.ready.ensures.same (spent_answered v c.args.scan.now spent) in
-    subst (λ (s : ScriptState). PrintsAnswer g.W.Output s (Ok (line.Scan c.args.scan.now)) (with_kept v kept) c.args.output.now c.write_refused-then-is_spent.new.output c.write_refused-then-is_spent.result) c.self.view_is (text, answered, c.write_refused-then-is_spent.ensures)
-
-pub returns : goal.returns
-returns g c =
-    let v : ScriptState = record { core = c.self.inside.core; asker = record { user = c.self.inside.user; moment = c.self.inside.moment }; kept = c.self.inside.sessions; jobs = c.self.inside.jobs } in
-    let kept : Keeping = c.ready.new.self in
-    let prints = c.read_all.ensures in
-    let answered : ScriptAnswersLine v (Ok (line.Scan c.args.scan.now)) prints.0 c.read_all.new.self = recounted v kept (Ok (line.Scan c.args.scan.now)) prints.0 c.read_all.new.self c.ready.ensures.same prints.1 in
-    subst (λ (s : ScriptState). PrintsAnswer g.W.Output s (Ok (line.Scan c.args.scan.now)) c.read_all.new.self c.args.output.now c.read_all.new.output c.read_all.result) c.self.view_is (prints.0, answered, prints.2)
