@@ -1,23 +1,23 @@
 -- Byte strings, names and what is chosen by a number, read from an input.
-use Rattle.std.proofs.Common.{◌≡◌, ℕ, ◌+◌, ◌<◌, ◌≤◌, true, false, List, [], ◌++◌, length, refl, sym, ap, subst, ◌∙◌, arith, length-append, Option, Some, None}
-use Rattle.std.specs.Prelude.{nat_lt, Result, Ok, Err, OnOk}
+use Rattle.std.proofs.Common.{◌≡◌, ℕ, ℤ, ◌+◌, ◌<◌, ◌≤◌, true, false, List, [], ◌++◌, length, refl, sym, ap, subst, ◌∙◌, arith, length-append, Option, Some, None}
+use Rattle.std.specs.Prelude.{nat_lt, ◌==◌, Result, Ok, Err, OnOk}
 use Rattle.tab_image.specs.Takes.{Appends}
 use Rattle.std.proofs.lemmas.Bool.Decides.{nat_tests}
 use Rattle.tab_key.specs.declared.key.Kind.{Kind}
 use Rattle.tab_key.specs.declared.part.TheConstants.{MAX_PART_LEN}
 use Rattle.tab_policy.specs.declared.sets.SystemPermissions.{SystemPermissions}
 use Rattle.tab_rules.specs.declared.constraint.Constraint.{Constraint}
-use Rattle.tab_history.specs.Settings.{is_version_count}
+use Rattle.tab_history.specs.Settings.{is_version_count, least}
 use Rattle.tab_history.specs.declared.event.TimeMode.{TimeMode}
 use Rattle.tab_io.specs.declared.reading.Input.{Ghosts}
 use Rattle.tab_parts.specs.Parts.{system_in, constraints_in}
-use Rattle.tab_parts.specs.Reading.{◌>>=◌, bytes_at, only_if, is_name, u8_at, u32_at, field_at, name_at, kind_of, kind_at, time_of, time_at, versions_at, constraints_of, constraints_at}
+use Rattle.tab_parts.specs.Reading.{◌>>=◌, bytes_at, only_if, is_name, u8_at, u32_at, i64_at, field_at, name_at, kind_of, kind_at, time_of, time_at, versions_at, constraints_of, constraints_at}
 use Rattle.tab_image.specs.declared.unread.Unread.{Unread}
 use Rattle.tab_image.specs.declared.unread.Unread.TheVariants as unread
-use Rattle.tab_image.specs.Reading.{picked_by, part_at, system_of, system_at}
+use Rattle.tab_image.specs.Reading.{made, picked_by, part_at, system_of, system_at, horizon_at}
 use Rattle.tab_image.specs.Conditions.{is_short}
 use Rattle.tab_image.specs.Streams.{Leaves, Lacks, HasRead, Stops, Appended, text_of}
-use Rattle.tab_image.proofs.Streams.{read_pick, stops_pick, stops_picked}
+use Rattle.tab_image.proofs.Streams.{read_pick, stops_pick, stops_picked, read_made}
 use Rattle.tab_image.proofs.NumberLemmas.{field_read, field_first, field_second}
 use Rattle.tab_image.proofs.TextLemmas.{text_split}
 use Rattle.tab_image.proofs.SaneLaw.{short_decides}
@@ -158,6 +158,21 @@ module _ {R : Type 0} (g : Ghosts R) where
   pub kind_stops : (a b : R) (u : Unread) → Stops g a b u8_at u → Stops g a b kind_at u
   unfolding kind_at picked_by
   kind_stops a b u s = stops_picked g a b kind_of u8_at u s
+
+  -- a horizon, which in the first version is the least one
+  pub first_horizon : (a : R) (version : ℕ) (z : ℤ) → (version == 1) ≡ true → z ≡ least → HasRead g a a (horizon_at version) z
+  unfolding horizon_at
+  first_horizon a version z first is = rw first (subst (λ (y : ℤ). HasRead g a a (made least) y) (sym is) (read_made g a least))
+
+  pub later_horizon : (a b : R) (version : ℕ) (z : ℤ) → (version == 1) ≡ false → HasRead g a b i64_at z → HasRead g a b (horizon_at version) z
+  unfolding horizon_at
+  later_horizon a b version z later p = rw later p
+
+  pub horizon_stops : (a b : R) (version : ℕ) (u : Unread) → (version == 1) ≡ false → Stops g a b i64_at u → Stops g a b (horizon_at version) u
+  unfolding horizon_at
+  horizon_stops a b version u later s = rw later s
+
+pub ruleset horizons = (first_horizon, later_horizon, horizon_stops)
 
 -- what closes the clauses of the functions that read these
 pub ruleset fields = (part_alone, part_first, part_second, part_long, text_read, system_read, system_stops, constraints_read, constraints_none, constraints_stops, field_read, field_first, field_second, name_read, name_none, name_stops, time_read, time_none, time_stops, versions_read, versions_none, versions_stops, kind_read, kind_none, kind_stops)

@@ -1,9 +1,8 @@
 -- Reading gives exactly the image that the bytes spell, and tells exactly the versions that aren't known.
-use Rattle.std.proofs.Common.{◌≡◌, ℕ, ◌^◌, ◌<◌, ◌==◌, true, false, cond, List, ◌++◌, take, drop, Option, Some, None, refl, sym, ap, subst, ◌∙◌, arith}
-use Rattle.std.specs.Prelude.{◌≢◌, bytes_eq, Result, Ok, Err}
+use Rattle.std.proofs.Common.{◌≡◌, ℕ, ◌^◌, ◌<◌, ◌==◌, Bool, true, false, cond, List, ◌++◌, take, drop, Option, Some, None, refl, sym, ap, subst, ◌∙◌, arith, inl, inr}
+use Rattle.std.specs.Prelude.{◌≢◌, ◌||◌, bytes_eq, Result, Ok, Err}
 use Rattle.std.specs.Int.{w16, to_be_bytes}
 use Rattle.std.proofs.lemmas.Bool.{eqb-true}
-use Rattle.std.proofs.lemmas.Bool.Decides.{nat_tests}
 use Rattle.std.proofs.lemmas.List.{take-append-drop}
 use Rattle.std.proofs.lemmas.Slice.Eq.{bytes_eq-Decides}
 use Rattle.tab_parts.specs.Parts.{IsBytes}
@@ -12,9 +11,9 @@ use Rattle.tab_parts.proofs.Exact.{bytes-drop, exact_u16, whole_sound, whole_com
 use Rattle.tab_image.specs.declared.fault.ImageFault.{ImageFault}
 use Rattle.tab_image.specs.declared.fault.ImageFault.TheVariants as fault
 use Rattle.tab_image.specs.declared.image.Image.{Image}
-use Rattle.tab_image.specs.Images.{IsBody, IsSane, IsImage, magic, known_version}
+use Rattle.tab_image.specs.Images.{IsKnown, IsBody, IsSane, IsImage, magic}
 use Rattle.tab_image.specs.Conditions.{is_sane}
-use Rattle.tab_image.specs.Reading.{body_at, if_sane, versioned, image_of, ImagesAreRead, VersionsAreTold}
+use Rattle.tab_image.specs.Reading.{is_known, body_at, if_sane, versioned, image_of, ImagesAreRead, VersionsAreTold}
 use Rattle.tab_image.proofs.PartLaw.{exact_body}
 use Rattle.tab_image.proofs.SaneLaw.{sane_decides}
 
@@ -34,6 +33,31 @@ version_inj : (a b : ℕ) → (let x : Read = Err (fault.Version a) in x) ≡ Er
 unfolding number_told
 version_inj a b e = ap number_told e
 
+-- ---- versions
+known_sound : (n : ℕ) → is_known n ≡ true → IsKnown n
+known_sound n is = elim (n == 1) as (λ b. (n == 1) ≡ b → (b || n == 2) ≡ true → IsKnown n) [
+  | true ↦ λ first e. inl (eqb-true n 1 first)
+  | false ↦ λ later e. inr (eqb-true n 2 e)
+] refl is
+
+known_complete : (n : ℕ) → IsKnown n → is_known n ≡ true
+known_complete n (inl first) = ap is_known first
+known_complete n (inr second) = ap is_known second
+
+-- one that isn't known is neither
+neither : (n : ℕ) → is_known n ≡ false → (n ≢ 1) × (n ≢ 2)
+neither n is = (λ first. absurd (differ (sym is ∙ known_complete n (inl first))), λ second. absurd (differ (sym is ∙ known_complete n (inr second))))
+  where
+    differ : false ≡ true → ⊥
+    differ e = absurd cc
+
+unknown : (n : ℕ) → n ≢ 1 → n ≢ 2 → is_known n ≡ false
+unknown n first second = go (is_known n) refl
+  where
+    go : (b : Bool) → is_known n ≡ b → b ≡ false
+    go true e = elim (known_sound n e) [ inl one ↦ absurd (first one) | inr two ↦ absurd (second two) ]
+    go false e = refl
+
 -- ---- the image behind a version
 sane_sound : (read : Option Image) (i : Image) → if_sane read ≡ Ok i → (read ≡ Some i) × IsSane i
 sane_sound None i is = absurd cc
@@ -47,11 +71,11 @@ sane_tells : (read : Option Image) (n : ℕ) → if_sane read ≡ Err (fault.Ver
 sane_tells None n is = absurd cc
 sane_tells (Some j) n is = elim (is_sane j) as (λ b. cond b (Ok j) (Err fault.Bad) ≡ Err (fault.Version n) → ⊥) [ true ↦ λ e. absurd cc | false ↦ λ e. absurd cc ] is
 
-body_sound : (bytes : List ℕ) (i : Image) → IsBytes bytes → if_sane (whole (body_at bytes)) ≡ Ok i → IsBody bytes i × IsSane i
-body_sound bytes i fits is = let h = sane_sound (whole (body_at bytes)) i is in (whole_sound body_at IsBody exact_body bytes i fits h.0, h.1)
+body_sound : (version : ℕ) (bytes : List ℕ) (i : Image) → IsBytes bytes → if_sane (whole (body_at version bytes)) ≡ Ok i → IsBody version bytes i × IsSane i
+body_sound version bytes i fits is = let h = sane_sound (whole (body_at version bytes)) i is in (whole_sound (body_at version) (IsBody version) (exact_body version) bytes i fits h.0, h.1)
 
-body_complete : (bytes : List ℕ) (i : Image) → IsBody bytes i → IsSane i → if_sane (whole (body_at bytes)) ≡ Ok i
-body_complete bytes i parts sane = ap if_sane (whole_complete body_at IsBody exact_body bytes i parts) ∙ ap (λ b. cond b (Ok i) (Err fault.Bad)) ((sane_decides i).1 sane)
+body_complete : (version : ℕ) (bytes : List ℕ) (i : Image) → IsBody version bytes i → IsSane i → if_sane (whole (body_at version bytes)) ≡ Ok i
+body_complete version bytes i parts sane = ap if_sane (whole_complete (body_at version) (IsBody version) (exact_body version) bytes i parts) ∙ ap (λ b. cond b (Ok i) (Err fault.Bad)) ((sane_decides i).1 sane)
 
 -- ---- the head
 -- bytes that begin with the six, and then a number
@@ -66,50 +90,56 @@ head_read n body lt = ap versioned (exact_u16.complete (to_be_bytes w16 n) body 
 
 -- ---- images
 module _ (bytes : List ℕ) (i : Image) (fits : IsBytes bytes) where
-  known_sound : (v : ℕ × List ℕ) → bytes_eq (take 6 bytes) magic ≡ true → u16_at (drop 6 bytes) ≡ Some v → versioned (Some v) ≡ Ok i → IsImage bytes i
-  known_sound v same read is =
+  abbrev InSome : Type 0
+  InSome = (version : ℕ) × IsImage version bytes i
+
+  behind_sound : (v : ℕ × List ℕ) → bytes_eq (take 6 bytes) magic ≡ true → u16_at (drop 6 bytes) ≡ Some v → versioned (Some v) ≡ Ok i → InSome
+  behind_sound v same read is =
       let h = headed bytes v fits same read in
-      elim (v.0 == 1) as (λ b. (v.0 == 1) ≡ b → cond b (if_sane (whole (body_at v.1))) (Err (fault.Version v.0)) ≡ Ok i → IsImage bytes i) [
-        | true ↦ λ one e. let p = body_sound v.1 i h.1 e in record { body = v.1; spelled = h.0 ∙ ap (λ (n : ℕ). magic ++ (to_be_bytes w16 n ++ v.1)) (eqb-true v.0 1 one); parts = p.0; sane = p.1 }
+      elim (is_known v.0) as (λ b. is_known v.0 ≡ b → cond b (if_sane (whole (body_at v.0 v.1))) (Err (fault.Version v.0)) ≡ Ok i → InSome) [
+        | true ↦ λ known e. let p = body_sound v.0 v.1 i h.1 e in (v.0, record { known = known_sound v.0 known; body = v.1; spelled = h.0; parts = p.0; sane = p.1 })
         | false ↦ λ other e. absurd cc
       ] refl is
 
-  versioned_sound : (read : Option (ℕ × List ℕ)) → bytes_eq (take 6 bytes) magic ≡ true → u16_at (drop 6 bytes) ≡ read → versioned read ≡ Ok i → IsImage bytes i
+  versioned_sound : (read : Option (ℕ × List ℕ)) → bytes_eq (take 6 bytes) magic ≡ true → u16_at (drop 6 bytes) ≡ read → versioned read ≡ Ok i → InSome
   versioned_sound None same read is = absurd cc
-  versioned_sound (Some v) same read is = known_sound v same read is
+  versioned_sound (Some v) same read is = behind_sound v same read is
 
-  image_sound : image_of bytes ≡ Ok i → IsImage bytes i
+  image_sound : image_of bytes ≡ Ok i → InSome
   unfolding image_of
-  image_sound is = elim (bytes_eq (take 6 bytes) magic) as (λ b. bytes_eq (take 6 bytes) magic ≡ b → cond b (versioned (u16_at (drop 6 bytes))) (Err fault.Bad) ≡ Ok i → IsImage bytes i) [
+  image_sound is = elim (bytes_eq (take 6 bytes) magic) as (λ b. bytes_eq (take 6 bytes) magic ≡ b → cond b (versioned (u16_at (drop 6 bytes))) (Err fault.Bad) ≡ Ok i → InSome) [
     | true ↦ λ same e. versioned_sound (u16_at (drop 6 bytes)) same refl e
     | false ↦ λ differs e. absurd cc
   ] refl is
 
-image_complete : (bytes : List ℕ) (i : Image) → IsImage bytes i → image_of bytes ≡ Ok i
-image_complete bytes i is = ap image_of is.spelled ∙ head_read 1 is.body (omega arith) ∙ body_complete is.body i is.parts is.sane
+-- a known version is of two bytes
+few : (n : ℕ) → IsKnown n → n < 2 ^ 16
+few n (inl first) = omega (arith, first)
+few n (inr second) = omega (arith, second)
+
+image_complete : (version : ℕ) (bytes : List ℕ) (i : Image) → IsImage version bytes i → image_of bytes ≡ Ok i
+image_complete version bytes i is =
+    ap image_of is.spelled ∙ head_read version is.body (few version is.known)
+    ∙ ap (λ b. cond b (if_sane (whole (body_at version is.body))) (Err (fault.Version version))) (known_complete version is.known)
+    ∙ body_complete version is.body i is.parts is.sane
 
 pub images_are_read : ImagesAreRead
-images_are_read bytes i fits = (image_sound bytes i fits, image_complete bytes i)
+images_are_read bytes i fits = (image_sound bytes i fits, λ is. image_complete is.0 bytes i is.1)
 
--- ---- versions
+-- ---- versions that are told
 module _ (bytes : List ℕ) (n : ℕ) (fits : IsBytes bytes) where
   abbrev Told : Type 0
-  Told = (rest : List ℕ) × (bytes ≡ magic ++ (to_be_bytes w16 n ++ rest)) × (n < 2 ^ 16) × (n ≢ known_version)
-
-  differs : (a b : ℕ) → (a == b) ≡ false → a ≡ b → ⊥
-  differs a b no_test same_ab = grind (arith, nat_tests)
-
-  isn't : (a b : ℕ) → (a ≡ b → ⊥) → (a == b) ≡ false
-  isn't a b differs = grind (arith, nat_tests)
+  Told = (rest : List ℕ) × (bytes ≡ magic ++ (to_be_bytes w16 n ++ rest)) × (n < 2 ^ 16) × (n ≢ 1) × (n ≢ 2)
 
   told_sound : (v : ℕ × List ℕ) → bytes_eq (take 6 bytes) magic ≡ true → u16_at (drop 6 bytes) ≡ Some v → versioned (Some v) ≡ Err (fault.Version n) → Told
   told_sound v same read is =
       let h = headed bytes v fits same read in
-      elim (v.0 == 1) as (λ b. (v.0 == 1) ≡ b → cond b (if_sane (whole (body_at v.1))) (Err (fault.Version v.0)) ≡ Err (fault.Version n) → Told) [
-        | true ↦ λ one e. absurd (sane_tells (whole (body_at v.1)) n e)
+      elim (is_known v.0) as (λ b. is_known v.0 ≡ b → cond b (if_sane (whole (body_at v.0 v.1))) (Err (fault.Version v.0)) ≡ Err (fault.Version n) → Told) [
+        | true ↦ λ known e. absurd (sane_tells (whole (body_at v.0 v.1)) n e)
         | false ↦ λ other e.
             let same_n : v.0 ≡ n = version_inj v.0 n e in
-            (v.1, h.0 ∙ ap (λ (m : ℕ). magic ++ (to_be_bytes w16 m ++ v.1)) same_n, subst (λ (m : ℕ). m < 2 ^ 16) same_n h.2, λ is_one. differs v.0 1 other (same_n ∙ is_one))
+            let isn't = neither n (ap is_known (sym same_n) ∙ other) in
+            (v.1, h.0 ∙ ap (λ (m : ℕ). magic ++ (to_be_bytes w16 m ++ v.1)) same_n, subst (λ (m : ℕ). m < 2 ^ 16) same_n h.2, isn't.0, isn't.1)
       ] refl is
 
   versioned_tells : (read : Option (ℕ × List ℕ)) → bytes_eq (take 6 bytes) magic ≡ true → u16_at (drop 6 bytes) ≡ read → versioned read ≡ Err (fault.Version n) → Told
@@ -124,7 +154,7 @@ module _ (bytes : List ℕ) (n : ℕ) (fits : IsBytes bytes) where
   ] refl is
 
   version_complete : Told → image_of bytes ≡ Err (fault.Version n)
-  version_complete is = ap image_of is.1 ∙ head_read n is.0 is.2 ∙ ap (λ b. cond b (if_sane (whole (body_at is.0))) (Err (fault.Version n))) (isn't n 1 is.3)
+  version_complete is = ap image_of is.1 ∙ head_read n is.0 is.2 ∙ ap (λ b. cond b (if_sane (whole (body_at n is.0))) (Err (fault.Version n))) (unknown n is.3 is.4)
 
 pub versions_are_told : VersionsAreTold
 versions_are_told bytes n fits = (version_sound bytes n fits, version_complete bytes n fits)

@@ -17,8 +17,8 @@ use Rattle.tab_image.specs.declared.image.Image.{Image}
 use Rattle.tab_image.specs.declared.unread.Unread.{Unread}
 use Rattle.tab_image.specs.declared.unread.Unread.TheVariants as unread
 use Rattle.tab_image.specs.Conditions.{is_sane}
-use Rattle.tab_image.specs.Images.{magic, known_version}
-use Rattle.tab_image.specs.Reading.{◌>>=◌, made, picked_by, same_as, mark_at, body_at, if_sane, versioned, image_of}
+use Rattle.tab_image.specs.Images.{magic}
+use Rattle.tab_image.specs.Reading.{◌>>=◌, made, picked_by, same_as, mark_at, body_at, is_known, if_sane, versioned, image_of}
 use Rattle.tab_image.specs.Loading.{magic_at, version_at, end_at, alone_at, sane_at, told, AreRead, HasLoaded, Loads}
 use Rattle.tab_image.specs.Streams.{Leaves, Lacks, HasRead, Stops, text_of}
 use Rattle.tab_image.specs.Takes.{IsAhead}
@@ -91,18 +91,18 @@ module _ {R E : Type 0} (g : Ghosts R) where
   more_told a b (Err e) h is = let never : false ≡ true = ap (λ (x : Result Bool E). elim x [ Ok t ↦ t | Err e ↦ false ]) is in absurd cc
 
 -- ---- where the conditions hold
-module _ {R : Type 0} (g : Ghosts R) where
-  pub sane_read : (a b : R) (i : Image) → HasRead g a b alone_at i → is_sane i ≡ true → HasRead g a b sane_at i
+module _ {R : Type 0} (g : Ghosts R) (version : ℕ) where
+  pub sane_read : (a b : R) (i : Image) → HasRead g a b (alone_at version) i → is_sane i ≡ true → HasRead g a b (sane_at version) i
   unfolding sane_at
-  sane_read a b i p is = read_pick g a b (only_if is_sane) alone_at i i p (rw is refl)
+  sane_read a b i p is = read_pick g a b (only_if is_sane) (alone_at version) i i p (rw is refl)
 
-  pub insane_stops : (a b : R) (i : Image) → HasRead g a b alone_at i → is_sane i ≡ false → Stops g a b sane_at unread.Bad
+  pub insane_stops : (a b : R) (i : Image) → HasRead g a b (alone_at version) i → is_sane i ≡ false → Stops g a b (sane_at version) unread.Bad
   unfolding sane_at
-  insane_stops a b i p is = stops_pick g a b (only_if is_sane) alone_at i p (rw is refl)
+  insane_stops a b i p is = stops_pick g a b (only_if is_sane) (alone_at version) i p (rw is refl)
 
-  pub sane_stops : (a b : R) (u : Unread) → Stops g a b alone_at u → Stops g a b sane_at u
+  pub sane_stops : (a b : R) (u : Unread) → Stops g a b (alone_at version) u → Stops g a b (sane_at version) u
   unfolding sane_at
-  sane_stops a b u s = stops_picked g a b (only_if is_sane) alone_at u s
+  sane_stops a b u s = stops_picked g a b (only_if is_sane) (alone_at version) u s
 
 pub ruleset magics = (magic_read, magic_none, magic_stops)
 
@@ -122,11 +122,11 @@ judged (Some x) = Ok x.0
 abbrev passed_of : Bool → Image → Option (Image × List ℕ)
 passed_of passed i = parts.◌>>=◌ {A = Image} {B = Image × List ℕ} (cond passed (Some i) None) (λ j. Some (j, []))
 
-sane_is : (bytes : List ℕ) → judged (sane_at bytes) ≡ if_sane (whole (body_at bytes))
+sane_is : (version : ℕ) (bytes : List ℕ) → judged (sane_at version bytes) ≡ if_sane (whole (body_at version bytes))
 unfolding sane_at alone_at picked_by ◌>>=◌ made
-sane_is bytes = go (body_at bytes) refl
+sane_is version bytes = go (body_at version bytes) refl
   where
-    go : (o : Option (Image × List ℕ)) → body_at bytes ≡ o → judged (sane_at bytes) ≡ if_sane (whole o)
+    go : (o : Option (Image × List ℕ)) → body_at version bytes ≡ o → judged (sane_at version bytes) ≡ if_sane (whole o)
     go None e = rw e refl
     go (Some (i, b ∷ bs)) e = let some : (length (b ∷ bs) == 0) ≡ false = grind (arith, nat_tests) in rw e (rw some refl)
     go (Some (i, [])) e = rw e (elim (is_sane i) as (λ t. judged (passed_of t i) ≡ cond t (Ok i) (Err fault.Bad)) [ true ↦ refl | false ↦ refl ])
@@ -161,23 +161,24 @@ stopped : (a : Option (List ℕ)) → Lacks a version_at → AreRead a (Err faul
 stopped None h = tt
 stopped (Some bytes) h = version_is bytes ∙ ap versioned h
 
-unknown : (a b : Option (List ℕ)) (n : ℕ) → (n == known_version) ≡ false → Leaves a b version_at n → AreRead a (Err (fault.Version n))
+unknown : (a b : Option (List ℕ)) (n : ℕ) → is_known n ≡ false → Leaves a b version_at n → AreRead a (Err (fault.Version n))
 unknown None b n other h = tt
-unknown (Some bytes) b n other h = version_is bytes ∙ ap versioned h.1 ∙ ap (λ t. cond t (if_sane (whole (body_at h.0))) (Err (fault.Version n))) other
+unknown (Some bytes) b n other h = version_is bytes ∙ ap versioned h.1 ∙ ap (λ t. cond t (if_sane (whole (body_at n h.0))) (Err (fault.Version n))) other
 
--- the version is the known one
-behind : (bytes rest : List ℕ) → version_at bytes ≡ Some (known_version, rest) → image_of bytes ≡ judged (sane_at rest)
-behind bytes rest h = version_is bytes ∙ ap versioned h ∙ sym (sane_is rest)
+-- the version is known
+module _ (n : ℕ) (known : is_known n ≡ true) where
+  behind : (bytes rest : List ℕ) → version_at bytes ≡ Some (n, rest) → image_of bytes ≡ judged (sane_at n rest)
+  behind bytes rest h = version_is bytes ∙ ap versioned h ∙ ap (λ t. cond t (if_sane (whole (body_at n rest))) (Err (fault.Version n))) known ∙ sym (sane_is n rest)
 
-read_both : (a b c : Option (List ℕ)) (i : Image) → Leaves a b version_at known_version → Leaves b c sane_at i → AreRead a (Ok i)
-read_both None b c i h k = tt
-read_both (Some bytes) None c i h k = absurd (none_some h.0 h.2)
-read_both (Some bytes) (Some mid) c i h k = behind bytes h.0 h.1 ∙ ap judged (ap sane_at (sym (some_inj mid h.0 h.2)) ∙ k.1)
+  read_both : (a b c : Option (List ℕ)) (i : Image) → Leaves a b version_at n → Leaves b c (sane_at n) i → AreRead a (Ok i)
+  read_both None b c i h k = tt
+  read_both (Some bytes) None c i h k = absurd (none_some h.0 h.2)
+  read_both (Some bytes) (Some mid) c i h k = behind bytes h.0 h.1 ∙ ap judged (ap (sane_at n) (sym (some_inj mid h.0 h.2)) ∙ k.1)
 
-stopped_behind : (a b : Option (List ℕ)) → Leaves a b version_at known_version → Lacks b sane_at → AreRead a (Err fault.Bad)
-stopped_behind None b h k = tt
-stopped_behind (Some bytes) None h k = absurd (none_some h.0 h.2)
-stopped_behind (Some bytes) (Some mid) h k = behind bytes h.0 h.1 ∙ ap judged (ap sane_at (sym (some_inj mid h.0 h.2)) ∙ k)
+  stopped_behind : (a b : Option (List ℕ)) → Leaves a b version_at n → Lacks b (sane_at n) → AreRead a (Err fault.Bad)
+  stopped_behind None b h k = tt
+  stopped_behind (Some bytes) None h k = absurd (none_some h.0 h.2)
+  stopped_behind (Some bytes) (Some mid) h k = behind bytes h.0 h.1 ∙ ap judged (ap (sane_at n) (sym (some_inj mid h.0 h.2)) ∙ k)
 
 -- ---- of an input
 module _ {R : Type 0} (g : Ghosts R) where
@@ -189,21 +190,16 @@ module _ {R : Type 0} (g : Ghosts R) where
       go unread.Io t = t.why
       go unread.NoMemory t = tt
 
-  pub load_unknown : (a b : R) (n : ℕ) → (n == known_version) ≡ false → HasRead g a b version_at n → AreRead (g.remaining a) (Err (fault.Version n))
+  pub load_unknown : (a b : R) (n : ℕ) → is_known n ≡ false → HasRead g a b version_at n → AreRead (g.remaining a) (Err (fault.Version n))
   load_unknown a b n other p = unknown (g.remaining a) (g.remaining b) n other p.bytes
 
-  pub load_read : (a b c : R) (n : ℕ) (i : Image) → n ≡ known_version → HasRead g a b version_at n → HasRead g b c sane_at i → is_sane i ≡ true → HasLoaded g a c i
-  load_read a b c n i known p q sane =
-      let first = subst (λ (m : ℕ). HasRead g a b version_at m) known p in
-      record { bytes = read_both (g.remaining a) (g.remaining b) (g.remaining c) i first.bytes q.bytes; sane = (sane_decides i).0 sane; faults = q.faults ∙ p.faults }
+  pub load_read : (a b c : R) (n : ℕ) (i : Image) → is_known n ≡ true → HasRead g a b version_at n → HasRead g b c (sane_at n) i → is_sane i ≡ true → HasLoaded g a c i
+  load_read a b c n i known p q sane = record { bytes = read_both n known (g.remaining a) (g.remaining b) (g.remaining c) i p.bytes q.bytes; sane = (sane_decides i).0 sane; faults = q.faults ∙ p.faults }
 
-  pub load_stops_behind : (a b c : R) (n : ℕ) (u : Unread) (r : Result Image LoadFault) → n ≡ known_version → r ≡ Err (told u) → HasRead g a b version_at n → Stops g b c sane_at u → Loads g a c r
+  pub load_stops_behind : (a b c : R) (n : ℕ) (u : Unread) (r : Result Image LoadFault) → is_known n ≡ true → r ≡ Err (told u) → HasRead g a b version_at n → Stops g b c (sane_at n) u → Loads g a c r
   load_stops_behind a b c n u r known is p s = subst (λ (x : Result Image LoadFault). Loads g a c x) (sym is) (go u s)
     where
-      first : HasRead g a b version_at known_version
-      first = subst (λ (m : ℕ). HasRead g a b version_at m) known p
-
-      go : (v : Unread) → Stops g b c sane_at v → Loads g a c (Err (told v))
-      go unread.Bad t = stopped_behind (g.remaining a) (g.remaining b) first.bytes t.why
-      go unread.Io t = later_failed g a b c first.faults t.why
+      go : (v : Unread) → Stops g b c (sane_at n) v → Loads g a c (Err (told v))
+      go unread.Bad t = stopped_behind n known (g.remaining a) (g.remaining b) p.bytes t.why
+      go unread.Io t = later_failed g a b c p.faults t.why
       go unread.NoMemory t = tt

@@ -1,6 +1,6 @@
 -- The parts of an image are exactly what is read of their bytes.
-use Rattle.std.proofs.Common.{◌≡◌, ℕ, ℤ, ◌<◌, ◌≤◌, true, false, cond, List, [], ◌∷◌, ◌++◌, length, Option, Some, None, refl, sym, ap, subst, ◌∙◌, arith}
-use Rattle.std.specs.Prelude.{nat_lt, ◌&&◌, codes, bytes_eq}
+use Rattle.std.proofs.Common.{◌≡◌, ℕ, ℤ, ◌<◌, ◌≤◌, Bool, true, false, cond, List, [], ◌∷◌, ◌++◌, length, Option, Some, None, refl, sym, ap, subst, ◌∙◌, arith}
+use Rattle.std.specs.Prelude.{nat_lt, ◌==◌, ◌&&◌, codes, bytes_eq}
 use Rattle.std.proofs.lemmas.Bool.Decides.{nat_tests}
 use Rattle.std.proofs.lemmas.Slice.Eq.{bytes_eq-Decides}
 use Rattle.tab_key.specs.Records.{Record}
@@ -9,11 +9,12 @@ use Rattle.tab_key.specs.declared.part.TheConstants.{MAX_PART_LEN}
 use Rattle.tab_policy.specs.declared.sets.SystemPermissions.{SystemPermissions}
 use Rattle.tab_policy.specs.declared.sets.TablePermissions.{TablePermissions}
 use Rattle.tab_rules.specs.declared.constraint.Constraint.{Constraint}
+use Rattle.tab_history.specs.Settings.{least}
 use Rattle.tab_history.specs.declared.event.TimeMode.{TimeMode}
 use Rattle.tab_parts.specs.Parts.{IsByte, IsU32, IsU64, IsI64, IsField, IsNameField, AreParts, IsCounted, IsList, IsKind, IsTime, IsVersions, IsConstraints, kind_byte, time_byte, system_in, table_in}
 use Rattle.tab_parts.specs.Exactness.{Exact}
 use Rattle.tab_parts.specs.Reading.{Reader, u8_at, u32_at, u64_at, i64_at, bytes_at, field_at, name_at, parts_at, only_if, kind_at, time_at, versions_at, constraints_at}
-use Rattle.tab_parts.proofs.Exact.{some_inj, exact_as, Follows, exact_then, Becomes, exact_mapped, Picks, exact_picked, exact_u8, exact_u32, exact_u64, exact_bytes}
+use Rattle.tab_parts.proofs.Exact.{some_inj, exact_as, Follows, exact_then, Becomes, exact_mapped, Picks, exact_picked, exact_given, exact_u8, exact_u32, exact_u64, exact_bytes}
 use Rattle.tab_parts.proofs.PartLaw.{exact_field, exact_name, exact_i64, only_passed, only_passes, parts_sound, parts_complete}
 use Rattle.tab_parts.proofs.TagLaw.{exact_kind, exact_time, exact_versions, exact_constraints}
 use Rattle.tab_key.specs.Bytes.{bytes_cmp}
@@ -24,10 +25,10 @@ use Rattle.tab_image.specs.declared.table.TableHead.{TableHead}
 use Rattle.tab_image.specs.declared.table.ImageTable.{ImageTable}
 use Rattle.tab_image.specs.declared.image.Image.{Image}
 use Rattle.tab_image.specs.Conditions.{rises, is_short}
-use Rattle.tab_image.specs.Images.{IsPart, IsSystem, IsHeld, IsSet, IsUser, IsRight, IsRecord, IsHead, IsTable, IsBody}
+use Rattle.tab_image.specs.Images.{IsPart, IsSystem, IsHeld, IsSet, IsUser, IsRight, IsRecord, IsHorizon, IsHead, IsTable, IsBody}
 use Rattle.tab_image.proofs.Rising.{bytes_rise}
 use Rattle.tab_image.proofs.SaneLaw.{short_decides}
-use Rattle.tab_image.specs.Reading.{◌>>=◌, made, picked_by, all_at, part_at, ends_at, system_of, system_at, held_of, held_at, texts_at, set_of_list, set_at, user_at, users_at, right_at, rights_at, record_at, records_at, head_at, table_at, tables_at, same_as, mark_at, body_at}
+use Rattle.tab_image.specs.Reading.{◌>>=◌, made, picked_by, all_at, part_at, ends_at, system_of, system_at, held_of, held_at, texts_at, set_of_list, set_at, user_at, users_at, right_at, rights_at, record_at, records_at, horizon_at, head_at, table_at, tables_at, same_as, mark_at, body_at}
 
 -- ---- one part after another
 exact_next : {A B : Type 0} (r : Reader A) (R : List ℕ → A → Type 0) (q : A → Reader B) (Q : A → List ℕ → B → Type 0) → Exact r R → ((x : A) → Exact (q x) (Q x)) → Exact (r >>= q) (Follows R Q)
@@ -258,86 +259,108 @@ unfolding records_at
 exact_records = exact_all u64_at IsU64 record_at IsRecord exact_u64 exact_record
 
 -- ---- tables
-abbrev head_made : List ℕ → TimeMode → ℕ → List Constraint → List ImageRight → List (List ℕ) → TableHead
-head_made n t v c r e = record { name = n; time = t; versions = v; constraints = c; rights = r; ends = e }
+exact_least : Exact (made least) (λ bytes z. (bytes ≡ []) × (z ≡ least))
+unfolding made
+exact_least = exact_as (λ bytes z. (bytes ≡ []) × (z ≡ least)) (exact_given least) (λ bytes z is. (is.0, sym is.1)) (λ bytes z is. (is.0, sym is.1))
 
-abbrev HeadParts : List ℕ → TableHead → Type 0
-HeadParts = Follows IsNameField (λ n. Follows IsTime (λ t. Follows IsVersions (λ v. Follows IsConstraints (λ c. Follows (IsCounted IsU32 IsRight) (λ r. Becomes (IsCounted IsU32 IsPart) (head_made n t v c r))))))
+exact_horizon : (version : ℕ) → Exact (horizon_at version) (IsHorizon version)
+unfolding horizon_at
+exact_horizon version = go (version == 1)
+  where
+    go : (b : Bool) → Exact (cond b (made least) i64_at) (λ bytes z. cond b ((bytes ≡ []) × (z ≡ least)) (IsI64 bytes z))
+    go true = exact_least
+    go false = exact_i64
 
-exact_head_parts : Exact head_at HeadParts
+abbrev head_made : List ℕ → TimeMode → ℕ → List Constraint → ℤ → List ImageRight → List (List ℕ) → TableHead
+head_made n t v c z r e = record { name = n; time = t; versions = v; constraints = c; horizon = z; rights = r; ends = e }
+
+abbrev HeadParts : ℕ → List ℕ → TableHead → Type 0
+HeadParts version = Follows IsNameField (λ n. Follows IsTime (λ t. Follows IsVersions (λ v. Follows IsConstraints (λ c. Follows (IsHorizon version) (λ z. Follows (IsCounted IsU32 IsRight) (λ r. Becomes (IsCounted IsU32 IsPart) (head_made n t v c z r)))))))
+
+exact_head_parts : (version : ℕ) → Exact (head_at version) (HeadParts version)
 unfolding head_at
-exact_head_parts =
+exact_head_parts version =
     exact_next name_at IsNameField _ _ exact_name (λ n.
     exact_next time_at IsTime _ _ exact_time (λ t.
     exact_next versions_at IsVersions _ _ exact_versions (λ v.
     exact_next constraints_at IsConstraints _ _ exact_constraints (λ c.
+    exact_next (horizon_at version) (IsHorizon version) _ _ (exact_horizon version) (λ z.
     exact_next rights_at (IsCounted IsU32 IsRight) _ _ exact_rights (λ r.
-    exact_last (head_made n t v c r) ends_at (IsCounted IsU32 IsPart) exact_ends)))))
+    exact_last (head_made n t v c z r) ends_at (IsCounted IsU32 IsPart) exact_ends))))))
 
-head_to : (bytes : List ℕ) (h : TableHead) → HeadParts bytes h → IsHead bytes h
-head_to bytes h a =
-    let b = a.next in let c = b.next in let d = c.next in let e = d.next in
-    subst (λ (x : TableHead). IsHead bytes x) e.next.becomes (record {
+head_to : (version : ℕ) (bytes : List ℕ) (h : TableHead) → HeadParts version bytes h → IsHead version bytes h
+head_to version bytes h a =
+    let b = a.next in let c = b.next in let d = c.next in let e = d.next in let f = e.next in
+    subst (λ (x : TableHead). IsHead version bytes x) f.next.becomes (record {
       n = a.front;
       v = c.front;
       c = d.front;
-      r = e.front;
-      e = e.back;
-      spelled = a.parts ∙ ap (λ (z : List ℕ). a.front ++ z) (b.parts ∙ ap (λ (z : List ℕ). z ++ b.back) b.says ∙ ap (λ (z : List ℕ). time_byte b.first ∷ z) (c.parts ∙ ap (λ (z : List ℕ). c.front ++ z) (d.parts ∙ ap (λ (z : List ℕ). d.front ++ z) e.parts)));
+      z = e.front;
+      r = f.front;
+      e = f.back;
+      spelled = a.parts ∙ ap (λ (z : List ℕ). a.front ++ z) (b.parts ∙ ap (λ (z : List ℕ). z ++ b.back) b.says ∙ ap (λ (z : List ℕ). time_byte b.first ∷ z) (c.parts ∙ ap (λ (z : List ℕ). c.front ++ z) (d.parts ∙ ap (λ (z : List ℕ). d.front ++ z) (e.parts ∙ ap (λ (z : List ℕ). e.front ++ z) f.parts))));
       name = a.says;
       versions = c.says;
       constraints = d.says;
-      rights = e.says;
-      ends = e.next.says;
+      horizon = e.says;
+      rights = f.says;
+      ends = f.next.says;
     })
 
-head_back : (bytes : List ℕ) (h : TableHead) → IsHead bytes h → HeadParts bytes h
-head_back bytes h is = record {
+head_back : (version : ℕ) (bytes : List ℕ) (h : TableHead) → IsHead version bytes h → HeadParts version bytes h
+head_back version bytes h is = record {
   first = h.name;
   front = is.n;
-  back = time_byte h.time ∷ (is.v ++ (is.c ++ (is.r ++ is.e)));
+  back = time_byte h.time ∷ (is.v ++ (is.c ++ (is.z ++ (is.r ++ is.e))));
   parts = is.spelled;
   says = is.name;
   next = record {
     first = h.time;
     front = time_byte h.time ∷ [];
-    back = is.v ++ (is.c ++ (is.r ++ is.e));
+    back = is.v ++ (is.c ++ (is.z ++ (is.r ++ is.e)));
     parts = refl;
     says = refl;
     next = record {
       first = h.versions;
       front = is.v;
-      back = is.c ++ (is.r ++ is.e);
+      back = is.c ++ (is.z ++ (is.r ++ is.e));
       parts = refl;
       says = is.versions;
       next = record {
         first = h.constraints;
         front = is.c;
-        back = is.r ++ is.e;
+        back = is.z ++ (is.r ++ is.e);
         parts = refl;
         says = is.constraints;
-        next = record { first = h.rights; front = is.r; back = is.e; parts = refl; says = is.rights; next = record { first = h.ends; says = is.ends; becomes = refl } };
+        next = record {
+          first = h.horizon;
+          front = is.z;
+          back = is.r ++ is.e;
+          parts = refl;
+          says = is.horizon;
+          next = record { first = h.rights; front = is.r; back = is.e; parts = refl; says = is.rights; next = record { first = h.ends; says = is.ends; becomes = refl } };
+        };
       };
     };
   };
 }
 
-exact_head : Exact head_at IsHead
-exact_head = exact_as IsHead exact_head_parts head_to head_back
+exact_head : (version : ℕ) → Exact (head_at version) (IsHead version)
+exact_head version = exact_as (IsHead version) (exact_head_parts version) (head_to version) (head_back version)
 
 abbrev table_made : TableHead → List Record → ImageTable
 table_made h rs = record { head = h; records = rs }
 
-exact_table : Exact table_at IsTable
+exact_table : (version : ℕ) → Exact (table_at version) (IsTable version)
 unfolding table_at
-exact_table = exact_as IsTable
-    (exact_next head_at IsHead _ (λ h. Becomes (IsCounted IsU64 IsRecord) (table_made h)) exact_head (λ h. exact_last (table_made h) records_at (IsCounted IsU64 IsRecord) exact_records))
-    (λ bytes t a. subst (λ (x : ImageTable). IsTable bytes x) a.next.becomes (record { h = a.front; rs = a.back; spelled = a.parts; head = a.says; records = a.next.says }))
+exact_table version = exact_as (IsTable version)
+    (exact_next (head_at version) (IsHead version) _ (λ h. Becomes (IsCounted IsU64 IsRecord) (table_made h)) (exact_head version) (λ h. exact_last (table_made h) records_at (IsCounted IsU64 IsRecord) exact_records))
+    (λ bytes t a. subst (λ (x : ImageTable). IsTable version bytes x) a.next.becomes (record { h = a.front; rs = a.back; spelled = a.parts; head = a.says; records = a.next.says }))
     (λ bytes t is. record { first = t.head; front = is.h; back = is.rs; parts = is.spelled; says = is.head; next = record { first = t.records; says = is.records; becomes = refl } })
 
-exact_tables : Exact (tables_at) (IsCounted IsU32 IsTable)
+exact_tables : (version : ℕ) → Exact (tables_at version) (IsCounted IsU32 (IsTable version))
 unfolding tables_at
-exact_tables = exact_all u32_at IsU32 table_at IsTable exact_u32 exact_table
+exact_tables version = exact_all u32_at IsU32 (table_at version) (IsTable version) exact_u32 (exact_table version)
 
 -- ---- what stands behind the version
 abbrev image_made : ℤ → ℕ → List ImageUser → List ImageTable → Image
@@ -361,15 +384,15 @@ exact_mark = exact_as IsMark (exact_pick (same_as (codes "END!")) (bytes_at 4) F
     (λ bytes u p. p.says.0 ∙ same_is (codes "END!") p.first u p.picks)
     (λ bytes u is. record { first = codes "END!"; says = (is, refl); picks = refl })
 
-pub exact_body : Exact body_at IsBody
+pub exact_body : (version : ℕ) → Exact (body_at version) (IsBody version)
 unfolding body_at
-exact_body = exact_as IsBody
-    (exact_next i64_at IsI64 _ (λ c. Follows IsU64 (λ n. Follows (IsCounted IsU32 IsUser) (λ us. Follows (IsCounted IsU32 IsTable) (λ ts. Becomes IsMark (λ m. image_made c n us ts))))) exact_i64 (λ c.
+exact_body version = exact_as (IsBody version)
+    (exact_next i64_at IsI64 _ (λ c. Follows IsU64 (λ n. Follows (IsCounted IsU32 IsUser) (λ us. Follows (IsCounted IsU32 (IsTable version)) (λ ts. Becomes IsMark (λ m. image_made c n us ts))))) exact_i64 (λ c.
     exact_next u64_at IsU64 _ _ exact_u64 (λ n.
     exact_next users_at (IsCounted IsU32 IsUser) _ _ exact_users (λ us.
-    exact_next tables_at (IsCounted IsU32 IsTable) _ _ exact_tables (λ ts.
+    exact_next (tables_at version) (IsCounted IsU32 (IsTable version)) _ _ (exact_tables version) (λ ts.
     exact_last (λ m. image_made c n us ts) mark_at IsMark exact_mark)))))
-    (λ bytes i a. let b = a.next in let c = b.next in let d = c.next in subst (λ (x : Image). IsBody bytes x) d.next.becomes
+    (λ bytes i a. let b = a.next in let c = b.next in let d = c.next in subst (λ (x : Image). IsBody version bytes x) d.next.becomes
     (record {
       c = a.front;
       n = b.front;

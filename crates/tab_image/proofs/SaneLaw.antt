@@ -1,9 +1,9 @@
 -- The tests of an image answer yes exactly where its conditions hold.
-use Rattle.std.proofs.Common.{◌≡◌, ℕ, ◌≤◌, ◌<◌, ◌^◌, Bool, true, false, not, List, [], ◌∷◌, length, refl, arith}
+use Rattle.std.proofs.Common.{◌≡◌, ℕ, ℤ, ◌≤◌, ◌<◌, ◌^◌, Bool, true, false, not, List, [], ◌∷◌, length, refl, arith}
 use Rattle.std.specs.Prelude.{◌||◌, map, bytes_eq, is_ok}
 use Rattle.std.specs.Bool.{Decides}
 use Rattle.std.specs.List.{list_all, list_any, AllByRecursion}
-use Rattle.std.proofs.lemmas.Bool.Decides.{nat_tests, Decides-like, Decides-and, Decides-ltb}
+use Rattle.std.proofs.lemmas.Bool.Decides.{nat_tests, Decides-like, Decides-and, Decides-ltb, Decides-int_eq}
 use Rattle.std.proofs.lemmas.Slice.Eq.{bytes_eq-Decides}
 use Rattle.tab_key.specs.Encoding.{is_short as is_short_record, IsShort}
 use Rattle.tab_key.specs.Records.{Record}
@@ -15,6 +15,9 @@ use Rattle.tab_label.specs.Reading.{label_of}
 use Rattle.tab_policy.specs.Holders.{has_any}
 use Rattle.tab_policy.specs.Roots.{root}
 use Rattle.tab_history.specs.Checks.{too_many_auths}
+use Rattle.tab_history.specs.Settings.{least}
+use Rattle.tab_history.specs.declared.event.TimeMode.{TimeMode}
+use Rattle.tab_history.specs.declared.event.TimeMode.TheVariants.{Any, Server}
 use Rattle.tab_key.specs.declared.part.TheConstants.{MAX_PART_LEN, MAX_UPDATES}
 use Rattle.tab_key.proofs.Order.{record_cmp_total}
 use Rattle.tab_image.specs.declared.user.ImageUser.{ImageUser}
@@ -22,7 +25,7 @@ use Rattle.tab_image.specs.declared.table.ImageTable.{ImageTable}
 use Rattle.tab_image.specs.declared.image.Image.{Image}
 use Rattle.tab_image.specs.Images.{is_root, has_user, IsSaneUser, IsSaneRecord, IsSaneTable, IsSane}
 use Rattle.tab_image.proofs.Rising.{itself, rises_decides, bytes_rise}
-use Rattle.tab_image.specs.Conditions.{is_empty, is_short, is_few, is_sane_user, is_sane_record, is_sane_table, is_sane}
+use Rattle.tab_image.specs.Conditions.{is_empty, is_short, is_few, is_sane_user, is_sane_record, has_sane_horizon, is_sane_table, is_sane}
 
 -- ---- tests of one thing
 denied : (b : Bool) → Decides (not b) (b ≡ false)
@@ -71,13 +74,17 @@ record_decides next r = Decides-like (is_sane_record next r)
     (λ h. (h.short, (h.seq, (h.idx, (h.marker, h.label)))))
     (Decides-and _ _ (short_record_decides r) (Decides-and _ _ (Decides-ltb r.seq next) (Decides-and _ _ (Decides-ltb r.idx MAX_UPDATES) (Decides-and _ _ (marker_decides r.kind r.value) (itself (is_ok (label_of r.key.label)))))))
 
+horizon_decides : (time : TimeMode) (horizon : ℤ) → Decides (has_sane_horizon time horizon) (time ≡ Server → horizon ≡ least)
+horizon_decides Any horizon = (λ e h. absurd cc, λ f. refl)
+horizon_decides Server horizon = let d = Decides-int_eq horizon least in (λ e h. d.0 e, λ f. d.1 (f refl))
+
 table_decides : (users : List ImageUser) (next : ℕ) (t : ImageTable) → Decides (is_sane_table users next t) (IsSaneTable users next t)
 table_decides users next t = Decides-like (is_sane_table users next t)
-    (λ h. record { rights = h.0.0.0; known = h.0.0.1; some = h.0.1; ends_few = h.1.0.0; ends = h.1.0.1.0; ends_short = h.1.0.1.1; records = h.1.1.0; each = h.1.1.1 })
-    (λ h. (((h.rights, h.known), h.some), ((h.ends_few, (h.ends, h.ends_short)), (h.records, h.each))))
+    (λ h. record { rights = h.0.0.0; known = h.0.0.1; some = h.0.1; ends_few = h.1.0.0; ends = h.1.0.1.0; ends_short = h.1.0.1.1; server = h.1.1.0; records = h.1.1.1.0; each = h.1.1.1.1 })
+    (λ h. (((h.rights, h.known), h.some), ((h.ends_few, (h.ends, h.ends_short)), (h.server, (h.records, h.each)))))
     (Decides-and _ _ (Decides-and _ _ (Decides-and _ _ (bytes_rise (map (λ r. r.user) t.head.rights)) (all_decides (λ r. has_user users r.user) (λ r. has_user users r.user ≡ true) (λ r. itself (has_user users r.user)) t.head.rights)) (all_decides (λ r. has_any r.held) (λ r. has_any r.held ≡ true) (λ r. itself (has_any r.held)) t.head.rights))
     (Decides-and _ _ (Decides-and _ _ (few_decides t.head.ends) (Decides-and _ _ (bytes_rise t.head.ends) (all_decides is_short (λ row. length row ≤ MAX_PART_LEN) short_decides t.head.ends)))
-    (Decides-and _ _ (rises_decides record_cmp record_cmp_total t.records) (all_decides (is_sane_record next) (IsSaneRecord next) (record_decides next) t.records))))
+    (Decides-and _ _ (horizon_decides t.head.time t.head.horizon) (Decides-and _ _ (rises_decides record_cmp record_cmp_total t.records) (all_decides (is_sane_record next) (IsSaneRecord next) (record_decides next) t.records)))))
 
 pub sane_decides : (i : Image) → Decides (is_sane i) (IsSane i)
 sane_decides i = Decides-like (is_sane i)

@@ -1,12 +1,13 @@
 -- An image has one spelling, and these are its bytes.
-use Rattle.std.proofs.Common.{◌≡◌, ℕ, ℤ, List, [], ◌∷◌, ◌++◌, length, refl, sym, ap, ◌∙◌, append_assoc}
-use Rattle.std.specs.Prelude.{codes}
+use Rattle.std.proofs.Common.{◌≡◌, ℕ, ℤ, Bool, true, false, cond, List, [], ◌∷◌, ◌++◌, length, refl, sym, ap, ◌∙◌, append_assoc}
+use Rattle.std.specs.Prelude.{◌==◌, codes}
 use Rattle.std.specs.List.{flat_map}
 use Rattle.std.specs.Int.{w16, w64, to_be_bytes, cast_unsigned}
 use Rattle.std.proofs.lemmas.Int.{of_z-to_z}
 use Rattle.tab_key.specs.Records.{Record}
 use Rattle.tab_policy.specs.declared.sets.SystemPermissions.{SystemPermissions}
 use Rattle.tab_policy.specs.declared.sets.TablePermissions.{TablePermissions}
+use Rattle.tab_history.specs.Settings.{least}
 use Rattle.tab_history.specs.declared.event.TimeMode.{TimeMode}
 use Rattle.tab_rules.specs.declared.constraint.Constraint.{Constraint}
 use Rattle.tab_parts.specs.Parts.{IsU32, IsU64, IsI64, IsField, AreParts, IsCounted, IsList, IsVersions, IsConstraints, kind_byte, time_byte, constraint_bits, system_bits, table_bits}
@@ -16,8 +17,8 @@ use Rattle.tab_image.specs.declared.table.ImageRight.{ImageRight}
 use Rattle.tab_image.specs.declared.table.TableHead.{TableHead}
 use Rattle.tab_image.specs.declared.table.ImageTable.{ImageTable}
 use Rattle.tab_image.specs.declared.image.Image.{Image}
-use Rattle.tab_image.specs.Images.{IsPart, IsSystem, IsHeld, IsUser, IsRight, IsRecord, IsHead, IsTable, IsBody, magic, known_version}
-use Rattle.tab_image.specs.Spelling.{one_byte, two_bytes, four_bytes, eight_bytes, signed_bytes, field_bytes, list_bytes, user_bytes, right_bytes, settings_bytes, head_bytes, record_bytes, records_bytes, table_bytes, magic_bytes, front_bytes, end_bytes, image_bytes, OneSpelling}
+use Rattle.tab_image.specs.Images.{IsPart, IsSystem, IsHeld, IsUser, IsRight, IsRecord, IsHorizon, IsHead, IsTable, IsBody, magic}
+use Rattle.tab_image.specs.Spelling.{one_byte, two_bytes, four_bytes, eight_bytes, signed_bytes, field_bytes, list_bytes, user_bytes, right_bytes, horizon_bytes, settings_bytes, head_bytes, record_bytes, records_bytes, table_bytes, magic_bytes, front_bytes, end_bytes, image_bytes, OneSpelling}
 
 -- one thing after another
 both : (a b c d : List ℕ) → a ≡ c → b ≡ d → a ++ b ≡ c ++ d
@@ -76,16 +77,31 @@ right_is : (b : List ℕ) (r : ImageRight) → IsRight b r → b ≡ right_bytes
 unfolding right_bytes one_byte
 right_is b r is = is.spelled ∙ both is.u is.b (field_bytes r.user) _ (field_is is.u r.user is.user.0) (held_is is.b r.held is.held)
 
--- the settings, and what stands behind them
-settled : (time : TimeMode) (n : ℕ) (cs : List Constraint) (v c rest more : List ℕ) → IsVersions v n → IsConstraints c cs → rest ≡ more → time_byte time ∷ (v ++ (c ++ rest)) ≡ settings_bytes time n cs ++ more
-unfolding settings_bytes one_byte
-settled time n cs v c rest more vs is e =
-    ap (λ (z : List ℕ). time_byte time ∷ z) (both v (c ++ rest) (four_bytes n) ((constraint_bits cs ∷ []) ++ more) (u32_is v n vs.0) (both c rest (constraint_bits cs ∷ []) more (constraints_are c cs is) e) ∙ sym (append_assoc (four_bytes n) (constraint_bits cs ∷ []) more))
+horizon_is : (version : ℕ) (b : List ℕ) (z : ℤ) → IsHorizon version b z → b ≡ horizon_bytes version z
+unfolding horizon_bytes
+horizon_is version b z is = go (version == 1) is
+  where
+    go : (first : Bool) → cond first ((b ≡ []) × (z ≡ least)) (IsI64 b z) → b ≡ cond first [] (signed_bytes z)
+    go true is = is.0
+    go false is = i64_is b z is
 
-head_is : (b : List ℕ) (t : TableHead) → IsHead b t → b ≡ head_bytes t
+-- the settings, and what stands behind them
+pub settings_joined : (version : ℕ) (time : TimeMode) (n : ℕ) (cs : List Constraint) (horizon : ℤ) (more : List ℕ)
+    → settings_bytes version time n cs horizon ++ more ≡ time_byte time ∷ (four_bytes n ++ ((constraint_bits cs ∷ []) ++ (horizon_bytes version horizon ++ more)))
+unfolding settings_bytes one_byte
+settings_joined version time n cs horizon more = ap (λ (z : List ℕ). time_byte time ∷ z) (append_assoc (four_bytes n) (constraint_bits cs ∷ horizon_bytes version horizon) more)
+
+settled : (version : ℕ) (time : TimeMode) (n : ℕ) (cs : List Constraint) (horizon : ℤ) (v c z rest more : List ℕ) → IsVersions v n → IsConstraints c cs → IsHorizon version z horizon → rest ≡ more
+    → time_byte time ∷ (v ++ (c ++ (z ++ rest))) ≡ settings_bytes version time n cs horizon ++ more
+settled version time n cs horizon v c z rest more vs is hs e =
+    ap (λ (y : List ℕ). time_byte time ∷ y) (both v (c ++ (z ++ rest)) (four_bytes n) ((constraint_bits cs ∷ []) ++ (horizon_bytes version horizon ++ more)) (u32_is v n vs.0)
+    (both c (z ++ rest) (constraint_bits cs ∷ []) (horizon_bytes version horizon ++ more) (constraints_are c cs is) (both z rest (horizon_bytes version horizon) more (horizon_is version z horizon hs) e)))
+    ∙ sym (settings_joined version time n cs horizon more)
+
+head_is : (version : ℕ) (b : List ℕ) (t : TableHead) → IsHead version b t → b ≡ head_bytes version t
 unfolding head_bytes
-head_is b t is =
-    is.spelled ∙ both is.n _ (field_bytes t.name) _ (field_is is.n t.name is.name.0) (settled t.time t.versions t.constraints is.v is.c (is.r ++ is.e) _ is.versions is.constraints
+head_is version b t is =
+    is.spelled ∙ both is.n _ (field_bytes t.name) _ (field_is is.n t.name is.name.0) (settled version t.time t.versions t.constraints t.horizon is.v is.c is.z (is.r ++ is.e) _ is.versions is.constraints is.horizon
     (both is.r is.e (list_bytes right_bytes t.rights) _ (counted_is IsRight right_bytes right_is is.r t.rights is.rights) (counted_is IsPart field_bytes part_is is.e t.ends is.ends)))
 
 record_is : (b : List ℕ) (r : Record) → IsRecord b r → b ≡ record_bytes r
@@ -104,25 +120,25 @@ records_are : (b : List ℕ) (rs : List Record) → IsCounted IsU64 IsRecord b r
 unfolding records_bytes
 records_are b rs is = is.2 ∙ both is.0 is.1 (eight_bytes (length rs)) (flat_map record_bytes rs) (u64_is is.0 (length rs) is.3) (parts_are IsRecord record_bytes record_is is.1 rs is.4)
 
-table_is : (b : List ℕ) (t : ImageTable) → IsTable b t → b ≡ table_bytes t
+table_is : (version : ℕ) (b : List ℕ) (t : ImageTable) → IsTable version b t → b ≡ table_bytes version t
 unfolding table_bytes
-table_is b t is = is.spelled ∙ both is.h is.rs (head_bytes t.head) (records_bytes t.records) (head_is is.h t.head is.head) (records_are is.rs t.records is.records)
+table_is version b t is = is.spelled ∙ both is.h is.rs (head_bytes version t.head) (records_bytes t.records) (head_is version is.h t.head is.head) (records_are is.rs t.records is.records)
 
 -- ---- the whole
 front_joined : (m w s e rest : List ℕ) → (m ++ (w ++ (s ++ e))) ++ rest ≡ m ++ (w ++ (s ++ (e ++ rest)))
 front_joined m w s e rest = append_assoc m (w ++ (s ++ e)) rest ∙ ap (λ (z : List ℕ). m ++ z) (append_assoc w (s ++ e) rest ∙ ap (λ (z : List ℕ). w ++ z) (append_assoc s e rest))
 
-pub front_is : (clock : ℤ) (next : ℕ) (rest : List ℕ) → front_bytes clock next ++ rest ≡ magic ++ (two_bytes known_version ++ (signed_bytes clock ++ (eight_bytes next ++ rest)))
+pub front_is : (version : ℕ) (clock : ℤ) (next : ℕ) (rest : List ℕ) → front_bytes version clock next ++ rest ≡ magic ++ (two_bytes version ++ (signed_bytes clock ++ (eight_bytes next ++ rest)))
 unfolding front_bytes magic_bytes
-front_is clock next rest = front_joined magic (two_bytes known_version) (signed_bytes clock) (eight_bytes next) rest
+front_is version clock next rest = front_joined magic (two_bytes version) (signed_bytes clock) (eight_bytes next) rest
 
-body_is : (b : List ℕ) (i : Image) → IsBody b i → b ≡ signed_bytes i.clock ++ (eight_bytes i.next ++ (list_bytes user_bytes i.users ++ (list_bytes table_bytes i.tables ++ end_bytes)))
+body_is : (version : ℕ) (b : List ℕ) (i : Image) → IsBody version b i → b ≡ signed_bytes i.clock ++ (eight_bytes i.next ++ (list_bytes user_bytes i.users ++ (list_bytes (table_bytes version) i.tables ++ end_bytes)))
 unfolding end_bytes
-body_is b i is = is.spelled
+body_is version b i is = is.spelled
     ∙ both is.c _ (signed_bytes i.clock) _ (i64_is is.c i.clock is.clock)
     (both is.n _ (eight_bytes i.next) _ (u64_is is.n i.next is.next)
     (both is.us _ (list_bytes user_bytes i.users) _ (counted_is IsUser user_bytes user_is is.us i.users is.users)
-    (both is.ts (codes "END!") (list_bytes table_bytes i.tables) (codes "END!") (counted_is IsTable table_bytes table_is is.ts i.tables is.tables) refl)))
+    (both is.ts (codes "END!") (list_bytes (table_bytes version) i.tables) (codes "END!") (counted_is (IsTable version) (table_bytes version) (table_is version) is.ts i.tables is.tables) refl)))
 
 pub two_is : (n : ℕ) → to_be_bytes w16 n ≡ two_bytes n
 unfolding two_bytes
@@ -130,6 +146,6 @@ two_is n = refl
 
 pub one_spelling : OneSpelling
 unfolding image_bytes
-one_spelling bytes i is =
-    is.spelled ∙ ap (λ (z : List ℕ). magic ++ z) (both (to_be_bytes w16 known_version) is.body (two_bytes known_version) _ (two_is known_version) (body_is is.body i is.parts))
-    ∙ sym (front_is i.clock i.next (list_bytes user_bytes i.users ++ (list_bytes table_bytes i.tables ++ end_bytes)))
+one_spelling version bytes i is =
+    is.spelled ∙ ap (λ (z : List ℕ). magic ++ z) (both (to_be_bytes w16 version) is.body (two_bytes version) _ (two_is version) (body_is version is.body i is.parts))
+    ∙ sym (front_is version i.clock i.next (list_bytes user_bytes i.users ++ (list_bytes (table_bytes version) i.tables ++ end_bytes)))

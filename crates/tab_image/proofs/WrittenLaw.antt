@@ -1,5 +1,5 @@
 -- What is written for an image that fits is an image.
-use Rattle.std.proofs.Common.{◌≡◌, ℕ, ℤ, ◌^◌, ◌<◌, ◌≤◌, Bool, true, false, cond, List, [], ◌∷◌, ◌++◌, length, refl, sym, ap, ◌∙◌, arith, append_assoc}
+use Rattle.std.proofs.Common.{◌≡◌, ℕ, ℤ, ◌^◌, ◌<◌, ◌≤◌, Bool, true, false, cond, List, [], ◌∷◌, ◌++◌, length, refl, sym, ap, ◌∙◌, arith, inr}
 use Rattle.std.specs.Prelude.{FitsSigned, ◌||◌, nat_lt}
 use Rattle.std.specs.List.{AllByRecursion, flat_map}
 use Rattle.std.specs.Int.{w64, cast_unsigned}
@@ -16,16 +16,16 @@ use Rattle.tab_policy.specs.declared.sets.SystemPermissions.{SystemPermissions}
 use Rattle.tab_policy.specs.declared.sets.TablePermissions.{TablePermissions}
 use Rattle.tab_history.specs.Checks.{too_many_auths}
 use Rattle.tab_history.specs.Settings.{is_version_count}
-use Rattle.tab_parts.specs.Parts.{IsU32, IsU64, IsI64, IsField, IsNameField, AreParts, IsCounted, IsVersions, IsConstraints, bits_number, constraints_in, constraint_bits, system_bits, table_bits, time_byte}
+use Rattle.tab_parts.specs.Parts.{IsU32, IsU64, IsI64, IsField, IsNameField, AreParts, IsCounted, IsVersions, IsConstraints, bits_number, constraints_in, constraint_bits, system_bits, table_bits}
 use Rattle.tab_parts.proofs.BitLaw.{bits_are_sets}
 use Rattle.tab_image.specs.declared.user.ImageUser.{ImageUser}
 use Rattle.tab_image.specs.declared.table.ImageRight.{ImageRight}
 use Rattle.tab_image.specs.declared.table.TableHead.{TableHead}
 use Rattle.tab_image.specs.declared.table.ImageTable.{ImageTable}
-use Rattle.tab_image.specs.Images.{IsPart, IsSystem, IsHeld, IsUser, IsRight, IsRecord, IsHead, IsTable, IsSaneUser, magic, known_version}
-use Rattle.tab_image.specs.Spelling.{one_byte, four_bytes, eight_bytes, signed_bytes, field_bytes, list_bytes, user_bytes, right_bytes, settings_bytes, head_bytes, record_bytes, records_bytes, table_bytes, end_bytes, image_bytes}
+use Rattle.tab_image.specs.Images.{IsPart, IsSystem, IsHeld, IsUser, IsRight, IsRecord, IsHorizon, IsHead, IsTable, IsSaneUser, magic, written_version}
+use Rattle.tab_image.specs.Spelling.{one_byte, four_bytes, eight_bytes, signed_bytes, field_bytes, list_bytes, user_bytes, right_bytes, horizon_bytes, head_bytes, record_bytes, records_bytes, table_bytes, end_bytes, image_bytes}
 use Rattle.tab_image.specs.Written.{FitsUser, FitsRight, FitsHead, FitsRecord, FitsTable, WhatFitsIsSpelled}
-use Rattle.tab_image.proofs.SpellingLaw.{front_is, two_is}
+use Rattle.tab_image.proofs.SpellingLaw.{front_is, settings_joined, two_is}
 
 -- ---- numbers and byte strings
 u32_written : (n : ℕ) → n < 2 ^ 32 → IsU32 (four_bytes n) n
@@ -140,18 +140,24 @@ right_written r f = record { u = field_bytes r.user; b = one_byte (table_bits r.
 versions_written : (n : ℕ) → is_version_count n ≡ true → IsVersions (four_bytes n) n
 versions_written n is = let least : 1 ≤ n = grind (arith, nat_tests) in let most : n ≤ 1000 = grind (arith, nat_tests) in (u32_written n (omega (arith, most)), least, most)
 
-head_written : (t : TableHead) → FitsHead t → IsHead (head_bytes t) t
-unfolding head_bytes settings_bytes one_byte
+horizon_written : (z : ℤ) → FitsSigned w64 z → cast_unsigned w64 z < 2 ^ 64 → IsHorizon written_version (horizon_bytes written_version z) z
+unfolding horizon_bytes
+horizon_written z fits lt = i64_written z fits lt
+
+head_written : (t : TableHead) → FitsHead t → IsHead written_version (head_bytes written_version t) t
+unfolding head_bytes
 head_written t f = record {
   n = field_bytes t.name;
   v = four_bytes t.versions;
   c = constraint_bits t.constraints ∷ [];
+  z = horizon_bytes written_version t.horizon;
   r = list_bytes right_bytes t.rights;
   e = list_bytes field_bytes t.ends;
-  spelled = ap (λ (z : List ℕ). field_bytes t.name ++ (time_byte t.time ∷ z)) (append_assoc (four_bytes t.versions) (constraint_bits t.constraints ∷ []) (list_bytes right_bytes t.rights ++ list_bytes field_bytes t.ends));
+  spelled = ap (λ (z : List ℕ). field_bytes t.name ++ z) (settings_joined written_version t.time t.versions t.constraints t.horizon (list_bytes right_bytes t.rights ++ list_bytes field_bytes t.ends));
   name = name_written t.name f.name;
   versions = versions_written t.versions f.versions;
   constraints = constraints_written t.constraints f.constraints;
+  horizon = horizon_written t.horizon f.horizon f.horizon_bits;
   rights = counted_written IsRight right_bytes FitsRight right_written t.rights f.rights f.rights_few;
   ends = counted_written IsPart field_bytes (λ row. length row ≤ MAX_PART_LEN) part_written t.ends f.ends f.ends_few;
 }
@@ -178,10 +184,10 @@ record_written r f = record {
   value = part_written r.value f.short.value;
 }
 
-table_written : (t : ImageTable) → FitsTable t → IsTable (table_bytes t) t
+table_written : (t : ImageTable) → FitsTable t → IsTable written_version (table_bytes written_version t) t
 unfolding table_bytes records_bytes
 table_written t f = record {
-  h = head_bytes t.head;
+  h = head_bytes written_version t.head;
   rs = eight_bytes (length t.records) ++ flat_map record_bytes t.records;
   spelled = refl;
   head = head_written t.head f.head;
@@ -196,18 +202,19 @@ both_hold P Q (x ∷ xs) p q = ((p.0, q.0), both_hold P Q xs p.1 q.1)
 pub what_fits_is_spelled : WhatFitsIsSpelled
 unfolding image_bytes end_bytes
 what_fits_is_spelled i f sane = record {
-  body = signed_bytes i.clock ++ (eight_bytes i.next ++ (list_bytes user_bytes i.users ++ (list_bytes table_bytes i.tables ++ end_bytes)));
-  spelled = front_is i.clock i.next (list_bytes user_bytes i.users ++ (list_bytes table_bytes i.tables ++ end_bytes)) ∙ ap (λ (z : List ℕ). magic ++ (z ++ (signed_bytes i.clock ++ (eight_bytes i.next ++ (list_bytes user_bytes i.users ++ (list_bytes table_bytes i.tables ++ end_bytes)))))) (sym (two_is known_version));
+  known = inr refl;
+  body = signed_bytes i.clock ++ (eight_bytes i.next ++ (list_bytes user_bytes i.users ++ (list_bytes (table_bytes written_version) i.tables ++ end_bytes)));
+  spelled = front_is written_version i.clock i.next (list_bytes user_bytes i.users ++ (list_bytes (table_bytes written_version) i.tables ++ end_bytes)) ∙ ap (λ (z : List ℕ). magic ++ (z ++ (signed_bytes i.clock ++ (eight_bytes i.next ++ (list_bytes user_bytes i.users ++ (list_bytes (table_bytes written_version) i.tables ++ end_bytes)))))) (sym (two_is written_version));
   parts = record {
     c = signed_bytes i.clock;
     n = eight_bytes i.next;
     us = list_bytes user_bytes i.users;
-    ts = list_bytes table_bytes i.tables;
+    ts = list_bytes (table_bytes written_version) i.tables;
     spelled = refl;
     clock = i64_written i.clock f.clock f.clock_bits;
     next = u64_written i.next f.next;
     users = counted_written IsUser user_bytes (λ u. FitsUser u × IsSaneUser u) user_written i.users (both_hold FitsUser IsSaneUser i.users f.users sane.each_user) f.users_few;
-    tables = counted_written IsTable table_bytes FitsTable table_written i.tables f.tables f.tables_few;
+    tables = counted_written (IsTable written_version) (table_bytes written_version) FitsTable table_written i.tables f.tables f.tables_few;
   };
   sane = sane;
 }

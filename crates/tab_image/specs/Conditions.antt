@@ -1,8 +1,8 @@
 -- The conditions on an image, as tests.
-use Rattle.std.specs.Prelude.{ℕ, nat_le, nat_lt, Bool, true, false, not, ◌&&◌, ◌||◌, List, [], ◌∷◌, length, map, bytes_eq, is_ok}
+use Rattle.std.specs.Prelude.{ℕ, ℤ, nat_le, nat_lt, Bool, true, false, not, ◌&&◌, ◌||◌, List, [], ◌∷◌, length, map, bytes_eq, is_ok}
 use Rattle.std.specs.List.{list_all, list_any}
 use Rattle.std.specs.declared.cmp.Ordering.{Ordering}
-use Rattle.std.specs.Ordering.{is_lt}
+use Rattle.std.specs.Ordering.{is_lt, int_eq}
 use Rattle.tab_key.specs.Bytes.{bytes_cmp}
 use Rattle.tab_key.specs.Encoding.{is_short as is_short_record}
 use Rattle.tab_key.specs.Records.{Record}
@@ -13,6 +13,8 @@ use Rattle.tab_label.specs.Reading.{label_of}
 use Rattle.tab_policy.specs.Holders.{has_any}
 use Rattle.tab_policy.specs.Roots.{root}
 use Rattle.tab_history.specs.Checks.{too_many_auths}
+use Rattle.tab_history.specs.Settings.{least, takes_timestamps}
+use Rattle.tab_history.specs.declared.event.TimeMode.{TimeMode}
 use Rattle.tab_image.specs.declared.user.ImageUser.{ImageUser}
 use Rattle.tab_image.specs.declared.table.ImageRight.{ImageRight}
 use Rattle.tab_image.specs.declared.table.ImageTable.{ImageTable}
@@ -56,12 +58,16 @@ has_sane_rights users rights = rises bytes_cmp (map (λ r. r.user) rights) && li
 abbrev pub has_sane_ends : List (List ℕ) → Bool
 has_sane_ends ends = is_few ends && (rises bytes_cmp ends && list_all is_short ends)
 
+-- its horizon, which is the least one where it gives its timestamps
+abbrev pub has_sane_horizon : TimeMode → ℤ → Bool
+has_sane_horizon time horizon = takes_timestamps time || int_eq horizon least
+
 -- its records
 abbrev pub has_sane_records : ℕ → List Record → Bool
 has_sane_records next records = rises record_cmp records && list_all (is_sane_record next) records
 
 abbrev pub is_sane_table : List ImageUser → ℕ → ImageTable → Bool
-is_sane_table users next t = has_sane_rights users t.head.rights && (has_sane_ends t.head.ends && has_sane_records next t.records)
+is_sane_table users next t = has_sane_rights users t.head.rights && (has_sane_ends t.head.ends && (has_sane_horizon t.head.time t.head.horizon && has_sane_records next t.records))
 
 abbrev pub is_sane : Image → Bool
 is_sane i = is_few i.users && (rises bytes_cmp (map (λ u. u.name) i.users) && (list_any is_root i.users && (list_all is_sane_user i.users

@@ -1,6 +1,6 @@
 -- What an image is: a relation between bytes and what they say. It says nothing of how bytes are read. What an image says is the Rust
 -- structs of `user`, `table` and `image` themselves.
-use Rattle.std.specs.Prelude.{ℕ, ◌≡◌, ◌≤◌, ◌<◌, ◌^◌, ◌&&◌, Bool, true, false, List, [], ◌∷◌, ◌++◌, length, map, codes, bytes_eq, IsOk}
+use Rattle.std.specs.Prelude.{ℕ, ℤ, ◌≡◌, ◌⊎◌, ◌≤◌, ◌<◌, ◌^◌, ◌==◌, ◌&&◌, Bool, true, false, List, [], ◌∷◌, ◌++◌, length, map, codes, bytes_eq, IsOk, cond}
 use Rattle.std.specs.List.{AllByRecursion, list_all, list_any}
 use Rattle.std.specs.List.Sorted.{IsStrictlySortedBy}
 use Rattle.std.specs.Int.{w16, to_be_bytes}
@@ -18,12 +18,23 @@ use Rattle.tab_policy.specs.Sets.{system_contains}
 use Rattle.tab_policy.specs.declared.sets.SystemPermissions.{SystemPermissions}
 use Rattle.tab_policy.specs.declared.sets.TablePermissions.{TablePermissions}
 use Rattle.tab_history.specs.Checks.{too_many_auths}
+use Rattle.tab_history.specs.Settings.{least}
+use Rattle.tab_history.specs.declared.event.TimeMode.TheVariants.{Server}
 use Rattle.tab_image.specs.declared.user.ImageUser.{ImageUser}
 use Rattle.tab_image.specs.declared.table.ImageRight.{ImageRight}
 use Rattle.tab_image.specs.declared.table.TableHead.{TableHead}
 use Rattle.tab_image.specs.declared.table.ImageTable.{ImageTable}
 use Rattle.tab_image.specs.declared.image.Image.{Image}
 use Rattle.tab_parts.specs.Parts.{IsByte, IsU32, IsU64, IsI64, IsField, IsNameField, IsCounted, IsList, kind_byte, system_in, table_in, time_byte, IsVersions, IsConstraints}
+
+-- ---- versions
+-- those that there are; of the first one no table has a horizon
+abbrev pub IsKnown : ℕ → Type 0
+IsKnown version = (version ≡ 1) ⊎ (version ≡ 2)
+
+-- the version that is written
+abbrev pub written_version : ℕ
+written_version = 2
 
 -- ---- its parts, in their order
 -- each of the eight bits is a permission
@@ -80,30 +91,36 @@ pub record IsRecord (bytes : List ℕ) (r : Record) : Type 0 where
   pub idx : IsU32 i r.idx
   pub value : IsPart v r.value
 
--- its name, time mode, number of versions, constraints, rights and end rows
-pub record IsHead (bytes : List ℕ) (t : TableHead) : Type 0 where
+-- a horizon: eight bytes with a sign; in the first version no byte, which says the least one
+abbrev pub IsHorizon : ℕ → List ℕ → ℤ → Type 0
+IsHorizon version bytes horizon = cond (version == 1) ((bytes ≡ []) × (horizon ≡ least)) (IsI64 bytes horizon)
+
+-- its name, time mode, number of versions, constraints, horizon, rights and end rows
+pub record IsHead (version : ℕ) (bytes : List ℕ) (t : TableHead) : Type 0 where
   pub n : List ℕ
   pub v : List ℕ
   pub c : List ℕ
+  pub z : List ℕ
   pub r : List ℕ
   pub e : List ℕ
-  pub spelled : bytes ≡ n ++ (time_byte t.time ∷ (v ++ (c ++ (r ++ e))))
+  pub spelled : bytes ≡ n ++ (time_byte t.time ∷ (v ++ (c ++ (z ++ (r ++ e)))))
   pub name : IsNameField n t.name
   pub versions : IsVersions v t.versions
   pub constraints : IsConstraints c t.constraints
+  pub horizon : IsHorizon version z t.horizon
   pub rights : IsCounted IsU32 IsRight r t.rights
   pub ends : IsCounted IsU32 IsPart e t.ends
 
 -- a table: all that isn't records, and then its records
-pub record IsTable (bytes : List ℕ) (t : ImageTable) : Type 0 where
+pub record IsTable (version : ℕ) (bytes : List ℕ) (t : ImageTable) : Type 0 where
   pub h : List ℕ
   pub rs : List ℕ
   pub spelled : bytes ≡ h ++ rs
-  pub head : IsHead h t.head
+  pub head : IsHead version h t.head
   pub records : IsCounted IsU64 IsRecord rs t.records
 
 -- what stands behind the version: clock, next number, users, tables, and a mark
-pub record IsBody (bytes : List ℕ) (i : Image) : Type 0 where
+pub record IsBody (version : ℕ) (bytes : List ℕ) (i : Image) : Type 0 where
   pub c : List ℕ
   pub n : List ℕ
   pub us : List ℕ
@@ -112,7 +129,7 @@ pub record IsBody (bytes : List ℕ) (i : Image) : Type 0 where
   pub clock : IsI64 c i.clock
   pub next : IsU64 n i.next
   pub users : IsCounted IsU32 IsUser us i.users
-  pub tables : IsCounted IsU32 IsTable ts i.tables
+  pub tables : IsCounted IsU32 (IsTable version) ts i.tables
 
 -- ---- what else must hold
 -- The limits that bytes keep by their widths are asked for here too: what is read of an input whose bytes aren't known must keep them.
@@ -138,7 +155,7 @@ pub record IsSaneRecord (next : ℕ) (r : Record) : Type 0 where
   pub label : IsOk (label_of r.key.label)
 
 -- its rights are of users that there are, one permission at least; rights, end rows and records rise strictly; no end row is too long, and
--- there are fewer than 2^32
+-- there are fewer than 2^32; a table that gives its timestamps has no horizon, which is the least one
 pub record IsSaneTable (users : List ImageUser) (next : ℕ) (t : ImageTable) : Type 0 where
   pub rights : IsRising (map (λ r. r.user) t.head.rights)
   pub known : AllByRecursion (λ r. has_user users r.user ≡ true) t.head.rights
@@ -146,6 +163,7 @@ pub record IsSaneTable (users : List ImageUser) (next : ℕ) (t : ImageTable) : 
   pub ends : IsRising t.head.ends
   pub ends_short : AllByRecursion (λ row. length row ≤ MAX_PART_LEN) t.head.ends
   pub ends_few : length t.head.ends < 2 ^ 32
+  pub server : t.head.time ≡ Server → t.head.horizon ≡ least
   pub records : IsStrictlySortedBy record_cmp t.records
   pub each : AllByRecursion (IsSaneRecord next) t.records
 
@@ -164,13 +182,10 @@ pub record IsSane (i : Image) : Type 0 where
 abbrev pub magic : List ℕ
 magic = codes "TABIMG"
 
--- the version that is known
-abbrev pub known_version : ℕ
-known_version = 1
-
--- the bytes are an image, and say this
-pub record IsImage (bytes : List ℕ) (i : Image) : Type 0 where
+-- the bytes are an image of this version, and say this
+pub record IsImage (version : ℕ) (bytes : List ℕ) (i : Image) : Type 0 where
+  pub known : IsKnown version
   pub body : List ℕ
-  pub spelled : bytes ≡ magic ++ (to_be_bytes w16 known_version ++ body)
-  pub parts : IsBody body i
+  pub spelled : bytes ≡ magic ++ (to_be_bytes w16 version ++ body)
+  pub parts : IsBody version body i
   pub sane : IsSane i

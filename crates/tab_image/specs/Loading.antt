@@ -30,15 +30,15 @@ end_at [] = Some (tt, [])
 end_at (b ∷ bytes) = None
 
 -- what stands behind the version, and nothing behind it
-unfoldable pub alone_at : Reader Image
-alone_at = do
-  image ← body_at
+unfoldable pub alone_at : ℕ → Reader Image
+alone_at version = do
+  image ← body_at version
   end ← end_at
   made image
 
 -- .. where the conditions hold
-unfoldable pub sane_at : Reader Image
-sane_at = picked_by (only_if is_sane) alone_at
+unfoldable pub sane_at : ℕ → Reader Image
+sane_at version = picked_by (only_if is_sane) (alone_at version)
 
 -- ---- what is told
 -- why no image was read, said to whoever asked for one

@@ -1,9 +1,10 @@
 -- Reading an image, from left to right.
-use Rattle.std.specs.Prelude.{ℕ, ◌≡◌, ◌≢◌, ◌<◌, ◌^◌, ◌↔◌, ◌==◌, nat_lt, ◌&&◌, List, ◌++◌, take, drop, codes, bytes_eq, Option, Some, None, Result, Ok, Err, if◌then◌else◌}
+use Rattle.std.specs.Prelude.{ℕ, ℤ, ◌≡◌, ◌≢◌, ◌<◌, ◌^◌, ◌↔◌, ◌==◌, nat_lt, Bool, ◌&&◌, ◌||◌, List, ◌++◌, take, drop, codes, bytes_eq, Option, Some, None, Result, Ok, Err, if◌then◌else◌}
 use Rattle.std.specs.Int.{w16, to_be_bytes}
 use Rattle.tab_key.specs.Records.{Record}
 use Rattle.tab_policy.specs.declared.sets.SystemPermissions.{SystemPermissions}
 use Rattle.tab_policy.specs.declared.sets.TablePermissions.{TablePermissions}
+use Rattle.tab_history.specs.Settings.{least}
 use Rattle.tab_parts.specs.Parts.{IsBytes, system_in, table_in}
 use Rattle.tab_parts.specs.Reading.{Reader, and_then, picked, whole, u8_at, u16_at, u32_at, u64_at, i64_at, bytes_at, field_at, name_at, parts_at, only_if, kind_at, time_at, versions_at, constraints_at}
 use Rattle.tab_image.specs.declared.fault.ImageFault.{ImageFault}
@@ -13,7 +14,7 @@ use Rattle.tab_image.specs.declared.table.ImageRight.{ImageRight}
 use Rattle.tab_image.specs.declared.table.TableHead.{TableHead}
 use Rattle.tab_image.specs.declared.table.ImageTable.{ImageTable}
 use Rattle.tab_image.specs.declared.image.Image.{Image}
-use Rattle.tab_image.specs.Images.{magic, known_version, IsImage}
+use Rattle.tab_image.specs.Images.{magic, IsImage}
 use Rattle.tab_key.specs.Bytes.{bytes_cmp}
 use Rattle.tab_image.specs.Conditions.{rises, is_short, is_sane}
 
@@ -102,24 +103,29 @@ record_at = do
 unfoldable pub records_at : Reader (List Record)
 records_at = all_at u64_at record_at
 
-unfoldable pub head_at : Reader TableHead
-head_at = do
+-- a horizon, which in the first version is the least one, without a byte
+unfoldable pub horizon_at : ℕ → Reader ℤ
+horizon_at version = if version == 1 then made least else i64_at
+
+unfoldable pub head_at : ℕ → Reader TableHead
+head_at version = do
   name ← name_at
   time ← time_at
   versions ← versions_at
   constraints ← constraints_at
+  horizon ← horizon_at version
   rights ← rights_at
   ends ← ends_at
-  made (record { name = name; time = time; versions = versions; constraints = constraints; rights = rights; ends = ends })
+  made (record { name = name; time = time; versions = versions; constraints = constraints; horizon = horizon; rights = rights; ends = ends })
 
-unfoldable pub table_at : Reader ImageTable
-table_at = do
-  head ← head_at
+unfoldable pub table_at : ℕ → Reader ImageTable
+table_at version = do
+  head ← head_at version
   records ← records_at
   made (record { head = head; records = records })
 
-unfoldable pub tables_at : Reader (List ImageTable)
-tables_at = all_at u32_at table_at
+unfoldable pub tables_at : ℕ → Reader (List ImageTable)
+tables_at version = all_at u32_at (table_at version)
 
 -- ---- the whole
 -- nothing but that the bytes are these
@@ -130,12 +136,12 @@ same_as text bytes = if bytes_eq bytes text then Some tt else None
 unfoldable pub mark_at : Reader (Unit {0})
 mark_at = picked_by (same_as (codes "END!")) (bytes_at 4)
 
-unfoldable pub body_at : Reader Image
-body_at = do
+unfoldable pub body_at : ℕ → Reader Image
+body_at version = do
   clock ← i64_at
   next ← u64_at
   users ← users_at
-  tables ← tables_at
+  tables ← tables_at version
   mark ← mark_at
   made (record { clock = clock; next = next; users = users; tables = tables })
 
@@ -144,20 +150,24 @@ abbrev pub if_sane : Option Image → Result Image ImageFault
 if_sane None = Err fault.Bad
 if_sane (Some image) = if is_sane image then Ok image else Err fault.Bad
 
+-- whether there is this version
+abbrev pub is_known : ℕ → Bool
+is_known version = version == 1 || version == 2
+
 -- the image behind this version, if the version is known
 abbrev pub versioned : Option (ℕ × List ℕ) → Result Image ImageFault
 versioned None = Err fault.Bad
-versioned (Some v) = if v.0 == known_version then if_sane (whole (body_at v.1)) else Err (fault.Version v.0)
+versioned (Some v) = if is_known v.0 then if_sane (whole (body_at v.0 v.1)) else Err (fault.Version v.0)
 
 -- the image that the bytes spell, or why they spell none
 unfoldable pub image_of : List ℕ → Result Image ImageFault
 image_of bytes = if bytes_eq (take 6 bytes) magic then versioned (u16_at (drop 6 bytes)) else Err fault.Bad
 
--- ---- The law: reading gives exactly the image that the bytes spell.
+-- ---- The law: reading gives exactly the image that the bytes spell, in whichever version.
 abbrev pub ImagesAreRead : Type 0
-ImagesAreRead = (bytes : List ℕ) (image : Image) → IsBytes bytes → (image_of bytes ≡ Ok image) ↔ IsImage bytes image
+ImagesAreRead = (bytes : List ℕ) (image : Image) → IsBytes bytes → (image_of bytes ≡ Ok image) ↔ ((version : ℕ) × IsImage version bytes image)
 
--- ---- The law: a version is told exactly where the first six bytes are right and the two behind them say another one than the known.
+-- ---- The law: a version is told exactly where the first six bytes are right and the two behind them say neither 1 nor 2.
 abbrev pub VersionsAreTold : Type 0
 VersionsAreTold = (bytes : List ℕ) (n : ℕ) → IsBytes bytes
-    → (image_of bytes ≡ Err (fault.Version n)) ↔ ((rest : List ℕ) × (bytes ≡ magic ++ (to_be_bytes w16 n ++ rest)) × (n < 2 ^ 16) × (n ≢ known_version))
+    → (image_of bytes ≡ Err (fault.Version n)) ↔ ((rest : List ℕ) × (bytes ≡ magic ++ (to_be_bytes w16 n ++ rest)) × (n < 2 ^ 16) × (n ≢ 1) × (n ≢ 2))

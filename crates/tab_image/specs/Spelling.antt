@@ -1,5 +1,5 @@
--- The bytes that are written for an image and for each of its parts.
-use Rattle.std.specs.Prelude.{ℕ, ℤ, ◌≡◌, List, [], ◌∷◌, ◌++◌, length, codes}
+-- The bytes that an image and each of its parts have in a version. Those of `written_version` are written.
+use Rattle.std.specs.Prelude.{ℕ, ℤ, ◌≡◌, ◌==◌, List, [], ◌∷◌, ◌++◌, length, codes, if◌then◌else◌}
 use Rattle.std.specs.List.{flat_map}
 use Rattle.std.specs.Int.{w16, w32, w64, to_be_bytes, cast_unsigned}
 use Rattle.tab_key.specs.Records.{Record}
@@ -11,7 +11,7 @@ use Rattle.tab_image.specs.declared.table.ImageRight.{ImageRight}
 use Rattle.tab_image.specs.declared.table.TableHead.{TableHead}
 use Rattle.tab_image.specs.declared.table.ImageTable.{ImageTable}
 use Rattle.tab_image.specs.declared.image.Image.{Image}
-use Rattle.tab_image.specs.Images.{magic, known_version, IsImage}
+use Rattle.tab_image.specs.Images.{magic, IsImage}
 
 -- ---- numbers and byte strings
 unfoldable pub one_byte : ℕ → List ℕ
@@ -46,12 +46,16 @@ user_bytes u = field_bytes u.name ++ (one_byte (system_bits u.system) ++ list_by
 unfoldable pub right_bytes : ImageRight → List ℕ
 right_bytes r = field_bytes r.user ++ one_byte (table_bits r.held)
 
--- how its columns are kept
-unfoldable pub settings_bytes : TimeMode → ℕ → List Constraint → List ℕ
-settings_bytes time versions constraints = one_byte (time_byte time) ++ (four_bytes versions ++ one_byte (constraint_bits constraints))
+-- its horizon, which the first version doesn't say
+unfoldable pub horizon_bytes : ℕ → ℤ → List ℕ
+horizon_bytes version horizon = if version == 1 then [] else signed_bytes horizon
 
-unfoldable pub head_bytes : TableHead → List ℕ
-head_bytes t = field_bytes t.name ++ (settings_bytes t.time t.versions t.constraints ++ (list_bytes right_bytes t.rights ++ list_bytes field_bytes t.ends))
+-- how its columns are kept
+unfoldable pub settings_bytes : ℕ → TimeMode → ℕ → List Constraint → ℤ → List ℕ
+settings_bytes version time versions constraints horizon = one_byte (time_byte time) ++ (four_bytes versions ++ (one_byte (constraint_bits constraints) ++ horizon_bytes version horizon))
+
+unfoldable pub head_bytes : ℕ → TableHead → List ℕ
+head_bytes version t = field_bytes t.name ++ (settings_bytes version t.time t.versions t.constraints t.horizon ++ (list_bytes right_bytes t.rights ++ list_bytes field_bytes t.ends))
 
 unfoldable pub record_bytes : Record → List ℕ
 record_bytes r =
@@ -62,8 +66,8 @@ record_bytes r =
 unfoldable pub records_bytes : List Record → List ℕ
 records_bytes rs = eight_bytes (length rs) ++ flat_map record_bytes rs
 
-unfoldable pub table_bytes : ImageTable → List ℕ
-table_bytes t = head_bytes t.head ++ records_bytes t.records
+unfoldable pub table_bytes : ℕ → ImageTable → List ℕ
+table_bytes version t = head_bytes version t.head ++ records_bytes t.records
 
 -- ---- the whole
 -- the six bytes with which an image begins
@@ -71,16 +75,16 @@ unfoldable pub magic_bytes : List ℕ
 magic_bytes = magic
 
 -- all before the users: the six bytes, the version, the clock and the next number
-unfoldable pub front_bytes : ℤ → ℕ → List ℕ
-front_bytes clock next = magic_bytes ++ (two_bytes known_version ++ (signed_bytes clock ++ eight_bytes next))
+unfoldable pub front_bytes : ℕ → ℤ → ℕ → List ℕ
+front_bytes version clock next = magic_bytes ++ (two_bytes version ++ (signed_bytes clock ++ eight_bytes next))
 
 -- the mark of the end
 unfoldable pub end_bytes : List ℕ
 end_bytes = codes "END!"
 
-unfoldable pub image_bytes : Image → List ℕ
-image_bytes i = front_bytes i.clock i.next ++ (list_bytes user_bytes i.users ++ (list_bytes table_bytes i.tables ++ end_bytes))
+unfoldable pub image_bytes : ℕ → Image → List ℕ
+image_bytes version i = front_bytes version i.clock i.next ++ (list_bytes user_bytes i.users ++ (list_bytes (table_bytes version) i.tables ++ end_bytes))
 
--- ---- The law: an image has one spelling, and these are its bytes.
+-- ---- The law: in a version an image has one spelling, and these are its bytes.
 abbrev pub OneSpelling : Type 0
-OneSpelling = (bytes : List ℕ) (image : Image) → IsImage bytes image → bytes ≡ image_bytes image
+OneSpelling = (version : ℕ) (bytes : List ℕ) (image : Image) → IsImage version bytes image → bytes ≡ image_bytes version image

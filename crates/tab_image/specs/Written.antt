@@ -15,7 +15,7 @@ use Rattle.tab_image.specs.declared.table.ImageRight.{ImageRight}
 use Rattle.tab_image.specs.declared.table.TableHead.{TableHead}
 use Rattle.tab_image.specs.declared.table.ImageTable.{ImageTable}
 use Rattle.tab_image.specs.declared.image.Image.{Image}
-use Rattle.tab_image.specs.Images.{IsSane, IsImage}
+use Rattle.tab_image.specs.Images.{IsSane, IsImage, written_version}
 use Rattle.tab_image.specs.Spelling.{image_bytes}
 
 -- names are names, and sets rise
@@ -28,11 +28,13 @@ pub record FitsRight (r : ImageRight) : Type 0 where
   pub user : IsName r.user
   pub some : 0 < table_bits r.held
 
--- 1 to 1,000 versions; constraints in the one form of their set; no list over its count, and no row over its limit
+-- 1 to 1,000 versions; constraints in the one form of their set; a horizon of eight bytes; no list over its count, and no row over its limit
 pub record FitsHead (t : TableHead) : Type 0 where
   pub name : IsName t.name
   pub versions : is_version_count t.versions ≡ true
   pub constraints : constraint_set_of t.constraints ≡ t.constraints
+  pub horizon : FitsSigned w64 t.horizon
+  pub horizon_bits : cast_unsigned w64 t.horizon < 2 ^ 64
   pub rights : AllByRecursion FitsRight t.rights
   pub rights_few : length t.rights < 2 ^ 32
   pub ends : AllByRecursion (λ row. length row ≤ MAX_PART_LEN) t.ends
@@ -59,4 +61,4 @@ pub record Fits (i : Image) : Type 0 where
 
 -- ---- The law: what is written for such an image is an image, and says it.
 abbrev pub WhatFitsIsSpelled : Type 0
-WhatFitsIsSpelled = (image : Image) → Fits image → IsSane image → IsImage (image_bytes image) image
+WhatFitsIsSpelled = (image : Image) → Fits image → IsSane image → IsImage written_version (image_bytes written_version image) image

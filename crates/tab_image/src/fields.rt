@@ -4,14 +4,15 @@
 ghost use Rattle.std.specs.Prelude.{◌≡◌, ◌≤◌, ◌+◌, Some, None, OnOk, cond, length};
 ghost use Rattle.tab_key.specs.declared.part.TheConstants.{MAX_PART_LEN};
 ghost use Rattle.tab_history.specs.Settings.{is_version_count};
-ghost use Rattle.tab_image.specs.Reading.{part_at, system_at, held_at, held_of};
+ghost use Rattle.tab_image.specs.Reading.{part_at, system_at, held_at, held_of, horizon_at};
 ghost use Rattle.tab_image.specs.Takes.{Appends};
 ghost use Rattle.tab_image.specs.Streams.{Reads, HasRead, Stops, items_of};
 ghost use Rattle.tab_parts.specs.Reading.{only_if, is_name, field_at, name_at, kind_of, kind_at, time_of, time_at, versions_at, constraints_at, constraints_of};
 
 use crate::bits::{constraints_in, system_in, table_in};
-use crate::taking::{read_byte, read_text, read_u32};
+use crate::taking::{read_byte, read_i64, read_text, read_u32};
 use crate::unread::Unread;
+use crate::version::FIRST_VERSION;
 use std::alloc::{AllocError, Global};
 use tab_history::{TimeMode, Versions};
 use tab_io::Input;
@@ -161,4 +162,15 @@ pub(crate) fn read_constraints<R: Input>(
         return Err(Unread::Bad);
     }
     Ok(constraints_in(alloc, bits)?)
+}
+
+/// Takes a table's horizon; in the first version it is the least one, and nothing is taken.
+#[tactic(auto, using(crate::proofs::Streams::reading, crate::proofs::FieldLemmas::horizons))]
+pub(crate) fn read_horizon<R: Input>(input: &mut R, version: u16) -> Result<i64, Unread>
+    ensures { Reads R.Input input.old input.new (horizon_at version) result }
+{
+    if version == FIRST_VERSION {
+        return Ok(i64::MIN);
+    }
+    read_i64(input)
 }

@@ -2,7 +2,9 @@
 //!
 //! An image begins with six bytes and a version. Then come the clock, the number that the next accepted write gets, the users with their
 //! system permissions and authorizations, and the tables, each with its settings, who may what on it, the rows at which its tablets end,
-//! and its records; and at last a mark of four bytes. Numbers are big-endian. The version is 1; the bytes of any other one are no image.
+//! and its records; and at last a mark of four bytes. Numbers are big-endian. There are two versions: in the
+//! second one each table has a horizon, behind its constraints. Both are read, where the first one says the least horizon for each table,
+//! and the second one is written; the bytes of any other version are no image.
 //!
 //! `write_image` writes the one image of what it is given, and takes no memory. `read_image` reads exactly the images: what it reads is
 //! held once, and memory is taken for bytes that came alone. Whoever has no `Image` at hand puts the same pieces by the functions of
@@ -10,6 +12,7 @@
 //!
 //! | File | What |
 //! |---|---|
+//! | `version` | the versions |
 //! | `image`, `user`, `table` | what an image says, as values: contracts see them as definitions have them |
 //! | `saving` | a whole image, written |
 //! | `writing`, `bits` | its pieces, and sets as bytes of bits |
@@ -52,16 +55,18 @@ mod table;
 mod taking;
 mod unread;
 mod user;
+mod version;
 mod writing;
 
 pub use fault::{ImageFault, LoadFault};
 pub use image::Image;
 pub use laws::{images_are_read, one_spelling, versions_are_told, what_fits_is_spelled};
-pub use loading::{VERSION, read_image};
+pub use loading::read_image;
 pub use saving::write_image;
 pub use tab_mem::Records;
 pub use table::{ImageRight, ImageTable, TableHead};
 pub use user::ImageUser;
+pub use version::VERSION;
 pub use writing::{
     put_count, put_end, put_field, put_front, put_head, put_record, put_record_count, put_right,
     put_settings, put_user,

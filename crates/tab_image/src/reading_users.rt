@@ -13,13 +13,16 @@ use crate::user::ImageUser;
 use std::alloc::Global;
 use tab_io::Input;
 
-impl ReadPart for ImageUser {
+/// A user, as a part of a list.
+pub(crate) struct User;
+
+impl ReadPart<ImageUser> for User {
     ghost use Rattle.tab_image.specs.Reading.{user_at};
 
-    ghost reads = { user_at };
+    ghost reads = { λ _. user_at };
 
     #[tactic(auto, using(crate::proofs::Streams::reading), unfolding(crate::specs::Reading::user_at))]
-    fn read<R: Input>(alloc: Global, input: &mut R) -> Result<ImageUser, Unread> {
+    fn read<R: Input>(&self, alloc: Global, input: &mut R) -> Result<ImageUser, Unread> {
         let name = read_name(alloc, input)?;
         let system = read_system(input)?;
         let authorizations = read_set(alloc, input)?;

@@ -8,7 +8,7 @@ ghost use Rattle.tab_policy.specs.Permissions.{all_system};
 ghost use Rattle.tab_policy.specs.Sets.{system_contains};
 ghost use Rattle.tab_history.specs.Checks.{too_many_auths};
 ghost use Rattle.tab_image.specs.Images.{is_root, has_user};
-ghost use Rattle.tab_image.specs.Conditions.{rises, is_short, is_few, is_sane_user, is_accepted, is_sane_record, has_sane_rights, has_sane_ends, has_sane_records, is_sane_table, is_sane};
+ghost use Rattle.tab_image.specs.Conditions.{rises, is_short, is_few, is_sane_user, is_accepted, is_sane_record, has_sane_rights, has_sane_ends, has_sane_horizon, has_sane_records, is_sane_table, is_sane};
 
 use crate::byte_order::{ByBytes, rise};
 use crate::image::Image;
@@ -16,6 +16,7 @@ use crate::known_users::KnownUsers;
 use crate::table::{ImageRight, ImageTable};
 use crate::user::ImageUser;
 use std::alloc::Global;
+use tab_history::TimeMode;
 use tab_key::{
     ByteString, MAX_AUTHORIZATION_LEN, MAX_AUTHORIZATIONS, MAX_PART_LEN, MAX_UPDATES, RecordRef,
 };
@@ -174,7 +175,7 @@ fn are_sane_tables(alloc: Global, users: &KnownUsers<'_>, next: u64, tables: &[I
         .all(|table| is_sane_table(&nobody, users, next, table))
 }
 
-// Whether a table's rights, end rows and records are as they have to be.
+// Whether a table's rights, end rows, horizon and records are as they have to be.
 fn is_sane_table(nobody: &AuthSet, users: &KnownUsers<'_>, next: u64, table: &ImageTable) -> bool
     ensures { result ≡ is_sane_table users.now next table.now }
 {
@@ -182,6 +183,9 @@ fn is_sane_table(nobody: &AuthSet, users: &KnownUsers<'_>, next: u64, table: &Im
         return false;
     }
     if !are_sane_ends(table.head.ends.as_slice()) {
+        return false;
+    }
+    if !is_sane_horizon(table.head.time, table.head.horizon) {
         return false;
     }
     are_sane_records(nobody, next, &table.records)
@@ -204,6 +208,16 @@ fn are_short(rows: &[ByteString]) -> bool
     ensures { result ≡ list_all is_short rows.now }
 {
     rows.iter().all(|row| row.len() <= MAX_PART_LEN)
+}
+
+// Whether the horizon is the least one, or of a table that takes timestamps.
+fn is_sane_horizon(time: TimeMode, horizon: i64) -> bool
+    ensures { result ≡ has_sane_horizon time horizon }
+{
+    match time {
+        TimeMode::Any => true,
+        TimeMode::Server => horizon == i64::MIN,
+    }
 }
 
 fn are_sane_records(nobody: &AuthSet, next: u64, records: &Records) -> bool

@@ -4,6 +4,7 @@
 ghost use Rattle.std.specs.Prelude.{◌≡◌, ◌++◌};
 ghost use Rattle.std.specs.List.{flat_map};
 ghost use Rattle.tab_io.specs.Writing.{Puts};
+ghost use Rattle.tab_image.specs.Images.{written_version};
 ghost use Rattle.tab_image.specs.Spelling.{list_bytes, user_bytes, record_bytes, records_bytes, table_bytes, front_bytes, end_bytes, image_bytes};
 
 use crate::image::Image;
@@ -16,24 +17,24 @@ use tab_io::{Output, WriteFault};
 use tab_mem::Records;
 use tab_text::PutItem;
 
-/// Writes an image. It takes no memory, and fails where the output does; then a beginning of the image is written.
+/// Writes an image of the second version. It takes no memory, and fails where the output does; then a beginning of the image is written.
 #[tactic(auto, using(tab_io::proofs::Putting::putting), unfolding(crate::specs::Spelling::image_bytes))]
 pub fn write_image<W: Output>(output: &mut W, image: &Image) -> Result<(), WriteFault>
-    ensures { Puts W.Output output.old output.new (image_bytes image.now) result }
+    ensures { Puts W.Output output.old output.new (image_bytes written_version image.now) result }
 {
     put_front(output, image.clock, image.next)?;
     put_lists(output, image)
 }
 
 fn put_lists<W: Output>(output: &mut W, image: &Image) -> Result<(), WriteFault>
-    ensures { Puts W.Output output.old output.new (list_bytes user_bytes image.now.users ++ (list_bytes table_bytes image.now.tables ++ end_bytes)) result }
+    ensures { Puts W.Output output.old output.new (list_bytes user_bytes image.now.users ++ (list_bytes (table_bytes written_version) image.now.tables ++ end_bytes)) result }
 {
     put_list(output, image.users.as_slice(), &User)?;
     put_tables(output, image)
 }
 
 fn put_tables<W: Output>(output: &mut W, image: &Image) -> Result<(), WriteFault>
-    ensures { Puts W.Output output.old output.new (list_bytes table_bytes image.now.tables ++ end_bytes) result }
+    ensures { Puts W.Output output.old output.new (list_bytes (table_bytes written_version) image.now.tables ++ end_bytes) result }
 {
     put_list(output, image.tables.as_slice(), &Table)?;
     put_end(output)
@@ -56,9 +57,10 @@ impl PutItem<ImageUser> for User {
 struct Table;
 
 impl PutItem<ImageTable> for Table {
+    ghost use Rattle.tab_image.specs.Images.{written_version};
     ghost use Rattle.tab_image.specs.Spelling.{table_bytes};
 
-    ghost text = { λ _ table. table_bytes table };
+    ghost text = { λ _ table. table_bytes written_version table };
 
     #[tactic(auto, using(tab_io::proofs::Putting::putting), unfolding(crate::specs::Spelling::table_bytes))]
     fn put_item<W: Output>(&self, output: &mut W, table: &ImageTable) -> Result<(), WriteFault> {

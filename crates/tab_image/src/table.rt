@@ -26,6 +26,8 @@ pub struct TableHead {
     pub versions: Versions,
     /// Its constraints.
     pub constraints: ConstraintSet,
+    /// The time below which it takes no update: the least one where it gives the timestamps.
+    pub horizon: i64,
     /// Who may what, rising by name.
     pub rights: Items<ImageRight>,
     /// The rows at which its tablets end, rising: at most 1,048,576 bytes each.

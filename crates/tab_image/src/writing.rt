@@ -2,7 +2,7 @@
 //!
 //! Whoever writes an image puts its front, the count of users and each user, the count of tables and each table, and the mark of the end,
 //! in this order. Of a table these are its name, its settings, the count of its rights and each right, the count of its end rows and each
-//! row, the count of its records and each record. No piece takes memory, so what is written needn't be held in one place.
+//! row, the count of its records and each record. All of it is of the second version. No piece takes memory, so what is written needn't be held in one place.
 //!
 //! Each function fails where the output does, and has put a beginning of its piece then.
 #![tactic(auto, using(tab_io::proofs::Putting::putting, crate::proofs::WritingLemmas::failing))]
@@ -11,10 +11,12 @@ ghost use Rattle.std.specs.Prelude.{◌≡◌, [], ◌∷◌, ◌++◌};
 ghost use Rattle.std.specs.List.{flat_map};
 ghost use Rattle.tab_io.specs.Writing.{Puts};
 ghost use Rattle.tab_parts.specs.Parts.{kind_byte, time_byte, system_bits, table_bits, constraint_bits};
-ghost use Rattle.tab_image.specs.Spelling.{one_byte, two_bytes, four_bytes, eight_bytes, signed_bytes, field_bytes, list_bytes, user_bytes, right_bytes, settings_bytes, head_bytes, record_bytes, magic_bytes, front_bytes, end_bytes};
+ghost use Rattle.tab_image.specs.Images.{written_version};
+ghost use Rattle.tab_image.specs.Spelling.{one_byte, two_bytes, four_bytes, eight_bytes, signed_bytes, field_bytes, list_bytes, user_bytes, right_bytes, horizon_bytes, settings_bytes, head_bytes, record_bytes, magic_bytes, front_bytes, end_bytes};
 
 use crate::bits::{constraint_bits, system_bits, table_bits};
 use crate::table::{ImageRight, TableHead};
+use crate::version::VERSION;
 use tab_history::{TimeMode, Versions};
 use tab_io::{Output, WriteFault};
 use tab_key::{ByteString, Name, RecordRef};
@@ -26,7 +28,7 @@ use tab_text::{PutItem, put_each};
 /// Puts the front of an image: six bytes, the version, the clock, and the number that the next accepted write gets.
 #[tactic(auto, using(tab_io::proofs::Putting::putting), unfolding(crate::specs::Spelling::front_bytes))]
 pub fn put_front<W: Output>(output: &mut W, clock: i64, next: u64) -> Result<(), WriteFault>
-    ensures { Puts W.Output output.old output.new (front_bytes clock next) result }
+    ensures { Puts W.Output output.old output.new (front_bytes written_version clock next) result }
 {
     put_magic(output)?;
     put_versioned(output, clock, next)
@@ -40,9 +42,9 @@ fn put_magic<W: Output>(output: &mut W) -> Result<(), WriteFault>
 }
 
 fn put_versioned<W: Output>(output: &mut W, clock: i64, next: u64) -> Result<(), WriteFault>
-    ensures { Puts W.Output output.old output.new (two_bytes 1 ++ (signed_bytes clock ++ eight_bytes next)) result }
+    ensures { Puts W.Output output.old output.new (two_bytes written_version ++ (signed_bytes clock ++ eight_bytes next)) result }
 {
-    put_two(output, 1)?;
+    put_two(output, VERSION)?;
     put_clock(output, clock, next)
 }
 
@@ -97,29 +99,49 @@ pub fn put_right<W: Output>(
     put_one(output, table_bits(held))
 }
 
-/// Puts how a table keeps its columns: its time mode, its number of versions, and its constraints.
+/// Puts how a table keeps its columns: its time mode, its number of versions, its constraints, and its horizon.
 #[tactic(auto, using(tab_io::proofs::Putting::putting), unfolding(crate::specs::Spelling::settings_bytes))]
 pub fn put_settings<W: Output>(
     output: &mut W,
     time: TimeMode,
     versions: Versions,
     constraints: &ConstraintSet,
+    horizon: i64,
 ) -> Result<(), WriteFault>
-    ensures { Puts W.Output output.old output.new (settings_bytes time versions constraints.now) result }
+    ensures { Puts W.Output output.old output.new (settings_bytes written_version time versions constraints.now horizon) result }
 {
     put_one(output, time_byte(time))?;
-    put_shown(output, versions, constraints)
+    put_shown(output, versions, constraints, horizon)
 }
 
 fn put_shown<W: Output>(
     output: &mut W,
     versions: Versions,
     constraints: &ConstraintSet,
+    horizon: i64,
 ) -> Result<(), WriteFault>
-    ensures { Puts W.Output output.old output.new (four_bytes versions ++ one_byte (constraint_bits constraints.now)) result }
+    ensures { Puts W.Output output.old output.new (four_bytes versions ++ (one_byte (constraint_bits constraints.now) ++ horizon_bytes written_version horizon)) result }
 {
     put_four(output, u64::from(versions.get()))?;
-    put_one(output, constraint_bits(constraints))
+    put_taken(output, constraints, horizon)
+}
+
+fn put_taken<W: Output>(
+    output: &mut W,
+    constraints: &ConstraintSet,
+    horizon: i64,
+) -> Result<(), WriteFault>
+    ensures { Puts W.Output output.old output.new (one_byte (constraint_bits constraints.now) ++ horizon_bytes written_version horizon) result }
+{
+    put_one(output, constraint_bits(constraints))?;
+    put_horizon(output, horizon)
+}
+
+#[tactic(auto, using(tab_io::proofs::Putting::putting), unfolding(crate::specs::Spelling::horizon_bytes))]
+fn put_horizon<W: Output>(output: &mut W, horizon: i64) -> Result<(), WriteFault>
+    ensures { Puts W.Output output.old output.new (horizon_bytes written_version horizon) result }
+{
+    put_signed(output, horizon)
 }
 
 /// Puts a user with his system permissions and his authorizations.
@@ -150,16 +172,22 @@ fn put_held<W: Output>(
 /// Puts all of a table but its records.
 #[tactic(auto, using(tab_io::proofs::Putting::putting), unfolding(crate::specs::Spelling::head_bytes))]
 pub fn put_head<W: Output>(output: &mut W, head: &TableHead) -> Result<(), WriteFault>
-    ensures { Puts W.Output output.old output.new (head_bytes head.now) result }
+    ensures { Puts W.Output output.old output.new (head_bytes written_version head.now) result }
 {
     put_field(output, head.name.as_bytes())?;
     put_kept(output, head)
 }
 
 fn put_kept<W: Output>(output: &mut W, head: &TableHead) -> Result<(), WriteFault>
-    ensures { Puts W.Output output.old output.new (settings_bytes head.now.time head.now.versions head.now.constraints ++ (list_bytes right_bytes head.now.rights ++ list_bytes field_bytes head.now.ends)) result }
+    ensures { Puts W.Output output.old output.new (settings_bytes written_version head.now.time head.now.versions head.now.constraints head.now.horizon ++ (list_bytes right_bytes head.now.rights ++ list_bytes field_bytes head.now.ends)) result }
 {
-    put_settings(output, head.time, head.versions, &head.constraints)?;
+    put_settings(
+        output,
+        head.time,
+        head.versions,
+        &head.constraints,
+        head.horizon,
+    )?;
     put_lists(output, head)
 }
 

@@ -20,6 +20,7 @@ use Rattle.tab_history.specs.Held.{floor_of}
 use Rattle.tab_history.specs.Readings.{has_user as user_read, has_system_right}
 use Rattle.tab_history.specs.Rooted.{IsRooted}
 use Rattle.tab_history.specs.Settings.{Settings, least}
+use Rattle.tab_history.specs.declared.event.TimeMode.TheVariants.{Server}
 use Rattle.tab_store.specs.ByRow.{records_of_all}
 use Rattle.tab_store.specs.Keeping.{AreSound, settings_in}
 use Rattle.tab_store.specs.Limits.{IsWellFormed, AreLimited}
@@ -205,15 +206,10 @@ module _ (image : Image) (sane : IsSane image) where
     tables_again = held_again (table_of policy names) 0 ts
         (both_of (IsSaneTable us image.next) (λ t. found table_name t.head.name ts ≡ Some t) (λ t. (number : ℕ) → table_of policy names (table_held number t) ≡ t) table_is ts sane.each_table (each_found table_name ts sane.tables))
 
-    horizons : (xs : List NumberedTable) → AllByRecursion (λ (t : HeldTable). t.settings.horizon ≡ least) (map held_table_of xs)
-    horizons [] = tt
-    horizons (t ∷ xs) = (refl, horizons xs)
-
     pub is_image_of : IsImageOf made image
     is_image_of = record {
       names = names;
       users = users_are;
-      no_horizon = horizons (numbered_from 0 ts);
       says = λ i. record { clock = image.clock; next = image.next; users = sym users_again i; tables = sym tables_again i };
     }
 
@@ -245,7 +241,7 @@ module _ (image : Image) (sane : IsSane image) where
     is_store = record {
       names = subst IsRising (sym (names_said 0 ts)) sane.tables;
       tables = each_made (λ t. AreSound t.tablets image.next t.settings.versions (floor_of t.settings.time image.clock t.settings.horizon))
-          (λ t is number. restored_sound number t.head.ends t.records is.ends is.records image.next t.head.versions (floor_of t.head.time image.clock least) (numbers t is));
+          (λ t is number. restored_sound number t.head.ends t.records is.ends is.records image.next t.head.versions (floor_of t.head.time image.clock t.head.horizon) (numbers t is));
       limits = each_made (λ t. AreLimited t.tablets) (λ t is number. restored_limited number t.head.ends t.records is.ends is.records (well t is) (record { short = is.ends_short; few = is.ends_few }));
     }
 
@@ -300,15 +296,15 @@ module _ (image : Image) (sane : IsSane image) where
       rooted = is_rooted;
       root_has_all = λ p. granted_are root p ∙ ap (found_or (λ (u : ImageUser). system_contains u.system p) false) root_in.1
           ∙ all_in_list (system_contains root_in.0.system) (both_true (bytes_eq root_in.0.name root) (list_all (system_contains root_in.0.system) all_system) root_in.2).1 p;
-      no_horizon = λ q s e. go q s (table_in made q) refl (sym (bases_read made q).0 ∙ e);
+      server_horizon = λ q s e. go q s (table_in made q) refl (sym (bases_read made q).0 ∙ e);
       markers = each_made (λ t. (u : Record) → Contains (records_of_all t.tablets) u → IsBareRecord u) (λ t is number. all_held number t.head.ends t.records is.ends is.records IsBareRecord (bare t is));
       users = subst (λ n. n < 2 ^ 32) (sym count_is) sane.users_few;
       tables = subst (λ n. n < 2 ^ 32) (sym (held_count 0 ts)) sane.tables_few;
     }
       where
-        go : (q : List ℕ) (s : Settings) (o : Option HeldTable) → table_in made q ≡ o → settings_in o ≡ Some s → s.horizon ≡ least
+        go : (q : List ℕ) (s : Settings) (o : Option HeldTable) → table_in made q ≡ o → settings_in o ≡ Some s → s.time ≡ Server → s.horizon ≡ least
         go q s None e f = absurd (none-some s f)
-        go q s (Some t) e f = ap (λ x. x.horizon) (sym (some_inj t.settings s f)) ∙ each_made (λ t. t.settings.horizon ≡ least) (λ t is number. refl) q t e
+        go q s (Some t) e f = subst (λ x. x.time ≡ Server → x.horizon ≡ least) (some_inj t.settings s f) (each_made (λ t. t.settings.time ≡ Server → t.settings.horizon ≡ least) (λ t is number. is.server) q t e)
 
     pub is_core : IsCore made
     is_core = record { store = is_store; knows = known_tables; limits = is_bounded }

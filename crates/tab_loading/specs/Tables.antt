@@ -29,7 +29,7 @@ numbered_from number (t ∷ ts) = record { number = number; table = t } ∷ numb
 -- ---- tables
 -- without its name: its settings, and for each end row a tablet, and the last one, with the records of its rows as one sorted table
 abbrev pub table_state_of : NumberedTable → TableState
-table_state_of t = restored_table t.table.head.time t.table.head.versions t.table.head.constraints t.number t.table.head.ends t.table.records
+table_state_of t = restored_table t.table.head.time t.table.head.versions t.table.head.constraints t.table.head.horizon t.number t.table.head.ends t.table.records
 
 -- under its name
 abbrev pub held_table_of : NumberedTable → HeldTable

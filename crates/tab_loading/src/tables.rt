@@ -48,10 +48,20 @@ fn put_table(
         time,
         versions,
         constraints,
+        horizon,
         rights: _,
         ends,
     } = head;
-    let restored = Table::restored(alloc, time, versions, constraints, *number, ends, records)?;
+    let restored = Table::restored(
+        alloc,
+        time,
+        versions,
+        constraints,
+        horizon,
+        *number,
+        ends,
+        records,
+    )?;
     *number = number.saturating_add(restored.tablet_count());
     made.put_table(name, restored)
 }

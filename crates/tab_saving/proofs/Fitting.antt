@@ -18,7 +18,7 @@ use Rattle.tab_store.specs.ByRow.{records_of_all}
 use Rattle.tab_store.specs.Limits.{IsWellFormed, AreLimited}
 use Rattle.tab_store.specs.Stores.{HeldTable, Held}
 use Rattle.tab_core.specs.Stepping.{IsCore}
-use Rattle.tab_image.specs.Images.{IsImage}
+use Rattle.tab_image.specs.Images.{IsImage, written_version}
 use Rattle.tab_image.specs.Spelling.{image_bytes}
 use Rattle.tab_image.specs.Written.{FitsUser, FitsRight, FitsRecord, FitsTable, Fits}
 use Rattle.tab_image.specs.declared.table.ImageRight.{ImageRight}
@@ -72,6 +72,8 @@ module _ (h : Held) (names : List (List ℕ)) (users : AreUsers h.policy names) 
       name = is.head.name;
       versions = is.head.versions;
       constraints = is.head.constraints;
+      horizon = is.head.horizon;
+      horizon_bits = is.head.horizon_bits;
       rights = fits_rights t.name;
       rights_few = few_rights t.name;
       ends = limits.ends.short;
@@ -98,5 +100,5 @@ module _ (h : Held) (names : List (List ℕ)) (users : AreUsers h.policy names) 
   }
 
   -- what is written for the image of the core is an image
-  pub spelled_with : AreTypedClocks h → IsImage (image_bytes (image_with h names)) (image_with h names)
+  pub spelled_with : AreTypedClocks h → IsImage written_version (image_bytes written_version (image_with h names)) (image_with h names)
   spelled_with numbers = what_fits_is_spelled (image_with h names) (fits_with numbers) (sane_with h names users core)

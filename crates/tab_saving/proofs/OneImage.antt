@@ -1,7 +1,6 @@
 -- Cores of one image read alike, and so answer alike.
 use Rattle.std.proofs.Common.{◌≡◌, ℕ, Bool, true, false, cond, ◌||◌, List, [], ◌∷◌, length, map, refl, sym, ap, ◌∙◌, subst}
 use Rattle.std.specs.Prelude.{Some, is_some, find, bytes_eq, Contains}
-use Rattle.std.specs.List.{AllByRecursion}
 use Rattle.std.proofs.lemmas.Slice.Eq.{bytes_eq-Decides}
 use mathlib.Core.Bool.{true≢false}
 use Rattle.tab_label.specs.Sets.{has}
@@ -10,7 +9,6 @@ use Rattle.tab_policy.specs.declared.permission.TablePermission.{TablePermission
 use Rattle.tab_policy.specs.Sets.{system_contains}
 use Rattle.tab_policy.specs.State.{State, user_exists, auths_of, system_granted, table_granted}
 use Rattle.tab_history.specs.Bases.{BaseTable}
-use Rattle.tab_history.specs.Settings.{least}
 use Rattle.tab_history.specs.Readings.{base_settings, base_records, has_user, user_count as users_read, held_auths, has_system_right, has_table_right, table_count, settings_of, next_number, updates_of}
 use Rattle.tab_history.specs.Histories.{world_of}
 use Rattle.tab_history.specs.Refinement.{ReadsAlike, Refines}
@@ -49,11 +47,11 @@ same_user s r (m ∷ ns) e n h = go (same_user s r ns (same_rest (user_of s m) (
 -- ---- tables
 -- what histories see of a table whose image this is
 abbrev read_of : ImageTable → BaseTable
-read_of t = record { name = t.head.name; settings = record { time = t.head.time; versions = t.head.versions; constraints = t.head.constraints; horizon = least }; records = t.records }
+read_of t = record { name = t.head.name; settings = record { time = t.head.time; versions = t.head.versions; constraints = t.head.constraints; horizon = t.head.horizon }; records = t.records }
 
-tables_read : (s : State) (ns : List (List ℕ)) (ts : List HeldTable) → AllByRecursion (λ (t : HeldTable). t.settings.horizon ≡ least) ts → map base_table_of ts ≡ map read_of (map (table_of s ns) ts)
-tables_read s ns [] h = refl
-tables_read s ns (t ∷ ts) h = λ i. record (base_table_of t) { settings = record (t.settings) { horizon = h.0 i } } ∷ tables_read s ns ts h.1 i
+tables_read : (s : State) (ns : List (List ℕ)) (ts : List HeldTable) → map base_table_of ts ≡ map read_of (map (table_of s ns) ts)
+tables_read s ns [] = refl
+tables_read s ns (t ∷ ts) = ap (λ bs. base_table_of t ∷ bs) (tables_read s ns ts)
 
 -- whether one of these tables has the name
 abbrev is_there : List ImageTable → List ℕ → Bool
@@ -107,7 +105,7 @@ module _ (h k : Held) (image : Image) (core : IsCore h) (other : IsCore k) (of :
       (λ e f. no_system h.policy n e p ∙ sym (no_system k.policy n f p))
 
   same_bases : map base_table_of h.tables ≡ map base_table_of k.tables
-  same_bases = tables_read h.policy of.names h.tables of.no_horizon ∙ ap (λ (i : Image). map read_of i.tables) one ∙ sym (tables_read k.policy also.names k.tables also.no_horizon)
+  same_bases = tables_read h.policy of.names h.tables ∙ ap (λ (i : Image). map read_of i.tables) one ∙ sym (tables_read k.policy also.names k.tables)
 
   same_settings : (q : List ℕ) → settings_of (base_of h) [] q ≡ settings_of (base_of k) [] q
   unfolding settings_of
@@ -119,7 +117,7 @@ module _ (h k : Held) (image : Image) (core : IsCore h) (other : IsCore k) (of :
 
   is_read : (q : List ℕ) → is_there (map (table_of h.policy of.names) h.tables) q ≡ is_some (settings_of (base_of h) [] q)
   unfolding settings_of
-  is_read q = ap (λ ts. is_some (base_settings (find (λ (u : BaseTable). bytes_eq u.name q) ts))) (sym (tables_read h.policy of.names h.tables of.no_horizon))
+  is_read q = ap (λ ts. is_some (base_settings (find (λ (u : BaseTable). bytes_eq u.name q) ts))) (sym (tables_read h.policy of.names h.tables))
 
   same_rights : (n : List ℕ) (p : TablePermission) (q : List ℕ) → table_granted h.policy n p q ≡ table_granted k.policy n p q
   same_rights n p q = go (is_some (settings_of (base_of h) [] q)) refl

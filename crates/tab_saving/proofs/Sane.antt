@@ -20,10 +20,13 @@ use Rattle.tab_policy.specs.State.{State, system_granted}
 use Rattle.tab_policy.specs.declared.permission.SystemPermission.TheVariants as system
 use Rattle.tab_history.specs.Held.{floor_of}
 use Rattle.tab_history.specs.Readings.{has_user as user_read, has_system_right}
+use Rattle.tab_history.specs.Settings.{least}
+use Rattle.tab_history.specs.declared.event.TimeMode.TheVariants.{Server}
 use Rattle.tab_store.specs.ByRow.{records_of_all}
-use Rattle.tab_store.specs.Keeping.{AreSound}
+use Rattle.tab_store.specs.Keeping.{AreSound, settings_in}
 use Rattle.tab_store.specs.Limits.{IsWellFormed, AreLimited}
 use Rattle.tab_store.specs.Stores.{HeldTable, Held, RiseByName}
+use Rattle.tab_store.proofs.Reading.{bases_read}
 use Rattle.tab_tablets.proofs.Restored.{ends_of_rise}
 use Rattle.tab_core.specs.Bounded.{IsBareRecord}
 use Rattle.tab_core.specs.Stepping.{IsCore}
@@ -155,14 +158,15 @@ module _ (h : Held) (names : List (List ℕ)) (users : AreUsers h.policy names) 
   sane_record : (next : ℕ) (u : Record) → IsWellFormed u → IsBareRecord u → u.seq < next → IsSaneRecord next u
   sane_record next u well bare lt = record { short = well.short; seq = lt; idx = well.place; marker = bare; label = well.label }
 
-  sane_table : (t : HeldTable) (n : ℕ) (floor : ℤ) → AreSound t.tablets h.next n floor → AreLimited t.tablets → ((u : Record) → Contains (records_of_all t.tablets) u → IsBareRecord u) → IsSaneTable us h.next (table_of h.policy names t)
-  sane_table t n floor sound limits bare = record {
+  sane_table : (t : HeldTable) (n : ℕ) (floor : ℤ) → AreSound t.tablets h.next n floor → AreLimited t.tablets → (t.settings.time ≡ Server → t.settings.horizon ≡ least) → ((u : Record) → Contains (records_of_all t.tablets) u → IsBareRecord u) → IsSaneTable us h.next (table_of h.policy names t)
+  sane_table t n floor sound limits server bare = record {
     rights = rights_rise h.policy t.name names users.rising;
     known = of_map (λ m. has_user us m ≡ true) (λ (r : ImageRight). r.user) (rights_of h.policy names t.name) (all_users h.policy t.name (λ m. has_user us m ≡ true) names (all_known h.policy names names (λ m h. h)));
     some = rights_some h.policy t.name names;
     ends = ends_of_rise t.tablets sound.whole;
     ends_short = limits.ends.short;
     ends_few = limits.ends.few;
+    server = server;
     records = rising_sorted (records_of_all t.tablets) sound.once;
     each = all_sorted (IsSaneRecord h.next) (records_of_all t.tablets) (all_members (IsSaneRecord h.next) (records_of_all t.tablets) (λ u i.
         let c = in_to (records_of_all t.tablets) u i in
@@ -179,7 +183,7 @@ module _ (h : Held) (names : List (List ℕ)) (users : AreUsers h.policy names) 
     tables = subst IsRising (sym (tables_named h.policy names h.tables)) core.store.names;
     tables_few = subst (λ n. n < 2 ^ 32) (sym (length-map h.tables (table_of h.policy names))) core.limits.tables;
     each_table = map_all (λ t. IsSaneTable us h.next (table_of h.policy names t)) (IsSaneTable us h.next) (table_of h.policy names) (λ t sane. sane) h.tables
-        (all_found (λ t. IsSaneTable us h.next (table_of h.policy names t)) h.tables core.store.names (λ q t e. sane_table t t.settings.versions (floor_of t.settings.time h.clock t.settings.horizon) (core.store.tables q t e) (core.store.limits q t e) (core.limits.markers q t e)));
+        (all_found (λ t. IsSaneTable us h.next (table_of h.policy names t)) h.tables core.store.names (λ q t e. sane_table t t.settings.versions (floor_of t.settings.time h.clock t.settings.horizon) (core.store.tables q t e) (core.store.limits q t e) (core.limits.server_horizon q t.settings ((bases_read h q).0 ∙ ap settings_in e)) (core.limits.markers q t e)));
   }
 
 -- the image of a core is sane

@@ -1,6 +1,5 @@
 -- Which image is the image of what a core holds.
 use Rattle.std.specs.Prelude.{ℕ, ◌≡◌, List, filter, map}
-use Rattle.std.specs.List.{AllByRecursion}
 use Rattle.tab_key.specs.Sorted.{sorted}
 use Rattle.tab_policy.specs.Holders.{AreUsers, has_any}
 use Rattle.tab_policy.specs.State.{State, auths_of, system_granted, table_granted}
@@ -8,7 +7,6 @@ use Rattle.tab_policy.specs.declared.permission.SystemPermission.TheVariants as 
 use Rattle.tab_policy.specs.declared.permission.TablePermission.TheVariants as table
 use Rattle.tab_policy.specs.declared.sets.SystemPermissions.{SystemPermissions}
 use Rattle.tab_policy.specs.declared.sets.TablePermissions.{TablePermissions}
-use Rattle.tab_history.specs.Settings.{least}
 use Rattle.tab_image.specs.declared.image.Image.{Image}
 use Rattle.tab_image.specs.declared.table.ImageRight.{ImageRight}
 use Rattle.tab_image.specs.declared.table.ImageTable.{ImageTable}
@@ -61,6 +59,7 @@ head_of s names t = record {
   time = t.settings.time;
   versions = t.settings.versions;
   constraints = t.settings.constraints;
+  horizon = t.settings.horizon;
   rights = rights_of s names t.name;
   ends = ends_of t.tablets;
 }
@@ -74,9 +73,8 @@ table_of s names t = record { head = head_of s names t; records = sorted (record
 abbrev pub image_with : Held → List (List ℕ) → Image
 image_with h names = record { clock = h.clock; next = h.next; users = map (user_of h.policy) names; tables = map (table_of h.policy names) h.tables }
 
--- The image says all that the core holds: its users are all that there are, by name. An image has no horizons, so the core has none.
+-- the image says all that the core holds: its users are all that there are, by name
 pub record IsImageOf (h : Held) (image : Image) : Type 0 where
   pub names : List (List ℕ)
   pub users : AreUsers h.policy names
-  pub no_horizon : AllByRecursion (λ (t : HeldTable). t.settings.horizon ≡ least) h.tables
   pub says : image ≡ image_with h names

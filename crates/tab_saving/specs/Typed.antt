@@ -18,11 +18,13 @@ pub record IsTypedUser (s : State) (n : List ℕ) : Type 0 where
   pub name : IsName n
   pub rising : IsRising (auths_of s n)
 
--- a table's name is one, it keeps 1 to 1,000 versions, and its constraints are in the one form of their set
+-- a table's name is one, it keeps 1 to 1,000 versions, its constraints are in the one form of their set, and its horizon is of its width
 pub record IsTypedHead (n : List ℕ) (settings : Settings) : Type 0 where
   pub name : IsName n
   pub versions : is_version_count settings.versions ≡ true
   pub constraints : constraint_set_of settings.constraints ≡ settings.constraints
+  pub horizon : FitsSigned w64 settings.horizon
+  pub horizon_bits : cast_unsigned w64 settings.horizon < 2 ^ 64
 
 -- a record's numbers are of their widths
 abbrev pub IsTypedRecord : Record → Type 0

@@ -2,6 +2,7 @@
 #![tactic(auto, using(crate::proofs::Texts::saving, tab_io::proofs::Putting::putting))]
 
 ghost use Rattle.std.specs.Prelude.{◌++◌};
+ghost use Rattle.tab_image.specs.Images.{written_version};
 ghost use Rattle.tab_image.specs.Spelling.{field_bytes, list_bytes, right_bytes, settings_bytes, head_bytes};
 ghost use Rattle.tab_store.specs.ByRow.{ends_of};
 ghost use Rattle.tab_store.specs.Tables.{named_table};
@@ -26,7 +27,7 @@ pub(crate) fn put_head<W: Output>(
     name: &Name,
     table: &Table,
 ) -> Result<(), SaveFault>
-    ensures { ForUsers policy.now (λ names. Saves W.Output output.old output.new (head_bytes (head_of policy.now names (named_table (name.now, table.now)))) result) }
+    ensures { ForUsers policy.now (λ names. Saves W.Output output.old output.new (head_bytes written_version (head_of policy.now names (named_table (name.now, table.now)))) result) }
 {
     put_front_of(output, name, table)?;
     put_lists(alloc, output, policy, name, table)
@@ -34,10 +35,16 @@ pub(crate) fn put_head<W: Output>(
 
 // Puts a table's name and its settings.
 fn put_front_of<W: Output>(output: &mut W, name: &Name, table: &Table) -> Result<(), WriteFault>
-    ensures { Puts W.Output output.old output.new (field_bytes name.now ++ settings_bytes table.now.settings.time table.now.settings.versions table.now.settings.constraints) result }
+    ensures { Puts W.Output output.old output.new (field_bytes name.now ++ settings_bytes written_version table.now.settings.time table.now.settings.versions table.now.settings.constraints table.now.settings.horizon) result }
 {
     put_field(output, name.as_bytes())?;
-    put_settings(output, table.time(), table.versions(), table.constraints())
+    put_settings(
+        output,
+        table.time(),
+        table.versions(),
+        table.constraints(),
+        table.horizon(),
+    )
 }
 
 // Puts who may what on a table, and its end rows.

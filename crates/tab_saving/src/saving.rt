@@ -6,7 +6,7 @@ ghost use Rattle.std.specs.List.{AllByRecursion};
 ghost use Rattle.tab_io.specs.Writing.{Puts};
 ghost use Rattle.tab_policy.specs.Holders.{AreUsers};
 ghost use Rattle.tab_core.specs.Stepping.{IsCore};
-ghost use Rattle.tab_image.specs.Images.{IsImage};
+ghost use Rattle.tab_image.specs.Images.{IsImage, written_version};
 ghost use Rattle.tab_image.specs.Spelling.{list_bytes, user_bytes, table_bytes, front_bytes, end_bytes, image_bytes};
 ghost use Rattle.tab_saving.specs.ImageOf.{user_of, table_of, image_with};
 ghost use Rattle.tab_saving.specs.Saves.{Saves, ForUsers, RootHasAll, AreListed};
@@ -24,7 +24,7 @@ use tab_key::Name;
 use tab_policy::Policy;
 use tab_store::Tables;
 
-/// Writes the image of a core, which stays as it is.
+/// Writes the image of a core, which stays as it is. The image is of the second version.
 ///
 /// It goes through the core without a copy of it: memory is taken for the list of its users, for the rights and end rows of one table at
 /// a time, and for what was written to one tablet since its last freeze. NoMemory is also told where a table has 2^64 - 1 records or
@@ -46,8 +46,8 @@ fn put_core<W: Output>(
 ) -> Result<(), SaveFault>
     requires core { IsCore core.now }
     requires users { AreUsers core.now.policy users.now }
-    ensures put { Saves W.Output output.old output.new (image_bytes (image_with core.now users.now)) result }
-    ensures image { OnOk result (IsImage (image_bytes (image_with core.now users.now)) (image_with core.now users.now)) }
+    ensures put { Saves W.Output output.old output.new (image_bytes written_version (image_with core.now users.now)) result }
+    ensures image { OnOk result (IsImage written_version (image_bytes written_version (image_with core.now users.now)) (image_with core.now users.now)) }
 {
     put_clocks(output, core)?;
     put_held(alloc, output, core.policy(), core.tables(), users)
@@ -55,7 +55,7 @@ fn put_core<W: Output>(
 
 // Puts all before the users.
 fn put_clocks<W: Output>(output: &mut W, core: &Core) -> Result<(), WriteFault>
-    ensures put { Puts W.Output output.old output.new (front_bytes core.now.clock core.now.next) result }
+    ensures put { Puts W.Output output.old output.new (front_bytes written_version core.now.clock core.now.next) result }
     ensures typed { AreTypedClocks core.now }
 {
     let clock = core.clock();
@@ -74,7 +74,7 @@ fn put_held<W: Output>(
     requires root { RootHasAll policy.now }
     requires users { AreUsers policy.now users.now }
     requires listed { AllByRecursion (λ t. AreListed t.tablets) tables.now }
-    ensures put { Saves W.Output output.old output.new (list_bytes (λ n. user_bytes (user_of policy.now n)) users.now ++ (list_bytes (λ t. table_bytes (table_of policy.now users.now t)) tables.now ++ end_bytes)) result }
+    ensures put { Saves W.Output output.old output.new (list_bytes (λ n. user_bytes (user_of policy.now n)) users.now ++ (list_bytes (λ t. table_bytes written_version (table_of policy.now users.now t)) tables.now ++ end_bytes)) result }
     ensures users { OnOk result (AllByRecursion (IsTypedUser policy.now) users.now) }
     ensures tables { OnOk result (AllByRecursion IsTypedTable tables.now) }
 {
@@ -90,7 +90,7 @@ fn put_rest<W: Output>(
     tables: &Tables,
 ) -> Result<(), SaveFault>
     requires { AllByRecursion (λ t. AreListed t.tablets) tables.now }
-    ensures put { ForUsers policy.now (λ names. Saves W.Output output.old output.new (list_bytes (λ t. table_bytes (table_of policy.now names t)) tables.now ++ end_bytes) result) }
+    ensures put { ForUsers policy.now (λ names. Saves W.Output output.old output.new (list_bytes (λ t. table_bytes written_version (table_of policy.now names t)) tables.now ++ end_bytes) result) }
     ensures typed { OnOk result (AllByRecursion IsTypedTable tables.now) }
 {
     put_tables(alloc, output, policy, tables)?;

@@ -3,6 +3,7 @@
 
 ghost use Rattle.std.specs.Prelude.{OnOk};
 ghost use Rattle.std.specs.List.{AllByRecursion, flat_map};
+ghost use Rattle.tab_image.specs.Images.{written_version};
 ghost use Rattle.tab_image.specs.Spelling.{list_bytes, table_bytes};
 ghost use Rattle.tab_store.specs.Tables.{named_table};
 ghost use Rattle.tab_saving.specs.ImageOf.{table_of};
@@ -28,7 +29,7 @@ pub(crate) fn put_tables<W: Output>(
     tables: &Tables,
 ) -> Result<(), SaveFault>
     requires { AllByRecursion (λ t. AreListed t.tablets) tables.now }
-    ensures put { ForUsers policy.now (λ names. Saves W.Output output.old output.new (list_bytes (λ t. table_bytes (table_of policy.now names t)) tables.now) result) }
+    ensures put { ForUsers policy.now (λ names. Saves W.Output output.old output.new (list_bytes (λ t. table_bytes written_version (table_of policy.now names t)) tables.now) result) }
     ensures typed { OnOk result (AllByRecursion IsTypedTable tables.now) }
 {
     put_count(output, tables.len())?;
@@ -42,7 +43,7 @@ fn put_each_table<W: Output>(
     tables: &Tables,
 ) -> Result<(), SaveFault>
     requires { AllByRecursion (λ t. AreListed t.tablets) tables.now }
-    ensures put { ForUsers policy.now (λ names. Saves W.Output output.old output.new (flat_map (λ t. table_bytes (table_of policy.now names t)) tables.now) result) }
+    ensures put { ForUsers policy.now (λ names. Saves W.Output output.old output.new (flat_map (λ t. table_bytes written_version (table_of policy.now names t)) tables.now) result) }
     ensures typed { OnOk result (AllByRecursion IsTypedTable tables.now) }
 {
     for (name, table) in tables.iter() {
@@ -64,7 +65,7 @@ fn put_table<W: Output>(
     table: &Table,
 ) -> Result<(), SaveFault>
     requires { AreListed table.now.tablets }
-    ensures put { ForUsers policy.now (λ names. Saves W.Output output.old output.new (table_bytes (table_of policy.now names (named_table (name.now, table.now)))) result) }
+    ensures put { ForUsers policy.now (λ names. Saves W.Output output.old output.new (table_bytes written_version (table_of policy.now names (named_table (name.now, table.now)))) result) }
     ensures typed { OnOk result (IsTypedTable (named_table (name.now, table.now))) }
 {
     keep_types(name, table);
@@ -79,4 +80,5 @@ fn keep_types(name: &Name, table: &Table)
     let _bytes = name.as_bytes();
     let _count = table.versions().get();
     table.constraints().keeps();
+    let _bits = table.horizon().cast_unsigned();
 }

@@ -6,7 +6,7 @@
 //! | File | What is tested |
 //! |---|---|
 //! | `images` | the images of the tests |
-//! | `reading` | images read and written again: cut at each length, and with each byte changed |
+//! | `reading` | images of both versions read and written again: cut at each length, and with each byte changed |
 //! | `cores` | cores of images, and their bytes |
 //! | `rounds` | cores that are loaded and saved again |
 //! | `refusals` | reads and writes that fail |

@@ -1,5 +1,8 @@
 //! Images read, and written again.
-use crate::images::{ONE_PUT, SMALLEST, TWO_TABLES};
+use crate::images::{
+    FIRST_ONE_PUT, FIRST_SMALLEST, FIRST_TWO_TABLES, HORIZON_OF_S, HORIZON_OF_T, ONE_PUT, SMALLEST,
+    TWO_TABLES,
+};
 use std::alloc::Global;
 use std::process::Abort;
 use tab_image::{Image, LoadFault, read_image, write_image};
@@ -28,7 +31,14 @@ fn fault_of(rt: &impl Abort, alloc: Global, bytes: &[u8], piece: usize) -> Optio
 #[test]
 fn an_image_that_is_cut_is_none(rt: HostRuntime) {
     let alloc = rt.alloc();
-    for bytes in [SMALLEST, ONE_PUT, TWO_TABLES] {
+    for bytes in [
+        SMALLEST,
+        ONE_PUT,
+        TWO_TABLES,
+        FIRST_SMALLEST,
+        FIRST_ONE_PUT,
+        FIRST_TWO_TABLES,
+    ] {
         for length in 0..bytes.len() {
             assert!(rt; fault_of(&rt, alloc, &bytes[..length], 5) == Some(LoadFault::Bad));
         }
@@ -46,7 +56,8 @@ fn changed(rt: &impl Abort, alloc: Global, bytes: &[u8], place: usize, byte: u8)
     other
 }
 
-// What is told of bytes: `i` for an image that is written so again, `o` for one that isn't, `v` for a version, `-` for none of these.
+// What is told of bytes: `i` for an image that is written so again, `o` for one that isn't, as in the first version, `v` for a version,
+// `-` for none of these.
 fn told(rt: &impl Abort, alloc: Global, bytes: &[u8]) -> u8 {
     match read(rt, alloc, bytes, 1000) {
         Ok(image) => {
@@ -84,10 +95,76 @@ fn one_byte_of_a_table_is_changed(rt: HostRuntime) {
     let all = told_of_each(&rt, alloc, ONE_PUT);
     let front = all.get(..49).expect(&rt, "all before the table's name");
     assert!(rt; front == b"------vviiiiiiiiiiiiiiii-------------------------".as_slice());
-    let middle = all.get(49..85).expect(&rt, "up to the row");
-    assert!(rt; middle == b"ii--iii-----------------------------".as_slice());
-    let behind = all.get(85..).expect(&rt, "the record, and the mark");
+    let middle = all.get(49..93).expect(&rt, "up to the row");
+    assert!(rt; middle == b"ii--iiiiiiiiiii-----------------------------".as_slice());
+    let behind = all.get(93..).expect(&rt, "the record, and the mark");
     assert!(rt; behind == b"i----i----i----iiiiiiii-----------ii----i----".as_slice());
+}
+
+#[test]
+fn one_byte_of_the_first_version_is_changed(rt: HostRuntime) {
+    let alloc = rt.alloc();
+    let all = told_of_each(&rt, alloc, FIRST_SMALLEST);
+    assert!(rt; all.as_slice() == b"------vioooooooooooooooo-------------------------".as_slice());
+    let all = told_of_each(&rt, alloc, FIRST_ONE_PUT);
+    let front = all.get(..49).expect(&rt, "all before the table's name");
+    assert!(rt; front == b"------v-oooooooooooooooo-------------------------".as_slice());
+    let middle = all.get(49..85).expect(&rt, "up to the row");
+    assert!(rt; middle == b"oo--ooo-----------------------------".as_slice());
+    let behind = all.get(85..).expect(&rt, "the record, and the mark");
+    assert!(rt; behind == b"o----o----o----oooooooo-----------oo----o----".as_slice());
+}
+
+// What is told where each of the eight bytes from this place on is one more.
+fn told_from(rt: &impl Abort, alloc: Global, bytes: &[u8], place: usize) -> Vec<u8> {
+    let all = told_of_each(rt, alloc, bytes);
+    let eight = all
+        .get(place..)
+        .and_then(|rest| rest.get(..8))
+        .expect(rt, "eight bytes");
+    Vec::from_slice(alloc, eight).expect(rt, "memory")
+}
+
+#[test]
+fn a_table_that_gives_timestamps_has_no_horizon(rt: HostRuntime) {
+    let alloc = rt.alloc();
+    let of_s = told_from(&rt, alloc, TWO_TABLES, HORIZON_OF_S);
+    assert!(rt; of_s.as_slice() == b"--------".as_slice());
+    let of_t = told_from(&rt, alloc, TWO_TABLES, HORIZON_OF_T);
+    assert!(rt; of_t.as_slice() == b"iiiiiiii".as_slice());
+}
+
+// Whether bytes of the first version are read, and then written as these of the second one.
+fn is_written_anew(rt: &impl Abort, alloc: Global, first: &[u8], bytes: &[u8]) -> bool {
+    match read(rt, alloc, first, 7) {
+        Ok(image) => is_written_as(rt, alloc, &image, bytes),
+        Err(_) => false,
+    }
+}
+
+#[test]
+fn the_first_version_is_written_as_the_second(rt: HostRuntime) {
+    let alloc = rt.alloc();
+    assert!(rt; is_written_anew(&rt, alloc, FIRST_SMALLEST, SMALLEST));
+    assert!(rt; is_written_anew(&rt, alloc, FIRST_ONE_PUT, ONE_PUT));
+    let without = changed(&rt, alloc, TWO_TABLES, HORIZON_OF_T, 0x80);
+    let without = changed(&rt, alloc, &without, HORIZON_OF_T + 7, 0);
+    assert!(rt; is_written_anew(&rt, alloc, FIRST_TWO_TABLES, &without));
+}
+
+#[test]
+fn a_version_has_its_own_tables(rt: HostRuntime) {
+    let alloc = rt.alloc();
+    for bytes in [ONE_PUT, TWO_TABLES] {
+        let first = changed(&rt, alloc, bytes, 7, 1);
+        assert!(rt; fault_of(&rt, alloc, &first, 1000) == Some(LoadFault::Bad));
+        let third = changed(&rt, alloc, bytes, 7, 3);
+        assert!(rt; fault_of(&rt, alloc, &third, 1000) == Some(LoadFault::Version(3)));
+    }
+    for bytes in [FIRST_ONE_PUT, FIRST_TWO_TABLES] {
+        let second = changed(&rt, alloc, bytes, 7, 2);
+        assert!(rt; fault_of(&rt, alloc, &second, 1000) == Some(LoadFault::Bad));
+    }
 }
 
 // Whether each byte behind the version, where it is this one, gives an image that is written so again, or none.

@@ -1,6 +1,7 @@
 use Rattle.std.proofs.Common.{◌≡◌, List, ℕ, sym, subst}
 use Rattle.std.specs.Prelude.{OnOk}
 use Rattle.std.specs.List.{AllByRecursion}
+use Rattle.tab_image.specs.Images.{written_version}
 use Rattle.tab_image.specs.Spelling.{front_bytes}
 use Rattle.tab_policy.specs.Holders.{AreUsers}
 use Rattle.tab_policy.specs.State.{State}
@@ -17,7 +18,7 @@ returns-in_err-put_clocks-clause-put g c =
     let h = c.args.core.now in
     let names = c.args.users.now in
     saves_same g.W.Output c.args.output.now c.put_clocks.new.output _ _ c.from_residual.result (image_written h names)
-    (write_fails g.W.Output c.args.output.now c.put_clocks.new.output (front_bytes h.clock h.next) (held_bytes h names) c.from_residual.result c.in_err-put_clocks.ensures.put c.from_residual.ensures)
+    (write_fails g.W.Output c.args.output.now c.put_clocks.new.output (front_bytes written_version h.clock h.next) (held_bytes h names) c.from_residual.result c.in_err-put_clocks.ensures.put c.from_residual.ensures)
 
 pub put_held-requires-clause-root : goal.put_held-requires-clause-root
 put_held-requires-clause-root g c = subst RootHasAll (sym c.policy.ensures) c.requires.core.limits.root_has_all
@@ -35,7 +36,7 @@ returns-clause-put g c =
     let put : State → List HeldTable → Type 0 = λ s ts. Saves g.W.Output c.put_clocks.new.output c.put_held.new.output (held_bytes (record h { policy = s; tables = ts }) names) c.put_held.result in
     let held : put h.policy h.tables = subst (λ s. put s h.tables) c.policy.ensures (subst (put c.policy.result.now) c.tables.ensures c.put_held.ensures.put) in
     saves_same g.W.Output c.args.output.now c.put_held.new.output _ _ c.put_held.result (image_written h names)
-    (saves_more g.W.Output c.args.output.now c.put_clocks.new.output c.put_held.new.output (front_bytes h.clock h.next) (held_bytes h names) c.put_held.result c.in_ok-put_clocks.ensures.put held)
+    (saves_more g.W.Output c.args.output.now c.put_clocks.new.output c.put_held.new.output (front_bytes written_version h.clock h.next) (held_bytes h names) c.put_held.result c.in_ok-put_clocks.ensures.put held)
 
 pub returns-clause-image : goal.returns-clause-image
 returns-clause-image g c =

@@ -8,4 +8,4 @@ returns g c =
     let same : c.as_slice.result.now ≡ c.in_ok-users.users = search rules in
     let listed = subst (λ s. AreUsers s c.in_ok-users.users) c.policy.ensures c.in_ok-users.ensures in
     let users = subst (AreUsers c.args.core.now.policy) (sym same) listed in
-    saves_image g.W.Output c.args.output.now c.put_core.new.output c.args.core.now c.as_slice.result.now c.keeps.ensures users c.put_core.result c.put_core.ensures.image c.put_core.ensures.put
+    saves_image g.W.Output c.args.output.now c.put_core.new.output c.args.core.now c.as_slice.result.now users c.put_core.result c.put_core.ensures.image c.put_core.ensures.put
