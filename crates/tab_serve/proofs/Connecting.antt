@@ -21,7 +21,7 @@ use Rattle.tab_wire.specs.Heard.{Heard}
 use Rattle.tab_wire.specs.Heard as heard
 use Rattle.tab_wire.specs.Asking.{IsRead, Hears}
 use Rattle.tab_wire.specs.Replies.{Sent, sent_of, sent_bytes}
-use Rattle.tab_wire.specs.Stream.{Piece, pieces_of}
+use Rattle.tab_wire.specs.Stream.{Piece, pieces_of, AtFront}
 use Rattle.tab_wire.specs.Talking.{Talk, new_talk, Exchange, Speaks, Talks, entries_of, moments_of, replied}
 use Rattle.tab_wire.specs.TalkLaws.{KnowsSessions}
 use Rattle.tab_wire.proofs.NoSlots.{read_free}
@@ -30,7 +30,7 @@ use Rattle.tab_serve.specs.declared.fault.ServeFault.{ServeFault}
 use Rattle.tab_serve.specs.declared.fault.ServeFault.TheVariants.{Read, Write}
 use Rattle.tab_serve.specs.declared.service.Service.{Ghosts}
 use Rattle.tab_serve.specs.Turns.{Side, Tells, Turn, Turns, cells_asked}
-use Rattle.tab_serve.specs.Progress.{AnswersAll, AnswersSome, IsWritten, IsWrittenPart, Converses, first_side}
+use Rattle.tab_serve.specs.Progress.{AnswersAll, AnswersSome, AnswersFront, IsLeftButPart, IsWritten, IsWrittenPart, Converses, first_side}
 use Rattle.tab_serve.specs.Serves.{Served, Serves}
 use Rattle.tab_serve.specs.Serving.{Gave, ServesPieces, ServesAll}
 use Rattle.tab_serve.proofs.Carrying.{Comes, quiet, request_comes}
@@ -143,7 +143,7 @@ module _ {S M : Type 0} (s : Ghosts S) (gives : M → ℤ → M → Type 0) (vie
       all = carried pieces (first_side old) (record { user = user; service = new }) new_talk text refl (subst (λ (ss : List (Option SessionState)). SlotsAre [] ss) (sym none) slots_none) turns
 
   -- ---- with the core and the moments as they are once nothing is lent any more
-  module _ {R W : Type 0} (i : InputGhosts R) (o : OutputGhosts W) (old new : S) (input : R) (output output' : W) (core : Held) (moments : M) (none : (view old).slots ≡ []) (back : Lent old new → (core ≡ (view new).core) × (moments ≡ (view new).moments)) where
+  module _ {R W : Type 0} (i : InputGhosts R) (o : OutputGhosts W) (old new : S) (input input' : R) (output output' : W) (core : Held) (moments : M) (none : (view old).slots ≡ []) (back : Lent old new → (core ≡ (view new).core) × (moments ≡ (view new).moments)) where
     given_back : (user : Option (List ℕ)) (pieces : List Piece) (text : List ℕ) → Turns s (first_side old) pieces text (record { user = user; service = new }) → ServesPieces gives (view old).core (view old).moments pieces text core moments
     given_back user pieces text turns =
         let served = serves_pieces old new user pieces text none turns in
@@ -160,7 +160,13 @@ module _ {S M : Type 0} (s : Ghosts S) (gives : M → ℤ → M → Type 0) (vie
     some_served user None Holds answers = tt
     some_served user (Some bytes) Holds answers = (answers.0, answers.1, answers.2, answers.3, given_back user answers.0 answers.2 answers.4, answers.5)
 
-    pub serves_all : (r : Result (Unit {0}) ServeFault) → Converses i o s old input output new output' r → ServesAll i o gives (view old).core (view old).moments input output core moments output' r
+    front_served : (user : Option (List ℕ)) (ahead : Option (List ℕ)) (Behind Holds : List ℕ → Type 0) → AnswersFront s (first_side old) ahead (record { user = user; service = new }) Behind Holds
+        → IfSome ahead (λ bytes. (pieces : List Piece) × (behind : List ℕ) × (text : List ℕ)
+        × Behind behind × (pieces_of bytes ≡ pieces ++ pieces_of behind) × AtFront bytes pieces behind × ServesPieces gives (view old).core (view old).moments pieces text core moments × Holds text)
+    front_served user None Behind Holds answers = tt
+    front_served user (Some bytes) Behind Holds answers = (answers.0, answers.1, answers.2, answers.3, answers.4, answers.5, given_back user answers.0 answers.2 answers.6, answers.7)
+
+    pub serves_all : (r : Result (Unit {0}) ServeFault) → Converses i o s old input output new input' output' r → ServesAll i o gives (view old).core (view old).moments input output core moments input' output' r
     serves_all (Ok u) talks = (all_served talks.0.0 (i.remaining input) (IsWritten o output output') talks.0.1, talks.1)
-    serves_all (Err Read) talks = (some_served talks.0.0 (i.remaining input) (IsWritten o output output') talks.0.1, talks.1)
+    serves_all (Err Read) talks = (front_served talks.0.0 (i.remaining input) (IsLeftButPart (i.remaining input')) (IsWritten o output output') talks.0.1, talks.1)
     serves_all (Err Write) talks = some_served talks.0 (i.remaining input) (IsWrittenPart o output output') talks.1

@@ -54,10 +54,7 @@ may_shut (act.SplitBySize t row limit) plain r shut may = elim may [
 may_shut (act.Splits t) plain r shut may = ap opens may.1
 may_shut (act.Begin t row kind) plain r shut may = elim may [
   | inl is ↦ ap opens is
-  | inr other ↦ elim other [
-    | inl is ↦ ap opens is
-    | inr is ↦ ap opens is
-  ]
+  | inr is ↦ ap opens is
 ]
 may_shut (act.Install t given) plain r shut may = elim may [
   | inl is ↦ ap opens is ∙ shut

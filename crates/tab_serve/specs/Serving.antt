@@ -8,12 +8,12 @@ use Rattle.tab_history.specs.Refinement.{Refines}
 use Rattle.tab_history.specs.Chains.{IsChain}
 use Rattle.tab_core.specs.Stores.{Held, base_of}
 use Rattle.tab_core.specs.Chains.{ServedGoes}
-use Rattle.tab_wire.specs.Stream.{Piece, pieces_of}
+use Rattle.tab_wire.specs.Stream.{Piece, pieces_of, AtFront}
 use Rattle.tab_wire.specs.Talking.{Talk, new_talk, Exchange, Talks, entries_of, moments_of, replied}
 use Rattle.tab_wire.specs.TalkLaws.{KnowsSessions}
 use Rattle.tab_serve.specs.declared.fault.ServeFault.{ServeFault}
 use Rattle.tab_serve.specs.declared.fault.ServeFault.TheVariants.{Read, Write}
-use Rattle.tab_serve.specs.Progress.{IsWritten, IsWrittenPart}
+use Rattle.tab_serve.specs.Progress.{IsLeftButPart, IsWritten, IsWrittenPart}
 
 -- ---- moments
 -- a source gave these moments, one after another
@@ -43,14 +43,15 @@ pub record ServesPieces {M : Type 0} (gives : M → ℤ → M → Type 0) (old :
   pub histories : (w : World) → Refines (world_of (base_of old)) w → IsHistoryFrom w (entries_of exchanges) new last
 
 -- ---- whole connections
--- All pieces of the stream were answered, and all replies written, with nothing held. Where reading failed, the first pieces were, and all
--- their replies are written. Where writing failed, the first pieces were, and a beginning of their replies is written.
-abbrev pub ServesAll : {R W M : Type 0} → InputGhosts R → OutputGhosts W → (M → ℤ → M → Type 0) → Held → M → R → W → Held → M → W → Result (Unit {0}) ServeFault → Type 0
-ServesAll i o gives old m input output new m' output' (Ok u) =
+-- All pieces of the stream were answered, and all replies written, with nothing held. Where reading failed, all pieces in front of what is left
+-- were answered, but for a part of one that is dropped, and all their replies are written, with nothing held. Where writing failed, the first
+-- pieces were, and a beginning of their replies is written.
+abbrev pub ServesAll : {R W M : Type 0} → InputGhosts R → OutputGhosts W → (M → ℤ → M → Type 0) → Held → M → R → W → Held → M → R → W → Result (Unit {0}) ServeFault → Type 0
+ServesAll i o gives old m input output new m' input' output' (Ok u) =
     IfSome (i.remaining input) (λ bytes. (text : List ℕ) × ServesPieces gives old m (pieces_of bytes) text new m' × IsWritten o output output' text) × (o.held output' ≡ [])
-ServesAll i o gives old m input output new m' output' (Err Read) =
-    IfSome (i.remaining input) (λ bytes. (pieces : List Piece) × (more : List Piece) × (text : List ℕ)
-    × (pieces_of bytes ≡ pieces ++ more) × ServesPieces gives old m pieces text new m' × IsWritten o output output' text) × (o.held output' ≡ [])
-ServesAll i o gives old m input output new m' output' (Err Write) =
+ServesAll i o gives old m input output new m' input' output' (Err Read) =
+    IfSome (i.remaining input) (λ bytes. (pieces : List Piece) × (behind : List ℕ) × (text : List ℕ)
+    × IsLeftButPart (i.remaining input') behind × (pieces_of bytes ≡ pieces ++ pieces_of behind) × AtFront bytes pieces behind × ServesPieces gives old m pieces text new m' × IsWritten o output output' text) × (o.held output' ≡ [])
+ServesAll i o gives old m input output new m' input' output' (Err Write) =
     IfSome (i.remaining input) (λ bytes. (pieces : List Piece) × (more : List Piece) × (text : List ℕ)
     × (pieces_of bytes ≡ pieces ++ more) × ServesPieces gives old m pieces text new m' × IsWrittenPart o output output' text)

@@ -46,7 +46,7 @@ fn answer_all<R: Input, W: Output, S: Service>(
     service: &mut S,
 ) -> Result<(), ServeFault>
     requires { conn.old.opened ≡ S.opened service.old }
-    ensures goes { GoesAll R.Input W.Output S.Service (side conn.old service.old) input.old output.old (side conn.new service.new) output.new result }
+    ensures goes { GoesAll R.Input W.Output S.Service (side conn.old service.old) input.old output.old (side conn.new service.new) input.new output.new result }
     ensures faults { Faults R.Input W.Output result input.old input.new output.old output.new }
 {
     loop {
@@ -83,7 +83,8 @@ fn flushed<W: Output>(answered: Result<(), ServeFault>, output: &mut W) -> Resul
 ///
 /// The service answers each request once, in the order of the frames, as soon as its frame was read; nothing else is asked of it. How the
 /// input is cut into reads makes no difference. Replies are written before a read that may wait. After an error the requests that were
-/// answered have taken effect.
+/// answered have taken effect. After a fault of the reader these are all whose frames stand whole in front of what is left to read, and all
+/// their replies are written.
 pub fn converse<R: Input, W: Output, S: Service>(
     alloc: Global,
     input: &mut R,
@@ -91,7 +92,7 @@ pub fn converse<R: Input, W: Output, S: Service>(
     service: &mut S,
 ) -> Result<(), ServeFault>
     requires { S.opened service.old ≡ 0 }
-    ensures answers { Converses R.Input W.Output S.Service service.old input.old output.old service.new output.new result }
+    ensures answers { Converses R.Input W.Output S.Service service.old input.old output.old service.new input.new output.new result }
     ensures faults { Faults R.Input W.Output result input.old input.new output.old output.new }
 {
     let mut conn = Conn::new(alloc);

@@ -14,8 +14,9 @@
 //! | `serving` | a whole connection over a core: `serve` |
 //!
 //! In `specs`, `Turns` says what comes of the pieces of a stream, `Progress` how far a connection has come, also where the reader or the
-//! writer failed, and `Moments` what a list of moments gives. `Serves` says what one request does to a core, `CoreAnswers` the same of the
-//! service over it, and `Serving` what a whole connection does: its steps, its moments, its replies, and the core that it leaves.
+//! writer failed, and what is written before a read, and `Moments` what a list of moments gives. `Serves` says what one request does to a
+//! core, `CoreAnswers` the same of the service over it, and `Serving` what a whole connection does: its steps, its moments, its replies, and
+//! the core that it leaves.
 //! In `proofs`, `TurnLemmas` puts one turn behind others, and `ProgressLemmas` does so with what was read and put. `Counting` counts the
 //! sessions of a connection over a core, with `Shut`; `Carrying` says what exchange a request comes to, with `Soundness`, and `Connecting`
 //! makes a legal history of all exchanges.

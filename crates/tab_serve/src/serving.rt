@@ -17,7 +17,8 @@ use tab_io::{Input, Output};
 /// the connection.
 ///
 /// How the input is cut into reads makes no difference. Replies are written before a read that may wait. After an error the requests
-/// that were answered have taken effect, and the core refines what they leave.
+/// that were answered have taken effect, and the core refines what they leave. After a fault of the reader these are all whose frames stand
+/// whole in front of what is left to read, and all their replies are written.
 pub fn serve<R: Input, W: Output, M: Moments>(
     alloc: Global,
     input: &mut R,
@@ -25,7 +26,7 @@ pub fn serve<R: Input, W: Output, M: Moments>(
     moments: &mut M,
     core: &mut Core,
 ) -> Result<(), ServeFault>
-    ensures serves { ServesAll R.Input W.Output M.gives core.old moments.old input.old output.old core.new moments.new output.new result }
+    ensures serves { ServesAll R.Input W.Output M.gives core.old moments.old input.old output.old core.new moments.new input.new output.new result }
     ensures faults { Faults R.Input W.Output result input.old input.new output.old output.new }
 {
     let mut slots = Slots::new(alloc);

@@ -1,16 +1,19 @@
 //! One frame, and what it is told.
-ghost use Rattle.std.specs.Prelude.{◌≡◌, ℕ, true, List, Option, [], is_some, unwrap_or, IfOk};
+ghost use Rattle.std.specs.Prelude.{◌≡◌, ℕ, true, List, Option, [], is_some, unwrap_or, IfOk, IfSome, OnErr};
+ghost use Rattle.tab_io.specs.Streams.{FailsByFault};
 ghost use Rattle.tab_io.specs.Writing.{Puts};
-ghost use Rattle.tab_wire.specs.Heard.{heard_by, HasUser};
+ghost use Rattle.tab_wire.specs.Asking.{Asks, Knows};
+ghost use Rattle.tab_wire.specs.Taking.{TakesPart, Costs};
+ghost use Rattle.tab_wire.specs.Heard.{heard_by, next_by, HasUser};
 ghost use Rattle.tab_wire.specs.Heard as heard;
 ghost use Rattle.tab_wire.specs.Replies.{Sent, sent_bytes};
 ghost use Rattle.tab_serve.specs.Turns.{cells_asked, Tells};
-ghost use Rattle.tab_serve.specs.Progress.{side, Goes, CostsOn, Faults, PutsOn, goes_on};
+ghost use Rattle.tab_serve.specs.Progress.{side, is_here, NothingWaits, FlushesFirst, Goes, CostsOn, Faults, PutsOn, goes_on};
 
 use crate::{ServeFault, Service};
 use std::alloc::Global;
 use tab_history::{Refusal, Reply};
-use tab_io::{Input, Output, WriteFault};
+use tab_io::{Input, Output, ReadFault, WriteFault};
 use tab_wire::{Asked, Conn, Request, write_bad_frame};
 
 // How many cells the request asks for, where it asks for a batch.
@@ -107,26 +110,48 @@ fn tell_read<W: Output, S: Service>(
     tell_on(conn, &mut asked, output, service)
 }
 
-// Whether the next frame is here whole.
-fn is_here(front: &[u8]) -> bool {
-    match front {
-        [first, second, third, fourth, bytes @ ..] => {
-            let length = u32::from_be_bytes([*first, *second, *third, *fourth]);
-            bytes.len() >= length as usize
-        }
-        _ => false,
+// Whether the next frame is here whole: its length, and as many bytes behind it.
+#[tactic(auto, unfolding(crate::specs::Progress::is_here))]
+fn is_here(front: &[u8]) -> bool
+    ensures { result ≡ is_here front.now }
+{
+    if front.len() < 4 {
+        return false;
     }
+    let (head, bytes) = front.split_at(4);
+    let length = u32::from_be_bytes([head[0], head[1], head[2], head[3]]);
+    length as usize <= bytes.len()
 }
 
-// Writes what is gathered, before a read that may wait.
-#[tactic(auto, using(tab_io::proofs::Putting::put_none, tab_io::proofs::Putting::flush_put, tab_io::proofs::Putting::flush_part))]
+// Writes what is gathered, unless the next frame is here whole: a read may wait then.
+#[tactic(auto, using(tab_io::proofs::Putting::put_none, tab_io::proofs::Putting::flush_put, tab_io::proofs::Putting::flush_part, crate::proofs::ProgressLemmas::flushed_away))]
 fn flush_before_read<R: Input, W: Output>(input: &R, output: &mut W) -> Result<(), WriteFault>
-    ensures { Puts W.Output output.old output.new [] result }
+    ensures puts { Puts W.Output output.old output.new [] result }
+    ensures flushed { IfOk result (λ _. NothingWaits R.Input W.Output input.now output.new) }
+    ensures gathers { is_here (R.front input.now) ≡ true → output.new ≡ output.old }
 {
     if is_here(input.front()) {
         return Ok(());
     }
     output.flush()
+}
+
+// Asks for the next frame, which may wait: nothing that is gathered does.
+fn ask<R: Input, W: Output>(
+    alloc: Global,
+    conn: &mut Conn,
+    input: &mut R,
+    _output: &W,
+) -> Result<Option<Asked>, ReadFault>
+    requires { NothingWaits R.Input W.Output input.old _output.now }
+    ensures ahead { IfOk result (λ asked. IfSome (R.remaining input.old) (λ ahead. Asks (is_some conn.old.user) ahead (next_by conn.new.user asked) (R.remaining input.new))) }
+    ensures ok { IfOk result (λ asked. Knows conn.old (next_by conn.new.user asked) conn.new) }
+    ensures err { OnErr result (conn.new ≡ conn.old) }
+    ensures left { OnErr result (TakesPart (R.remaining input.old) (R.remaining input.new)) }
+    ensures faults { FailsByFault result (R.faults input.old) (R.faults input.new) (R.budget input.new) }
+    ensures costs { IfOk result (λ _. Costs R.Input input.old input.new) }
+{
+    conn.ask(alloc, input)
 }
 
 /// Answers the next frame. Whether the connection goes on.
@@ -139,6 +164,7 @@ pub fn turn<R: Input, W: Output, S: Service>(
 ) -> Result<bool, ServeFault>
     requires { conn.old.opened ≡ S.opened service.old }
     ensures goes { Goes R.Input W.Output S.Service (side conn.old service.old) input.old output.old (side conn.new service.new) input.new output.new result }
+    ensures flushes { IfOk result (λ _. FlushesFirst R.Input W.Output input.old output.old output.new) }
     ensures costs { IfOk result (λ on. CostsOn R.Input input.old input.new on) }
     ensures faults { Faults R.Input W.Output result input.old input.new output.old output.new }
     ensures opened { conn.new.opened ≡ S.opened service.new }
@@ -147,7 +173,7 @@ pub fn turn<R: Input, W: Output, S: Service>(
         Ok(()) => {}
         Err(_) => return Err(ServeFault::Write),
     }
-    match conn.ask(alloc, input) {
+    match ask(alloc, conn, input, output) {
         Ok(Some(asked)) => tell_read(conn, asked, output, service),
         Ok(None) => Ok(false),
         Err(_) => Err(ServeFault::Read),

@@ -16,13 +16,13 @@ use Rattle.tab_wire.specs.Heard.{Heard}
 use Rattle.tab_wire.specs.Heard as heard
 use Rattle.tab_wire.specs.Asking.{IsRead, Hears}
 use Rattle.tab_wire.specs.Replies.{Sent, sent_of, sent_bytes}
-use Rattle.tab_wire.specs.Stream.{Piece, pieces_of}
+use Rattle.tab_wire.specs.Stream.{Piece, pieces_of, AtFront}
 use Rattle.tab_wire.specs.Talking.{Talk, new_talk, Exchange, Speaks, Talks, moments_of, replied}
 use Rattle.tab_serve.specs.declared.fault.ServeFault.{ServeFault}
 use Rattle.tab_serve.specs.declared.fault.ServeFault.TheVariants.{Read, Write}
 use Rattle.tab_serve.specs.declared.service.Service.{Ghosts}
 use Rattle.tab_serve.specs.Turns.{Side, Tells, Turn, Turns, cells_asked}
-use Rattle.tab_serve.specs.Progress.{AnswersAll, AnswersSome, IsWritten, IsWrittenPart, Converses, first_side}
+use Rattle.tab_serve.specs.Progress.{AnswersAll, AnswersSome, AnswersFront, IsLeftButPart, IsWritten, IsWrittenPart, Converses, first_side}
 use Rattle.tab_serve.specs.Serving.{Gave}
 use Rattle.tab_work.specs.Receiving.{spent, Follows}
 use Rattle.tab_work.specs.Shares.{Seated, Shares}
@@ -146,7 +146,7 @@ module _ {S M : Type 0} (s : Ghosts S) (gives : M → ℤ → M → Type 0) (vie
       all = carried pieces (first_side old) (record { user = user; service = new }) new_talk text refl (subst (λ (ss : List (Option SessionState)). SlotsAre [] ss) (sym none) slots_none) turns
 
   -- ---- with the seat, its receipts and the moments as they are once nothing is lent any more
-  module _ {R W : Type 0} (i : InputGhosts R) (o : OutputGhosts W) (old new : S) (input : R) (output output' : W) (left : Seated M) (none : slots_of old ≡ []) (back : Lent old new → (left.seat ≡ (view new).seat) × (left.receipts ≡ (view new).receipts) × (left.moments ≡ (view new).moments)) where
+  module _ {R W : Type 0} (i : InputGhosts R) (o : OutputGhosts W) (old new : S) (input input' : R) (output output' : W) (left : Seated M) (none : slots_of old ≡ []) (back : Lent old new → (left.seat ≡ (view new).seat) × (left.receipts ≡ (view new).receipts) × (left.moments ≡ (view new).moments)) where
     given_back : (user : Option (List ℕ)) (pieces : List Piece) (text : List ℕ) → Turns s (first_side old) pieces text (record { user = user; service = new }) → SharesPieces gives (view old) pieces text left
     given_back user pieces text turns =
         let served = shares_pieces old new user pieces text none turns in
@@ -164,7 +164,13 @@ module _ {S M : Type 0} (s : Ghosts S) (gives : M → ℤ → M → Type 0) (vie
     some_shared user None Holds answers = tt
     some_shared user (Some bytes) Holds answers = (answers.0, answers.1, answers.2, answers.3, given_back user answers.0 answers.2 answers.4, answers.5)
 
-    pub shares_all : (r : Result (Unit {0}) ServeFault) → Converses i o s old input output new output' r → SharesAll i o gives (view old) input output left output' r
+    front_shared : (user : Option (List ℕ)) (ahead : Option (List ℕ)) (Behind Holds : List ℕ → Type 0) → AnswersFront s (first_side old) ahead (record { user = user; service = new }) Behind Holds
+        → IfSome ahead (λ bytes. (pieces : List Piece) × (behind : List ℕ) × (text : List ℕ)
+        × Behind behind × (pieces_of bytes ≡ pieces ++ pieces_of behind) × AtFront bytes pieces behind × SharesPieces gives (view old) pieces text left × Holds text)
+    front_shared user None Behind Holds answers = tt
+    front_shared user (Some bytes) Behind Holds answers = (answers.0, answers.1, answers.2, answers.3, answers.4, answers.5, given_back user answers.0 answers.2 answers.6, answers.7)
+
+    pub shares_all : (r : Result (Unit {0}) ServeFault) → Converses i o s old input output new input' output' r → SharesAll i o gives (view old) input output left input' output' r
     shares_all (Ok u) talks = (all_shared talks.0.0 (i.remaining input) (IsWritten o output output') talks.0.1, talks.1)
-    shares_all (Err Read) talks = (some_shared talks.0.0 (i.remaining input) (IsWritten o output output') talks.0.1, talks.1)
+    shares_all (Err Read) talks = (front_shared talks.0.0 (i.remaining input) (IsLeftButPart (i.remaining input')) (IsWritten o output output') talks.0.1, talks.1)
     shares_all (Err Write) talks = some_shared talks.0 (i.remaining input) (IsWrittenPart o output output') talks.1

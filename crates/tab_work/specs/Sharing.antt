@@ -10,11 +10,11 @@ use Rattle.tab_core.specs.SessionState.{SessionState}
 use Rattle.tab_core.specs.Recording.{entry_of}
 use Rattle.tab_book.specs.HandedOut.{session_in}
 use Rattle.tab_book.specs.Receipts.{Slip}
-use Rattle.tab_wire.specs.Stream.{Piece, pieces_of}
+use Rattle.tab_wire.specs.Stream.{Piece, pieces_of, AtFront}
 use Rattle.tab_wire.specs.Talking.{Talk, new_talk, Exchange, Talks, moments_of, replied}
 use Rattle.tab_serve.specs.declared.fault.ServeFault.{ServeFault}
 use Rattle.tab_serve.specs.declared.fault.ServeFault.TheVariants.{Read, Write}
-use Rattle.tab_serve.specs.Progress.{IsWritten, IsWrittenPart}
+use Rattle.tab_serve.specs.Progress.{IsLeftButPart, IsWritten, IsWrittenPart}
 use Rattle.tab_serve.specs.Serving.{Gave}
 use Rattle.tab_work.specs.Receiving.{spent, Follows}
 use Rattle.tab_work.specs.Shares.{Seated}
@@ -63,14 +63,15 @@ pub record SharesPieces {M : Type 0} (gives : M → ℤ → M → Type 0) (old :
   pub receipts : new.receipts ≡ old.receipts ++ map spent slips
 
 -- ---- whole connections
--- All pieces of the stream were answered, and all replies written, with nothing held. Where reading failed, the first pieces were, and all
--- their replies are written. Where writing failed, the first pieces were, and a beginning of their replies is written.
-abbrev pub SharesAll : {R W M : Type 0} → InputGhosts R → OutputGhosts W → (M → ℤ → M → Type 0) → Seated M → R → W → Seated M → W → Result (Unit {0}) ServeFault → Type 0
-SharesAll i o gives old input output new output' (Ok u) =
+-- All pieces of the stream were answered, and all replies written, with nothing held. Where reading failed, all pieces in front of what is left
+-- were answered, but for a part of one that is dropped, and all their replies are written, with nothing held. Where writing failed, the first
+-- pieces were, and a beginning of their replies is written.
+abbrev pub SharesAll : {R W M : Type 0} → InputGhosts R → OutputGhosts W → (M → ℤ → M → Type 0) → Seated M → R → W → Seated M → R → W → Result (Unit {0}) ServeFault → Type 0
+SharesAll i o gives old input output new input' output' (Ok u) =
     IfSome (i.remaining input) (λ bytes. (text : List ℕ) × SharesPieces gives old (pieces_of bytes) text new × IsWritten o output output' text) × (o.held output' ≡ [])
-SharesAll i o gives old input output new output' (Err Read) =
-    IfSome (i.remaining input) (λ bytes. (pieces : List Piece) × (more : List Piece) × (text : List ℕ)
-    × (pieces_of bytes ≡ pieces ++ more) × SharesPieces gives old pieces text new × IsWritten o output output' text) × (o.held output' ≡ [])
-SharesAll i o gives old input output new output' (Err Write) =
+SharesAll i o gives old input output new input' output' (Err Read) =
+    IfSome (i.remaining input) (λ bytes. (pieces : List Piece) × (behind : List ℕ) × (text : List ℕ)
+    × IsLeftButPart (i.remaining input') behind × (pieces_of bytes ≡ pieces ++ pieces_of behind) × AtFront bytes pieces behind × SharesPieces gives old pieces text new × IsWritten o output output' text) × (o.held output' ≡ [])
+SharesAll i o gives old input output new input' output' (Err Write) =
     IfSome (i.remaining input) (λ bytes. (pieces : List Piece) × (more : List Piece) × (text : List ℕ)
     × (pieces_of bytes ≡ pieces ++ more) × SharesPieces gives old pieces text new × IsWrittenPart o output output' text)

@@ -103,26 +103,40 @@ fn ends_at_any_place(rt: HostRuntime) {
     }
 }
 
-// The first talk ends by this fault, and a beginning of its replies is written.
+// What stands in the writer where the first talk ends by this fault: a beginning of its replies.
 fn expect_fault(
     rt: &impl Abort,
     alloc: Global,
     reader: PieceReader<'_>,
     writer: PieceWriter,
     fault: ServeFault,
-) {
+) -> Vec<u8> {
     let bytes = served(rt, alloc, reader, writer, Err(fault));
     assert!(rt; told(0).starts_with(bytes.as_slice()));
+    bytes
 }
 
-// Where a read fails, what was answered before is written.
+// How many bytes the first talk is told of the frames that are whole among so many bytes of it.
+fn told_of(read: u64) -> usize {
+    match read {
+        0..13 => 0,
+        13..28 => 5,
+        28..76 => 10,
+        76..96 => 15,
+        96..109 => 24,
+        _ => 67,
+    }
+}
+
+// Where a read fails, all frames that were read whole were answered, and their replies are written.
 #[test]
 fn stops_where_the_reader_fails(rt: HostRuntime) {
     let kind = ErrorKind::Other;
     for after in 0..12 {
         let reader = PieceReader::new(asked(0), 9).failing(Fault { after, kind });
         let writer = PieceWriter::new(rt.alloc(), 64);
-        expect_fault(&rt, rt.alloc(), reader, writer, ServeFault::Read);
+        let bytes = expect_fault(&rt, rt.alloc(), reader, writer, ServeFault::Read);
+        assert!(rt; bytes.len() == told_of(9 * after));
     }
 }
 
@@ -133,7 +147,7 @@ fn stops_where_the_writer_fails(rt: HostRuntime) {
     for after in 0..8 {
         let reader = PieceReader::new(asked(0), 64);
         let writer = PieceWriter::new(rt.alloc(), 9).failing(Fault { after, kind });
-        expect_fault(&rt, rt.alloc(), reader, writer, ServeFault::Write);
+        let _ = expect_fault(&rt, rt.alloc(), reader, writer, ServeFault::Write);
     }
 }
 

@@ -6,10 +6,11 @@
 //! |---|---|
 //! | `talks` | the frames of some connections, and what they are told |
 //! | `serving` | these served over a shared book, cut anywhere, and where reading or writing fails; the receipts settle afterwards |
-//! | `settling` | threads that use one book by seats of their own, and its end |
+//! | `settling` | threads that use one book by seats of their own, a thousand seats, and how many are out at its end |
 //! | `own_writes` | a connection that writes and then reads, and the numbers of its receipts |
 //! | `overlapping` | a batch that is held up until another connection's write was answered |
-//! | `merging` | the same of a merge, until a write and a scan were answered |
+//! | `gates` | of what a connection's gate is asked and told |
+//! | `merging` | the same of a merge, until a write and a scan were answered; it is due once the table is filled, and neither before nor behind it |
 //! | `under_load` | writers beside compactors, all that was written afterwards, and the receipts of all |
 //! | `asking`, `signs` | helpers: events in short, and signs between threads |
 //!
@@ -18,6 +19,8 @@
 
 #[cfg(test)]
 mod asking;
+#[cfg(test)]
+mod gates;
 #[cfg(test)]
 mod merging;
 #[cfg(test)]

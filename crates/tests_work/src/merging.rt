@@ -62,6 +62,15 @@ fn fill<L: Origin, R: Wait + Abort>(
     }
 }
 
+// Whether work on the table is due.
+fn is_due<L: Origin, R: Wait + Abort>(rt: &R, alloc: Global, shared: &Shared<L>) -> bool {
+    let due = shared.due(rt, alloc).expect(rt, "memory");
+    match &due {
+        Some((_, table, _)) => table.as_bytes() == b"t".as_slice(),
+        None => false,
+    }
+}
+
 // What is due is compacted, the merge held up.
 fn compacts_held_up<L: Origin, R: Wait + Abort + Clock>(
     rt: &R,
@@ -150,7 +159,9 @@ fn overlaps<L: Origin + Send + Sync, R: Threads + Wait + Abort + Clock + Sync>(
     let first = shared.join(rt).expect(rt, "a seat");
     let mut seat = shared.join(rt).expect(rt, "a seat");
     let mut receipts = Vec::new(alloc);
+    assert!(rt; !is_due(rt, alloc, &shared));
     fill(rt, alloc, &shared, &mut seat, &mut receipts);
+    assert!(rt; is_due(rt, alloc, &shared));
     let second = Worked { seat, receipts };
     let (lent, seen) = (&shared, &signs);
     let (compacted, (held, bytes, wrote)) = thread::join(
@@ -162,6 +173,7 @@ fn overlaps<L: Origin + Send + Sync, R: Threads + Wait + Abort + Clock + Sync>(
     assert!(rt; !signs.are_late());
     assert!(rt; bytes.as_slice() == WRITES_TOLD);
     assert!(rt; has_installed(&compacted.receipts));
+    assert!(rt; !is_due(rt, alloc, &shared));
     assert!(rt; settle_both(rt, alloc, shared, compacted, wrote));
 }
 

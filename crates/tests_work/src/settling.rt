@@ -97,6 +97,7 @@ fn work<L: Origin, R: Wait + Abort>(
     }
 }
 
+// So many seats of a new book, which are numbered in the order in which they are given.
 fn joined<L: Origin, R: Wait + Abort>(
     rt: &R,
     alloc: Global,
@@ -104,8 +105,9 @@ fn joined<L: Origin, R: Wait + Abort>(
     count: u32,
 ) -> Vec<Seat<L>> {
     let mut seats = Vec::new(alloc);
-    for _ in 0..count {
+    for number in 0..count {
         let seat = shared.join(rt).expect(rt, "a seat");
+        assert!(rt; seat.number() == number);
         seats.push(seat).expect(rt, "memory");
     }
     seats
@@ -161,7 +163,7 @@ fn settle_says_yes(rt: HostRuntime) {
     settles_after_all::<Brand, _>(&rt, rt.alloc(), core, Blank::new(1 << 32));
 }
 
-// One seat of three is missing, and then none.
+// All of a thousand seats are missing, one, and then none.
 fn misses_one<L: Origin, R: Wait + Abort>(rt: &R, alloc: Global, core: Core, blank: Blank)
     requires base { base_of core ≡ L.base }
     requires name { blank.name ≡ L.name }
@@ -169,11 +171,13 @@ fn misses_one<L: Origin, R: Wait + Abort>(rt: &R, alloc: Global, core: Core, bla
     requires enough { 2 ^ 32 ≤ blank.parts }
 {
     let shared = Shared::new(Book::<L>::new(alloc, core, blank));
-    let seats = joined(rt, alloc, &shared, 2);
-    let third = shared.join(rt).expect(rt, "a seat");
+    let seats = joined(rt, alloc, &shared, 999);
+    let last = shared.join(rt).expect(rt, "a seat");
+    let (shared, _none, all) = shared.end(Vec::new(alloc)).err().expect(rt, "all are out");
+    assert!(rt; all.0 == 1000);
     let (shared, mut seats, out) = shared.end(seats).err().expect(rt, "a seat is out");
     assert!(rt; out.0 == 1);
-    seats.push(third).expect(rt, "memory");
+    seats.push(last).expect(rt, "memory");
     assert!(rt; shared.end(seats).is_ok());
 }
 

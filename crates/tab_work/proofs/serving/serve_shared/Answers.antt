@@ -6,5 +6,5 @@ use Rattle.tab_work.proofs.serving.serve_shared.Goals as goal
 pub returns-clause-shares : goal.returns-clause-shares
 returns-clause-shares g c =
     shares_all _ g.M.Moments.gives seated slots_of LentSame (λ x. record { seat = refl; receipts = refl; moments = refl }) (λ x y z p q. record { seat = q.seat ∙ p.seat; receipts = q.receipts ∙ p.receipts; moments = q.moments ∙ p.moments })
-    (λ x user request r y does. (does.shares, does.lent)) (λ x. refl) g.I.Input g.W.Output _ c.converse.new.service c.args.input.now c.args.output.now c.converse.new.output _ (search rules)
+    (λ x user request r y does. (does.shares, does.lent)) (λ x. refl) g.I.Input g.W.Output _ c.converse.new.service c.args.input.now c.converse.new.input c.args.output.now c.converse.new.output _ (search rules)
     (λ same. (search rules, search rules, search rules)) c.converse.result c.converse.ensures.answers

@@ -1,0 +1,72 @@
+//! Of what a connection's gate is asked and told.
+ghost use Rattle.std.specs.Prelude.{◌≡◌, ◌^◌, ◌≤◌};
+ghost use Rattle.tab_core.specs.Stores.{base_of};
+
+use crate::serving::served_by;
+use crate::talks::{ASKS_GATES, ASKS_GATES_TOLD};
+use std::alloc::Global;
+use std::marker::Brand;
+use std::process::Abort;
+use std::sync::Wait;
+use std::sync::atomic::{AtomicU32, Ordering};
+use std::sync::ledger::Blank;
+use tab_book::{Book, Origin};
+use tab_core::Core;
+use tab_io::memory::{PieceReader, PieceWriter};
+use tab_work::{Gate, Shared};
+
+// It counts how often it is asked before a batch, and told of a write.
+#[derive(Drop)]
+struct Counting {
+    batches: AtomicU32,
+    writes: AtomicU32,
+}
+
+impl Gate for Counting {
+    fn before_merge(&self) {}
+
+    fn before_batch(&self) {
+        let _ = self.batches.fetch_add(1, Ordering::SeqCst);
+    }
+
+    fn after_write(&self) {
+        let _ = self.writes.fetch_add(1, Ordering::SeqCst);
+    }
+}
+
+fn counts<L: Origin, R: Wait + Abort>(rt: &R, alloc: Global, core: Core, blank: Blank)
+    requires base { base_of core ≡ L.base }
+    requires name { blank.name ≡ L.name }
+    requires parts { blank.parts ≡ L.parts }
+    requires enough { 2 ^ 32 ≤ blank.parts }
+{
+    let shared = Shared::new(Book::<L>::new(alloc, core, blank));
+    let mut seat = shared.join(rt).expect(rt, "a seat");
+    let mut receipts = Vec::new(alloc);
+    let gate = Counting {
+        batches: AtomicU32::new(0),
+        writes: AtomicU32::new(0),
+    };
+    let (ended, bytes) = served_by(
+        rt,
+        alloc,
+        &shared,
+        &mut seat,
+        &mut receipts,
+        &gate,
+        PieceReader::new(ASKS_GATES, 64),
+        PieceWriter::new(alloc, 64),
+    );
+    assert!(rt; ended == Ok(()));
+    assert!(rt; bytes.as_slice() == ASKS_GATES_TOLD);
+    assert!(rt; gate.batches.load(Ordering::SeqCst) == 2);
+    assert!(rt; gate.writes.load(Ordering::SeqCst) == 1);
+}
+
+// It is asked before each Next, whether its session is there or not, and before nothing else; it is told of a Write that was done, and of
+// no refused one.
+#[test]
+fn gate_is_asked_before_each_next(rt: HostRuntime) {
+    let core = Core::new(rt.alloc()).expect(&rt, "memory");
+    counts::<Brand, _>(&rt, rt.alloc(), core, Blank::new(1 << 32));
+}
