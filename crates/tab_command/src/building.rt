@@ -4,7 +4,7 @@ use std::alloc::{AllocError, Global};
 use tab_help::forms;
 
 /// The version that `tabd --version` tells.
-const VERSION: &str = "0.9.0";
+const VERSION: &str = "0.10.0";
 
 /// What help says of the lines of a script: the texts of `tab_help`.
 pub fn line_help(alloc: Global) -> Result<String, AllocError> {
