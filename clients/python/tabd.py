@@ -55,20 +55,24 @@ class ConnectionClosed(TabdError):
 
 class Refused(TabdError):
     """A request was refused, and changed nothing but the clock. What goes with it is in attributes, and in `args` in their order."""
-    by_number: Dict[int, Type["Refused"]] = {}
+    by_number: Dict[int, Tuple[Type["Refused"], ...]] = {}  # where there are several, the next byte tells which
 
 
-REFUSALS = {  # by their numbers in docs/PROTOCOL.md the names of the classes, and of their attributes, each with what it is of FORMS
+REFUSALS = {  # by their numbers in docs/PROTOCOL.md the names of the classes, and of their attributes, each with what it is of FORMS; where
+    # the byte behind the number tells one of several, these by its value
     1: "UnknownUser user:n", 2: "NoTable table:n", 3: "PermissionDenied permission:p", 4: "BadAuthorizations term:s",
     5: "MalformedVisibility update:I offset:I", 6: "ConstraintViolation violations:V", 7: "TimestampNotAllowed update:I",
     8: "EmptyMutation", 9: "TooLarge part:o", 10: "TableExists table:n", 11: "UserExists user:n", 12: "NoUser user:n", 13: "BadRange",
     15: "NoSession session:I", 16: "BadFrame reason:r", 17: "NoMemory", 18: "RootFixed", 19: "GrantInvalid", 20: "BadSplit why:w",
+    21: "VersionsRaised versions:I", 22: "HorizonLowered horizon:q, BelowHorizon update:I, ServerTime",
 }
-for _number, _line in REFUSALS.items():
-    _name, *_parts = _line.replace(":", " ").split()
-    _kept = {part: property(lambda self, at=at: self.args[at]) for at, part in enumerate(_parts[::2])}
-    _members = dict(_kept, number=_number, form="".join(_parts[1::2]), __module__=__name__)
-    globals()[_name] = Refused.by_number[_number] = type(_name, (Refused,), _members)
+for _number, _lines in REFUSALS.items():
+    for _line in _lines.split(", "):
+        _name, *_parts = _line.replace(":", " ").split()
+        _kept = {part: property(lambda self, at=at: self.args[at]) for at, part in enumerate(_parts[::2])}
+        _members = dict(_kept, number=_number, form="".join(_parts[1::2]), __module__=__name__)
+        globals()[_name] = type(_name, (Refused,), _members)
+        Refused.by_number[_number] = (*Refused.by_number.get(_number, ()), globals()[_name])
 
 WRITE, OK, REFUSED, CELL, END, OPENED, ROW, RANGE_END, STATUS, RIGHTS = 0x0A, *range(0x80, 0x89)
 ANSWERS = {0x0B: [OPENED], 0x0C: [CELL, END], 0x0D: [CELL, RANGE_END, END], 0x12: [ROW, END], 0x13: [STATUS], 0x14: [RIGHTS]}  # else OK
@@ -106,8 +110,9 @@ def _pack(form: str, *values: Any) -> bytes:
 PACK: Dict[str, Callable[[Any], bytes]] = {
     "B": lambda number: number.to_bytes(1, "big"),
     "I": lambda number: number.to_bytes(4, "big"),
+    "q": lambda number: number.to_bytes(8, "big", signed=True),
     "s": lambda text: PACK["s"](text.encode()) if isinstance(text, str) else len(text).to_bytes(4, "big") + text,
-    "t": lambda time: b"\0" if time is None else b"\1" + time.to_bytes(8, "big", signed=True),
+    "t": lambda time: b"\0" if time is None else _pack("Bq", 1, time),
     "u": lambda it: _pack("Bssst" + "s" * isinstance(it, Put), isinstance(it, Put), it.family, it.qualifier, it.label, it.timestamp, it[2]),
     "b": lambda bound: b"\0" if bound[0] is None else _pack("Bs", 1 if bound[1] else 2, bound[0]),
     "r": lambda rows: _pack("bb", (rows.low, rows.with_low), (rows.high, rows.with_high)),
@@ -226,7 +231,8 @@ class Client(AbstractContextManager):
             frame = io.BytesIO(*struct.unpack(f"{length}s", self._reader.read(length)))
             try:
                 (opcode,) = frame.read(1)
-                refusal = Refused.by_number[frame.read(1)[0]] if opcode == REFUSED else None
+                kinds = Refused.by_number[frame.read(1)[0]] if opcode == REFUSED else ()
+                refusal = kinds[frame.read(1)[0] if len(kinds) > 1 else 0] if kinds else None
                 frames.append(list(_unpack(refusal.form if refusal else FORMS[opcode], frame)))
                 if frame.read() or opcode not in (REFUSED, *wanted):
                     raise ValueError("of another form")
@@ -257,7 +263,7 @@ class Client(AbstractContextManager):
 
     def write(self, table: Text, row: Text, updates: Iterable[Union[Put, Delete]]) -> None:
         """Does all updates of a row, 1 to 1,000, or none; of two of one column the later is the newer. EmptyMutation, TooLarge,
-        MalformedVisibility, TimestampNotAllowed, ConstraintViolation."""
+        MalformedVisibility, TimestampNotAllowed, BelowHorizon, ConstraintViolation."""
         self._ask(WRITE, "ssU", table, row, updates)
 
     def scan(self, table: Text, authorizations: Iterable[Text] = (), rows: Range = Range(),
@@ -284,6 +290,10 @@ class Client(AbstractContextManager):
     drop_user = _request(0x05, "user", "s", "Drops a user, his rights and authorizations. NoUser, RootFixed.")
     set_authorizations = _request(0x06, "user authorizations", "sS", "Gives a user these in place of those held. TooLarge, NoUser.")
     set_constraints = _request(0x09, "table constraints", "sk", "Sets the table's, of CONSTRAINTS, in place of those that it has.")
+    set_versions = _request(0x15, "table versions", "sI", """Shows so many versions of each column from now on, 1 to 1,000 and no more than
+        before. VersionsRaised tells how many it shows; BadFrame("field") for other versions.""")
+    set_horizon = _request(0x16, "table horizon", "sq", """Takes no update below this timestamp from now on (64 bits, signed), which isn't
+        below the one before. HorizonLowered tells that; ServerTime where the table gives the timestamps.""")
     flush = _request(0x0F, "table", "s", "Makes sorted tables of what is in memory; no scan is answered otherwise.")
     compact = _request(0x10, "table full", "sB", "Merges some sorted tables, or all that each tablet holds, likewise.", full=False)
     add_split = _request(0x11, "table row", "ss", "Splits a tablet in two; the row is the last of the lower one. TooLarge, BadSplit.")

@@ -138,6 +138,40 @@ class Requests(Case):
         with self.refused(tabd.TimestampNotAllowed, 1):
             self.root.write("u", "r", [Put("f", "q", "v"), Put("f", "q", "v", timestamp=1)])
 
+    def test_versions_that_become_fewer(self):
+        self.root.create_table("u", versions=3)
+        self.root.write("u", "r", [Put("f", "q", value, timestamp=at) for at, value in enumerate("wxyz")])
+        before = self.root.scan("u")
+        self.root.set_versions("u", 2)
+        self.assertEqual([found.value for found in self.root.scan("u")], [b"z", b"y"])
+        self.assertEqual([found.value for found in before], [b"z", b"y", b"x"])
+        with self.refused(tabd.VersionsRaised, 2):
+            self.root.set_versions("u", 3)
+        self.root.set_versions("u", 2)
+        self.root.set_versions("u", 1)
+        self.assertEqual([found.value for found in self.root.scan("u")], [b"z"])
+        for versions in (0, 1001):
+            with self.refused(tabd.BadFrame, "field"):
+                self.root.set_versions("t", versions)
+
+    def test_horizons(self):
+        self.root.set_horizon("t", -3)
+        self.root.set_horizon("t", -3)
+        self.root.write("t", "r", [Put("f", "q", "v", timestamp=-3)])
+        with self.refused(tabd.BelowHorizon, 1):
+            self.root.write("t", "r", [Put("f", "q", "w", timestamp=-3), Put("f", "q", "x", timestamp=-4)])
+        with self.refused(tabd.BelowHorizon, 0):
+            self.root.write("t", "r", [Delete("f", "q", timestamp=-4)])
+        self.assertEqual(list(self.root.scan("t")), [cell(b"r", b"v", timestamp=-3)])
+        with self.refused(tabd.HorizonLowered, -3):
+            self.root.set_horizon("t", -(1 << 63))
+        self.root.set_horizon("t", (1 << 63) - 1)
+        with self.refused(tabd.BelowHorizon, 0):
+            self.root.write("t", "r", [Put("f", "q", "w")])
+        self.root.create_table("u", server_time=True)
+        with self.refused(tabd.ServerTime):
+            self.root.set_horizon("u", 5)
+
     def test_labels_and_authorizations(self):
         self.root.set_authorizations("root", ["a", "b", "c d"])
         self.root.write("t", "r", [Put("f", str(at), "v", label, 5) for at, label in enumerate(["", "a", "a&b", "a|x", "x", 'a&(x|"c d")'])])
@@ -270,6 +304,8 @@ class Refusals(Case):
         for error, request in (
             (OverflowError, lambda: self.root.write("t", "r", [Put("f", "q", "v", timestamp=1 << 63)])),
             (OverflowError, lambda: self.root.create_table("u", versions=1 << 32)),
+            (OverflowError, lambda: self.root.set_versions("t", -1)),
+            (OverflowError, lambda: self.root.set_horizon("t", 1 << 63)),
             (ValueError, lambda: self.root.grant("root", "READ")),
             (ValueError, lambda: self.root.set_constraints("t", ["none"])),
             (ValueError, lambda: self.root.scan("t", batch=0)),
@@ -480,7 +516,8 @@ class Answers(unittest.TestCase):
     def test_what_is_not_of_the_protocol(self):
         for frame in (
             b"", b"\x7f", b"\x80x", b"\x83\1", b"\x81\x00", b"\x81\x0e", b"\x81\x02\0\0\0\5t", b"\x81\x09\x0c", b"\x81\x03\0\x08",
-            b"\x81\x02\0\0\0\1\xff", b"\x81\x06\xff\xff\xff\xff",
+            b"\x81\x02\0\0\0\1\xff", b"\x81\x06\xff\xff\xff\xff", b"\x81\x15\0\0\1", b"\x81\x16", b"\x81\x16\0\0\0\0\1", b"\x81\x16\1" + bytes(8),
+            b"\x81\x16\2\0", b"\x81\x16\3",
         ):
             client = self.told(frame)
             self.assertRaises(tabd.ProtocolError, client.flush, "t")
@@ -499,6 +536,17 @@ class Answers(unittest.TestCase):
         self.assertRaises(tabd.NoTable, client.flush, "t")
         self.assertEqual(client._writer.getvalue()[sent:], b"\0\0\0\5\x0e\0\0\0\7" + b"\0\0\0\6\x0f\0\0\0\1t")
 
+    def test_the_bytes_of_settings(self):
+        for ask, sent in (
+            (lambda client: client.set_versions("t", 1000), b"\x15\0\0\0\1t\0\0\3\xe8"),
+            (lambda client: client.set_horizon("t", 5), b"\x16\0\0\0\1t\0\0\0\0\0\0\0\5"),
+            (lambda client: client.set_horizon(table="t", horizon=-1), b"\x16\0\0\0\1t" + b"\xff" * 8),
+        ):
+            client = self.told(b"\x80")
+            hello = client._writer.tell()
+            self.assertIsNone(ask(client))
+            self.assertEqual(client._writer.getvalue()[hello:], struct.pack(">I", len(sent)) + sent)
+
     def test_refusals_that_are_hard_to_provoke(self):
         for frame, kind, fields in (
             (b"\x81\x11", tabd.NoMemory, ()),
@@ -507,6 +555,10 @@ class Answers(unittest.TestCase):
             (b"\x81\x14\1", tabd.BadSplit, ("small",)),
             (b"\x81\x14\2", tabd.BadSplit, ("onerow",)),
             (b"\x81\x10\6", tabd.BadFrame, ("order",)),
+            (b"\x81\x15\0\0\3\xe8", tabd.VersionsRaised, (1000,)),
+            (b"\x81\x16\0\x80" + bytes(7), tabd.HorizonLowered, (-(1 << 63),)),
+            (b"\x81\x16\1\0\0\3\xe7", tabd.BelowHorizon, (999,)),
+            (b"\x81\x16\2", tabd.ServerTime, ()),
         ):
             with self.assertRaises(kind) as caught:
                 self.told(frame).flush("t")
@@ -518,7 +570,9 @@ class Answers(unittest.TestCase):
         self.assertEqual(tabd.PermissionDenied(tabd.Permission("READ", "t")).permission.table, "t")
         self.assertFalse(hasattr(refusal, "table"))
         self.assertTrue(issubclass(tabd.NoTable, tabd.Refused) and issubclass(tabd.Refused, tabd.TabdError))
-        self.assertEqual(set(tabd.Refused.by_number), set(range(1, 21)) - {14})
+        self.assertEqual((tabd.HorizonLowered(-1).horizon, tabd.BelowHorizon(2).update, tabd.VersionsRaised(4).versions), (-1, 2, 4))
+        self.assertEqual({kind.number for kind in (tabd.HorizonLowered, tabd.BelowHorizon, tabd.ServerTime)}, {22})
+        self.assertEqual(set(tabd.Refused.by_number), set(range(1, 23)) - {14})
 
 
 if __name__ == "__main__":
