@@ -3,7 +3,7 @@
 # Where one fails, the program prints what it always prints, or one line is refused for memory and all others are answered
 # as if that line were not there (a long scan stands up to the batch that is refused), or it ends with status 1 before the
 # first line. Where a freeze is refused in the middle of what it takes one by one, nothing of what was written is lost. Lines that drop,
-# revoke or count are never refused. A save that is refused leaves no part of an image behind.
+# revoke, set a number or count are never refused. A save that is refused leaves no part of an image behind.
 # Usage: tests/allocations.sh   (from anywhere; wants a C compiler; TABD names another program)
 set -eu
 top=$(cd "$(dirname -- "${BASH_SOURCE[0]}")/.." && pwd)
@@ -49,6 +49,11 @@ cat >"$work/script" <<'S'
 createtable t
 createtable s time=server versions=3
 constraints s alphanum,numeric
+versions s 2
+versions s 3
+horizon t 0
+horizon t -1
+horizon s 1
 setauths root A,B,a-long-authorization-of-some-bytes
 insert t r f q A v 5
 at 9
@@ -174,7 +179,7 @@ expect() { # SCRIPT
     expected[$1.$(cksum <"$work/always")]=always
     for line in $(seq "$(wc -l <"$work/$1")"); do
         # these take no memory, and are never refused for it
-        sed -n "${line}p" "$work/$1" | grep -qE '^(droptable|dropuser|revoke|status) ' && continue
+        sed -n "${line}p" "$work/$1" | grep -qE '^(droptable|dropuser|revoke|versions|horizon|status) ' && continue
         head -n $((line - 1)) "$work/$1" | run "$work" >"$work/before"
         before=$(wc -c <"$work/before")
         run "$work" < <(sed "${line}d" "$work/$1") | tail -c +$((before + 1)) >"$work/behind"

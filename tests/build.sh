@@ -14,12 +14,13 @@ mkdir "$here/release"
 cp "$top/release/program" "$top/release/sources" "$here/release/"
 printf '#!/bin/sh\ncat "$1"\n' >"$here/release/stripped"
 chmod +x "$here/release/stripped"
-printf 'low:\nother:\nhigh: low other std\ntabd: high low\n' >"$here/crates.txt"
+printf 'low:\nother:\nhigh: low other std\ntabd may_wait=1: high low\nabove: low\n' >"$here/crates.txt"
+cp "$top/HANDLES" "$here/"
 for crate in low other high tabd; do
     mkdir -p "$here/crates/$crate/src" "$here/crates/$crate/specs"
     echo "// $crate" >"$here/crates/$crate/src/lib.rt"
 done
-# `rt lib` makes a library of the crate in whose folder it runs, `rt run` the program; calls are counted in $work/calls.
+# `rt lib` makes a library of the crate in whose folder it runs, `rt run` the program, and `rt ci` all; calls are counted in $work/calls.
 cat >"$bin/rt" <<'STAND_IN'
 #!/usr/bin/env bash
 set -u
@@ -31,6 +32,11 @@ case $1 in
 version) echo "a kit" ;;
 lib) mkdir -p out/rlib && echo it >out/rlib/stamp ;;
 run) printf '#!/bin/sh\n%s\n' "${PROGRAM:-}" >out/tabd && chmod +x out/tabd ;;
+ci)
+    rmdir out
+    echo "ci ${2-}, of $(sed 's/[ :].*//' crates.txt | sort | tr '\n' ' ')$(cat crates/*/src/lib.rt | wc -l)" >>"$CALLS"
+    mkdir crates/tabd/out && printf '#!/bin/sh\n%s\n' "${PROGRAM:-}" >crates/tabd/out/tabd && chmod +x crates/tabd/out/tabd
+    ;;
 esac
 STAND_IN
 chmod +x "$bin/rt"
@@ -69,7 +75,8 @@ STAND_IN=fails build
 [ "$status" -eq 1 ] && grep -q '^not proved$' "$work/log" && [ ! -e "$here/crates/tabd/out/build" ]
 count 'where a crate fails, the log says why' $?
 rm -rf "$here"/crates/*/out
-: >"$CALLS"
+# empty before it starts: a word of the build before would have it interrupted while it is still a part of this script, with its trap
+: >"$CALLS" && : >"$work/err"
 STAND_IN=slow "$here/build.sh" "$work/log" 2>"$work/err" &
 for _ in $(seq 100); do ! grep -q proving "$work/err" || break; sleep 0.05; done
 kill -INT $!
@@ -88,12 +95,15 @@ proves() { # STATUS LAST-LINE [WORD]
 }
 digest=$("$here/release/sources")
 release 'a kit' "$digest"
-proves 0 "it is the release's program, byte for byte" && [ -z "$(find "$here/crates" -name rlib)" ]
+proves 0 "it is the release's program, byte for byte" && grep -qx 'ci , of high low other tabd 4' "$CALLS"
 count './prove ends with the release' $?
 [ "$("$here/release/program" --current)" = "$here/crates/tabd/out/tabd" ]
 count 'what ./prove built is what runs from then on' $?
-proves 0 "it is the release's program, byte for byte" --keep && [ "$(find "$here/crates" -name rlib | wc -l)" -eq 3 ]
-count './prove --keep keeps the libraries' $?
+proves 0 "it is the release's program, byte for byte" --anew && grep -qx 'ci --anew, of high low other tabd 4' "$CALLS"
+count './prove --anew proves again what was proved before' $?
+STAND_IN=fails "$here/prove" >"$work/out" 2>"$work/err"
+[ $? -eq 1 ] && grep -q '^fault: not proved: the whole log is ' "$work/err" && grep -q '^not proved$' "$here/crates/tabd/out/launcher.log"
+count 'what is not proved is a fault, and the log says why' $?
 PROGRAM='# other bytes' proves 1 "fault: the program isn't the release's: its bytes differ"
 count 'other bytes than the release has are a fault' $?
 release 'another kit' "$digest"

@@ -1,8 +1,9 @@
 """What a connection is told, frame by frame: the examples of docs/PROTOCOL.md and of tests/frames, each sent whole, frame by frame with each
-reply awaited, and byte by byte; sizes past blocks and at limits; each request for memory that fails in turn; an output that fails.
+reply awaited, and byte by byte; replies behind which a part of a frame has come; sizes past blocks and at limits; each request for memory that fails in turn; an output that fails.
 In a file of frames a line `> HEX` is a frame that is sent, `< HEX` one that is told, a title that begins with `# ` begins the next connection."""
 import os
 import re
+import select
 import struct
 import subprocess
 import sys
@@ -149,6 +150,17 @@ def sizes():
     tell("1,000 ranges, and one more", found[3:] == [b"\x86"] * 1000 + [b"\x83\x01", refused(9, 9)])
 
 
+def heads_in_part():
+    """Whether a reply comes before the rest of the next frame, of which so many bytes came with the request."""
+    for count in range(8):
+        with subprocess.Popen([PROGRAM], stdin=subprocess.PIPE, stdout=subprocess.PIPE, bufsize=0) as program:
+            program.stdin.write(HELLO + TABLE[:count])
+            told = program.stdout.read(5) if select.select([program.stdout], [], [], 60)[0] else b""
+            program.stdin.write(TABLE[count:])
+            program.stdin.close()
+            tell(f"a reply before {count} bytes of the next frame go on", told == frame(OK) and program.stdout.read() == frame(OK))
+
+
 def failing_memory():
     """Each request for memory that fails leads to what is always told, to one request that is refused for memory, or to an end before Hello."""
     with tempfile.TemporaryDirectory() as work:
@@ -180,6 +192,7 @@ def failing_output():
 
 written_down()
 sizes()
+heads_in_part()
 failing_memory()
 failing_output()
 print(f"{passed} passed, {failed} failed")

@@ -33,8 +33,11 @@ holds() { # NAME FILE HEX
     count "$1" $?
 }
 
-empty='544142494d47 0001 0000000000000000 0000000000000000 00000001 00000004 726f6f74 ff 00000000 00000000 454e4421'
-one='544142494d47 0001 0000000000000000 0000000000000001 00000001 00000004 726f6f74 ff 00000000 00000001 00000001 74 00 00000001 00 00000001 00000004 726f6f74 1f 00000000 0000000000000001 00000001 72 00000001 66 00000001 71 00000000 0000000000000005 01 0000000000000000 00000000 00000001 76 454e4421'
+# Images of version 2, and the same ones in version 1, which has no horizons.
+empty='544142494d47 0002 0000000000000000 0000000000000000 00000001 00000004 726f6f74 ff 00000000 00000000 454e4421'
+one='544142494d47 0002 0000000000000000 0000000000000001 00000001 00000004 726f6f74 ff 00000000 00000001 00000001 74 00 00000001 00 8000000000000000 00000001 00000004 726f6f74 1f 00000000 0000000000000001 00000001 72 00000001 66 00000001 71 00000000 0000000000000005 01 0000000000000000 00000000 00000001 76 454e4421'
+first_empty=${empty/ 0002 / 0001 }
+first_one=${one/ 0002 / 0001 } first_one=${first_one/ 8000000000000000 / }
 
 # Writes bytes, given in hexadecimal, to a file.
 bytes() { # FILE HEX
@@ -53,6 +56,17 @@ count 'where records lie is not in an image' $?
 count 'no other file is left' $?
 
 # ---- What is loaded.
+bytes first.empty "$first_empty"
+bytes first.one "$first_one"
+[ "$(wc -c <first.one)" -eq 130 ]
+count 'an image of version 1 is shorter by its horizons' $?
+answers 'images of version 1' 'load first.one\nscan t \\0\nsave second.one\nload first.empty\nsave second.empty\nscan t \\0\n' 'ok\nr f q \\e 5 v\nend\nok\nok\nok\nrefused 2 NoTable t\n'
+holds 'the smallest one is saved in version 2' second.empty "$empty"
+cmp -s one second.one
+count 'one with a table is saved in version 2' $?
+answers 'a table of version 1 has no horizon' 'insert t r f q \\e w -9223372036854775808\nscan t \\0\n' 'ok\nr f q \\e 5 v\nend\n' --image first.one
+answers 'a horizon is kept, which a marker went by' 'delete t r f q \\e 5\nhorizon t 6\ncompact t full\nsave x\nload x\ninsert t r f q \\e v 5\ninsert t r f q \\e v 6\nscan t \\0\n' 'ok\nok\nok\nok\nok\nrefused 22 BelowHorizon 0\nok\nr f q \\e 6 v\nend\n' --image first.one
+rm first.empty second.one second.empty x
 answers 'a loaded core shows what was saved' 'load one\nscan t \\0\nload new\nscan t \\0\n' 'ok\nr f q \\e 5 v\nend\nok\nrefused 2 NoTable t\n'
 answers 'the image of the command line' 'scan t \\0\n' 'r f q \\e 5 v\nend\n' --image one
 answers 'the image of the command line, explained' 'scan t \\0\n' 'r f q \\e 5 v\nend\n' --explain --image one
@@ -92,6 +106,8 @@ insert t m f q \e 3 7
 addsplit t c
 addsplit t k
 insert t a f q B 4 8
+versions t 2
+horizon t 4
 save whole.image
 .
 cat >asked <<'.'
@@ -107,7 +123,11 @@ rights t
 rights u
 insert u r f q \e 12
 insert u r f q \e x
+insert t r f q \e x 3
+insert t r f q \e x 4
 as root
+versions t 3
+horizon t 3
 scan u \0
 .
 "$program" script <whole >out 2>err
@@ -155,6 +175,7 @@ lines() { # NUMBER
             if (kind < 11) return of("createuser dropuser") " " of("ann bob")
             if (kind < 12) return "setauths " user() " " auths()
             if (kind < 14) return of("grant grant revoke") " " user() " " right()
+            if (kind < 15 && below(3) == 0) return below(2) ? "horizon " table() " " below(9) : "versions " table() " " 1 + below(3)
             if (kind < 15) return below(4) ? "constraints " table() " " of("\\0 alphanum numeric,keysize") : of("droptable createtable") " " table()
             if (kind < 16) return "addsplit " table() " " of("a b\\x00 m")
             if (kind < 17) return number % 2 ? "splitsize " table() " " of("b m") " 0" : of("flush compact") " " table()
@@ -189,10 +210,16 @@ answers 'only who has SYSTEM' 'createuser ann\nas ann\nsave mine\nload one\nas r
 # ---- What fails, and what stands then.
 head -c 100 one >cut
 printf 'TABIMG\000\011' >ninth
+bytes third "${one/ 0002 / 0003 }"
+bytes mixed "${one/ 0002 / 0001 }"
+bytes turned "${first_one/ 0001 / 0002 }"
+bytes server "${one/ 74 00 / 74 01 }"
+bytes served "$(sed 's/ 74 00 / 74 01 /; s/ 8000000000000000 / 8000000000000001 /' <<<"$one")"
+answers 'a table that gives the timestamps has no horizon' 'load server\nhorizon t 6\n' 'ok\nrefused 22 ServerTime\n'
 printf 'TABIMG\000\000' >zeroth
 { cat one; printf '!'; } >longer
 : >none
-for pair in missing:io folder:io none:bad cut:bad longer:bad 'ninth:version 9' 'zeroth:version 0' whole:bad; do
+for pair in missing:io folder:io none:bad cut:bad longer:bad mixed:bad turned:bad served:bad 'third:version 3' 'ninth:version 9' 'zeroth:version 0' whole:bad; do
     answers "load ${pair%%:*}" "load ${pair%%:*}\nscan t \\\\0\n" "fault load ${pair#*:}\nr f q \\\\e 5 v\nend\n" --image one
     printf 'scan t \\0\n' | "$program" script --image "${pair%%:*}" >out 2>err
     [ "${PIPESTATUS[1]},$(cat out),$(cat err)" = "1,,fault: load ${pair#*:}" ] || { [ "${PIPESTATUS[1]:-1}" = 1 ] && [ ! -s out ] && [ "$(wc -l <err)" = 1 ] && [ "$(cut -d ' ' -f 1 err)" = 'fault:' ]; }
@@ -226,12 +253,17 @@ count 'the last image stands' $?
 [ "$(ls -a | grep -vx -e big -e short)" = "$(grep -vx -e big -e short <<<"$before")" ]
 count 'nothing is left beside it' $?
 
-# ---- Each image cut at each of its lengths is none, and one byte changed is none or is saved as itself.
-python3 - "$program" one whole.image <<'.' >changed
+# ---- Each image cut at each of its lengths is none, and one byte changed is none or is saved as itself; one of version 1 in version 2.
+python3 - "$program" one whole.image first.one <<'.' >changed
 import subprocess
 import sys
 
 program, *names = sys.argv[1:]
+# what is saved of an image; that of version 1 has its one table's settings before this place
+def saved(image):
+    place = 56
+    return image if image[7] == 2 else image[:7] + b"\2" + image[8:place] + b"\x80\0\0\0\0\0\0\0" + image[place:]
+
 for name in names:
     with open(name, "rb") as file:
         image = file.read()
@@ -250,12 +282,12 @@ for name in names:
         if reply == "ok":
             loaded += 1
             with open(f"w{number}", "rb") as file:
-                right = right and file.read() == variant and number >= len(image)
+                right = right and file.read() == saved(variant) and number >= len(image)
         else:
             right = right and (reply == "fault load bad" or (reply.startswith("fault load version ") and variant[:6] == b"TABIMG" and variant[6:8] != image[6:8]))
     print("right" if right and loaded > 0 else f"wrong: {name}")
 .
-[ "$(cat changed)" = "$(printf 'right\nright')" ]
+[ "$(cat changed)" = "$(printf 'right\nright\nright')" ]
 count 'each image, cut and changed at each place' $?
 
 # ---- Past blocks and limits: values of a mebibyte, and many tables and users.

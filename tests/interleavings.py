@@ -1,6 +1,7 @@
-"""Scripts in which writes, scans, sessions, splits, drops, whole compactions and compactions in parts (begin, merge, install) fall in any
-order, beside a model that is written down here from the definitions alone: every line that is printed is foreseen, those of `status`, `splits`,
-`begin` and `install` among them. The model keeps lists and filters them, and merges nothing but what a compaction is said to keep.
+"""Scripts in which writes, scans, sessions, splits, drops, settings of tables, whole compactions and compactions in parts (begin, merge,
+install) fall in any order, beside a model that is written down here from the definitions alone: every line that is printed is foreseen,
+those of `status`, `splits`, `begin` and `install` among them. The model keeps lists and filters them, and merges nothing but what a
+compaction is said to keep.
 Usage: interleavings.py PROGRAM [STEPS]   (one script of so many lines, and many short ones; 10,000 where unsaid)"""
 import bisect
 import itertools
@@ -140,7 +141,7 @@ class Table:
     """Its settings, all updates of its life, and its tablets by end row."""
 
     def __init__(self, is_server, versions, number):
-        self.is_server, self.versions, self.updates, self.tablets = is_server, versions, [], [Tablet(number, None)]
+        self.is_server, self.versions, self.horizon, self.updates, self.tablets = is_server, versions, LEAST, [], [Tablet(number, None)]
 
     def place(self, row):
         return bisect.bisect_left([t.end for t in self.tablets[:-1]], row)
@@ -165,7 +166,7 @@ class Store:
         return self.numbered - 1
 
     def floor(self, table):
-        return self.clock if table.is_server else LEAST
+        return self.clock if table.is_server else table.horizon
 
     def setauths(self, user, auths):
         self.event()
@@ -192,13 +193,36 @@ class Store:
         del self.tables[name]
         return ["ok"]
 
+    def versions(self, name, count):
+        table, count = self.found(name), int(count)
+        if not table:
+            return [f"refused 2 NoTable {name}"]
+        if count > table.versions:
+            return [f"refused 21 VersionsRaised {table.versions}"]
+        table.versions = count
+        return ["ok"]
+
+    def horizon(self, name, time):
+        table, time = self.found(name), int(time)
+        if not table:
+            return [f"refused 2 NoTable {name}"]
+        if table.is_server:
+            return ["refused 22 ServerTime"]
+        if time < table.horizon:
+            return [f"refused 22 HorizonLowered {table.horizon}"]
+        table.horizon = time
+        return ["ok"]
+
     def write(self, name, row, column, kind, value, time):
         table = self.found(name)
         if not table:
             return [f"refused 2 NoTable {name}"]
         if time and table.is_server:
             return ["refused 7 TimestampNotAllowed 0"]
-        record = Record(row, column, int(time[0]) if time else self.clock, kind, value, self.seq)
+        at = int(time[0]) if time else self.clock
+        if at < table.horizon:
+            return ["refused 22 BelowHorizon 0"]
+        record = Record(row, column, at, kind, value, self.seq)
         self.seq += 1
         table.updates.append(record)
         table.tablets[table.place(row)].active.append(record)
@@ -341,7 +365,7 @@ class Store:
 def steps(seed, count, store):
     """So many lines that fall on few tables, rows, columns and times; the store has answered those before each."""
     pick = random.Random(seed)
-    created = ["createtable t time=any versions=1", "createtable u time=any versions=2", "createtable s time=server versions=1"]
+    created = ["createtable t time=any versions=1", "createtable u time=any versions=3", "createtable s time=server versions=1"]
     yield "setauths root A,B"
     yield from created
 
@@ -353,7 +377,7 @@ def steps(seed, count, store):
 
     def write(name):
         words = f"{name} {row()} f {pick.choice('pq')} {pick.choice(LABELS)}"
-        time = "" if name == "s" else f" {pick.randrange(-2, 12)}"
+        time = "" if name == "s" or pick.random() < 0.05 else f" {pick.randrange(-2, 12)}"
         return f"insert {words} v{pick.randrange(100)}{time}" if pick.random() < 0.75 else f"delete {words}{time}"
 
     kinds = ["minor", "partial", "full"]
@@ -361,8 +385,13 @@ def steps(seed, count, store):
         draw = pick.random()
         slot = max(0, len(store.jobs) - pick.choice([1, 1, 1, 2, 2, 3, 5]))
         session = max(0, len(store.sessions) - pick.choice([1, 1, 2, 4]))
-        if draw < 0.36:
+        if draw < 0.342:
             yield write(table())
+        elif draw < 0.354:
+            # now and then one above all moments, which closes the table for writes
+            yield f"horizon {table()} {pick.randrange(-3, 6) if pick.random() < 0.95 else 14}"
+        elif draw < 0.36:
+            yield f"versions {table()} {pick.choice([1, 2, 2, 3])}"
         elif draw < 0.46:
             yield f"begin {table()} {row()} {pick.choice(kinds)}"
         elif draw < 0.58:

@@ -17,6 +17,9 @@ mutate t r put f q \e v 1|Table.WRITE|ok
 createtable s|System.CREATE_TABLE|ok
 droptable u|System.DROP_TABLE Table.DROP_TABLE|ok
 constraints t \0|System.ALTER_TABLE Table.ALTER_TABLE|ok
+versions t 1|System.ALTER_TABLE Table.ALTER_TABLE|ok
+versions t 2|System.ALTER_TABLE Table.ALTER_TABLE|refused 21 VersionsRaised 1
+horizon t 0|System.ALTER_TABLE Table.ALTER_TABLE|ok
 flush t|System.ALTER_TABLE Table.ALTER_TABLE Table.WRITE|ok
 compact t partial|System.ALTER_TABLE Table.ALTER_TABLE Table.WRITE|ok
 compact t full|System.ALTER_TABLE Table.ALTER_TABLE Table.WRITE|ok

@@ -163,7 +163,8 @@ name="name: 1 to 128 of a-z A-Z 0-9 _ - ."
 byte_word='a byte word: ! to ~ as they are but \\ for \, \xHH (H of 0-9 a-f) for any byte, \e for none'
 number='a whole number of 64 bits with its sign, as 7 or -7'
 versions='VERSIONS (versions=N with N from 1 to 1000)'
-commands='a command, one of as at createtable droptable createuser dropuser setauths grant revoke rights constraints insert delete mutate scan open next many close flush compact begin merge install status addsplit splitsize splits save load'
+many='how many versions of a column are shown: a whole number from 1 to 1000'
+commands='a command, one of as at createtable droptable createuser dropuser setauths grant revoke rights constraints versions horizon insert delete mutate scan open next many close flush compact begin merge install status addsplit splitsize splits save load'
 system='SYSTEM_PERMISSION (GRANT, CREATE_TABLE, DROP_TABLE, ALTER_TABLE, CREATE_USER, DROP_USER, ALTER_USER or SYSTEM)'
 high='[ and a byte word (up to this row), ( and a byte word (before it), or \0 for no bound'
 session='SESSION (the number that an open gave: a whole number of 32 bits without a sign, as 0)'
@@ -191,6 +192,17 @@ grant u FOO	word 3, "FOO": expected $system or TABLE_PERMISSION (READ, WRITE, AL
 revoke u SYSTEM t	word 4, "t": expected the end of the line
 rights t	
 constraints t foo	word 3, "foo": expected RULES (keysize, alphanum, numeric, visibility: some with commas between them, or \\0 for none)
+versions t	word 3 is missing: expected N ($many)
+versions t 0	word 3, "0": expected N ($many)
+versions t 1001	word 3, "1001": expected N ($many)
+versions t versions=1	word 3, "versions=1": expected N ($many)
+versions t 1 2	word 4, "2": expected the end of the line
+versions t 1	
+horizon	word 2 is missing: expected T (a table's $name)
+horizon t	word 3 is missing: expected TS (a timestamp: $number)
+horizon t -0	word 3, "-0": expected TS (a timestamp: $number)
+horizon t 1 2	word 4, "2": expected the end of the line
+horizon t -1	
 insert t r f q secret	word 7 is missing: expected VALUE ($byte_word)
 insert t r f q \\e v x	word 8, "x": expected TS (a timestamp: $number) or the end of the line
 insert t é f q \\e v	word 3, "\\xc3\\xa9": expected ROW ($byte_word)

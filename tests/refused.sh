@@ -1,7 +1,7 @@
 #!/usr/bin/env bash
 # Sees what the compiler refuses, beside what is like it and is accepted: a stack of layers that outlives the version which it reads,
 # and a receipt that is made elsewhere than by a book. No must-fail edit can say so, since those reach the prover.
-# Usage: tests/refused.sh   (from anywhere; wants the kit, and the libraries that rt ci or ./prove --keep built)
+# Usage: tests/refused.sh   (from anywhere; wants the kit, and the libraries that rt ci or build.sh LOG --keep built)
 set -eu
 top=$(cd "$(dirname -- "${BASH_SOURCE[0]}")/.." && pwd)
 work=$(mktemp -d)
@@ -11,7 +11,7 @@ kit=$(dirname -- "$(rt doc)")
 libraries='tab_key tab_label tab_iter tab_version tab_book'
 for library in $libraries; do
     [ -d "$top/crates/$library/out/rlib" ] && continue
-    printf '%s\n' 'skipped: the libraries are not built (./prove --keep builds them)' '0 passed, 0 failed, 1 skipped'
+    printf '%s\n' 'skipped: the libraries are not built (build.sh LOG --keep builds them)' '0 passed, 0 failed, 1 skipped'
     exit 0
 done
 

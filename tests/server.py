@@ -388,6 +388,10 @@ PRINTED = [
     (b"\x81\x12", b"refused 18 RootFixed"),
     (b"\x81\x13", b"refused 19 GrantInvalid"),
     *((b"\x81\x14" + bytes([why]), b"refused 20 BadSplit " + name) for why, name in enumerate((b"present", b"small", b"onerow"))),
+    (b"\x81\x15" + struct.pack(">I", 70_000), b"refused 21 VersionsRaised 70000"),
+    (b"\x81\x16\x00" + struct.pack(">q", -5), b"refused 22 HorizonLowered -5"),
+    (b"\x81\x16\x01" + struct.pack(">I", 70_000), b"refused 22 BelowHorizon 70000"),
+    (b"\x81\x16\x02", b"refused 22 ServerTime"),
     (b"\x84" + struct.pack(">I", 70_000), b"session 70000"),
     (b"\x87" + struct.pack(">QQQ", 1, 2, 3 << 40), b"tablets 1 sources 2 records %d" % (3 << 40)),
 ]

@@ -65,12 +65,12 @@ saves() { # NAME LINES REPLIES NOTES [VARIABLE]
 }
 
 saves 'a save' 'save one\n' 'ok\n' 'sync one.0.part 49\nrename one\nsync folder images\n'
-saves 'a save over an image' 'createtable t\nsave one\n' 'ok\nok\n' 'sync one.0.part 85\nrename one\nsync folder images\n'
+saves 'a save over an image' 'createtable t\nsave one\n' 'ok\nok\n' 'sync one.0.part 93\nrename one\nsync folder images\n'
 saves 'two saves' 'save one\nsave two\n' 'ok\nok\n' 'sync one.0.part 49\nrename one\nsync folder images\nsync two.0.part 49\nrename two\nsync folder images\n'
 mkdir "$work/images/more"
 saves 'a save in another folder' 'save more/one\n' 'ok\n' 'sync one.0.part 49\nrename one\nsync folder more\n'
 cp "$work/images/one" "$work/before"
-saves 'a save that is not synced' 'createtable t\nsave one\nsplits t\n' 'ok\nfault save io\nend\n' 'sync one.0.part 85\n' UNSYNCED=1
+saves 'a save that is not synced' 'createtable t\nsave one\nsplits t\n' 'ok\nfault save io\nend\n' 'sync one.0.part 93\n' UNSYNCED=1
 if cmp -s "$work/images/one" "$work/before" && [ -z "$(find "$work" -name '*.part')" ]; then passed=$((passed + 1)); else
     failed=$((failed + 1))
     echo 'FAILED: the old file stands, and nothing is left beside it'
