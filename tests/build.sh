@@ -20,6 +20,7 @@ for crate in low other high tabd; do
     mkdir -p "$here/crates/$crate/src" "$here/crates/$crate/specs"
     echo "// $crate" >"$here/crates/$crate/src/lib.rt"
 done
+echo script >"$here/crates/tabd/args" && echo asked >"$here/crates/tabd/stdin" && echo told >"$here/crates/tabd/stdout"
 # `rt lib` makes a library of the crate in whose folder it runs, `rt run` the program, and `rt ci` all; calls are counted in $work/calls.
 cat >"$bin/rt" <<'STAND_IN'
 #!/usr/bin/env bash
@@ -34,6 +35,7 @@ lib) mkdir -p out/rlib && echo it >out/rlib/stamp ;;
 run) printf '#!/bin/sh\n%s\n' "${PROGRAM:-}" >out/tabd && chmod +x out/tabd ;;
 ci)
     rmdir out
+    [ "$(cat crates/tabd/args crates/tabd/stdin crates/tabd/stdout)" = "$(printf 'script\nasked\ntold')" ] || exit 1
     echo "ci ${2-}, of $(sed 's/[ :].*//' crates.txt | sort | tr '\n' ' ')$(cat crates/*/src/lib.rt | wc -l)" >>"$CALLS"
     mkdir crates/tabd/out && printf '#!/bin/sh\n%s\n' "${PROGRAM:-}" >crates/tabd/out/tabd && chmod +x crates/tabd/out/tabd
     ;;
