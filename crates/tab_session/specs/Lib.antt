@@ -1,2 +1,3 @@
 pub mod Bookmarks
 pub mod LowEnds
+pub mod OpenSession

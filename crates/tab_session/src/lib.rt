@@ -6,7 +6,8 @@
 //!
 //! | File | What |
 //! |---|---|
-//! | `session` | an open scan, which gives its cells batch by batch |
+//! | `session` | an open scan, which gives its cells batch by batch and knows whether it is done |
+//! | `open_scan` | the same as its list and how far it has come |
 //! | `snapshot_scan` | what a session reads: a version, and what is asked of it |
 //! | `bookmark` | where a session goes on |
 //! | `taking` | the cells of a batch |
@@ -15,6 +16,7 @@
 #![tactic(auto)]
 
 mod bookmark;
+mod open_scan;
 mod room;
 mod rows;
 mod session;

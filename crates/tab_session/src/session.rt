@@ -1,45 +1,41 @@
-//! An open scan.
-ghost use Rattle.std.specs.Prelude.{◌≡◌, length, IfOk, OnOk, OnErr};
+//! An open scan that knows whether it is done.
+ghost use Rattle.std.specs.Prelude.{◌≡◌, ℕ, [], Bool, ◌||◌, IsTrue, length, IfOk, OnOk, OnErr};
 ghost use Rattle.tab_cells.specs.Cells.{cells};
 ghost use Rattle.tab_cells.specs.SessionState.{batch, gave, in_ranges};
 ghost use Rattle.tab_iter.specs.Stack.{query_of};
+ghost use Rattle.tab_session.specs.OpenSession.{opened, is_short};
 
-use crate::bookmark::Bookmark;
-use crate::room::Room;
-use crate::snapshot_scan::SnapshotScan;
+use crate::open_scan::OpenScan;
 use std::alloc::{AllocError, Global};
 use std::marker::Model;
 use tab_key::{Bounds, Cells, Column, Items};
 use tab_label::AuthSet;
 use tab_version::Version;
 
-/// An open scan: the cells that it shows, as the table stood when it was opened, and how many were given.
+/// An open scan: the cells that it shows, as the table stood when it was opened, how many were given, and whether it is done.
 ///
 /// Nothing that happens afterwards changes it. It holds none of its cells: each batch is read anew from the version that it owns.
 /// (Accumulo user manual: scanner)
 #[derive(Drop)]
 pub struct Session {
-    scan: SnapshotScan,
-    // none once all cells were given
-    next: Option<Bookmark>,
-    // what the batch before took
-    took: Room,
+    scan: OpenScan,
+    done: bool,
 }
 
 impl Model for Session {
-    ghost use Rattle.std.specs.Prelude.{map};
-    ghost use Rattle.tab_key.specs.Records.{cell_of};
-    ghost use Rattle.tab_cells.specs.SessionState.{SessionState};
-    ghost use Rattle.tab_session.specs.Bookmarks.{given_of};
+    ghost use Rattle.std.specs.Prelude.{◌≡◌, ◌≤◌, true, length};
+    ghost use Rattle.tab_session.specs.OpenSession.{OpenSession};
 
-    ghost Value = { SessionState };
+    ghost Value = { OpenSession };
 
-    ghost view = { λ s. record { all = map cell_of s.scan; given = given_of s.next s.scan } };
+    ghost view = { λ s. record { state = s.scan; done = s.done } };
+
+    ghost invariant = { λ s. s.done ≡ true → length s.scan.all ≤ s.scan.given };
 }
 
 impl Session {
     /// A session on what a scan of all rows of the version shows: of these columns, under these authorizations, so many versions
-    /// of each column. None of its cells was given.
+    /// of each column. None of its cells was given, and it isn't done, even where it has none.
     pub fn new(
         alloc: Global,
         version: Version,
@@ -47,34 +43,39 @@ impl Session {
         auths: AuthSet,
         versions: u32,
     ) -> Session
-        ensures { result ≡ record { all = cells version versions (query_of columns auths); given = 0 } }
+        ensures { result ≡ opened (cells version versions (query_of columns auths)) }
     {
-        let next = Bookmark::first(&version);
         Session {
-            scan: SnapshotScan::new(alloc, version, columns, auths, versions),
-            next,
-            took: Room::unknown(),
+            scan: OpenScan::new(alloc, version, columns, auths, versions),
+            done: false,
         }
     }
 
-    /// The next `count` cells, fewer only at the end. Where memory lacks, the session is as before.
+    /// Whether a batch shorter than asked was given: all batches behind that one are empty. It takes no memory.
+    ///
+    /// A batch that ends exactly at the end isn't short, nor is one of no cell where none was asked for.
+    pub fn is_done(&self) -> bool
+        ensures done { result ≡ self.now.done }
+        ensures ended { IsTrue result → (n : ℕ) → batch self.now.state n ≡ [] }
+    {
+        self.done
+    }
+
+    /// The next `count` cells, fewer only at the end: then the session is done. Where memory lacks, it is as before.
     ///
     /// Each batch but the first makes one seek, and reads nothing before the column of its place. Nothing is copied but the cells, to
     /// one piece of memory, and one key. Each batch but the first asks at once for about as much memory as the one before took, but for
     /// no more than `count` cells may need.
     pub fn next_batch(&mut self, alloc: Global, count: u32) -> Result<Cells, AllocError>
-        ensures ok { IfOk result (λ cells. cells ≡ batch self.old count) }
-        ensures after { OnOk result (self.new ≡ gave (length (batch self.old count)) self.old) }
+        ensures ok { IfOk result (λ cells. cells ≡ batch self.old.state count) }
+        ensures after { OnOk result (self.new.state ≡ gave (length (batch self.old.state count)) self.old.state) }
+        ensures done { OnOk result (self.new.done ≡ (self.old.done || is_short self.old.state count)) }
         ensures err { OnErr result (self.new ≡ self.old) }
     {
-        let Some(from) = &self.next else {
-            return Ok(Cells::new(alloc));
-        };
-        let room = self.took.for_next(count);
-        let batch = self.scan.read(alloc, from, count, room)?;
-        self.took = Room::of(&batch.cells);
-        self.next = batch.next;
-        Ok(batch.cells)
+        let cells = self.scan.next_batch(alloc, count)?;
+        let is_short = cells.len() < count as usize;
+        self.done = self.done || is_short;
+        Ok(cells)
     }
 
     /// The whole answer in each of these ranges of rows, in their order, whatever batches were taken. The session stays as it was; its
@@ -87,9 +88,9 @@ impl Session {
         alloc: Global,
         ranges: &[Bounds],
     ) -> Result<Items<Cells>, AllocError>
-        ensures cells { IfOk result (λ cells. cells ≡ in_ranges self.old ranges.now) }
+        ensures cells { IfOk result (λ cells. cells ≡ in_ranges self.old.state ranges.now) }
         ensures same { self.new ≡ self.old }
     {
-        self.scan.read_ranges(alloc, ranges)
+        self.scan.scan_many(alloc, ranges)
     }
 }

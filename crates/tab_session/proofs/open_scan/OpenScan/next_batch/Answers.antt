@@ -4,7 +4,7 @@ use Rattle.tab_cells.specs.SessionState.{SessionState}
 use Rattle.tab_key.specs.Records.{Record, cell_of}
 use Rattle.tab_session.specs.Bookmarks.{given_of}
 use Rattle.tab_session.proofs.Batches.{gives, gave_them}
-use Rattle.tab_session.proofs.session.Session.next_batch.Goals as goal
+use Rattle.tab_session.proofs.open_scan.OpenScan.next_batch.Goals as goal
 
 pub returns-clause-ok : goal.returns-clause-ok
 returns-clause-ok c = rw (← c.self.view_is, c.in-Some.is) (gives (Some c.in-Some.from) c.self.inside.scan c.args.count _ c.in_ok-batch.ensures.cells)
