@@ -28,7 +28,7 @@ use Rattle.tab_store.proofs.InstallCases.{with_merge, with_merge_end, after_inst
 use Rattle.tab_store.proofs.Middles.{lies}
 
 -- ---- filters
-filter_all : (p : Record → Bool) (xs : List Record) → ((u : Record) → IsIn xs u → p u ≡ true) → filter p xs ≡ xs
+pub filter_all : (p : Record → Bool) (xs : List Record) → ((u : Record) → IsIn xs u → p u ≡ true) → filter p xs ≡ xs
 filter_all p [] f = refl
 filter_all p (x ∷ xs) f = rw (f x (inl refl)) (ap (λ l. x ∷ l) (filter_all p xs (λ u h. f u (inr h))))
 

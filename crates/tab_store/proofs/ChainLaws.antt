@@ -1,7 +1,8 @@
--- A new core is a store, and chains of exact steps of a store end in one.
+-- A new core is a store, whose tablets have numbers of their own, and chains of exact steps of a store end in one.
 use Rattle.std.proofs.Common.{◌≡◌, inl, inr, ℕ, ◌<◌, List, [], ◌∷◌, refl, sym, ap, subst}
 use Rattle.std.specs.Prelude.{ℤ, Contains, Option, Some, None, map}
 use Rattle.std.specs.List.Sorted.{IsStrictlySortedBy}
+use mathlib.Core.Bool.{true≢false}
 use Rattle.tab_key.specs.Records.{Record}
 use Rattle.tab_key.specs.Sorted.{sorted, IsDistinct}
 use Rattle.tab_key.proofs.Rising.{in_from}
@@ -26,8 +27,9 @@ use Rattle.tab_history.specs.declared.event.Step.TheVariants.{Event as IsEvent, 
 use Rattle.tab_history.proofs.Chains.{sound_refines_itself, chains_refine}
 use Rattle.tab_history.proofs.GoesOnLemmas.{goes_on}
 use Rattle.tab_history.proofs.Playing.{unmoved}
-use Rattle.tab_store.specs.Stores.{HeldTable, Held, base_table_of, base_of, table_in, tablets_found}
+use Rattle.tab_store.specs.Stores.{HeldTable, Held, base_table_of, base_of, table_in, tablets_found, tablets_in}
 use Rattle.tab_store.specs.Rightness.{IsStore, NewStoresAreStores, StoresAreSound}
+use Rattle.tab_store.specs.Numbers.{AreNumbered, NewStoresAreNumbered}
 use Rattle.tab_store.specs.Stepping.{entry_of}
 use Rattle.tab_store.specs.Chains.{DoesExactly, EventGoes, DoesAlone, ServedGoes, Running, given_in, act_by_hand, by_hand, RunsExactly, EntryGoes, ChainsStay, ChainsAreLegal}
 use Rattle.tab_store.proofs.Sound.{self_refines}
@@ -42,6 +44,10 @@ no_tables (t ∷ ts) e = absurd (cc)
 pub new_stores_are_stores : NewStoresAreStores
 unfolding IsStrictlySortedBy
 new_stores_are_stores h new = subst (λ ts. IsStore (record h { tables = ts })) (sym (no_tables h.tables new.base.tables)) (record { names = tt; tables = λ q t e. absurd (cc); limits = λ q t e. absurd (cc) })
+
+pub new_stores_are_numbered : NewStoresAreNumbered
+new_stores_are_numbered h new left = subst (λ ts. AreNumbered (tablets_in (record h { tables = ts })) h.tablet) (sym (no_tables h.tables new.base.tables))
+    (record { once = λ q. tt; apart = λ q r k g h. absurd (true≢false (sym g)); below = λ q k g. absurd (true≢false (sym g)) })
 
 -- ---- what histories see of a store
 pub stores_are_sound : StoresAreSound

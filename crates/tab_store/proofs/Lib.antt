@@ -8,6 +8,7 @@ pub mod SplitCases
 pub mod InstallCases
 pub mod Middles
 pub mod AllTablets
+pub mod EachTablet
 pub mod Sound
 pub mod Apart
 pub mod Reading
@@ -25,3 +26,5 @@ pub mod DueTables
 pub mod Named
 pub mod Changed
 pub mod Fewer
+pub mod Numbered
+pub mod Numbering

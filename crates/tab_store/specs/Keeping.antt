@@ -147,6 +147,10 @@ abbrev pub MiddlesLieInside : Type 0
 MiddlesLieInside = (ts : List Tablet) (next n : ℕ) (floor : ℤ) (row middle : List ℕ) (t : Tablet) → AreSound ts next n floor → tablet_of row ts ≡ Some t → middle_row (rows_in t) ≡ Some middle
     → (tablet_of middle ts ≡ Some t) × (is_end middle ts ≡ false)
 
+-- ---- The law: and where all that a sound table holds refines some updates, each of its tablets refines those in its rows.
+abbrev pub EachTabletRefines : Type 0
+EachTabletRefines = (ts : List Tablet) (us : List Record) (next n : ℕ) (floor : ℤ) → AreSound ts next n floor → RefinesTable (sorted (records_of_all ts)) us next n floor → TabletsRefine ts us next n floor
+
 -- ---- The law: all work keeps it; and what the table holds then refines what it held before, with what was written.
 -- the work goes on well
 pub record GoesOnWell (p : Place) (work : TabletWork) (ts after : List Tablet) : Type 0 where

@@ -7,6 +7,7 @@ pub mod Chains
 pub mod Examples
 pub mod Tables
 pub mod Due
+pub mod Numbers
 pub use Rattle.tab_tablets.specs.ByRow
 pub use Rattle.tab_tablets.specs.Listing
 pub use Rattle.tab_tablets.specs.Parts

@@ -1,6 +1,7 @@
 //! Laws of the definitions. Each is the contract of a function that does nothing, so that it is proved.
 ghost use Rattle.tab_store.specs.Stepping.{TellsLegally, CapturesAreThere};
-ghost use Rattle.tab_store.specs.Keeping.{FreezesKeep, WritesKeep, CompactionsKeep, BeginningsKeep, InstallsKeep, SplitsKeep, LaterKeeps, FewerKeeps, SoundWithFewer, WorkKeeps, StaysWhole, TabletsHoldAll, SoundTabletsLieApart, MiddlesLieInside, WorkStaysSound, NewTablesAreSound, SoundLater, BasesRead};
+ghost use Rattle.tab_store.specs.Keeping.{FreezesKeep, WritesKeep, CompactionsKeep, BeginningsKeep, InstallsKeep, SplitsKeep, LaterKeeps, FewerKeeps, SoundWithFewer, WorkKeeps, StaysWhole, TabletsHoldAll, SoundTabletsLieApart, MiddlesLieInside, EachTabletRefines, WorkStaysSound, NewTablesAreSound, SoundLater, BasesRead};
+ghost use Rattle.tab_store.specs.Numbers.{NewStoresAreNumbered, NumbersStay, ChainsKeepNumbers};
 ghost use Rattle.tab_store.specs.Rightness.{NewStoresAreStores, StoresAreSound, StepsAreRight, StoresStay};
 ghost use Rattle.tab_store.specs.Chains.{ChainsStay, ChainsAreLegal};
 
@@ -62,6 +63,11 @@ pub fn sound_tablets_lie_apart()
 /// The row in the middle of what one of them holds lies in its own rows, and is no end row.
 pub fn middles_lie_inside()
     ensures { MiddlesLieInside }
+{}
+
+/// Where all that a sound table holds refines some updates, what each of its tablets holds refines those in the tablet's rows.
+pub fn each_tablet_refines()
+    ensures { EachTabletRefines }
 {}
 
 /// Work keeps what a core keeps of a table's tablets, and what the table holds then refines what it held before with what was written.
@@ -132,4 +138,19 @@ pub fn fewer_keeps()
 /// Sound tablets are sound with fewer versions.
 pub fn sound_with_fewer()
     ensures { SoundWithFewer }
+{}
+
+/// No two tablets of a new core have one number.
+pub fn new_stores_are_numbered()
+    ensures { NewStoresAreNumbered }
+{}
+
+/// An exact step leaves it so, as long as there are numbers.
+pub fn numbers_stay()
+    ensures { NumbersStay }
+{}
+
+/// So does a chain of exact steps, as a run is one.
+pub fn chains_keep_numbers()
+    ensures { ChainsKeepNumbers }
 {}

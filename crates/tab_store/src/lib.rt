@@ -12,6 +12,7 @@
 //! | `specs/Examples` | worked examples, computed |
 //! | `specs/Tables` | tables by name, and what calls change of them |
 //! | `specs/Due` | which work is due, and where it is to be done |
+//! | `specs/Numbers` | that a tablet's number identifies it |
 //! | `setting` | what of a table may be set |
 //! | `table` | one table: its settings, and its tablets |
 //! | `tables` | tables by name |
@@ -22,6 +23,7 @@
 //! | `proofs/CutTablet`, `SplitTablets`, `SplitCases` | a split leaves them so too |
 //! | `proofs/InstallCases` | how an install may end |
 //! | `proofs/Accepted` | what tablets hold was accepted, and lies in their rows |
+//! | `proofs/EachTablet` | where all that they hold refines some updates, each of them refines those in its rows |
 //! | `proofs/Sound`, `Fewer`, `OneTable` | what a core keeps of a table by itself, also with fewer versions |
 //! | `proofs/Apart` | its tablets hold what they hold one behind the other |
 //! | `proofs/Middles` | the row in the middle of one of them is no end row |
@@ -32,6 +34,7 @@
 //! | `proofs/Named` | tables by name, as the map has them |
 //! | `proofs/Changed` | a change of one table, as an exact step and as histories read it |
 //! | `proofs/DueTables` | work that is due, table by table |
+//! | `proofs/Numbered`, `Numbering` | no two tablets have one number, whatever is done to them |
 #![tactic(auto)]
 
 mod due;
@@ -42,11 +45,12 @@ mod tables;
 
 pub use due::Due;
 pub use laws::{
-    bases_read, beginnings_keep, captures_are_there, chains_are_legal, chains_stay,
-    compactions_keep, fewer_keeps, freezes_keep, installs_keep, later_keeps, middles_lie_inside,
-    new_stores_are_stores, new_tables_are_sound, sound_later, sound_tablets_lie_apart,
-    sound_with_fewer, splits_keep, stays_whole, steps_are_right, stores_are_sound, stores_stay,
-    tablets_hold_all, tells_legally, work_keeps, work_stays_sound, writes_keep,
+    bases_read, beginnings_keep, captures_are_there, chains_are_legal, chains_keep_numbers,
+    chains_stay, compactions_keep, each_tablet_refines, fewer_keeps, freezes_keep, installs_keep,
+    later_keeps, middles_lie_inside, new_stores_are_numbered, new_stores_are_stores,
+    new_tables_are_sound, numbers_stay, sound_later, sound_tablets_lie_apart, sound_with_fewer,
+    splits_keep, stays_whole, steps_are_right, stores_are_sound, stores_stay, tablets_hold_all,
+    tells_legally, work_keeps, work_stays_sound, writes_keep,
 };
 pub use setting::Setting;
 pub use tab_tablets::{DueKind, FinishedJob, Installed, Split, TabletJob};
