@@ -9,7 +9,7 @@ use Rattle.tab_policy.specs.Decisions.{Standing, decision, judged, table_missing
 use Rattle.tab_policy.specs.State.{standing_of, user_exists, system_granted, table_granted}
 use Rattle.tab_policy.specs.Roots.{root}
 use Rattle.tab_mutation.specs.Shape.{or_else, first_some}
-use Rattle.tab_cells.specs.SessionState.{SessionState}
+use Rattle.tab_session.specs.OpenSession.{OpenSession}
 use Rattle.tab_history.specs.declared.event.Act.{Act}
 use Rattle.tab_history.specs.declared.reply.Refusal.{Refusal}
 use Rattle.tab_history.specs.declared.reply.Reply.{Reply}
@@ -50,7 +50,7 @@ undenied : (h : Held) (user : List ℕ) (act : Act) (asked : Action) → asked �
 undenied h user act asked is e = sym (ap (denial user) (e ∙ ap (decision (standing_of h.policy user)) is))
 
 -- an act that it admits, told by another name and at a clock that is told so
-pub admitted : (old new : Held) (now t : ℤ) (given : Option TabletMerge) (user : List ℕ) (act named : Act) (asked : Action) (reply : Reply SessionState TabletMerge) → IsCore old → asked ≡ action_of act → None ≡ decision (standing_of old.policy user) asked → act ≡ named → t ≡ now
+pub admitted : (old new : Held) (now t : ℤ) (given : Option TabletMerge) (user : List ℕ) (act named : Act) (asked : Action) (reply : Reply OpenSession TabletMerge) → IsCore old → asked ≡ action_of act → None ≡ decision (standing_of old.policy user) asked → act ≡ named → t ≡ now
     → Acts (own_answer (base_of old) t user named) old t given user named reply new → Acts (event_answer (base_of old) [] now user act) old now given user act reply new
 admitted old new now t given user act named asked reply core asks e is trip acts =
     subst (λ a. Acts a old now given user act reply new) (sym (answer_is (base_of old) now user act None (sym (decided old core user act) ∙ undenied old user act asked asks e)))

@@ -3,7 +3,7 @@ use Rattle.std.proofs.Common.{◌≡◌, inl, ℕ, List, [], true, refl, sym, �
 use Rattle.std.specs.Prelude.{ℤ, IfOk, OnOk, OnErr}
 use Rattle.tab_key.specs.Records.{Cell}
 use Rattle.tab_cells.specs.declared.compaction.Compaction.{Compaction}
-use Rattle.tab_cells.specs.SessionState.{SessionState}
+use Rattle.tab_session.specs.OpenSession.{OpenSession}
 use Rattle.tab_store.specs.Parts.{TabletMerge, begins_at, installs_in}
 use Rattle.tab_store.specs.InstalledType.{Installed}
 use Rattle.tab_store.specs.InstalledVariants as installed
@@ -45,7 +45,7 @@ began_so t row kind now number ts new (Ok job) names count began changed = recor
 began_so t row kind now number ts new (Err e) names count began changed = tt
 
 -- a reply that tells whether a merge began hands out no session
-none_opened : (r : Reply SessionState TabletMerge) (j : Option TabletMerge) (all : List Cell) → told_of r ≡ told_job j → HandsOut r all
+none_opened : (r : Reply OpenSession TabletMerge) (j : Option TabletMerge) (all : List Cell) → told_of r ≡ told_job j → HandsOut r all
 none_opened (Opened u) None all e = absurd (cc)
 none_opened (Opened u) (Some m) all e = absurd (cc)
 none_opened reply j all e = tt
@@ -75,7 +75,7 @@ module _ (h : Held) (now : ℤ) (user t row : List ℕ) (kind : Compaction) (cor
   abbrev asks : Act
   asks = act.Begin t row kind
 
-  begin_done : (ts : List HeldTable) (n : ℕ) (job : Option TabletMerge) (reply : Reply SessionState TabletMerge) → BeganSo t row kind now h.job h.tables ts job → told_of reply ≡ told_job job → job_of reply ≡ job → n ≡ job_told (told_of reply) h.job
+  begin_done : (ts : List HeldTable) (n : ℕ) (job : Option TabletMerge) (reply : Reply OpenSession TabletMerge) → BeganSo t row kind now h.job h.tables ts job → told_of reply ≡ told_job job → job_of reply ≡ job → n ≡ job_told (told_of reply) h.job
       → Acts (own_answer (base_of h) now user asks) h now None user asks reply (record h { tables = ts; job = n })
   unfolding lays
   begin_done ts n job reply after told is numbered =
@@ -98,7 +98,7 @@ module _ (h : Held) (now : ℤ) (user t row : List ℕ) (kind : Compaction) (cor
       }
 
   -- whether there was memory for it or not
-  pub begins_or_lacks : {E : Type 0} (ts : List HeldTable) (n : ℕ) (made : Result (Option TabletMerge) E) (reply : Reply SessionState TabletMerge) → IfOk made (BeganSo t row kind now h.job h.tables ts) → OnErr made (ts ≡ h.tables) → IfOk made (λ j. told_of reply ≡ told_job j)
+  pub begins_or_lacks : {E : Type 0} (ts : List HeldTable) (n : ℕ) (made : Result (Option TabletMerge) E) (reply : Reply OpenSession TabletMerge) → IfOk made (BeganSo t row kind now h.job h.tables ts) → OnErr made (ts ≡ h.tables) → IfOk made (λ j. told_of reply ≡ told_job j)
       → IfOk made (λ j. job_of reply ≡ j) → OnErr made (reply ≡ Refused NoMemory) → n ≡ job_told (told_of reply) h.job → Acts (own_answer (base_of h) now user asks) h now None user asks reply (record h { tables = ts; job = n })
   begins_or_lacks ts n (Ok job) reply after same told is err numbered = begin_done ts n job reply after told is numbered
   begins_or_lacks ts n (Err e) reply after same told is err numbered =
@@ -121,7 +121,7 @@ installed_so t m ts new (Ok s) names count told changed = record { names = names
 installed_so t m ts new (Err e) names count told changed = tt
 
 -- it hands out no session
-none_shown : (r : Reply SessionState TabletMerge) (s : Installed) (all : List Cell) → told_of r ≡ told_install Done s → HandsOut r all
+none_shown : (r : Reply OpenSession TabletMerge) (s : Installed) (all : List Cell) → told_of r ≡ told_install Done s → HandsOut r all
 none_shown (Opened u) installed.Done all e = absurd (cc)
 none_shown (Opened u) (installed.Stale n) all e = absurd (cc)
 none_shown reply s all e = tt
@@ -151,7 +151,7 @@ module _ (h : Held) (now : ℤ) (user t : List ℕ) (m : TabletMerge) (core : Is
   abbrev installing : Act
   installing = act.Install t (ByHand m.merge.number)
 
-  install_done : (ts : List HeldTable) (s : Installed) (reply : Reply SessionState TabletMerge) → InstalledSo t m h.tables ts s → told_of reply ≡ told_install Done s → job_of reply ≡ None
+  install_done : (ts : List HeldTable) (s : Installed) (reply : Reply OpenSession TabletMerge) → InstalledSo t m h.tables ts s → told_of reply ≡ told_install Done s → job_of reply ≡ None
       → Acts (own_answer (base_of h) now user installing) h now (Some m) user installing reply (record h { tables = ts })
   unfolding lays
   install_done ts s reply after told is =
@@ -173,7 +173,7 @@ module _ (h : Held) (now : ℤ) (user t : List ℕ) (m : TabletMerge) (core : Is
       }
 
   -- whether there was memory for it or not
-  pub installs_or_lacks : {E : Type 0} (ts : List HeldTable) (made : Result Installed E) (reply : Reply SessionState TabletMerge) → IfOk made (InstalledSo t m h.tables ts) → OnErr made (ts ≡ h.tables) → IfOk made (λ s. told_of reply ≡ told_install Done s)
+  pub installs_or_lacks : {E : Type 0} (ts : List HeldTable) (made : Result Installed E) (reply : Reply OpenSession TabletMerge) → IfOk made (InstalledSo t m h.tables ts) → OnErr made (ts ≡ h.tables) → IfOk made (λ s. told_of reply ≡ told_install Done s)
       → job_of reply ≡ None → OnErr made (reply ≡ Refused NoMemory) → Acts (own_answer (base_of h) now user installing) h now (Some m) user installing reply (record h { tables = ts })
   installs_or_lacks ts (Ok s) reply after same told is err = install_done ts s reply after told is
   installs_or_lacks ts (Err e) reply after same told is err =

@@ -2,7 +2,7 @@
 use Rattle.std.proofs.Common.{◌≡◌, inl, ℕ, List, [], true, refl, sym, ap, subst, length, map, Result, Ok, Err, None}
 use Rattle.std.specs.Prelude.{ℤ, OnOk, OnErr}
 use Rattle.tab_cells.specs.declared.compaction.Compaction.{Compaction}
-use Rattle.tab_cells.specs.SessionState.{SessionState}
+use Rattle.tab_session.specs.OpenSession.{OpenSession}
 use Rattle.tab_store.specs.Tablets.{compacted}
 use Rattle.tab_history.specs.declared.event.Act.{Act}
 use Rattle.tab_history.specs.declared.event.Act.TheVariants as act
@@ -47,7 +47,7 @@ compaction_done h ts now user t a kind core is passes none after =
     }
 
 -- whether there was memory for it or not
-pub compacts : {T E : Type 0} (h : Held) (ts : List HeldTable) (now : ℤ) (user t : List ℕ) (a : Act) (kind : Compaction) (done : Result T E) (reply : Reply SessionState TabletMerge) → IsCore h → takes_memory a ≡ true → work_of None a ≡ On t (Compacting kind) → Done ≡ own_answer (base_of h) now user a → changes_of now user a ≡ []
+pub compacts : {T E : Type 0} (h : Held) (ts : List HeldTable) (now : ℤ) (user t : List ℕ) (a : Act) (kind : Compaction) (done : Result T E) (reply : Reply OpenSession TabletMerge) → IsCore h → takes_memory a ≡ true → work_of None a ≡ On t (Compacting kind) → Done ≡ own_answer (base_of h) now user a → changes_of now user a ≡ []
     → OnOk done (Compacted t kind now h.tables ts) → OnErr done (ts ≡ h.tables) → OnOk done (reply ≡ Done) → OnErr done (reply ≡ Refused NoMemory)
     → Acts (own_answer (base_of h) now user a) h now None user a reply (record h { tables = ts })
 compacts h ts now user t a kind (Ok u) reply core takes is passes none after same ok err =
@@ -57,7 +57,7 @@ compacts h ts now user t a kind (Err e) reply core takes is passes none after sa
     (subst (λ (us : List HeldTable). Acts (own_answer (base_of h) now user a) h now None user a (Refused NoMemory) (record h { tables = us })) (sym same) (lacked (own_answer (base_of h) now user a) h now user a takes core))
 
 -- ---- counts
-pub counted : (h : Held) (now : ℤ) (user t : List ℕ) (reply : Reply SessionState TabletMerge) → IsCore h → reply ≡ Counted (counts_of (tablets_of (table_at h.tables t))) → Acts (own_answer (base_of h) now user (act.Status t)) h now None user (act.Status t) reply h
+pub counted : (h : Held) (now : ℤ) (user t : List ℕ) (reply : Reply OpenSession TabletMerge) → IsCore h → reply ≡ Counted (counts_of (tablets_of (table_at h.tables t))) → Acts (own_answer (base_of h) now user (act.Status t)) h now None user (act.Status t) reply h
 unfolding lays
 counted h now user t reply core is = subst (λ r. Acts (own_answer (base_of h) now user (act.Status t)) h now None user (act.Status t) r h) (sym is) (record {
   exact = record {

@@ -11,7 +11,7 @@ use Rattle.tab_policy.specs.Decisions.{decision}
 use Rattle.tab_policy.specs.declared.permission.Permission.TheVariants.{OfSystem, OfTable}
 use Rattle.tab_policy.specs.declared.decision.Denial.{Denial}
 use Rattle.tab_policy.specs.declared.decision.Denial.TheVariants as policy
-use Rattle.tab_cells.specs.SessionState.{SessionState}
+use Rattle.tab_session.specs.OpenSession.{OpenSession}
 use Rattle.tab_history.specs.Checks.{Caller, standing, exists_in, user_named, action_of, denial, too_many_auths, is_grant, version_checks, horizon_checks, own_checks, refusal_of}
 use Rattle.tab_history.specs.Settings.{Settings, takes_timestamps}
 use Rattle.tab_history.specs.declared.event.Given.TheVariants.{ByHand}
@@ -31,6 +31,7 @@ use Rattle.tab_store.specs.Stepping.{StepsExactly, TableWork, work_of, lays, tol
 use Rattle.tab_store.specs.SplitType.{Split}
 use Rattle.tab_store.specs.SplitVariants as split
 use Rattle.tab_core.specs.EventReplies.{is_long_refusal, is_long}
+use Rattle.tab_core.specs.Spending.{left_of}
 use Rattle.tab_core.specs.Stepping.{changes_told, Becomes, Acts, installs_at}
 
 -- ---- which refusals take no memory to copy
@@ -89,18 +90,19 @@ unfolding refusal_of
 refusal_takes c there now user a x is long = long_takes c there now user a x (takes_memory a) refl is long
 
 -- ---- what an act is told that can be forgotten
--- the act takes memory, left the tablets as they were, and changed nothing else
+-- the act takes memory, left the tablets as they were, and changed nothing else; and it is whole
 record Forgets (old : Held) (now : ℤ) (user : List ℕ) (a : Act) (plain r : Told) : Type 0 where
   takes : takes_memory a ≡ true
   laid : (q : List ℕ) → laid_told r old now None a plain q ≡ tablets_in old q
   still : changes_told now user a r ≡ []
+  whole : left_of a r ≡ a
 
 never : {G : Type 0} (r s : Told) → r ≡ s → is_long s ≡ false → is_long r ≡ true → G
 never r s is short long = absurd (cc (sym long ∙ ap is_long is ∙ short))
 
 forgets_refused : (old : Held) (now : ℤ) (user : List ℕ) (a : Act) (x : Refusal) → is_long_refusal x ≡ true → takes_memory a ≡ true → Forgets old now user a (Refused x) (Refused x)
-forgets_refused old now user a (BadAuthorizations term) long takes = record { takes = takes; laid = λ q. refl; still = refl }
-forgets_refused old now user a (ConstraintViolation found) long takes = record { takes = takes; laid = λ q. refl; still = refl }
+forgets_refused old now user a (BadAuthorizations term) long takes = record { takes = takes; laid = λ q. refl; still = refl; whole = refl }
+forgets_refused old now user a (ConstraintViolation found) long takes = record { takes = takes; laid = λ q. refl; still = refl; whole = refl }
 forgets_refused old now user a _ long takes = absurd (cc)
 
 -- one list, whatever the choice
@@ -121,10 +123,10 @@ short_job (Some m) = refl
 
 forgets_done : (old : Held) (now : ℤ) (user : List ℕ) (a : Act) (c : Caller) (r : Told) → r ≡ told_exactly old now None a (granted c a) → is_long r ≡ true → Forgets old now user a (granted c a) r
 unfolding lays
-forgets_done old now user (act.Rights t) c r is long = subst (λ (x : Told). Forgets old now user (act.Rights t) (granted c (act.Rights t)) x) (sym is) (record { takes = refl; laid = λ q. refl; still = refl })
+forgets_done old now user (act.Rights t) c r is long = subst (λ (x : Told). Forgets old now user (act.Rights t) (granted c (act.Rights t)) x) (sym is) (record { takes = refl; laid = λ q. refl; still = refl; whole = refl })
 forgets_done old now user (act.AddSplit t row) c r is long = never r _ is (short_split _) long
 forgets_done old now user (act.SplitBySize t row limit) c r is long = never r _ is (short_split _) long
-forgets_done old now user (act.Splits t) c r is long = subst (λ (x : Told). Forgets old now user (act.Splits t) (granted c (act.Splits t)) x) (sym is) (record { takes = refl; laid = λ q. either (bytes_eq t q) (tablets_in old q); still = refl })
+forgets_done old now user (act.Splits t) c r is long = subst (λ (x : Told). Forgets old now user (act.Splits t) (granted c (act.Splits t)) x) (sym is) (record { takes = refl; laid = λ q. either (bytes_eq t q) (tablets_in old q); still = refl; whole = refl })
 forgets_done old now user (act.Begin t row kind) c r is long = never r _ is (short_job _) long
 forgets_done old now user act c r is long = never r _ is refl long
 
@@ -145,31 +147,40 @@ long_jobs : (r : Told) (n : ℕ) → is_long r ≡ true → job_told r n ≡ n
 long_jobs (Begun u) n long = absurd (cc)
 long_jobs _ n long = refl
 
--- an act that is told so may as well have lacked memory
-pub forgotten : (old new : Held) (now : ℤ) (user : List ℕ) (a : Act) (reply : Reply SessionState TabletMerge) → is_long (told_of reply) ≡ true → Acts (event_answer (base_of old) [] now user a) old now None user a reply new
-    → Acts (event_answer (base_of old) [] now user a) old now None user a (Refused NoMemory) new
-forgotten old new now user a reply long acts = go acts.exact.answers
+-- what an act that is told so has done
+forgets_told : (old new : Held) (now : ℤ) (user : List ℕ) (a : Act) (reply : Reply OpenSession TabletMerge) → is_long (told_of reply) ≡ true → Acts (event_answer (base_of old) [] now user a) old now None user a reply new
+    → Forgets old now user a (event_answer (base_of old) [] now user a) (told_of reply)
+forgets_told old new now user a reply long acts = go acts.exact.answers
   where
-    go : (told_of reply ≡ told_exactly old now None a (event_answer (base_of old) [] now user a)) ⊎ ((takes_memory a ≡ true) × (told_of reply ≡ Refused NoMemory)) → Acts (event_answer (base_of old) [] now user a) old now None user a (Refused NoMemory) new
+    go : (told_of reply ≡ told_exactly old now None a (event_answer (base_of old) [] now user a)) ⊎ ((takes_memory a ≡ true) × (told_of reply ≡ Refused NoMemory)) → Forgets old now user a (event_answer (base_of old) [] now user a) (told_of reply)
     go (inr lacks) = never (told_of reply) (Refused NoMemory) lacks.1 refl long
     go (inl is) =
         let c : Caller = standing (base_of old) [] user in
         let there : Bool = exists_in (base_of old) [] (user_named a) in
-        let f : Forgets old now user a (event_answer (base_of old) [] now user a) (told_of reply) =
-        forgets old now user a c (are_used_up (base_of old) [] a) (told_of reply) (refusal_of c there now user a) (refusal_takes c there now user a) is long in
-        record {
-          exact = record {
-            answers = inr (f.takes, refl);
-            hands = refl;
-            tablets = λ q. acts.exact.tablets q ∙ f.laid q;
-            names = acts.exact.names;
-            tablet = acts.exact.tablet ∙ long_numbers (told_of reply) (work_of None a) old.tablet long;
-            number = acts.exact.number ∙ long_jobs (told_of reply) old.job long;
-          };
-          becomes = subst (λ j. Becomes (base_of old) j (base_of new)) f.still acts.becomes;
-          hands = tt;
-          knows = acts.knows;
-        }
+        forgets old now user a c (are_used_up (base_of old) [] a) (told_of reply) (refusal_of c there now user a) (refusal_takes c there now user a) is long
+
+-- it may as well have lacked memory
+pub forgotten : (old new : Held) (now : ℤ) (user : List ℕ) (a : Act) (reply : Reply OpenSession TabletMerge) → is_long (told_of reply) ≡ true → Acts (event_answer (base_of old) [] now user a) old now None user a reply new
+    → Acts (event_answer (base_of old) [] now user a) old now None user a (Refused NoMemory) new
+forgotten old new now user a reply long acts =
+    let f : Forgets old now user a (event_answer (base_of old) [] now user a) (told_of reply) = forgets_told old new now user a reply long acts in
+    record {
+      exact = record {
+        answers = inr (f.takes, refl);
+        hands = refl;
+        tablets = λ q. acts.exact.tablets q ∙ f.laid q;
+        names = acts.exact.names;
+        tablet = acts.exact.tablet ∙ long_numbers (told_of reply) (work_of None a) old.tablet long;
+        number = acts.exact.number ∙ long_jobs (told_of reply) old.job long;
+      };
+      becomes = subst (λ j. Becomes (base_of old) j (base_of new)) f.still acts.becomes;
+      hands = tt;
+      knows = acts.knows;
+    }
+
+-- and nothing was taken out of it
+pub forgotten_whole : (old new : Held) (now : ℤ) (user : List ℕ) (a : Act) (reply : Reply OpenSession TabletMerge) → is_long (told_of reply) ≡ true → Acts (event_answer (base_of old) [] now user a) old now None user a reply new → left_of a (told_of reply) ≡ a
+forgotten_whole old new now user a reply long acts = (forgets_told old new now user a reply long acts).whole
 
 -- ---- what an Install is told is short
 short_refusal : (c : Caller) (user t : List ℕ) (n : ℕ) (x : Refusal) (o : Option Denial) → or_else (denial user o) (first_some []) ≡ Some x → is_long_refusal x ≡ false
@@ -190,7 +201,7 @@ unfolding lays
 install_told_short old now m user t n c there r None short is = ap is_long is ∙ installed_short _
 install_told_short old now m user t n c there r (Some x) short is = ap is_long is ∙ short x refl
 
-pub short_install : (old new : Held) (m : TabletMerge) (user : List ℕ) (moment : ℤ) (t : List ℕ) (reply : Reply SessionState TabletMerge) → StepsExactly old (Some m) (installs_at user moment t m) (told_of reply) (job_of reply) new → is_long (told_of reply) ≡ false
+pub short_install : (old new : Held) (m : TabletMerge) (user : List ℕ) (moment : ℤ) (t : List ℕ) (reply : Reply OpenSession TabletMerge) → StepsExactly old (Some m) (installs_at user moment t m) (told_of reply) (job_of reply) new → is_long (told_of reply) ≡ false
 unfolding refusal_of
 short_install old new m user moment t reply did = go did.exact.answers
   where

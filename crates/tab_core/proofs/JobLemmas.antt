@@ -24,7 +24,7 @@ use Rattle.tab_history.specs.Chains.{IsChain, NamesNoSlot, HasRoom}
 use Rattle.tab_history.specs.Runs.{IsNoEvent}
 use Rattle.tab_history.proofs.GoesOnLemmas.{slots_are_aside}
 use Rattle.tab_history.proofs.Playing.{unmoved}
-use Rattle.tab_cells.specs.SessionState.{SessionState}
+use Rattle.tab_session.specs.OpenSession.{OpenSession}
 use Rattle.tab_store.specs.Parts.{TabletMerge}
 use Rattle.tab_store.specs.Stores.{Held, base_of}
 use Rattle.tab_store.specs.Stepping.{StepsExactly, LaysExactly, now_at, plain_answer, entry_of, work_of, job_by, handed}
@@ -228,7 +228,7 @@ pub no_job : (old new : Held) (given : Option TabletMerge) (event : Event) (r : 
 no_job old new given event r o e exact = exact.exact.hands ∙ ap (handed r) (begins_none old (now_at old event) given event.act e) ∙ handed_none r
 
 -- ---- what jobs an event leaves
-kept_jobs : (act : Act) (r : Reply SessionState TabletMerge) (moves : List JobMove) (ss : List JobSlot) → NamesNoSlot act → (is_begin act ≡ false → job_of r ≡ None) → JobsAre moves ss → JobsAre (event_job_moves act (told_of r) ++ moves) (kept_job ss (job_of r))
+kept_jobs : (act : Act) (r : Reply OpenSession TabletMerge) (moves : List JobMove) (ss : List JobSlot) → NamesNoSlot act → (is_begin act ≡ false → job_of r ≡ None) → JobsAre moves ss → JobsAre (event_job_moves act (told_of r) ++ moves) (kept_job ss (job_of r))
 kept_jobs (Begin t row kind) (Begun m) moves ss alone none h = jobs_begun moves ss m h
 kept_jobs (Begin t row kind) Done moves ss alone none h = h
 kept_jobs (Begin t row kind) (Refused x) moves ss alone none h = h
@@ -304,7 +304,7 @@ finished Free m e = absurd (cc)
 finished (Waiting x) m e = absurd (cc)
 finished (Merged x) m e = let same : x ≡ m = cc in ap Merged same
 
-used_longer : (old new : Held) (ss : List JobSlot) (user : List ℕ) (moment : ℤ) (t : List ℕ) (slot : ℕ) (m : TabletMerge) (r : Reply SessionState TabletMerge) → slot_in ss slot ≡ Merged m → Steps (base_of old) (installs_at user moment t m) r (base_of new)
+used_longer : (old new : Held) (ss : List JobSlot) (user : List ℕ) (moment : ℤ) (t : List ℕ) (slot : ℕ) (m : TabletMerge) (r : Reply OpenSession TabletMerge) → slot_in ss slot ≡ Merged m → Steps (base_of old) (installs_at user moment t m) r (base_of new)
     → (w : World) (h : List Entry) → Refines (world_of (base_of old)) (world_after w h) → JobsAre (jobs_of h) ss → Lengthened w h (IsEvent (by_slot user moment t slot)) (told_of r) (base_of new) (slice_set ss slot Free)
 unfolding jobs_of
 used_longer old new ss user moment t slot m r is steps w h refines are =
@@ -322,7 +322,7 @@ used_longer old new ss user moment t slot m r is steps w h refines are =
     go f (inr lacks) = inr lacks
 
 -- ---- any other event
-kept_longer : (old new : Held) (ss : List JobSlot) (event : Event) (r : Reply SessionState TabletMerge) → is_open event.act ≡ false → NamesNoSlot event.act → Steps (base_of old) event r (base_of new) → StepsExactly old None event (told_of r) (job_of r) new
+kept_longer : (old new : Held) (ss : List JobSlot) (event : Event) (r : Reply OpenSession TabletMerge) → is_open event.act ≡ false → NamesNoSlot event.act → Steps (base_of old) event r (base_of new) → StepsExactly old None event (told_of r) (job_of r) new
     → (w : World) (h : List Entry) → Refines (world_of (base_of old)) (world_after w h) → JobsAre (jobs_of h) ss → Lengthened w h (IsEvent event) (told_of r) (base_of new) (kept_job ss (job_of r))
 unfolding jobs_of
 kept_longer old new ss event r shut alone steps exact w h refines are = record {
@@ -371,12 +371,12 @@ module _ (old new : Held) (ss ss' : List JobSlot) (event : Event) (reply : Told)
   steps_exact (inr (inr (inr x))) = exact_as old ss (IsEvent event) _ reply new new _ ss' x.told refl x.kept (goes_alone old new ss event (told_of x.answer) (job_of x.answer) x.alone x.exact)
 
 -- an event that names no slot was an exact step
-pub alone_exactly : (old new : Held) (given : Option TabletMerge) (event : Event) (r : Reply SessionState TabletMerge) → NamesNoSlot event.act → StepsWith old given event r new → StepsExactly old given event (told_of r) (job_of r) new
+pub alone_exactly : (old new : Held) (given : Option TabletMerge) (event : Event) (r : Reply OpenSession TabletMerge) → NamesNoSlot event.act → StepsWith old given event r new → StepsExactly old given event (told_of r) (job_of r) new
 alone_exactly old new given event r alone (inl x) = x.1
 alone_exactly old new given event r alone (inr x) = absurd (subst NamesNoSlot x.1.1 alone)
 
 -- the core answered an event that begins no job
-pub keeps_none : (old new : Held) (ss : List JobSlot) (event : Event) (r : Reply SessionState TabletMerge) (reply : Told) → is_begin event.act ≡ false → NamesNoSlot event.act → Steps (base_of old) event r (base_of new) → StepsWith old None event r new → reply ≡ told_of r → StepsIn old ss event reply new ss
+pub keeps_none : (old new : Held) (ss : List JobSlot) (event : Event) (r : Reply OpenSession TabletMerge) (reply : Told) → is_begin event.act ≡ false → NamesNoSlot event.act → Steps (base_of old) event r (base_of new) → StepsWith old None event r new → reply ≡ told_of r → StepsIn old ss event reply new ss
 keeps_none old new ss event r reply none alone steps exact told =
     let did : StepsExactly old None event (told_of r) (job_of r) new = alone_exactly old new None event r alone exact in
     inr (inr (inr (record { alone = alone; answer = r; steps = steps; exact = did; told = told; kept = sym (ap (kept_job ss) (no_job old new None event (told_of r) (job_of r) none did)) })))

@@ -14,6 +14,7 @@ pub mod PolicyActs
 pub mod Runs
 pub mod SlotLemmas
 pub mod Splitting
+pub mod ByTablet
 pub mod Steps
 pub mod Recorded
 pub mod Forgetting

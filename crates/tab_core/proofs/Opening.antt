@@ -11,7 +11,7 @@ use Rattle.tab_policy.specs.declared.sets.TablePermissions.{TablePermissions}
 use Rattle.tab_policy.specs.Sets.{system_contains, table_contains}
 use Rattle.tab_policy.specs.State.{auths_of, has_system, table_granted}
 use Rattle.tab_cells.specs.Cells.{Query, cells}
-use Rattle.tab_cells.specs.SessionState.{SessionState}
+use Rattle.tab_session.specs.OpenSession.{OpenSession, opened}
 use Rattle.tab_store.specs.Tablets.{frozen}
 use Rattle.tab_history.specs.declared.event.Act.TheVariants as act
 use Rattle.tab_history.specs.declared.event.Scan.{Scan}
@@ -73,8 +73,8 @@ open_refused h now user scan auths r core held fails = refused (own_answer (base
     go (inr e) = let is : r ≡ NoMemory = cc in inr (refl, is)
 
 -- the session of a scan of these tables
-abbrev pub session_in : List HeldTable → Scan → SessionState
-session_in ts scan = record { all = listed (sorted (records_of_all (tablets_of (table_at ts scan.table)))) (query_of scan) (settings_at (table_at ts scan.table)); given = 0 }
+abbrev pub session_in : List HeldTable → Scan → OpenSession
+session_in ts scan = opened (listed (sorted (records_of_all (tablets_of (table_at ts scan.table)))) (query_of scan) (settings_at (table_at ts scan.table)))
 
 -- what a scan leaves of these tables
 pub record Froze (t : List ℕ) (ts new : List HeldTable) : Type 0 where
@@ -82,7 +82,7 @@ pub record Froze (t : List ℕ) (ts new : List HeldTable) : Type 0 where
   pub count : length new ≡ length ts
   pub changed : (q : List ℕ) → table_at new q ≡ changed_table t (with_tablets (map frozen)) ts q
 
-open_done : (h : Held) (ts : List HeldTable) (now : ℤ) (user : List ℕ) (scan : Scan) (auths : List (List ℕ)) (session : SessionState) → IsCore h → auths_of h.policy user ≡ auths
+open_done : (h : Held) (ts : List HeldTable) (now : ℤ) (user : List ℕ) (scan : Scan) (auths : List (List ℕ)) (session : OpenSession) → IsCore h → auths_of h.policy user ≡ auths
     → (None ≡ first_some (scan_checks auths scan)) ⊎ (None ≡ Some NoMemory) → session ≡ session_in h.tables scan → Froze scan.table h.tables ts
     → Acts (own_answer (base_of h) now user (act.Open scan)) h now None user (act.Open scan) (Opened session) (record h { tables = ts })
 unfolding lays session_list
@@ -100,7 +100,7 @@ open_done h ts now user scan auths session core held passes is after =
         number = refl;
       };
       becomes = becomes_alike h ts after.count settings;
-      hands = is ∙ sym (λ i. record { all = listed (records_read h scan.table i) (query_of scan) (settings_read h scan.table i); given = 0 });
+      hands = is ∙ sym (λ i. opened (listed (records_read h scan.table i) (query_of scan) (settings_read h scan.table i)));
       knows = knows_alike h ts core settings;
     }
   where
@@ -115,7 +115,7 @@ leaves_tables auths now scan ts next r fails h user core tables numbered held =
     subst (λ (x : Held). Acts (own_answer (base_of h) now user (act.Open scan)) h now None user (act.Open scan) (Refused r) x) (λ i. record h { next = numbered i; tables = tables i }) (open_refused h now user scan auths r core held fails)
 
 -- whether there was memory for it or not
-pub open_either : {E : Type 0} (auths : List (List ℕ)) (now : ℤ) (scan : Scan) (ts new : List HeldTable) (next : ℕ) (made : Result SessionState E) (reply : Reply SessionState TabletMerge) → (None ≡ first_some (scan_checks auths scan)) ⊎ (None ≡ Some NoMemory)
+pub open_either : {E : Type 0} (auths : List (List ℕ)) (now : ℤ) (scan : Scan) (ts new : List HeldTable) (next : ℕ) (made : Result OpenSession E) (reply : Reply OpenSession TabletMerge) → (None ≡ first_some (scan_checks auths scan)) ⊎ (None ≡ Some NoMemory)
     → IfOk made (λ session. session ≡ session_in ts scan) → OnOk made (Froze scan.table ts new) → OnErr made (new ≡ ts) → IfOk made (λ session. reply ≡ Opened session) → OnErr made (reply ≡ Refused NoMemory)
     → ActsOnTables auths now (act.Open scan) ts next reply new next
 open_either auths now scan ts new next (Ok session) reply passes is after same opened failed h user core tables numbered held =

@@ -1,6 +1,6 @@
 -- From a step to what it means for a recorded history.
 use Rattle.std.proofs.Common.{List, [], Option}
-use Rattle.tab_cells.specs.SessionState.{SessionState}
+use Rattle.tab_session.specs.OpenSession.{OpenSession}
 use Rattle.tab_history.specs.Bases.{Base}
 use Rattle.tab_history.specs.Answers.{session_of, session_list}
 use Rattle.tab_history.specs.Histories.{Entry, world_of, journal}
@@ -24,13 +24,13 @@ pub begun : (h : Held) → IsCore h → RefinesHistory h (base_of h) []
 unfolding RefinesHistory
 begun h core = itself h core
 
-shown : (base : Base) (h : List Entry) (act : Act) (reply : Reply SessionState TabletMerge) → HandsOut reply (session_list base (journal (world_of base) h) act) → ShowsAnswer base h act (session_of reply)
+shown : (base : Base) (h : List Entry) (act : Act) (reply : Reply OpenSession TabletMerge) → HandsOut reply (session_list base (journal (world_of base) h) act) → ShowsAnswer base h act (session_of reply)
 unfolding ShowsAnswer
 shown base h act (Opened session) hands = hands
 shown base h act reply hands = tt
 
 -- both sides of a step, in those words
-pub steps_on : (old new : Held) (given : Option TabletMerge) (e : Event) (reply : Reply SessionState TabletMerge) → Steps (base_of old) e reply (base_of new) → StepsWith old given e reply new → StepsOn old given e reply new
+pub steps_on : (old new : Held) (given : Option TabletMerge) (e : Event) (reply : Reply OpenSession TabletMerge) → Steps (base_of old) e reply (base_of new) → StepsWith old given e reply new → StepsOn old given e reply new
 unfolding RefinesHistory IsLegalFrom
 steps_on old new given e reply steps exact = record {
   legal = λ base h refines legal. steps.legal (world_of base) h refines legal;

@@ -18,6 +18,7 @@ use Rattle.tab_history.specs.declared.reply.Reply.TheVariants.{Done, Refused, Op
 use Rattle.tab_history.specs.Bases.{Base}
 use Rattle.tab_history.specs.Answers.{Told, told_of, session_of, job_of, answer, event_answer, IsEventReply, empty_slot, slotted, next_answer, many_answer, close_answer, is_open, moves_by, session_list}
 use Rattle.tab_cells.specs.SessionState.{SessionState}
+use Rattle.tab_session.specs.OpenSession.{OpenSession}
 use Rattle.tab_history.specs.Sessions.{Move, Opening, Taking, Closing, is_full}
 use Rattle.tab_history.specs.Histories.{Entry, World, world_of, world_after, clock_of, clock_at, journal, user_of, moves_of, jobs_of}
 use Rattle.tab_history.specs.Legal.{IsAnswer, LacksMemory, takes_memory}
@@ -176,7 +177,7 @@ pub runs_nowhere : (core : Held) (os os' : Keeping) (jobs : List JobSlot) (event
 runs_nowhere core os os' jobs event opens same = record { histories = nowhere_longer (base_of core) os os' jobs event opens same; exact = stays_exact core jobs (IsEvent event) (Refused NoMemory) tt }
 
 -- an Open was an exact step
-pub open_exactly : (old new : Held) (given : Option TabletMerge) (event : Event) (r : Reply SessionState TabletMerge) → is_open event.act ≡ true → StepsWith old given event r new → StepsExactly old given event (told_of r) (job_of r) new
+pub open_exactly : (old new : Held) (given : Option TabletMerge) (event : Event) (r : Reply OpenSession TabletMerge) → is_open event.act ≡ true → StepsWith old given event r new → StepsExactly old given event (told_of r) (job_of r) new
 open_exactly old new given event r opens (inl x) = x.1
 open_exactly old new given event r opens (inr x) = absurd (cc (sym opens ∙ ap is_open x.1.1))
 
@@ -198,12 +199,12 @@ pub runs_event : (old new : Held) (os : Keeping) (jobs jobs' : List JobSlot) (ev
 runs_event old new os jobs jobs' event reply none_opens steps = record { histories = event_longer old new os jobs jobs' event reply none_opens steps; exact = steps_exact old new jobs jobs' event reply steps }
 
 -- a session that is handed out is kept
-kept_slots : (w : World) (j : List Move) (h : List Entry) (event : Event) (r : Reply SessionState TabletMerge) (ss : List (Option SessionState)) → is_open event.act ≡ true → HandsOut r (session_list w.base (journal w h) event.act) → SlotsAre j ss
+kept_slots : (w : World) (j : List Move) (h : List Entry) (event : Event) (r : Reply OpenSession TabletMerge) (ss : List (Option SessionState)) → is_open event.act ≡ true → HandsOut r (session_list w.base (journal w h) event.act) → SlotsAre j ss
     → SlotsAre (moves_by w.base (journal w h) (IsEvent event) (told_of r) ++ j) (kept_with ss (session_of r))
 kept_slots w j h event (Opened s) ss opens hands are =
     let list : List Cell = session_list w.base (journal w h) event.act in
-    let there : SlotsAre (Opening list ∷ j) (ss ++ Some s ∷ []) = subst (λ (x : SessionState). SlotsAre (Opening list ∷ j) (ss ++ Some x ∷ [])) (sym hands) (slots_opened j ss list are) in
-    subst (λ (b : Bool). SlotsAre (cond b (Opening list ∷ []) [] ++ j) (ss ++ Some s ∷ [])) (sym opens) there
+    let there : SlotsAre (Opening list ∷ j) (ss ++ Some s.state ∷ []) = subst (λ (x : OpenSession). SlotsAre (Opening list ∷ j) (ss ++ Some x.state ∷ [])) (sym hands) (slots_opened j ss list are) in
+    subst (λ (b : Bool). SlotsAre (cond b (Opening list ∷ []) [] ++ j) (ss ++ Some s.state ∷ [])) (sym opens) there
 kept_slots w j h event reply ss opens hands are = are
 
 full_answer : (w : World) (h : List Entry) (event : Event) → is_open event.act ≡ true → is_full (moves_of w event.user h) ≡ true → IsAnswer w h h (IsEvent event) (Refused (TooLarge Sessions))
@@ -221,7 +222,7 @@ open_stays core os os' jobs event x opens none_opens same answers w h refines st
   (legal, answers w h stand),
 )
 
-open_answered : (old new : Base) (os os' : Keeping) (jobs : List JobSlot) (event : Event) (r : Reply SessionState TabletMerge) → is_open event.act ≡ true → are_full (slots_of os event.user) ≡ false → Steps old event r new → slots_of os' event.user ≡ kept_with (slots_of os event.user) (session_of r)
+open_answered : (old new : Base) (os os' : Keeping) (jobs : List JobSlot) (event : Event) (r : Reply OpenSession TabletMerge) → is_open event.act ≡ true → are_full (slots_of os event.user) ≡ false → Steps old event r new → slots_of os' event.user ≡ kept_with (slots_of os event.user) (session_of r)
     → LeavesOthers event.user os os' → Lengthens old os jobs (IsEvent event) (told_of r) new os' jobs
 open_answered old new os os' jobs event r opens room steps slots others w h refines stand are legal =
     let ss : List (Option SessionState) = slots_of os event.user in

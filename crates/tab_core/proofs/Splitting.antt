@@ -4,7 +4,7 @@ use Rattle.std.specs.Prelude.{ℤ, IfOk, OnOk, OnErr}
 use Rattle.tab_key.specs.Records.{Cell}
 use Rattle.tab_key.specs.declared.part.Part.TheVariants.{Row}
 use Rattle.tab_mutation.specs.Shape.{first_some, when, is_too_long}
-use Rattle.tab_cells.specs.SessionState.{SessionState}
+use Rattle.tab_session.specs.OpenSession.{OpenSession}
 use Rattle.tab_store.specs.Tablets.{Tablet, next_number}
 use Rattle.tab_store.specs.ByRow.{ends_of}
 use Rattle.tab_store.specs.Splits.{splits, halves}
@@ -30,7 +30,7 @@ use Rattle.tab_core.proofs.Acting.{becomes_alike, knows_alike, own_refused, lack
 
 -- ---- what is told of a split
 -- it hands out no session
-none_handed : (r : Reply SessionState TabletMerge) (s : Split) (all : List Cell) → told_of r ≡ told_split Done s → HandsOut r all
+none_handed : (r : Reply OpenSession TabletMerge) (s : Split) (all : List Cell) → told_of r ≡ told_split Done s → HandsOut r all
 none_handed (Opened u) split.Done all e = absurd (cc)
 none_handed (Opened u) split.Present all e = absurd (cc)
 none_handed (Opened u) split.Small all e = absurd (cc)
@@ -39,7 +39,7 @@ none_handed (Opened u) split.Full all e = absurd (cc)
 none_handed reply s all e = tt
 
 -- and no job
-none_begun : (r : Reply SessionState TabletMerge) (s : Split) → told_of r ≡ told_split Done s → job_of r ≡ None
+none_begun : (r : Reply OpenSession TabletMerge) (s : Split) → told_of r ≡ told_split Done s → job_of r ≡ None
 none_begun (Begun m) split.Done e = absurd (cc)
 none_begun (Begun m) split.Present e = absurd (cc)
 none_begun (Begun m) split.Small e = absurd (cc)
@@ -109,14 +109,14 @@ unfolding lays
 splits_by_size h t row limit = record { takes = refl; works = refl; changes = λ now user. refl; tells = λ now. refl; lies = λ new now. table_halved h new t now Done row limit; numbers = refl }
 
 -- the number of the next tablet behind what is told of a split
-abbrev pub NumbersSplit : Reply SessionState TabletMerge → ℕ → ℕ → Type 0
+abbrev pub NumbersSplit : Reply OpenSession TabletMerge → ℕ → ℕ → Type 0
 NumbersSplit reply n n' = (t row : List ℕ) → n' ≡ tablet_told (told_of reply) (On t (Splitting row)) n
 
 module _ (h : Held) (now : ℤ) (user t : List ℕ) (a : Act) (work : TabletWork) (f : List Tablet → Split × List Tablet) (core : IsCore h) (is : Splits h a t work f) (passes : Done ≡ own_answer (base_of h) now user a) where
-  numbers_done : (reply : Reply SessionState TabletMerge) (n : ℕ) → NumbersSplit reply h.tablet n → n ≡ tablet_told (told_of reply) (work_of None a) h.tablet
+  numbers_done : (reply : Reply OpenSession TabletMerge) (n : ℕ) → NumbersSplit reply h.tablet n → n ≡ tablet_told (told_of reply) (work_of None a) h.tablet
   numbers_done reply n numbered = numbered t [] ∙ numbered_alike (told_of reply) (On t (Splitting [])) (On t work) h.tablet (sym is.numbers) ∙ ap (λ w. tablet_told (told_of reply) w h.tablet) (sym is.works)
 
-  split_done : (ts : List HeldTable) (n : ℕ) (s : Split) (reply : Reply SessionState TabletMerge) → SplitSo t f h.tables ts s → told_of reply ≡ told_split Done s → NumbersSplit reply h.tablet n
+  split_done : (ts : List HeldTable) (n : ℕ) (s : Split) (reply : Reply OpenSession TabletMerge) → SplitSo t f h.tables ts s → told_of reply ≡ told_split Done s → NumbersSplit reply h.tablet n
       → Acts (own_answer (base_of h) now user a) h now None user a reply (record h { tables = ts; tablet = n })
   split_done ts n s reply after told numbered =
       let new : Held = record h { tables = ts; tablet = n } in
@@ -137,7 +137,7 @@ module _ (h : Held) (now : ℤ) (user t : List ℕ) (a : Act) (work : TabletWork
       }
 
   -- whether there was memory for it or not
-  pub splits_or_lacks : {E : Type 0} (ts : List HeldTable) (n : ℕ) (made : Result Split E) (reply : Reply SessionState TabletMerge) → IfOk made (SplitSo t f h.tables ts) → OnErr made (ts ≡ h.tables) → IfOk made (λ s. told_of reply ≡ told_split Done s)
+  pub splits_or_lacks : {E : Type 0} (ts : List HeldTable) (n : ℕ) (made : Result Split E) (reply : Reply OpenSession TabletMerge) → IfOk made (SplitSo t f h.tables ts) → OnErr made (ts ≡ h.tables) → IfOk made (λ s. told_of reply ≡ told_split Done s)
       → OnErr made (reply ≡ Refused NoMemory) → NumbersSplit reply h.tablet n → Acts (own_answer (base_of h) now user a) h now None user a reply (record h { tables = ts; tablet = n })
   splits_or_lacks ts n (Ok s) reply after same told err numbered = split_done ts n s reply after told numbered
   splits_or_lacks ts n (Err e) reply after same told err numbered =
@@ -165,7 +165,7 @@ pub halve_passes : (h : Held) (now : ℤ) (user t row : List ℕ) (limit : ℕ) 
 halve_passes h now user t row limit short = ap (λ b. told (first_some (when b (TooLarge Row) ∷ [])) Done) (sym short)
 
 -- ---- end rows
-pub ends_told : (h : Held) (now : ℤ) (user t : List ℕ) (reply : Reply SessionState TabletMerge) → IsCore h → reply ≡ Rows (ends_of (tablets_of (table_at h.tables t))) → Acts (own_answer (base_of h) now user (act.Splits t)) h now None user (act.Splits t) reply h
+pub ends_told : (h : Held) (now : ℤ) (user t : List ℕ) (reply : Reply OpenSession TabletMerge) → IsCore h → reply ≡ Rows (ends_of (tablets_of (table_at h.tables t))) → Acts (own_answer (base_of h) now user (act.Splits t)) h now None user (act.Splits t) reply h
 unfolding lays
 ends_told h now user t reply core is = subst (λ r. Acts (own_answer (base_of h) now user (act.Splits t)) h now None user (act.Splits t) r h) (sym is) (record {
   exact = record {

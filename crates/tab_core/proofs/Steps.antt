@@ -5,7 +5,7 @@ use Rattle.std.specs.Int.{int_max}
 use Rattle.std.proofs.lemmas.List.{append-nil}
 use Rattle.tab_key.specs.declared.part.Part.TheVariants as part
 use Rattle.tab_policy.specs.State.{table_exists}
-use Rattle.tab_cells.specs.SessionState.{SessionState}
+use Rattle.tab_session.specs.OpenSession.{OpenSession}
 use Rattle.tab_history.specs.declared.event.Act.{Act}
 use Rattle.tab_history.specs.declared.event.Act.TheVariants.{Install}
 use Rattle.tab_history.specs.declared.event.Event.{Event}
@@ -82,7 +82,7 @@ no_entry v w h e r is s = no_trace v w h e (subst (λ x. Refines v (world_after 
 abbrev pub set : Event → Told → Held → Held → Held
 set e r old new = record new { clock = cond (moves_clock r) (int_max old.clock e.moment) old.clock }
 
-module _ (old new : Held) (given : Option TabletMerge) (e : Event) (reply : Reply SessionState TabletMerge) (core : IsCore old) (acts : Acts (plain_answer old e) old (now_at old e) given e.user e.act reply new) (bare : WritesBare e.act) (named : NamesNoSlot e.act) where
+module _ (old new : Held) (given : Option TabletMerge) (e : Event) (reply : Reply OpenSession TabletMerge) (core : IsCore old) (acts : Acts (plain_answer old e) old (now_at old e) given e.user e.act reply new) (bare : WritesBare e.act) (named : NamesNoSlot e.act) where
   abbrev after : Held
   after = set e (told_of reply) old new
 
@@ -138,17 +138,17 @@ module _ (old new : Held) (given : Option TabletMerge) (e : Event) (reply : Repl
 
 -- ---- the clock is set, or stays
 -- what the step owes: a core still, and both sides of the step
-pub record StepsWell (old : Held) (given : Option TabletMerge) (e : Event) (reply : Reply SessionState TabletMerge) (new : Held) : Type 0 where
+pub record StepsWell (old : Held) (given : Option TabletMerge) (e : Event) (reply : Reply OpenSession TabletMerge) (new : Held) : Type 0 where
   pub core : IsCore new
   pub steps : Steps (base_of old) e reply (base_of new)
   pub exact : StepsExactly old given e (told_of reply) (job_of reply) new
 
 -- the act, at a clock that is told so
-abbrev pub ActsAt : Held → Option TabletMerge → Event → ℤ → Reply SessionState TabletMerge → Held → Type 0
+abbrev pub ActsAt : Held → Option TabletMerge → Event → ℤ → Reply OpenSession TabletMerge → Held → Type 0
 ActsAt old given e now reply new = Acts (event_answer (base_of old) [] now e.user e.act) old now given e.user e.act reply new
 
 -- where the clock is this behind the act
-pub well : (old new : Held) (given : Option TabletMerge) (e : Event) (reply : Reply SessionState TabletMerge) (now t clock : ℤ) → IsCore old → WritesBare e.act → NamesNoSlot e.act → now ≡ int_max old.clock e.moment → t ≡ now → ActsAt old given e t reply new → clock ≡ cond (moves_clock (told_of reply)) t new.clock
+pub well : (old new : Held) (given : Option TabletMerge) (e : Event) (reply : Reply OpenSession TabletMerge) (now t clock : ℤ) → IsCore old → WritesBare e.act → NamesNoSlot e.act → now ≡ int_max old.clock e.moment → t ≡ now → ActsAt old given e t reply new → clock ≡ cond (moves_clock (told_of reply)) t new.clock
     → StepsWell old given e reply (record new { clock = clock })
 well old new given e reply now t clock core bare named is trip acts set_to =
     let h : Acts (plain_answer old e) old (now_at old e) given e.user e.act reply new = subst (λ c. ActsAt old given e c reply new) (trip ∙ is) acts in
@@ -156,7 +156,7 @@ well old new given e reply now t clock core bare named is trip acts set_to =
     subst (λ (c : ℤ). StepsWell old given e reply (record new { clock = c })) (sym (set_to ∙ (λ i. cond (moves_clock (told_of reply)) ((trip ∙ is) i) (acts.becomes.clock i)))) done
 
 -- an event that names no slot was an exact step
-pub steps_alone : (old new : Held) (given : Option TabletMerge) (e : Event) (reply : Reply SessionState TabletMerge) → NamesNoSlot e.act → StepsWell old given e reply new → StepsWith old given e reply new
+pub steps_alone : (old new : Held) (given : Option TabletMerge) (e : Event) (reply : Reply OpenSession TabletMerge) → NamesNoSlot e.act → StepsWell old given e reply new → StepsWith old given e reply new
 steps_alone old new given e reply named well = inl (named, well.exact)
 
 -- ---- an Install by a slot, of which a core knows none
@@ -191,7 +191,7 @@ slot_steps old user moment t slot core = record {
     still w h s = subst (λ (v : World). Refines (world_of (base_of old)) v) (sym (unmoved w h (entry_of (by_slot user moment t slot) (no_job slot)) tt)) s
 
 -- both sides of that
-pub record StepsAside (old : Held) (given : Option TabletMerge) (e : Event) (reply : Reply SessionState TabletMerge) : Type 0 where
+pub record StepsAside (old : Held) (given : Option TabletMerge) (e : Event) (reply : Reply OpenSession TabletMerge) : Type 0 where
   pub steps : Steps (base_of old) e reply (base_of old)
   pub exact : StepsWith old given e reply old
 

@@ -12,7 +12,7 @@ use Rattle.tab_history.specs.Jobs.{JobMove, begun, job_in, is_waiting}
 use Rattle.tab_history.specs.Answers.{Told, told_of, job_of, merge_answer}
 use Rattle.tab_history.specs.Histories.{Entry}
 use Rattle.tab_history.specs.Chains.{IsChain, NamesNoSlot}
-use Rattle.tab_cells.specs.SessionState.{SessionState}
+use Rattle.tab_session.specs.OpenSession.{OpenSession}
 use Rattle.tab_store.specs.Parts.{TabletMerge}
 use Rattle.tab_store.specs.Stores.{Held, base_of}
 use Rattle.tab_store.specs.Stepping.{StepsExactly}
@@ -120,7 +120,7 @@ pub record UsesUp (old : Held) (slots : List JobSlot) (event : Event) (reply : T
   pub merge : TabletMerge
   pub names : event.act ≡ Install table (InSlot slot)
   pub holds : finished_in (slot_in slots slot) ≡ Some merge
-  pub answer : Reply SessionState TabletMerge
+  pub answer : Reply OpenSession TabletMerge
   pub steps : Steps (base_of old) (installs_at event.user event.moment table merge) answer (base_of new)
   pub exact : StepsExactly old (Some merge) (installs_at event.user event.moment table merge) (told_of answer) (job_of answer) new
   pub told : reply ≡ told_of answer
@@ -129,7 +129,7 @@ pub record UsesUp (old : Held) (slots : List JobSlot) (event : Event) (reply : T
 -- Any other event: the core answered it, and a job that it handed out is kept in the next slot.
 pub record KeepsJob (old : Held) (slots : List JobSlot) (event : Event) (reply : Told) (new : Held) (slots' : List JobSlot) : Type 0 where
   pub alone : NamesNoSlot event.act
-  pub answer : Reply SessionState TabletMerge
+  pub answer : Reply OpenSession TabletMerge
   pub steps : Steps (base_of old) event answer (base_of new)
   pub exact : StepsExactly old None event (told_of answer) (job_of answer) new
   pub told : reply ≡ told_of answer

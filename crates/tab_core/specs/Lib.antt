@@ -6,6 +6,8 @@ pub mod Bounded
 pub mod Slots
 pub mod JobSlots
 pub mod Stepping
+pub mod ByTablet
+pub mod Spending
 pub mod EventReplies
 pub mod Recording
 pub mod Comparing
@@ -21,3 +23,4 @@ pub use Rattle.tab_store.specs.Due
 pub use Rattle.tab_store.specs.declared.due.Due as DueType
 pub use Rattle.tab_mutation.specs.Shape
 pub use Rattle.tab_cells.specs.SessionState
+pub use Rattle.tab_session.specs.OpenSession

@@ -9,6 +9,7 @@ use Rattle.tab_history.specs.declared.reply.Reply.TheVariants.{Refused}
 use Rattle.tab_history.specs.Bases.{Base}
 use Rattle.tab_history.specs.Answers.{Told, told_of, session_of}
 use Rattle.tab_cells.specs.SessionState.{SessionState}
+use Rattle.tab_session.specs.OpenSession.{OpenSession}
 use Rattle.tab_history.specs.Histories.{Entry, World, world_of, world_after, moves_of, jobs_of}
 use Rattle.tab_history.specs.Legal.{Legal}
 use Rattle.tab_history.specs.Refinement.{Refines}
@@ -44,14 +45,14 @@ pub record RunsOn (old : Held) (os : Keeping) (jobs : List JobSlot) (step : Step
   -- an event is an exact step, with the merge of its slot's job if it names one; and what is none leaves the core as it was
   pub exact : GoesExactly old jobs (record { step = step; reply = reply } ∷ []) new jobs'
 
--- the slots with the session that was handed out, if there is one
-abbrev pub kept_with : List (Option SessionState) → Option SessionState → List (Option SessionState)
+-- the slots with the session that was handed out, if there is one: its list, and how many cells were given
+abbrev pub kept_with : List (Option SessionState) → Option OpenSession → List (Option SessionState)
 kept_with slots None = slots
-kept_with slots (Some session) = slots ++ Some session ∷ []
+kept_with slots (Some session) = slots ++ Some session.state ∷ []
 
 -- the core answered the event, exactly, and a session that it handed out is kept
 abbrev pub AnswersIn : Held → List (Option SessionState) → Event → Told → Held → List (Option SessionState) → Type 0
-AnswersIn old slots event reply new slots' = (r : Reply SessionState TabletMerge) × Steps (base_of old) event r (base_of new) × StepsWith old None event r new × (reply ≡ told_of r) × (slots' ≡ kept_with slots (session_of r))
+AnswersIn old slots event reply new slots' = (r : Reply OpenSession TabletMerge) × Steps (base_of old) event r (base_of new) × StepsWith old None event r new × (reply ≡ told_of r) × (slots' ≡ kept_with slots (session_of r))
 
 -- an Open of a user with these slots: all stays where they are full or memory lacks, and otherwise the core answers
 abbrev pub OpensIn : Held → List (Option SessionState) → Event → Told → Held → List (Option SessionState) → Type 0

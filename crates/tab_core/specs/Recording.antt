@@ -1,7 +1,7 @@
 -- What a step of a core means for a history of events that is recorded beside it. The first three words say it of a base and the events
 -- since, the newest first; whoever keeps a history needs none of what they stand for.
 use Rattle.std.specs.Prelude.{◌≡◌, List, ◌∷◌, Option, Some, None}
-use Rattle.tab_cells.specs.SessionState.{SessionState}
+use Rattle.tab_session.specs.OpenSession.{OpenSession, opened}
 use Rattle.tab_history.specs.Bases.{Base}
 use Rattle.tab_history.specs.Answers.{told_of, session_of, session_list}
 use Rattle.tab_history.specs.Histories.{Entry, world_of, world_after, journal}
@@ -23,13 +23,13 @@ RefinesHistory core base h = Refines (world_of (base_of core)) (world_after (wor
 unfoldable pub IsLegalFrom : Base → List Entry → Type 0
 IsLegalFrom base h = LegalAlone (world_of base) h
 
--- a session that the act was handed after these events shows the list that is defined there, and none of it was given
-unfoldable pub ShowsAnswer : Base → List Entry → Act → Option SessionState → Type 0
+-- a session that the act was handed after these events shows the list that is defined there, and gave no batch
+unfoldable pub ShowsAnswer : Base → List Entry → Act → Option OpenSession → Type 0
 ShowsAnswer base h act None = Unit {0}
-ShowsAnswer base h act (Some session) = session ≡ record { all = session_list base (journal (world_of base) h) act; given = 0 }
+ShowsAnswer base h act (Some session) = session ≡ opened (session_list base (journal (world_of base) h) act)
 
 -- What an event, with the merge that came with it, did to a core, for each history that the core refined.
-pub record StepsOn (old : Held) (given : Option TabletMerge) (event : Event) (reply : Reply SessionState TabletMerge) (new : Held) : Type 0 where
+pub record StepsOn (old : Held) (given : Option TabletMerge) (event : Event) (reply : Reply OpenSession TabletMerge) (new : Held) : Type 0 where
   -- a legal history stays legal with this entry
   pub legal : (base : Base) (h : List Entry) → RefinesHistory old base h → IsLegalFrom base h → IsLegalFrom base (entry_of event (told_of reply) ∷ h)
   -- the core refines the history with this entry

@@ -7,7 +7,7 @@ use Rattle.tab_mutation.specs.Mutations.{Mutation}
 use Rattle.tab_policy.specs.Actions.{table_named}
 use Rattle.tab_policy.specs.State.{table_exists, auths_of, IsCaller}
 use Rattle.tab_policy.specs.declared.decision.Caller.{Caller}
-use Rattle.tab_cells.specs.SessionState.{SessionState}
+use Rattle.tab_session.specs.OpenSession.{OpenSession, opened}
 use Rattle.tab_history.specs.declared.event.Act.{Act}
 use Rattle.tab_history.specs.declared.event.Act.TheVariants.{SetHorizon, Rights as OwnRights, Install}
 use Rattle.tab_history.specs.declared.event.Given.TheVariants.{InSlot, ByHand}
@@ -44,13 +44,13 @@ asked_at user moment act = record { user = user; moment = moment; act = act }
 abbrev pub installs_at : List ℕ → ℤ → List ℕ → TabletMerge → Event
 installs_at user moment t m = asked_at user moment (Install t (ByHand m.merge.number))
 
--- a session that is handed out shows these cells, and none of them was given
-abbrev pub HandsOut : Reply SessionState TabletMerge → List Cell → Type 0
-HandsOut (Opened session) all = session ≡ record { all = all; given = 0 }
+-- a session that is handed out shows these cells, and gave no batch
+abbrev pub HandsOut : Reply OpenSession TabletMerge → List Cell → Type 0
+HandsOut (Opened session) all = session ≡ opened all
 HandsOut reply all = Unit {0}
 
 -- What an event did to a core that was old before, as every history sees it that the core refined.
-pub record Steps (old : Base) (event : Event) (reply : Reply SessionState TabletMerge) (new : Base) : Type 0 where
+pub record Steps (old : Base) (event : Event) (reply : Reply OpenSession TabletMerge) (new : Base) : Type 0 where
   -- seen from the core alone
   pub right : GoesRight old (entry event (told_of reply)) new
   -- a legal history stays legal with this entry
@@ -72,7 +72,7 @@ IsBySlot act slot = (t : List ℕ) × (act ≡ Install t (InSlot slot))
 
 -- What an event, with the merge that came with it, did to a core: it was an exact step; or it named a slot, of which a core knows none, and was
 -- no event.
-abbrev pub StepsWith : Held → Option TabletMerge → Event → Reply SessionState TabletMerge → Held → Type 0
+abbrev pub StepsWith : Held → Option TabletMerge → Event → Reply OpenSession TabletMerge → Held → Type 0
 StepsWith old given event reply new =
     (NamesNoSlot event.act × StepsExactly old given event (told_of reply) (job_of reply) new)
     ⊎ ((slot : ℕ) × IsBySlot event.act slot × (reply ≡ Refused (NoJob slot)) × (new ≡ old))
@@ -107,7 +107,7 @@ pub record IsCore (h : Held) : Type 0 where
 
 -- What an act of this user at this clock does, whose answer is this one by what histories see; with an Install came this merge. The core's
 -- own clock is set afterwards.
-pub record Acts (answer : Told) (old : Held) (now : ℤ) (given : Option TabletMerge) (user : List ℕ) (act : Act) (reply : Reply SessionState TabletMerge) (new : Held) : Type 0 where
+pub record Acts (answer : Told) (old : Held) (now : ℤ) (given : Option TabletMerge) (user : List ℕ) (act : Act) (reply : Reply OpenSession TabletMerge) (new : Held) : Type 0 where
   -- it is told so, hands out its job, and leaves the tablets so
   pub exact : LaysExactly old now given act answer (told_of reply) (job_of reply) new
   -- all but records is then as its changes say
@@ -131,20 +131,20 @@ abbrev pub IsAdmitted : Base → List ℕ → Act → Type 0
 IsAdmitted b user act = (has_user b [] user ≡ true) × IfSome (table_named (action_of act)) (λ t. is_some (settings_of b [] t) ≡ true)
 
 -- what an act that the policy admits does to a store
-abbrev pub Does : Store → ℤ → List ℕ → Act → Reply SessionState TabletMerge → Store → Type 0
+abbrev pub Does : Store → ℤ → List ℕ → Act → Reply OpenSession TabletMerge → Store → Type 0
 Does old now user act reply new = Acts (own_answer (base_of (held old)) now user act) (held old) now None user act reply (held new)
 
 -- the same of an Install into this table, with which this merge came
-abbrev pub Installs : Store → ℤ → List ℕ → List ℕ → TabletMerge → Reply SessionState TabletMerge → Store → Type 0
+abbrev pub Installs : Store → ℤ → List ℕ → List ℕ → TabletMerge → Reply OpenSession TabletMerge → Store → Type 0
 Installs old now user t m reply new = let act : Act = Install t (ByHand m.merge.number) in Acts (own_answer (base_of (held old)) now user act) (held old) now (Some m) user act reply (held new)
 
 -- What an act of a user with these authorizations does to the tables and to the next number of a core, whatever else the core is.
-abbrev pub ActsOnTables : List (List ℕ) → ℤ → Act → List HeldTable → ℕ → Reply SessionState TabletMerge → List HeldTable → ℕ → Type 0
+abbrev pub ActsOnTables : List (List ℕ) → ℤ → Act → List HeldTable → ℕ → Reply OpenSession TabletMerge → List HeldTable → ℕ → Type 0
 ActsOnTables auths now act tables next reply tables' next' = (h : Held) (user : List ℕ) → IsCore h → h.tables ≡ tables → h.next ≡ next → auths_of h.policy user ≡ auths
     → Acts (own_answer (base_of h) now user act) h now None user act reply (record h { next = next'; tables = tables' })
 
 -- A caller is told what he holds and may do, on each table of which this is found of him.
-abbrev pub Tells : Caller → Reply SessionState TabletMerge → Type 0
+abbrev pub Tells : Caller → Reply OpenSession TabletMerge → Type 0
 Tells caller reply = (h : Held) (now : ℤ) (user t : List ℕ) → IsCore h → IsCaller caller h.policy user (Some t) → Acts (own_answer (base_of h) now user (OwnRights t)) h now None user (OwnRights t) reply h
 
 -- the checks of a write that gets this number, the last of them that the numbers aren't used up

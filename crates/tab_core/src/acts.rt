@@ -1,13 +1,17 @@
 //! What events on tables do to what a core holds, and authorizations set; those on users and on permissions stand in `users` and `granting`.
+ghost use Rattle.std.specs.Prelude.{◌≡◌};
+ghost use Rattle.tab_history.specs.Answers.{told_of};
 ghost use Rattle.tab_store.specs.Stores.{base_of};
 ghost use Rattle.tab_core.specs.Holding.{held};
+ghost use Rattle.tab_core.specs.Spending.{left_of};
 ghost use Rattle.tab_core.specs.Stepping.{Does, IsCore, IsAdmitted};
 
 use crate::checking::{horizon_refusal, too_many_auths, versions_refusal};
 use crate::numbering::next_number;
 use crate::reply::Answer;
 use crate::store::Store;
-use std::alloc::AllocError;
+use std::alloc::{AllocError, Global};
+use std::mem;
 use tab_history::{Act, Refusal, Reply, TimeMode, Versions};
 use tab_key::{Name, Part};
 use tab_label::AuthSet;
@@ -64,18 +68,20 @@ impl Store {
         Reply::Done
     }
 
-    // The table's constraints.
+    // The table's constraints, which are taken out. It takes no memory.
     pub(crate) fn set_constraints(
         &mut self,
         now: i64,
         user: &Name,
         table: &Name,
-        constraints: ConstraintSet,
+        constraints: &mut ConstraintSet,
     ) -> Answer
         requires { IsCore (held self.old) }
-        ensures { Does self.old now user.now (Act.SetConstraints table.now constraints) result self.new }
+        ensures does { Does self.old now user.now (Act.SetConstraints table.now constraints.old) result self.new }
+        ensures left { Act.SetConstraints table.now constraints.new ≡ left_of (Act.SetConstraints table.now constraints.old) (told_of result) }
     {
-        self.tables.set(table, Setting::Constraints(constraints));
+        let given = mem::replace(constraints, ConstraintSet::none());
+        self.tables.set(table, Setting::Constraints(given));
         Reply::Done
     }
 
@@ -115,19 +121,28 @@ impl Store {
         Reply::Done
     }
 
-    // The authorizations of a user.
-    pub(crate) fn set_auths(&mut self, now: i64, user: &Name, name: &Name, auths: AuthSet) -> Answer
+    // The authorizations of a user, which are taken out where no check refuses them. It takes no memory.
+    pub(crate) fn set_auths(
+        &mut self,
+        alloc: Global,
+        now: i64,
+        user: &Name,
+        name: &Name,
+        auths: &mut AuthSet,
+    ) -> Answer
         requires { IsCore (held self.old) }
-        ensures { Does self.old now user.now (Act.SetAuths name.now auths) result self.new }
+        ensures does { Does self.old now user.now (Act.SetAuths name.now auths.old) result self.new }
+        ensures left { Act.SetAuths name.now auths.new ≡ left_of (Act.SetAuths name.now auths.old) (told_of result) }
     {
         let known = self.policy.user_exists(name);
-        if too_many_auths(&auths) {
+        if too_many_auths(auths) {
             return Reply::Refused(Refusal::TooLarge(Part::Authorizations));
         }
         if !known {
             return Reply::Refused(Refusal::NoUser(*name));
         }
-        self.policy.set_auths(name, auths);
+        let given = mem::replace(auths, AuthSet::empty(alloc));
+        self.policy.set_auths(name, given);
         Reply::Done
     }
 }

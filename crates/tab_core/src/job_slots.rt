@@ -3,6 +3,7 @@ ghost use Rattle.std.specs.Prelude.{◌≡◌, ◌⊎◌, ◌<◌, [], true, IfO
 ghost use Rattle.tab_history.specs.Answers.{merge_answer};
 ghost use Rattle.tab_history.specs.Jobs.{is_waiting};
 ghost use Rattle.tab_core.specs.JobSlots.{seen, slot_in, finished_in, freed, after_made, is_begin, kept_job, MergesIn, StepsIn, LacksRoom, FindsNone, UsesUp, KeepsJob};
+ghost use Rattle.tab_core.specs.Spending.{left_of};
 ghost use Rattle.tab_core.specs.Stepping.{asked_at};
 
 use crate::policing::named_slot;
@@ -63,8 +64,8 @@ impl JobSlots {
 
     /// Has the core do what the user asks at this moment. A job that it begins is kept in the next slot, for which room is made before:
     /// without memory for it nothing happens. An Install by a slot is given the finished merge there, which is used up, whatever it is told;
-    /// without one it is refused before all else, and nothing happens. A session that is handed out is dropped. What the core keeps of the
-    /// act it may take out of it, as [`Core::step_lent`] does.
+    /// without one it is refused before all else, and nothing happens. A session that is handed out is dropped. An act that is refused is left
+    /// as it was; out of any other one the core takes what it keeps, as [`Core::step_lent`] does.
     pub fn step(
         &mut self,
         alloc: Global,
@@ -73,7 +74,8 @@ impl JobSlots {
         moment: i64,
         act: &mut Act,
     ) -> Reply
-        ensures { StepsIn core.old self.old (asked_at user.now moment act.old) result core.new self.new }
+        ensures steps { StepsIn core.old self.old (asked_at user.now moment act.old) result core.new self.new }
+        ensures left { act.new ≡ left_of act.old result }
     {
         if begins(act) {
             return self.begin(alloc, core, user, moment, act);
@@ -110,8 +112,9 @@ impl JobSlots {
         act: &mut Act,
     ) -> Reply
         requires { is_begin act.old ≡ true }
-        ensures { LacksRoom core.old self.old (asked_at user.now moment act.old) result core.new self.new
+        ensures keeps { LacksRoom core.old self.old (asked_at user.now moment act.old) result core.new self.new
             ⊎ KeepsJob core.old self.old (asked_at user.now moment act.old) result core.new self.new }
+        ensures left { act.new ≡ left_of act.old result }
     {
         if self.slots.reserve(1).is_err() {
             return Reply::Refused(Refusal::NoMemory);

@@ -19,20 +19,24 @@ use tab_policy::{Action, TableAction};
 use tab_store::{FinishedJob, Installed, TabletJob};
 
 impl Store {
-    // A merge of this kind begun in the table's tablet that holds the row, with the next number of a job.
+    // A merge of this kind begun in the table's tablet that holds the row, with the next number of a job, which has a copy of the row.
     pub(crate) fn begin(
         &mut self,
         alloc: Global,
         now: i64,
         user: &Name,
         table: &Name,
-        row: ByteString,
+        row: &ByteString,
         kind: Compaction,
     ) -> Answer
         requires { IsCore (held self.old) }
-        ensures { Does self.old now user.now (Act.Begin table.now row kind) result self.new }
+        ensures { Does self.old now user.now (Act.Begin table.now row.now kind) result self.new }
     {
-        let told = begun_reply(self.tables.begin(alloc, table, row, kind, now, self.job));
+        let kept = match row.clone() {
+            Ok(kept) => kept,
+            Err(AllocError) => return Reply::Refused(Refusal::NoMemory),
+        };
+        let told = begun_reply(self.tables.begin(alloc, table, kept, kind, now, self.job));
         number_job(&mut self.job, &told);
         told
     }

@@ -20,8 +20,10 @@
 //! | `comparing` | two runs compared by what one user is told in them |
 //!
 //! Of the definitions in `specs`, `Stepping` says what a step does, `Holding` what a store holds, `Bounded` which limits a core keeps to
-//! beside those of its tables, `EventReplies` what an event is told, `Recording` what a step means for a history that is recorded beside
-//! the core, `Slots`, `Sessions` and `JobSlots` what a run or a script keeps, `Lending` what is left of sessions that were lent, `Owners` what a step of a run does, and `Comparing` what two runs tell; `ComparingExamples` computes it for a small history.
+//! beside those of its tables, `EventReplies` what an event is told, `Spending` what is left of an act that was lent, `ByTablet` what each
+//! tablet of a core refines, `Recording` what a step means for a history that is recorded beside the core, `Slots`, `Sessions` and
+//! `JobSlots` what a run or a script keeps, `Lending` what is left of sessions that were lent, `Owners` what a step of a run does, and
+//! `Comparing` what two runs tell; `ComparingExamples` computes it for a small history.
 #![tactic(auto)]
 
 mod acts;

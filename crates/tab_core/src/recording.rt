@@ -2,8 +2,10 @@
 ghost use Rattle.std.specs.Prelude.{◌≡◌, ◌⊎◌, [], Some, None, true};
 ghost use Rattle.tab_history.specs.Answers.{told_of, event_answer};
 ghost use Rattle.tab_store.specs.Stores.{base_of};
+ghost use Rattle.tab_core.specs.ByTablet.{TabletsRefineWorlds};
 ghost use Rattle.tab_core.specs.EventReplies.{told_in, is_long};
 ghost use Rattle.tab_core.specs.Holding.{held};
+ghost use Rattle.tab_core.specs.Spending.{left_of};
 ghost use Rattle.tab_core.specs.Stepping.{Acts, IsCore, asked_at, installs_at};
 ghost use Rattle.tab_core.specs.Recording.{RefinesHistory, StepsOn};
 
@@ -27,6 +29,15 @@ impl Core {
         self.keeps();
     }
 
+    /// In each tablet what is held refines what was accepted in its rows, after every history that the core refines: nothing is done, and it
+    /// is known afterwards.
+    #[tactic(auto, using(crate::proofs::ByTablet::tablets_refine_worlds))]
+    pub fn tablets_refine(&self)
+        ensures { TabletsRefineWorlds self.now }
+    {
+        self.keeps();
+    }
+
     /// Applies one event and answers it as [`Core::step`] does, with a copy of what it is told.
     ///
     /// Where there is no memory for the copy the event is refused for that, and had no effect: only acts that take memory are told what
@@ -39,8 +50,8 @@ impl Core {
         self.step_told_lent(alloc, &event.user, event.moment, &mut event.act)
     }
 
-    /// The same for an event whose parts are lent, so that none of it is moved. What the core keeps of an event it may take out of the act,
-    /// as [`Core::step_lent`] does; the rest of the act is copied or only read.
+    /// The same for an event whose parts are lent, so that none of it is moved. An act that is refused, for want of memory too, is left as it
+    /// was; out of any other one the core takes what it keeps, as [`Core::step_lent`] does.
     pub fn step_told_lent(
         &mut self,
         alloc: Global,
@@ -50,6 +61,7 @@ impl Core {
     ) -> (Answer, EventReply)
         ensures steps { StepsOn self.old None (asked_at user.now moment act.old) result.0 self.new }
         ensures told { told_in result.1 ≡ told_of result.0 }
+        ensures left { act.new ≡ left_of act.old (told_of result.0) }
     {
         if let Some((_, slot)) = named_slot(act) {
             return copied(self.no_job(slot));
@@ -80,7 +92,8 @@ impl Core {
 }
 
 impl Store {
-    // Answers the event, does what the answer says, and copies what it is told. Where there is no memory for the copy nothing was done.
+    // Answers the event, does what the answer says, and copies what it is told. Where there is no memory for the copy nothing was done, and
+    // nothing was taken out of the act.
     fn answer_told(
         &mut self,
         alloc: Global,
@@ -92,6 +105,7 @@ impl Store {
         requires { IsCore (held self.old) }
         ensures acts { Acts (event_answer (base_of (held self.old)) [] now user.now act.old) (held self.old) now None user.now act.old result.0 (held self.new) }
         ensures told { told_in result.1 ≡ told_of result.0 }
+        ensures left { act.new ≡ left_of act.old (told_of result.0) }
     {
         copied(self.answer(alloc, now, user, act, known))
     }

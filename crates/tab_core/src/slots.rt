@@ -1,10 +1,11 @@
 //! The sessions of one user in a run or a script, each in the slot that is its number.
-ghost use Rattle.std.specs.Prelude.{◌≡◌, ◌⊎◌, ◌<◌, List, [], ◌∷◌, ◌++◌, Option, None, OnOk, OnErr, length, count_by, is_some, vec_len, vec_capacity};
-ghost use Rattle.tab_cells.specs.SessionState.{SessionState};
+ghost use Rattle.std.specs.Prelude.{◌≡◌, ◌⊎◌, ◌<◌, List, [], ◌∷◌, ◌++◌, Option, None, IfOk, OnOk, OnErr, length, count_by, is_some, vec_len, vec_capacity};
+ghost use Rattle.tab_cells.specs.SessionState.{SessionState, batch, gave, in_ranges as cells_in};
 ghost use Rattle.tab_key.specs.declared.part.TheConstants.{MAX_SESSIONS};
 ghost use Rattle.tab_history.specs.Answers.{ranges_told, many_answer};
 ghost use Rattle.tab_core.specs.Slots.{are_full, NextFrom, ManyFrom, CloseFrom};
 ghost use Rattle.tab_core.specs.Owners.{kept_with, OpensIn};
+ghost use Rattle.tab_core.specs.Spending.{left_of};
 ghost use Rattle.tab_core.specs.Stepping.{asked_at};
 
 use crate::Session;
@@ -15,7 +16,48 @@ use std::alloc::{AllocError, Global};
 use std::marker::Model;
 use std::mem;
 use tab_history::{Act, Refusal, Reply, Scan};
-use tab_key::{Bounds, MAX_OPENED, MAX_SESSIONS, Name, Part};
+use tab_key::{Bounds, Cells, Items, MAX_OPENED, MAX_SESSIONS, Name, Part};
+
+// A session in its slot. A contract sees its list and how many of its cells were given, which is what histories know of it, and not
+// whether it is done.
+#[derive(Drop)]
+struct KeptSession {
+    session: Session,
+}
+
+impl Model for KeptSession {
+    ghost use Rattle.tab_cells.specs.SessionState.{SessionState};
+
+    ghost Value = { SessionState };
+
+    ghost view = { λ k. k.session.state };
+}
+
+impl KeptSession {
+    // A session that was handed out.
+    fn of(session: Session) -> KeptSession
+        ensures { result ≡ session.state }
+    {
+        KeptSession { session }
+    }
+
+    // The next cells. Where memory lacks, the session is as before.
+    fn next_batch(&mut self, alloc: Global, count: u32) -> Result<Cells, AllocError>
+        ensures ok { IfOk result (λ cells. cells ≡ batch self.old count) }
+        ensures after { OnOk result (self.new ≡ gave (length (batch self.old count)) self.old) }
+        ensures err { OnErr result (self.new ≡ self.old) }
+    {
+        self.session.next_batch(alloc, count)
+    }
+
+    // The whole answer in each of the ranges.
+    fn scan_many(&mut self, alloc: Global, ranges: &[Bounds]) -> Result<Items<Cells>, AllocError>
+        ensures cells { IfOk result (λ cells. cells ≡ cells_in self.old ranges.now) }
+        ensures same { self.new ≡ self.old }
+    {
+        self.session.scan_many(alloc, ranges)
+    }
+}
 
 /// One user's sessions by their numbers; none where it was closed. A number is given out once.
 ///
@@ -23,7 +65,7 @@ use tab_key::{Bounds, MAX_OPENED, MAX_SESSIONS, Name, Part};
 #[derive(Drop)]
 pub struct Slots {
     // by number
-    slots: Vec<Option<Session>>,
+    slots: Vec<Option<KeptSession>>,
     // how many of them hold a session
     open: usize,
 }
@@ -72,8 +114,8 @@ impl Slots {
     }
 
     /// The core answers the user's Open at this moment, and a session that it hands out is kept in the next slot. Where no session can be
-    /// opened any more the event doesn't happen, and neither where there is no memory for the slot. What the core keeps of the scan it may
-    /// take out of it, as [`Core::open_lent`] does.
+    /// opened any more the event doesn't happen, and neither where there is no memory for the slot. A scan that is refused is left as it was;
+    /// out of any other one the core takes what it keeps, as [`Core::open_lent`] does.
     pub fn open(
         &mut self,
         alloc: Global,
@@ -82,7 +124,8 @@ impl Slots {
         moment: i64,
         scan: &mut Scan,
     ) -> Reply
-        ensures { OpensIn core.old self.old (asked_at user.now moment (Act.Open scan.old)) result core.new self.new }
+        ensures opens { OpensIn core.old self.old (asked_at user.now moment (Act.Open scan.old)) result core.new self.new }
+        ensures left { Act.Open scan.new ≡ left_of (Act.Open scan.old) result }
     {
         if self.are_full() {
             return Reply::Refused(Refusal::TooLarge(Part::Sessions));
@@ -166,20 +209,20 @@ impl Slots {
 }
 
 // Keeps the session in a new slot, if there is one. There is room for the slot.
-fn keep(slots: &mut Vec<Option<Session>>, open: &mut usize, session: Option<Session>)
+fn keep(slots: &mut Vec<Option<KeptSession>>, open: &mut usize, session: Option<Session>)
     requires room { vec_len slots.old < vec_capacity slots.old }
     requires few { open.old < MAX_SESSIONS }
     ensures slots { slots.new.items ≡ kept_with slots.old.items session }
     ensures counted { open.old ≡ count_by is_some slots.old.items → open.new ≡ count_by is_some slots.new.items }
 {
     if let Some(session) = session {
-        slots.push_reserved(Some(session));
+        slots.push_reserved(Some(KeptSession::of(session)));
         *open += 1;
     }
 }
 
 // The whole answer of the session at the slot's place, in each of the ranges.
-fn many_at(alloc: Global, place: &mut Option<Session>, slot: u32, ranges: &[Bounds]) -> Reply
+fn many_at(alloc: Global, place: &mut Option<KeptSession>, slot: u32, ranges: &[Bounds]) -> Reply
     ensures answers { (result ≡ many_answer place.old slot ranges.now) ⊎ (result ≡ Reply.Refused Refusal.NoMemory) }
     ensures same { place.new ≡ place.old }
 {
@@ -190,7 +233,7 @@ fn many_at(alloc: Global, place: &mut Option<Session>, slot: u32, ranges: &[Boun
 }
 
 // The session's whole answer in each of the ranges, or what is wrong with these.
-fn in_ranges(alloc: Global, session: &mut Session, ranges: &[Bounds]) -> Reply
+fn in_ranges(alloc: Global, session: &mut KeptSession, ranges: &[Bounds]) -> Reply
     ensures answers { (result ≡ ranges_told session.old ranges.now) ⊎ (result ≡ Reply.Refused Refusal.NoMemory) }
     ensures same { session.new ≡ session.old }
 {

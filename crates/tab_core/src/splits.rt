@@ -17,22 +17,26 @@ use tab_key::{ByteString, Items, MAX_PART_LEN, Name, Part};
 use tab_store::{Split, Tables};
 
 impl Store {
-    // A table's tablet split at this row.
+    // A table's tablet split at this row, of which a copy becomes the end row.
     pub(crate) fn add_split(
         &mut self,
         alloc: Global,
         now: i64,
         user: &Name,
         table: &Name,
-        row: ByteString,
+        row: &ByteString,
     ) -> Answer
         requires { IsCore (held self.old) }
-        ensures { Does self.old now user.now (Act.AddSplit table.now row) result self.new }
+        ensures { Does self.old now user.now (Act.AddSplit table.now row.now) result self.new }
     {
-        if is_too_long(&row) {
+        if is_too_long(row) {
             return Reply::Refused(Refusal::TooLarge(Part::Row));
         }
-        let told = split_reply(self.tables.split(alloc, table, row, self.tablet));
+        let end = match row.clone() {
+            Ok(end) => end,
+            Err(AllocError) => return Reply::Refused(Refusal::NoMemory),
+        };
+        let told = split_reply(self.tables.split(alloc, table, end, self.tablet));
         number_split(&mut self.tablet, &told);
         told
     }

@@ -9,6 +9,7 @@ ghost use Rattle.tab_store.specs.Due.{due_in, target_of};
 ghost use Rattle.tab_store.specs.Stores.{base_of, IsNewStore};
 ghost use Rattle.tab_store.specs.Stepping.{StepsExactly};
 ghost use Rattle.tab_core.specs.Bounded.{WritesBare};
+ghost use Rattle.tab_core.specs.Spending.{left_of};
 ghost use Rattle.tab_core.specs.Stepping.{Steps, StepsWith, IsCore, asked_at, installs_at};
 
 use crate::policing::named_slot;
@@ -148,12 +149,15 @@ impl Core {
         self.step_lent(alloc, &event.user, event.moment, &mut event.act)
     }
 
-    /// The same for an event whose parts are lent, so that none of it is moved. What the core keeps of an event it may take out of the
-    /// act: the columns and the authorizations of an Open, the authorizations of a SetAuths, the constraints of a SetConstraints, the rows
-    /// of an AddSplit and of a Begin. The rest of the act is copied or only read.
+    /// The same for an event whose parts are lent, so that none of it is moved.
+    ///
+    /// An act that is refused, for want of memory too, is left as it was. Out of any other one the core takes what it keeps: the columns and
+    /// the authorizations of an Open, the constraints of a SetConstraints, the authorizations of a SetAuths. Empty ones are left there. The
+    /// rest of the act is copied or only read, and is left as it was.
     pub fn step_lent(&mut self, alloc: Global, user: &Name, moment: i64, act: &mut Act) -> Answer
         ensures steps { Steps (base_of self.old) (asked_at user.now moment act.old) result (base_of self.new) }
         ensures exact { StepsWith self.old None (asked_at user.now moment act.old) result self.new }
+        ensures left { act.new ≡ left_of act.old (told_of result) }
     {
         if let Some((_, slot)) = named_slot(act) {
             return self.no_job(slot);
@@ -165,11 +169,12 @@ impl Core {
         reply
     }
 
-    /// The same for an Open of a scan that is lent as it is. What the core keeps of the scan, its columns and its authorizations, it may take
-    /// out of it.
+    /// The same for an Open of a scan that is lent as it is. What the core keeps of it, its columns and its authorizations, is taken out of it
+    /// unless the Open is refused; then the scan is left as it was.
     pub fn open_lent(&mut self, alloc: Global, user: &Name, moment: i64, scan: &mut Scan) -> Answer
         ensures steps { Steps (base_of self.old) (asked_at user.now moment (Act.Open scan.old)) result (base_of self.new) }
         ensures exact { StepsWith self.old None (asked_at user.now moment (Act.Open scan.old)) result self.new }
+        ensures left { Act.Open scan.new ≡ left_of (Act.Open scan.old) (told_of result) }
     {
         let now = later(self.store.clock, moment);
         let reply = self.store.answer_open(alloc, now, user, scan);

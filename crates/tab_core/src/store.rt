@@ -1,8 +1,9 @@
 //! What a core holds, and what an event does to it.
 ghost use Rattle.std.specs.Prelude.{◌≡◌, [], None};
-ghost use Rattle.tab_history.specs.Answers.{event_answer};
+ghost use Rattle.tab_history.specs.Answers.{event_answer, told_of};
 ghost use Rattle.tab_store.specs.Stores.{base_of};
 ghost use Rattle.tab_core.specs.Holding.{held};
+ghost use Rattle.tab_core.specs.Spending.{left_of};
 ghost use Rattle.tab_core.specs.Stepping.{Acts, IsCore};
 
 use crate::granting::rights;
@@ -11,12 +12,10 @@ use crate::reply::Answer;
 use crate::scans::open;
 use crate::writes::write;
 use std::alloc::Global;
-use std::mem;
 use tab_history::{Act, Reply, Scan};
-use tab_key::{ByteString, Name};
-use tab_label::{AuthSet, KnownLabels};
+use tab_key::Name;
+use tab_label::KnownLabels;
 use tab_policy::{Action, Policy, TableAction};
-use tab_rules::ConstraintSet;
 use tab_store::Tables;
 
 /// The clock, the number that the next accepted write gets, users with their rights, tables, and the numbers that the next tablet and the next
@@ -39,8 +38,8 @@ pub struct Store {
 
 impl Store {
     /// Answers the event, and does what the answer says; the clock is set afterwards. `now` is the clock with the event's moment in it.
-    /// What is done with an act's columns, authorizations, constraints or row may take them out of it. An Install came without its merge here,
-    /// and names no slot. `known` are labels that were judged before.
+    /// What is kept of an act that isn't refused is taken out of it, or copied. An Install came without its merge here, and names no slot.
+    /// `known` are labels that were judged before.
     pub fn answer(
         &mut self,
         alloc: Global,
@@ -50,7 +49,8 @@ impl Store {
         known: &mut KnownLabels,
     ) -> Answer
         requires { IsCore (held self.old) }
-        ensures { Acts (event_answer (base_of (held self.old)) [] now user.now act.old) (held self.old) now None user.now act.old result (held self.new) }
+        ensures acts { Acts (event_answer (base_of (held self.old)) [] now user.now act.old) (held self.old) now None user.now act.old result (held self.new) }
+        ensures left { act.new ≡ left_of act.old (told_of result) }
     {
         let caller = match self.policy.decide(user, &action_of(act)) {
             Ok(caller) => caller,
@@ -78,31 +78,20 @@ impl Store {
                 now,
                 user,
                 table,
-                mem::replace(constraints, ConstraintSet::none()),
+                constraints,
             ),
             Act::SetVersions(table, versions) => self.set_versions(now, user, table, *versions),
             Act::SetHorizon(table, _) => self.set_horizon(now, user, table, horizon),
             Act::CreateUser(name) => self.create_user(now, user, name),
             Act::DropUser(name) => self.drop_user(now, user, name),
-            Act::SetAuths(name, auths) => self.set_auths(
-                now,
-                user,
-                name,
-                mem::replace(auths, AuthSet::empty(alloc)),
-            ),
+            Act::SetAuths(name, auths) => self.set_auths(alloc, now, user, name, auths),
             Act::Grant(name, permission) => self.grant(now, user, name, permission),
             Act::Revoke(name, permission) => self.revoke(now, user, name, permission),
             Act::Rights(_) => rights(caller),
             Act::Status(table) => self.status(now, user, table),
             Act::Flush(table) => self.flush(alloc, now, user, table),
             Act::Compact(table, extent) => self.compact(alloc, now, user, table, *extent),
-            Act::AddSplit(table, end) => self.add_split(
-                alloc,
-                now,
-                user,
-                table,
-                mem::replace(end, ByteString::new(alloc)),
-            ),
+            Act::AddSplit(table, row) => self.add_split(alloc, now, user, table, row),
             Act::SplitBySize(table, row, limit) => self.split_by_size(
                 alloc, now, user, table, row, *limit,
             ),
@@ -110,14 +99,7 @@ impl Store {
             Act::Save => self.save(now, user),
             Act::Load => self.load(now, user),
             Act::Rotate => self.rotate(now, user),
-            Act::Begin(table, row, kind) => self.begin(
-                alloc,
-                now,
-                user,
-                table,
-                mem::replace(row, ByteString::new(alloc)),
-                *kind,
-            ),
+            Act::Begin(table, row, kind) => self.begin(alloc, now, user, table, row, *kind),
             Act::Install(table, given) => self.install_none(now, user, table, *given),
         }
     }
@@ -125,7 +107,8 @@ impl Store {
     /// The same for an Open of a scan that is lent as it is.
     pub fn answer_open(&mut self, alloc: Global, now: i64, user: &Name, scan: &mut Scan) -> Answer
         requires { IsCore (held self.old) }
-        ensures { Acts (event_answer (base_of (held self.old)) [] now user.now (Act.Open scan.old)) (held self.old) now None user.now (Act.Open scan.old) result (held self.new) }
+        ensures acts { Acts (event_answer (base_of (held self.old)) [] now user.now (Act.Open scan.old)) (held self.old) now None user.now (Act.Open scan.old) result (held self.new) }
+        ensures left { Act.Open scan.new ≡ left_of (Act.Open scan.old) (told_of result) }
     {
         let action = Action::OnTable(TableAction::Open, &scan.table);
         let caller = match self.policy.decide(user, &action) {

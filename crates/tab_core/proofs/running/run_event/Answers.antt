@@ -19,5 +19,5 @@ pub returns-in_default : goal.returns-in_default
 returns-in_default c =
     let shut : is_open c.args.event.now.act ≡ false = search rules in
     let trip : to_z w64 (of_z w64 c.args.event.now.moment) ≡ c.args.event.now.moment = search rules in
-    let steps = subst (λ (m : ℤ). StepsIn c.args.core.now c.args.jobs.now (asked_at c.args.event.now.user m c.args.event.now.act) c.step.result c.step.new.core c.step.new.self) trip c.step.ensures in
+    let steps = subst (λ (m : ℤ). StepsIn c.args.core.now c.args.jobs.now (asked_at c.args.event.now.user m c.args.event.now.act) c.step.result c.step.new.core c.step.new.self) trip c.step.ensures.steps in
     runs_event c.args.core.now c.step.new.core c.args.sessions.now c.args.jobs.now c.step.new.self c.args.event.now c.step.result shut steps

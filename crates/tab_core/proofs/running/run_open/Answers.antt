@@ -25,7 +25,7 @@ returns-in-Some c jobs =
     let is : was ≡ kept_of old user = search rules in
     let keeps = subst (λ (r : Option (MutBor Kept)). OnSome r (KeepsFor user now old (c.kept_for.follows.lender now))) c.in-Some.is (c.kept_for.follows.holds now) in
     let trip : to_z w64 (of_z w64 c.args.moment) ≡ c.args.moment = search rules in
-    let opens = subst (λ (m : ℤ). OpensIn c.args.core.now was.numbered (asked_at user m (Open c.args.scan.now)) c.open.result c.open.new.core slots) trip c.open.ensures in
+    let opens = subst (λ (m : ℤ). OpensIn c.args.core.now was.numbered (asked_at user m (Open c.args.scan.now)) c.open.result c.open.new.core slots) trip c.open.ensures.opens in
     let own = subst (λ (k : Kept). OpensIn c.args.core.now k.numbered event c.open.result c.open.new.core slots) is opens in
     let rest = subst (λ (k : Kept). KeepsFor user (record k { numbered = slots }) old (c.kept_for.follows.lender now)) is keeps in
     runs_open c.args.core.now c.open.new.core old (c.kept_for.follows.lender now) jobs event c.open.result slots refl own rest

@@ -8,11 +8,11 @@ use Rattle.tab_history.specs.Checks.{scan_checks}
 use Rattle.tab_core.proofs.Opening.{leaves_tables, open_either}
 use Rattle.tab_core.proofs.scans.open.Goals as goal
 
-pub returns-in-Some : goal.returns-in-Some
-returns-in-Some c = λ now next. leaves_tables c.args.authorizations.now now c.args.scan.now c.args.tables.now next c.in-Some.refusal c.in-Some.ensures
+pub returns-in-Some-clause-acts : goal.returns-in-Some-clause-acts
+returns-in-Some-clause-acts c = λ now next. leaves_tables c.args.authorizations.now now c.args.scan.now c.args.tables.now next c.in-Some.refusal c.in-Some.ensures
 
-pub returns : goal.returns
-returns c = λ now next.
+pub returns-clause-acts : goal.returns-clause-acts
+returns-clause-acts c = λ now next.
     let none : c.scan_refusal.result ≡ None = search rules in
     let passes : (None ≡ first_some (scan_checks c.args.authorizations.now c.args.scan.now)) ⊎ (None ≡ Some NoMemory) =
     subst (λ (o : Option Refusal). (o ≡ first_some (scan_checks c.args.authorizations.now c.args.scan.now)) ⊎ (o ≡ Some NoMemory)) none c.scan_refusal.ensures in

@@ -6,8 +6,8 @@ use Rattle.tab_core.specs.Stepping.{Steps, StepsWith, asked_at}
 use Rattle.tab_core.proofs.JobLemmas.{keeps_none}
 use Rattle.tab_core.proofs.job_slots.JobSlots.step.Goals as goal
 
-pub returns-in-None : goal.returns-in-None
-returns-in-None c =
+pub returns-in-None-clause-steps : goal.returns-in-None-clause-steps
+returns-in-None-clause-steps c =
     let none : is_begin c.args.act.now ≡ false = search rules in
     let alone : NamesNoSlot c.args.act.now = c.in-None.ensures.none in
     let trip : to_z w64 (of_z w64 c.args.moment) ≡ c.args.moment = search rules in

@@ -7,8 +7,8 @@ use Rattle.tab_core.specs.Owners.{kept_with}
 use Rattle.tab_core.specs.Stepping.{Steps, StepsWith, asked_at}
 use Rattle.tab_core.proofs.slots.Slots.open.Goals as goal
 
-pub returns : goal.returns
-returns c =
+pub returns-clause-opens : goal.returns-clause-opens
+returns-clause-opens c =
     let room : are_full c.args.self.now ≡ false = search rules in
     let trip : to_z w64 (of_z w64 c.args.moment) ≡ c.args.moment = search rules in
     let steps = subst (λ (m : ℤ). Steps (base_of c.args.core.now) (asked_at c.args.user.now m (Open c.args.scan.now)) c.open_lent.result (base_of c.open_lent.new.self)) trip c.open_lent.ensures.steps in

@@ -1,5 +1,5 @@
 use Rattle.std.proofs.Common.{◌≡◌, ◌⊎◌, inl, inr, ℤ, Some, sym, ◌∙◌, subst, true, false, rules, to_z, of_z, w64}
-use Rattle.tab_cells.specs.SessionState.{SessionState}
+use Rattle.tab_session.specs.OpenSession.{OpenSession}
 use Rattle.tab_history.specs.declared.reply.Reply.{Reply}
 use Rattle.tab_history.specs.Answers.{told_of}
 use Rattle.tab_store.specs.Parts.{TabletMerge}
@@ -19,6 +19,6 @@ returns-clause-steps c =
     subst (λ (m : ℤ). StepsOn c.args.self.now (Some c.args.finished) (installs_at c.args.user.now m c.args.table.now c.args.finished) c.install.result c.install.new.self) trip
     (steps_on c.args.self.now c.install.new.self (Some c.args.finished) (installs_at c.args.user.now moment c.args.table.now c.args.finished) c.install.result c.install.ensures.steps (inl (tt, c.install.ensures.exact))) in
     elim c.copied.ensures.reply [
-      | inl same ↦ subst (λ (r : Reply SessionState TabletMerge). StepsOn c.args.self.now (Some c.args.finished) (installs_at c.args.user.now c.args.moment c.args.table.now c.args.finished) r c.install.new.self) (sym same) done
+      | inl same ↦ subst (λ (r : Reply OpenSession TabletMerge). StepsOn c.args.self.now (Some c.args.finished) (installs_at c.args.user.now c.args.moment c.args.table.now c.args.finished) r c.install.new.self) (sym same) done
       | inr lacks ↦ absurd (cc (sym short ∙ lacks.0))
     ]

@@ -10,14 +10,14 @@ use Rattle.tab_core.proofs.state.Core.open_lent.Goals as goal
 pub invariant_of-self : goal.invariant_of-self
 invariant_of-self c =
     (well (held c.self.inside.store) (held c.answer_open-reply.new.self) None (asked_at c.args.user.now c.args.moment (Open c.args.scan.now)) c.answer_open-reply.result c.later-now.result (to_z w64 (of_z w64 c.later-now.result)) c.move_clock.new.clock
-    c.self.invariant tt tt (search rules) (search rules) c.answer_open-reply.ensures (search rules)).core
+    c.self.invariant tt tt (search rules) (search rules) c.answer_open-reply.ensures.acts (search rules)).core
 
 pub returns-clause-steps : goal.returns-clause-steps
 returns-clause-steps c =
     let event : Event = asked_at c.args.user.now c.args.moment (Open c.args.scan.now) in
     let done : StepsWell (held c.self.inside.store) None event c.answer_open-reply.result (record (held c.answer_open-reply.new.self) { clock = c.move_clock.new.clock }) =
     well (held c.self.inside.store) (held c.answer_open-reply.new.self) None event c.answer_open-reply.result c.later-now.result (to_z w64 (of_z w64 c.later-now.result)) c.move_clock.new.clock
-    c.self.invariant tt tt (search rules) (search rules) c.answer_open-reply.ensures (search rules) in
+    c.self.invariant tt tt (search rules) (search rules) c.answer_open-reply.ensures.acts (search rules) in
     subst (λ (h : Held). Steps (base_of h) event c.answer_open-reply.result (base_of (record (held c.answer_open-reply.new.self) { clock = c.move_clock.new.clock }))) c.self.view_is done.steps
 
 pub returns-clause-exact : goal.returns-clause-exact
@@ -25,5 +25,5 @@ returns-clause-exact c =
     let event : Event = asked_at c.args.user.now c.args.moment (Open c.args.scan.now) in
     let done : StepsWell (held c.self.inside.store) None event c.answer_open-reply.result (record (held c.answer_open-reply.new.self) { clock = c.move_clock.new.clock }) =
     well (held c.self.inside.store) (held c.answer_open-reply.new.self) None event c.answer_open-reply.result c.later-now.result (to_z w64 (of_z w64 c.later-now.result)) c.move_clock.new.clock
-    c.self.invariant tt tt (search rules) (search rules) c.answer_open-reply.ensures (search rules) in
+    c.self.invariant tt tt (search rules) (search rules) c.answer_open-reply.ensures.acts (search rules) in
     subst (λ (h : Held). StepsWith h None event c.answer_open-reply.result (record (held c.answer_open-reply.new.self) { clock = c.move_clock.new.clock })) c.self.view_is (steps_alone (held c.self.inside.store) (record (held c.answer_open-reply.new.self) { clock = c.move_clock.new.clock }) None event c.answer_open-reply.result tt done)

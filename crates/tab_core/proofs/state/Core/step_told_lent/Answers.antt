@@ -1,5 +1,5 @@
 use Rattle.std.proofs.Common.{◌≡◌, inl, inr, sym, ap, ◌∙◌, subst, rules, to_z, of_z, w64, None}
-use Rattle.tab_cells.specs.SessionState.{SessionState}
+use Rattle.tab_session.specs.OpenSession.{OpenSession}
 use Rattle.tab_history.specs.declared.reply.Refusal.TheVariants.{NoJob}
 use Rattle.tab_history.specs.declared.reply.Reply.{Reply}
 use Rattle.tab_history.specs.declared.reply.Reply.TheVariants.{Refused}
@@ -18,8 +18,8 @@ use Rattle.tab_core.proofs.state.Core.step_told_lent.Goals as goal
 pub returns-in-Some-clause-steps : goal.returns-in-Some-clause-steps
 returns-in-Some-clause-steps c =
     let no_event = aside c.args.self.now None (asked_at c.args.user.now c.args.moment c.args.act.now) _ _ c.no_job.ensures.core c.in-Some.ensures.some in
-    let there : c.copied.result.0 ≡ Refused (NoJob c.in-Some.slot) = elim c.copied.ensures.reply [ inl same ↦ same ∙ c.no_job.ensures.reply | inr lacks ↦ absurd (cc (sym (ap (λ (r : Reply SessionState TabletMerge). is_long (told_of r)) c.no_job.ensures.reply) ∙ lacks.0)) ] in
-    subst (λ (r : Reply SessionState TabletMerge). StepsOn c.args.self.now None (asked_at c.args.user.now c.args.moment c.args.act.now) r c.args.self.now) (sym there) (steps_on c.args.self.now c.args.self.now None (asked_at c.args.user.now c.args.moment c.args.act.now) _ no_event.steps no_event.exact)
+    let there : c.copied.result.0 ≡ Refused (NoJob c.in-Some.slot) = elim c.copied.ensures.reply [ inl same ↦ same ∙ c.no_job.ensures.reply | inr lacks ↦ absurd (cc (sym (ap (λ (r : Reply OpenSession TabletMerge). is_long (told_of r)) c.no_job.ensures.reply) ∙ lacks.0)) ] in
+    subst (λ (r : Reply OpenSession TabletMerge). StepsOn c.args.self.now None (asked_at c.args.user.now c.args.moment c.args.act.now) r c.args.self.now) (sym there) (steps_on c.args.self.now c.args.self.now None (asked_at c.args.user.now c.args.moment c.args.act.now) _ no_event.steps no_event.exact)
 
 pub invariant_of-self : goal.invariant_of-self
 invariant_of-self c =

@@ -1,23 +1,18 @@
-use Rattle.std.proofs.Common.{◌≡◌, [], Some, None, refl, sym, ap, ◌∙◌, subst, rules, to_z, of_z, w64}
+use Rattle.std.proofs.Common.{◌≡◌, Some, None, refl, sym, ap, ◌∙◌, subst, rules, to_z, of_z, w64}
 use Rattle.tab_policy.specs.Actions.{Action, table_named}
 use Rattle.tab_policy.specs.Decisions.{decision}
 use Rattle.tab_policy.specs.State.{standing_of, IsCaller}
-use Rattle.tab_cells.specs.SessionState.{SessionState}
 use Rattle.tab_history.specs.declared.event.Act.TheVariants as act
-use Rattle.tab_history.specs.declared.reply.Reply.{Reply}
-use Rattle.tab_history.specs.Answers.{event_answer}
 use Rattle.tab_history.specs.Checks.{denial, action_of}
-use Rattle.tab_store.specs.Stores.{base_of}
 use Rattle.tab_store.proofs.Changed.{next_unused}
 use Rattle.tab_core.specs.Holding.{held}
-use Rattle.tab_core.specs.Stepping.{Acts}
 use Rattle.tab_core.proofs.Admitting.{denied, admitted, is_admitted}
 use Rattle.tab_core.proofs.Opening.{tablets_apart}
 use Rattle.tab_core.proofs.Writing.{table_there}
 use Rattle.tab_core.proofs.store.Store.answer.Goals as goal
 
-pub returns-in-Err : goal.returns-in-Err
-returns-in-Err c =
+pub returns-in-Err-clause-acts : goal.returns-in-Err-clause-acts
+returns-in-Err-clause-acts c =
     let d : Some c.in-Err.denial ≡ decision (standing_of c.args.self.now.policy c.args.user.now) (action_of c.args.act.now) = c.in-Err.ensures.decided ∙ ap (decision (standing_of c.args.self.now.policy c.args.user.now)) c.action_of.ensures in
     denied (held c.args.self.now) c.args.now None c.args.user.now c.args.act.now c.refusal_of.result c.requires (sym (c.refusal_of.ensures ∙ ap (denial c.args.user.now) d))
 
@@ -39,126 +34,126 @@ write-requires-clause-there c = table_there (held c.args.self.now) c.args.user.n
 pub open-requires : goal.open-requires
 open-requires c = tablets_apart (held c.args.self.now) c.requires.store c.in-Open.scan.table
 
-pub returns-in-Open : goal.returns-in-Open
-returns-in-Open c =
+pub returns-in-Open-clause-acts : goal.returns-in-Open-clause-acts
+returns-in-Open-clause-acts c =
     admitted (held c.args.self.now) _ c.args.now c.args.now None c.args.user.now c.args.act.now _ _ c.open.result c.requires c.action_of.ensures c.in-Ok.ensures.decided c.in-Open.is refl
-    (c.open.ensures c.args.now c.args.self.now.next (held c.args.self.now) c.args.user.now c.requires refl refl (sym c.in-Ok.ensures.caller.authorizations))
+    (c.open.ensures.acts c.args.now c.args.self.now.next (held c.args.self.now) c.args.user.now c.requires refl refl (sym c.in-Ok.ensures.caller.authorizations))
 
-pub returns-in-Write : goal.returns-in-Write
-returns-in-Write c =
+pub returns-in-Write-clause-acts : goal.returns-in-Write-clause-acts
+returns-in-Write-clause-acts c =
     let trip : to_z w64 (of_z w64 c.args.now) ≡ c.args.now = search rules in
     admitted (held c.args.self.now) _ c.args.now _ None c.args.user.now c.args.act.now _ _ c.write.result c.requires c.action_of.ensures c.in-Ok.ensures.decided c.in-Write.is trip
     (c.write.ensures (held c.args.self.now) c.args.user.now c.requires refl refl (sym c.in-Ok.ensures.caller.authorizations))
 
-pub returns-in-Rights : goal.returns-in-Rights
-returns-in-Rights c =
+pub returns-in-Rights-clause-acts : goal.returns-in-Rights-clause-acts
+returns-in-Rights-clause-acts c =
     let caller : IsCaller c.in-Ok.caller c.args.self.now.policy c.args.user.now (Some c.in-Rights.field-0) =
     subst (λ (a : Action). IsCaller c.in-Ok.caller c.args.self.now.policy c.args.user.now (table_named a)) (c.action_of.ensures ∙ ap action_of c.in-Rights.is) c.in-Ok.ensures.caller in
     admitted (held c.args.self.now) (held c.args.self.now) c.args.now c.args.now None c.args.user.now c.args.act.now _ _ c.rights.result c.requires c.action_of.ensures c.in-Ok.ensures.decided c.in-Rights.is refl
     (c.rights.ensures (held c.args.self.now) c.args.now c.args.user.now c.in-Rights.field-0 c.requires caller)
 
-pub returns-in-Status : goal.returns-in-Status
-returns-in-Status c =
+pub returns-in-Status-clause-acts : goal.returns-in-Status-clause-acts
+returns-in-Status-clause-acts c =
     let trip : to_z w64 (of_z w64 c.args.now) ≡ c.args.now = search rules in
     admitted (held c.args.self.now) (held c.args.self.now) c.args.now _ None c.args.user.now c.args.act.now _ _ c.status.result c.requires c.action_of.ensures c.in-Ok.ensures.decided c.in-Status.is trip c.status.ensures
 
-pub returns-in-CreateTable : goal.returns-in-CreateTable
-returns-in-CreateTable c =
+pub returns-in-CreateTable-clause-acts : goal.returns-in-CreateTable-clause-acts
+returns-in-CreateTable-clause-acts c =
     let trip : to_z w64 (of_z w64 c.args.now) ≡ c.args.now = search rules in
     admitted (held c.args.self.now) (held c.create_table.new.self) c.args.now _ None c.args.user.now c.args.act.now _ _ c.create_table.result c.requires c.action_of.ensures c.in-Ok.ensures.decided c.in-CreateTable.is trip c.create_table.ensures
 
-pub returns-in-DropTable : goal.returns-in-DropTable
-returns-in-DropTable c =
+pub returns-in-DropTable-clause-acts : goal.returns-in-DropTable-clause-acts
+returns-in-DropTable-clause-acts c =
     let trip : to_z w64 (of_z w64 c.args.now) ≡ c.args.now = search rules in
     admitted (held c.args.self.now) (held c.drop_table.new.self) c.args.now _ None c.args.user.now c.args.act.now _ _ c.drop_table.result c.requires c.action_of.ensures c.in-Ok.ensures.decided c.in-DropTable.is trip c.drop_table.ensures
 
-pub returns-in-SetConstraints : goal.returns-in-SetConstraints
-returns-in-SetConstraints c =
+pub returns-in-SetConstraints-clause-acts : goal.returns-in-SetConstraints-clause-acts
+returns-in-SetConstraints-clause-acts c =
     let trip : to_z w64 (of_z w64 c.args.now) ≡ c.args.now = search rules in
-    admitted (held c.args.self.now) (held c.set_constraints.new.self) c.args.now _ None c.args.user.now c.args.act.now _ _ c.set_constraints.result c.requires c.action_of.ensures c.in-Ok.ensures.decided (c.in-SetConstraints.is ∙ ap (λ x. act.SetConstraints c.in-SetConstraints.table x) (sym c.replace.ensures.value)) trip c.set_constraints.ensures
+    admitted (held c.args.self.now) (held c.set_constraints.new.self) c.args.now _ None c.args.user.now c.args.act.now _ _ c.set_constraints.result c.requires c.action_of.ensures c.in-Ok.ensures.decided c.in-SetConstraints.is trip c.set_constraints.ensures.does
 
-pub returns-in-SetVersions : goal.returns-in-SetVersions
-returns-in-SetVersions c =
+pub returns-in-SetVersions-clause-acts : goal.returns-in-SetVersions-clause-acts
+returns-in-SetVersions-clause-acts c =
     let trip : to_z w64 (of_z w64 c.args.now) ≡ c.args.now = search rules in
     admitted (held c.args.self.now) (held c.set_versions.new.self) c.args.now _ None c.args.user.now c.args.act.now _ _ c.set_versions.result c.requires c.action_of.ensures c.in-Ok.ensures.decided c.in-SetVersions.is trip c.set_versions.ensures
 
-pub returns-in-SetHorizon : goal.returns-in-SetHorizon
-returns-in-SetHorizon c =
+pub returns-in-SetHorizon-clause-acts : goal.returns-in-SetHorizon-clause-acts
+returns-in-SetHorizon-clause-acts c =
     let trip : to_z w64 (of_z w64 c.args.now) ≡ c.args.now = search rules in
     let low : c.in-SetHorizon.field-1 ≡ to_z w64 (of_z w64 c.horizon_asked-horizon.result) = search rules in
     admitted (held c.args.self.now) (held c.set_horizon.new.self) c.args.now _ None c.args.user.now c.args.act.now _ _ c.set_horizon.result c.requires c.action_of.ensures c.in-Ok.ensures.decided (c.in-SetHorizon.is ∙ ap (λ n. act.SetHorizon c.in-SetHorizon.table n) low) trip c.set_horizon.ensures
 
-pub returns-in-CreateUser : goal.returns-in-CreateUser
-returns-in-CreateUser c =
+pub returns-in-CreateUser-clause-acts : goal.returns-in-CreateUser-clause-acts
+returns-in-CreateUser-clause-acts c =
     let trip : to_z w64 (of_z w64 c.args.now) ≡ c.args.now = search rules in
     admitted (held c.args.self.now) (held c.create_user.new.self) c.args.now _ None c.args.user.now c.args.act.now _ _ c.create_user.result c.requires c.action_of.ensures c.in-Ok.ensures.decided c.in-CreateUser.is trip c.create_user.ensures
 
-pub returns-in-DropUser : goal.returns-in-DropUser
-returns-in-DropUser c =
+pub returns-in-DropUser-clause-acts : goal.returns-in-DropUser-clause-acts
+returns-in-DropUser-clause-acts c =
     let trip : to_z w64 (of_z w64 c.args.now) ≡ c.args.now = search rules in
     admitted (held c.args.self.now) (held c.drop_user.new.self) c.args.now _ None c.args.user.now c.args.act.now _ _ c.drop_user.result c.requires c.action_of.ensures c.in-Ok.ensures.decided c.in-DropUser.is trip c.drop_user.ensures
 
-pub returns-in-SetAuths : goal.returns-in-SetAuths
-returns-in-SetAuths c =
+pub returns-in-SetAuths-clause-acts : goal.returns-in-SetAuths-clause-acts
+returns-in-SetAuths-clause-acts c =
     let trip : to_z w64 (of_z w64 c.args.now) ≡ c.args.now = search rules in
-    admitted (held c.args.self.now) (held c.set_auths.new.self) c.args.now _ None c.args.user.now c.args.act.now _ _ c.set_auths.result c.requires c.action_of.ensures c.in-Ok.ensures.decided (c.in-SetAuths.is ∙ ap (λ x. act.SetAuths c.in-SetAuths.name x) (sym c.replace-in-SetAuths.ensures.value)) trip c.set_auths.ensures
+    admitted (held c.args.self.now) (held c.set_auths.new.self) c.args.now _ None c.args.user.now c.args.act.now _ _ c.set_auths.result c.requires c.action_of.ensures c.in-Ok.ensures.decided c.in-SetAuths.is trip c.set_auths.ensures.does
 
-pub returns-in-Grant : goal.returns-in-Grant
-returns-in-Grant c =
+pub returns-in-Grant-clause-acts : goal.returns-in-Grant-clause-acts
+returns-in-Grant-clause-acts c =
     let trip : to_z w64 (of_z w64 c.args.now) ≡ c.args.now = search rules in
     admitted (held c.args.self.now) (held c.grant.new.self) c.args.now _ None c.args.user.now c.args.act.now _ _ c.grant.result c.requires c.action_of.ensures c.in-Ok.ensures.decided c.in-Grant.is trip c.grant.ensures
 
-pub returns-in-Revoke : goal.returns-in-Revoke
-returns-in-Revoke c =
+pub returns-in-Revoke-clause-acts : goal.returns-in-Revoke-clause-acts
+returns-in-Revoke-clause-acts c =
     let trip : to_z w64 (of_z w64 c.args.now) ≡ c.args.now = search rules in
     admitted (held c.args.self.now) (held c.revoke.new.self) c.args.now _ None c.args.user.now c.args.act.now _ _ c.revoke.result c.requires c.action_of.ensures c.in-Ok.ensures.decided c.in-Revoke.is trip c.revoke.ensures
 
-pub returns-in-Flush : goal.returns-in-Flush
-returns-in-Flush c =
+pub returns-in-Flush-clause-acts : goal.returns-in-Flush-clause-acts
+returns-in-Flush-clause-acts c =
     let trip : to_z w64 (of_z w64 c.args.now) ≡ c.args.now = search rules in
     admitted (held c.args.self.now) (held c.flush.new.self) c.args.now _ None c.args.user.now c.args.act.now _ _ c.flush.result c.requires c.action_of.ensures c.in-Ok.ensures.decided c.in-Flush.is trip c.flush.ensures
 
-pub returns-in-Compact : goal.returns-in-Compact
-returns-in-Compact c =
+pub returns-in-Compact-clause-acts : goal.returns-in-Compact-clause-acts
+returns-in-Compact-clause-acts c =
     let trip : to_z w64 (of_z w64 c.args.now) ≡ c.args.now = search rules in
     admitted (held c.args.self.now) (held c.compact.new.self) c.args.now _ None c.args.user.now c.args.act.now _ _ c.compact.result c.requires c.action_of.ensures c.in-Ok.ensures.decided c.in-Compact.is trip c.compact.ensures
 
-pub returns-in-AddSplit : goal.returns-in-AddSplit
-returns-in-AddSplit c =
+pub returns-in-AddSplit-clause-acts : goal.returns-in-AddSplit-clause-acts
+returns-in-AddSplit-clause-acts c =
     let trip : to_z w64 (of_z w64 c.args.now) ≡ c.args.now = search rules in
-    admitted (held c.args.self.now) (held c.add_split.new.self) c.args.now _ None c.args.user.now c.args.act.now _ _ c.add_split.result c.requires c.action_of.ensures c.in-Ok.ensures.decided (c.in-AddSplit.is ∙ ap (λ x. act.AddSplit c.in-AddSplit.table x) (sym c.replace-in-AddSplit.ensures.value)) trip c.add_split.ensures
+    admitted (held c.args.self.now) (held c.add_split.new.self) c.args.now _ None c.args.user.now c.args.act.now _ _ c.add_split.result c.requires c.action_of.ensures c.in-Ok.ensures.decided c.in-AddSplit.is trip c.add_split.ensures
 
-pub returns-in-SplitBySize : goal.returns-in-SplitBySize
-returns-in-SplitBySize c =
+pub returns-in-SplitBySize-clause-acts : goal.returns-in-SplitBySize-clause-acts
+returns-in-SplitBySize-clause-acts c =
     let trip : to_z w64 (of_z w64 c.args.now) ≡ c.args.now = search rules in
     admitted (held c.args.self.now) (held c.split_by_size.new.self) c.args.now _ None c.args.user.now c.args.act.now _ _ c.split_by_size.result c.requires c.action_of.ensures c.in-Ok.ensures.decided c.in-SplitBySize.is trip c.split_by_size.ensures
 
-pub returns-in-Splits : goal.returns-in-Splits
-returns-in-Splits c =
+pub returns-in-Splits-clause-acts : goal.returns-in-Splits-clause-acts
+returns-in-Splits-clause-acts c =
     let trip : to_z w64 (of_z w64 c.args.now) ≡ c.args.now = search rules in
     admitted (held c.args.self.now) (held c.args.self.now) c.args.now _ None c.args.user.now c.args.act.now _ _ c.splits.result c.requires c.action_of.ensures c.in-Ok.ensures.decided c.in-Splits.is trip c.splits.ensures
 
-pub returns-in-Save : goal.returns-in-Save
-returns-in-Save c =
+pub returns-in-Save-clause-acts : goal.returns-in-Save-clause-acts
+returns-in-Save-clause-acts c =
     let trip : to_z w64 (of_z w64 c.args.now) ≡ c.args.now = search rules in
     admitted (held c.args.self.now) (held c.args.self.now) c.args.now _ None c.args.user.now c.args.act.now _ _ c.save.result c.requires c.action_of.ensures c.in-Ok.ensures.decided c.in-Save.is trip c.save.ensures
 
-pub returns-in-Load : goal.returns-in-Load
-returns-in-Load c =
+pub returns-in-Load-clause-acts : goal.returns-in-Load-clause-acts
+returns-in-Load-clause-acts c =
     let trip : to_z w64 (of_z w64 c.args.now) ≡ c.args.now = search rules in
     admitted (held c.args.self.now) (held c.args.self.now) c.args.now _ None c.args.user.now c.args.act.now _ _ c.load.result c.requires c.action_of.ensures c.in-Ok.ensures.decided c.in-Load.is trip c.load.ensures
 
-pub returns-in-Rotate : goal.returns-in-Rotate
-returns-in-Rotate c =
+pub returns-in-Rotate-clause-acts : goal.returns-in-Rotate-clause-acts
+returns-in-Rotate-clause-acts c =
     let trip : to_z w64 (of_z w64 c.args.now) ≡ c.args.now = search rules in
     admitted (held c.args.self.now) (held c.args.self.now) c.args.now _ None c.args.user.now c.args.act.now _ _ c.rotate.result c.requires c.action_of.ensures c.in-Ok.ensures.decided c.in-Rotate.is trip c.rotate.ensures
 
-pub returns-in-Begin : goal.returns-in-Begin
-returns-in-Begin c =
+pub returns-in-Begin-clause-acts : goal.returns-in-Begin-clause-acts
+returns-in-Begin-clause-acts c =
     let trip : to_z w64 (of_z w64 c.args.now) ≡ c.args.now = search rules in
-    admitted (held c.args.self.now) (held c.begin.new.self) c.args.now _ None c.args.user.now c.args.act.now _ _ c.begin.result c.requires c.action_of.ensures c.in-Ok.ensures.decided (c.in-Begin.is ∙ ap (λ x. act.Begin c.in-Begin.table x c.in-Begin.kind) (sym c.replace-in-Begin.ensures.value)) trip c.begin.ensures
+    admitted (held c.args.self.now) (held c.begin.new.self) c.args.now _ None c.args.user.now c.args.act.now _ _ c.begin.result c.requires c.action_of.ensures c.in-Ok.ensures.decided c.in-Begin.is trip c.begin.ensures
 
-pub returns-in-Install : goal.returns-in-Install
-returns-in-Install c =
+pub returns-in-Install-clause-acts : goal.returns-in-Install-clause-acts
+returns-in-Install-clause-acts c =
     let trip : to_z w64 (of_z w64 c.args.now) ≡ c.args.now = search rules in
     admitted (held c.args.self.now) (held c.args.self.now) c.args.now _ None c.args.user.now c.args.act.now _ _ c.install_none.result c.requires c.action_of.ensures c.in-Ok.ensures.decided c.in-Install.is trip c.install_none.ensures

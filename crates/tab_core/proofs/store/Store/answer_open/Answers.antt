@@ -9,8 +9,8 @@ use Rattle.tab_core.proofs.Admitting.{denied, admitted}
 use Rattle.tab_core.proofs.Opening.{tablets_apart}
 use Rattle.tab_core.proofs.store.Store.answer_open.Goals as goal
 
-pub returns-in-Err : goal.returns-in-Err
-returns-in-Err c =
+pub returns-in-Err-clause-acts : goal.returns-in-Err-clause-acts
+returns-in-Err-clause-acts c =
     let act : Act = Open c.args.scan.now in
     let d : Some c.in-Err.denial ≡ decision (standing_of c.args.self.now.policy c.args.user.now) (action_of act) = c.in-Err.ensures.decided in
     denied (held c.args.self.now) c.args.now None c.args.user.now act c.refusal_of.result c.requires (sym (c.refusal_of.ensures ∙ ap (denial c.args.user.now) d))
@@ -18,9 +18,9 @@ returns-in-Err c =
 pub open-requires : goal.open-requires
 open-requires c = tablets_apart (held c.args.self.now) c.requires.store c.args.scan.now.table
 
-pub returns : goal.returns
-returns c =
+pub returns-clause-acts : goal.returns-clause-acts
+returns-clause-acts c =
     let act : Act = Open c.args.scan.now in
     let d : None ≡ decision (standing_of c.args.self.now.policy c.args.user.now) (action_of act) = c.in-Ok.ensures.decided in
     admitted (held c.args.self.now) _ c.args.now c.args.now None c.args.user.now act act (action_of act) c.open.result c.requires refl d refl refl
-    (c.open.ensures c.args.now c.args.self.now.next (held c.args.self.now) c.args.user.now c.requires refl refl (sym c.in-Ok.ensures.caller.authorizations))
+    (c.open.ensures.acts c.args.now c.args.self.now.next (held c.args.self.now) c.args.user.now c.requires refl refl (sym c.in-Ok.ensures.caller.authorizations))
