@@ -1,6 +1,6 @@
 -- A book with an entry more.
 use Rattle.std.proofs.Common.{◌≡◌, ℕ, ◌+◌, ◌^◌, ◌≤◌, Option, List, [], ◌∷◌, ◌++◌, length, length-append, refl, sym, ap, ◌∙◌, subst, arith}
-use Rattle.tab_core.specs.SessionState.{SessionState}
+use Rattle.tab_core.specs.OpenSession.{OpenSession}
 use Rattle.tab_core.specs.Parts.{TabletMerge}
 use Rattle.tab_history.specs.Bases.{Base}
 use Rattle.tab_history.specs.Answers.{told_of}
@@ -17,7 +17,7 @@ extend-append h [] p = refl
 extend-append h (q ∷ ps) p = extend-append (entry_of q.event q.reply ∷ h) ps p
 
 -- the entry of an event that was told so
-pub kept_more : (base : Base) (ps now : List Posted) (p : Posted) (old new : Held) (joined out parts rest total total' : ℕ) (given : Option TabletMerge) (event : Event) (reply : Reply SessionState TabletMerge)
+pub kept_more : (base : Base) (ps now : List Posted) (p : Posted) (old new : Held) (joined out parts rest total total' : ℕ) (given : Option TabletMerge) (event : Event) (reply : Reply OpenSession TabletMerge)
     → IsKept base ps old joined out parts rest total → StepsOn old given event reply new → now ≡ ps ++ p ∷ [] → p.event ≡ event → p.reply ≡ told_of reply → total' ≡ total + 1
     → IsKept base now new joined out parts rest total'
 kept_more base ps now p old new joined out parts rest total total' given event reply kept steps is asked told one =

@@ -3,7 +3,7 @@ use Rattle.std.specs.Prelude.{ℕ, ◌≡◌, ◌+◌, ◌≤◌, [], ◌∷◌,
 use Rattle.tab_history.specs.Answers.{told_of}
 use Rattle.tab_history.specs.declared.event.Event.{Event}
 use Rattle.tab_history.specs.declared.reply.Reply.{Reply}
-use Rattle.tab_core.specs.SessionState.{SessionState}
+use Rattle.tab_core.specs.OpenSession.{OpenSession}
 use Rattle.tab_core.specs.Parts.{TabletMerge}
 use Rattle.tab_core.specs.Recording.{StepsOn}
 use Rattle.tab_book.specs.declared.held.Held.{Held}
@@ -26,7 +26,7 @@ pub record Receives (seat : Place) (event : Event) (slip : Slip) (seat' : Place)
   pub entry : slip.entry ≡ posted seat.number event slip.entry.reply
   pub above : seat.seen ≤ slip.number
   pub counts : seat' ≡ place seat.number (slip.number + 1) (seat.count + 1)
-  pub whole : (reply : Reply SessionState TabletMerge) × (slip.entry.reply ≡ told_of reply) × (slip.held ≡ held_of reply)
+  pub whole : (reply : Reply OpenSession TabletMerge) × (slip.entry.reply ≡ told_of reply) × (slip.held ≡ held_of reply)
 
 -- An event of a seat, and the merge that came with it: the history grows by the receipt's entry, and the core goes on by its step, whose reply
 -- the entry has, and whose session or job the receipt.
@@ -34,4 +34,4 @@ pub record Applies (book : Record) (seat : Place) (given : Option TabletMerge) (
   pub receives : Receives seat event slip seat'
   pub number : slip.number ≡ next_of book
   pub grows : book' ≡ record book { entries = book.entries ++ slip.entry ∷ []; core = book'.core }
-  pub steps : (reply : Reply SessionState TabletMerge) × (slip.entry.reply ≡ told_of reply) × (slip.held ≡ held_of reply) × StepsOn book.core given event reply book'.core
+  pub steps : (reply : Reply OpenSession TabletMerge) × (slip.entry.reply ≡ told_of reply) × (slip.held ≡ held_of reply) × StepsOn book.core given event reply book'.core

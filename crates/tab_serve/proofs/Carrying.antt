@@ -20,6 +20,7 @@ use Rattle.tab_history.specs.Chains.{IsChain, NamesNoSlot}
 use Rattle.tab_history.specs.Runs.{IsNoEvent}
 use Rattle.tab_history.proofs.GoOn.{list_same}
 use Rattle.tab_core.specs.SessionState.{SessionState}
+use Rattle.tab_core.specs.OpenSession.{OpenSession}
 use Rattle.tab_core.specs.Stores.{Held, base_of}
 use Rattle.tab_core.specs.Parts.{TabletMerge}
 use Rattle.tab_core.specs.Chains.{ServedGoes}
@@ -69,12 +70,12 @@ shut_slots moves e (Opened s) all ss shut are = subst (λ (b : Bool). SlotsAre (
 shut_slots moves e _ all ss shut are = are
 
 -- an Open that the core answered, and the list that its session has
-kept_slots : (moves : List Move) (old new : Held) (e : Event) (r : Reply SessionState TabletMerge) (ss : List (Option SessionState)) → is_open e.act ≡ true → Steps (base_of old) e r (base_of new) → SlotsAre moves ss
+kept_slots : (moves : List Move) (old new : Held) (e : Event) (r : Reply OpenSession TabletMerge) (ss : List (Option SessionState)) → is_open e.act ≡ true → Steps (base_of old) e r (base_of new) → SlotsAre moves ss
     → SlotsAre (moves_told (step.Event e) (told_of r) (session_list (base_of old) [] e.act) ++ moves) (kept_with ss (session_of r))
 kept_slots moves old new e (Opened s) ss opens steps are =
     let all : List Cell = session_list (base_of old) [] e.act in
-    let there : SlotsAre (Opening all ∷ moves) (ss ++ Some s ∷ []) = subst (λ (x : SessionState). SlotsAre (Opening all ∷ moves) (ss ++ Some x ∷ [])) (sym (opened_list (base_of old) (base_of new) e s opens steps)) (slots_opened moves ss all are) in
-    subst (λ (b : Bool). SlotsAre (cond b (Opening all ∷ []) [] ++ moves) (ss ++ Some s ∷ [])) (sym opens) there
+    let there : SlotsAre (Opening all ∷ moves) (ss ++ Some s.state ∷ []) = subst (λ (x : OpenSession). SlotsAre (Opening all ∷ moves) (ss ++ Some x.state ∷ [])) (sym (opened_list (base_of old) (base_of new) e s opens steps)) (slots_opened moves ss all are) in
+    subst (λ (b : Bool). SlotsAre (cond b (Opening all ∷ []) [] ++ moves) (ss ++ Some s.state ∷ [])) (sym opens) there
 kept_slots moves old new e _ ss opens steps are = are
 
 -- ---- which event an entry is
@@ -100,7 +101,7 @@ is_right w h x e r one all fits moment e' r' ms es =
     (subst (λ (t : Told). IsAnswer w h h (step.Event e) t ⊎ LacksMemory (step.Event e) t) also fits, all)
 
 -- an event that names no slot of a job is an exact step
-exactly : (old new : Held) (e : Event) (r : Reply SessionState TabletMerge) → NamesNoSlot e.act → StepsWith old None e r new → StepsExactly old None e (told_of r) (job_of r) new
+exactly : (old new : Held) (e : Event) (r : Reply OpenSession TabletMerge) → NamesNoSlot e.act → StepsWith old None e r new → StepsExactly old None e (told_of r) (job_of r) new
 exactly old new e r names (inl did) = did.1
 exactly old new e r names (inr (slot, by, told, same)) = let never : ⊥ = subst NamesNoSlot by.1 names in absurd never
 

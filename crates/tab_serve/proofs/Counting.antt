@@ -15,6 +15,7 @@ use Rattle.tab_key.specs.declared.range.Bounds.{Bounds}
 use Rattle.tab_core.specs.Shape.{first_some}
 use Rattle.tab_core.specs.Parts.{TabletMerge}
 use Rattle.tab_core.specs.SessionState.{SessionState, in_ranges}
+use Rattle.tab_core.specs.OpenSession.{OpenSession}
 use Rattle.tab_core.specs.Stores.{base_of}
 use Rattle.tab_core.specs.Slots.{slot_at, are_full, NextFrom, ManyFrom, CloseFrom}
 use Rattle.tab_core.specs.Owners.{kept_with}
@@ -83,8 +84,8 @@ few_opened ss room = go (nat_le 65536 (count_by is_some ss)) room
     go true room = absurd (true≢false room)
     go false room = grind (arith, nat_tests)
 
-pub kept_counted : (ss : List (Option SessionState)) (r : Reply SessionState TabletMerge) → are_full ss ≡ false → Counts ss (told_of r) (kept_with ss (session_of r))
-kept_counted ss (Opened s) room = record { room = λ opening. few_opened ss room; opened = length-append ss (Some s ∷ []) }
+pub kept_counted : (ss : List (Option SessionState)) (r : Reply OpenSession TabletMerge) → are_full ss ≡ false → Counts ss (told_of r) (kept_with ss (session_of r))
+kept_counted ss (Opened s) room = record { room = λ opening. few_opened ss room; opened = length-append ss (Some s.state ∷ []) }
 kept_counted ss _ room = none_counted ss ss _ refl refl
 
 -- ---- any request

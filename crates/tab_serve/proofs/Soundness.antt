@@ -18,7 +18,7 @@ use Rattle.tab_history.specs.Readings.{base_table, base_settings, base_records, 
 use Rattle.tab_history.specs.Histories.{World, world_of, world_after, journal, clock_of}
 use Rattle.tab_history.specs.Refinement.{Refines, IsSound}
 use Rattle.tab_history.proofs.Chains.{sound_refines_itself}
-use Rattle.tab_core.specs.SessionState.{SessionState}
+use Rattle.tab_core.specs.OpenSession.{OpenSession, opened}
 use Rattle.tab_core.specs.Stepping.{Steps}
 use Rattle.tab_core.proofs.Runs.{after_none}
 
@@ -48,7 +48,7 @@ open_sound v b e opens h =
     refined_sound v b clock (subst (λ (j : List Change). Refines v (record { base = b; changes = j; clock = clock })) (open_changes (int_max b.clock e.moment) e.user e.act opens) h)
 
 -- the session that is handed out has the list that is defined on what the core held
-pub opened_list : (b b' : Base) (e : Event) (session : SessionState) → is_open e.act ≡ true → Steps b e (Opened session) b' → session ≡ record { all = session_list b [] e.act; given = 0 }
+pub opened_list : (b b' : Base) (e : Event) (session : OpenSession) → is_open e.act ≡ true → Steps b e (Opened session) b' → session ≡ opened (session_list b [] e.act)
 unfolding journal
 opened_list b b' e session opens steps =
     let self : Refines (world_of b) (world_of b) = sound_refines_itself (world_of b) (open_sound (world_of b') b e opens steps.right.refines) in

@@ -8,6 +8,7 @@ use Rattle.tab_history.specs.declared.reply.Reply.{Reply}
 use Rattle.tab_history.specs.declared.reply.Reply.TheVariants.{Done, Refused}
 use Rattle.tab_history.specs.Answers.{Told, told_of, is_open}
 use Rattle.tab_core.specs.SessionState.{SessionState}
+use Rattle.tab_core.specs.OpenSession.{OpenSession}
 use Rattle.tab_core.specs.Stores.{Held, base_of}
 use Rattle.tab_core.specs.Parts.{TabletMerge}
 use Rattle.tab_core.specs.Stepping.{Steps, StepsWith}
@@ -52,7 +53,7 @@ pub record Applies {M : Type 0} (gives : M → ℤ → M → Type 0) (old : Serv
   pub shut : is_open act ≡ false
   pub moment : ℤ
   pub gave : gives old.moments moment new.moments
-  pub answer : Reply SessionState TabletMerge
+  pub answer : Reply OpenSession TabletMerge
   pub steps : Steps (base_of old.core) (asked_at user moment act) answer (base_of new.core)
   pub exact : StepsWith old.core None (asked_at user moment act) answer new.core
   pub told : reply ≡ told_of answer

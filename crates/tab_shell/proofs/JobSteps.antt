@@ -1,6 +1,6 @@
 -- How a script's core and its jobs go on exactly.
 use Rattle.std.proofs.Common.{◌≡◌, List, [], ◌∷◌, ◌++◌, Option, None, refl, sym, subst}
-use Rattle.tab_cells.specs.SessionState.{SessionState}
+use Rattle.tab_core.specs.OpenSession.{OpenSession}
 use Rattle.tab_history.specs.declared.event.Scan.{Scan}
 use Rattle.tab_history.specs.declared.event.Act.TheVariants.{Open}
 use Rattle.tab_history.specs.declared.event.Event.{Event}
@@ -32,7 +32,7 @@ abbrev pub OpensExactly : ScriptState → Held → Scan → Told → Type 0
 OpensExactly s core scan told = GoesExactly s.core s.jobs (entry (event_by s.asker (Open scan)) told ∷ []) core s.jobs
 
 -- it begins no job
-pub opens_exactly : (s : ScriptState) (core : Held) (scan : Scan) (r : Reply SessionState TabletMerge) → StepsWith s.core None (event_by s.asker (Open scan)) r core → OpensExactly s core scan (told_of r)
+pub opens_exactly : (s : ScriptState) (core : Held) (scan : Scan) (r : Reply OpenSession TabletMerge) → StepsWith s.core None (event_by s.asker (Open scan)) r core → OpensExactly s core scan (told_of r)
 opens_exactly s core scan r steps =
     let event : Event = event_by s.asker (Open scan) in
     let exact : StepsExactly s.core None event (told_of r) (job_of r) core = open_exactly s.core core None event r refl steps in

@@ -5,6 +5,7 @@ use mathlib.Core.Bool.{true≢false}
 use Rattle.std.proofs.lemmas.Bool.{leb-true, le-leb}
 use Rattle.tab_key.specs.Records.{Cell}
 use Rattle.tab_cells.specs.SessionState.{SessionState}
+use Rattle.tab_core.specs.OpenSession.{OpenSession}
 use Rattle.tab_history.specs.declared.event.Scan.{Scan}
 use Rattle.tab_history.specs.declared.event.Act.TheVariants.{Open}
 use Rattle.tab_history.specs.declared.reply.Refusal.TheVariants.{NoMemory}
@@ -48,7 +49,7 @@ abbrev pub with_slots : Kept → List (Option SessionState) → Kept
 with_slots kept slots = record kept { numbered = slots }
 
 -- the core answered, and opened no session
-quiet_answered : (s : ScriptState) (core : Held) (kept : Keeping) (slots : List (Option SessionState)) (scan : Scan) (r : Reply SessionState TabletMerge) → is_spent (own_kept s) ≡ false
+quiet_answered : (s : ScriptState) (core : Held) (kept : Keeping) (slots : List (Option SessionState)) (scan : Scan) (r : Reply OpenSession TabletMerge) → is_spent (own_kept s) ≡ false
     → Steps (base_of s.core) (event_by s.asker (Open scan)) r (base_of core) → OpensExactly s core scan (told_of r)
     → KeepsFor s.asker.user (with_slots (own_kept s) slots) s.kept kept → slots ≡ (own_kept s).numbered → IsQuiet scan (told_of r)
     → ((numbers : Numbers) (user : List ℕ) (slot : ℕ) → numbers_told numbers user slot (told_of r) ≡ numbers) → ((a b : ℕ) → opened_text a (told_of r) ≡ opened_text b (told_of r))
@@ -74,9 +75,9 @@ quiet_answered s core kept slots scan r room steps exact keeps same quiet still 
 }
 
 -- the core opened a session, which is kept
-session_kept : (s : ScriptState) (core : Held) (kept : Keeping) (slots : List (Option SessionState)) (scan : Scan) (session : SessionState) → is_spent (own_kept s) ≡ false
+session_kept : (s : ScriptState) (core : Held) (kept : Keeping) (slots : List (Option SessionState)) (scan : Scan) (session : OpenSession) → is_spent (own_kept s) ≡ false
     → Steps (base_of s.core) (event_by s.asker (Open scan)) (Opened session) (base_of core) → OpensExactly s core scan (Opened tt)
-    → KeepsFor s.asker.user (with_slots (own_kept s) slots) s.kept kept → slots ≡ (own_kept s).numbered ++ Some session ∷ []
+    → KeepsFor s.asker.user (with_slots (own_kept s) slots) s.kept kept → slots ≡ (own_kept s).numbered ++ Some session.state ∷ []
     → ScriptAnswersLine s (Ok (line.Open scan)) (opened_text (length (own_kept s).numbered) (Opened tt)) (with_sessions s core kept)
 session_kept s core kept slots scan session room steps exact keeps more = record {
   asker = refl;
@@ -88,7 +89,7 @@ session_kept s core kept slots scan session room steps exact keeps more = record
       let all : List Cell = session_list w.base (journal w h) (Open scan) in
       let after : Numbers = with_number numbers user (opened before) in
       let are : KeptAre before (numbers user) own = refines.sessions user in
-      let listed : slots ≡ own.numbered ++ Some (record { all = all; given = 0 }) ∷ [] = more ∙ ap (λ (x : SessionState). own.numbered ++ Some x ∷ []) (steps.hands w h refines.core) in
+      let listed : slots ≡ own.numbered ++ Some (record { all = all; given = 0 }) ∷ [] = more ∙ ap (λ (x : OpenSession). own.numbered ++ Some x.state ∷ []) (steps.hands w h refines.core) in
       let begun : KeptAre (Opening all ∷ before) (numbers user ++ opened before ∷ []) (with_slots own slots) =
       subst (λ (ss : List (Option SessionState)). KeptAre (Opening all ∷ before) (numbers user ++ opened before ∷ []) (with_slots own ss)) (sym listed) (kept_opened before (numbers user) own all are) in
       let mine : after user ≡ numbers user ++ opened before ∷ [] = ap (λ (b : Bool). cond b (numbers user ++ opened before ∷ []) (numbers user)) (bytes_self user) in
@@ -111,7 +112,7 @@ session_kept s core kept slots scan session room steps exact keeps more = record
 }
 
 -- each answer of the core
-core_answered : (s : ScriptState) (core : Held) (kept : Keeping) (slots : List (Option SessionState)) (scan : Scan) (r : Reply SessionState TabletMerge) → is_spent (own_kept s) ≡ false
+core_answered : (s : ScriptState) (core : Held) (kept : Keeping) (slots : List (Option SessionState)) (scan : Scan) (r : Reply OpenSession TabletMerge) → is_spent (own_kept s) ≡ false
     → Steps (base_of s.core) (event_by s.asker (Open scan)) r (base_of core) → OpensExactly s core scan (told_of r)
     → KeepsFor s.asker.user (with_slots (own_kept s) slots) s.kept kept → slots ≡ kept_with (own_kept s).numbered (session_of r)
     → ScriptAnswersLine s (Ok (line.Open scan)) (opened_text (length (own_kept s).numbered) (told_of r)) (with_sessions s core kept)

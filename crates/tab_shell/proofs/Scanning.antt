@@ -15,7 +15,8 @@ use Rattle.tab_history.specs.declared.reply.Reply.{Reply}
 use Rattle.tab_history.specs.declared.reply.Reply.TheVariants.{Done, Refused, Opened, Batch}
 use Rattle.tab_history.specs.Checks.{standing, refusal_of, exists_in, user_named}
 use Rattle.tab_history.specs.Answers.{Told, told, answer, event_answer, IsEventReply, moves_by, session_list, next_answer, close_answer, told_of}
-use Rattle.tab_cells.specs.SessionState.{SessionState, gave}
+use Rattle.tab_cells.specs.SessionState.{gave}
+use Rattle.tab_core.specs.OpenSession.{OpenSession, opened as new_session}
 use Rattle.tab_history.specs.Sessions.{Move, Opening, Taking, Closing, opened, closed, is_full, session_in}
 use Rattle.tab_history.specs.Jobs.{JobMove}
 use Rattle.tab_history.specs.Histories.{Entry, World, world_of, world_after, clock_of, clock_at, journal, is_by, moves_of, jobs_of}
@@ -314,13 +315,13 @@ own_kept s = kept_of s.kept s.asker.user
 room_alike : (s : ScriptState) (w : World) (h : List Entry) (numbers : Numbers) → ScriptRefines s numbers w h → is_full (moves_of w s.asker.user h) ≡ is_spent (own_kept s)
 room_alike s w h numbers refines = spent_alike (moves_of w s.asker.user h) (numbers s.asker.user) (own_kept s) (refines.sessions s.asker.user)
 
-pub legal_open : (s : ScriptState) (core : Held) (scan : Scan) (reply : Reply SessionState TabletMerge) (w : World) (h : List Entry) (numbers : Numbers) → is_spent (own_kept s) ≡ false → Steps (base_of s.core) (event_by s.asker (Open scan)) reply (base_of core)
+pub legal_open : (s : ScriptState) (core : Held) (scan : Scan) (reply : Reply OpenSession TabletMerge) (w : World) (h : List Entry) (numbers : Numbers) → is_spent (own_kept s) ≡ false → Steps (base_of s.core) (event_by s.asker (Open scan)) reply (base_of core)
     → ScriptRefines s numbers w h → IsAnswer w h h (IsEvent (event_by s.asker (Open scan))) (told_of reply) ⊎ LacksMemory (IsEvent (event_by s.asker (Open scan))) (told_of reply)
 legal_open s core scan reply w h numbers room steps refines = steps.answers w h refines.core h (λ yes. room_alike s w h numbers refines ∙ room, tt)
 
 -- the session's cells are those that are defined
-scanned_text : (session : SessionState) (all : List Cell) (text : List ℕ) → session ≡ record { all = all; given = 0 } → IsReadingText (left_of session) text → IsReadingText all text
-scanned_text session all text is rest = subst (λ (s : SessionState). IsReadingText (left_of s) text) is rest
+scanned_text : (session : OpenSession) (all : List Cell) (text : List ℕ) → session ≡ new_session all → IsReadingText (left_of session.state) text → IsReadingText all text
+scanned_text session all text is rest = subst (λ (s : OpenSession). IsReadingText (left_of s.state) text) is rest
 
 opened_scans : (who : Asker) (w : World) (h : List Entry) (scan : Scan) (all : List Cell) (end : ReadingEnd) (text : List ℕ) → all ≡ session_list w.base (journal w h) (Open scan) → CanEnd all end → text ≡ reading_text all end
     → ScanSteps who w h (event_by who (Open scan)) (Opened tt) (reading_steps who.user (opened (moves_of w who.user h)) all end ++ entry (event_by who (Open scan)) (Opened tt) ∷ []) text
@@ -376,10 +377,10 @@ module _ (w : World) (who : Asker) (h : List Entry) (scan : Scan) (out : List En
       let away : (opened before == s) ≡ false = differ (opened before) s (λ is. other (sym is)) in
       reads.apart s away begins ∙ ap (λ ms. session_in ms s) moved ∙ opening_apart before all_cells s away)
 
-pub scan_answered : (s : ScriptState) (core : Held) (kept : Keeping) (scan : Scan) (session : SessionState) (text : List ℕ) → is_spent (own_kept s) ≡ false → Steps (base_of s.core) (event_by s.asker (Open scan)) (Opened session) (base_of core)
+pub scan_answered : (s : ScriptState) (core : Held) (kept : Keeping) (scan : Scan) (session : OpenSession) (text : List ℕ) → is_spent (own_kept s) ≡ false → Steps (base_of s.core) (event_by s.asker (Open scan)) (Opened session) (base_of core)
     → OpensExactly s core scan (Opened tt)
     → KeepsFor s.asker.user (record (own_kept s) { scanned = (own_kept s).scanned + 1 }) s.kept kept
-    → IsReadingText (left_of session) text → ScriptAnswersLine s (Ok (line.Scan scan)) text (with_sessions s core kept)
+    → IsReadingText (left_of session.state) text → ScriptAnswersLine s (Ok (line.Scan scan)) text (with_sessions s core kept)
 scan_answered s core kept scan session text room steps exact keeps rest = record {
   asker = refl;
   extends = λ w h numbers refines legal.
@@ -476,7 +477,7 @@ never : (s : ScriptState) (core : Held) (scan : Scan) (text : List ℕ) → ((w 
 never s core scan text nowhere = record { asker = refl; extends = λ w h numbers refines legal. absurd (nowhere w h numbers refines) }
 
 -- each reply but an opened session
-pub kept_answered : (s : ScriptState) (core : Held) (scan : Scan) (reply : Reply SessionState TabletMerge) → is_spent (own_kept s) ≡ false → Steps (base_of s.core) (event_by s.asker (Open scan)) reply (base_of core) → OpensExactly s core scan (told_of reply) → ((session : SessionState) → reply ≡ Opened session → ⊥)
+pub kept_answered : (s : ScriptState) (core : Held) (scan : Scan) (reply : Reply OpenSession TabletMerge) → is_spent (own_kept s) ≡ false → Steps (base_of s.core) (event_by s.asker (Open scan)) reply (base_of core) → OpensExactly s core scan (told_of reply) → ((session : OpenSession) → reply ≡ Opened session → ⊥)
     → ScriptAnswersLine s (Ok (line.Scan scan)) (reply_text (told_of reply)) (with_new_core s core)
 kept_answered s core scan (Refused r) lt steps exact other = refused_answered s core scan r lt steps exact
 kept_answered s core scan (Opened session) lt steps exact other = absurd (other session refl)

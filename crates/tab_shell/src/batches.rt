@@ -19,7 +19,7 @@ pub fn put_session<W: Output>(
     mut session: Session,
     output: &mut W,
 ) -> Result<(), WriteFault>
-    ensures { PutsReading W.Output output.old output.new (left_of session) result }
+    ensures { PutsReading W.Output output.old output.new (left_of session.state) result }
 {
     put_rest(alloc, &mut session, output)
 }
@@ -31,7 +31,7 @@ fn put_rest<W: Output>(
     session: &mut Session,
     output: &mut W,
 ) -> Result<(), WriteFault>
-    ensures { PutsReading W.Output output.old output.new (left_of session.old) result }
+    ensures { PutsReading W.Output output.old output.new (left_of session.old.state) result }
 {
     loop {
         match put_batch(alloc, session, output) {
@@ -48,7 +48,7 @@ fn put_batch<W: Output>(
     session: &mut Session,
     output: &mut W,
 ) -> Result<bool, WriteFault>
-    ensures { PutsBatch W.Output output.old output.new session.old session.new result }
+    ensures { PutsBatch W.Output output.old output.new session.old.state session.new.state result }
 {
     match session.next_batch(alloc, BATCH_LENGTH) {
         Ok(cells) => put_taken(cells, output),

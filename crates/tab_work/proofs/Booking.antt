@@ -12,6 +12,7 @@ use Rattle.tab_history.specs.Answers.{Told, told_of, session_of, is_open}
 use Rattle.tab_history.specs.Sessions.{Move, Opening, opened, is_full}
 use Rattle.tab_history.specs.Bases.{new_core}
 use Rattle.tab_core.specs.SessionState.{SessionState}
+use Rattle.tab_core.specs.OpenSession.{OpenSession}
 use Rattle.tab_core.specs.Parts.{TabletMerge}
 use Rattle.tab_core.specs.Stores.{Held}
 use Rattle.tab_core.specs.Slots.{are_full, SlotsAre}
@@ -156,19 +157,19 @@ module _ {M : Type 0} (gives : M → ℤ → M → Type 0) (old new : Seated M) 
         }
 
     -- the whole answer of a session that was handed out
-    abbrev list_of : Option SessionState → List Cell
+    abbrev list_of : Option OpenSession → List Cell
     list_of None = []
-    list_of (Some session) = session.all
+    list_of (Some session) = session.state.all
 
-    has_list : (s : Option SessionState) → HandsOut act s → HasList (list_of s) s
+    has_list : (s : Option OpenSession) → HandsOut act s → HasList (list_of s) s
     has_list None hands = tt
-    has_list (Some session) hands = λ i. record { all = session.all; given = hands.1 i }
+    has_list (Some session) hands = λ i. record { all = session.state.all; given = hands.1 i }
 
     -- the sessions of the connection, with the one that was handed out
-    kept_slots : (e : Event) → e.act ≡ act → (r : Reply SessionState TabletMerge) → HandsOut act (session_of r) → SlotsAre (moves_told (step.Event e) (told_of r) (list_of (session_of r)) ++ talk.moves) (kept_with slots (session_of r))
+    kept_slots : (e : Event) → e.act ≡ act → (r : Reply OpenSession TabletMerge) → HandsOut act (session_of r) → SlotsAre (moves_told (step.Event e) (told_of r) (list_of (session_of r)) ++ talk.moves) (kept_with slots (session_of r))
     kept_slots e is (Opened session) hands =
-        let there : SlotsAre (Opening session.all ∷ talk.moves) (slots ++ Some session ∷ []) = subst (λ (s : SessionState). SlotsAre (Opening session.all ∷ talk.moves) (slots ++ Some s ∷ [])) (sym (has_list (Some session) hands)) (slots_opened talk.moves slots session.all are) in
-        subst (λ (b : Bool). SlotsAre (cond b (Opening session.all ∷ []) [] ++ talk.moves) (slots ++ Some session ∷ [])) (sym (ap is_open is ∙ hands.0)) there
+        let there : SlotsAre (Opening session.state.all ∷ talk.moves) (slots ++ Some session.state ∷ []) = subst (λ (s : SessionState). SlotsAre (Opening session.state.all ∷ talk.moves) (slots ++ Some s ∷ [])) (sym (has_list (Some session) hands)) (slots_opened talk.moves slots session.state.all are) in
+        subst (λ (b : Bool). SlotsAre (cond b (Opening session.state.all ∷ []) [] ++ talk.moves) (slots ++ Some session.state ∷ [])) (sym (ap is_open is ∙ hands.0)) there
     kept_slots e is _ hands = are
 
     -- the seat's next event
@@ -176,16 +177,16 @@ module _ {M : Type 0} (gives : M → ℤ → M → Type 0) (old new : Seated M) 
     books r does is =
         let e : Event = asked_at user does.moment act in
         let slip : Slip = does.slip in
-        let reply : Reply SessionState TabletMerge = does.receives.whole.0 in
-        let session : Option SessionState = session_in slip.held in
+        let reply : Reply OpenSession TabletMerge = does.receives.whole.0 in
+        let session : Option OpenSession = session_in slip.held in
         let is_its : session ≡ session_of reply = ap session_in does.receives.whole.2 ∙ session_held reply in
         let all : List Cell = list_of session in
         let x : Exchange = record { what = heard.Request user (asks.Act act); moments = does.moment ∷ []; entries = entry_of e slip.entry.reply ∷ []; all = all; told = sent_of (opened talk.moves) 0 slip.entry.reply } in
         let there : SlotsAre (moves_told (step.Event e) (told_of reply) (list_of (session_of reply)) ++ talk.moves) (kept_with slots (session_of reply)) =
-        kept_slots e refl reply (subst (λ (s : Option SessionState). HandsOut act s) is_its does.hands) in
+        kept_slots e refl reply (subst (λ (s : Option OpenSession). HandsOut act s) is_its does.hands) in
         let here : SlotsAre (moves_told (step.Event e) slip.entry.reply (list_of session) ++ talk.moves) (kept_with slots session) =
         subst (λ (t : Told). SlotsAre (moves_told (step.Event e) t (list_of session) ++ talk.moves) (kept_with slots session)) (sym does.receives.whole.1)
-        (subst (λ (s : Option SessionState). SlotsAre (moves_told (step.Event e) (told_of reply) (list_of s) ++ talk.moves) (kept_with slots s)) (sym is_its) there) in
+        (subst (λ (s : Option OpenSession). SlotsAre (moves_told (step.Event e) (told_of reply) (list_of s) ++ talk.moves) (kept_with slots s)) (sym is_its) there) in
         record {
           x = x;
           after = moves_told (step.Event e) slip.entry.reply all ++ talk.moves;

@@ -5,6 +5,7 @@ use Rattle.tab_history.specs.declared.reply.Reply.{Reply}
 use Rattle.tab_history.specs.declared.reply.Reply.TheVariants.{Opened}
 use Rattle.tab_history.specs.Answers.{Told, told_of, session_of, is_open}
 use Rattle.tab_core.specs.SessionState.{SessionState}
+use Rattle.tab_core.specs.OpenSession.{OpenSession}
 use Rattle.tab_core.specs.Parts.{TabletMerge}
 use Rattle.tab_core.specs.Slots.{are_full}
 use Rattle.tab_core.specs.Owners.{kept_with}
@@ -20,7 +21,7 @@ use Rattle.tab_work.specs.Shares.{Seated, DoesAct, Shares}
 use Rattle.tab_work.proofs.Booking.{bare}
 
 -- ---- a session that was handed out, for which there was room
-kept : (act : Act) (slots : List (Option SessionState)) (r : Reply SessionState TabletMerge) → (is_open act && are_full slots) ≡ false → HandsOut act (session_of r) → Counts slots (told_of r) (kept_with slots (session_of r))
+kept : (act : Act) (slots : List (Option SessionState)) (r : Reply OpenSession TabletMerge) → (is_open act && are_full slots) ≡ false → HandsOut act (session_of r) → Counts slots (told_of r) (kept_with slots (session_of r))
 kept act slots (Opened s) room hands = kept_counted slots (Opened s) (ap (λ (b : Bool). b && are_full slots) (sym hands.0) ∙ room)
 kept act slots _ room hands = none_counted slots slots _ refl refl
 
@@ -30,12 +31,12 @@ module _ {M : Type 0} (gives : M → ℤ → M → Type 0) (old : Seated M) (slo
   act_counted act (inl full) = none_counted slots slots' reply (ap opens full.told) (ap (λ (ss : List (Option SessionState)). length ss) full.kept)
   act_counted act (inr (inl lacks)) = none_counted slots slots' reply (ap opens lacks.told) (ap (λ (ss : List (Option SessionState)). length ss) lacks.kept)
   act_counted act (inr (inr does)) =
-      let r : Reply SessionState TabletMerge = does.receives.whole.0 in
+      let r : Reply OpenSession TabletMerge = does.receives.whole.0 in
       let is_its : session_in does.slip.held ≡ session_of r = ap session_in does.receives.whole.2 ∙ session_held r in
       let told : reply ≡ told_of r = does.told ∙ does.receives.whole.1 in
       let after : slots' ≡ kept_with slots (session_of r) = does.kept ∙ ap (kept_with slots) is_its in
       subst (λ (ss : List (Option SessionState)). Counts slots reply ss) (sym after)
-      (subst (λ (t : Told). Counts slots t (kept_with slots (session_of r))) (sym told) (kept act slots r does.room (subst (λ (s : Option SessionState). HandsOut act s) is_its does.hands)))
+      (subst (λ (t : Told). Counts slots t (kept_with slots (session_of r))) (sym told) (kept act slots r does.room (subst (λ (s : Option OpenSession). HandsOut act s) is_its does.hands)))
 
   own_counted : (request : Request) → Serves gives (record { core = bare; slots = slots; moments = old.moments }) user request reply (record { core = bare; slots = slots'; moments = new.moments }) → Counts slots reply slots'
   own_counted request says = counted gives (record { core = bare; slots = slots; moments = old.moments }) user reply (record { core = bare; slots = slots'; moments = new.moments }) request says

@@ -3,14 +3,14 @@ use Rattle.std.specs.Prelude.{◌≡◌, true, List, [], ◌∷◌, Option, Some
 use Rattle.tab_history.specs.declared.event.Act.{Act}
 use Rattle.tab_history.specs.declared.event.Event.{Event}
 use Rattle.tab_history.specs.Answers.{is_open}
-use Rattle.tab_core.specs.SessionState.{SessionState}
+use Rattle.tab_core.specs.OpenSession.{OpenSession}
 use Rattle.tab_book.specs.Entries.{Place}
 use Rattle.tab_book.specs.Receipts.{Slip, Receives}
 
 -- a session is handed out for an Open alone, and nothing of it was given yet
-abbrev pub HandsOut : Act → Option SessionState → Type 0
+abbrev pub HandsOut : Act → Option OpenSession → Type 0
 HandsOut act None = Unit {0}
-HandsOut act (Some session) = (is_open act ≡ true) × (session.given ≡ 0)
+HandsOut act (Some session) = (is_open act ≡ true) × (session.state.given ≡ 0)
 
 -- the receipt, once what was handed out was taken
 abbrev pub spent : Slip → Slip

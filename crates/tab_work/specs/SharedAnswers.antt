@@ -5,6 +5,7 @@ use Rattle.tab_history.specs.declared.reply.Refusal.TheVariants.{NoMemory}
 use Rattle.tab_history.specs.declared.reply.Reply.TheVariants.{Refused}
 use Rattle.tab_history.specs.Answers.{Told}
 use Rattle.tab_core.specs.SessionState.{SessionState}
+use Rattle.tab_core.specs.OpenSession.{OpenSession}
 use Rattle.tab_book.specs.declared.book.Origin.{Ghosts}
 use Rattle.tab_book.specs.HandedOut.{session_in}
 use Rattle.tab_book.specs.Receipts.{Slip, Receives}
@@ -60,7 +61,7 @@ pub record Takes {M : Type 0} (gives : M → ℤ → M → Type 0) (old : Seated
   pub receipts : new.receipts ≡ old.receipts
 
 -- The event was the seat's next one: its reply is told, its session handed on, and the receipt was added, with nothing to be taken.
-pub record Adds {M : Type 0} (old : Seated M) (event : Event) (reply : Told) (session : Option SessionState) (new : Seated M) : Type 0 where
+pub record Adds {M : Type 0} (old : Seated M) (event : Event) (reply : Told) (session : Option OpenSession) (new : Seated M) : Type 0 where
   pub slip : Slip
   pub receives : Receives old.seat event slip new.seat
   pub hands : HandsOut event.act (session_in slip.held)
@@ -70,11 +71,11 @@ pub record Adds {M : Type 0} (old : Seated M) (event : Event) (reply : Told) (se
   pub moments : new.moments ≡ old.moments
 
 -- memory lacked for it, and it didn't happen
-pub record Misses {M : Type 0} (old : Seated M) (reply : Told) (session : Option SessionState) (new : Seated M) : Type 0 where
+pub record Misses {M : Type 0} (old : Seated M) (reply : Told) (session : Option OpenSession) (new : Seated M) : Type 0 where
   pub told : reply ≡ Refused NoMemory
   pub handed : session ≡ None
   pub same : new ≡ old
 
 -- the book did the event, or memory lacked
-abbrev pub Tries : {M : Type 0} → Seated M → Event → Told → Option SessionState → Seated M → Type 0
+abbrev pub Tries : {M : Type 0} → Seated M → Event → Told → Option OpenSession → Seated M → Type 0
 Tries old event reply session new = Adds old event reply session new ⊎ Misses old reply session new

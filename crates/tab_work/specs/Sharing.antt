@@ -6,7 +6,7 @@ use Rattle.tab_key.specs.Records.{Cell}
 use Rattle.tab_history.specs.declared.event.Event.{Event}
 use Rattle.tab_history.specs.declared.reply.Refusal.TheVariants.{NoMemory}
 use Rattle.tab_history.specs.declared.reply.Reply.TheVariants.{Refused}
-use Rattle.tab_core.specs.SessionState.{SessionState}
+use Rattle.tab_core.specs.OpenSession.{OpenSession}
 use Rattle.tab_core.specs.Recording.{entry_of}
 use Rattle.tab_book.specs.HandedOut.{session_in}
 use Rattle.tab_book.specs.Receipts.{Slip}
@@ -21,9 +21,9 @@ use Rattle.tab_work.specs.Shares.{Seated}
 
 -- ---- the receipts of exchanges
 -- a session that is handed out has this whole list ahead
-abbrev pub HasList : List Cell → Option SessionState → Type 0
+abbrev pub HasList : List Cell → Option OpenSession → Type 0
 HasList all None = Unit {0}
-HasList all (Some session) = session ≡ record { all = all; given = 0 }
+HasList all (Some session) = session.state ≡ record { all = all; given = 0 }
 
 -- the exchange is this event, which took its moment; what was told is the reply in the receipt, and the connection's session is the one handed out
 pub record IsBooked (x : Exchange) (event : Event) (slip : Slip) : Type 0 where

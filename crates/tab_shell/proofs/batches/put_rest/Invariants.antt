@@ -4,7 +4,7 @@ use Rattle.tab_shell.proofs.Batching.{HasRead}
 use Rattle.tab_shell.proofs.batches.put_rest.Given as goal
 
 abbrev pub invariant-loop-fault : goal.invariant-loop-fault
-invariant-loop-fault g l = HasRead g.W.Output (left_of l.fn.session) (left_of l.session) l.fn.output l.output
+invariant-loop-fault g l = HasRead g.W.Output (left_of l.fn.session.state) (left_of l.session.state) l.fn.output l.output
 
 abbrev pub decreases-loop-fault : goal.decreases-loop-fault
-decreases-loop-fault g l = length (left_of l.session)
+decreases-loop-fault g l = length (left_of l.session.state)

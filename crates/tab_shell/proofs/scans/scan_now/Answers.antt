@@ -1,6 +1,6 @@
 use Rattle.std.proofs.Common.{◌≡◌, ◌∙◌, ◌+◌, ℕ, List, Ok, None, true, false, sym, ap, subst, rules, to_z, of_z, w64}
 use Rattle.tab_key.specs.declared.part.Part.TheVariants.{Sessions}
-use Rattle.tab_cells.specs.SessionState.{SessionState}
+use Rattle.tab_core.specs.OpenSession.{OpenSession}
 use Rattle.tab_history.specs.Answers.{told_of}
 use Rattle.tab_history.specs.declared.event.Act.TheVariants.{Open}
 use Rattle.tab_history.specs.declared.event.Event.{Event}
@@ -41,9 +41,9 @@ returns-in-Opened g c keeping keeping' jobs own keeps =
     let asked : asked_at v.asker.user (to_z w64 (of_z w64 c.args.moment)) (Open scan) ≡ event_by v.asker (Open scan) = λ i. asked_at v.asker.user (trip i) (Open scan) in
     let steps : Steps (base_of v.core) (event_by v.asker (Open scan)) c.open_lent.result (base_of new) = subst (λ (e : Event). Steps (base_of v.core) e c.open_lent.result (base_of new)) asked c.open_lent.ensures.steps in
     let exact : StepsWith v.core None (event_by v.asker (Open scan)) c.open_lent.result new = subst (λ (e : Event). StepsWith v.core None e c.open_lent.result new) asked c.open_lent.ensures.exact in
-    let session : SessionState = c.in-Opened.session in
-    let opening : Steps (base_of v.core) (event_by v.asker (Open scan)) (Opened session) (base_of new) = subst (λ (r : Reply SessionState TabletMerge). Steps (base_of v.core) (event_by v.asker (Open scan)) r (base_of new)) c.in-Opened.is steps in
-    let goes : OpensExactly v new scan (Opened tt) = subst (λ (r : Reply SessionState TabletMerge). OpensExactly v new scan (told_of r)) c.in-Opened.is (opens_exactly v new scan c.open_lent.result exact) in
+    let session : OpenSession = c.in-Opened.session in
+    let opening : Steps (base_of v.core) (event_by v.asker (Open scan)) (Opened session) (base_of new) = subst (λ (r : Reply OpenSession TabletMerge). Steps (base_of v.core) (event_by v.asker (Open scan)) r (base_of new)) c.in-Opened.is steps in
+    let goes : OpensExactly v new scan (Opened tt) = subst (λ (r : Reply OpenSession TabletMerge). OpensExactly v new scan (told_of r)) c.in-Opened.is (opens_exactly v new scan c.open_lent.result exact) in
     let counted : c.count_scan.new.self ≡ record (own_kept v) { scanned = (own_kept v).scanned + 1 } = c.count_scan.ensures ∙ sym (ap (λ (k : Kept). record k { scanned = k.scanned + 1 }) own) in
     let puts = c.put_session.ensures in
     let answered : ScriptAnswersLine v (Ok (line.Scan scan)) puts.0 (with_sessions v new keeping') =
@@ -61,7 +61,7 @@ returns-in_default g c keeping keeping' jobs own keeps =
     let asked : asked_at v.asker.user (to_z w64 (of_z w64 c.args.moment)) (Open scan) ≡ event_by v.asker (Open scan) = λ i. asked_at v.asker.user (trip i) (Open scan) in
     let steps : Steps (base_of v.core) (event_by v.asker (Open scan)) c.open_lent.result (base_of new) = subst (λ (e : Event). Steps (base_of v.core) e c.open_lent.result (base_of new)) asked c.open_lent.ensures.steps in
     let exact : StepsWith v.core None (event_by v.asker (Open scan)) c.open_lent.result new = subst (λ (e : Event). StepsWith v.core None e c.open_lent.result new) asked c.open_lent.ensures.exact in
-    let reply : Reply SessionState TabletMerge = c.open_lent.result in
+    let reply : Reply OpenSession TabletMerge = c.open_lent.result in
     let text : List ℕ = reply_text (told_of reply) in
     let answered : ScriptAnswersLine v (Ok (line.Scan scan)) text (with_sessions v new keeping') =
     recounted v (with_sessions v new keeping) keeping' (Ok (line.Scan scan)) text (kept_same v.asker.user c.args.kept.now keeping keeping' keeps own)

@@ -18,7 +18,7 @@ returns g c =
     let jobs : List JobSlot = c.step-reply.new.self in
     let trip : to_z w64 (of_z w64 c.self.inside.moment) ≡ c.self.inside.moment = search rules in
     let is : asked_at c.self.inside.user (to_z w64 (of_z w64 c.self.inside.moment)) c.args.act.now ≡ event_by v.asker c.args.act.now = λ i. asked_at c.self.inside.user (trip i) c.args.act.now in
-    let steps : StepsIn v.core v.jobs (event_by v.asker c.args.act.now) c.step-reply.result new jobs = subst (λ (e : Event). StepsIn v.core v.jobs e c.step-reply.result new jobs) is c.step-reply.ensures in
+    let steps : StepsIn v.core v.jobs (event_by v.asker c.args.act.now) c.step-reply.result new jobs = subst (λ (e : Event). StepsIn v.core v.jobs e c.step-reply.result new jobs) is c.step-reply.ensures.steps in
     let text : List ℕ = begun_text c.begun-number.result c.step-reply.result in
     let answered : ScriptAnswersLine v (Ok (line.Act c.args.act.now)) text (with_core v new jobs) =
     subst (λ (n : ℕ). ScriptAnswersLine v (Ok (line.Act c.args.act.now)) (begun_text n c.step-reply.result) (with_core v new jobs)) (sym c.begun-number.ensures) (act_answered v new jobs c.args.act.now c.step-reply.result c.requires steps) in
