@@ -1,6 +1,7 @@
 pub mod Granted
 pub mod OneImage
 pub mod OneList
+pub mod UserNames
 pub mod HolderRights
 pub mod Sane
 pub mod Fitting

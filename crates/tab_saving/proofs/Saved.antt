@@ -1,10 +1,11 @@
--- What was put of a core is its image; what a core keeps of its tablets, so that they are listed.
-use Rattle.std.proofs.Common.{◌≡◌, ℕ, ◌+◌, ◌<◌, ◌^◌, List, ◌++◌, refl, sym, subst, length, arith, Ok, Err}
-use Rattle.std.specs.Prelude.{ℤ, Result, OnOk}
+-- What was put of a core is its image, which it has; what a core keeps of its tablets, so that they are listed.
+use Rattle.std.proofs.Common.{◌≡◌, ℕ, ◌+◌, ◌<◌, ◌^◌, List, ◌++◌, refl, sym, ap, subst, length, arith, Ok, Err}
+use Rattle.std.specs.Prelude.{ℤ, Result, OnOk, IsErr}
+use Rattle.std.specs.Result.{IsErrAnd}
 use Rattle.std.specs.List.{AllByRecursion}
+use Rattle.std.proofs.lemmas.Result.{on_ok_weaker}
 use Rattle.tab_policy.specs.Holders.{AreUsers}
 use Rattle.tab_history.specs.Held.{floor_of}
-use Rattle.tab_io.specs.Writing.{HasPutPart}
 use Rattle.tab_io.specs.declared.writing.Output.{Ghosts}
 use Rattle.tab_tablets.proofs.EndRows.{ends_count}
 use Rattle.tab_store.specs.ByRow.{ends_of}
@@ -16,15 +17,17 @@ use Rattle.tab_store.proofs.Apart.{sound_tablets_lie_apart}
 use Rattle.tab_core.specs.Stepping.{IsCore}
 use Rattle.tab_image.specs.Images.{IsImage, written_version}
 use Rattle.tab_image.specs.Spelling.{list_bytes, user_bytes, table_bytes, front_bytes, end_bytes, image_bytes}
-use Rattle.tab_image.specs.declared.image.Image.{Image}
-use Rattle.tab_saving.specs.ImageOf.{user_of, table_of, image_with, IsImageOf}
-use Rattle.tab_saving.specs.Saves.{HasBegun, Saves, AreListed}
+use Rattle.tab_saving.specs.Existence.{core_bytes, HasImage, CoresHaveImages}
+use Rattle.tab_saving.specs.ImageOf.{user_of, table_of, user_names, image_with, core_image, IsImageOf}
+use Rattle.tab_saving.specs.Saves.{Saves, AreListed}
 use Rattle.tab_saving.specs.Saving.{SavesImage}
 use Rattle.tab_saving.specs.declared.fault.SaveFault.{SaveFault}
 use Rattle.tab_saving.specs.declared.fault.SaveFault.TheVariants as fault
 use Rattle.tab_saving.proofs.HolderRights.{list_of_map}
-use Rattle.tab_saving.proofs.OneList.{one_image_each}
+use Rattle.tab_saving.proofs.Fitting.{spelled_with}
 use Rattle.tab_saving.proofs.Sane.{all_found}
+use Rattle.tab_saving.proofs.Texts.{lacks_first}
+use Rattle.tab_saving.proofs.UserNames.{names_are, own_names, own_image}
 
 -- ---- tablets
 tablets_listed : (ts : List Tablet) (next n : ℕ) (floor : ℤ) → AreSound ts next n floor → AreLimited ts → AreListed ts
@@ -38,22 +41,34 @@ all_listed h core = all_found (λ t. AreListed t.tablets) h.tables core.store.na
     (λ q t e. tablets_listed t.tablets h.next t.settings.versions (floor_of t.settings.time h.clock t.settings.horizon) (core.store.tables q t e) (core.store.limits q t e))
 
 -- ---- the image
-pub is_image_of : (h : Held) (names : List (List ℕ)) → AreUsers h.policy names → IsImageOf h (image_with h names)
-is_image_of h names users = record {
-  names = names;
-  users = users;
-  says = refl;
+pub cores_have_images : CoresHaveImages
+cores_have_images h core own typed = record {
+  of = own_image h own;
+  spelled = spelled_with h (user_names h.policy) (own_names h.policy own) core typed.users typed.tables typed.clocks;
 }
 
-module _ {W : Type 0} (g : Ghosts W) (old new : W) (h : Held) (names : List (List ℕ)) (users : AreUsers h.policy names) where
-  -- each image of the core is the one that was put
-  the_one : (image : Image) → IsImageOf h image → image_with h names ≡ image
-  the_one image of = one_image_each h (image_with h names) image (is_image_of h names users) of
+-- the image with this list of all users is the one of the core
+the_one : (h : Held) (names : List (List ℕ)) → AreUsers h.policy names → image_with h names ≡ core_image h
+the_one h names users = ap (image_with h) (names_are h.policy names users)
 
-  pub saves_image : (r : Result (Unit {0}) SaveFault) → OnOk r (IsImage written_version (image_bytes written_version (image_with h names)) (image_with h names)) → Saves g old new (image_bytes written_version (image_with h names)) r → SavesImage g old new h r
-  saves_image (Ok u) spelled s = record { image = image_with h names; of = is_image_of h names users; spelled = spelled; put = s }
-  saves_image (Err fault.Write) spelled s = λ image of. subst (λ i. HasPutPart g old new (image_bytes written_version i)) (the_one image of) s
-  saves_image (Err fault.NoMemory) spelled s = λ image of. subst (λ i. HasBegun g old new (image_bytes written_version i)) (the_one image of) s
+has_image : (h : Held) (names : List (List ℕ)) → AreUsers h.policy names → IsImage written_version (image_bytes written_version (image_with h names)) (image_with h names) → HasImage h
+has_image h names users spelled = record {
+  of = subst (IsImageOf h) (the_one h names users) (record { names = names; users = users; says = refl });
+  spelled = subst (λ i. IsImage written_version (image_bytes written_version i) i) (the_one h names users) spelled;
+}
+
+module _ {W : Type 0} (g : Ghosts W) where
+  pub saves_image : (old new : W) (h : Held) (names : List (List ℕ)) (r : Result (Unit {0}) SaveFault) → AreUsers h.policy names
+      → OnOk r (IsImage written_version (image_bytes written_version (image_with h names)) (image_with h names)) → Saves g old new (image_bytes written_version (image_with h names)) r → SavesImage g old new h r
+  saves_image old new h names r users spelled s = record {
+    put = subst (λ i. Saves g old new (image_bytes written_version i) r) (the_one h names users) s;
+    image = on_ok_weaker r (has_image h names users) spelled;
+  }
+
+  -- memory lacked before anything was put
+  pub lacks_image : (a : W) (h : Held) (r : Result (Unit {0}) SaveFault) → IsErr r × IsErrAnd r (λ e. e ≡ fault.NoMemory) → SavesImage g a a h r
+  lacks_image a h (Ok u) lacks = absurd lacks.1
+  lacks_image a h (Err e) lacks = record { put = lacks_first g a (core_bytes h) (Err e) lacks; image = tt }
 
 -- ---- what is written of it
 -- the users, the tables and the mark of the end

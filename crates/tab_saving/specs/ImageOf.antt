@@ -1,8 +1,10 @@
 -- Which image is the image of what a core holds.
-use Rattle.std.specs.Prelude.{ℕ, ◌≡◌, List, filter, map}
+use Rattle.std.specs.Prelude.{ℕ, ◌≡◌, List, filter, length, map}
+use Rattle.std.specs.Map.{keys_of}
 use Rattle.tab_key.specs.Sorted.{sorted}
+use Rattle.tab_label.specs.Sets.{set_of}
 use Rattle.tab_policy.specs.Holders.{AreUsers, has_any}
-use Rattle.tab_policy.specs.State.{State, auths_of, system_granted, table_granted}
+use Rattle.tab_policy.specs.State.{State, user_count, auths_of, system_granted, table_granted}
 use Rattle.tab_policy.specs.declared.permission.SystemPermission.TheVariants as system
 use Rattle.tab_policy.specs.declared.permission.TablePermission.TheVariants as table
 use Rattle.tab_policy.specs.declared.sets.SystemPermissions.{SystemPermissions}
@@ -72,6 +74,18 @@ table_of s names t = record { head = head_of s names t; records = sorted (record
 -- all that a core with these users holds
 abbrev pub image_with : Held → List (List ℕ) → Image
 image_with h names = record { clock = h.clock; next = h.next; users = map (user_of h.policy) names; tables = map (table_of h.policy names) h.tables }
+
+-- the names of all users, as a set
+unfoldable pub user_names : State → List (List ℕ)
+user_names s = set_of (keys_of s.users)
+
+-- no two users have one name
+abbrev pub HaveOwnNames : State → Type 0
+HaveOwnNames s = length (user_names s) ≡ user_count s
+
+-- all that a core with its users holds
+abbrev pub core_image : Held → Image
+core_image h = image_with h (user_names h.policy)
 
 -- the image says all that the core holds: its users are all that there are, by name
 pub record IsImageOf (h : Held) (image : Image) : Type 0 where

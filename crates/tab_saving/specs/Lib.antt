@@ -1,3 +1,4 @@
+pub mod Existence
 pub mod ImageOf
 pub mod OneImage
 pub mod Saves

@@ -1,12 +1,12 @@
--- Cores of one image answer all that follows alike, and a core has one image.
-use Rattle.std.specs.Prelude.{◌≡◌, List}
+-- Cores of one image answer all that follows alike; and a core has one image, if it has one, which is a definite one.
+use Rattle.std.specs.Prelude.{◌≡◌, ◌↔◌, List}
 use Rattle.tab_history.specs.Histories.{Entry, World, world_of}
 use Rattle.tab_history.specs.Legal.{Legal}
 use Rattle.tab_history.specs.Refinement.{Refines, GoOnAlike}
 use Rattle.tab_store.specs.Stores.{Held, base_of}
 use Rattle.tab_core.specs.Stepping.{IsCore}
 use Rattle.tab_image.specs.declared.image.Image.{Image}
-use Rattle.tab_saving.specs.ImageOf.{IsImageOf}
+use Rattle.tab_saving.specs.ImageOf.{HaveOwnNames, core_image, IsImageOf}
 
 -- each of two worlds refines the other, and the same runs are legal from both, with the same sessions
 pub record AnswerAlike (v w : World) : Type 0 where
@@ -21,3 +21,7 @@ CoresOfOneImage = (h k : Held) (image : Image) → IsCore h → IsCore k → IsI
 -- ---- The law: a core has one image.
 abbrev pub OneImageEach : Type 0
 OneImageEach = (h : Held) (image other : Image) → IsImageOf h image → IsImageOf h other → image ≡ other
+
+-- ---- The law: it is this one, and a core has it exactly where no two of its users have one name.
+abbrev pub ImagesAreThis : Type 0
+ImagesAreThis = (h : Held) (image : Image) → IsImageOf h image ↔ ((image ≡ core_image h) × HaveOwnNames h.policy)

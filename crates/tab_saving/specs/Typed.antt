@@ -12,6 +12,7 @@ use Rattle.tab_rules.specs.Constraints.{constraint_set_of}
 use Rattle.tab_history.specs.Settings.{Settings, is_version_count}
 use Rattle.tab_store.specs.ByRow.{records_of_all}
 use Rattle.tab_store.specs.Stores.{HeldTable, Held}
+use Rattle.tab_saving.specs.ImageOf.{user_names}
 
 -- a user's name is one, and his authorizations are a set
 pub record IsTypedUser (s : State) (n : List ℕ) : Type 0 where
@@ -44,3 +45,9 @@ pub record AreTypedClocks (h : Held) : Type 0 where
   pub clock : FitsSigned w64 h.clock
   pub clock_bits : cast_unsigned w64 h.clock < 2 ^ 64
   pub next : h.next < 2 ^ 64
+
+-- a core's clocks, users and tables are of their types, and no table has too many records
+pub record IsTyped (h : Held) : Type 0 where
+  pub clocks : AreTypedClocks h
+  pub users : AllByRecursion (IsTypedUser h.policy) (user_names h.policy)
+  pub tables : AllByRecursion IsTypedTable h.tables

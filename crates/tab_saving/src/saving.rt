@@ -28,7 +28,7 @@ use tab_store::Tables;
 ///
 /// It goes through the core without a copy of it: memory is taken for the list of its users, for the rights and end rows of one table at
 /// a time, and for what was written to one tablet since its last freeze. NoMemory is also told where a table has 2^64 - 1 records or
-/// more, which an image can't count. After an error a beginning of the image is written.
+/// more, which an image can't count. After an error a beginning of the same bytes is written.
 pub fn save<W: Output>(alloc: Global, output: &mut W, core: &Core) -> Result<(), SaveFault>
     ensures { SavesImage W.Output output.old output.new core.now result }
 {
