@@ -15,6 +15,7 @@ use tab_iter::{ListSource, Source, is_rising};
 use tab_key::{Key, Kind, Record};
 
 mod failing;
+mod system_iterators;
 
 #[derive(Clone, Copy)]
 struct Line {

@@ -5,8 +5,8 @@
 //!
 //! | File | What is tested |
 //! |---|---|
-//! | `layers` | a small table; `failing`: each layer and the stack of them, over a source of it that fails once |
-//! | `versions` | versions of runs and of a table; `cuts`: over many tablets |
+//! | `layers` | a small table; `system_iterators`: each of them alone; `failing`: each layer and the stack of them, over a source of it that fails once |
+//! | `versions` | versions of runs and of a table; `cuts`: over many tablets; `sessions`: when a session is done |
 //! | `tablets` | scans of what was written, beside the model; `parts`: a merge that another tablet began |
 //! | `jobs` | merges of random sources of each kind, beside the model |
 //! | `sources` | helpers: sources of what is written, and random ones |

@@ -4,6 +4,7 @@ ghost use Rattle.tab_iter.specs.Bags.{flat};
 ghost use Rattle.tab_version.specs.Sources.{records_of};
 
 mod cuts;
+mod sessions;
 
 use crate::reading::expect_scan;
 use crate::writing::CLOCK;

@@ -12,6 +12,7 @@ use tab_iter::{
     VersioningRule, VisibleRule, stack_of, stack_unread,
 };
 use tab_key::{Key, RecordRef};
+use tab_table::Table;
 use tab_testing::{auths_of, family};
 
 // A source that answers NoMemory once, at the call behind so many others.
@@ -254,4 +255,16 @@ fn reads_from_a_key(rt: HostRuntime) {
     let mut stack = stack_unread(alloc, merged, &[], &auths, unjudged(alloc, &auths), 2);
     stack.seek(start()).expect(&rt, "memory");
     reads(&rt, alloc, &mut stack, &[7, 10, 9, 12, 14, 16]);
+}
+
+// A source that lost its position has no table, and one after a seek.
+#[test]
+fn builds_no_table_unpositioned(rt: HostRuntime) {
+    let alloc = rt.alloc();
+    let mut source = failing_table(&rt, alloc, 0).expect(&rt, "memory");
+    assert!(rt; source.advance().is_err());
+    assert!(rt; Table::build(alloc, &mut source, 0, 0).is_err());
+    source.seek(start()).expect(&rt, "memory");
+    let table = Table::build(alloc, &mut source, 0, 0).expect(&rt, "memory");
+    assert!(rt; table.len() == 15);
 }

@@ -103,8 +103,8 @@ fn random_clip(
     Clip::whole(writer.freeze(rt, alloc))
 }
 
-// Three clips, the last one of a table, cut into tablets.
-fn random_version(
+/// Three clips, the last one of a table, cut into tablets.
+pub fn random_version(
     rt: &impl Abort,
     alloc: Global,
     random: &mut Random,
@@ -120,6 +120,14 @@ fn random_version(
     let all = last_tabled(alloc, clips).expect(rt, "memory");
     let ends = random_ends(alloc, random).expect(rt, "memory");
     let tablets = cut(alloc, all, &ends).expect(rt, "memory");
+    Version::of(tablets)
+}
+
+/// Tablets without a record.
+pub fn bare_version(rt: &impl Abort, alloc: Global) -> Version {
+    let none = Clips::of(Vec::new(alloc), Vec::new(alloc));
+    let tablets = cut(alloc, none, &ROWS).expect(rt, "memory");
+    assert!(rt; tablets.len() == ROWS.len() + 1);
     Version::of(tablets)
 }
 
@@ -145,10 +153,7 @@ fn reads_many_tablets(rt: HostRuntime) {
 #[test]
 fn tablets_without_a_record_are_an_empty_version(rt: HostRuntime) {
     let alloc = rt.alloc();
-    let none = Clips::of(Vec::new(alloc), Vec::new(alloc));
-    let tablets = cut(alloc, none, &ROWS).expect(&rt, "memory");
-    assert!(rt; tablets.len() == ROWS.len() + 1);
-    let version = Version::of(tablets);
+    let version = bare_version(&rt, alloc);
     assert!(rt; version.is_empty());
     expect_raw(&rt, alloc, &version, &[])
 }
