@@ -65,6 +65,18 @@ impl Account {
     }
 }
 
+impl Clone for Account {
+    ghost is_clone = { λ source copy. copy ≡ source };
+
+    fn clone(&self) -> Result<Account, AllocError> {
+        Ok(Account {
+            life: self.life,
+            system: self.system,
+            auths: self.auths.clone()?,
+        })
+    }
+}
+
 // The name of the user that is there from the first.
 pub fn root_name() -> Name
     ensures { result ≡ root }

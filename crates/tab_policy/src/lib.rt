@@ -1,7 +1,7 @@
 //! Users, authorizations and permissions: who may do what. (Accumulo user manual: security, permissions.)
 //!
 //! A `Policy` holds the users with their system permissions and authorizations, and the tables with the rights that users have on
-//! them. It decides actions, and changes as users and tables come and go and as rights are granted and revoked.
+//! them. It decides actions, and changes as users and tables come and go and as rights are granted and revoked. A copy changes apart.
 //!
 //! | File | What |
 //! |---|---|

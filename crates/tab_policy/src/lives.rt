@@ -69,3 +69,14 @@ impl Lives {
         }
     }
 }
+
+impl Clone for Lives {
+    ghost is_clone = { λ source copy. (copy.next ≡ source.next) × (copy.living.entries ≡ source.living.entries) };
+
+    fn clone(&self) -> Result<Lives, AllocError> {
+        Ok(Lives {
+            living: self.living.clone()?,
+            next: self.next,
+        })
+    }
+}

@@ -61,6 +61,16 @@ impl NameKey {
     }
 }
 
+impl Clone for NameKey {
+    ghost is_clone = { λ source copy. copy ≡ source };
+
+    fn clone(&self) -> Result<NameKey, AllocError> {
+        Ok(NameKey {
+            bytes: self.bytes.clone()?,
+        })
+    }
+}
+
 impl PartialEq for NameKey {
     ghost eq = { eq_by_cmp (slice_cmp nat_cmp) };
 

@@ -332,3 +332,18 @@ impl Policy {
         }
     }
 }
+
+/// A copy with all users and rights. What changes one of the two later doesn't change the other. It takes memory for each user, each table
+/// and each right; what was copied is given back where that lacks.
+impl Clone for Policy {
+    ghost is_clone = { λ source copy. copy ≡ source };
+
+    fn clone(&self) -> Result<Policy, AllocError> {
+        Ok(Policy {
+            alloc: self.alloc,
+            users: self.users.clone()?,
+            tables: self.tables.clone()?,
+            lives: self.lives.clone()?,
+        })
+    }
+}

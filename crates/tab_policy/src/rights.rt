@@ -136,6 +136,19 @@ impl TableRights {
     }
 }
 
+impl Clone for TableRights {
+    ghost is_clone = { λ source copy. copy ≡ source };
+
+    fn clone(&self) -> Result<TableRights, AllocError> {
+        Ok(TableRights {
+            maker: self.maker,
+            own: self.own,
+            others: self.others.clone()?,
+            room: self.room,
+        })
+    }
+}
+
 // Puts him behind the others, if there is one.
 fn add(holders: &mut Vec<Holder>, holder: Option<Holder>) -> Result<(), AllocError>
     ensures { OnOk result (holders.new.items ≡ holders.old.items ++ option_to_list holder) }
