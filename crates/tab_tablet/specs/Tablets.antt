@@ -1,5 +1,5 @@
 -- Tablets, and what writes, freezes and compactions do to one. (Accumulo user manual: tablets, minor and major compactions)
-use Rattle.std.specs.Prelude.{ℕ, ℤ, List, [], ◌∷◌, ◌++◌, ◌+◌, Bool, true, cond, min, Option, Some, None}
+use Rattle.std.specs.Prelude.{ℕ, ℤ, List, [], ◌∷◌, ◌++◌, ◌+◌, ◌==◌, Bool, true, cond, min, Option, Some, None}
 use Rattle.std.specs.Ordering.{is_le}
 use Rattle.tab_key.specs.Bytes.{bytes_cmp}
 use Rattle.tab_key.specs.Records.{Record}
@@ -135,5 +135,6 @@ abbrev pub installs : Merge → Option Sources → Tablet → Installed × Table
 installs m None t = (Stale (sources_told t), record t { jobs = with_job m.kind None t.jobs })
 installs m (Some left) t = (Done, replaced m left t)
 
+-- where it was begun in this tablet; a merge of another tablet is stale, and changes nothing
 abbrev pub installed : Merge → Tablet → Installed × Tablet
-installed m t = installs m (fitting m t) t
+installed m t = cond (t.number == m.tablet) (installs m (fitting m t) t) (Stale (sources_told t), t)

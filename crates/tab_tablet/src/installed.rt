@@ -5,7 +5,7 @@
 pub enum Installed {
     /// What the merge made has taken the place of what it read.
     Done,
-    /// The merge wasn't under way any more, or not all of what it read is there. That many frozen runs and sorted tables are there now;
-    /// the greatest `u64` for any number above it.
+    /// The merge was begun in another tablet, or wasn't under way any more, or not all of what it read is there. That many frozen runs and
+    /// sorted tables are there now; the greatest `u64` for any number above it.
     Stale(u64),
 }

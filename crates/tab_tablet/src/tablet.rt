@@ -255,7 +255,7 @@ impl Tablet {
 
     /// Ends a compaction: where its merge is the one of its kind that is under way, and each source that it read has one of equal contents
     /// here, what it made takes their place, and comes last. Else it is stale. Either way no merge of its kind is under way any more. What
-    /// was written is not frozen.
+    /// was written is not frozen. A merge that was begun in another tablet, by its number, is stale and changes nothing.
     ///
     /// It takes time linear in the records of the inputs, and memory for shares of the sources. NoMemory says that it lacked; then all is
     /// as it was, and the merge is lost.
@@ -264,6 +264,9 @@ impl Tablet {
         ensures ok { OnOk result (self.new ≡ (installed finished self.old).1) }
         ensures err { OnErr result (self.new ≡ self.old) }
     {
+        if finished.job().tablet() != self.number {
+            return Ok(Installed::Stale(self.count_sources()));
+        }
         match self.fitting(alloc, finished.job())? {
             Some(left) => self.replace(alloc, left, finished),
             None => Ok(self.forget(finished.job().kind())),
