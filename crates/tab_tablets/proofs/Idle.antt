@@ -1,9 +1,10 @@
 -- A tablet to which nothing was written, and one that is frozen: what is read of it, and what is put in its place.
-use Rattle.std.proofs.Common.{◌≡◌, ◌≢◌, ◌∙◌, inr, ℕ, zero, suc, ◌<◌, List, [], ◌∷◌, true, length, refl, sym, ap, subst, arith}
+use Rattle.std.proofs.Common.{◌≡◌, ◌≢◌, ◌∙◌, inr, ℕ, zero, suc, ◌<◌, List, [], ◌∷◌, true, false, length, refl, sym, ap, subst, arith}
 use Rattle.std.specs.Prelude.{filter, map, Result, IfOk, ◌==◌}
 use Rattle.tab_key.specs.Ranges.{is_in_range}
 use Rattle.tab_key.specs.Records.{Record}
 use Rattle.tab_key.specs.declared.range.Bounds.{Bounds}
+use Rattle.tab_cells.proofs.Lists.{by_bool}
 use Rattle.tab_tablet.specs.Tablets.{Tablet, records_in, frozen}
 use Rattle.tab_tablet.proofs.Compacted.{none_waits, frozen_itself}
 use Rattle.tab_tablets.specs.Places.{ended, tablet_at, at_place, IsMadeOf, IsSettled, part_in}
@@ -18,6 +19,10 @@ module _ (t bare : Tablet) (is : ended t.end bare ≡ t) where
   -- nothing waits in it
   pub idle : (length bare.active == 0) ≡ true → t.active ≡ []
   idle e = ap (λ (x : Tablet). x.active) (sym is) ∙ none_waits bare e
+
+  -- something does
+  pub busy : t.active ≢ [] → (length bare.active == 0) ≡ false
+  busy some = by_bool (length bare.active == 0) (λ e. absurd (some (idle e))) (λ e. e)
 
   pub idle_itself : (length bare.active == 0) ≡ true → frozen t ≡ t
   idle_itself e = frozen_itself t (idle e)

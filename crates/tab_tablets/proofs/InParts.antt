@@ -6,7 +6,8 @@ use Rattle.tab_key.specs.Sorted.{IsIn}
 use Rattle.tab_cells.specs.declared.compaction.Compaction.{Compaction}
 use Rattle.tab_version.specs.Sources.{Sources}
 use Rattle.tab_tablet.specs.Merges.{Merge}
-use Rattle.tab_tablet.specs.Tablets.{Tablet, records_in, capture, begins, fitting, installs, installed}
+use Rattle.tab_tablet.specs.Tablets.{Tablet, records_in, capture, begins, fitting, sources_told, installs, installed}
+use Rattle.tab_tablet.specs.declared.installed.Installed.{Installed}
 use Rattle.tab_tablet.specs.declared.installed.Installed.TheVariants.{Stale}
 use Rattle.tab_tablet.proofs.Compacted.{frozen_in}
 use Rattle.tab_tablets.specs.Parts.{TabletMerge, capture_in, found_for, begun_at, begins_at, installed_in, installs_in}
@@ -17,18 +18,20 @@ use Rattle.tab_tablets.proofs.EndRows.{row_at_place, tablet_at_place}
 -- ---- whatever the end row
 module _ (m : Merge) (end : Option (List ℕ)) (t : Tablet) where
   pub told_ended : (installed m (ended end t)).0 ≡ (installed m t).0
-  told_ended = go (fitting m t)
+  told_ended = go (t.number == m.tablet) (fitting m t)
     where
-      go : (o : Option Sources) → (installs m o (ended end t)).0 ≡ (installs m o t).0
-      go None = refl
-      go (Some left) = refl
+      go : (v : Bool) (o : Option Sources) → (cond {A = Installed × Tablet} v (installs m o (ended end t)) (Stale (sources_told t), ended end t)).0 ≡ (cond {A = Installed × Tablet} v (installs m o t) (Stale (sources_told t), t)).0
+      go true None = refl
+      go true (Some left) = refl
+      go false o = refl
 
   pub installed_ended : (installed m (ended end t)).1 ≡ ended end (installed m t).1
-  installed_ended = go (fitting m t)
+  installed_ended = go (t.number == m.tablet) (fitting m t)
     where
-      go : (o : Option Sources) → (installs m o (ended end t)).1 ≡ ended end (installs m o t).1
-      go None = refl
-      go (Some left) = refl
+      go : (v : Bool) (o : Option Sources) → (cond {A = Installed × Tablet} v (installs m o (ended end t)) (Stale (sources_told t), ended end t)).1 ≡ ended end (cond {A = Installed × Tablet} v (installs m o t) (Stale (sources_told t), t)).1
+      go true None = refl
+      go true (Some left) = refl
+      go false o = refl
 
 -- the end row stays where it does either way
 pub either_end : {A E : Type 0} (r : Result A E) (old new other : Tablet) → OnOk r (new ≡ other) → OnErr r (new ≡ old) → other.end ≡ old.end → new.end ≡ old.end

@@ -21,3 +21,4 @@ pub use Rattle.tab_tablet.proofs.Moved
 pub use Rattle.tab_tablet.proofs.Gathered
 pub use Rattle.tab_tablet.proofs.Captures
 pub use Rattle.tab_tablet.proofs.Cut
+pub use Rattle.tab_tablet.proofs.InParts as TabletParts

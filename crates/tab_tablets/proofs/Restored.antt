@@ -24,6 +24,7 @@ use Rattle.tab_tablets.specs.Listing.{listed}
 use Rattle.tab_tablets.specs.Places.{ended, HoldOwnRows, AreKept, tablet_at}
 use Rattle.tab_tablets.specs.Restored.{EndRowsRise, end_for, same_end, records_for, tabled_for, restored}
 use Rattle.tab_tablets.proofs.Orders.{below_other, up_to_both}
+use Rattle.tab_tablets.proofs.Kept.{none_apart}
 
 -- ---- end rows
 abbrev AreAbove : List ℕ → List (List ℕ) → Type 0
@@ -203,6 +204,8 @@ restored_kept n ends us s = record {
   rows = own_rows n ends us s;
   inside = tt;
   waiting = λ k none. none_written ends us n (with_last ends) k;
+  waits = tt;
+  apart = none_apart;
 }
 
 -- ---- the end rows

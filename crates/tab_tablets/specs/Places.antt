@@ -1,6 +1,6 @@
 -- Places of tablets in the order of rows, counted from 0, and what is put there.
-use Rattle.std.specs.Prelude.{◌≡◌, ◌⊎◌, ℕ, zero, suc, ◌+◌, ◌<◌, List, [], ◌∷◌, ◌++◌, Bool, true, false, ◌==◌, nat_lt, cond, Option, Some, None, length, bytes_eq, filter}
-use Rattle.std.specs.List.{AllByRecursion, list_any, slice_index_or}
+use Rattle.std.specs.Prelude.{◌≡◌, ◌≢◌, ◌⊎◌, ℕ, zero, suc, ◌+◌, ◌<◌, List, [], ◌∷◌, ◌++◌, Bool, true, false, ◌==◌, nat_eq, nat_lt, cond, Option, Some, None, length, bytes_eq, filter}
+use Rattle.std.specs.List.{AllByRecursion, IsDistinct, list_any, slice_index_or}
 use Rattle.tab_key.specs.Records.{Record}
 use Rattle.tab_key.specs.Sorted.{IsIn}
 use Rattle.tab_key.specs.Ranges.{is_in_range}
@@ -84,9 +84,12 @@ is_among ws place = list_any (λ w. w == place) ws
 abbrev pub moved_from : ℕ → ℕ → Option ℕ
 moved_from place w = cond (w == place) None (Some (cond (nat_lt place w) (w + 1) w))
 
--- each row has one tablet, which holds the records of its rows alone; and nothing waits to be frozen elsewhere than at these places
+-- each row has one tablet, which holds the records of its rows alone; and these places are those at which something waits to be frozen, each
+-- of them once
 pub record AreKept (ts : List Tablet) (ws : List ℕ) : Type 0 where
   pub whole : AreWhole ts
   pub rows : HoldOwnRows ts
   pub inside : AllByRecursion (λ w. w < length ts) ws
   pub waiting : (k : ℕ) → is_among ws k ≡ false → (tablet_at ts k).active ≡ []
+  pub waits : AllByRecursion (λ w. (tablet_at ts w).active ≢ []) ws
+  pub apart : IsDistinct nat_eq ws

@@ -68,7 +68,7 @@ pub(crate) fn clips_at(
     Ok(clips)
 }
 
-// Makes a frozen tablet for this place, where anything was written to the one that is there.
+// Makes a frozen tablet for this place.
 fn freeze_at(
     alloc: Global,
     line: &Line,
@@ -79,11 +79,7 @@ fn freeze_at(
     ensures more { OnOk result (MakesMore frozen line.now made.old.items made.new.items) }
     ensures settled { OnOk result (IsSettled frozen line.now made.new.items place) }
 {
-    let tablet = line.tablet(place);
-    if tablet.is_frozen() {
-        return Ok(());
-    }
-    let frozen = tablet.frozen(alloc)?;
+    let frozen = line.tablet(place).frozen(alloc)?;
     made.push(Made {
         place,
         tablet: frozen,

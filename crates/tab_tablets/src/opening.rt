@@ -76,14 +76,12 @@ impl Tablets {
     ) -> Result<Version, AllocError>
         requires apart { LieApart self.old }
         requires inside { place < length self.old }
+        requires waits { (tablet_at self.old place).active ≢ [] }
         requires idle { (k : ℕ) → k ≢ place → (tablet_at self.old k).active ≡ [] }
         ensures ok { OnOk result (self.new ≡ map frozen self.old) }
         ensures answers { IfOk result (λ v. ShowsRowsOf bounds.now (sorted (records_of_all self.old)) v) }
         ensures err { OnErr result (self.new ≡ self.old) }
     {
-        if self.line.tablet(place).is_frozen() {
-            return self.open_all(alloc, bounds);
-        }
         let from = first_met(&self.line, &bounds.low);
         let end = end_met(&self.line, &bounds.high).max(from);
         let prepared = self.line.tablet(place).prepare(alloc)?;

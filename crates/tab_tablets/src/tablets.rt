@@ -6,7 +6,7 @@ ghost use Rattle.tab_cells.specs.Written.{mutation_records};
 ghost use Rattle.tab_version.specs.Sources.{count_of};
 ghost use Rattle.tab_tablet.specs.Tablets.{new_tablet, written};
 ghost use Rattle.tab_tablets.specs.ByRow.{at_row, records_of_all, ends_of};
-ghost use Rattle.tab_tablets.specs.Places.{IsPlaceOf};
+ghost use Rattle.tab_tablets.specs.Places.{tablet_at, IsPlaceOf};
 
 use crate::line::Line;
 use std::alloc::{AllocError, Global};
@@ -18,7 +18,8 @@ use tab_mutation::Mutation;
 #[derive(Drop)]
 pub struct Tablets {
     pub(crate) line: Line,
-    // the places of the tablets that were written to since they were frozen
+    // the places of the tablets that were written to since they were frozen, each once, and of no others: so what goes through them takes as
+    // long as there are such tablets, however many writes there were
     pub(crate) written: Vec<usize>,
 }
 
@@ -71,6 +72,7 @@ impl Tablets {
         clock: i64,
     ) -> Result<(), AllocError>
         requires place { IsPlaceOf mutation.now.row self.old place }
+        requires idle { (tablet_at self.old place).active ≡ [] }
         requires shape { shape_error mutation.now ≡ None }
         requires unused { (u : Fields) → Contains (records_of_all self.old) u → u.seq < seq }
         ensures ok { OnOk result (self.new ≡ at_row mutation.now.row (λ t. written (mutation_records seq clock mutation.now) t ∷ []) self.old) }

@@ -5,7 +5,7 @@ use Rattle.tab_tablet.specs.Tablets.{Tablet, frozen}
 use Rattle.tab_tablet.proofs.Compacted.{frozen_in}
 use Rattle.tab_tablets.specs.ByRow.{LieApart, records_of_all}
 use Rattle.tab_tablets.specs.Places.{AreKept, tablet_at}
-use Rattle.tab_tablets.proofs.Idle.{freeze_there, frozen_only}
+use Rattle.tab_tablets.proofs.Idle.{busy, freeze_there, frozen_only}
 use Rattle.tab_tablets.proofs.Kept.{kept_all}
 use Rattle.tab_tablets.proofs.Ranges.{clips_rise, clips_show}
 use Rattle.tab_tablets.proofs.tablets.Tablets.open_one.Goals as goal
@@ -16,8 +16,11 @@ of-requires c =
     let reach : c.end_met.result ≤ c.max-end.result = search rules in
     clips_rise c.args.bounds.now c.self.inside.line c.self.invariant.rows (subst LieApart (sym c.self.view_is) c.requires.apart) c.first_met-from.result c.end_met.result c.max-end.result order reach c.first_met-from.ensures.low c.end_met.ensures.high c.in_ok-clips.clips.items c.in_ok-clips.ensures
 
+pub prepare-requires : goal.prepare-requires
+prepare-requires c = busy (tablet_at c.self.inside.line c.args.place) c.tablet.result.now c.tablet.ensures (subst (λ ts. (tablet_at ts c.args.place).active ≢ []) (sym c.self.view_is) c.requires.waits)
+
 pub clips_with-requires-clause-freeze : goal.clips_with-requires-clause-freeze
-clips_with-requires-clause-freeze c = freeze_there (tablet_at c.self.inside.line c.args.place) c.tablet-2.result.now c.in_ok-prepared.prepared c.tablet-2.ensures c.in_ok-prepared.ensures
+clips_with-requires-clause-freeze c = freeze_there (tablet_at c.self.inside.line c.args.place) c.tablet.result.now c.in_ok-prepared.prepared c.tablet.ensures c.in_ok-prepared.ensures
 
 pub invariant_of-self : goal.invariant_of-self
 invariant_of-self c = subst (λ ts. AreKept ts c.self.inside.written.items) (sym c.in_err-freeze.ensures.err) c.self.invariant

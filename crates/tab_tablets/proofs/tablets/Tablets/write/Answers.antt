@@ -1,16 +1,22 @@
-use Rattle.std.proofs.Common.{◌≡◌, ◌∙◌, ◌<◌, List, length, sym, ap, subst, rules, to_z, of_z, w64}
+use Rattle.std.proofs.Common.{◌≡◌, ◌∙◌, ◌<◌, List, [], length, sym, ap, subst, rules, to_z, of_z, w64}
 use Rattle.std.specs.Prelude.{Contains, ◌==◌}
 use Rattle.std.proofs.lemmas.Result.{on_ok_weaker}
 use Rattle.tab_key.specs.Records.{Record}
 use Rattle.tab_cells.specs.Written.{mutation_records}
 use Rattle.tab_tablet.specs.Tablets.{Tablet, written}
 use Rattle.tab_tablets.specs.ByRow.{records_of_all, at_row}
-use Rattle.tab_tablets.specs.Places.{IsPlaceOf, at_place, AreKept}
+use Rattle.tab_tablets.specs.Places.{tablet_at, IsPlaceOf, at_place, AreKept}
 use Rattle.tab_tablets.proofs.At.{one}
 use Rattle.tab_tablets.proofs.EndRows.{row_at_place}
+use Rattle.tab_tablets.proofs.Idle.{idle}
 use Rattle.tab_tablets.proofs.Kept.{kept_again, either, own_rows}
 use Rattle.tab_tablets.proofs.Rows.{held_below}
 use Rattle.tab_tablets.proofs.tablets.Tablets.write.Goals as goal
+
+pub write_first-requires-clause-idle : goal.write_first-requires-clause-idle
+write_first-requires-clause-idle c =
+    subst (λ ts. (tablet_at ts c.place_of-place.result).active ≡ []) c.self.view_is
+    (idle (tablet_at c.self.inside.line c.place_of-place.result) c.tablet.result.now c.tablet.ensures (sym c.is_frozen.ensures.frozen ∙ c.if-is_frozen.true))
 
 pub write-requires-clause-unused : goal.write-requires-clause-unused
 write-requires-clause-unused c = held_below c.self.inside.line c.place_of-place.result c.args.seq (subst (λ ts. (u : Record) → Contains (records_of_all ts) u → u.seq < c.args.seq) (sym c.self.view_is) c.requires.unused)

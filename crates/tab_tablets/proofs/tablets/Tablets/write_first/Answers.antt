@@ -4,10 +4,10 @@ use Rattle.tab_key.specs.Records.{Record}
 use Rattle.tab_cells.specs.Written.{mutation_records}
 use Rattle.tab_tablet.specs.Tablets.{Tablet, written}
 use Rattle.tab_tablets.specs.ByRow.{records_of_all, at_row}
-use Rattle.tab_tablets.specs.Places.{IsPlaceOf, at_place, AreKept}
+use Rattle.tab_tablets.specs.Places.{tablet_at, IsPlaceOf, at_place, AreKept}
 use Rattle.tab_tablets.proofs.At.{one}
 use Rattle.tab_tablets.proofs.EndRows.{row_at_place}
-use Rattle.tab_tablets.proofs.Kept.{kept_first, own_rows}
+use Rattle.tab_tablets.proofs.Kept.{kept_first, own_rows, some_records}
 use Rattle.tab_tablets.proofs.Rows.{held_below}
 use Rattle.tab_tablets.proofs.tablets.Tablets.write_first.Goals as goal
 
@@ -19,9 +19,11 @@ invariant_of-self-2 c =
     let line : List Tablet = c.self.inside.line in
     let us : List Record = mutation_records c.args.seq (to_z w64 (of_z w64 c.args.clock)) c.args.mutation.now in
     let place : IsPlaceOf c.args.mutation.now.row line c.args.place = subst (λ ts. IsPlaceOf c.args.mutation.now.row ts c.args.place) (sym c.self.view_is) c.requires.place in
+    let idle : (tablet_at line c.args.place).active ≡ [] = subst (λ ts. (tablet_at ts c.args.place).active ≡ []) (sym c.self.view_is) c.requires.idle in
     subst (λ ts. AreKept ts c.push_reserved.new.self.items) (sym c.in_ok-write.ensures.ok)
     (subst (AreKept (at_place c.args.place (one (written us)) line)) (sym (c.push_reserved.ensures.items ∙ ap (λ ws. ws ++ c.args.place ∷ []) c.in_ok-reserve.ensures.items))
-    (kept_first line c.self.inside.written.items c.self.invariant c.args.mutation.now.row us (own_rows c.args.seq (to_z w64 (of_z w64 c.args.clock)) c.args.mutation.now) c.args.place place))
+    (kept_first line c.self.inside.written.items c.self.invariant c.args.mutation.now.row us (own_rows c.args.seq (to_z w64 (of_z w64 c.args.clock)) c.args.mutation.now) c.args.place place
+    idle (some_records c.args.seq (to_z w64 (of_z w64 c.args.clock)) c.args.mutation.now c.requires.shape)))
 
 pub returns-clause-ok : goal.returns-clause-ok
 returns-clause-ok c =
