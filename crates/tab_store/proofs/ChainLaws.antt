@@ -41,13 +41,15 @@ no_tables : (ts : List HeldTable) → map base_table_of ts ≡ [] → ts ≡ []
 no_tables [] e = refl
 no_tables (t ∷ ts) e = absurd (cc)
 
+none_numbered : (next : ℕ) → AreNumbered (λ q. []) next
+none_numbered next = record { once = λ q. tt; apart = λ q r k g h. absurd (true≢false (sym g)); below = λ q k g. absurd (true≢false (sym g)) }
+
 pub new_stores_are_stores : NewStoresAreStores
 unfolding IsStrictlySortedBy
-new_stores_are_stores h new = subst (λ ts. IsStore (record h { tables = ts })) (sym (no_tables h.tables new.base.tables)) (record { names = tt; tables = λ q t e. absurd (cc); limits = λ q t e. absurd (cc) })
+new_stores_are_stores h new = subst (λ ts. IsStore (record h { tables = ts })) (sym (no_tables h.tables new.base.tables)) (record { names = tt; tables = λ q t e. absurd (cc); limits = λ q t e. absurd (cc); numbers = λ left. none_numbered h.tablet })
 
 pub new_stores_are_numbered : NewStoresAreNumbered
-new_stores_are_numbered h new left = subst (λ ts. AreNumbered (tablets_in (record h { tables = ts })) h.tablet) (sym (no_tables h.tables new.base.tables))
-    (record { once = λ q. tt; apart = λ q r k g h. absurd (true≢false (sym g)); below = λ q k g. absurd (true≢false (sym g)) })
+new_stores_are_numbered h new left = subst (λ ts. AreNumbered (tablets_in (record h { tables = ts })) h.tablet) (sym (no_tables h.tables new.base.tables)) (none_numbered h.tablet)
 
 -- ---- what histories see of a store
 pub stores_are_sound : StoresAreSound

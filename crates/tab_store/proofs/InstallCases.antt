@@ -1,13 +1,13 @@
 -- How an install may end: what holds of the tablets, and of them with the merge installed in the one of its row, holds after it.
 use Rattle.std.proofs.Common.{◌≡◌, ◌⊎◌, inl, inr, ℕ, List, [], ◌∷◌, Bool, true, false, cond, ◌==◌, refl}
 use Rattle.std.specs.Prelude.{Option, Some, None}
-use Rattle.tab_tablets.specs.Sources.{Sources}
 use Rattle.tab_tablets.specs.Merges.{Merge}
-use Rattle.tab_tablets.specs.Tablets.{Tablet, fitting, installs, installed}
+use Rattle.tab_tablets.specs.Tablets.{Tablet, installed}
 use Rattle.tab_tablets.specs.ByRow.{at_row, tablet_of}
 use Rattle.tab_tablets.specs.Parts.{TabletMerge, installed_in, installs_in}
 use Rattle.tab_tablets.specs.declared.Installed.{Installed}
 use Rattle.tab_tablets.specs.declared.Installed.TheVariants as installed
+use Rattle.tab_tablets.proofs.TabletParts.{installed_end, installed_number}
 use Rattle.tab_history.specs.Answers.{Told}
 use Rattle.tab_history.specs.declared.reply.Refusal.TheVariants.{Stale}
 use Rattle.tab_history.specs.declared.reply.Reply.TheVariants.{Refused}
@@ -17,13 +17,12 @@ use Rattle.tab_store.specs.Stepping.{told_install, laid_install}
 abbrev pub with_merge : Merge → Tablet → Tablet
 with_merge m t = (installed m t).1
 
--- it keeps its end row
+-- it keeps its end row, and its number
 pub with_merge_end : (m : Merge) (t : Tablet) → (with_merge m t).end ≡ t.end
-with_merge_end m t = go (fitting m t)
-  where
-    go : (o : Option Sources) → (installs m o t).1.end ≡ t.end
-    go None = refl
-    go (Some left) = refl
+with_merge_end m t = installed_end m t
+
+pub with_merge_number : (m : Merge) (t : Tablet) → (with_merge m t).number ≡ t.number
+with_merge_number m t = installed_number m t
 
 -- ---- the tablets afterwards
 module _ (P : List Tablet → Type 0) (ts : List Tablet) (same : P ts) (put : (m : TabletMerge) → P (at_row m.row (λ t. with_merge m.merge t ∷ []) ts)) (plain : Told) where

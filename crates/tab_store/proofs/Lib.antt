@@ -28,3 +28,7 @@ pub mod Changed
 pub mod Fewer
 pub mod Numbered
 pub mod Numbering
+pub mod SortedParts
+pub mod ByNumber
+pub mod Belonging
+pub mod Targets

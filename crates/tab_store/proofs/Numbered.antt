@@ -8,7 +8,7 @@ use Rattle.tab_cells.specs.declared.compaction.Compaction.{Compaction}
 use Rattle.tab_cells.proofs.Lists.{by_bool}
 use Rattle.tab_tablets.specs.Sources.{Sources, size_of, left_by}
 use Rattle.tab_tablets.specs.Merges.{Merge}
-use Rattle.tab_tablets.specs.Tablets.{Tablet, next_number, is_up_to, written, frozen, capture, replaced_in, merged_by, compacted, begins, fitting, installs}
+use Rattle.tab_tablets.specs.Tablets.{Tablet, next_number, is_up_to, written, frozen, capture, replaced_in, merged_by, compacted, begins}
 use Rattle.tab_tablets.specs.Splitting.{split_at, middle_row, rows_in}
 use Rattle.tab_tablets.specs.ByRow.{at_row, tablet_of, is_end}
 use Rattle.tab_tablets.specs.Splits.{is_full, split_in, splits, split_found, halved, halves}
@@ -19,22 +19,22 @@ use Rattle.tab_history.specs.Answers.{Told}
 use Rattle.tab_history.specs.declared.reply.Reply.TheVariants.{Done}
 use Rattle.tab_store.specs.Stepping.{TabletWork, Freezing, Writing, Compacting, Counting, Splitting, Halving, Listing, Beginning, Installing, On, Place, floor_at, told_split, laid_install, lays, tablets_numbered, tablet_told}
 use Rattle.tab_store.specs.Numbers.{has_number, NumbersDiffer}
-use Rattle.tab_store.proofs.InstallCases.{with_merge, after_install}
+use Rattle.tab_store.proofs.InstallCases.{with_merge, with_merge_number, after_install}
 
 -- ---- tests
 pub or_true : (a b : Bool) → (a || b) ≡ true → (a ≡ true) ⊎ (b ≡ true)
 or_true true b e = inl refl
 or_true false b e = inr e
 
-or_right : (a b : Bool) → b ≡ true → (a || b) ≡ true
+pub or_right : (a b : Bool) → b ≡ true → (a || b) ≡ true
 or_right true b e = refl
 or_right false b e = e
 
-or_none : (a b : Bool) → a ≡ false → b ≡ false → (a || b) ≡ false
+pub or_none : (a b : Bool) → a ≡ false → b ≡ false → (a || b) ≡ false
 or_none true b e f = absurd (true≢false e)
 or_none false b e f = f
 
-itself : (k : ℕ) → (k == k) ≡ true
+pub itself : (k : ℕ) → (k == k) ≡ true
 itself k = grind (arith, nat_tests)
 
 other : (a b : ℕ) → b ≡ a + 1 → (b == a) ≡ false
@@ -42,7 +42,7 @@ other a b e = grind (arith, nat_tests, e)
 
 -- ---- where each tablet keeps its number
 module _ (f : Tablet → Tablet) (same : (t : Tablet) → (f t).number ≡ t.number) where
-  has_map : (k : ℕ) (ts : List Tablet) → has_number k (map f ts) ≡ has_number k ts
+  pub has_map : (k : ℕ) (ts : List Tablet) → has_number k (map f ts) ≡ has_number k ts
   has_map k [] = refl
   has_map k (t ∷ ts) = λ i. same t i == k || has_map k ts i
 
@@ -73,7 +73,7 @@ module _ (row : List ℕ) (n : ℕ) where
   abbrev IsNew : ℕ → Type 0
   IsNew k = (n ≡ k) ⊎ (next_number n ≡ k)
 
-  has_split : (k : ℕ) (ts : List Tablet) → has_number k (at_row row (split_at row n) ts) ≡ true → (has_number k ts ≡ true) ⊎ IsNew k
+  pub has_split : (k : ℕ) (ts : List Tablet) → has_number k (at_row row (split_at row n) ts) ≡ true → (has_number k ts ≡ true) ⊎ IsNew k
   has_split k [] h = inl h
   has_split k (t ∷ ts) h = go (is_up_to t.end row) h (has_split k ts)
     where
@@ -140,7 +140,7 @@ IsPlain (Splitting row) plain = plain ≡ Done
 IsPlain (Halving row limit) plain = plain ≡ Done
 IsPlain _ plain = Unit {0}
 
-compacted_number : (kind : Compaction) (floor : ℤ) (n : ℕ) (t : Tablet) → (compacted kind floor n t).number ≡ t.number
+pub compacted_number : (kind : Compaction) (floor : ℤ) (n : ℕ) (t : Tablet) → (compacted kind floor n t).number ≡ t.number
 compacted_number kind floor n t = go (capture 0 kind floor n t)
   where
     by_left : (m : Merge) (o : Option Sources) → (replaced_in m o (frozen t)).number ≡ t.number
@@ -150,13 +150,6 @@ compacted_number kind floor n t = go (capture 0 kind floor n t)
     go : (o : Option Merge) → (merged_by o (frozen t)).number ≡ t.number
     go None = refl
     go (Some m) = by_left m (left_by m.inputs (frozen t).sources)
-
-with_merge_number : (m : Merge) (t : Tablet) → (with_merge m t).number ≡ t.number
-with_merge_number m t = go (fitting m t)
-  where
-    go : (o : Option Sources) → (installs m o t).1.number ≡ t.number
-    go None = refl
-    go (Some left) = refl
 
 module _ (p : Place) (t : List ℕ) (ts : List Tablet) (d : NumbersDiffer ts) (below : (k : ℕ) → has_number k ts ≡ true → k < p.tablet) where
   mapped : (f : Tablet → Tablet) → ((x : Tablet) → (f x).number ≡ x.number) → (next : ℕ) → Renumbered p.tablet next ts (map f ts)

@@ -11,18 +11,14 @@ use Rattle.tab_history.specs.Answers.{Told, told, numbered, granted}
 use Rattle.tab_history.specs.Legal.{takes_memory}
 use Rattle.tab_history.specs.declared.event.Act.{Act}
 use Rattle.tab_history.specs.declared.event.Act.TheVariants.{Open, Rights as AsksRights}
-use Rattle.tab_history.specs.Histories.{Entry}
 use Rattle.tab_history.specs.declared.event.Event.{Event}
-use Rattle.tab_history.specs.declared.event.Step.{Step}
-use Rattle.tab_history.specs.declared.event.Step.TheVariants.{Event as IsEvent, Next}
 use Rattle.tab_history.specs.declared.reply.Refusal.{Refusal}
 use Rattle.tab_history.specs.declared.reply.Refusal.TheVariants.{NoMemory, TooLarge}
 use Rattle.tab_history.specs.declared.reply.Reply.TheVariants.{Done, Refused}
 use Rattle.tab_key.specs.declared.part.Part.TheVariants.{Numbers}
 use Rattle.tab_store.specs.Stores.{Held, table_in, tablets_in}
-use Rattle.tab_store.specs.Stepping.{TabletWork, Freezing, Writing, Compacting, Counting, Splitting, Halving, Listing, Beginning, Installing, TableWork, Aside, Making, Dropping, On, work_of, place_of, lays_in, told_by, laid_by, tablets_numbered, tablet_told, told_exactly, laid_exactly, laid_told, now_at, plain_answer}
-use Rattle.tab_store.specs.Chains.{Running, given_in, by_hand, RunsExactly, EntryGoes}
-use Rattle.tab_store.specs.Numbers.{has_number, NumbersDiffer, AreNumbered, IsNumbered, NumbersStay, ChainsKeepNumbers}
+use Rattle.tab_store.specs.Stepping.{TabletWork, Freezing, Writing, Compacting, Counting, Splitting, Halving, Listing, Beginning, Installing, TableWork, Aside, Making, Dropping, On, work_of, place_of, lays_in, told_by, laid_by, tablets_numbered, tablet_told, told_exactly, laid_exactly, laid_told, LaysExactly, now_at, plain_answer}
+use Rattle.tab_store.specs.Numbers.{has_number, NumbersDiffer, AreNumbered, NumbersStay}
 use Rattle.tab_store.proofs.Passed.{caller, refusal, spent}
 use Rattle.tab_store.proofs.Numbered.{or_true, Renumbered, IsPlain, work_numbers}
 
@@ -48,10 +44,10 @@ grows : (r : Told) (work : TableWork) (n : ℕ) → tablet_told r work n < 18446
 grows Done work n lt = work_grows work n lt
 grows r work n lt = le_itself n
 
-below_too : (n m k : ℕ) → n ≤ m → m < k → n < k
+pub below_too : (n m k : ℕ) → n ≤ m → m < k → n < k
 below_too n m k le lt = omega (arith, le, lt)
 
-on_to : (k n m : ℕ) → k < n → n ≤ m → k < m
+pub on_to : (k n m : ℕ) → k < n → n ≤ m → k < m
 on_to k n m lt le = omega (arith, lt, le)
 
 apart_by : (k n : ℕ) → k < n → n ≤ k → ⊥
@@ -175,25 +171,15 @@ step_left : (old : Held) (a : AreNumbered (tablets_in old) old.tablet) (event : 
 step_left old a event given r (inl e) = answer_left old a (now_at old event) given (caller old event) event.act (refusal old event) (spent old event) r e
 step_left old a event given r (inr e) = subst (Answered old a (now_at old event) given event.act (plain_answer old event)) (sym e.1) (untouched old a (now_at old event) given event.act (Refused NoMemory))
 
+-- the next number doesn't fall
+pub next_grows : (old new : Held) (now : ℤ) (given job : Option TabletMerge) (act : Act) (plain r : Told) → LaysExactly old now given act plain r job new → new.tablet < 18446744073709551615 → old.tablet ≤ new.tablet
+next_grows old new now given job act plain r exact lt =
+    subst (λ n. old.tablet ≤ n) (sym exact.tablet) (grows r (work_of given act) old.tablet (subst (λ n. n < 18446744073709551615) exact.tablet lt))
+
 pub numbers_stay : NumbersStay
 numbers_stay old new given job event r was exact lt =
     let work : TableWork = work_of given event.act in
     let more : tablet_told r work old.tablet < 18446744073709551615 = subst (λ n. n < 18446744073709551615) exact.tablet lt in
-    let a : AreNumbered (tablets_in old) old.tablet = was (below_too old.tablet (tablet_told r work old.tablet) 18446744073709551615 (grows r work old.tablet more) more) in
+    let a : AreNumbered (tablets_in old) old.tablet = was (below_too old.tablet new.tablet 18446744073709551615 (next_grows old new (now_at old event) given job event.act (plain_answer old event) r exact lt) lt) in
     subst (λ n. AreNumbered (tablets_in new) n) (sym exact.tablet)
     (subst (λ f. AreNumbered f (tablet_told r work old.tablet)) (sym (λ i q. exact.tablets q i)) (step_left old a event given r exact.answers more))
-
--- ---- chains
-module _ (before last : Running) where
-  goes_numbered : (step : Step) (r : Told) → RunsExactly before step r last → IsNumbered before.held → IsNumbered last.held
-  goes_numbered (IsEvent event) r x was = numbers_stay before.held last.held (given_in before.begun event.act) x.0 (by_hand before.begun event) r was x.1.exact
-  goes_numbered (Next user slot n) r x was = absurd x
-  goes_numbered step r x was = absurd x
-
-  entry_numbered : (e : Entry) → EntryGoes before e last → IsNumbered before.held → IsNumbered last.held
-  entry_numbered e (inl x) was = goes_numbered e.step e.reply x was
-  entry_numbered e (inr x) was = subst (λ (v : Running). IsNumbered v.held) (sym x.1) was
-
-pub chains_keep_numbers : ChainsKeepNumbers
-chains_keep_numbers first last [] was same = subst (λ (v : Running). IsNumbered v.held) same was
-chains_keep_numbers first last (e ∷ es) was chain = entry_numbered chain.0 last e chain.2 (chains_keep_numbers first chain.0 es was chain.1)

@@ -21,7 +21,9 @@ use Rattle.tab_cells.proofs.Lists.{in_append, in_left, in_right}
 use Rattle.tab_iter.specs.Bags.{flat}
 use Rattle.tab_tablets.specs.Sources.{Sources, records_of, count_of, same_sources, same_lists, same_contents, same_table, left_by}
 use Rattle.tab_tablets.specs.Merges.{Merge, output, inputs_of, is_under_way}
-use Rattle.tab_tablets.specs.Tablets.{Jobs, Tablet, job_of, with_job, records_in, written, frozen, replaced, replaced_in, begun, merged_by, installs}
+use Rattle.tab_tablets.specs.Tablets.{Jobs, Tablet, job_of, with_job, records_in, written, frozen, replaced, replaced_in, begun, merged_by, fitting, sources_told, installs}
+use Rattle.tab_tablets.specs.declared.Installed.{Installed}
+use Rattle.tab_tablets.specs.declared.Installed.TheVariants.{Stale}
 use Rattle.tab_tablets.proofs.Moved.{in_output, distinct_left, distinct_apart, frozen_permuted, written_moved, output_beside, beside, replaced_permuted, parted}
 use Rattle.tab_tablets.proofs.Parted.{some_is, nat_same, runs_same, tables_same}
 use Rattle.tab_history.specs.Held.{RefinesTable}
@@ -182,7 +184,7 @@ same_may kind m j held n floor e o =
     }
 
 pub installs_keep : InstallsKeep
-installs_keep m t us next n floor h = go (job_of m.kind t.jobs) refl
+installs_keep m t us next n floor h = here (t.number == m.tablet)
   where
     stale : TabletRefines (record t { jobs = with_job m.kind None t.jobs }) us next n floor
     stale = record { refines = h.refines; jobs = others_may m.kind t.jobs (records_in t) (records_in t) n floor (λ u k. k) h.jobs }
@@ -198,6 +200,10 @@ installs_keep m t us next n floor h = go (job_of m.kind t.jobs) refl
     go : (o : Option Merge) → job_of m.kind t.jobs ≡ o → TabletRefines (installs m (cond (is_under_way m o) (left_by m.inputs t.sources) None) t).1 us next n floor
     go None q = stale
     go (Some j) q = by_match j q (is_under_way m (Some j)) refl
+
+    here : (v : Bool) → TabletRefines (cond {A = Installed × Tablet} v (installs m (fitting m t) t) (Stale (sources_told t), t)).1 us next n floor
+    here true = go (job_of m.kind t.jobs) refl
+    here false = h
 
 -- ---- writes, and time that passes
 pub writes_keep : WritesKeep

@@ -44,6 +44,7 @@ use Rattle.tab_store.proofs.Right.{steps_are_right, soundness_stays}
 use Rattle.tab_store.proofs.Passed.{caller, refusal, spent, of_passed}
 use Rattle.tab_store.proofs.WellFormed.{short, well_formed}
 use Rattle.tab_store.proofs.Ends.{EndsFit, IsShortRow, WorkFits, MiddlesFit, work_fits}
+use Rattle.tab_store.proofs.Numbering.{numbers_stay}
 
 -- ---- records
 -- each record of each table has the property
@@ -193,4 +194,5 @@ stores_stay old new given job event r store none leaves = record {
     records = each_stays IsWellFormed old new given job event r store none leaves (λ p x f u c. (store.limits p x f).records u c) (added_well old event.user event.moment event.act) q t e;
     ends = subst EndsFit (ap tablets_found e) (ends_stay old new given job event r store leaves q);
   };
+  numbers = numbers_stay old new given job event r store.numbers leaves.exact;
 }

@@ -8,6 +8,8 @@ pub mod Examples
 pub mod Tables
 pub mod Due
 pub mod Numbers
+pub mod Belonging
+pub mod Targets
 pub use Rattle.tab_tablets.specs.ByRow
 pub use Rattle.tab_tablets.specs.Listing
 pub use Rattle.tab_tablets.specs.Parts

@@ -4,12 +4,9 @@ use Rattle.std.specs.List.{list_any}
 use Rattle.tab_tablets.specs.Tablets.{Tablet}
 use Rattle.tab_tablets.specs.Parts.{TabletMerge}
 use Rattle.tab_history.specs.Answers.{Told}
-use Rattle.tab_history.specs.Histories.{Entry}
-use Rattle.tab_history.specs.Chains.{IsChain}
 use Rattle.tab_history.specs.declared.event.Event.{Event}
 use Rattle.tab_store.specs.Stores.{Held, tablets_in, IsNewStore}
 use Rattle.tab_store.specs.Stepping.{LaysExactly, now_at, plain_answer}
-use Rattle.tab_store.specs.Chains.{Running, EntryGoes}
 
 -- whether one of the tablets has this number
 abbrev pub has_number : ℕ → List Tablet → Bool
@@ -30,12 +27,9 @@ pub record AreNumbered (tables : List ℕ → List Tablet) (next : ℕ) : Type 0
 abbrev pub IsNumbered : Held → Type 0
 IsNumbered h = h.tablet < 18446744073709551615 → AreNumbered (tablets_in h) h.tablet
 
--- ---- The laws: a new core is so, each exact step leaves it so, and so does each chain of exact steps, as a run is one.
+-- ---- The laws: a new core is so, and each exact step leaves it so.
 abbrev pub NewStoresAreNumbered : Type 0
 NewStoresAreNumbered = (h : Held) → IsNewStore h → IsNumbered h
 
 abbrev pub NumbersStay : Type 0
 NumbersStay = (old new : Held) (given job : Option TabletMerge) (event : Event) (told : Told) → IsNumbered old → LaysExactly old (now_at old event) given event.act (plain_answer old event) told job new → IsNumbered new
-
-abbrev pub ChainsKeepNumbers : Type 0
-ChainsKeepNumbers = (first last : Running) (es : List Entry) → IsNumbered first.held → IsChain EntryGoes first es last → IsNumbered last.held

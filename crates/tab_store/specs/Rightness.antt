@@ -11,13 +11,16 @@ use Rattle.tab_store.specs.Stores.{HeldTable, Held, NamesRise, base_of, table_in
 use Rattle.tab_store.specs.Stepping.{LaysExactly, now_at, plain_answer, entry_of}
 use Rattle.tab_store.specs.Keeping.{AreSound}
 use Rattle.tab_store.specs.Limits.{AreLimited}
+use Rattle.tab_store.specs.Numbers.{IsNumbered}
 
 -- ---- stores
--- the tables lie in the order of their names, and the tablets of each are sound, at the clock, and within the limits
+-- the tables lie in the order of their names, the tablets of each are sound, at the clock, and within the limits, and each tablet has a
+-- number of its own
 pub record IsStore (h : Held) : Type 0 where
   pub names : NamesRise h
   pub tables : (q : List ℕ) (t : HeldTable) → table_in h q ≡ Some t → AreSound t.tablets h.next t.settings.versions (floor_of t.settings.time h.clock t.settings.horizon)
   pub limits : (q : List ℕ) (t : HeldTable) → table_in h q ≡ Some t → AreLimited t.tablets
+  pub numbers : IsNumbered h
 
 -- ---- The law: a new core is one.
 abbrev pub NewStoresAreStores : Type 0

@@ -1,7 +1,9 @@
 //! Laws of the definitions. Each is the contract of a function that does nothing, so that it is proved.
 ghost use Rattle.tab_store.specs.Stepping.{TellsLegally, CapturesAreThere};
 ghost use Rattle.tab_store.specs.Keeping.{FreezesKeep, WritesKeep, CompactionsKeep, BeginningsKeep, InstallsKeep, SplitsKeep, LaterKeeps, FewerKeeps, SoundWithFewer, WorkKeeps, StaysWhole, TabletsHoldAll, SoundTabletsLieApart, MiddlesLieInside, EachTabletRefines, WorkStaysSound, NewTablesAreSound, SoundLater, BasesRead};
-ghost use Rattle.tab_store.specs.Numbers.{NewStoresAreNumbered, NumbersStay, ChainsKeepNumbers};
+ghost use Rattle.tab_store.specs.Numbers.{NewStoresAreNumbered, NumbersStay};
+ghost use Rattle.tab_store.specs.Belonging.{ChainsKeepNumbers, InstallsByNumber, OthersAreStale, BegunBelong, BelongingStays, BegunBelongOn, ElsewhereIsStale};
+ghost use Rattle.tab_store.specs.Targets.{StartsLieInside, TargetsAreDue};
 ghost use Rattle.tab_store.specs.Rightness.{NewStoresAreStores, StoresAreSound, StepsAreRight, StoresStay};
 ghost use Rattle.tab_store.specs.Chains.{ChainsStay, ChainsAreLegal};
 
@@ -153,4 +155,44 @@ pub fn numbers_stay()
 /// So does a chain of exact steps, as a run is one.
 pub fn chains_keep_numbers()
     ensures { ChainsKeepNumbers }
+{}
+
+/// Where no tablet but that of its row has the number of a merge's tablet, the merge is installed as by the number alone.
+pub fn installs_by_number()
+    ensures { InstallsByNumber }
+{}
+
+/// Where no tablet has it, the merge is stale, and nothing changes.
+pub fn others_are_stale()
+    ensures { OthersAreStale }
+{}
+
+/// A merge that was begun has the number of the tablet of its row, and belongs to its table.
+pub fn begun_belong()
+    ensures { BegunBelong }
+{}
+
+/// An exact step leaves it so, as long as there are numbers.
+pub fn belonging_stays()
+    ensures { BelongingStays }
+{}
+
+/// So does a chain of exact steps.
+pub fn begun_belong_on()
+    ensures { BegunBelongOn }
+{}
+
+/// An Install of it that names another table is stale, and changes no tablet and no merge under way.
+pub fn elsewhere_is_stale()
+    ensures { ElsewhereIsStale }
+{}
+
+/// The least row of a tablet lies in it.
+pub fn starts_lie_inside()
+    ensures { StartsLieInside }
+{}
+
+/// Work that is due has a target, which is the tablet that is due, as long as there are numbers.
+pub fn targets_are_due()
+    ensures { TargetsAreDue }
 {}
