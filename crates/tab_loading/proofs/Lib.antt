@@ -5,4 +5,5 @@ pub mod PuttingRights
 pub mod Policies
 pub mod Restoring
 pub mod Placing
+pub mod Numbers
 pub mod Loaded

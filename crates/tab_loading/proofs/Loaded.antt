@@ -41,6 +41,7 @@ use Rattle.tab_loading.specs.Loading.{AreLaid, CountsOn}
 use Rattle.tab_loading.specs.Policies.{new_readings, with_user, with_table}
 use Rattle.tab_loading.specs.Tables.{NumberedTable, number_behind, numbered_from, held_table_of}
 use Rattle.tab_loading.proofs.Found.{itself, same_by, found_or, found, each_found, found_named, found_all, has_found, any_named, any_found}
+use Rattle.tab_loading.proofs.Numbers.{made_numbered}
 use Rattle.tab_loading.proofs.Placing.{held_name, names_said}
 use Rattle.tab_loading.proofs.Policies.{user_name, users_read, auths_read, system_read, no_rights_yet, no_tables_yet, count_read, others_gone, table_name, gives, same_users, same_count, same_auths, same_system, tables_read, rights_read, all_give}
 use Rattle.tab_loading.proofs.Restoring.{records_are, ends_are, all_held, restored_sound, restored_limited}
@@ -243,6 +244,7 @@ module _ (image : Image) (sane : IsSane image) where
       tables = each_made (λ t. AreSound t.tablets image.next t.settings.versions (floor_of t.settings.time image.clock t.settings.horizon))
           (λ t is number. restored_sound number t.head.ends t.records is.ends is.records image.next t.head.versions (floor_of t.head.time image.clock t.head.horizon) (numbers t is));
       limits = each_made (λ t. AreLimited t.tablets) (λ t is number. restored_limited number t.head.ends t.records is.ends is.records (well t is) (record { short = is.ends_short; few = is.ends_few }));
+      numbers = λ few. made_numbered ts few;
     }
 
     known_tables : KnowsTables made

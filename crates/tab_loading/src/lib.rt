@@ -11,8 +11,8 @@
 //! says, and `Loading` what loading does.
 //!
 //! In `proofs`, `Found` finds things by names that rise; `Granting`, `PuttingUsers` and `PuttingRights` read a policy after each of the
-//! changes, and `Policies` after all of them; `Restoring` has restored tablets be sound, `Placing` reads tables that are put one by one,
-//! and `Loaded` puts all of it together.
+//! changes, and `Policies` after all of them; `Restoring` has restored tablets be sound, and `Numbers` have numbers of their own, `Placing`
+//! reads tables that are put one by one, and `Loaded` puts all of it together.
 #![tactic(auto)]
 
 mod loading;
