@@ -23,3 +23,4 @@ pub mod Writing
 pub mod Picked
 pub use Rattle.tab_store.proofs.ChainLaws
 pub use Rattle.tab_store.proofs.Joining
+pub mod Rotated

@@ -10,6 +10,7 @@ pub mod ByTablet
 pub mod Spending
 pub mod EventReplies
 pub mod Recording
+pub mod Rotating
 pub mod Comparing
 pub mod ComparingExamples
 pub use Rattle.tab_store.specs.Stores

@@ -14,6 +14,7 @@
 //! | `checking` | the checks that are an event's own, and those of a request for ranges |
 //! | `labels` | the labels of a mutation, judged |
 //! | `reply` | replies with and without what they hand out |
+//! | `base` | what a core holds, as data, on which a history begins |
 //! | `event_reply`, `recording` | what an event is told, copied, and the step whose history is recorded |
 //! | `slots`, `sessions`, `job_slots` | the sessions of one user, those of all users by name, and the jobs of all |
 //! | `running` | runs of steps |
@@ -21,12 +22,13 @@
 //!
 //! Of the definitions in `specs`, `Stepping` says what a step does, `Holding` what a store holds, `Bounded` which limits a core keeps to
 //! beside those of its tables, `EventReplies` what an event is told, `Spending` what is left of an act that was lent, `ByTablet` what each
-//! tablet of a core refines, `Recording` what a step means for a history that is recorded beside the core, `Slots`, `Sessions` and
-//! `JobSlots` what a run or a script keeps, `Lending` what is left of sessions that were lent, `Owners` what a step of a run does, and
-//! `Comparing` what two runs tell; `ComparingExamples` computes it for a small history.
+//! tablet of a core refines, `Recording` what a step means for a history that is recorded beside the core, `Rotating` the base on which one
+//! begins anew, `Slots`, `Sessions` and `JobSlots` what a run or a script keeps, `Lending` what is left of sessions that were lent, `Owners`
+//! what a step of a run does, and `Comparing` what two runs tell; `ComparingExamples` computes it for a small history.
 #![tactic(auto)]
 
 mod acts;
+mod base;
 mod checking;
 mod comparing;
 mod event_reply;
@@ -50,6 +52,7 @@ mod tablets;
 mod users;
 mod writes;
 
+pub use base::Base;
 pub use comparing::{Compared, compare_runs};
 pub use event_reply::EventReply;
 pub use job_slots::{JobSlot, JobSlots};
