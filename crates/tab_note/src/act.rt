@@ -3,6 +3,8 @@ ghost use Rattle.std.specs.Prelude.{◌≡◌, ◌↔◌, IsTrue, IfOk};
 ghost use Rattle.tab_note.specs.Acts.{permission_in, plain_in, scan_in, act_in, is_write};
 
 use crate::equal::{same_auths, same_bounds, same_columns, same_constraints, same_mutation};
+use crate::kept_name::KeptName;
+use crate::kept_versions::KeptVersions;
 use crate::text::Text;
 use std::alloc::{AllocError, Global};
 use tab_cells::Compaction;
@@ -19,14 +21,14 @@ pub enum KeptPermission {
     /// For the whole server.
     OfSystem(SystemPermission),
     /// For the table of this name.
-    OfTable(TablePermission, Text),
+    OfTable(TablePermission, KeptName),
 }
 
 /// What a scan asks for.
 #[derive(Drop)]
 pub struct KeptScan {
     /// The table.
-    pub table: Text,
+    pub table: KeptName,
     /// The rows.
     pub bounds: Bounds,
     /// The columns.
@@ -38,26 +40,26 @@ pub struct KeptScan {
 /// An act of names, rows and numbers. [`tab_history::Act`] says what each asks.
 #[derive(PartialEq, Eq, Drop)]
 pub enum PlainAct {
-    CreateTable(Text, TimeMode, u32),
-    DropTable(Text),
-    SetVersions(Text, u32),
-    SetHorizon(Text, i64),
-    CreateUser(Text),
-    DropUser(Text),
-    Grant(Text, KeptPermission),
-    Revoke(Text, KeptPermission),
-    Rights(Text),
-    Status(Text),
-    Flush(Text),
-    Compact(Text, Extent),
-    AddSplit(Text, Text),
-    SplitBySize(Text, Text, u64),
-    Splits(Text),
+    CreateTable(KeptName, TimeMode, KeptVersions),
+    DropTable(KeptName),
+    SetVersions(KeptName, KeptVersions),
+    SetHorizon(KeptName, i64),
+    CreateUser(KeptName),
+    DropUser(KeptName),
+    Grant(KeptName, KeptPermission),
+    Revoke(KeptName, KeptPermission),
+    Rights(KeptName),
+    Status(KeptName),
+    Flush(KeptName),
+    Compact(KeptName, Extent),
+    AddSplit(KeptName, Text),
+    SplitBySize(KeptName, Text, u64),
+    Splits(KeptName),
     Save,
     Load,
     Rotate,
-    Begin(Text, Text, Compaction),
-    Install(Text, Given),
+    Begin(KeptName, Text, Compaction),
+    Install(KeptName, Given),
 }
 
 /// An act, each name in as many bytes as it has. It takes 88 bytes in place.
@@ -66,20 +68,20 @@ pub enum KeptAct {
     /// An Open, behind a pointer: it has more parts than any other act.
     Open(Box<KeptScan>),
     /// A Write.
-    Write(Text, Mutation),
+    Write(KeptName, Mutation),
     /// New constraints.
-    SetConstraints(Text, ConstraintSet),
+    SetConstraints(KeptName, ConstraintSet),
     /// New authorizations.
-    SetAuths(Text, AuthSet),
+    SetAuths(KeptName, AuthSet),
     /// Any other act.
     Plain(PlainAct),
 }
 
 // A name in the bytes that it has.
-fn text(alloc: Global, name: &Name) -> Result<Text, AllocError>
-    ensures { IfOk result (λ text. text ≡ name.now) }
+fn named(alloc: Global, name: &Name) -> Result<KeptName, AllocError>
+    ensures { IfOk result (λ kept. kept ≡ name.now) }
 {
-    Text::of(alloc, name.as_bytes())
+    KeptName::of(alloc, name)
 }
 
 // A row in the bytes that it has.
@@ -95,7 +97,7 @@ fn kept_permission(alloc: Global, permission: &Permission) -> Result<KeptPermiss
 {
     Ok(match permission {
         Permission::OfSystem(system) => KeptPermission::OfSystem(*system),
-        Permission::OfTable(right, table) => KeptPermission::OfTable(*right, text(alloc, table)?),
+        Permission::OfTable(right, table) => KeptPermission::OfTable(*right, named(alloc, table)?),
     })
 }
 
@@ -104,7 +106,7 @@ fn kept_scan(alloc: Global, scan: &Scan) -> Result<KeptScan, AllocError>
     ensures { IfOk result (λ kept. scan_in kept ≡ scan.now) }
 {
     Ok(KeptScan {
-        table: text(alloc, &scan.table)?,
+        table: named(alloc, &scan.table)?,
         bounds: scan.bounds.clone()?,
         columns: scan.columns.clone()?,
         authorizations: scan.authorizations.clone()?,
@@ -122,39 +124,54 @@ impl KeptAct {
             Act::SetConstraints(table, set) => return constraints(alloc, table, set),
             Act::SetAuths(name, auths) => return authorizations(alloc, name, auths),
             Act::CreateTable(table, time, versions) => {
-                PlainAct::CreateTable(text(alloc, table)?, *time, versions.get())
+                PlainAct::CreateTable(named(alloc, table)?, *time, KeptVersions::of(*versions))
             }
-            Act::DropTable(table) => PlainAct::DropTable(text(alloc, table)?),
+            Act::DropTable(table) => PlainAct::DropTable(named(alloc, table)?),
             Act::SetVersions(table, versions) => {
-                PlainAct::SetVersions(text(alloc, table)?, versions.get())
+                PlainAct::SetVersions(named(alloc, table)?, KeptVersions::of(*versions))
             }
-            Act::SetHorizon(table, horizon) => PlainAct::SetHorizon(text(alloc, table)?, *horizon),
-            Act::CreateUser(name) => PlainAct::CreateUser(text(alloc, name)?),
-            Act::DropUser(name) => PlainAct::DropUser(text(alloc, name)?),
+            Act::SetHorizon(table, horizon) => PlainAct::SetHorizon(named(alloc, table)?, *horizon),
+            Act::CreateUser(name) => PlainAct::CreateUser(named(alloc, name)?),
+            Act::DropUser(name) => PlainAct::DropUser(named(alloc, name)?),
             Act::Grant(name, permission) => {
-                PlainAct::Grant(text(alloc, name)?, kept_permission(alloc, permission)?)
+                PlainAct::Grant(named(alloc, name)?, kept_permission(alloc, permission)?)
             }
             Act::Revoke(name, permission) => {
-                PlainAct::Revoke(text(alloc, name)?, kept_permission(alloc, permission)?)
+                PlainAct::Revoke(named(alloc, name)?, kept_permission(alloc, permission)?)
             }
-            Act::Rights(table) => PlainAct::Rights(text(alloc, table)?),
-            Act::Status(table) => PlainAct::Status(text(alloc, table)?),
-            Act::Flush(table) => PlainAct::Flush(text(alloc, table)?),
-            Act::Compact(table, extent) => PlainAct::Compact(text(alloc, table)?, *extent),
+            Act::Rights(table) => PlainAct::Rights(named(alloc, table)?),
+            Act::Status(table) => PlainAct::Status(named(alloc, table)?),
+            Act::Flush(table) => PlainAct::Flush(named(alloc, table)?),
+            Act::Compact(table, extent) => PlainAct::Compact(named(alloc, table)?, *extent),
             Act::AddSplit(table, row) => {
-                PlainAct::AddSplit(text(alloc, table)?, row_text(alloc, row)?)
+                PlainAct::AddSplit(named(alloc, table)?, row_text(alloc, row)?)
             }
             Act::SplitBySize(table, row, limit) => split_by_size(alloc, table, row, *limit)?,
-            Act::Splits(table) => PlainAct::Splits(text(alloc, table)?),
+            Act::Splits(table) => PlainAct::Splits(named(alloc, table)?),
             Act::Save => PlainAct::Save,
             Act::Load => PlainAct::Load,
             Act::Rotate => PlainAct::Rotate,
             Act::Begin(table, row, kind) => {
-                PlainAct::Begin(text(alloc, table)?, row_text(alloc, row)?, *kind)
+                PlainAct::Begin(named(alloc, table)?, row_text(alloc, row)?, *kind)
             }
-            Act::Install(table, given) => PlainAct::Install(text(alloc, table)?, *given),
+            Act::Install(table, given) => PlainAct::Install(named(alloc, table)?, *given),
         };
         Ok(KeptAct::Plain(plain))
+    }
+
+    /// The act itself. An error leaves nothing behind.
+    pub fn to_act(&self, alloc: Global) -> Result<Act, AllocError>
+        ensures { IfOk result (λ act. act ≡ act_in self.now) }
+    {
+        Ok(match self {
+            KeptAct::Open(scan) => Act::Open(to_scan(alloc, scan)?),
+            KeptAct::Write(table, mutation) => Act::Write(table.to_name(), mutation.clone()?),
+            KeptAct::SetConstraints(table, set) => {
+                Act::SetConstraints(table.to_name(), set.clone()?)
+            }
+            KeptAct::SetAuths(name, auths) => Act::SetAuths(name.to_name(), auths.clone()?),
+            KeptAct::Plain(plain) => to_plain(alloc, plain)?,
+        })
     }
 
     /// Whether it is a Write.
@@ -205,21 +222,21 @@ fn open(alloc: Global, scan: &Scan) -> Result<KeptAct, AllocError>
 fn write(alloc: Global, table: &Name, mutation: &Mutation) -> Result<KeptAct, AllocError>
     ensures { IfOk result (λ kept. act_in kept ≡ Act.Write table.now mutation.now) }
 {
-    Ok(KeptAct::Write(text(alloc, table)?, mutation.clone()?))
+    Ok(KeptAct::Write(named(alloc, table)?, mutation.clone()?))
 }
 
 // New constraints, kept.
 fn constraints(alloc: Global, table: &Name, set: &ConstraintSet) -> Result<KeptAct, AllocError>
     ensures { IfOk result (λ kept. act_in kept ≡ Act.SetConstraints table.now set.now) }
 {
-    Ok(KeptAct::SetConstraints(text(alloc, table)?, set.clone()?))
+    Ok(KeptAct::SetConstraints(named(alloc, table)?, set.clone()?))
 }
 
 // New authorizations, kept.
 fn authorizations(alloc: Global, name: &Name, auths: &AuthSet) -> Result<KeptAct, AllocError>
     ensures { IfOk result (λ kept. act_in kept ≡ Act.SetAuths name.now auths.now) }
 {
-    Ok(KeptAct::SetAuths(text(alloc, name)?, auths.clone()?))
+    Ok(KeptAct::SetAuths(named(alloc, name)?, auths.clone()?))
 }
 
 // A split by size, kept.
@@ -231,7 +248,70 @@ fn split_by_size(
 ) -> Result<PlainAct, AllocError>
     ensures { IfOk result (λ kept. plain_in kept ≡ Act.SplitBySize table.now row.now limit) }
 {
-    Ok(PlainAct::SplitBySize(text(alloc, table)?, row_text(alloc, row)?, limit))
+    Ok(PlainAct::SplitBySize(named(alloc, table)?, row_text(alloc, row)?, limit))
+}
+
+// The permission itself.
+fn to_permission(kept: &KeptPermission) -> Permission
+    ensures { result ≡ permission_in kept.now }
+{
+    match kept {
+        KeptPermission::OfSystem(system) => Permission::OfSystem(*system),
+        KeptPermission::OfTable(right, table) => Permission::OfTable(*right, table.to_name()),
+    }
+}
+
+// The scan itself.
+fn to_scan(alloc: Global, kept: &KeptScan) -> Result<Scan, AllocError>
+    ensures { IfOk result (λ scan. scan ≡ scan_in kept.now) }
+{
+    Ok(Scan {
+        table: kept.table.to_name(),
+        bounds: kept.bounds.clone()?,
+        columns: kept.columns.clone()?,
+        authorizations: kept.authorizations.clone()?,
+    })
+}
+
+// The row itself.
+fn to_row(alloc: Global, row: &Text) -> Result<ByteString, AllocError>
+    ensures { IfOk result (λ copy. copy ≡ row.now) }
+{
+    ByteString::from_slice(alloc, row.as_bytes())
+}
+
+// The act of names, rows and numbers itself.
+fn to_plain(alloc: Global, kept: &PlainAct) -> Result<Act, AllocError>
+    ensures { IfOk result (λ act. act ≡ plain_in kept.now) }
+{
+    Ok(match kept {
+        PlainAct::CreateTable(table, time, many) => {
+            Act::CreateTable(table.to_name(), *time, many.versions())
+        }
+        PlainAct::DropTable(table) => Act::DropTable(table.to_name()),
+        PlainAct::SetVersions(table, many) => Act::SetVersions(table.to_name(), many.versions()),
+        PlainAct::SetHorizon(table, horizon) => Act::SetHorizon(table.to_name(), *horizon),
+        PlainAct::CreateUser(name) => Act::CreateUser(name.to_name()),
+        PlainAct::DropUser(name) => Act::DropUser(name.to_name()),
+        PlainAct::Grant(name, given) => Act::Grant(name.to_name(), to_permission(given)),
+        PlainAct::Revoke(name, given) => Act::Revoke(name.to_name(), to_permission(given)),
+        PlainAct::Rights(table) => Act::Rights(table.to_name()),
+        PlainAct::Status(table) => Act::Status(table.to_name()),
+        PlainAct::Flush(table) => Act::Flush(table.to_name()),
+        PlainAct::Compact(table, extent) => Act::Compact(table.to_name(), *extent),
+        PlainAct::AddSplit(table, row) => Act::AddSplit(table.to_name(), to_row(alloc, row)?),
+        PlainAct::SplitBySize(table, row, limit) => {
+            Act::SplitBySize(table.to_name(), to_row(alloc, row)?, *limit)
+        }
+        PlainAct::Splits(table) => Act::Splits(table.to_name()),
+        PlainAct::Save => Act::Save,
+        PlainAct::Load => Act::Load,
+        PlainAct::Rotate => Act::Rotate,
+        PlainAct::Begin(table, row, kind) => {
+            Act::Begin(table.to_name(), to_row(alloc, row)?, *kind)
+        }
+        PlainAct::Install(table, given) => Act::Install(table.to_name(), *given),
+    })
 }
 
 // Whether the two ask for the same.

@@ -3,17 +3,17 @@ ghost use Rattle.std.specs.Prelude.{◌≡◌, ◌↔◌, IsTrue, IfOk};
 ghost use Rattle.tab_note.specs.Acts.{is_write};
 
 use crate::act::KeptAct;
-use crate::text::Text;
+use crate::kept_name::KeptName;
 use std::alloc::{AllocError, Global};
 use std::marker::Model;
-use tab_history::Act;
+use tab_history::{Act, Event};
 use tab_key::Name;
 
 /// An event as a history keeps it: 176 bytes, beside those of its names, rows and mutation. Where a mutation's first update lies is
 /// told among them, so one of one update takes memory for its bytes alone. A contract sees the event.
 #[derive(Drop)]
 pub struct Note {
-    user: Text,
+    user: KeptName,
     moment: i64,
     act: KeptAct,
 }
@@ -33,9 +33,20 @@ impl Note {
         ensures { IfOk result (λ note. note ≡ record { user = user.now; moment = moment; act = act.now }) }
     {
         Ok(Note {
-            user: Text::of(alloc, user.as_bytes())?,
+            user: KeptName::of(alloc, user)?,
             moment,
             act: KeptAct::of(alloc, act)?,
+        })
+    }
+
+    /// The event itself, in memory of its own. An error leaves nothing behind.
+    pub fn to_event(&self, alloc: Global) -> Result<Event, AllocError>
+        ensures { IfOk result (λ event. event ≡ self.now) }
+    {
+        Ok(Event {
+            user: self.user.to_name(),
+            moment: self.moment,
+            act: self.act.to_act(alloc)?,
         })
     }
 
