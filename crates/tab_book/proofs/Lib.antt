@@ -2,3 +2,5 @@ pub mod InBlocks
 pub mod Whole
 pub mod Growing
 pub mod Handing
+pub mod Anew
+pub mod OneHistory

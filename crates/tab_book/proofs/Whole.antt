@@ -1,5 +1,5 @@
 -- Where every receipt stands in the book, the numbers differ and there are as many as entries, no entry is without its receipt.
-use Rattle.std.proofs.Common.{◌≡◌, ℕ, suc, ◌<◌, ◌≤◌, List, [], ◌∷◌, Bool, true, false, ◌||◌, cond, eqb, length, map, refl, sym, ap, ◌∙◌, subst, All, Some, slice_get, arith}
+use Rattle.std.proofs.Common.{◌≡◌, ℕ, suc, ◌+◌, ◌-◌, ◌<◌, ◌≤◌, List, [], ◌∷◌, Bool, true, false, ◌||◌, cond, eqb, length, map, refl, sym, ap, ◌∙◌, subst, All, Some, slice_get, arith}
 use Rattle.std.specs.Prelude.{filter, nat_eq}
 use Rattle.std.specs.List.{IsDistinct, list_any, AllByRecursion}
 use Rattle.std.proofs.lemmas.Bool.{eqb-true, eqb-false}
@@ -22,20 +22,54 @@ none_equal : (k : ℕ) (ns : List ℕ) → list_any (eqb k) ns ≡ false → All
 none_equal k [] e = tt
 none_equal k (n ∷ ns) e = let p = or_false (eqb k n) (list_any (eqb k) ns) e in (p.0, none_equal k ns p.1)
 
--- numbers below n, n of them and no two equal, are all that are below n
-every_number : (ns : List ℕ) (n : ℕ) → IsDistinct eqb ns → ((q : ℕ) → list_any (eqb q) ns ≡ true → q < n) → length ns ≡ n → (k : ℕ) → k < n → list_any (eqb k) ns ≡ true
-unfolding IsDistinct
-every_number ns n apart below many k inside = go (list_any (eqb k) ns) refl where
-  go : (b : Bool) → list_any (eqb k) ns ≡ b → b ≡ true
-  go true e = refl
-  go false e =
-      let bound : length (k ∷ ns) ≤ n = length-le_from_distinct_below (k ∷ ns) n (none_equal k ns e, apart) (λ q is. within q (eqb q k) refl is) in
-      absurd (omega (arith, bound, many))
-    where
-      within : (q : ℕ) (b : Bool) → eqb q k ≡ b → (b || list_any (eqb q) ns) ≡ true → q < n
-      within q true same is = subst (λ m. m < n) (sym (eqb-true q k same)) inside
-      within q false same is = below q is
+-- ---- numbers from a first one on
+-- at or above the first, and fewer than n above it
+abbrev Within : ℕ → ℕ → ℕ → Type 0
+Within first n k = (first ≤ k) × (k < first + n)
 
+-- how far they are above the first
+abbrev shifted : ℕ → List ℕ → List ℕ
+shifted first ns = map (λ k. k - first) ns
+
+shifted_many : (first : ℕ) (ns : List ℕ) → length (shifted first ns) ≡ length ns
+shifted_many first [] = refl
+shifted_many first (n ∷ ns) = ap suc (shifted_many first ns)
+
+two_shifted : (first n k m : ℕ) → Within first n k → Within first n m → eqb k m ≡ false → (b : Bool) → eqb (k - first) (m - first) ≡ b → b ≡ false
+two_shifted first n k m low high differ true same =
+    let is : k - first ≡ m - first = eqb-true (k - first) (m - first) same in
+    absurd (eqb-false k m differ (omega (arith, is, low.0, high.0)))
+two_shifted first n k m low high differ false same = refl
+
+none_shifted : (first n k : ℕ) (ns : List ℕ) → Within first n k → AllByRecursion (Within first n) ns → AllByRecursion (λ y. eqb k y ≡ false) ns → AllByRecursion (λ y. eqb (k - first) y ≡ false) (shifted first ns)
+none_shifted first n k [] inside all differ = tt
+none_shifted first n k (m ∷ ns) inside all differ = (two_shifted first n k m inside all.0 differ.0 (eqb (k - first) (m - first)) refl, none_shifted first n k ns inside all.1 differ.1)
+
+apart_shifted : (first n : ℕ) (ns : List ℕ) → AllByRecursion (Within first n) ns → IsDistinct eqb ns → IsDistinct eqb (shifted first ns)
+unfolding IsDistinct
+apart_shifted first n [] all apart = tt
+apart_shifted first n (k ∷ ns) all apart = (none_shifted first n k ns all.0 all.1 apart.0, apart_shifted first n ns all.1 apart.1)
+
+below_shifted : (first n q : ℕ) (ns : List ℕ) → AllByRecursion (Within first n) ns → list_any (eqb q) (shifted first ns) ≡ true → q < n
+below_shifted first n q [] all there = absurd (cc)
+below_shifted first n q (k ∷ ns) all there = go (eqb q (k - first)) refl there (below_shifted first n q ns all.1)
+  where
+    go : (b : Bool) → eqb q (k - first) ≡ b → (b || list_any (eqb q) (shifted first ns)) ≡ true → (list_any (eqb q) (shifted first ns) ≡ true → q < n) → q < n
+    go true same is rest = let e : q ≡ k - first = eqb-true q (k - first) same in omega (arith, e, all.0.0, all.0.1)
+    go false same is rest = rest is
+
+-- numbers from the first on, n of them and no two equal, are all that are there
+every_number : (first n : ℕ) (ns : List ℕ) → IsDistinct eqb ns → AllByRecursion (Within first n) ns → length ns ≡ n → (k : ℕ) → Within first n k → list_any (eqb k) ns ≡ true
+unfolding IsDistinct
+every_number first n ns apart all many k inside = go (list_any (eqb k) ns) refl
+  where
+    go : (b : Bool) → list_any (eqb k) ns ≡ b → b ≡ true
+    go true e = refl
+    go false e =
+        let bound : length (shifted first (k ∷ ns)) ≤ n = length-le_from_distinct_below (shifted first (k ∷ ns)) n (apart_shifted first n (k ∷ ns) (inside, all) (none_equal k ns e, apart)) (λ q is. below_shifted first n q (k ∷ ns) (inside, all) is) in
+        absurd (omega (arith, bound, many, shifted_many first ns))
+
+-- ---- receipts by their numbers
 abbrev numbers : List Slip → List ℕ
 numbers slips = map (λ (s : Slip). s.number) slips
 
@@ -81,21 +115,23 @@ unfolding IsDistinct
 alone P k [] apart all there = absurd (cc)
 alone P k (s ∷ slips) apart all there = one P k s slips (nat_eq s.number k) refl apart.0 all.0 there (alone P k slips apart.1 all.1)
 
--- where they all stand their numbers are below how many there are
-within : (book : Record) (q : ℕ) (s : Slip) (b others : Bool) → eqb q s.number ≡ b → Has book s → (b || others) ≡ true → (others ≡ true → q < length book.entries) → q < length book.entries
-within book q s true others e has there rest = subst (λ m. m < length book.entries) (sym (eqb-true q s.number e)) (slice_get_within book.entries s.number s.entry has)
-within book q s false others e has there rest = rest there
-
-below : (book : Record) (q : ℕ) (slips : List Slip) → AllByRecursion (Has book) slips → list_any (eqb q) (numbers slips) ≡ true → q < length book.entries
-below book q [] stand there = absurd (cc)
-below book q (s ∷ slips) stand there = within book q s (eqb q s.number) (list_any (eqb q) (numbers slips)) refl stand.0 there (below book q slips stand.1)
+-- where they all stand, their numbers are the entries'
+numbers_within : (book : Record) (slips : List Slip) → AllByRecursion (Has book) slips → AllByRecursion (Within book.first (length book.entries)) (numbers slips)
+numbers_within book [] stand = tt
+numbers_within book (s ∷ slips) stand =
+    let inside : s.number - book.first < length book.entries = slice_get_within book.entries (s.number - book.first) s.entry stand.0.1 in
+    ((stand.0.0, omega (arith, inside, stand.0.0)), numbers_within book slips stand.1)
 
 some_is : {a b : Posted} → Some a ≡ Some b → a ≡ b
 some_is e = cc
 
 pub whole : (book : Record) (slips : List Slip) → All (Has book) slips → AreApart slips → length slips ≡ length book.entries → IsWhole book slips
-whole book slips stand apart many number entry is =
+whole book slips stand apart many place entry is =
+    let k : ℕ = book.first + place in
     let all : AllByRecursion (Has book) slips = recursion_from_All (Has book) slips stand in
-    let there : list_any (eqb number) (numbers slips) ≡ true = every_number (numbers slips) (length book.entries) apart (λ q. below book q slips all) (as_many slips ∙ many) number (slice_get_within book.entries number entry is) in
-    let found = alone (Has book) number slips apart all there in
-    (found.0, found.1, some_is (sym (subst (λ k. slice_get book.entries k ≡ Some found.0.entry) found.2 found.3) ∙ is))
+    let inside : place < length book.entries = slice_get_within book.entries place entry is in
+    let there : list_any (eqb k) (numbers slips) ≡ true = every_number book.first (length book.entries) (numbers slips) apart (numbers_within book slips all) (as_many slips ∙ many) k (omega arith, omega (arith, inside)) in
+    let found = alone (Has book) k slips apart all there in
+    let back : k - book.first ≡ place = omega arith in
+    let at_place : slice_get book.entries (k - book.first) ≡ Some found.0.entry = subst (λ n. slice_get book.entries (n - book.first) ≡ Some found.0.entry) found.2 found.3.1 in
+    (found.0, found.1, some_is (sym at_place ∙ ap (slice_get book.entries) back ∙ is))

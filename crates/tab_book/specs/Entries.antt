@@ -1,5 +1,5 @@
 -- The history of a book, and what a seat knows.
-use Rattle.std.specs.Prelude.{ℕ, ◌≡◌, ◌+◌, ◌^◌, ◌≤◌, List, [], ◌∷◌, length}
+use Rattle.std.specs.Prelude.{ℕ, ◌≡◌, ◌+◌, ◌^◌, ◌<◌, ◌≤◌, List, [], ◌∷◌, length}
 use Rattle.tab_history.specs.Bases.{Base}
 use Rattle.tab_history.specs.Answers.{Told}
 use Rattle.tab_history.specs.Histories.{Entry}
@@ -34,9 +34,11 @@ pub record Place : Type 0 where
 abbrev pub place : ℕ → ℕ → ℕ → Place
 place number seen count = record { number = number; seen = seen; count = count }
 
--- a book: its entries, the oldest first, and its core; how many seats ever joined, how many are out, and how many entries those seats made
--- that came back
+-- a book: what its history began on, and the number of its first entry, which is how many were handed out before; the entries, the oldest
+-- first, and the core; how many seats ever joined, how many are out, and how many entries those seats made that came back
 pub record Record : Type 0 where
+  pub base : Base
+  pub first : ℕ
   pub entries : List Posted
   pub core : Held
   pub joined : ℕ
@@ -45,14 +47,15 @@ pub record Record : Type 0 where
 
 -- the number of the next entry
 abbrev pub next_of : Record → ℕ
-next_of b = length b.entries
+next_of b = b.first + length b.entries
 
 -- What each book keeps: its history is legal from the base and its core refines it; and the ledger, which is cut into so many parts, of
--- which each seat that is out has one and the book the rest, has counted the entries.
-pub record IsKept (base : Base) (entries : List Posted) (core : Held) (joined out parts rest total : ℕ) : Type 0 where
+-- which each seat that is out has one and the book the rest, has counted the entries, those that were handed out too.
+pub record IsKept (base : Base) (first : ℕ) (entries : List Posted) (core : Held) (joined out parts rest total : ℕ) : Type 0 where
   pub legal : IsLegalFrom base (past entries)
   pub refines : RefinesHistory core base (past entries)
-  pub counted : total ≡ length entries
+  pub counted : total ≡ first + length entries
+  pub fits : first + length entries < 2 ^ 64
   pub cut : rest + out ≡ parts
   pub enough : 2 ^ 32 ≤ parts
   pub known : out ≤ joined

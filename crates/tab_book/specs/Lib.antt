@@ -7,3 +7,4 @@ pub mod Receipts
 pub mod Wholeness
 pub mod Examples
 pub use Rattle.tab_note.specs.Acts
+pub mod Rotating

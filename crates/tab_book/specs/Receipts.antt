@@ -1,5 +1,5 @@
 -- Receipts, and what an event does to a book.
-use Rattle.std.specs.Prelude.{ℕ, ◌≡◌, ◌+◌, ◌≤◌, [], ◌∷◌, ◌++◌, Option, Some, slice_get}
+use Rattle.std.specs.Prelude.{ℕ, ◌≡◌, ◌+◌, ◌-◌, ◌≤◌, List, [], ◌∷◌, ◌++◌, Option, Some, slice_get}
 use Rattle.tab_history.specs.Answers.{told_of}
 use Rattle.tab_history.specs.declared.event.Event.{Event}
 use Rattle.tab_history.specs.declared.reply.Reply.{Reply}
@@ -16,9 +16,13 @@ pub record Slip : Type 0 where
   pub entry : Posted
   pub held : Option Held
 
--- the receipt's entry stands in the book at its number
+-- the receipt's entry stands at its number among these entries, the first of which has the number that is given
+abbrev pub StandsIn : ℕ → List Posted → Slip → Type 0
+StandsIn first entries slip = (first ≤ slip.number) × (slice_get entries (slip.number - first) ≡ Some slip.entry)
+
+-- it stands so in the book
 abbrev pub Has : Record → Slip → Type 0
-Has book slip = slice_get book.entries slip.number ≡ Some slip.entry
+Has book slip = StandsIn book.first book.entries slip
 
 -- The receipt of a seat's event: it names the seat and the event, its number is above all that the seat has seen, nothing was taken from it,
 -- and the seat counts one entry more.

@@ -1,5 +1,5 @@
 -- When receipts are all that a book gave.
-use Rattle.std.specs.Prelude.{ℕ, ◌≡◌, List, [], ◌∷◌, Some, filter, map, nat_eq, slice_get}
+use Rattle.std.specs.Prelude.{ℕ, ◌≡◌, ◌+◌, List, [], ◌∷◌, Some, filter, map, nat_eq, slice_get}
 use Rattle.std.specs.List.{IsDistinct}
 use Rattle.tab_book.specs.Entries.{Posted, Record}
 use Rattle.tab_book.specs.Receipts.{Slip}
@@ -14,4 +14,4 @@ IsAlone slips number entry = (slip : Slip) × (filter (λ (s : Slip). nat_eq s.n
 
 -- each entry of the book has one receipt among these
 abbrev pub IsWhole : Record → List Slip → Type 0
-IsWhole book slips = (number : ℕ) (entry : Posted) → slice_get book.entries number ≡ Some entry → IsAlone slips number entry
+IsWhole book slips = (place : ℕ) (entry : Posted) → slice_get book.entries place ≡ Some entry → IsAlone slips (book.first + place) entry

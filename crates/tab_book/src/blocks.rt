@@ -1,5 +1,5 @@
 //! Entries in blocks.
-ghost use Rattle.std.specs.Prelude.{◌≡◌, ◌+◌, ◌^◌, ◌<◌, ◌∷◌, [], ◌++◌, length, slice_get, Some, None, IfSome, IfNone, OnOk};
+ghost use Rattle.std.specs.Prelude.{◌≡◌, ◌+◌, ◌^◌, ◌<◌, ◌≤◌, ◌⊎◌, ◌∷◌, [], ◌++◌, length, slice_get, Some, None, IfSome, IfNone, OnOk, OnErr};
 ghost use Rattle.tab_book.specs.Blocks.{block_at};
 
 use crate::entry::KeptEntry;
@@ -50,13 +50,14 @@ impl Blocks {
         self.count
     }
 
-    /// Finds memory for one more. There are at most 2^64 - 1.
-    pub fn reserve(&mut self, alloc: Global) -> Result<(), AllocError>
+    /// Finds memory for one more, where so many were before these. All together there are at most 2^64 - 1.
+    pub fn reserve(&mut self, alloc: Global, before: u64) -> Result<(), AllocError>
         ensures room { OnOk result (0 < self.new.room) }
-        ensures number { OnOk result (length self.old.entries + 1 < 2 ^ 64) }
+        ensures number { OnOk result (before + length self.old.entries + 1 < 2 ^ 64) }
+        ensures err { OnErr result ((self.old.room ≡ 0) ⊎ (2 ^ 64 ≤ before + length self.old.entries + 1)) }
         ensures entries { self.new.entries ≡ self.old.entries }
     {
-        if self.count == u64::MAX {
+        if self.count >= u64::MAX - before {
             return Err(AllocError);
         }
         if self.last.len() < BLOCK {

@@ -1,5 +1,6 @@
 //! Books.
 ghost use Rattle.std.specs.Prelude.{◌≡◌, ◌+◌, ◌^◌, ◌<◌, ◌≤◌, [], None, IfOk, IfErr, OnErr, IfSome, IfNone, IsTrue, ◌↔◌, All, length, nat_le, sum_by, vec_len};
+ghost use Rattle.tab_core.specs.Spending.{left_of};
 ghost use Rattle.tab_core.specs.Stores.{base_of};
 ghost use Rattle.tab_core.specs.Stepping.{asked_at};
 ghost use Rattle.tab_core.specs.Recording.{RefinesHistory, IsLegalFrom};
@@ -8,39 +9,31 @@ ghost use Rattle.tab_book.specs.Receipts.{Applies, Has};
 ghost use Rattle.tab_book.specs.Wholeness.{AreApart, IsWhole};
 
 use crate::blocks::Blocks;
+use crate::part::stands_in;
 use crate::posting::post;
 use crate::receipt::Receipt;
 use crate::reservation::Reservation;
 use crate::seat::Seat;
 use std::alloc::{AllocError, Global};
-use std::marker::{Brand, Model};
+use std::marker::Model;
 use std::sync::ledger::{Blank, Book as Tickets, Ledger, Share};
-use tab_core::Core;
+use tab_core::{Base, Core};
 use tab_history::{Act, Event};
 use tab_key::Name;
-
-/// Which book a seat or a receipt is of, and what its core held before the first entry.
-pub trait Origin: Ledger {
-    ghost use Rattle.tab_history.specs.Bases.{Base};
-
-    ghost base: { Base };
-}
-
-impl Origin for Brand {
-    ghost use Rattle.tab_history.specs.Bases.{new_core};
-
-    ghost base = { new_core };
-}
 
 /// How many seats aren't back.
 #[derive(Clone, Copy, PartialEq, Eq, Debug)]
 pub struct SeatsOut(pub u32);
 
-/// A core and the history of its events, oldest first. The history is legal from what the core held at first, and the core refines it.
+/// A core and the history of its events, oldest first, with what the core held before the first of them. The history is legal from that,
+/// and the core refines it.
 ///
-/// It grows with every event: nothing takes an entry away.
+/// It grows with every event, until it is handed out: see [`Book::rotate`].
 #[derive(Drop)]
-pub struct Book<L: Origin> {
+pub struct Book<L: Ledger> {
+    pub(crate) base: Base,
+    // the number of the first entry
+    pub(crate) first: u64,
     pub(crate) entries: Blocks,
     pub(crate) core: Core,
     joined: u32,
@@ -50,35 +43,42 @@ pub struct Book<L: Origin> {
     rest: Share<L>,
 }
 
-impl<L: Origin> Model for Book<L> {
+impl<L: Ledger> Model for Book<L> {
     ghost use Rattle.tab_book.specs.Entries.{Record, IsKept};
 
     ghost Value = { Record };
 
-    ghost view = { λ b. record { entries = b.entries.entries; core = b.core; joined = b.joined; out = b.out; back = b.rest.amount } };
+    ghost view = { λ b. record { base = b.base; first = b.first; entries = b.entries.entries; core = b.core; joined = b.joined; out = b.out; back = b.rest.amount } };
 
-    ghost invariant = { λ b. IsKept L.base b.entries.entries b.core b.joined b.out L.parts b.rest.parts b.tickets.total };
+    ghost invariant = { λ b. IsKept b.base b.first b.entries.entries b.core b.joined b.out L.parts b.rest.parts b.tickets.total };
 }
 
-impl<L: Origin> Book<L> {
-    /// A book over a core, without entries. The blank is the ledger on which its seats count.
-    pub fn new(alloc: Global, core: Core, blank: Blank) -> Book<L>
-        requires base { base_of core ≡ L.base }
+impl<L: Ledger> Book<L> {
+    /// A book over a core, without entries, on what the core holds. The blank is the ledger on which its seats count.
+    ///
+    /// It takes memory for the base, as [`Core::base`] says. Where that lacks the core comes back.
+    pub fn new(alloc: Global, core: Core, blank: Blank) -> Result<Book<L>, (Core, AllocError)>
         requires name { blank.name ≡ L.name }
         requires parts { blank.parts ≡ L.parts }
         requires enough { 2 ^ 32 ≤ blank.parts }
-        ensures { result ≡ record { entries = []; core = core; joined = 0; out = 0; back = 0 } }
+        ensures ok { IfOk result (λ b. b ≡ record { base = base_of core; first = 0; entries = []; core = core; joined = 0; out = 0; back = 0 }) }
+        ensures err { IfErr result (λ r. r.0 ≡ core) }
     {
         core.begins();
+        let Ok(base) = core.base(alloc) else {
+            return Err((core, AllocError));
+        };
         let (tickets, rest) = blank.open::<L>();
-        Book {
+        Ok(Book {
+            base,
+            first: 0,
             entries: Blocks::new(alloc),
             core,
             joined: 0,
             out: 0,
             tickets,
             rest,
-        }
+        })
     }
 
     /// A new seat, which has seen nothing and has no entry. There are 4,294,967,295 of them.
@@ -100,10 +100,10 @@ impl<L: Origin> Book<L> {
     }
 
     // The number of the next entry.
-    fn next(&self) -> u64
+    pub(crate) fn next(&self) -> u64
         ensures { result ≡ next_of self.now }
     {
-        self.entries.len()
+        self.first + self.entries.len()
     }
 
     /// Whether the next entry's number is above all that the seat saw, as it is of a seat of this book.
@@ -161,22 +161,28 @@ impl<L: Origin> Book<L> {
         requires ready { seat.old.seen ≤ next_of self.old }
         requires reserved { reservation ≡ asked_at user.now moment act.old }
         ensures ok { IfOk result (λ r. Applies self.old seat.old None (asked_at user.now moment act.old) r self.new seat.new) }
+        ensures left { IfOk result (λ r. act.new ≡ left_of act.old r.entry.reply) }
         ensures err { OnErr result ((self.new ≡ self.old) × (seat.new ≡ seat.old) × (act.new ≡ act.old)) }
     {
-        self.entries.reserve(alloc)?;
+        self.entries.reserve(alloc, self.first)?;
         let (answer, told) = self.core.step_told_lent(alloc, user, moment, act);
         let (entries, tickets) = (&mut self.entries, &mut self.tickets);
-        Ok(post(entries, tickets, seat, reservation, answer, told))
+        Ok(post(
+            self.first,
+            entries,
+            tickets,
+            seat,
+            reservation,
+            answer,
+            told,
+        ))
     }
 
     // Whether the receipt's entry stands at its number.
     fn has(&self, receipt: &Receipt<L>) -> bool
         ensures { IsTrue result ↔ Has self.now receipt.now }
     {
-        match self.entries.get(receipt.number) {
-            Some(entry) => entry.is(&receipt.entry),
-            None => false,
-        }
+        stands_in(self.first, &self.entries, receipt)
     }
 
     /// Ends it, where all seats are back. The history then has as many entries as they counted, those of seats that were back before apart.
@@ -210,16 +216,16 @@ fn gather<L: Ledger>(rest: &mut Share<L>, seats: Vec<Seat<L>>)
     }
 }
 
-/// Every book's history is legal from what its core held at first, and its core refines it. Nothing is done.
-pub fn book_is_legal<L: Origin>(book: &Book<L>)
-    ensures legal { IsLegalFrom L.base (past book.now.entries) }
-    ensures refines { RefinesHistory book.now.core L.base (past book.now.entries) }
+/// Every book's history is legal from its base, and its core refines it. Nothing is done.
+pub fn book_is_legal<L: Ledger>(book: &Book<L>)
+    ensures legal { IsLegalFrom book.now.base (past book.now.entries) }
+    ensures refines { RefinesHistory book.now.core book.now.base (past book.now.entries) }
 {
     let _ = &book.entries;
 }
 
 /// Whether each receipt's entry stands in the book at its number.
-pub fn settle<L: Origin>(book: &Book<L>, receipts: &[Receipt<L>]) -> bool
+pub fn settle<L: Ledger>(book: &Book<L>, receipts: &[Receipt<L>]) -> bool
     ensures { IsTrue result ↔ All (λ receipt. Has book.now receipt) receipts.now }
 {
     receipts.iter().all(|receipt| book.has(receipt))
@@ -228,7 +234,7 @@ pub fn settle<L: Origin>(book: &Book<L>, receipts: &[Receipt<L>]) -> bool
 /// Where receipts stand in a book, no two with one number, and they are as many as its entries, each entry has one receipt among them.
 /// Nothing is done.
 #[tactic(auto, using(crate::proofs::Whole::whole))]
-pub fn receipts_are_whole<L: Origin>(_book: &Book<L>, _receipts: &[Receipt<L>])
+pub fn receipts_are_whole<L: Ledger>(_book: &Book<L>, _receipts: &[Receipt<L>])
     requires stand { All (λ receipt. Has _book.now receipt) _receipts.now }
     requires apart { AreApart _receipts.now }
     requires many { length _receipts.now ≡ length _book.now.entries }

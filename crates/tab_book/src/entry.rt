@@ -62,10 +62,10 @@ const _: () = prove!(size_of::<KeptEntry>() + size_of::<Note>() + size_of::<usiz
 
 /// An entry at rest: 32 bytes in the book, and 184 for the event. The event is shared with the entry's receipt.
 #[derive(Drop)]
-pub(crate) struct KeptEntry {
-    pub seat: u32,
-    pub event: Arc<Note>,
-    pub reply: KeptReply,
+pub struct KeptEntry {
+    seat: u32,
+    event: Arc<Note>,
+    reply: KeptReply,
 }
 
 impl Model for KeptEntry {
@@ -80,14 +80,35 @@ impl Model for KeptEntry {
 
 impl KeptEntry {
     // What the seat asked and was told.
-    pub fn new(seat: u32, event: Arc<Note>, reply: KeptReply) -> KeptEntry
+    pub(crate) fn new(seat: u32, event: Arc<Note>, reply: KeptReply) -> KeptEntry
         ensures { result ≡ record { seat = seat; event = arc_value event; reply = reply_in reply } }
     {
         KeptEntry { seat, event, reply }
     }
 
+    /// The number of the seat that asked.
+    pub fn seat(&self) -> u32
+        ensures { result ≡ self.now.seat }
+    {
+        self.seat
+    }
+
+    /// What was asked.
+    pub fn event(&self) -> &Note
+        ensures { result.now ≡ self.now.event }
+    {
+        &*self.event
+    }
+
+    /// What was told, as it is kept.
+    pub fn reply(&self) -> &KeptReply
+        ensures { reply_in result.now ≡ self.now.reply }
+    {
+        &self.reply
+    }
+
     // Whether it is this entry.
-    pub fn is(&self, entry: &Entry) -> bool
+    pub(crate) fn is(&self, entry: &Entry) -> bool
         ensures { IsTrue result ↔ (self.now ≡ entry.now) }
     {
         entry.seat == self.seat && self.event.same(&entry.event) && self.reply.is(&entry.reply)

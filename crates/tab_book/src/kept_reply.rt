@@ -21,8 +21,8 @@ pub enum KeptReply {
 }
 
 impl KeptReply {
-    /// The reply, kept, in the place where that takes one. It takes no memory.
-    pub fn of(told: EventReply, place: Box<EventReply>) -> KeptReply
+    // The reply, kept, in the place where that takes one. It takes no memory.
+    pub(crate) fn of(told: EventReply, place: Box<EventReply>) -> KeptReply
         ensures { reply_in result ≡ told_in told }
     {
         match told {
@@ -32,8 +32,8 @@ impl KeptReply {
         }
     }
 
-    /// Whether it is this reply.
-    pub fn is(&self, reply: &Reply) -> bool
+    // Whether it is this reply.
+    pub(crate) fn is(&self, reply: &Reply) -> bool
         ensures { IsTrue result ↔ (reply_in self.now ≡ reply.now) }
     {
         match self {

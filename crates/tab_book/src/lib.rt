@@ -2,14 +2,20 @@
 //!
 //! A thread that uses a book has a seat. Each event is one call of [`Book::apply`], which does it, writes an entry behind the others, and
 //! gives a receipt with the entry's number, the entry, and the session or the job that was handed out; [`Book::install`] does the same for
-//! a finished merge. The type of a book keeps that its history is legal from what its core held at first, and that its core refines it
-//! ([`book_is_legal`]). Once all seats are back, [`Book::end`] gives the book, which has just as many entries as they counted; and
+//! a finished merge. The type of a book keeps that its history is legal from what its core held before the first entry, and that its core
+//! refines it ([`book_is_legal`]). Once all seats are back, [`Book::end`] gives the book, whose next number is just what they counted; and
 //! [`settle`] says of receipts whether their entries stand at their numbers. Where they do, no two have one number and they are as many as
 //! the entries, no entry is without its receipt ([`receipts_are_whole`]).
 //!
-//! A history grows with every event, and no call takes an entry away: it is held in memory as long as the book is. An entry takes 216 bytes
-//! beside the bytes of its names, its rows and its mutation; what says where a mutation's further updates lie, a scan's columns and
-//! authorizations, and a reply other than done and opened come to that. The event is there once, for the book and for the receipt.
+//! A history grows with every event, and lies in memory until it is handed out. [`Book::rotate`] does that: it writes its own entry, gives
+//! all entries up to that one as a [`Part`], with what the core held before the first of them, and the book goes on without entries, on what
+//! the core holds. Numbers go on, and so do sessions and jobs. A part is legal from its own base ([`part_is_legal`]) and settles its own
+//! receipts ([`Part::settle`]); two parts of which the second follows on the first are one history ([`parts_are_one_history`]).
+//!
+//! An entry takes 216 bytes beside the bytes of its names, its rows and its mutation; what says where a mutation's further updates lie, a
+//! scan's columns and authorizations, and a reply other than done and opened come to that. The event is there once, for the book and for the
+//! receipt. A base keeps the sorted tables that it shares with the core for as long as the book or the part has it: after compactions a table
+//! may be in memory twice.
 //!
 //! | File | What |
 //! |---|---|
@@ -18,13 +24,16 @@
 //! | `held`, `receipt` | what an event hands out, and receipts |
 //! | `installation`, `installing` | finished merges, installed |
 //! | `posting` | an entry written behind the others |
+//! | `rotating` | rotations: the history is handed out, and a new one begins |
+//! | `part` | histories that were handed out |
 //! | `entry` | entries, as a receipt has them and at rest |
 //! | `blocks` | the entries of a book, in blocks: none moves once its block is full |
 //! | `reservation` | the memory of an entry, which can be found before the book is locked |
 //! | `kept_reply` | replies at rest |
 //!
 //! Of the definitions in `specs`, `Entries` says what a book is and what each keeps, `Receipts` what a receipt is and what an event does to
-//! a book, and `Examples` computes them for a small history; `HandedOut` and `Installs` say what goes with a reply and which event a finished
+//! a book, `Rotating` what a rotation does, and `Examples` computes them for a small history; `Wholeness` says when receipts are all that a
+//! book gave, `HandedOut` and `Installs` say what goes with a reply and which event a finished
 //! merge comes with, `KeptReplies` which replies are kept, and `Blocks` how entries lie. Events at rest are `tab_note`'s.
 #![tactic(auto)]
 
@@ -35,15 +44,19 @@ mod held;
 mod installation;
 mod installing;
 mod kept_reply;
+mod part;
 mod posting;
 mod receipt;
 mod reservation;
+mod rotating;
 mod seat;
 
-pub use book::{Book, Origin, SeatsOut, book_is_legal, receipts_are_whole, settle};
-pub use entry::Entry;
+pub use book::{Book, SeatsOut, book_is_legal, receipts_are_whole, settle};
+pub use entry::{Entry, KeptEntry};
 pub use held::Held;
 pub use installation::Installation;
+pub use kept_reply::KeptReply;
+pub use part::{Part, part_is_legal, parts_are_one_history};
 pub use receipt::Receipt;
 pub use reservation::Reservation;
 pub use seat::Seat;

@@ -15,9 +15,10 @@ use crate::seat::Seat;
 use std::sync::ledger::{Book as Tickets, Ledger};
 use tab_core::{Answer, EventReply};
 
-/// Writes the entry of an event that was answered so behind the others, where there is room for it, and counts it for the seat. It copies
-/// nothing, and takes no memory beside what was reserved.
+/// Writes the entry of an event that was answered so behind the others, the first of which has this number, where there is room for it, and
+/// counts it for the seat. It copies nothing, and takes no memory beside what was reserved.
 pub(crate) fn post<L: Ledger>(
+    first: u64,
     entries: &mut Blocks,
     tickets: &mut Tickets<L>,
     seat: &mut Seat<L>,
@@ -26,14 +27,14 @@ pub(crate) fn post<L: Ledger>(
     told: EventReply,
 ) -> Receipt<L>
     requires room { 0 < entries.old.room }
-    requires number { length entries.old.entries + 1 < 2 ^ 64 }
+    requires number { first + length entries.old.entries + 1 < 2 ^ 64 }
     requires told { told_in told ≡ told_of answer }
-    ensures receipt { result ≡ record { number = length entries.old.entries; entry = posted seat.old.number reservation (told_of answer); held = held_of answer } }
+    ensures receipt { result ≡ record { number = first + length entries.old.entries; entry = posted seat.old.number reservation (told_of answer); held = held_of answer } }
     ensures entries { entries.new.entries ≡ entries.old.entries ++ posted seat.old.number reservation (told_of answer) ∷ [] }
     ensures counts { tickets.new.total ≡ tickets.old.total + 1 }
-    ensures seat { seat.new ≡ place seat.old.number (length entries.old.entries + 1) (seat.old.count + 1) }
+    ensures seat { seat.new ≡ place seat.old.number (first + length entries.old.entries + 1) (seat.old.count + 1) }
 {
-    let number = entries.len();
+    let number = first + entries.len();
     let (note, copy, place) = reservation.into_parts();
     let (reply, session, job) = answer.into_parts();
     entries.push_reserved(KeptEntry::new(seat.number, note, KeptReply::of(told, place)));

@@ -13,4 +13,4 @@ invariant_of-self-2 g c =
     let steps : StepsOn c.self.inside.core None (asked_at c.args.user.now c.args.moment c.args.act.now) c.step_told_lent-answer.result.0 c.step_told_lent-answer.new.self =
     subst (λ (m : ℤ). StepsOn c.self.inside.core None (asked_at c.args.user.now m c.args.act.now) c.step_told_lent-answer.result.0 c.step_told_lent-answer.new.self) trip c.step_told_lent-answer.ensures.steps in
     let grown : c.post.new.entries.entries ≡ c.self.inside.entries.entries ++ p ∷ [] = search rules in
-    kept_more g.L.Origin.base c.self.inside.entries.entries c.post.new.entries.entries p c.self.inside.core c.step_told_lent-answer.new.self _ _ _ _ _ _ None (asked_at c.args.user.now c.args.moment c.args.act.now) c.step_told_lent-answer.result.0 c.self.invariant steps grown c.requires.reserved refl c.post.ensures.counts
+    kept_more c.self.inside.base c.self.inside.first c.self.inside.entries.entries c.post.new.entries.entries p c.self.inside.core c.step_told_lent-answer.new.self _ _ _ _ _ _ None (asked_at c.args.user.now c.args.moment c.args.act.now) c.step_told_lent-answer.result.0 c.self.invariant steps grown c.requires.reserved refl (search rules) c.post.ensures.counts

@@ -14,4 +14,4 @@ invariant_of-self-2 g c =
     let steps : StepsOn c.self.inside.core (Some c.args.asked.finished) (event_of c.args.asked) c.install_told-answer.result.0 c.install_told-answer.new.self =
     subst (λ (moment : ℤ). StepsOn c.self.inside.core (Some c.args.asked.finished) (installs_at c.args.asked.user moment c.args.asked.table c.args.asked.finished) c.install_told-answer.result.0 c.install_told-answer.new.self) trip c.install_told-answer.ensures.steps in
     let grown : c.post.new.entries.entries ≡ c.self.inside.entries.entries ++ p ∷ [] = search rules in
-    kept_more g.L.Origin.base c.self.inside.entries.entries c.post.new.entries.entries p c.self.inside.core c.install_told-answer.new.self _ _ _ _ _ _ (Some c.args.asked.finished) (event_of c.args.asked) c.install_told-answer.result.0 c.self.invariant steps grown c.requires.reserved refl c.post.ensures.counts
+    kept_more c.self.inside.base c.self.inside.first c.self.inside.entries.entries c.post.new.entries.entries p c.self.inside.core c.install_told-answer.new.self _ _ _ _ _ _ (Some c.args.asked.finished) (event_of c.args.asked) c.install_told-answer.result.0 c.self.invariant steps grown c.requires.reserved refl (search rules) c.post.ensures.counts
