@@ -162,6 +162,9 @@ fn fit_any_updates<'a>(alloc: Global, start: Rest<'a>) -> Result<(), Stop<'a>> {
 // Sees whether the words behind the command fit a form.
 fn fit_form<'a>(alloc: Global, kinds: &'a str, words: Words<'a>) -> Result<(), Stop<'a>> {
     let start = Rest { words, place: 2 };
+    if kinds.is_empty() {
+        return fit_end(start, None);
+    }
     if let Some((front, _)) = kinds.split_once(" [UPDATE") {
         let rest = fit_words(alloc, front, start)?;
         return fit_any_updates(alloc, rest);

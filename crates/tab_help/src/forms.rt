@@ -36,7 +36,8 @@ pub const LINES: &str = "  as U
   splitsize T ROW LIMIT
   splits T
   save FILE
-  load FILE";
+  load FILE
+  rotate";
 
 /// The updates of a `mutate`, as the lines.
 pub const UPDATES: &str = "  put FAM QUAL LABEL VALUE STAMP
@@ -73,11 +74,19 @@ pub const KINDS: &str = "  U                  a user's name: 1 to 128 of a-z A-Z
   UPDATE             put or del, and the words behind it
   ;                  between two updates";
 
+/// The row's first word, and what stands behind it: nothing where that is the only one.
+pub(crate) fn parted(row: &str) -> (&str, &str) {
+    let words = row.trim_start();
+    words.split_once(' ').unwrap_or((words, ""))
+}
+
 /// What stands behind the word in the row, if the row begins with it.
 pub(crate) fn behind<'a>(row: &'a str, word: &[u8]) -> Option<&'a str> {
-    match row.trim_start().split_once(' ') {
-        Some((first, rest)) if first.as_bytes() == word => Some(rest),
-        _ => None,
+    let (first, rest) = parted(row);
+    if first.as_bytes() == word {
+        Some(rest)
+    } else {
+        None
     }
 }
 

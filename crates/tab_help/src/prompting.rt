@@ -2,7 +2,7 @@
 ghost use Rattle.std.specs.Prelude.{◌≤◌, length};
 
 use crate::explaining::explain;
-use crate::forms::{KINDS, LINES, UPDATES, behind};
+use crate::forms::{KINDS, LINES, UPDATES, behind, parted};
 use std::alloc::Global;
 use std::io;
 use std::io::{Error, ErrorKind, Read};
@@ -276,9 +276,8 @@ fn put_help<W: Output>(output: &mut W, asks: Asks, line: &[u8]) -> Result<(), Wr
 // Puts the forms of all lines.
 fn put_all<W: Output>(output: &mut W, asks: Asks) -> Result<(), WriteFault> {
     for row in LINES.lines() {
-        if let Some((command, _)) = row.trim_start().split_once(' ')
-            && asks.has(command.as_bytes())
-        {
+        let (command, _) = parted(row);
+        if asks.has(command.as_bytes()) {
             put_row(output, row)?;
         }
     }
@@ -299,9 +298,8 @@ fn put_forms<W: Output>(output: &mut W, asks: Asks, command: &[u8]) -> Result<()
         put_row(output, UPDATES)?;
     }
     for row in KINDS.lines() {
-        if let Some((kind, _)) = row.trim_start().split_once(' ')
-            && is_named(command, kind)
-        {
+        let (kind, _) = parted(row);
+        if is_named(command, kind) {
             put_row(output, row)?;
         }
     }

@@ -1,6 +1,6 @@
 //! The text of a reason.
 use crate::fitting::Misfit;
-use crate::forms::{LINES, meaning};
+use crate::forms::{LINES, meaning, parted};
 use crate::reason::Reason;
 use std::fmt;
 use std::fmt::{Display, Formatter};
@@ -33,12 +33,11 @@ impl Display for Commands {
     fn fmt<W: fmt::Write>(&self, f: &mut Formatter<W>) -> fmt::Result {
         let mut last = b"".as_slice();
         for row in LINES.lines() {
-            if let Some((command, _)) = row.trim_start().split_once(' ') {
-                if command.as_bytes() != last {
-                    write!(f, " {command}")?;
-                }
-                last = command.as_bytes();
+            let (command, _) = parted(row);
+            if command.as_bytes() != last {
+                write!(f, " {command}")?;
             }
+            last = command.as_bytes();
         }
         Ok(())
     }

@@ -18,7 +18,7 @@ use Rattle.tab_history.specs.declared.event.Extent.{Extent}
 use Rattle.tab_history.specs.declared.event.Extent.TheVariants.{Partial, Full}
 use Rattle.tab_history.specs.declared.event.TimeMode.{TimeMode}
 use Rattle.tab_history.specs.declared.event.TimeMode.TheVariants.{Any, Server}
-use Rattle.tab_history.specs.declared.event.Act.TheVariants.{CreateTable, DropTable, CreateUser, DropUser, SetAuths, Grant, Revoke, SetConstraints, Write, Rights, Status, Flush, Compact, Splits}
+use Rattle.tab_history.specs.declared.event.Act.TheVariants.{CreateTable, DropTable, CreateUser, DropUser, SetAuths, Grant, Revoke, SetConstraints, Write, Rights, Status, Flush, Compact, Splits, Rotate}
 use Rattle.tab_history.specs.declared.event.Scan.{Scan}
 use Rattle.tab_lines.specs.declared.line.Line.{Line}
 use Rattle.tab_lines.specs.declared.line.Line.TheVariants as says
@@ -32,12 +32,12 @@ use Rattle.tab_text.specs.Words.{IsWord}
 use Rattle.tab_text.specs.Reading.{bytes_of}
 use Rattle.tab_lines.specs.Fields.{name_of, signed_of, time_word, extent_word, versions_word, list_of, constraints_of, bound_of, columns_of}
 use Rattle.tab_lines.specs.Updates.{row_of, with_updates, put_of, delete_of, updates_of}
-use Rattle.tab_lines.specs.Lines.{name_alone, grant_of, settings_at, settings, createtable_of, setauths_of, constraints_line_of, insert_of, delete_line_of, mutate_of, bounds_of, scan_words, compact_of, at_of, command_of, commanded, said, is_comment, line_of}
+use Rattle.tab_lines.specs.Lines.{name_alone, grant_of, settings_at, settings, createtable_of, setauths_of, constraints_line_of, insert_of, delete_line_of, mutate_of, bounds_of, scan_words, compact_of, rotate_of, at_of, command_of, commanded, said, is_comment, line_of}
 use Rattle.tab_lines.specs.Forms.{IsNameWord, IsNumber, IsList, IsConstraint, IsBound, IsVersions, time_name, extent_name, AreSettings, IsPermission, IsLastTimestamp, AreUpdates, AreLimits, IsScan, Form, IsLine, LinesAreForms}
 use Rattle.tab_lines.specs.Forms.AreSettings.{neither as set_neither, time as set_time, versions as set_versions, both as set_both}
 use Rattle.tab_lines.specs.Forms.AreLimits.{all as limit_all, rows as limit_rows, columns as limit_columns}
 use Rattle.tab_lines.specs.Forms.IsScan.{asks as scan_asks}
-use Rattle.tab_lines.specs.Forms.Form.{blank as form_blank, asker as form_asker, at as form_at, createtable as form_createtable, droptable as form_droptable, createuser as form_createuser, dropuser as form_dropuser, setauths as form_setauths, grant as form_grant, revoke as form_revoke, rights as form_rights, constraints as form_constraints, versions as form_versions, horizon as form_horizon, insert as form_insert, delete as form_delete, mutate as form_mutate, scan as form_scan, opened as form_opened, next as form_next, many as form_many, close as form_close, flush as form_flush, compact as form_compact, begin as form_begin, merge as form_merge, install as form_install, status as form_status, addsplit as form_addsplit, splitsize as form_splitsize, splits as form_splits, save as form_save, load as form_load}
+use Rattle.tab_lines.specs.Forms.Form.{blank as form_blank, asker as form_asker, at as form_at, createtable as form_createtable, droptable as form_droptable, createuser as form_createuser, dropuser as form_dropuser, setauths as form_setauths, grant as form_grant, revoke as form_revoke, rights as form_rights, constraints as form_constraints, versions as form_versions, horizon as form_horizon, insert as form_insert, delete as form_delete, mutate as form_mutate, scan as form_scan, opened as form_opened, next as form_next, many as form_many, close as form_close, flush as form_flush, compact as form_compact, begin as form_begin, merge as form_merge, install as form_install, status as form_status, addsplit as form_addsplit, splitsize as form_splitsize, splits as form_splits, save as form_save, load as form_load, rotate as form_rotate}
 use Rattle.tab_lines.specs.Forms.IsLine.{comment as line_comment, words as line_words}
 use Rattle.tab_lines.proofs.WordLaw.{words_read}
 use Rattle.tab_lines.proofs.WordsLaw.{words_sound, words_complete}
@@ -263,6 +263,12 @@ at_sound words line is =
     on_ends ws _ line (λ ws. Form (codes "at" ∷ t ∷ ws) line) f1 (λ f2.
     subst (λ (y : Line). Form (codes "at" ∷ t ∷ []) y) (some_inj (says.At moment) line f2) (form_at t moment (numbers_read.sound t moment e1))))
 
+rotate_sound : (words : Words) (line : Line) → rotate_of words ≡ Some line → Form (codes "rotate" ∷ words) line
+unfolding rotate_of
+rotate_sound words line is =
+    on_ends words _ line (λ ws. Form (codes "rotate" ∷ ws) line) is (λ f.
+    subst (λ (y : Line). Form (codes "rotate" ∷ []) y) (some_inj (says.Act Rotate) line f) form_rotate)
+
 -- ---- and back
 
 createtable_complete : (t table : List ℕ) (words : Words) (mode : TimeMode) (versions : ℕ) → IsNameWord t table → AreSettings words mode versions
@@ -326,6 +332,10 @@ at_complete : (t : List ℕ) (moment : ℤ) → IsNumber t moment → at_of (t �
 unfolding at_of
 at_complete t moment is = bind_some (field signed_of (t ∷ [])) (moment, []) _ _ (field_some signed_of t [] moment (numbers_read.complete t moment is)) refl
 
+rotate_complete : rotate_of [] ≡ Some (says.Act Rotate)
+unfolding rotate_of
+rotate_complete = refl
+
 compact_sound : (words : Words) (line : Line) → compact_of words ≡ Some line → Form (codes "compact" ∷ words) line
 unfolding compact_of
 compact_sound words line is =
@@ -378,6 +388,7 @@ command_name command.SplitSize = codes "splitsize"
 command_name command.Splits = codes "splits"
 command_name command.Save = codes "save"
 command_name command.Load = codes "load"
+command_name command.Rotate = codes "rotate"
 
 command_sound : (word : List ℕ) (c : Command) → command_of word ≡ Some c → word ≡ command_name c
 command_sound word c is =
@@ -412,7 +423,8 @@ command_sound word c is =
     on_cond (bytes_eq word (codes "splitsize")) (Some command.SplitSize) _ c (word ≡ command_name c) e28 (λ yes e. named (codes "splitsize") command.SplitSize yes refl e) (λ no29 e29.
     on_cond (bytes_eq word (codes "splits")) (Some command.Splits) _ c (word ≡ command_name c) e29 (λ yes e. named (codes "splits") command.Splits yes refl e) (λ no30 e30.
     on_cond (bytes_eq word (codes "save")) (Some command.Save) _ c (word ≡ command_name c) e30 (λ yes e. named (codes "save") command.Save yes refl e) (λ no31 e31.
-    on_cond (bytes_eq word (codes "load")) (Some command.Load) _ c (word ≡ command_name c) e31 (λ yes e. named (codes "load") command.Load yes refl e) (λ no32 e32. absurd cc))))))))))))))))))))))))))))))))
+    on_cond (bytes_eq word (codes "load")) (Some command.Load) _ c (word ≡ command_name c) e31 (λ yes e. named (codes "load") command.Load yes refl e) (λ no32 e32.
+    on_cond (bytes_eq word (codes "rotate")) (Some command.Rotate) _ c (word ≡ command_name c) e32 (λ yes e. named (codes "rotate") command.Rotate yes refl e) (λ no33 e33. absurd cc)))))))))))))))))))))))))))))))))
   where
     named : (text : List ℕ) (d : Command) → bytes_eq word text ≡ true → text ≡ command_name d → Some d ≡ Some c → word ≡ command_name c
     named text d same name e = (bytes_eq-Decides word text).0 same ∙ name ∙ ap command_name (some_inj d c e)
@@ -474,6 +486,7 @@ commanded_sound command.SplitSize words line is = splitsize_sound words line is
 commanded_sound command.Splits words line is = named_sound (codes "splits") (λ name. says.Act (Splits name)) words line form_splits is
 commanded_sound command.Save words line is = file_sound (codes "save") Save words line form_save is
 commanded_sound command.Load words line is = file_sound (codes "load") Load words line form_load is
+commanded_sound command.Rotate words line is = rotate_sound words line is
 
 said_sound : (words : Words) (line : Line) → said words ≡ Some line → Form words line
 said_sound [] line is = subst (λ (y : Line). Form [] y) (some_inj says.Blank line is) form_blank
@@ -516,6 +529,7 @@ said_complete words line (form_splitsize t r l table row limit name word number)
 said_complete words line (form_splits t table name) = ap (λ (o : Option (List ℕ)). option_map (λ n. says.Act (Splits n)) o) (name_alone_complete t table name)
 said_complete words line (form_save f name is) = file_complete Save f name is
 said_complete words line (form_load f name is) = file_complete Load f name is
+said_complete words line form_rotate = rotate_complete
 
 line_sound : (text : List ℕ) (line : Line) → line_of text ≡ Some line → IsLine text line
 line_sound [] line is = line_words [] (words_of []) line (λ rest e. absurd cc) (words_sound (words_of []) [] refl) (said_sound (words_of []) line is)

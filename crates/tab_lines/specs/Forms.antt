@@ -23,7 +23,7 @@ use Rattle.tab_history.specs.declared.event.Extent.{Extent}
 use Rattle.tab_history.specs.declared.event.Extent.TheVariants.{Partial, Full}
 use Rattle.tab_history.specs.declared.event.TimeMode.{TimeMode}
 use Rattle.tab_history.specs.declared.event.TimeMode.TheVariants.{Any, Server}
-use Rattle.tab_history.specs.declared.event.Act.TheVariants.{CreateTable, DropTable, CreateUser, DropUser, SetAuths, Grant, Revoke, SetConstraints, SetVersions, SetHorizon, Write, Rights, Status, Flush, Compact, AddSplit, SplitBySize, Splits, Begin, Install}
+use Rattle.tab_history.specs.declared.event.Act.TheVariants.{CreateTable, DropTable, CreateUser, DropUser, SetAuths, Grant, Revoke, SetConstraints, SetVersions, SetHorizon, Write, Rights, Status, Flush, Compact, AddSplit, SplitBySize, Splits, Rotate, Begin, Install}
 use Rattle.tab_history.specs.declared.event.Given.TheVariants.{InSlot}
 use Rattle.tab_history.specs.declared.event.Scan.{Scan}
 use Rattle.tab_lines.specs.declared.line.Line.{Line}
@@ -222,6 +222,7 @@ pub data Form : List (List ℕ) → Line → Type 0 where
   splits : (t table : List ℕ) → IsNameWord t table → Form (codes "splits" ∷ t ∷ []) (line.Act (Splits table))
   save : (f name : List ℕ) → IsFileWord f name → Form (codes "save" ∷ f ∷ []) (line.File (record { kind = Save; name = name }))
   load : (f name : List ℕ) → IsFileWord f name → Form (codes "load" ∷ f ∷ []) (line.File (record { kind = Load; name = name }))
+  rotate : Form (codes "rotate" ∷ []) (line.Act Rotate)
 
 -- there is a byte, and none is a space
 abbrev pub IsPlainWord : List ℕ → Type 0

@@ -9,7 +9,7 @@ use Rattle.tab_policy.specs.declared.permission.Permission.{Permission}
 use Rattle.tab_history.specs.declared.event.TimeMode.{TimeMode}
 use Rattle.tab_history.specs.declared.event.TimeMode.TheVariants.{Any}
 use Rattle.tab_rules.specs.Constraints.{constraint_set_of}
-use Rattle.tab_history.specs.declared.event.Act.TheVariants.{CreateTable, DropTable, CreateUser, DropUser, SetAuths, Grant, Revoke, SetConstraints, SetVersions, SetHorizon, Write, Rights, Status, Flush, Compact, AddSplit, SplitBySize, Splits, Begin, Install}
+use Rattle.tab_history.specs.declared.event.Act.TheVariants.{CreateTable, DropTable, CreateUser, DropUser, SetAuths, Grant, Revoke, SetConstraints, SetVersions, SetHorizon, Write, Rights, Status, Flush, Compact, AddSplit, SplitBySize, Splits, Rotate, Begin, Install}
 use Rattle.tab_history.specs.declared.event.Given.TheVariants.{InSlot}
 use Rattle.tab_history.specs.declared.event.Scan.{Scan}
 use Rattle.tab_lines.specs.declared.line.Line.{Line}
@@ -230,6 +230,12 @@ file_of kind words = do
   end ← ends name.1
   Some (line.File (record { kind = kind; name = name.0 }))
 
+-- the words behind the command of a line rotate: there are none
+unfoldable pub rotate_of : List (List ℕ) → Option Line
+rotate_of words = do
+  end ← ends words
+  Some (line.Act Rotate)
+
 -- the words behind the command of a line at MOMENT
 unfoldable pub at_of : List (List ℕ) → Option Line
 at_of words = do
@@ -272,6 +278,7 @@ command_of word =
     else if bytes_eq word (codes "splits") then Some command.Splits
     else if bytes_eq word (codes "save") then Some command.Save
     else if bytes_eq word (codes "load") then Some command.Load
+    else if bytes_eq word (codes "rotate") then Some command.Rotate
     else None
 
 -- the words after the command
@@ -308,6 +315,7 @@ commanded command.SplitSize words = splitsize_of words
 commanded command.Splits words = option_map (λ table. line.Act (Splits table)) (name_alone words)
 commanded command.Save words = file_of Save words
 commanded command.Load words = file_of Load words
+commanded command.Rotate words = rotate_of words
 
 -- what the words of a line say; no words say nothing
 abbrev pub said : List (List ℕ) → Option Line

@@ -69,6 +69,8 @@ pub enum Command {
     Save,
     /// `load`
     Load,
+    /// `rotate`
+    Rotate,
 }
 
 /// The command that a word is. Commands are literal: nothing in them may be escaped.
@@ -108,6 +110,7 @@ pub fn command_of(word: &[u8]) -> Option<Command>
         b"splits" => Some(Command::Splits),
         b"save" => Some(Command::Save),
         b"load" => Some(Command::Load),
+        b"rotate" => Some(Command::Rotate),
         _ => None,
     }
 }

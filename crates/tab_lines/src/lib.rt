@@ -37,6 +37,7 @@
 //! | `splits T` | tell the rows at which a table is split |
 //! | `save FILE` | save an image of everything to a file |
 //! | `load FILE` | load the image in a file in place of everything |
+//! | `rotate` | hand out the history so far |
 //!
 //! Commands, the names of permissions and the words `put`, `del`, `;`, `-`, `time=..`, `versions=`, `minor`, `partial` and `full` are literal. Names
 //! of users and tables, rows and the other parts are byte words (crate `tab_text`), and so is FILE, whose bytes are UTF-8. P is the name of a permission as

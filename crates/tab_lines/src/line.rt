@@ -3,7 +3,7 @@ ghost use Rattle.std.specs.Prelude.{[]};
 ghost use Rattle.tab_lines.specs.Gives.{Gives, optional};
 ghost use Rattle.tab_lines.specs.Words.{words_left};
 ghost use Rattle.tab_lines.specs.Fields.{constraints_of, columns_of, versions_word};
-ghost use Rattle.tab_lines.specs.Lines.{settings, createtable_of, setauths_of, constraints_line_of, versions_line_of, horizon_of, insert_of, delete_line_of, mutate_of, bounds_of, scan_words, next_of, ranges_of, many_of, close_of, compact_of, begin_of, merge_of, install_of, addsplit_of, splitsize_of, file_of, at_of, commanded, said, line_of};
+ghost use Rattle.tab_lines.specs.Lines.{settings, createtable_of, setauths_of, constraints_line_of, versions_line_of, horizon_of, insert_of, delete_line_of, mutate_of, bounds_of, scan_words, next_of, ranges_of, many_of, close_of, compact_of, begin_of, merge_of, install_of, addsplit_of, splitsize_of, file_of, rotate_of, at_of, commanded, said, line_of};
 
 use crate::LineError;
 use crate::bounds::bound_of;
@@ -347,6 +347,15 @@ fn file(alloc: Global, kind: FileKind, words: &mut Words) -> Result<Line, LineEr
 }
 
 #[inline(never)]
+#[tactic(auto, unfolding(crate::specs::Lines::rotate_of))]
+fn rotate(words: &mut Words) -> Result<Line, LineError>
+    ensures { Gives (λ x. x) result (rotate_of (words_left words.old)) }
+{
+    ends(words)?;
+    Ok(Line::Act(Act::Rotate))
+}
+
+#[inline(never)]
 #[tactic(auto, unfolding(crate::specs::Lines::at_of))]
 fn at(words: &mut Words) -> Result<Line, LineError>
     ensures { Gives (λ x. x) result (at_of (words_left words.old)) }
@@ -409,6 +418,7 @@ fn commanded(alloc: Global, command: Command, words: &mut Words) -> Result<Line,
         Command::Splits => splits(alloc, words),
         Command::Save => file(alloc, FileKind::Save, words),
         Command::Load => file(alloc, FileKind::Load, words),
+        Command::Rotate => rotate(words),
     }
 }
 

@@ -14,7 +14,7 @@ use Rattle.tab_lines.specs.Words.{words_of}
 use Rattle.tab_lines.specs.Fields.{name_of, unsigned_of, small_of, signed_of, version_count, extent_word, compaction_word, file_name_of, list_of, constraints_of}
 use Rattle.tab_lines.specs.Updates.{row_of, put_of, delete_of, updates_of}
 use Rattle.tab_text.specs.Reading.{bytes_of}
-use Rattle.tab_lines.specs.Lines.{settings, createtable_of, setauths_of, constraints_line_of, versions_line_of, horizon_of, insert_of, delete_line_of, mutate_of, scan_words, next_of, ranges_of, many_of, close_of, compact_of, begin_of, merge_of, install_of, addsplit_of, splitsize_of, file_of, at_of, name_alone, grant_of, command_of, commanded, said, is_comment, line_of}
+use Rattle.tab_lines.specs.Lines.{settings, createtable_of, setauths_of, constraints_line_of, versions_line_of, horizon_of, insert_of, delete_line_of, mutate_of, scan_words, next_of, ranges_of, many_of, close_of, compact_of, begin_of, merge_of, install_of, addsplit_of, splitsize_of, file_of, rotate_of, at_of, name_alone, grant_of, command_of, commanded, said, is_comment, line_of}
 use Rattle.tab_shell.specs.Ahead.{OpensNoSession}
 
 -- nothing is read, or what is read is no bare act that opens a session
@@ -102,6 +102,10 @@ file_shut : (kind : FileKind) (words : List (List ℕ)) → IsShut (file_of kind
 unfolding file_of
 file_shut kind words = after (field file_name_of words) _ (λ n. after (ends n.1) _ (λ e. tt))
 
+rotate_shut : (words : List (List ℕ)) → IsShut (rotate_of words)
+unfolding rotate_of
+rotate_shut words = after (ends words) _ (λ e. refl)
+
 at_shut : (words : List (List ℕ)) → IsShut (at_of words)
 unfolding at_of
 at_shut words = after (field signed_of words) _ (λ m. after (ends m.1) _ (λ e. tt))
@@ -138,6 +142,7 @@ commanded_shut command.SplitSize words = splitsize_shut words
 commanded_shut command.Splits words = mapped (name_alone words) _ (λ table. refl)
 commanded_shut command.Save words = file_shut Save words
 commanded_shut command.Load words = file_shut Load words
+commanded_shut command.Rotate words = rotate_shut words
 commanded_shut command.At words = at_shut words
 
 said_shut : (words : List (List ℕ)) → IsShut (said words)

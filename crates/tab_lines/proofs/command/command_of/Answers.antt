@@ -99,3 +99,6 @@ returns-in-save c = found command_of c.args.word.now (codes "save") (omega arith
 
 pub returns-in-load : goal.returns-in-load
 returns-in-load c = found command_of c.args.word.now (codes "load") (omega arith) (search rules)
+
+pub returns-in-rotate : goal.returns-in-rotate
+returns-in-rotate c = found command_of c.args.word.now (codes "rotate") (omega arith) (search rules)
