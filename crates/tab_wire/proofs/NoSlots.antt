@@ -113,6 +113,7 @@ fields_free opcode.Status bytes = named (λ table. asks.Act (act.Status table)) 
 fields_free opcode.Rights bytes = named (λ table. asks.Act (act.Rights table)) bytes (λ name. tt)
 fields_free opcode.SetVersions bytes = set_versions_free bytes
 fields_free opcode.SetHorizon bytes = set_horizon_free bytes
+fields_free opcode.Rotate bytes = tt
 
 -- ---- whole frames
 -- nothing is asked, or what is asked names none

@@ -57,7 +57,8 @@ some_known (suc (suc (suc (suc (suc (suc (suc (suc (suc (suc (suc (suc (suc (suc
 some_known (suc (suc (suc (suc (suc (suc (suc (suc (suc (suc (suc (suc (suc (suc (suc (suc (suc (suc (suc (suc zero)))))))))))))))))))) o is = subst (Tells 20) (some_inj op_of.Rights o is) ((omega arith, omega arith), other_turn 20 op_of.Rights (omega arith) refl refl)
 some_known (suc (suc (suc (suc (suc (suc (suc (suc (suc (suc (suc (suc (suc (suc (suc (suc (suc (suc (suc (suc (suc zero))))))))))))))))))))) o is = subst (Tells 21) (some_inj op_of.SetVersions o is) ((omega arith, omega arith), other_turn 21 op_of.SetVersions (omega arith) refl refl)
 some_known (suc (suc (suc (suc (suc (suc (suc (suc (suc (suc (suc (suc (suc (suc (suc (suc (suc (suc (suc (suc (suc (suc zero)))))))))))))))))))))) o is = subst (Tells 22) (some_inj op_of.SetHorizon o is) ((omega arith, omega arith), other_turn 22 op_of.SetHorizon (omega arith) refl refl)
-some_known (suc (suc (suc (suc (suc (suc (suc (suc (suc (suc (suc (suc (suc (suc (suc (suc (suc (suc (suc (suc (suc (suc (suc n))))))))))))))))))))))) o is = absurd cc
+some_known (suc (suc (suc (suc (suc (suc (suc (suc (suc (suc (suc (suc (suc (suc (suc (suc (suc (suc (suc (suc (suc (suc (suc zero))))))))))))))))))))))) o is = subst (Tells 23) (some_inj op_of.Rotate o is) ((omega arith, omega arith), other_turn 23 op_of.Rotate (omega arith) refl refl)
+some_known (suc (suc (suc (suc (suc (suc (suc (suc (suc (suc (suc (suc (suc (suc (suc (suc (suc (suc (suc (suc (suc (suc (suc (suc n)))))))))))))))))))))))) o is = absurd cc
 
 none_unknown : (op : ℕ) → opcode_of op ≡ None → IsKnown op → ⊥
 none_unknown zero is h = omega (arith, h.0)
@@ -83,7 +84,8 @@ none_unknown (suc (suc (suc (suc (suc (suc (suc (suc (suc (suc (suc (suc (suc (s
 none_unknown (suc (suc (suc (suc (suc (suc (suc (suc (suc (suc (suc (suc (suc (suc (suc (suc (suc (suc (suc (suc zero)))))))))))))))))))) is h = absurd cc
 none_unknown (suc (suc (suc (suc (suc (suc (suc (suc (suc (suc (suc (suc (suc (suc (suc (suc (suc (suc (suc (suc (suc zero))))))))))))))))))))) is h = absurd cc
 none_unknown (suc (suc (suc (suc (suc (suc (suc (suc (suc (suc (suc (suc (suc (suc (suc (suc (suc (suc (suc (suc (suc (suc zero)))))))))))))))))))))) is h = absurd cc
-none_unknown (suc (suc (suc (suc (suc (suc (suc (suc (suc (suc (suc (suc (suc (suc (suc (suc (suc (suc (suc (suc (suc (suc (suc n))))))))))))))))))))))) is h = omega (arith, h.1)
+none_unknown (suc (suc (suc (suc (suc (suc (suc (suc (suc (suc (suc (suc (suc (suc (suc (suc (suc (suc (suc (suc (suc (suc (suc zero))))))))))))))))))))))) is h = absurd cc
+none_unknown (suc (suc (suc (suc (suc (suc (suc (suc (suc (suc (suc (suc (suc (suc (suc (suc (suc (suc (suc (suc (suc (suc (suc (suc n)))))))))))))))))))))))) is h = omega (arith, h.1)
 
 -- what doesn't hold is answered no
 denied : {P : Type 0} (b : Bool) → Decides b P → (P → ⊥) → b ≡ false

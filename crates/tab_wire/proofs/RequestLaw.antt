@@ -3,9 +3,9 @@ use Rattle.std.proofs.Common.{◌≡◌, ℕ, zero, suc, List, [], ◌∷◌, �
 use Rattle.tab_label.specs.Sets.{set_of}
 use Rattle.tab_history.specs.declared.event.Act.TheVariants as act
 use Rattle.tab_parts.specs.Parts.{IsBytes, IsU32, IsI64, IsField, IsNameField, IsCounted, IsList, IsBounds, time_byte, IsTime, IsVersions, IsConstraints}
-use Rattle.tab_parts.specs.Reading.{◌>>=◌, Reader, and_then, mapped, whole, u32_at, i64_at, field_at, name_at, list_at, bounds_at, time_at, versions_at, constraints_at}
+use Rattle.tab_parts.specs.Reading.{◌>>=◌, Reader, and_then, mapped, given, whole, u32_at, i64_at, field_at, name_at, list_at, bounds_at, time_at, versions_at, constraints_at}
 use Rattle.tab_parts.specs.Exactness.{Exact}
-use Rattle.tab_parts.proofs.Exact.{Follows, exact_then, Becomes, exact_mapped, exact_u32, whole_sound, whole_complete}
+use Rattle.tab_parts.proofs.Exact.{Follows, exact_then, Becomes, exact_mapped, exact_given, exact_u32, whole_sound, whole_complete}
 use Rattle.tab_parts.proofs.PartLaw.{exact_i64, exact_field, exact_name, exact_list}
 use Rattle.tab_parts.proofs.TagLaw.{exact_bounds, exact_time, exact_versions, exact_constraints}
 use Rattle.tab_wire.specs.declared.request.Request.{Request}
@@ -13,7 +13,7 @@ use Rattle.tab_wire.specs.declared.request.Request.TheVariants as asks
 use Rattle.tab_wire.specs.FrameParts.{IsColumn, IsPermission, extent_byte, IsExtent, IsMutation}
 use Rattle.tab_wire.specs.FrameReading.{columns_at, permission_at, extent_at, mutation_at, ranges_at}
 use Rattle.tab_wire.specs.Requests.{create_table_at, set_auths_at, grant_at, revoke_at, set_constraints_at, write_at, open_at, next_at, many_at, close_at, compact_at, add_split_at, set_versions_at, set_horizon_at, opcode_of, fields_at, request_in}
-use Rattle.tab_wire.specs.Forms.{IsRequest, hello, create_table, drop_table, create_user, drop_user, set_auths, grant, revoke, set_constraints, write, opens, next, many, close, flush, compact, add_split, splits, status, rights, set_versions, set_horizon, RequestsAreForms}
+use Rattle.tab_wire.specs.Forms.{IsRequest, hello, create_table, drop_table, create_user, drop_user, set_auths, grant, revoke, set_constraints, write, opens, next, many, close, flush, compact, add_split, splits, status, rights, set_versions, set_horizon, rotate, RequestsAreForms}
 use Rattle.tab_wire.proofs.FrameLaw.{exact_columns, exact_permission, exact_extent, exact_mutation, exact_ranges}
 
 -- ---- each opcode
@@ -179,6 +179,11 @@ sound_set_horizon : (fields : List ℕ) (r : Request) → IsBytes fields → who
 unfolding set_horizon_at
 sound_set_horizon fields r fits is = two_sound name_at i64_at IsNameField IsI64 (λ t z. asks.Act (act.SetHorizon t z)) exact_name exact_i64 22 fields r fits is (λ p q x y a b. set_horizon p q x y a b)
 
+sound_rotate : (fields : List ℕ) (r : Request) → IsBytes fields → whole (given (asks.Act act.Rotate) fields) ≡ Some r → IsRequest (23 ∷ fields) r
+sound_rotate fields r fits is =
+    let h = whole_sound (given (asks.Act act.Rotate)) (λ bytes y. (bytes ≡ []) × (asks.Act act.Rotate ≡ y)) (exact_given (asks.Act act.Rotate)) fields r fits is in
+    at_form 23 fields [] (asks.Act act.Rotate) r h.0 h.1 rotate
+
 request_sound : (op : ℕ) (fields : List ℕ) (r : Request) → IsBytes fields → (opcode_of op >>= λ opcode. whole (fields_at opcode fields)) ≡ Some r → IsRequest (op ∷ fields) r
 request_sound zero fields r fits is = absurd cc
 request_sound (suc zero) fields r fits is = sound_hello fields r fits is
@@ -203,7 +208,8 @@ request_sound (suc (suc (suc (suc (suc (suc (suc (suc (suc (suc (suc (suc (suc (
 request_sound (suc (suc (suc (suc (suc (suc (suc (suc (suc (suc (suc (suc (suc (suc (suc (suc (suc (suc (suc (suc zero)))))))))))))))))))) fields r fits is = sound_rights fields r fits is
 request_sound (suc (suc (suc (suc (suc (suc (suc (suc (suc (suc (suc (suc (suc (suc (suc (suc (suc (suc (suc (suc (suc zero))))))))))))))))))))) fields r fits is = sound_set_versions fields r fits is
 request_sound (suc (suc (suc (suc (suc (suc (suc (suc (suc (suc (suc (suc (suc (suc (suc (suc (suc (suc (suc (suc (suc (suc zero)))))))))))))))))))))) fields r fits is = sound_set_horizon fields r fits is
-request_sound (suc (suc (suc (suc (suc (suc (suc (suc (suc (suc (suc (suc (suc (suc (suc (suc (suc (suc (suc (suc (suc (suc (suc n))))))))))))))))))))))) fields r fits is = absurd cc
+request_sound (suc (suc (suc (suc (suc (suc (suc (suc (suc (suc (suc (suc (suc (suc (suc (suc (suc (suc (suc (suc (suc (suc (suc zero))))))))))))))))))))))) fields r fits is = sound_rotate fields r fits is
+request_sound (suc (suc (suc (suc (suc (suc (suc (suc (suc (suc (suc (suc (suc (suc (suc (suc (suc (suc (suc (suc (suc (suc (suc (suc n)))))))))))))))))))))))) fields r fits is = absurd cc
 
 -- ---- each opcode, forwards
 request_complete : (bytes : List ℕ) (r : Request) → IsRequest bytes r → request_in bytes ≡ Some r
@@ -230,6 +236,7 @@ request_complete bytes r (status p x a) = one_complete name_at IsNameField (λ t
 request_complete bytes r (rights p x a) = one_complete name_at IsNameField (λ t. asks.Act (act.Rights t)) exact_name p x a
 request_complete bytes r (set_versions p q x y a b) = two_complete name_at versions_at IsNameField IsVersions (λ t v. asks.Act (act.SetVersions t v)) exact_name exact_versions p q x y a b
 request_complete bytes r (set_horizon p q x y a b) = two_complete name_at i64_at IsNameField IsI64 (λ t z. asks.Act (act.SetHorizon t z)) exact_name exact_i64 p q x y a b
+request_complete bytes r rotate = refl
 
 bytes_sound : (bytes : List ℕ) (r : Request) → IsBytes bytes → request_in bytes ≡ Some r → IsRequest bytes r
 unfolding request_in

@@ -5,7 +5,7 @@ use Rattle.tab_parts.specs.Parts.{IsBytes}
 use Rattle.tab_wire.specs.declared.request.Request.{Request}
 use Rattle.tab_wire.specs.declared.request.Request.TheVariants as asks
 use Rattle.tab_wire.specs.Requests.{request_of}
-use Rattle.tab_wire.specs.Forms.{InTurn, IsRequest, hello, create_table, drop_table, create_user, drop_user, set_auths, grant, revoke, set_constraints, write, opens, next, many, close, flush, compact, add_split, splits, status, rights, set_versions, set_horizon}
+use Rattle.tab_wire.specs.Forms.{InTurn, IsRequest, hello, create_table, drop_table, create_user, drop_user, set_auths, grant, revoke, set_constraints, write, opens, next, many, close, flush, compact, add_split, splits, status, rights, set_versions, set_horizon, rotate}
 use Rattle.tab_wire.specs.Asking.{IsBy, MayAsk}
 use Rattle.tab_wire.proofs.ReasonLaw.{requests_in_turn}
 
@@ -41,6 +41,7 @@ begins bytes request (status t table h) = omega arith
 begins bytes request (rights t table h) = omega arith
 begins bytes request (set_versions t v table versions h k) = omega arith
 begins bytes request (set_horizon t z table horizon h k) = omega arith
+begins bytes request rotate = omega arith
 
 -- Hello is asked where nobody said it, and all else where somebody did
 pub may_ask : (user : Option (List ℕ)) (frame : List ℕ) (request : Request) → IsBytes frame → request_of (is_some user) frame ≡ Ok request → MayAsk user request

@@ -152,11 +152,6 @@ unknown : request_of true (hex (codes "18")) ≡ Err reason.Opcode
 unfolding looked_into
 unknown = refl
 
--- no frame asks for a rotation
-unknown_yet : request_of true (hex (codes "17")) ≡ Err reason.Opcode
-unfolding looked_into
-unknown_yet = refl
-
 -- no version is asked for
 no_version : request_of true (hex (codes "02 00000001 74 00 00000000")) ≡ Err reason.Field
 unfolding looked_into
@@ -261,8 +256,26 @@ horizon_sent : act_bytes (act.SetHorizon t (negsuc 0)) ≡ hex (codes "16 000000
 unfolding looked_into
 horizon_sent = refl
 
-rotation_not_sent : act_bytes act.Rotate ≡ []
-rotation_not_sent = refl
+-- ---- a history that is handed out
+rotates : request_of true (hex (codes "17")) ≡ Ok (asks.Act act.Rotate)
+unfolding looked_into
+rotates = refl
+
+-- it has no fields
+rotates_with_a_table : request_of true (hex (codes "17 00000001 74")) ≡ Err reason.Field
+unfolding looked_into
+rotates_with_a_table = refl
+
+rotates_before_hello : request_of false (hex (codes "17")) ≡ Err reason.Order
+unfolding looked_into
+rotates_before_hello = refl
+
+rotation_sent : act_bytes act.Rotate ≡ hex (codes "17")
+rotation_sent = refl
+
+-- no frame asks for a save
+save_not_sent : act_bytes act.Save ≡ []
+save_not_sent = refl
 
 -- ---- compactions, splits and counts
 flushes : request_of true (hex (codes "0f 00000001 74")) ≡ Ok (asks.Act (act.Flush t))

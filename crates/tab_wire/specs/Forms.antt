@@ -45,15 +45,16 @@ pub data IsRequest : List ℕ → Request → Type 0 where
   rights : (t table : List ℕ) → IsNameField t table → IsRequest (20 ∷ t) (asks.Act (act.Rights table))
   set_versions : (t v table : List ℕ) (versions : ℕ) → IsNameField t table → IsVersions v versions → IsRequest (21 ∷ (t ++ v)) (asks.Act (act.SetVersions table versions))
   set_horizon : (t z table : List ℕ) (horizon : ℤ) → IsNameField t table → IsI64 z horizon → IsRequest (22 ∷ (t ++ z)) (asks.Act (act.SetHorizon table horizon))
+  rotate : IsRequest (23 ∷ []) (asks.Act act.Rotate)
 
 -- ---- The law: reading gives exactly what the forms say.
 abbrev pub RequestsAreForms : Type 0
 RequestsAreForms = (bytes : List ℕ) (request : Request) → IsBytes bytes → (request_in bytes ≡ Some request) ↔ IsRequest bytes request
 
 -- ---- Why a frame asks nothing, after Hello or before it. An unknown opcode comes before the order, and the order before the fields.
--- the opcodes 01 to 16, in hexadecimal
+-- the opcodes 01 to 17, in hexadecimal
 abbrev pub IsKnown : ℕ → Type 0
-IsKnown op = (1 ≤ op) × (op ≤ 22)
+IsKnown op = (1 ≤ op) × (op ≤ 23)
 
 -- Hello is the first frame, and no other one
 abbrev pub InTurn : Bool → ℕ → Type 0

@@ -2,9 +2,9 @@
 use Rattle.std.specs.Prelude.{ℕ, zero, suc, Bool, true, false, List, [], ◌∷◌, slice_get, Option, Some, None, Result, Ok, Err, if◌then◌else◌}
 use Rattle.tab_label.specs.Sets.{set_of}
 use Rattle.tab_history.specs.declared.event.Act.TheVariants as act
-use Rattle.tab_parts.specs.Reading.{◌>>=◌, Reader, mapped, whole, u32_at, i64_at, field_at, name_at, list_at, bounds_at, time_at, versions_at, constraints_at}
+use Rattle.tab_parts.specs.Reading.{◌>>=◌, Reader, mapped, given, whole, u32_at, i64_at, field_at, name_at, list_at, bounds_at, time_at, versions_at, constraints_at}
 use Rattle.tab_wire.specs.declared.opcode.Opcode.{Opcode}
-use Rattle.tab_wire.specs.declared.opcode.Opcode.TheVariants.{Hello, CreateTable, DropTable, CreateUser, DropUser, SetAuths, Grant, Revoke, SetConstraints, Write, Open, Next, Many, Close, Flush, Compact, AddSplit, Splits, Status, Rights, SetVersions, SetHorizon}
+use Rattle.tab_wire.specs.declared.opcode.Opcode.TheVariants.{Hello, CreateTable, DropTable, CreateUser, DropUser, SetAuths, Grant, Revoke, SetConstraints, Write, Open, Next, Many, Close, Flush, Compact, AddSplit, Splits, Status, Rights, SetVersions, SetHorizon, Rotate}
 use Rattle.tab_wire.specs.declared.request.Request.{Request}
 use Rattle.tab_wire.specs.declared.request.Request.TheVariants as asks
 use Rattle.tab_wire.specs.declared.reason.Reason.{Reason}
@@ -14,7 +14,7 @@ use Rattle.tab_wire.specs.FrameReading.{columns_at, permission_at, extent_at, mu
 -- ---- the first byte
 -- the opcodes from 1 on
 abbrev pub all_opcodes : List Opcode
-all_opcodes = Hello ∷ CreateTable ∷ DropTable ∷ CreateUser ∷ DropUser ∷ SetAuths ∷ Grant ∷ Revoke ∷ SetConstraints ∷ Write ∷ Open ∷ Next ∷ Many ∷ Close ∷ Flush ∷ Compact ∷ AddSplit ∷ Splits ∷ Status ∷ Rights ∷ SetVersions ∷ SetHorizon ∷ []
+all_opcodes = Hello ∷ CreateTable ∷ DropTable ∷ CreateUser ∷ DropUser ∷ SetAuths ∷ Grant ∷ Revoke ∷ SetConstraints ∷ Write ∷ Open ∷ Next ∷ Many ∷ Close ∷ Flush ∷ Compact ∷ AddSplit ∷ Splits ∷ Status ∷ Rights ∷ SetVersions ∷ SetHorizon ∷ Rotate ∷ []
 
 abbrev pub opcode_of : ℕ → Option Opcode
 opcode_of zero = None
@@ -133,6 +133,7 @@ fields_at Status bytes = named_at (λ table. asks.Act (act.Status table)) bytes
 fields_at Rights bytes = named_at (λ table. asks.Act (act.Rights table)) bytes
 fields_at SetVersions bytes = set_versions_at bytes
 fields_at SetHorizon bytes = set_horizon_at bytes
+fields_at Rotate bytes = given (asks.Act act.Rotate) bytes
 
 -- what all bytes of a frame ask, in their form
 unfoldable pub request_in : List ℕ → Option Request

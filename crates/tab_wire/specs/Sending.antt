@@ -58,7 +58,7 @@ abbrev pub scan_bytes : Scan → List ℕ
 scan_bytes scan = field scan.table ++ (bounds_bytes scan.bounds ++ (counted column_bytes scan.columns ++ list scan.authorizations))
 
 -- ---- requests
--- No frame asks for a split by size, a compaction in three parts, a save, a load or a rotation.
+-- No frame asks for a split by size, a compaction in three parts, a save or a load.
 abbrev pub act_bytes : Act → List ℕ
 act_bytes (act.Open scan) = 11 ∷ scan_bytes scan
 act_bytes (act.Write table mutation) = 10 ∷ (field table ++ mutation_bytes mutation)
@@ -78,6 +78,7 @@ act_bytes (act.Flush table) = 15 ∷ field table
 act_bytes (act.Compact table extent) = 16 ∷ (field table ++ extent_byte extent ∷ [])
 act_bytes (act.AddSplit table row) = 17 ∷ (field table ++ field row)
 act_bytes (act.Splits table) = 18 ∷ field table
+act_bytes act.Rotate = 23 ∷ []
 act_bytes act = []
 
 abbrev pub request_bytes : Request → List ℕ

@@ -24,7 +24,7 @@ pub enum SendFault {
     /// The writer failed. A beginning of the request may be sent: nothing more can be.
     #[error("the request can't be sent")]
     Write,
-    /// A split by size, a compaction in three parts, a save, a load or a rotation: no frame asks it. Nothing was sent.
+    /// A split by size, a compaction in three parts, a save or a load: no frame asks it. Nothing was sent.
     #[error("no frame asks this")]
     NoForm,
     /// The request has over 8,388,608 bytes. Nothing was sent.

@@ -24,6 +24,7 @@
 //! | 12, 13, 14 | tell the end rows, count what there is, tell one's own rights | table |
 //! | 15 | show fewer versions of a table's columns | table, four bytes of versions: 1 to 1,000 |
 //! | 16 | raise a table's horizon | table, eight bytes of a timestamp |
+//! | 17 | hand out the history so far | |
 //!
 //! An update is 0 for a delete or 1 for a put, a field each for family, qualifier and label, 0, or 1 and a timestamp of eight bytes, and for
 //! a put a field for its value. A column is a field, and 0, or 1 and a field for its qualifier.

@@ -2,7 +2,7 @@
 ghost use Rattle.std.specs.Prelude.{◌≡◌, slice_get};
 ghost use Rattle.tab_wire.specs.Requests.{opcode_of, is_in_turn};
 
-/// What a frame asks for, as its first byte says: 1 to 22, in this order.
+/// What a frame asks for, as its first byte says: 1 to 23, in this order.
 #[derive(Clone, Copy, Debug, PartialEq, Eq)]
 pub enum Opcode {
     /// 1: who asks.
@@ -49,6 +49,8 @@ pub enum Opcode {
     SetVersions,
     /// 22: raise a table's horizon.
     SetHorizon,
+    /// 23: hand out the history so far.
+    Rotate,
 }
 
 // The opcode at this place, counted from 0.
@@ -60,7 +62,7 @@ fn nth(opcodes: &[Opcode], place: u8) -> Option<Opcode>
 
 impl Opcode {
     /// All of them, from 1 on.
-    pub const ALL: [Opcode; 22] = [
+    pub const ALL: [Opcode; 23] = [
         Opcode::Hello,
         Opcode::CreateTable,
         Opcode::DropTable,
@@ -83,6 +85,7 @@ impl Opcode {
         Opcode::Rights,
         Opcode::SetVersions,
         Opcode::SetHorizon,
+        Opcode::Rotate,
     ];
 
     /// The opcode of this byte, if it is one.

@@ -185,6 +185,7 @@ fn request(alloc: Global, opcode: Opcode, fields: &mut Fields) -> Result<Request
         Opcode::Rights => Ok(Request::Act(Act::Rights(a_name(fields)?))),
         Opcode::SetVersions => set_versions(fields),
         Opcode::SetHorizon => set_horizon(fields),
+        Opcode::Rotate => Ok(Request::Act(Act::Rotate)),
     }
 }
 

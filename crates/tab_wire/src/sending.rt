@@ -25,7 +25,7 @@ use tab_policy::{Permission, SystemPermission, TablePermission};
 use tab_text::{PutItem, put_each};
 
 /// Puts the bytes of a request: its opcode and its fields, without the length of the frame. Nothing is put of a split by size, of a
-/// compaction in three parts, of a save, of a load or of a rotation, which no frame asks.
+/// compaction in three parts, of a save or of a load, which no frame asks.
 pub fn put_request<W: Output>(output: &mut W, request: &Request) -> Result<(), WriteFault>
     ensures { Puts W.Output output.old output.new (request_bytes request.now) result }
 {
@@ -66,12 +66,10 @@ fn put_act<W: Output>(output: &mut W, act: &Act) -> Result<(), WriteFault>
         }
         Act::AddSplit(table, row) => put_row(output, table.as_bytes(), row.as_bytes()),
         Act::Splits(table) => put_named(output, 0x12, table.as_bytes()),
-        Act::SplitBySize(..)
-        | Act::Save
-        | Act::Load
-        | Act::Rotate
-        | Act::Begin(..)
-        | Act::Install(..) => output.put(b""),
+        Act::Rotate => put_byte(output, 0x17),
+        Act::SplitBySize(..) | Act::Save | Act::Load | Act::Begin(..) | Act::Install(..) => {
+            output.put(b"")
+        }
     }
 }
 
