@@ -3,7 +3,6 @@ use Rattle.std.specs.Prelude.{ℕ, ◌≡◌, Bool, true, false, List, [], ◌�
 use Rattle.tab_history.specs.declared.event.Act.{Act}
 use Rattle.tab_history.specs.declared.event.Act.TheVariants.{SplitBySize, Splits, Begin, Install}
 use Rattle.tab_history.specs.declared.event.Event.{Event}
-use Rattle.tab_book.specs.declared.book.Origin.{Ghosts}
 use Rattle.tab_book.specs.Entries.{Place}
 use Rattle.tab_book.specs.Receipts.{Slip, Receives}
 use Rattle.tab_work.specs.declared.asker.Asker.{Asker}
@@ -16,10 +15,10 @@ pub record Asking : Type 0 where
   pub seat : Place
   pub receipts : List Slip
 
-abbrev pub asking : {L R M : Type 0} {o : Ghosts L} → Asker L R M o → Asking
+abbrev pub asking : {L R M : Type 0} → Asker L R M → Asking
 asking a = record { user = a.user; seat = a.seat; receipts = a.receipts.items }
 
-abbrev pub compacting : {L R M G : Type 0} {o : Ghosts L} → Compactor L R M G o → Asking
+abbrev pub compacting : {L R M G : Type 0} → Compactor L R M G → Asking
 compacting c = asking c.asker
 
 -- the acts that compact tablets, split them, or tell where they end: none of them changes what a scan is answered

@@ -13,9 +13,10 @@ abbrev pub aimed : List HeldTable → Option Due → Option (Due × List ℕ × 
 aimed tables None = None
 aimed tables (Some due) = option_map (λ at. (due, at.0, at.1)) (target_of due tables)
 
--- It is what is due first in a core that refines a history, legal from this base: that of the book, as long as it is locked.
-pub record IsDue (base : Base) (found : Option (Due × List ℕ × List ℕ)) : Type 0 where
+-- It is what is due first in a core that refines a history, legal from a base: those of the book, as long as it is locked.
+pub record IsDue (found : Option (Due × List ℕ × List ℕ)) : Type 0 where
   pub core : Held
+  pub base : Base
   pub history : List Entry
   pub legal : IsLegalFrom base history
   pub refines : RefinesHistory core base history

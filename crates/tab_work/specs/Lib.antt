@@ -1,4 +1,5 @@
 pub mod Receiving
+pub mod Rotations
 pub mod Writes
 pub mod Dues
 pub mod Ends
@@ -6,3 +7,4 @@ pub mod Compacting
 pub mod Shares
 pub mod SharedAnswers
 pub mod Sharing
+pub mod Unkept

@@ -6,7 +6,6 @@ use Rattle.tab_history.specs.declared.reply.Reply.TheVariants.{Refused}
 use Rattle.tab_history.specs.Answers.{Told}
 use Rattle.tab_core.specs.SessionState.{SessionState}
 use Rattle.tab_core.specs.OpenSession.{OpenSession}
-use Rattle.tab_book.specs.declared.book.Origin.{Ghosts}
 use Rattle.tab_book.specs.HandedOut.{session_in}
 use Rattle.tab_book.specs.Receipts.{Slip, Receives}
 use Rattle.tab_wire.specs.declared.request.Request.{Request}
@@ -15,11 +14,11 @@ use Rattle.tab_work.specs.Receiving.{HandsOut, spent}
 use Rattle.tab_work.specs.Shares.{Seated, Shares}
 
 -- the seat, the receipts and the moments that are lent to it
-abbrev pub seated : {L R M G : Type 0} {o : Ghosts L} → SharedService L R M G o → Seated M
+abbrev pub seated : {L R M G : Type 0} → SharedService L R M G → Seated M
 seated s = record { seat = s.seat.now; receipts = s.receipts.now.items; moments = s.moments.now }
 
 -- the sessions that are lent to it
-abbrev pub slots_of : {L R M G : Type 0} {o : Ghosts L} → SharedService L R M G o → List (Option SessionState)
+abbrev pub slots_of : {L R M G : Type 0} → SharedService L R M G → List (Option SessionState)
 slots_of s = s.slots.now
 
 -- the reply in the receipt, or the other one where there is none
@@ -32,23 +31,23 @@ abbrev pub last_reply : Told → List Slip → Told
 last_reply other slips = reply_or other (slice_get slips (length slips - 1))
 
 -- what it told last: the reply in the last receipt, or one of its own
-abbrev pub told_by : {L R M G : Type 0} {o : Ghosts L} → SharedService L R M G o → Told
+abbrev pub told_by : {L R M G : Type 0} → SharedService L R M G → Told
 told_by s = cond s.booked (last_reply s.reply.now s.receipts.now.items) s.reply.now
 
 -- the same seat, the same receipts and the same moments are lent to it
-pub record LentSame {L R M G : Type 0} {o : Ghosts L} (old new : SharedService L R M G o) : Type 0 where
+pub record LentSame {L R M G : Type 0} (old new : SharedService L R M G) : Type 0 where
   pub seat : new.seat.ghost_name ≡ old.seat.ghost_name
   pub receipts : new.receipts.ghost_name ≡ old.receipts.ghost_name
   pub moments : new.moments.ghost_name ≡ old.moments.ghost_name
 
 -- what it may tell this user of this request, and what it is afterwards
-pub record SharedAnswers {L R M G : Type 0} {o : Ghosts L} (gives : M → ℤ → M → Type 0) (old : SharedService L R M G o) (user : List ℕ) (request : Request) (reply : Told) (new : SharedService L R M G o) : Type 0 where
+pub record SharedAnswers {L R M G : Type 0} (gives : M → ℤ → M → Type 0) (old : SharedService L R M G) (user : List ℕ) (request : Request) (reply : Told) (new : SharedService L R M G) : Type 0 where
   pub shares : Shares gives (seated old) (slots_of old) user request reply (seated new) (slots_of new)
   pub lent : LentSame old new
 
 -- ---- the steps of an act
 -- this is told, and all else stays
-pub record Tells {L R M G : Type 0} {o : Ghosts L} (old : SharedService L R M G o) (reply : Told) (new : SharedService L R M G o) : Type 0 where
+pub record Tells {L R M G : Type 0} (old : SharedService L R M G) (reply : Told) (new : SharedService L R M G) : Type 0 where
   pub told : told_by new ≡ reply
   pub same : seated new ≡ seated old
   pub slots : slots_of new ≡ slots_of old

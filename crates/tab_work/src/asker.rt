@@ -6,7 +6,8 @@ use crate::Shared;
 use crate::ends::end_in;
 use std::alloc::Global;
 use std::sync::Wait;
-use tab_book::{Held, Installation, Origin, Receipt, Seat};
+use std::sync::ledger::Ledger;
+use tab_book::{Held, Installation, Receipt, Seat};
 use tab_cells::Compaction;
 use tab_core::{FinishedJob, TabletJob};
 use tab_history::{Act, Reply};
@@ -18,7 +19,7 @@ const SPLIT_SIZE: u64 = 16_777_216;
 
 /// A user at a seat of a shared book, who asks for compactions and splits. The receipts are kept, with nothing to be taken.
 #[derive(Drop)]
-pub(crate) struct Asker<'a, L: Origin, R, M> {
+pub(crate) struct Asker<'a, L: Ledger, R, M> {
     pub(crate) rt: &'a R,
     pub(crate) alloc: Global,
     pub(crate) shared: &'a Shared<L>,
@@ -28,7 +29,7 @@ pub(crate) struct Asker<'a, L: Origin, R, M> {
     pub(crate) receipts: Vec<Receipt<L>>,
 }
 
-impl<'a, L: Origin, R: Wait, M: Moments> Asker<'a, L, R, M> {
+impl<'a, L: Ledger, R: Wait, M: Moments> Asker<'a, L, R, M> {
     /// Begins a merge of this kind in the tablet of the table that holds the row. None where there is nothing to merge, or it's refused.
     pub fn begin(&mut self, table: Name, row: ByteString, kind: Compaction) -> Option<TabletJob>
         ensures { Compacts (asking self.old) (asking self.new) }

@@ -8,7 +8,8 @@ use crate::ends::row_above;
 use crate::{Gate, Shared};
 use std::alloc::Global;
 use std::sync::Wait;
-use tab_book::{Origin, Receipt, Seat};
+use std::sync::ledger::Ledger;
+use tab_book::{Receipt, Seat};
 use tab_cells::Compaction;
 use tab_core::{Due, DueKind};
 use tab_key::{ByteString, Name};
@@ -17,14 +18,14 @@ use tab_serve::Moments;
 /// A user at a seat of a shared book who compacts and splits its tablets, beside all that the other seats ask. What is merged is merged
 /// outside of the book's lock. (Accumulo user manual: minor and major compactions, splitting)
 #[derive(Drop)]
-pub struct Compactor<'a, L: Origin, R, M, G> {
+pub struct Compactor<'a, L: Ledger, R, M, G> {
     asker: Asker<'a, L, R, M>,
     claims: &'a Claims,
     gate: &'a G,
 }
 
 #[tactic(auto, using(crate::proofs::Following::nothing))]
-impl<'a, L: Origin, R: Wait, M: Moments + Drop, G: Gate> Compactor<'a, L, R, M, G> {
+impl<'a, L: Ledger, R: Wait, M: Moments + Drop, G: Gate> Compactor<'a, L, R, M, G> {
     /// A compactor without receipts. Those of one book share the claims. It takes no memory.
     pub fn new(
         rt: &'a R,

@@ -3,16 +3,17 @@ ghost use Rattle.std.specs.Prelude.{◌≡◌, IfOk, Some};
 ghost use Rattle.tab_work.specs.Dues.{IsDue, aimed};
 
 use std::alloc::{AllocError, Global};
-use tab_book::{Book, Origin, book_is_legal};
+use std::sync::ledger::Ledger;
+use tab_book::{Book, book_is_legal};
 use tab_core::{Core, Due};
 use tab_key::{ByteString, Name};
 
 /// What is due first in the book's core, with the table and the least row of its tablet.
-pub(crate) fn due_in<L: Origin>(
+pub(crate) fn due_in<L: Ledger>(
     alloc: Global,
     book: &Book<L>,
 ) -> Result<Option<(Due, Name, ByteString)>, AllocError>
-    ensures { IfOk result (λ found. IsDue L.base found) }
+    ensures { IfOk result (λ found. IsDue found) }
 {
     book_is_legal(book);
     let core = book.core();

@@ -1,21 +1,20 @@
 //! The server.
 ghost use Rattle.std.specs.Prelude.{◌≡◌, ◌^◌, ◌≤◌};
-ghost use Rattle.tab_core.specs.Stores.{base_of};
 
-use crate::Shared;
 use crate::crew::crew_of;
 use crate::workers::serve_all;
+use crate::{History, Shared};
 use std::alloc::{AllocError, Global};
 use std::marker::Brand;
 use std::net::TcpListener;
 use std::sync::Wait;
-use std::sync::ledger::Blank;
+use std::sync::ledger::{Blank, Ledger};
 use std::thread::Threads;
 use std::time::Clock;
-use tab_book::{Book, Origin};
+use tab_book::Book;
 use tab_core::Core;
 
-/// How many threads and connections a server has.
+/// How many threads and connections a server has, and how long its history grows.
 #[derive(Clone, Copy, Debug)]
 pub struct Options {
     /// Threads that serve connections, one connection each at a time: 1 to 64.
@@ -24,6 +23,8 @@ pub struct Options {
     pub compactors: u32,
     /// After how many connections the server ends; 0 is never.
     pub accept: u32,
+    /// How many entries its history has in memory, about, before it's handed on: 1 or more.
+    pub rotate_at: u64,
 }
 
 /// Why a server couldn't begin. No fault of a connection is one.
@@ -49,35 +50,45 @@ impl From<AllocError> for ServerFault {
 /// looks once in a millisecond at most, and once more behind the last of them. Connections are answered meanwhile, and what they are told
 /// isn't otherwise. Once no worker is left the compactors end too.
 ///
+/// Every few milliseconds it's looked how long the history is. Where it has as many entries as `rotate_at` says it's rotated, as root, and what
+/// that hands out goes to where the history goes, outside of the book's lock; then it isn't rotated for ten times as long as that took. Once no
+/// worker and no compactor is left what is there goes too. So what is held in memory doesn't grow with the events: a receipt is dropped at its
+/// connection's next request. Where memory lacks for a rotation the history stays, and grows, until there is some.
+///
 /// A fault of a connection ends that one alone. A worker serves one connection at a time: further ones wait until a worker is free.
 /// Moments are milliseconds since the beginning of 1970 by the machine's clock, 0 where it gives none.
-pub fn run_server<R: Threads + Wait + Clock + Sync>(
+pub fn run_server<R: Threads + Wait + Clock + Sync, H: History + Sync>(
     rt: &R,
     alloc: Global,
     core: Core,
     listener: &TcpListener,
     options: Options,
+    history: &H,
 ) -> Result<(), ServerFault> {
-    serve_book::<Brand, _>(rt, alloc, core, Blank::new(1 << 32), listener, options)
+    let blank = Blank::new(1 << 32);
+    serve_book::<Brand, _, _>(rt, alloc, core, blank, listener, options, history)
 }
 
 // The same with the ledger on which the seats count.
-fn serve_book<L: Origin + Send + Sync, R: Threads + Wait + Clock + Sync>(
+fn serve_book<L: Ledger + Send + Sync, R: Threads + Wait + Clock + Sync, H: History + Sync>(
     rt: &R,
     alloc: Global,
     core: Core,
     blank: Blank,
     listener: &TcpListener,
     options: Options,
+    history: &H,
 ) -> Result<(), ServerFault>
-    requires base { base_of core ≡ L.base }
     requires name { blank.name ≡ L.name }
     requires parts { blank.parts ≡ L.parts }
     requires enough { 2 ^ 32 ≤ blank.parts }
 {
-    let shared = Shared::new(Book::<L>::new(alloc, core, blank));
+    let Ok(book) = Book::<L>::new(alloc, core, blank) else {
+        return Err(ServerFault::NoMemory);
+    };
+    let shared = Shared::over(book, true);
     let crew = crew_of(rt, alloc, &shared, options)?;
-    let seats = serve_all(rt, alloc, &shared, crew, listener, options)?;
+    let seats = serve_all(rt, alloc, &shared, crew, listener, options, history)?;
     let _ = shared.end(seats);
     Ok(())
 }

@@ -6,7 +6,8 @@ use crate::shared_service::SharedService;
 use crate::{Gate, Shared};
 use std::alloc::Global;
 use std::sync::Wait;
-use tab_book::{Origin, Receipt, Seat};
+use std::sync::ledger::Ledger;
+use tab_book::{Receipt, Seat};
 use tab_core::Slots;
 use tab_history::Reply;
 use tab_io::{Input, Output};
@@ -24,7 +25,7 @@ use tab_serve::{Moments, ServeFault, converse};
 /// How the input is cut into reads makes no difference. Replies are written before a read that may wait. After an error the requests
 /// that were answered have taken effect. After a fault of the reader these are all whose frames stand whole in front of what is left to read,
 /// and all their replies are written.
-pub fn serve_shared<L: Origin, R: Wait, I: Input, W: Output, M: Moments, G: Gate>(
+pub fn serve_shared<L: Ledger, R: Wait, I: Input, W: Output, M: Moments, G: Gate>(
     rt: &R,
     alloc: Global,
     input: &mut I,

@@ -11,22 +11,25 @@ ghost use Rattle.tab_work.specs.Receiving.{HandsOut};
 
 use crate::dues::due_in;
 use std::alloc::{AllocError, Global};
+use std::sync::ledger::Ledger;
 use std::sync::{Mutex, MutexGuard, Wait};
 use std::thread;
-use tab_book::{Book, Installation, Origin, Receipt, Reservation, Seat, SeatsOut, book_is_legal};
+use tab_book::{Book, Installation, Receipt, Reservation, Seat, SeatsOut, book_is_legal};
 use tab_core::Due;
 use tab_history::{Act, Event};
 use tab_key::{ByteString, Name};
 
 // What lies under the lock: a book to which no seat came back yet.
 #[derive(Drop)]
-struct Desk<L: Origin> {
-    book: Book<L>,
+pub(crate) struct Desk<L: Ledger> {
+    pub(crate) book: Book<L>,
+    // how often it was locked for an event since its history was handed out
+    pub(crate) events: u64,
     ghost fresh: { book.back ≡ 0 },
 }
 
 // Has the book do what the user asks at the moment.
-fn apply_to<L: Origin>(
+fn apply_to<L: Ledger>(
     alloc: Global,
     book: &mut Book<L>,
     seat: &mut Seat<L>,
@@ -47,7 +50,7 @@ fn apply_to<L: Origin>(
 }
 
 // Has the book install the finished merge.
-fn install_to<L: Origin>(
+fn install_to<L: Ledger>(
     alloc: Global,
     book: &mut Book<L>,
     seat: &mut Seat<L>,
@@ -69,18 +72,33 @@ fn install_to<L: Origin>(
 /// A contract sees nothing of what lies under the lock, since other threads may change it at any time: which book that is, how many seats
 /// it has given, and what its core holds. What isn't said for that reason is said by the calls of the book that are made there.
 #[derive(Drop)]
-pub struct Shared<L: Origin> {
-    desk: Mutex<Desk<L>>,
+pub struct Shared<L: Ledger> {
+    pub(crate) desk: Mutex<Desk<L>>,
+    // whether one of those who share it hands its history on
+    recorded: bool,
 }
 
-impl<L: Origin> Shared<L> {
+impl<L: Ledger> Shared<L> {
     /// Puts a book, to which no seat came back yet, under a lock.
     pub fn new(book: Book<L>) -> Shared<L>
         requires { book.back ≡ 0 }
     {
+        Shared::over(book, false)
+    }
+
+    // The same for a book whose history is handed on by one of those who share it, or not.
+    pub(crate) fn over(book: Book<L>, recorded: bool) -> Shared<L>
+        requires { book.back ≡ 0 }
+    {
         Shared {
-            desk: Mutex::new(Desk { book }),
+            desk: Mutex::new(Desk { book, events: 0 }),
+            recorded,
         }
+    }
+
+    // Whether one of those who share it hands its history on.
+    pub(crate) fn is_recorded(&self) -> bool {
+        self.recorded
     }
 
     /// A new seat, which has seen nothing and has no entry. There are 4,294,967,295 of them, and none behind the last: that there is one
@@ -93,12 +111,13 @@ impl<L: Origin> Shared<L> {
     }
 
     // The book, locked, once its next entry's number is above all that the seat has seen. So it always is.
-    fn ready<'a, R: Wait>(&'a self, rt: &R, seat: &Seat<L>) -> MutexGuard<'a, Desk<L>>
+    pub(crate) fn ready<'a, R: Wait>(&'a self, rt: &R, seat: &Seat<L>) -> MutexGuard<'a, Desk<L>>
         ensures { seat.now.seen ≤ next_of (mutex_guard_value result).book }
     {
         for _ in rt.forever() {
-            let desk = self.desk.lock(rt);
+            let mut desk = self.desk.lock(rt);
             if desk.book.ready(seat) {
+                desk.events = desk.events.saturating_add(1);
                 return desk;
             }
             drop(desk);
@@ -178,7 +197,7 @@ impl<L: Origin> Shared<L> {
         rt: &impl Wait,
         alloc: Global,
     ) -> Result<Option<(Due, Name, ByteString)>, AllocError>
-        ensures { IfOk result (λ found. IsDue L.base found) }
+        ensures { IfOk result (λ found. IsDue found) }
     {
         let desk = self.desk.lock(rt);
         due_in(alloc, &desk.book)
@@ -190,11 +209,11 @@ impl<L: Origin> Shared<L> {
         ensures ok { IfOk result (λ b. next_of b ≡ sum_by (λ s. s.count) seats.items) }
         ensures err { IfErr result (λ r. (r.1 ≡ seats) × (0 < r.2.0)) }
     {
-        let Shared { desk } = self;
-        let Desk { book } = desk.into_inner();
+        let Shared { desk, recorded } = self;
+        let Desk { book, .. } = desk.into_inner();
         match book.end(seats) {
             Ok(book) => Ok(book),
-            Err((book, seats, out)) => Err((Shared::new(book), seats, out)),
+            Err((book, seats, out)) => Err((Shared::over(book, recorded), seats, out)),
         }
     }
 }

@@ -1,10 +1,12 @@
 //! A seat of a shared book that answers the requests of one connection.
-ghost use Rattle.std.specs.Prelude.{◌≡◌, ◌<◌, true, false, [], ◌∷◌, ◌++◌, None, vec_len, vec_capacity};
+ghost use Rattle.std.specs.Prelude.{◌≡◌, ◌<◌, true, false, [], ◌∷◌, ◌++◌, None, IfOk, OnErr, IsTrue, vec_len, vec_capacity};
 ghost use Rattle.tab_history.specs.Answers.{is_open};
 ghost use Rattle.tab_core.specs.Slots.{are_full};
 ghost use Rattle.tab_book.specs.HandedOut.{session_in};
+ghost use Rattle.tab_book.specs.Receipts.{Receives};
+ghost use Rattle.tab_book.specs.Rotating.{rotation};
 ghost use Rattle.tab_serve.specs.Serves.{asked_at};
-ghost use Rattle.tab_work.specs.Receiving.{spent};
+ghost use Rattle.tab_work.specs.Receiving.{HandsOut, spent};
 ghost use Rattle.tab_work.specs.SharedAnswers.{seated, slots_of, told_by, LentSame, SharedAnswers, Tells, Takes, Tries};
 
 use crate::gate::tell_if_written;
@@ -12,7 +14,8 @@ use crate::{Gate, Shared};
 use std::alloc::{AllocError, Global};
 use std::mem;
 use std::sync::Wait;
-use tab_book::{Held, Origin, Receipt, Seat};
+use std::sync::ledger::Ledger;
+use tab_book::{Held, Receipt, Seat};
 use tab_core::{Session, Slots};
 use tab_history::{Act, Refusal, Reply};
 use tab_key::{Bounds, Items, Name, Part};
@@ -22,7 +25,7 @@ use tab_wire::Request;
 // A seat, the receipts that are added for it, the sessions that it opened for the connection, and where its moments come from. All that
 // changes is lent.
 #[derive(Drop)]
-pub(crate) struct SharedService<'a, L: Origin, R, M, G> {
+pub(crate) struct SharedService<'a, L: Ledger, R, M, G> {
     pub(crate) rt: &'a R,
     pub(crate) alloc: Global,
     pub(crate) shared: &'a Shared<L>,
@@ -38,7 +41,7 @@ pub(crate) struct SharedService<'a, L: Origin, R, M, G> {
 }
 
 #[tactic(auto, using(crate::proofs::Counting::shares_room, crate::proofs::Counting::shares_opened))]
-impl<'a, L: Origin, R: Wait, M: Moments, G: Gate> Service for SharedService<'a, L, R, M, G> {
+impl<'a, L: Ledger, R: Wait, M: Moments, G: Gate> Service for SharedService<'a, L, R, M, G> {
     ghost use Rattle.std.specs.Prelude.{length};
     ghost use Rattle.tab_work.specs.SharedAnswers.{SharedAnswers, told_by};
 
@@ -60,9 +63,9 @@ impl<'a, L: Origin, R: Wait, M: Moments, G: Gate> Service for SharedService<'a, 
     }
 }
 
-impl<'a, L: Origin, R: Wait, M: Moments, G: Gate> SharedService<'a, L, R, M, G> {
+impl<'a, L: Ledger, R: Wait, M: Moments, G: Gate> SharedService<'a, L, R, M, G> {
     // Does what is asked. Hello says who asks, and changes nothing.
-    fn does(&mut self, user: &Name, request: &mut Request)
+    pub(crate) fn does(&mut self, user: &Name, request: &mut Request)
         ensures { SharedAnswers M.gives self.old user.now request.old (told_by self.new) self.new }
     {
         match request {
@@ -175,10 +178,15 @@ impl<'a, L: Origin, R: Wait, M: Moments, G: Gate> SharedService<'a, L, R, M, G> 
         if self.receipts.reserve(1).is_err() {
             return self.give_up();
         }
-        match self
-            .shared
-            .apply_lent(self.rt, self.alloc, self.seat, user, moment, act)
-        {
+        match ask(
+            self.rt,
+            self.alloc,
+            self.shared,
+            self.seat,
+            user,
+            moment,
+            act,
+        ) {
             Ok(receipt) => self.add(receipt),
             Err(AllocError) => self.give_up(),
         }
@@ -218,6 +226,72 @@ impl<'a, L: Origin, R: Wait, M: Moments, G: Gate> SharedService<'a, L, R, M, G> 
     }
 }
 
+// Has the book do what the user asks at the moment. What a rotation hands out is dropped.
+fn ask<L: Ledger, R: Wait>(
+    rt: &R,
+    alloc: Global,
+    shared: &Shared<L>,
+    seat: &mut Seat<L>,
+    user: &Name,
+    moment: i64,
+    act: &mut Act,
+) -> Result<Receipt<L>, AllocError>
+    ensures ok { IfOk result (λ r. Receives seat.old (asked_at user.now moment act.old) r seat.new) }
+    ensures hands { IfOk result (λ r. HandsOut act.old (session_in r.held)) }
+    ensures err { OnErr result (seat.new ≡ seat.old) }
+{
+    if rotates(act) {
+        rotate(rt, alloc, shared, seat, user, moment)
+    } else {
+        shared.apply_lent(rt, alloc, seat, user, moment, act)
+    }
+}
+
+// A rotation of the user at the moment. The history that it hands out is dropped here, where the book isn't locked; where somebody hands the
+// history on, it's left to that one.
+#[inline(never)]
+fn rotate<L: Ledger, R: Wait>(
+    rt: &R,
+    alloc: Global,
+    shared: &Shared<L>,
+    seat: &mut Seat<L>,
+    user: &Name,
+    moment: i64,
+) -> Result<Receipt<L>, AllocError>
+    ensures ok { IfOk result (λ r. Receives seat.old (rotation user.now moment) r seat.new) }
+    ensures hands { IfOk result (λ r. HandsOut Act.Rotate (session_in r.held)) }
+    ensures err { OnErr result (seat.new ≡ seat.old) }
+{
+    if shared.is_recorded() {
+        return leave(rt, alloc, shared, seat, user, moment);
+    }
+    match shared.rotate(rt, alloc, seat, user, moment) {
+        Ok((receipt, _)) => Ok(receipt),
+        Err(AllocError) => Err(AllocError),
+    }
+}
+
+// The same as an event that hands nothing out: where it was done the history counts as long, so that it's handed on at the next look.
+fn leave<L: Ledger, R: Wait>(
+    rt: &R,
+    alloc: Global,
+    shared: &Shared<L>,
+    seat: &mut Seat<L>,
+    user: &Name,
+    moment: i64,
+) -> Result<Receipt<L>, AllocError>
+    ensures ok { IfOk result (λ r. Receives seat.old (rotation user.now moment) r seat.new) }
+    ensures hands { IfOk result (λ r. HandsOut Act.Rotate (session_in r.held)) }
+    ensures err { OnErr result (seat.new ≡ seat.old) }
+{
+    let mut act = Act::Rotate;
+    let receipt = shared.apply_lent(rt, alloc, seat, user, moment, &mut act)?;
+    if matches!(receipt.entry().reply(), Reply::Done) {
+        shared.call_long(rt);
+    }
+    Ok(receipt)
+}
+
 // The session that was handed out, if one was.
 fn session_of(held: Option<Held>) -> Option<Session>
     ensures { result ≡ session_in held }
@@ -226,6 +300,13 @@ fn session_of(held: Option<Held>) -> Option<Session>
         Some(held) => held.into_session(),
         None => None,
     }
+}
+
+// Whether the act is a rotation.
+fn rotates(act: &Act) -> bool
+    ensures { IsTrue result → act.now ≡ Act.Rotate }
+{
+    matches!(act, Act::Rotate)
 }
 
 // Whether the act opens a session.

@@ -3,10 +3,12 @@
 //! | File | What |
 //! |---|---|
 //! | `scripting`, `serving`, `shell` | `tabd script`, `tabd serve` and `tabd shell` |
+//! | `history` | the history of a server, in a file |
 //! | `files` | images in files, as lines and the command line name them |
 #![tactic(auto)]
 
 mod files;
+mod history;
 mod scripting;
 mod serving;
 mod shell;
@@ -25,6 +27,9 @@ use tab_command::{Request, ScriptRequest, ServeRequest, ShellRequest, line_help,
 use tab_key::Name;
 use tab_prog::ProgramFault;
 use tab_work::Options;
+
+// From how many entries on a server's history is dropped.
+const ROTATE_AT: u64 = 16_384;
 
 fn main(rt: HostRuntime) -> ExitCode {
     match run(&rt, &rt) {
@@ -110,8 +115,9 @@ fn served<R: Threads + Wait + Clock + Sync>(
         workers: serve.workers,
         compactors: serve.compactors,
         accept: serve.accept,
+        rotate_at: ROTATE_AT,
     };
-    run_serve(rt, threads, serve.image, serve.port, options)?;
+    run_serve(rt, threads, serve.image, serve.history, serve.port, options)?;
     Ok(ExitCode::SUCCESS)
 }
 

@@ -1,5 +1,6 @@
 //! `tabd serve`.
 use crate::files::core_of;
+use crate::history::LogFile;
 use anyhow::Context;
 use std::net::{Ipv4Addr, TcpListener};
 use std::sync::Wait;
@@ -9,22 +10,25 @@ use tab_host::NetFault;
 use tab_prog::ProgramFault;
 use tab_work::{Options, run_server};
 
-/// Listens on the port of 127.0.0.1, says so on standard output, and answers connections over the core of this image, or over a new one.
+/// Listens on the port of 127.0.0.1, says so on standard output, and answers connections over the core of this image, or over a new one. The
+/// history goes to the file of this name, if one is named.
 ///
 /// A fault tells the system's reason.
 pub fn run_serve<R: Threads + Wait + Clock + Sync>(
     rt: &HostRuntime,
     threads: &R,
     image: Option<&str>,
+    history: Option<&str>,
     port: u16,
     options: Options,
 ) -> anyhow::Result<()> {
     let alloc = rt.alloc();
     let core = core_of(rt, image)?;
+    let log = LogFile::open(rt, history)?;
     let listener = TcpListener::bind(rt, (Ipv4Addr::LOCALHOST, port)).with_context(
         || NetFault::Listen(port),
     )?;
     println!(rt; "listening {port}").context(ProgramFault::Write)?;
-    run_server(threads, alloc, core, &listener, options)?;
+    run_server(threads, alloc, core, &listener, options, &log)?;
     Ok(())
 }
