@@ -56,7 +56,7 @@ fn asked(rt: &impl Abort, alloc: Global, core: &mut Core, script: &[u8]) -> Opti
     last
 }
 
-// A core with a table t and one put in it.
+// A core that was asked what the script's lines say.
 fn core_with(rt: &impl Abort, alloc: Global, script: &[u8]) -> Core {
     let mut core = Core::new(alloc).expect(rt, "memory");
     let job = asked(rt, alloc, &mut core, script);
@@ -64,9 +64,9 @@ fn core_with(rt: &impl Abort, alloc: Global, script: &[u8]) -> Core {
     core
 }
 
-// The merge of a full compaction of t, made.
-fn merged(rt: &impl Abort, alloc: Global, core: &mut Core) -> FinishedJob {
-    let job = asked(rt, alloc, core, b"begin t \\e full");
+// The merge that the line begins, made.
+fn merged(rt: &impl Abort, alloc: Global, core: &mut Core, line: &[u8]) -> FinishedJob {
+    let job = asked(rt, alloc, core, line);
     match job.expect(rt, "a job").merge(alloc) {
         Ok(finished) => finished,
         Err(_) => panic!(rt; "memory"),
@@ -91,14 +91,27 @@ fn a_merge_of_another_core_is_stale(rt: HostRuntime) {
     let alloc = rt.alloc();
     let mut core = core_with(&rt, alloc, b"createtable t\ninsert t r f q \\e v 1");
     let mut other = core_with(&rt, alloc, b"createtable t\ninsert t r f q \\e w 1");
-    let mine = merged(&rt, alloc, &mut core);
-    let strange = merged(&rt, alloc, &mut other);
+    let mine = merged(&rt, alloc, &mut core, b"begin t \\e full");
+    let strange = merged(&rt, alloc, &mut other, b"begin t \\e full");
     assert!(rt; mine.number() == strange.number());
     expect_installed(&rt, alloc, &mut core, strange, b"stale1");
     // it took the entry away
     expect_installed(&rt, alloc, &mut core, mine, b"stale1");
-    let again = merged(&rt, alloc, &mut core);
+    let again = merged(&rt, alloc, &mut core, b"begin t \\e full");
     expect_installed(&rt, alloc, &mut core, again, b"ok");
+}
+
+#[test]
+fn a_merge_of_another_table_is_stale_and_ends_none(rt: HostRuntime) {
+    let alloc = rt.alloc();
+    let script = b"createtable t\ncreatetable u\ninsert t r f q \\e v 1\ninsert u r f q \\e v 1";
+    let mut core = core_with(&rt, alloc, script);
+    let mine = merged(&rt, alloc, &mut core, b"begin t \\e full");
+    let strange = merged(&rt, alloc, &mut core, b"begin u \\e full");
+    assert!(rt; mine.number() != strange.number());
+    expect_installed(&rt, alloc, &mut core, strange, b"stale0");
+    // the one of t is under way still
+    expect_installed(&rt, alloc, &mut core, mine, b"ok");
 }
 
 // Of what a book copies, no line of a server says it.

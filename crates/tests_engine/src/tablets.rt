@@ -21,11 +21,11 @@ fn random_update(random: &mut Random) -> Update {
     random.update(row, 0, 0, CLOCK)
 }
 
-// A tablet of one mutation, whose shape must be accepted.
+// A tablet with this number, of one mutation, whose shape must be accepted.
 #[tactic(auto, using(crate::proofs::Later::nothing_older))]
-fn written(rt: &impl Abort, alloc: Global, mutation: &Mutation) -> Tablet {
+fn written(rt: &impl Abort, alloc: Global, number: u64, mutation: &Mutation) -> Tablet {
     assert!(rt; mutation.shape().is_none());
-    let mut tablet = Tablet::new(alloc, 0);
+    let mut tablet = Tablet::new(alloc, number);
     tablet.write(mutation, 0, CLOCK).expect(rt, "memory");
     tablet
 }
@@ -68,6 +68,7 @@ fn a_tablet_shows_what_the_model_shows(rt: HostRuntime) {
         let tablet = written(
             &rt,
             alloc,
+            0,
             &mutation_of(alloc, row, &table).expect(&rt, "memory"),
         );
         for _ in 0..3 {

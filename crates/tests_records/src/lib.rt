@@ -8,11 +8,14 @@
 //! | `keys` | `tab_key`: the order of names, ranges, and what is printed |
 //! | `records` | `tab_key`: owned records, and copies of byte strings and lists |
 //! | `labels` | `tab_label`: trees and depths, and what is printed |
+//! | `policies` | `tab_policy`: a copy, which changes apart from its source |
 #![tactic(auto)]
 
 #[cfg(test)]
 mod keys;
 #[cfg(test)]
 mod labels;
+#[cfg(test)]
+mod policies;
 #[cfg(test)]
 mod records;

@@ -3,7 +3,8 @@
 use std::alloc::Global;
 use std::process::Abort;
 use std::sync::Wait;
-use tab_book::{Origin, Receipt, Seat};
+use std::sync::ledger::Ledger;
+use tab_book::{Receipt, Seat};
 use tab_history::{Act, Event, Reply, Scan, TimeMode, Versions};
 use tab_key::{Bound, Bounds, Items, Name};
 use tab_label::AuthSet;
@@ -61,7 +62,7 @@ pub fn scans(rt: &impl Abort, alloc: Global) -> Event {
 }
 
 /// The event is done, by the seat.
-pub fn done<L: Origin, R: Wait + Abort>(
+pub fn done<L: Ledger, R: Wait + Abort>(
     rt: &R,
     alloc: Global,
     shared: &Shared<L>,
@@ -75,7 +76,7 @@ pub fn done<L: Origin, R: Wait + Abort>(
 }
 
 /// The same, of an event of which it's told that it was done and no more.
-pub fn surely_done<L: Origin, R: Wait + Abort>(
+pub fn surely_done<L: Ledger, R: Wait + Abort>(
     rt: &R,
     alloc: Global,
     shared: &Shared<L>,

@@ -1,7 +1,7 @@
 //! Of what a connection's gate is asked and told.
 ghost use Rattle.std.specs.Prelude.{◌≡◌, ◌^◌, ◌≤◌};
-ghost use Rattle.tab_core.specs.Stores.{base_of};
 
+use crate::books::shared_over;
 use crate::serving::served_by;
 use crate::talks::{ASKS_GATES, ASKS_GATES_TOLD};
 use std::alloc::Global;
@@ -9,11 +9,10 @@ use std::marker::Brand;
 use std::process::Abort;
 use std::sync::Wait;
 use std::sync::atomic::{AtomicU32, Ordering};
-use std::sync::ledger::Blank;
-use tab_book::{Book, Origin};
+use std::sync::ledger::{Blank, Ledger};
 use tab_core::Core;
 use tab_io::memory::{PieceReader, PieceWriter};
-use tab_work::{Gate, Shared};
+use tab_work::Gate;
 
 // It counts how often it is asked before a batch, and told of a write.
 #[derive(Drop)]
@@ -34,13 +33,12 @@ impl Gate for Counting {
     }
 }
 
-fn counts<L: Origin, R: Wait + Abort>(rt: &R, alloc: Global, core: Core, blank: Blank)
-    requires base { base_of core ≡ L.base }
+fn counts<L: Ledger, R: Wait + Abort>(rt: &R, alloc: Global, core: Core, blank: Blank)
     requires name { blank.name ≡ L.name }
     requires parts { blank.parts ≡ L.parts }
     requires enough { 2 ^ 32 ≤ blank.parts }
 {
-    let shared = Shared::new(Book::<L>::new(alloc, core, blank));
+    let shared = shared_over::<L, R>(rt, alloc, core, blank);
     let mut seat = shared.join(rt).expect(rt, "a seat");
     let mut receipts = Vec::new(alloc);
     let gate = Counting {

@@ -11,14 +11,17 @@
 //! | `overlapping` | a batch that is held up until another connection's write was answered |
 //! | `gates` | of what a connection's gate is asked and told |
 //! | `merging` | the same of a merge, until a write and a scan were answered; it is due once the table is filled, and neither before nor behind it |
+//! | `rotating` | histories that are handed out, by one seat, beside writers and over a connection; which receipts settle where |
 //! | `under_load` | writers beside compactors, all that was written afterwards, and the receipts of all |
-//! | `asking`, `signs` | helpers: events in short, and signs between threads |
+//! | `asking`, `books`, `signs` | helpers: events in short, shared books, and signs between threads |
 //!
 //! That `settle` is no where a receipt was changed is tested inside `tab_book`: outside no one can change one.
 #![tactic(auto)]
 
 #[cfg(test)]
 mod asking;
+#[cfg(test)]
+mod books;
 #[cfg(test)]
 mod gates;
 #[cfg(test)]
@@ -27,6 +30,8 @@ mod merging;
 mod overlapping;
 #[cfg(test)]
 mod own_writes;
+#[cfg(test)]
+mod rotating;
 #[cfg(test)]
 mod serving;
 #[cfg(test)]

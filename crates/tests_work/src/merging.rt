@@ -1,8 +1,8 @@
 //! A merge that is held up until another connection's write and scan were answered: nothing is locked meanwhile.
 ghost use Rattle.std.specs.Prelude.{◌≡◌, ◌^◌, ◌≤◌};
-ghost use Rattle.tab_core.specs.Stores.{base_of};
 
 use crate::asking::{fills, makes_table, named, surely_done};
+use crate::books::shared_over;
 use crate::serving::served_by;
 use crate::signs::Signs;
 use crate::talks::{READS_ONE_ROW, WRITES_TOLD};
@@ -10,11 +10,11 @@ use std::alloc::Global;
 use std::marker::Brand;
 use std::process::Abort;
 use std::sync::Wait;
-use std::sync::ledger::Blank;
+use std::sync::ledger::{Blank, Ledger};
 use std::thread;
 use std::thread::Threads;
 use std::time::Clock;
-use tab_book::{Book, Origin, Receipt, Seat, settle};
+use tab_book::{Receipt, Seat, settle};
 use tab_core::Core;
 use tab_history::Reply;
 use tab_io::memory::{PieceReader, PieceWriter};
@@ -40,13 +40,13 @@ impl<R: Clock> Gate for Held<'_, R> {
 
 // A seat that comes back, and its receipts.
 #[derive(Drop)]
-struct Worked<L: Origin> {
+struct Worked<L: Ledger> {
     seat: Seat<L>,
     receipts: Vec<Receipt<L>>,
 }
 
 // The table is made, and 4,500 cells are put to it: a minor compaction is due.
-fn fill<L: Origin, R: Wait + Abort>(
+fn fill<L: Ledger, R: Wait + Abort>(
     rt: &R,
     alloc: Global,
     shared: &Shared<L>,
@@ -63,7 +63,7 @@ fn fill<L: Origin, R: Wait + Abort>(
 }
 
 // Whether work on the table is due.
-fn is_due<L: Origin, R: Wait + Abort>(rt: &R, alloc: Global, shared: &Shared<L>) -> bool {
+fn is_due<L: Ledger, R: Wait + Abort>(rt: &R, alloc: Global, shared: &Shared<L>) -> bool {
     let due = shared.due(rt, alloc).expect(rt, "memory");
     match &due {
         Some((_, table, _)) => table.as_bytes() == b"t".as_slice(),
@@ -72,7 +72,7 @@ fn is_due<L: Origin, R: Wait + Abort>(rt: &R, alloc: Global, shared: &Shared<L>)
 }
 
 // What is due is compacted, the merge held up.
-fn compacts_held_up<L: Origin, R: Wait + Abort + Clock>(
+fn compacts_held_up<L: Ledger, R: Wait + Abort + Clock>(
     rt: &R,
     alloc: Global,
     shared: &Shared<L>,
@@ -90,7 +90,7 @@ fn compacts_held_up<L: Origin, R: Wait + Abort + Clock>(
 }
 
 // What a connection is told that writes into the table and reads it while the merge is held up, and whether that was.
-fn writes_meanwhile<L: Origin, R: Wait + Abort + Clock>(
+fn writes_meanwhile<L: Ledger, R: Wait + Abort + Clock>(
     rt: &R,
     alloc: Global,
     shared: &Shared<L>,
@@ -116,7 +116,7 @@ fn writes_meanwhile<L: Origin, R: Wait + Abort + Clock>(
 }
 
 // A job was begun, and its merge installed.
-fn has_installed<L: Origin>(receipts: &[Receipt<L>]) -> bool {
+fn has_installed<L: Ledger>(receipts: &[Receipt<L>]) -> bool {
     match receipts {
         [begun, installed] => {
             matches!(begun.entry().reply(), Reply::Begun(_))
@@ -127,7 +127,7 @@ fn has_installed<L: Origin>(receipts: &[Receipt<L>]) -> bool {
 }
 
 // Whether all receipts of both settle in the book that is left.
-fn settle_both<L: Origin>(
+fn settle_both<L: Ledger>(
     rt: &impl Abort,
     alloc: Global,
     shared: Shared<L>,
@@ -143,18 +143,17 @@ fn settle_both<L: Origin>(
     }
 }
 
-fn overlaps<L: Origin + Send + Sync, R: Threads + Wait + Abort + Clock + Sync>(
+fn overlaps<L: Ledger + Send + Sync, R: Threads + Wait + Abort + Clock + Sync>(
     rt: &R,
     alloc: Global,
     core: Core,
     blank: Blank,
 )
-    requires base { base_of core ≡ L.base }
     requires name { blank.name ≡ L.name }
     requires parts { blank.parts ≡ L.parts }
     requires enough { 2 ^ 32 ≤ blank.parts }
 {
-    let shared = Shared::new(Book::<L>::new(alloc, core, blank));
+    let shared = shared_over::<L, R>(rt, alloc, core, blank);
     let signs = Signs::none();
     let first = shared.join(rt).expect(rt, "a seat");
     let mut seat = shared.join(rt).expect(rt, "a seat");

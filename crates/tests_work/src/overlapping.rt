@@ -1,7 +1,7 @@
 //! A batch that is held up until another connection's write was answered: nothing is locked meanwhile.
 ghost use Rattle.std.specs.Prelude.{◌≡◌, ◌^◌, ◌≤◌};
-ghost use Rattle.tab_core.specs.Stores.{base_of};
 
+use crate::books::shared_over;
 use crate::serving::served_by;
 use crate::signs::Signs;
 use crate::talks::{WRITES, WRITES_TOLD, asked, told};
@@ -9,11 +9,11 @@ use std::alloc::Global;
 use std::marker::Brand;
 use std::process::Abort;
 use std::sync::Wait;
-use std::sync::ledger::Blank;
+use std::sync::ledger::{Blank, Ledger};
 use std::thread;
 use std::thread::Threads;
 use std::time::Clock;
-use tab_book::{Book, Origin, Seat};
+use tab_book::Seat;
 use tab_core::Core;
 use tab_io::memory::{PieceReader, PieceWriter};
 use tab_work::{Gate, OpenGate, Shared};
@@ -36,7 +36,7 @@ impl<R: Clock> Gate for Held<'_, R> {
 }
 
 // What a connection is told that makes a table and reads it, its batch held up.
-fn reads_held_up<L: Origin, R: Wait + Abort + Clock>(
+fn reads_held_up<L: Ledger, R: Wait + Abort + Clock>(
     rt: &R,
     alloc: Global,
     shared: &Shared<L>,
@@ -62,7 +62,7 @@ fn reads_held_up<L: Origin, R: Wait + Abort + Clock>(
 }
 
 // What a connection is told that writes into the table and reads it while the other one is held up, and whether that one was.
-fn writes_meanwhile<L: Origin, R: Wait + Abort + Clock>(
+fn writes_meanwhile<L: Ledger, R: Wait + Abort + Clock>(
     rt: &R,
     alloc: Global,
     shared: &Shared<L>,
@@ -88,18 +88,17 @@ fn writes_meanwhile<L: Origin, R: Wait + Abort + Clock>(
     (held, bytes)
 }
 
-fn overlaps<L: Origin + Send + Sync, R: Threads + Wait + Abort + Clock + Sync>(
+fn overlaps<L: Ledger + Send + Sync, R: Threads + Wait + Abort + Clock + Sync>(
     rt: &R,
     alloc: Global,
     core: Core,
     blank: Blank,
 )
-    requires base { base_of core ≡ L.base }
     requires name { blank.name ≡ L.name }
     requires parts { blank.parts ≡ L.parts }
     requires enough { 2 ^ 32 ≤ blank.parts }
 {
-    let shared = Shared::new(Book::<L>::new(alloc, core, blank));
+    let shared = shared_over::<L, R>(rt, alloc, core, blank);
     let signs = Signs::none();
     let first = shared.join(rt).expect(rt, "a seat");
     let second = shared.join(rt).expect(rt, "a seat");

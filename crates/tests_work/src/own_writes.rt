@@ -1,7 +1,7 @@
 //! A connection that writes and then reads, and the numbers of its receipts.
 ghost use Rattle.std.specs.Prelude.{◌≡◌, ◌^◌, ◌≤◌};
-ghost use Rattle.tab_core.specs.Stores.{base_of};
 
+use crate::books::shared_over;
 use crate::serving::served_by;
 use crate::settling::event;
 use crate::talks::{asked, told};
@@ -9,14 +9,14 @@ use std::alloc::Global;
 use std::marker::Brand;
 use std::process::Abort;
 use std::sync::Wait;
-use std::sync::ledger::Blank;
-use tab_book::{Book, Origin, Receipt};
+use std::sync::ledger::{Blank, Ledger};
+use tab_book::Receipt;
 use tab_core::Core;
 use tab_io::memory::{PieceReader, PieceWriter};
-use tab_work::{OpenGate, Shared};
+use tab_work::OpenGate;
 
 // The number behind the last receipt, each of which has a greater one than the receipts before it.
-fn rising<L: Origin>(rt: &impl Abort, receipts: &[Receipt<L>]) -> u64 {
+fn rising<L: Ledger>(rt: &impl Abort, receipts: &[Receipt<L>]) -> u64 {
     let mut next = 0;
     for receipt in receipts {
         assert!(rt; receipt.number() >= next);
@@ -25,13 +25,12 @@ fn rising<L: Origin>(rt: &impl Abort, receipts: &[Receipt<L>]) -> u64 {
     next
 }
 
-fn reads_own_writes<L: Origin, R: Wait + Abort>(rt: &R, alloc: Global, core: Core, blank: Blank)
-    requires base { base_of core ≡ L.base }
+fn reads_own_writes<L: Ledger, R: Wait + Abort>(rt: &R, alloc: Global, core: Core, blank: Blank)
     requires name { blank.name ≡ L.name }
     requires parts { blank.parts ≡ L.parts }
     requires enough { 2 ^ 32 ≤ blank.parts }
 {
-    let shared = Shared::new(Book::<L>::new(alloc, core, blank));
+    let shared = shared_over::<L, R>(rt, alloc, core, blank);
     let mut seat = shared.join(rt).expect(rt, "a seat");
     let mut receipts = Vec::new(alloc);
     let (ended, bytes) = served_by(

@@ -1,15 +1,15 @@
 //! Connections over a new book, cut anywhere, and where reading or writing fails.
 ghost use Rattle.std.specs.Prelude.{◌≡◌, ◌^◌, ◌≤◌};
-ghost use Rattle.tab_core.specs.Stores.{base_of};
 
+use crate::books::shared_over;
 use crate::talks::{TALKS, asked, is_beginning, told};
 use std::alloc::Global;
 use std::io::ErrorKind;
 use std::marker::Brand;
 use std::process::Abort;
 use std::sync::Wait;
-use std::sync::ledger::Blank;
-use tab_book::{Book, Origin, Receipt, Seat, settle};
+use std::sync::ledger::{Blank, Ledger};
+use tab_book::{Receipt, Seat, settle};
 use tab_core::Core;
 use tab_io::memory::{Fault, PieceReader, PieceWriter};
 use tab_io::{BlockReader, BlockWriter};
@@ -17,7 +17,7 @@ use tab_serve::{Listed, ServeFault};
 use tab_work::{Gate, OpenGate, Shared, serve_shared};
 
 // How the connection of this reader ends on this seat, and what stands in the writer then. Each event has the moment 0.
-pub fn served_by<L: Origin, R: Wait + Abort, G: Gate>(
+pub fn served_by<L: Ledger, R: Wait + Abort, G: Gate>(
     rt: &R,
     alloc: Global,
     shared: &Shared<L>,
@@ -46,7 +46,7 @@ pub fn served_by<L: Origin, R: Wait + Abort, G: Gate>(
 }
 
 // The same with a new book. The receipts settle in it.
-fn served_at<L: Origin, R: Wait + Abort>(
+fn served_at<L: Ledger, R: Wait + Abort>(
     rt: &R,
     alloc: Global,
     core: Core,
@@ -54,12 +54,11 @@ fn served_at<L: Origin, R: Wait + Abort>(
     reader: PieceReader<'_>,
     writer: PieceWriter,
 ) -> (Result<(), ServeFault>, Vec<u8>)
-    requires base { base_of core ≡ L.base }
     requires name { blank.name ≡ L.name }
     requires parts { blank.parts ≡ L.parts }
     requires enough { 2 ^ 32 ≤ blank.parts }
 {
-    let shared = Shared::new(Book::<L>::new(alloc, core, blank));
+    let shared = shared_over::<L, R>(rt, alloc, core, blank);
     let mut seat = shared.join(rt).expect(rt, "a seat");
     let mut receipts = Vec::new(alloc);
     let answer = served_by(
@@ -77,7 +76,7 @@ fn served_at<L: Origin, R: Wait + Abort>(
 }
 
 // Whether all receipts settle in the book, where this is its one seat.
-fn settles<L: Origin, R: Wait + Abort>(
+fn settles<L: Ledger, R: Wait + Abort>(
     rt: &R,
     alloc: Global,
     shared: Shared<L>,

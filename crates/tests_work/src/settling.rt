@@ -1,17 +1,17 @@
 //! Threads that use one book by seats of their own, and its end.
 ghost use Rattle.std.specs.Prelude.{◌≡◌, ◌^◌, ◌≤◌};
-ghost use Rattle.tab_core.specs.Stores.{base_of};
 
+use crate::books::shared_over;
 use crate::serving::served_by;
 use crate::talks::asked;
 use std::alloc::Global;
 use std::marker::Brand;
 use std::process::Abort;
 use std::sync::Wait;
-use std::sync::ledger::Blank;
+use std::sync::ledger::{Blank, Ledger};
 use std::thread;
 use std::thread::Threads;
-use tab_book::{Book, Origin, Receipt, Seat, settle};
+use tab_book::{Receipt, Seat, settle};
 use tab_core::Core;
 use tab_history::{Act, Event};
 use tab_io::memory::{PieceReader, PieceWriter};
@@ -23,7 +23,7 @@ const EVENTS: usize = 1250;
 
 // A seat that comes back, and its receipts.
 #[derive(Drop)]
-struct Worked<L: Origin> {
+struct Worked<L: Ledger> {
     seat: Seat<L>,
     receipts: Vec<Receipt<L>>,
 }
@@ -42,7 +42,7 @@ pub fn event(rt: &impl Abort, moment: i64) -> Event {
 }
 
 // Each event is done in turn.
-fn ask_all<L: Origin, R: Wait + Abort>(
+fn ask_all<L: Ledger, R: Wait + Abort>(
     rt: &R,
     alloc: Global,
     shared: &Shared<L>,
@@ -60,7 +60,7 @@ fn ask_all<L: Origin, R: Wait + Abort>(
 }
 
 // A connection is served to its end.
-fn serve_one<L: Origin, R: Wait + Abort>(
+fn serve_one<L: Ledger, R: Wait + Abort>(
     rt: &R,
     alloc: Global,
     shared: &Shared<L>,
@@ -84,7 +84,7 @@ fn serve_one<L: Origin, R: Wait + Abort>(
 }
 
 // Four threads that ask for events, beside two that serve connections.
-fn work<L: Origin, R: Wait + Abort>(
+fn work<L: Ledger, R: Wait + Abort>(
     rt: &R,
     alloc: Global,
     shared: &Shared<L>,
@@ -98,7 +98,7 @@ fn work<L: Origin, R: Wait + Abort>(
 }
 
 // So many seats of a new book, which are numbered in the order in which they are given.
-fn joined<L: Origin, R: Wait + Abort>(
+fn joined<L: Ledger, R: Wait + Abort>(
     rt: &R,
     alloc: Global,
     shared: &Shared<L>,
@@ -114,18 +114,17 @@ fn joined<L: Origin, R: Wait + Abort>(
 }
 
 // All receipts of all seats settle in the book that is left.
-fn settles_after_all<L: Origin + Send + Sync, R: Threads + Wait + Abort + Sync>(
+fn settles_after_all<L: Ledger + Send + Sync, R: Threads + Wait + Abort + Sync>(
     rt: &R,
     alloc: Global,
     core: Core,
     blank: Blank,
 )
-    requires base { base_of core ≡ L.base }
     requires name { blank.name ≡ L.name }
     requires parts { blank.parts ≡ L.parts }
     requires enough { 2 ^ 32 ≤ blank.parts }
 {
-    let shared = Shared::new(Book::<L>::new(alloc, core, blank));
+    let shared = shared_over::<L, R>(rt, alloc, core, blank);
     let seats = joined(rt, alloc, &shared, 6);
     let lent = &shared;
     let all = thread::map_vec(rt, seats, &|seat: Seat<L>| work(rt, alloc, lent, seat));
@@ -136,7 +135,7 @@ fn settles_after_all<L: Origin + Send + Sync, R: Threads + Wait + Abort + Sync>(
 }
 
 // The seats, and the receipts of all.
-fn parted<L: Origin>(
+fn parted<L: Ledger>(
     rt: &impl Abort,
     alloc: Global,
     all: Vec<Worked<L>>,
@@ -164,13 +163,12 @@ fn settle_says_yes(rt: HostRuntime) {
 }
 
 // All of a thousand seats are missing, one, and then none.
-fn misses_one<L: Origin, R: Wait + Abort>(rt: &R, alloc: Global, core: Core, blank: Blank)
-    requires base { base_of core ≡ L.base }
+fn misses_one<L: Ledger, R: Wait + Abort>(rt: &R, alloc: Global, core: Core, blank: Blank)
     requires name { blank.name ≡ L.name }
     requires parts { blank.parts ≡ L.parts }
     requires enough { 2 ^ 32 ≤ blank.parts }
 {
-    let shared = Shared::new(Book::<L>::new(alloc, core, blank));
+    let shared = shared_over::<L, R>(rt, alloc, core, blank);
     let seats = joined(rt, alloc, &shared, 999);
     let last = shared.join(rt).expect(rt, "a seat");
     let (shared, _none, all) = shared.end(Vec::new(alloc)).err().expect(rt, "all are out");

@@ -122,6 +122,15 @@ pub const ASKS_GATES_TOLD: &[u8] = b"\0\0\0\x01\x80\
 \0\0\0\x02\x83\x01\
 \0\0\0\x01\x80";
 
+// A table is made, and the history handed out.
+pub const ROTATES: &[u8] = b"\0\0\0\x09\x01\0\0\0\x04root\
+\0\0\0\x0b\x02\0\0\0\x01t\0\0\0\0\x01\
+\0\0\0\x01\x11";
+
+pub const ROTATES_TOLD: &[u8] = b"\0\0\0\x01\x80\
+\0\0\0\x01\x80\
+\0\0\0\x01\x80";
+
 // What this connection asks.
 pub fn asked(talk: u32) -> &'static [u8] {
     match talk {

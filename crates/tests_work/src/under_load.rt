@@ -1,17 +1,17 @@
 //! Writers beside compactors: all that was written is read afterwards, and the receipts of all settle.
 ghost use Rattle.std.specs.Prelude.{◌≡◌, ◌^◌, ◌≤◌};
-ghost use Rattle.tab_core.specs.Stores.{base_of};
 
 use crate::asking::{done, fills, makes_table, named, scans, surely_done};
+use crate::books::shared_over;
 use crossbeam_channel::{Receiver, Sender};
 use std::alloc::Global;
 use std::marker::Brand;
 use std::process::Abort;
 use std::sync::Wait;
-use std::sync::ledger::Blank;
+use std::sync::ledger::{Blank, Ledger};
 use std::thread;
 use std::thread::Threads;
-use tab_book::{Book, Held, Origin, Receipt, Seat, settle};
+use tab_book::{Held, Receipt, Seat, settle};
 use tab_core::{Core, Session};
 use tab_history::Reply;
 use tab_key::Cells;
@@ -30,7 +30,7 @@ const COMPACTORS: u32 = 4;
 
 // One writer: its number, its seat, and where it sends requests.
 #[derive(Drop)]
-struct Writer<'a, L: Origin, R> {
+struct Writer<'a, L: Ledger, R> {
     number: u8,
     seat: Seat<L>,
     requests: Requests<'a, R>,
@@ -38,20 +38,20 @@ struct Writer<'a, L: Origin, R> {
 
 // One compactor: its seat, and where its requests come from.
 #[derive(Drop)]
-struct Awaiting<L: Origin> {
+struct Awaiting<L: Ledger> {
     seat: Seat<L>,
     requests: Receiver<()>,
 }
 
 // A seat that comes back, and its receipts.
 #[derive(Drop)]
-struct Worked<L: Origin> {
+struct Worked<L: Ledger> {
     seat: Seat<L>,
     receipts: Vec<Receipt<L>>,
 }
 
 // Each row is written, and a request sent behind it.
-fn write_all<L: Origin, R: Wait + Abort>(
+fn write_all<L: Ledger, R: Wait + Abort>(
     rt: &R,
     alloc: Global,
     shared: &Shared<L>,
@@ -74,7 +74,7 @@ fn write_all<L: Origin, R: Wait + Abort>(
 }
 
 // What is due is compacted at each request.
-fn compact_all<L: Origin, R: Wait + Abort>(
+fn compact_all<L: Ledger, R: Wait + Abort>(
     rt: &R,
     alloc: Global,
     shared: &Shared<L>,
@@ -95,7 +95,7 @@ fn compact_all<L: Origin, R: Wait + Abort>(
     Worked { seat, receipts }
 }
 
-fn writers<'a, L: Origin, R: Wait + Abort>(
+fn writers<'a, L: Ledger, R: Wait + Abort>(
     rt: &'a R,
     alloc: Global,
     shared: &Shared<L>,
@@ -115,7 +115,7 @@ fn writers<'a, L: Origin, R: Wait + Abort>(
     all
 }
 
-fn compactors<L: Origin, R: Wait + Abort>(
+fn compactors<L: Ledger, R: Wait + Abort>(
     rt: &R,
     alloc: Global,
     shared: &Shared<L>,
@@ -131,7 +131,7 @@ fn compactors<L: Origin, R: Wait + Abort>(
 }
 
 // The writers write, and the compactors compact beside them, until all writers are done. What all of them have then.
-fn work<L: Origin + Send + Sync, R: Threads + Wait + Abort + Sync>(
+fn work<L: Ledger + Send + Sync, R: Threads + Wait + Abort + Sync>(
     rt: &R,
     alloc: Global,
     shared: &Shared<L>,
@@ -159,7 +159,7 @@ fn work<L: Origin + Send + Sync, R: Threads + Wait + Abort + Sync>(
 }
 
 // Seats and receipts go to those before.
-fn gather<L: Origin>(
+fn gather<L: Ledger>(
     rt: &impl Abort,
     seats: &mut Vec<Seat<L>>,
     receipts: &mut Vec<Receipt<L>>,
@@ -178,7 +178,7 @@ fn gather<L: Origin>(
 }
 
 // All cells of the table, which a scan gives.
-fn scanned<L: Origin, R: Wait + Abort>(
+fn scanned<L: Ledger, R: Wait + Abort>(
     rt: &R,
     alloc: Global,
     shared: &Shared<L>,
@@ -217,25 +217,24 @@ fn are_all(cells: &Cells) -> bool {
 }
 
 // Whether all receipts settle in the book that is left, of which these are all seats.
-fn settle_all<L: Origin>(shared: Shared<L>, seats: Vec<Seat<L>>, receipts: &[Receipt<L>]) -> bool {
+fn settle_all<L: Ledger>(shared: Shared<L>, seats: Vec<Seat<L>>, receipts: &[Receipt<L>]) -> bool {
     match shared.end(seats) {
         Ok(book) => settle(&book, receipts),
         Err(_) => false,
     }
 }
 
-fn settles_under_load<L: Origin + Send + Sync, R: Threads + Wait + Abort + Sync>(
+fn settles_under_load<L: Ledger + Send + Sync, R: Threads + Wait + Abort + Sync>(
     rt: &R,
     alloc: Global,
     core: Core,
     blank: Blank,
 )
-    requires base { base_of core ≡ L.base }
     requires name { blank.name ≡ L.name }
     requires parts { blank.parts ≡ L.parts }
     requires enough { 2 ^ 32 ≤ blank.parts }
 {
-    let shared = Shared::new(Book::<L>::new(alloc, core, blank));
+    let shared = shared_over::<L, R>(rt, alloc, core, blank);
     let mut seat = shared.join(rt).expect(rt, "a seat");
     let made = surely_done(rt, alloc, &shared, &mut seat, makes_table(rt));
     let (wrote, compacted) = work(rt, alloc, &shared);
@@ -252,7 +251,7 @@ fn settles_under_load<L: Origin + Send + Sync, R: Threads + Wait + Abort + Sync>
 }
 
 // Whether a job was begun.
-fn has_begun<L: Origin>(receipt: &Receipt<L>) -> bool {
+fn has_begun<L: Ledger>(receipt: &Receipt<L>) -> bool {
     matches!(receipt.entry().reply(), Reply::Begun(_))
 }
 

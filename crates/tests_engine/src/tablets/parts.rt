@@ -7,8 +7,8 @@ use tab_cells::Compaction;
 use tab_tablet::{Finished, Installed, Job, Tablet};
 use tab_testing::{Random, mutation_of};
 
-// A tablet to which a random mutation was written, that of every tablet of this seed.
-fn tablet_of(rt: &impl Abort, alloc: Global, seed: u64) -> Tablet {
+// A tablet with this number to which a random mutation was written, that of every tablet of this seed.
+fn tablet_of(rt: &impl Abort, alloc: Global, number: u64, seed: u64) -> Tablet {
     let mut random = Random::new(seed);
     let mut updates = Vec::new(alloc);
     updates
@@ -18,7 +18,7 @@ fn tablet_of(rt: &impl Abort, alloc: Global, seed: u64) -> Tablet {
         .push(random.update(b"k", 0, 1, CLOCK))
         .expect(rt, "memory");
     let mutation = mutation_of(alloc, b"k", &updates).expect(rt, "memory");
-    written(rt, alloc, &mutation)
+    written(rt, alloc, number, &mutation)
 }
 
 // The merge that begins in the tablet, which has something to merge.
@@ -50,10 +50,21 @@ fn expect_told(rt: &impl Abort, alloc: Global, tablet: &mut Tablet, job: Job, wa
 #[test]
 fn a_strangers_merge_is_stale(rt: HostRuntime) {
     let alloc = rt.alloc();
-    let mut tablet = tablet_of(&rt, alloc, 1);
-    let mut other = tablet_of(&rt, alloc, 2);
+    let mut tablet = tablet_of(&rt, alloc, 0, 1);
+    let mut other = tablet_of(&rt, alloc, 0, 2);
     let own = begun(&rt, alloc, &mut tablet, Compaction::Minor, 5);
     let strange = begun(&rt, alloc, &mut other, Compaction::Minor, 5);
     expect_told(&rt, alloc, &mut tablet, strange, Installed::Stale(1));
     expect_told(&rt, alloc, &mut tablet, own, Installed::Stale(1))
+}
+
+#[test]
+fn a_merge_of_another_number_changes_nothing(rt: HostRuntime) {
+    let alloc = rt.alloc();
+    let mut tablet = tablet_of(&rt, alloc, 0, 1);
+    let mut other = tablet_of(&rt, alloc, 1, 1);
+    let own = begun(&rt, alloc, &mut tablet, Compaction::Minor, 5);
+    let equal = begun(&rt, alloc, &mut other, Compaction::Minor, 5);
+    expect_told(&rt, alloc, &mut tablet, equal, Installed::Stale(1));
+    expect_told(&rt, alloc, &mut tablet, own, Installed::Done)
 }
