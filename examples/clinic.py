@@ -5,9 +5,12 @@ A cell is a value under a row (here a patient), a family and a qualifier (which 
 label is made of words joined by & (all of them are needed) or | (one of them is enough); without a label everybody sees the cell. Readers
 hold such words, their "authorizations".
 
-Usage: examples/clinic.py PORT   (a server of a new store, such as `./tabd serve --port 9997`; examples/clinic.txt is the same as a script)
+The table and the users are this example's own, and each run begins them anew: nothing else of a store is touched.
+
+Usage: examples/clinic.py PORT   (a server such as `./tabd serve --port 9997`; examples/clinic.txt is the same as a script)
 """
 import sys
+from contextlib import suppress
 from pathlib import Path
 
 sys.path.insert(0, str(Path(__file__).resolve().parent.parent / "clients" / "python"))
@@ -16,24 +19,32 @@ import tabd  # noqa: E402
 from tabd import Delete, Put, Range  # noqa: E402
 
 
+TABLE = "clinic"
+USERS = {"clinic-reception": ["desk"], "clinic-nurse": ["care"], "clinic-doctor": ["care", "diagnosis"]}
+
+
 def set_up(root):
     """A table, three users who may read it, and what each holds: doctors alone hold `diagnosis`."""
-    root.create_table("patients")
-    for user, authorizations in (("reception", ["desk"]), ("nurse", ["care"]), ("doctor", ["care", "diagnosis"])):
+    with suppress(tabd.NoTable):
+        root.drop_table(TABLE)
+    root.create_table(TABLE)
+    for user, authorizations in USERS.items():
+        with suppress(tabd.NoUser):
+            root.drop_user(user)
         root.create_user(user)
-        root.grant(user, "READ", "patients")
+        root.grant(user, "READ", TABLE)
         root.set_authorizations(user, authorizations)
 
 
 def write_records(root):
-    """All facts of a patient in one write, which is done whole or not at all. The numbers at the end are the facts' times."""
-    root.write("patients", "ann", [
-        Put("visit", "room", "12", "", 1),
-        Put("visit", "phone", "555-0100", "desk|care", 1),
-        Put("health", "allergy", "penicillin", "care", 1),
-        Put("health", "finding", "asthma", "care&diagnosis", 1),
+    """All facts of a patient in one write, which is done whole or not at all: family, qualifier, label, value, and the fact's time."""
+    root.write(TABLE, "ann", [
+        Put("visit", "room", "", "12", 1),
+        Put("visit", "phone", "desk|care", "555-0100", 1),
+        Put("health", "allergy", "care", "penicillin", 1),
+        Put("health", "finding", "care&diagnosis", "asthma", 1),
     ])
-    root.write("patients", "bob", [Put("visit", "room", "14", "", 1), Put("billing", "insurer", "acme", "desk", 1)])
+    root.write(TABLE, "bob", [Put("visit", "room", "", "14", 1), Put("billing", "insurer", "desk", "acme", 1)])
 
 
 def show(title, cells):
@@ -48,7 +59,7 @@ def refused(what, request):
     try:
         request()
     except tabd.Refused as refusal:
-        print(f"{what}: {type(refusal).__name__} {refusal.args}")
+        print(f"{what}: {type(refusal).__name__}: {refusal}")
     else:
         sys.exit(f"{what}: it was not refused")
 
@@ -58,31 +69,31 @@ def main(port):
         set_up(root)
         write_records(root)
     # the same table, three times; a scan names the authorizations that it wants to use
-    with tabd.connect(port, "reception") as reception:
-        show("the reception sees", reception.scan("patients", ["desk"]))
-    with tabd.connect(port, "nurse") as nurse:
-        show("the nurse sees", nurse.scan("patients", ["care"]))
-        refused("the nurse asks under `diagnosis`", lambda: nurse.scan("patients", ["care", "diagnosis"]))
-        refused("the nurse writes", lambda: nurse.write("patients", "ann", [Put("visit", "room", "13")]))
-    with tabd.connect(port, "doctor") as doctor:
-        show("the doctor sees", doctor.scan("patients", ["care", "diagnosis"]))
-        show("of it, Ann's health", doctor.scan("patients", ["care", "diagnosis"], Range("ann", "ann"), ["health"]))
-        show("without any authorization", doctor.scan("patients"))
+    with tabd.connect(port, "clinic-reception") as reception:
+        show("the reception sees", reception.scan(TABLE, ["desk"]))
+    with tabd.connect(port, "clinic-nurse") as nurse:
+        show("the nurse sees", nurse.scan(TABLE, ["care"]))
+        refused("the nurse asks under `diagnosis`", lambda: nurse.scan(TABLE, ["care", "diagnosis"]))
+        refused("the nurse writes", lambda: nurse.write(TABLE, "ann", [Put("visit", "room", value="13")]))
+    with tabd.connect(port, "clinic-doctor") as doctor:
+        show("the doctor sees", doctor.scan(TABLE, ["care", "diagnosis"]))
+        show("of it, Ann's health", doctor.scan(TABLE, ["care", "diagnosis"], Range("ann", "ann"), ["health"]))
+        show("without any authorization", doctor.scan(TABLE))
     with tabd.connect(port, "root") as root:
         # a delete hides what stood in its cell up to its time; the label is part of which cell is meant
-        root.write("patients", "ann", [Delete("visit", "phone", "desk|care", 2)])
-        # & and | are mixed through parentheses alone; the two numbers are the update, and how many bytes of its label begin some label
-        refused("a label that isn't one", lambda: root.write("patients", "cleo", [Put("health", "finding", "flu", "care&diagnosis|desk", 3)]))
-        root.write("patients", "cleo", [Put("health", "finding", "flu", "(care&diagnosis)|desk", 3)])
+        root.write(TABLE, "ann", [Delete("visit", "phone", "desk|care", 2)])
+        # & and | are mixed through parentheses alone; the offset is how many bytes of it begin some label
+        refused("a label that isn't one", lambda: root.write(TABLE, "cleo", [Put("health", "finding", "care&diagnosis|desk", "flu", 3)]))
+        root.write(TABLE, "cleo", [Put("health", "finding", "(care&diagnosis)|desk", "flu", 3)])
         # from now on nobody writes a label that he himself couldn't read
-        root.set_constraints("patients", ["visibility"])
-        root.grant("nurse", "WRITE", "patients")
-    with tabd.connect(port, "nurse") as nurse:
-        nurse.write("patients", "bob", [Put("health", "allergy", "none", "care", 3)])
-        refused("the nurse writes what she couldn't read", lambda: nurse.write("patients", "bob", [Put("health", "finding", "flu", "care&diagnosis", 3)]))
-        show("the nurse sees of Bob", nurse.scan("patients", ["care"], Range("bob", "bob")))
-    with tabd.connect(port, "reception") as reception:
-        show("the reception sees", reception.scan("patients", ["desk"]))
+        root.set_constraints(TABLE, ["visibility"])
+        root.grant("clinic-nurse", "WRITE", TABLE)
+    with tabd.connect(port, "clinic-nurse") as nurse:
+        nurse.write(TABLE, "bob", [Put("health", "allergy", "care", "none", 3)])
+        refused("the nurse writes what she couldn't read", lambda: nurse.write(TABLE, "bob", [Put("health", "finding", "care&diagnosis", "flu", 3)]))
+        show("the nurse sees of Bob", nurse.scan(TABLE, ["care"], Range("bob", "bob")))
+    with tabd.connect(port, "clinic-reception") as reception:
+        show("the reception sees", reception.scan(TABLE, ["desk"]))
 
 
 if __name__ == "__main__":

@@ -1,0 +1,268 @@
+"""A user's connection: what he can ask of tables and users."""
+from __future__ import annotations
+
+import socket
+from contextlib import contextmanager
+from io import BufferedReader, BufferedWriter
+from types import TracebackType
+from typing import Any, BinaryIO, Callable, Dict, Iterable, Iterator, List, Literal, Optional, Type, TypeVar, overload
+
+from . import checks, requests, to_pandas
+from .connection import Connection
+from .data import ALL_ROWS, Column, Range, Rights, Status, Text, Update
+from .errors import Refused
+from .pipeline import Pipeline
+from .replies import Opened, Reply, Row
+from .requests import Opcode
+from .session import Session
+
+R = TypeVar("R", bound=Reply)
+BUFFER = 1 << 16
+TIMEOUT = 60.0
+"""Seconds that a client waits for its server, unless told otherwise."""
+
+
+def connect(port: int, user: Text, host: str = "127.0.0.1", timeout: Optional[float] = TIMEOUT) -> Client:
+    """A client of the server on this port, or an OSError.
+
+    Where the server lets it wait for longer than the timeout (seconds; None is no bound), TimedOut closes the client. A first scan behind
+    millions of writes and a full compaction can take seconds.
+    """
+    if timeout is not None and not timeout > 0:
+        raise ValueError(f"timeout: {timeout} isn't above 0")
+    checks.name(user, "user")
+    with socket.create_connection((host, checks.number(port, "port", 1, 65535)), timeout) as link:
+        link.setsockopt(socket.IPPROTO_TCP, socket.TCP_NODELAY, 1)
+        reader, writer = BufferedReader(link.makefile("rb", 0), BUFFER), BufferedWriter(link.makefile("wb", 0), BUFFER)
+        # the two streams keep the socket open
+        return Client(reader, writer, user, break_off=lambda: link.shutdown(socket.SHUT_RDWR))
+
+
+class Client:
+    """A user's connection to a server. It is closed by `close`, or at the end of its `with`; one thread uses it at a time.
+
+    Each method names the refusals that belong to it. Besides them each can be refused as UnknownUser, NoTable, PermissionDenied and NoMemory.
+    """
+
+    def __init__(self, reader: BinaryIO, writer: BinaryIO, user: Text, *, break_off: Callable[[], None] = lambda: None) -> None:
+        """Speaks over two buffered binary streams, and says who asks. That is taken as given: one who is no user is told so by each request.
+
+        `break_off` is called first where the client is closed, as it is where it can't begin.
+        """
+        self._connection = Connection(reader, writer, break_off)
+        self._pipeline: Optional[Pipeline] = None
+        try:
+            self._ask(requests.hello(user))
+        except BaseException:
+            self.close()
+            raise
+
+    @property
+    def closed(self) -> bool:
+        """Whether the connection has ended."""
+        return self._connection.closed
+
+    def close(self) -> None:
+        """Ends the connection, and its sessions with it."""
+        self._connection.close()
+
+    def __enter__(self) -> Client:
+        return self
+
+    def __exit__(self, kind: Optional[Type[BaseException]], error: Optional[BaseException], trace: Optional[TracebackType]) -> None:
+        self.close()
+
+    def _ask(self, request: bytes) -> None:
+        self._connection.ask(request)
+
+    def _ask_for(self, request: bytes, kind: Type[R]) -> R:
+        """What ends the answer."""
+        last = self._connection.ask(request)[-1]
+        assert isinstance(last, kind)
+        return last
+
+    # ---- Cells.
+
+    def write(self, table: Text, row: Text, updates: Iterable[Update]) -> None:
+        """Does all updates of a row, 1 to 1,000, or none; of two of one column the later is the newer.
+
+        EmptyMutation, TooLarge, MalformedVisibility, TimestampNotAllowed, BelowHorizon, ConstraintViolation.
+        """
+        request = requests.write(table, row, updates)
+        if self._pipeline is None:
+            self._ask(request)
+        else:
+            self._pipeline.write(request)
+
+    @contextmanager
+    def pipeline(self) -> Iterator[Dict[int, Refused]]:
+        """Inside its `with`, writes wait and are sent many at a time, each done or refused by itself.
+
+        Another request and the end send those that wait before. The dictionary gets all refusals by the places of their writes, from 0; the
+        end raises the first of them.
+        """
+        if self._pipeline is not None:
+            raise ValueError("a pipeline is open already")
+        self._pipeline = pipeline = Pipeline(self._connection)
+        try:
+            yield pipeline.refused
+        except BaseException:
+            if not self.closed:
+                self._connection.send()
+            raise
+        else:
+            self._connection.send()
+        finally:
+            self._pipeline = None
+        if pipeline.refused:
+            raise pipeline.refused[min(pipeline.refused)]
+
+    @overload
+    def scan(
+        self,
+        table: Text,
+        authorizations: Iterable[Text] = (),
+        rows: Range = ALL_ROWS,
+        columns: Iterable[Column] = (),
+        batch: int = 1000,
+        to: None = None,
+    ) -> Session: ...
+
+    @overload
+    def scan(
+        self,
+        table: Text,
+        authorizations: Iterable[Text] = (),
+        rows: Range = ALL_ROWS,
+        columns: Iterable[Column] = (),
+        batch: int = 1000,
+        *,
+        to: Literal["pandas"],
+    ) -> Any: ...
+
+    def scan(
+        self,
+        table: Text,
+        authorizations: Iterable[Text] = (),
+        rows: Range = ALL_ROWS,
+        columns: Iterable[Column] = (),
+        batch: int = 1000,
+        to: Optional[str] = None,
+    ) -> Any:
+        """A session on the cells in these rows and columns whose labels hold under these authorizations, in the order of keys.
+
+        Columns are families, or pairs of family and qualifier; none means all. With `to="pandas"` it is a data frame of all these cells, or
+        an ImportError where there is no pandas. TooLarge, BadRange, BadAuthorizations.
+        """
+        checks.number(batch, "batch", 1)
+        if to is not None:
+            checks.word(to, ("pandas",), "to")
+            to_pandas.library()
+        opened = self._ask_for(requests.open_session(table, rows, columns, authorizations), Opened)
+        session = Session(self._connection, opened.session, batch)
+        return session if to is None else to_pandas.data_frame(session)
+
+    # ---- Tables.
+
+    def create_table(self, table: Text, *, server_time: bool = False, versions: int = 1) -> None:
+        """Makes a table that shows the newest 1 to 1,000 versions of each column, at the writers' times or the server's.
+
+        TableExists.
+        """
+        self._ask(requests.create_table(table, server_time, versions))
+
+    def drop_table(self, table: Text) -> None:
+        """Drops a table, its cells and all rights on it."""
+        self._ask(requests.of_table(Opcode.DROP_TABLE, table))
+
+    def set_constraints(self, table: Text, constraints: Iterable[str]) -> None:
+        """Sets the table's constraints, of CONSTRAINTS, in place of those that it has."""
+        self._ask(requests.set_constraints(table, constraints))
+
+    def set_versions(self, table: Text, versions: int) -> None:
+        """Shows so many versions of each column from now on, 1 to 1,000 and no more than before.
+
+        VersionsRaised.
+        """
+        self._ask(requests.set_versions(table, versions))
+
+    def set_horizon(self, table: Text, horizon: int) -> None:
+        """Takes no update below this time from now on, which isn't below the one before.
+
+        HorizonLowered; ServerTime where the table gives the times.
+        """
+        self._ask(requests.set_horizon(table, horizon))
+
+    def flush(self, table: Text) -> None:
+        """Makes sorted tables of what is in memory; no scan is answered otherwise."""
+        self._ask(requests.of_table(Opcode.FLUSH, table))
+
+    def compact(self, table: Text, *, full: bool = False) -> None:
+        """Merges some sorted tables of each tablet, or all that it holds; no scan is answered otherwise."""
+        self._ask(requests.compact(table, full))
+
+    def add_split(self, table: Text, row: Text) -> None:
+        """Splits a tablet in two; the row is the last one of the lower of them.
+
+        TooLarge, BadSplit.
+        """
+        self._ask(requests.add_split(table, row))
+
+    def splits(self, table: Text) -> List[bytes]:
+        """The last row of each tablet, rising; the last tablet has none."""
+        replies = self._connection.ask(requests.of_table(Opcode.SPLITS, table))
+        return [reply.row for reply in replies if isinstance(reply, Row)]
+
+    def status(self, table: Text) -> Status:
+        """Counts of what the table consists of."""
+        return self._ask_for(requests.of_table(Opcode.STATUS, table), Status)
+
+    # ---- Users.
+
+    def create_user(self, user: Text) -> None:
+        """Makes a user without rights and authorizations.
+
+        UserExists.
+        """
+        self._ask(requests.of_user(Opcode.CREATE_USER, user))
+
+    def drop_user(self, user: Text) -> None:
+        """Drops a user, his rights and authorizations.
+
+        NoUser, RootFixed.
+        """
+        self._ask(requests.of_user(Opcode.DROP_USER, user))
+
+    def set_authorizations(self, user: Text, authorizations: Iterable[Text]) -> None:
+        """Gives a user these authorizations in place of those that he holds.
+
+        TooLarge, NoUser.
+        """
+        self._ask(requests.set_authorizations(user, authorizations))
+
+    def grant(self, user: Text, permission: str, table: Optional[Text] = None) -> None:
+        """Gives a user one of TABLE_PERMISSIONS on a table, or without a table one of SYSTEM_PERMISSIONS.
+
+        GrantInvalid, NoUser, RootFixed.
+        """
+        self._ask(requests.grant(user, permission, table))
+
+    def revoke(self, user: Text, permission: str, table: Optional[Text] = None) -> None:
+        """Takes what `grant` gives.
+
+        GrantInvalid, NoUser, RootFixed.
+        """
+        self._ask(requests.revoke(user, permission, table))
+
+    def rights(self, table: Text) -> Rights:
+        """One's own permissions on the system and on a table, and one's authorizations."""
+        return self._ask_for(requests.of_table(Opcode.RIGHTS, table), Rights)
+
+    # ---- The server.
+
+    def rotate(self) -> None:
+        """Lets the server begin its history anew from what it holds, for which the user needs SYSTEM.
+
+        BadFrame ("opcode") where the server doesn't know this request.
+        """
+        self._ask(requests.rotate())

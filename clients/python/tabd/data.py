@@ -1,0 +1,127 @@
+"""What a client says and is told: small values without behaviour."""
+from __future__ import annotations
+
+from dataclasses import dataclass
+from typing import Optional, Tuple, Union, overload
+
+Text = Union[str, bytes]
+"""What is sent as bytes; a str is sent as UTF-8. What is told is always bytes."""
+
+Column = Union[Text, Tuple[Text, Text]]
+"""A family, or a pair of family and qualifier."""
+
+SYSTEM_PERMISSIONS = ("GRANT", "CREATE_TABLE", "DROP_TABLE", "ALTER_TABLE", "CREATE_USER", "DROP_USER", "ALTER_USER", "SYSTEM")
+TABLE_PERMISSIONS = ("READ", "WRITE", "ALTER_TABLE", "GRANT", "DROP_TABLE")
+CONSTRAINTS = ("keysize", "alphanum", "numeric", "visibility")
+
+
+@dataclass(frozen=True)
+class Cell:
+    """A value with its key."""
+
+    row: bytes
+    family: bytes
+    qualifier: bytes
+    label: bytes
+    timestamp: int
+    value: bytes
+
+
+@dataclass(frozen=True, init=False)
+class Put:
+    """Writes a value into a column of a row, under a label; without a timestamp the server gives the time.
+
+    Either in the order of a script's `insert`, with both label and value, or by names:
+
+        Put("record", "diagnosis", "medical", "asthma")
+        Put("record", "diagnosis", label="medical", value="asthma")
+        Put("record", "room", value="12")
+    """
+
+    family: Text
+    qualifier: Text
+    label: Text
+    value: Text
+    timestamp: Optional[int]
+
+    @overload
+    def __init__(self, family: Text, qualifier: Text, label: Text, value: Text, timestamp: Optional[int] = None) -> None: ...
+
+    @overload
+    def __init__(self, family: Text, qualifier: Text, *, value: Text, label: Text = b"", timestamp: Optional[int] = None) -> None: ...
+
+    def __init__(
+        self, family: Text, qualifier: Text, label: Text = b"", value: Optional[Text] = None, timestamp: Optional[int] = None
+    ) -> None:
+        if value is None:
+            raise TypeError("Put: the value is missing. Say Put(family, qualifier, label, value) or Put(family, qualifier, value=..)")
+        # how a frozen dataclass sets its own fields
+        for name, given in (("family", family), ("qualifier", qualifier), ("label", label), ("value", value), ("timestamp", timestamp)):
+            object.__setattr__(self, name, given)
+
+
+@dataclass(frozen=True)
+class Delete:
+    """Hides all puts of its column (row, family, qualifier and label) at or below its timestamp, also those that are written later."""
+
+    family: Text
+    qualifier: Text
+    label: Text = b""
+    timestamp: Optional[int] = None
+
+
+Update = Union[Put, Delete]
+
+
+@dataclass(frozen=True)
+class Range:
+    """Rows from `low` to `high`, with these two unless told otherwise; None is no bound."""
+
+    low: Optional[Text] = None
+    high: Optional[Text] = None
+    with_low: bool = True
+    with_high: bool = True
+
+
+ALL_ROWS = Range()
+
+
+@dataclass(frozen=True)
+class Permission:
+    """A permission on a table, or on the system where the table is None."""
+
+    name: str
+    table: Optional[str] = None
+
+    def __str__(self) -> str:
+        return f"{self.name} on the system" if self.table is None else f"{self.name} on table {self.table!r}"
+
+
+@dataclass(frozen=True)
+class Violation:
+    """A constraint that failed, by which of its codes, and the first update that failed it, from 0."""
+
+    constraint: str
+    code: int
+    update: int
+
+    def __str__(self) -> str:
+        return f"{self.constraint} (code {self.code}) in update {self.update}"
+
+
+@dataclass(frozen=True)
+class Status:
+    """How many tablets a table has, and how many sources (memory runs and sorted tables) and records they hold."""
+
+    tablets: int
+    sources: int
+    records: int
+
+
+@dataclass(frozen=True)
+class Rights:
+    """The permissions that a user has on the system and on a table, and his authorizations, rising."""
+
+    system: Tuple[str, ...]
+    table: Tuple[str, ...]
+    authorizations: Tuple[bytes, ...]

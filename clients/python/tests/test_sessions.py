@@ -1,0 +1,61 @@
+"""Sessions: what stands, and when they are closed."""
+from running import Case, tabd
+from tabd import Delete, Put, Range
+
+
+class Sessions(Case):
+    def setUp(self) -> None:
+        super().setUp()
+        for row in "abcd":
+            self.root.write("t", row, [Put("f", "q", value="v", timestamp=5)])
+
+    def is_open(self, number: int) -> bool:
+        """Whether the connection has it, asked of the server."""
+        session = tabd.Session(self.root._connection, number, 1)
+        try:
+            session.fetch(0)
+        except tabd.NoSession:
+            return False
+        finally:
+            session.closed = True  # it isn't closed by this one
+        return True
+
+    def test_an_answer_stands(self) -> None:
+        session = self.root.scan("t", batch=1)
+        rows = iter(session)
+        self.assertEqual(next(rows).row, b"a")
+        self.root.write("t", "b", [Delete("f", "q", timestamp=9)])
+        self.root.drop_table("t")
+        self.assertEqual([found.row for found in rows], [b"b", b"c", b"d"])
+
+    def test_batches_by_hand(self) -> None:
+        with self.root.scan("t") as session:
+            self.assertEqual(session.fetch(0), ([], True))
+            self.assertEqual([found.row for found in session.fetch(4)[0]], [b"a", b"b", b"c", b"d"])
+            self.assertEqual(session.fetch(4), ([], False))
+            self.assertEqual(session.fetch(4), ([], False))
+            self.assertEqual(len(session.ranges([Range()])[0]), 4)
+
+    def test_it_closes_behind_the_last_cell(self) -> None:
+        session = self.root.scan("t", batch=3)
+        self.assertEqual((session.number, len(list(session))), (0, 4))
+        self.assertTrue(session.closed)
+        self.assertFalse(self.is_open(0))
+
+    def test_it_closes_where_it_is_left_early(self) -> None:
+        for found in self.root.scan("t", batch=2):
+            self.assertEqual(found.row, b"a")
+            break
+        self.root.status("t")
+        self.assertFalse(self.is_open(0))
+        with self.root.scan("t") as session:
+            self.assertTrue(self.is_open(session.number))
+        self.assertFalse(self.is_open(session.number))
+        session.close()
+        with self.assertRaises(ZeroDivisionError), self.root.scan("t") as session:
+            print(1 / 0)
+        self.assertFalse(self.is_open(session.number))
+
+    def test_two_at_once(self) -> None:
+        for one, two in zip(self.root.scan("t", batch=1), self.root.scan("t", batch=3)):
+            self.assertEqual(one, two)

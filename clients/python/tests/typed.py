@@ -1,0 +1,35 @@
+"""What mypy makes of calls, by tests/test_package.py: it accepts the right ones, and must refuse each that is marked."""
+from typing import List
+
+import tabd
+from tabd import Cell, Delete, Put, Range, Session
+
+
+def right(client: tabd.Client) -> List[bytes]:
+    client.write("t", b"r", [Put("f", b"q", "label", "value", 5), Put("f", "q", value="v"), Delete("f", "q", timestamp=5)])
+    client.set_authorizations("kim", ["care", b"desk"])
+    with client.pipeline() as refused:
+        client.write("t", "r", (Put("f", "q", value=str(at)) for at in range(3)))
+    places: List[int] = list(refused)
+    session: Session = client.scan("t", ["care"], Range("a", b"b", with_high=False), ["f", ("g", "q")], places[0])
+    cells: List[Cell] = [cell for cell in session]
+    try:
+        client.scan("t").fetch(1)
+    except tabd.PermissionDenied as refusal:
+        print(refusal.permission.table)
+    return [cell.value for cell in cells]
+
+
+def wrong(client: tabd.Client) -> None:
+    Put("f", "q", "v")  # type: ignore[call-overload]
+    Put("f", "q")  # type: ignore[call-overload]
+    Put("f", "q", value=5)  # type: ignore[call-overload]
+    client.write("t", "r", Put("f", "q", value="v"))  # type: ignore[arg-type]
+    client.write("t", "r", [("f", "q", "v")])  # type: ignore[list-item]
+    client.set_authorizations("kim", 5)  # type: ignore[arg-type]
+    client.scan("t", to="list")  # type: ignore[call-overload]
+    client.scan("t", rows="a")  # type: ignore[call-overload]
+    client.create_table("t", True)  # type: ignore[misc]
+    client.set_horizon("t", 1.5)  # type: ignore[arg-type]
+    client.closed = True  # type: ignore[misc]
+    print(Cell(b"", b"", b"", b"", 5, b"").time)  # type: ignore[attr-defined]
