@@ -1,0 +1,316 @@
+"""Each request for memory refused in turn: of each case the first, the second and so on, until one more doesn't come; alone, and with all
+behind it. The event is answered 17 or as it always is, and as always where none was refused; what is asked afterwards is as before where
+it was answered 17, and as after the whole event where it wasn't. Lines go to a script, frames to a server.
+
+Usage: denials.py PROGRAM [--anew]   (with --anew each try is made in a process of its own)"""
+import itertools
+import re
+import sys
+import tempfile
+from pathlib import Path
+
+from failing import NO_MEMORY, Connection, Counted, Script, Server, Silent, library
+
+PROGRAM, ANEW = sys.argv[1], "--anew" in sys.argv[2:]
+counted = Counted()
+
+# ---- The cases.
+MADE = ["createtable t versions=2", "setauths root A,B", "insert t b f q A 1 5", "insert t f f q \\e 2 5", "insert t m f q A&B 3 5", "insert t z f q B 4 5"]
+SPLIT = [*MADE, "addsplit t c", "addsplit t k"]  # three tablets, frozen
+MORE = ["insert t a f q A 6 6", "delete t g f q A 7", "insert t g f q A 7 7", "insert t y f q A|B 8 8"]
+SORTED = [*SPLIT, "flush t", *MORE]  # a sorted table in each tablet, and records beside it
+AGAIN = [*SORTED, "flush t", "insert t aa f q A 9 9", "flush t", "insert t zz f q A 9 9"]
+OPENED = [*SORTED, "open t A,B"]
+USER = [*MADE, "createuser u", "setauths u A,B", "grant u READ t", "grant u CREATE_USER"]
+TABLE = ["status t", "splits t", "rights t", "scan t A,B"]
+OF_SESSION = ["next {k} 1000", "many {k} \\0 \\0", *TABLE]
+OF_USER = ["as u", "rights t", "scan t A,B", "scan t B", "as root", *TABLE]
+# the name, what goes before, the line, what is asked afterwards, and whether a script never refuses it for memory
+CASES = [
+    ("a table", [], "createtable t versions=2", TABLE),
+    ("a table that goes", SORTED, "droptable t", TABLE, True),
+    ("an insert", MADE, "insert t c f q A&(B|C) 5 9", TABLE),
+    ("a delete", MADE, "delete t b f q A 9", TABLE),
+    ("a mutation", SORTED, "mutate t k put f q A 2 9 ; put f q2 B 3 9 ; del f q A&B 4", TABLE),
+    ("an open", SORTED, "open t A,B", TABLE),
+    ("an open of few", AGAIN, "open t A [b (m", TABLE),
+    ("a first open", MADE, "open t A,B", TABLE),
+    ("a batch", OPENED, "next {k} 3", OF_SESSION),
+    ("a whole batch", OPENED, "next {k} 1000", OF_SESSION),
+    ("ranges", OPENED, "many {k} [a [c (f [m \\0 \\0", OF_SESSION),
+    ("a close", OPENED, "close {k}", OF_SESSION, True),
+    ("a flush of three tablets", [*SPLIT, *MORE], "flush t", TABLE),
+    ("a flush beside sorted tables", SORTED, "flush t", TABLE),
+    ("a partial compaction of three tablets", AGAIN, "compact t partial", TABLE),
+    ("a full compaction of three tablets", SORTED, "compact t full", TABLE),
+    ("a split", SORTED, "addsplit t g", TABLE),
+    ("a first split", MADE, "addsplit t c", TABLE),
+    ("a split that is there", SORTED, "addsplit t k", TABLE),
+    ("the splits", SORTED, "splits t", TABLE),
+    ("a status", SORTED, "status t", TABLE, True),
+    ("rights", USER, "rights t", OF_USER),
+    ("a user", MADE, "createuser u", OF_USER),
+    ("a user that goes", USER, "dropuser u", OF_USER, True),
+    ("authorizations", USER, "setauths u B,A,C,a-longer-one-than-the-others", OF_USER),
+    ("a right of the system", USER, "grant u ALTER_TABLE", OF_USER),
+    ("a right on a table", USER, "grant u WRITE t", OF_USER),
+    ("a first right on a table", [*MADE, "createuser u"], "grant u WRITE t", OF_USER),
+    ("a right that goes", USER, "revoke u READ t", OF_USER, True),
+    ("constraints", SORTED, "constraints t alphanum,numeric", [*TABLE, "insert t r- f q A x 9"]),
+    ("versions", SORTED, "versions t 1", TABLE, True),
+    ("a horizon", SORTED, "horizon t 6", [*TABLE, "insert t b f q A x 5"], True),
+]
+# what only a script has
+JOB = [*AGAIN, "begin t b full"]
+LINES = [
+    ("a minor beginning", SORTED, "begin t b minor", TABLE),
+    ("a partial beginning", AGAIN, "begin t b partial", TABLE),
+    ("a full beginning", AGAIN, "begin t b full", TABLE),
+    ("a merge", JOB, "merge {j}", [*TABLE, "merge {j}", "install t {j}", *TABLE]),
+    ("an installation", [*JOB, "merge {j}"], "install t {j}", TABLE),
+    ("a split by size", SORTED, "splitsize t m 1", TABLE),
+    ("a save", [*SORTED, "save image", "insert t q f q A 9 9"], "save image", [*TABLE, "load image", *TABLE]),
+    ("a load", [*SORTED, "save image", "createtable other", "droptable t"], "load image", [*TABLE, "status other"]),
+]
+CLEAN = ["as root", "droptable t", "dropuser u", "droptable other"]
+
+
+def numbered(line, told):
+    """The line with the number of the last session or job in its place."""
+    for word, place in ((b"session ", "{k}"), (b"job ", "{j}")):
+        if place in line:
+            line = line.replace(place, next(reply for reply in reversed(told) if reply.startswith(word)).split()[1].decode())
+    return line
+
+
+class Lines:
+    """A script, which goes from try to try but with --anew."""
+
+    def __init__(self, folder, preloaded):
+        self.folder, self.preloaded, self.script = folder, preloaded, None
+
+    def fresh(self):
+        if self.script and ANEW:
+            self.close()
+        if self.script is None:
+            self.script = Script(PROGRAM, self.folder, self.preloaded)
+        return self.script
+
+    def close(self):
+        self.script.close()
+        self.script = None
+
+
+class Frames:
+    """A connection to a server, the same way."""
+
+    def __init__(self, folder, preloaded):
+        self.folder, self.preloaded, self.server = folder, preloaded, None
+
+    def fresh(self):
+        if self.server and ANEW:
+            self.close()
+        if self.server is None:
+            self.server = Server(PROGRAM, self.folder, self.preloaded, workers=2)
+        return Many(self)
+
+    def close(self):
+        self.server.close()
+        self.server = None
+
+
+class Many:
+    """Asks for whoever `as` names, each over a connection of his own."""
+
+    def __init__(self, frames):
+        self.frames, self.control = frames, frames.server.control
+        self.links = {}
+        self.user = "root"
+
+    def link(self):
+        if self.user not in self.links:
+            self.links[self.user] = self.frames.server.connect(self.user)
+        return self.links[self.user]
+
+    def ask(self, *lines):
+        said = []
+        for names_user, some in itertools.groupby(lines, lambda line: line.startswith("as ")):
+            if names_user:
+                some = list(some)
+                self.user = some[-1][3:]
+                said += [b""] * len(some)
+            else:
+                said += self.link().ask(*some)
+        return said
+
+    def close(self):
+        for link in self.links.values():
+            link.close()
+
+
+def once(way, before, event, afterwards, at=0, stays=0):
+    """What the event and what is asked afterwards are told, and whether memory was refused."""
+    asker = way.fresh()
+    asker.ask(*CLEAN)
+    told = asker.ask(*(line for line in before if "{" not in line))
+    for line in before:
+        if "{" in line:
+            told += asker.ask(numbered(line, told))
+    if event is None:
+        return None, asker.ask(*(numbered(line, told) for line in afterwards)), False
+    event = numbered(event, told)
+    asker.control.deny(at, stays)
+    answer = asker.ask(event)[0]
+    failed = asker.control.lift() > 0
+    told += [answer]
+    said = asker.ask(*(numbered(line, told) for line in afterwards))
+    if isinstance(asker, Many):
+        asker.close()
+    return answer, said, failed
+
+
+def shape(answer):
+    """The answer without a number that counts on."""
+    return re.sub(rb"^(session|job|refused 15 NoSession|refused \(15,) \d+", rb"\1", answer)
+
+
+def deny_in_turn(kind, way, name, before, event, afterwards, is_free=False):
+    _, unchanged, _ = once(way, before, None, afterwards)
+    right, changed, _ = once(way, before, event, afterwards)
+    is_fault = event.split()[0] in ("save", "load")
+    refusal = b"fault %s memory\n" % event.split()[0].encode() if is_fault else NO_MEMORY
+    refused = tries = 0
+    wrong = []
+    for stays in (0, 1):
+        at, spared = 0, 0
+        while spared < 2:
+            at += 1
+            answer, said, failed = once(way, before, event, afterwards, at, stays)
+            spared = 0 if failed else spared + 1
+            tries += 1
+            if answer in (refusal, NO_MEMORY) and failed and not (is_free and kind == "lines"):
+                refused += 1
+                good = list(map(shape, said)) == list(map(shape, unchanged))
+            else:
+                good = shape(answer) == shape(right) and list(map(shape, said)) == list(map(shape, changed))
+            if not good:
+                wrong.append((at, stays, failed, answer, said, unchanged if answer == NO_MEMORY else changed))
+    counted.tell(f"{name}, {kind}", not wrong and tries > 2, wrong[:1])
+    return tries, refused
+
+
+def cases(folder, preloaded):
+    tries = refused = 0
+    for kind, way, these in (("lines", Lines(folder, preloaded), CASES + LINES), ("frames", Frames(folder, preloaded), CASES)):
+        for name, *case in these:
+            try:
+                some = deny_in_turn(kind, way, name, *case)
+                tries, refused = tries + some[0], refused + some[1]
+            except Silent as why:
+                counted.tell(f"{name}, {kind}", False, why)
+                way.close()
+        if kind == "lines":
+            counted.tell("no part of an image is left", not list(Path(folder).glob("*.part")))
+        way.close()
+    counted.tell("memory was refused", refused > 500, refused)
+    print(f"{tries} tries, in {refused} of which an event was refused for memory")
+
+
+# ---- Lines and frames that take much memory to read.
+def long_ones(folder, preloaded):
+    """A line or a frame of over two MiB that is cut off from memory anywhere is read to its end, and what is behind it is answered."""
+    line = "insert t r f q \\e " + "v" * 1_000_000
+    longer = "mutate t r " + " ; ".join("put f q%d \\e %s -" % (at, "v" * 700_000) for at in range(3))
+    behind = ["status t", "rights t", "createtable u", "status u"]
+    for kind in ("lines", "frames"):
+        for text in (line, longer):
+            wrong, refused, at, failed = [], 0, 0, True
+            while failed:
+                at += 1
+                if kind == "lines":
+                    program = asker = Script(PROGRAM, folder, preloaded)
+                else:
+                    program = Server(PROGRAM, folder, preloaded)
+                    asker = program.connect()
+                try:
+                    asker.ask("createtable t")
+                    asker.control.deny(at, 0)
+                    said = asker.ask(text)
+                    failed = asker.control.lift() > 0
+                    said += asker.ask(*behind)
+                    records = 0 if said[0] == NO_MEMORY else text.count("v" * 700_000)
+                    refused += said[0] == NO_MEMORY
+                    good = said[0] in (b"ok\n", NO_MEMORY) and (failed or said[0] == b"ok\n") and said[1] == b"tablets 1 sources 0 records %d\n" % records
+                    if not (good and said[2].startswith((b"system", b"rights")) and said[3:] == [b"ok\n", b"tablets 1 sources 0 records 0\n"]):
+                        wrong.append((at, said))
+                except Silent as why:
+                    wrong.append((at, why))
+                finally:
+                    program.close()
+            counted.tell(f"{kind} of {len(text)} bytes without memory", not wrong and refused > 3, wrong[:1] or refused)
+
+
+def beginnings(folder, preloaded):
+    """A connection for which there is no memory is told 17, or ends; the next one is served."""
+    server = Server(PROGRAM, folder, preloaded, workers=2)
+    wrong, at, spared = [], 0, 0
+    while spared < 2:
+        at += 1
+        server.control.deny(at, 0)
+        connection = Connection(server)
+        try:
+            said = connection.greet()
+            if said == NO_MEMORY:
+                said = connection.greet()
+        except (Silent, ConnectionError):
+            said = None
+        failed = server.control.lift() > 0
+        spared = 0 if failed else spared + 1
+        if said != b"ok\n" and not (failed and said is None):
+            wrong.append((at, said))
+        connection.close()
+        other = server.connect()
+        if other.ask("splits none") != [b"refused (2, b'none')\n"]:
+            wrong.append((at, "the next one"))
+        other.close()
+    server.close()
+    counted.tell("connections that begin without memory", not wrong and at > 3, wrong[:1])
+
+
+# ---- Numbers that are used up.
+def numbers(folder, preloaded):
+    """An image whose next number is used up: no write is numbered any more, and all else goes on."""
+    last = bytes.fromhex(
+        "544142494d47 0002 0000000000000000 ffffffffffffffff 00000001 00000004726f6f74 ff 00000000 00000001 00000001 74 00 00000001 00"
+        "8000000000000000 00000001 00000004726f6f74 1f 00000000 0000000000000001 00000001 72 00000001 66 00000001 71 00000000 0000000000000005"
+        "01 fffffffffffffffe 00000000 00000001 76 454e4421")
+    Path(folder, "last").write_bytes(last)
+    Path(folder, "last but one").write_bytes(last.replace(b"\xff" * 8, b"\xff" * 7 + b"\xfe", 1).replace(b"\xff" * 7 + b"\xfe" + bytes(4), bytes(12)))
+    full, ok, cell = b"refused 9 TooLarge numbers\n", b"ok\n", b"r f q \\e 5 v\nend\n"
+    writes = ["insert t s f q \\e w 6", "delete t r f q \\e 5", "mutate t r put f q \\e x 7 ; del f q \\e 6"]
+    others = ["scan t \\0", "createtable u", "status u", "addsplit t r", "flush t", "compact t full", "status t", "scan t \\0"]
+    told = [cell, ok, b"tablets 1 sources 0 records 0\n", ok, ok, ok, b"tablets 2 sources 2 records 1\n", cell]
+    script = Script(PROGRAM, folder, preloaded)
+    script.ask("load last")
+    counted.tell("no number is left for a write", script.ask(*writes) == [full] * 3)
+    counted.tell("all else goes on", script.ask(*others) == told)
+    counted.tell("it is kept so", script.ask("save kept", "load kept", writes[0], "scan t \\0") == [ok, ok, full, cell])
+    counted.tell("other refusals come first", script.ask("insert t s f q ( w 6", "insert none s f q A w") == [b"refused 5 MalformedVisibility 0 1\n", b"refused 2 NoTable none\n"])
+    counted.tell("the last number is given once", script.ask("load last\\x20but\\x20one", *writes[:2], "scan t \\0") == [ok, ok, full, cell[:-4] + b"s f q \\e 6 w\nend\n"])
+    script.close()
+    server = Server(PROGRAM, folder, preloaded, "--image", "last")
+    client = server.connect()
+    full = b"refused (9, 11)\n"
+    counted.tell("nor for a frame", client.ask(*writes, "scan t \\0", "createtable u", writes[0]) == [full, full, full, cell, ok, full])
+    client.close()
+    server.close()
+
+
+with tempfile.TemporaryDirectory() as work:
+    made = library(work)
+    cases(work, made)
+    if not ANEW:
+        long_ones(work, made)
+        beginnings(work, made)
+        numbers(work, made)
+counted.end()
