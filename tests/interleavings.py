@@ -1,5 +1,5 @@
-"""Scripts in which writes, scans, sessions, splits, drops, settings of tables, whole compactions and compactions in parts (begin, merge,
-install) fall in any order, beside a model that is written down here from the definitions alone: every line that is printed is foreseen,
+"""Scripts in which writes, scans, sessions, splits, drops, settings of tables, rotations, whole compactions and compactions in parts (begin,
+merge, install) fall in any order, beside a model that is written down here from the definitions alone: every line that is printed is foreseen,
 those of `status`, `splits`, `begin` and `install` among them. The model keeps lists and filters them, and merges nothing but what a
 compaction is said to keep.
 Usage: interleavings.py PROGRAM [STEPS]   (one script of so many lines, and many short ones; 10,000 where unsaid)"""
@@ -169,6 +169,10 @@ class Store:
         return self.clock if table.is_server else table.horizon
 
     def setauths(self, user, auths):
+        self.event()
+        return ["ok"]
+
+    def rotate(self):
         self.event()
         return ["ok"]
 
@@ -413,6 +417,8 @@ def steps(seed, count, store):
             yield f"status {table()}"
         elif draw < 0.91:
             yield f"splits {table()}"
+        elif draw < 0.913:
+            yield "rotate"
         elif draw < 0.94:
             yield f"at {pick.randrange(0, 14)}"
         elif draw < 0.96:

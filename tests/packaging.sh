@@ -40,16 +40,16 @@ files() { # FOLDER   what is in it, but for folders
     (cd "$1" && find . ! -type d | sort)
 }
 
-parts='./bin/tabd
-./lib/python3/dist-packages/tabd.py
-./lib/systemd/system/tabd.service
-./share/man/man1/tabd.1.gz'
+parts=$({
+    printf './%s\n' bin/tabd lib/systemd/system/tabd.service share/man/man1/tabd.1.gz
+    cd "$top/clients/python" && printf './lib/python3/dist-packages/%s\n' tabd/*.py tabd/py.typed
+} | sort)
 prefix=$work/prefix
 
 # ---- Installed.
 "$top/packaging/install" "$prefix" >out 2>err
 [ "$?,$(cat out err)" = 0, ] && [ "$(files "$prefix")" = "$parts" ]
-count 'four files are installed' $?
+count 'the program, its client, unit and page are installed, and nothing else' $?
 answers "$prefix/bin/tabd"
 count 'the installed program answers a script' $?
 version=$("$prefix/bin/tabd" --version 2>err | cut -d ' ' -f 2)
@@ -58,7 +58,7 @@ count 'CHANGELOG.md tells of its version' $?
 cmp "$TABD" "$prefix/bin/tabd" >out 2>err ||
     [ "$(sha256sum <"$prefix/bin/tabd")" = "$(sed -n 's/^program: //p' "$top/release/release.txt")  -" ]
 count 'it is the program that is tested, or the release of it' $?
-cmp "$top/clients/python/tabd.py" "$prefix/lib/python3/dist-packages/tabd.py" >out 2>err
+diff -r -x __pycache__ "$top/clients/python/tabd" "$prefix/lib/python3/dist-packages/tabd" >out 2>err
 count 'the client is the one of clients/python' $?
 ! grep /usr/bin "$prefix/lib/systemd/system/tabd.service" >out && grep -qxF "ExecStart=$prefix/bin/tabd serve \$TABD_OPTIONS" "$prefix/lib/systemd/system/tabd.service"
 count 'the unit names the program where it is' $?
@@ -145,10 +145,12 @@ fi
 
 # ---- Away again.
 echo mine >"$prefix/bin/other"
-mkdir -p "$prefix/lib/python3/dist-packages/__pycache__"
+mkdir -p "$prefix"/lib/python3/dist-packages/{,tabd/}__pycache__
 : >"$prefix/lib/python3/dist-packages/__pycache__/tabd.cpython-311.pyc"
+: >"$prefix/lib/python3/dist-packages/tabd/__pycache__/client.cpython-311.pyc"
+: >"$prefix/lib/python3/dist-packages/tabd.py"
 "$top/packaging/install" --uninstall "$prefix" >out 2>err
-[ "$?,$(cat out err),$(files "$prefix")" = 0,,./bin/other ] && [ ! -e "$prefix/lib/python3/dist-packages/__pycache__" ]
+[ "$?,$(cat out err),$(files "$prefix")" = 0,,./bin/other ] && [ -z "$(ls -A "$prefix/lib/python3/dist-packages")" ]
 count 'what was installed is away, and nothing else' $?
 
 # ---- The Debian package.
@@ -161,7 +163,7 @@ if ! lacks dpkg-deb 'the Debian package'; then
     dpkg-deb -x "$package" unpacked >out 2>err &&
         [ "$(files unpacked | grep -v ^./usr/share/doc/)" = "${parts//.\//./usr/}" ] && answers unpacked/usr/bin/tabd &&
         cmp "$top/packaging/tabd.service" unpacked/usr/lib/systemd/system/tabd.service >out 2>err
-    count 'it has the four files, and its program answers a script' $?
+    count 'it has the same files, and its program answers a script' $?
     root=()
     [ "$(id -u)" -eq 0 ] || root=(fakeroot)
     if ! lacks "${root[0]:-dpkg}" 'the package is put in and taken out'; then

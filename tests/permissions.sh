@@ -31,6 +31,7 @@ begin t r full|System.ALTER_TABLE Table.ALTER_TABLE Table.WRITE|job 1
 install t 0|System.ALTER_TABLE Table.ALTER_TABLE Table.WRITE|ok
 save saved.image|System.SYSTEM|ok
 load none.image|System.SYSTEM|fault load io
+rotate|System.SYSTEM|ok
 createuser eve|System.CREATE_USER|ok
 dropuser dan|System.DROP_USER|ok
 setauths dan A|System.ALTER_USER|ok

@@ -42,7 +42,7 @@ done
 # The table of help has the lines and updates that docs/SCRIPT.md lists, and no other.
 run --help
 diff <(sed -n '/^The lines of a script/,/^The words/p' out | awk '/^  / {print $1}' | sort -u) \
-    <(sed -n '/^| Line | Does |/,/^$/p' "$top/docs/SCRIPT.md" | grep -oE '`[a-z]+ [A-Z]' | tr -d '`' | awk '{print $1}' | sort -u) >/dev/null
+    <(sed -n '/^| Line | Does |/,/^$/p' "$top/docs/SCRIPT.md" | grep -oE '`[a-z]+ [A-Z]|^\| `[a-z]+` \|' | tr -d '`|' | awk '{print $1}' | sort -u) >/dev/null
 count 'help and docs/SCRIPT.md list the same commands' $?
 for words in '' nonsense 'script extra' --nonsense 'script --nonsense' $'\xff' $'script \xff'; do
     # shellcheck disable=SC2086
@@ -150,12 +150,13 @@ prompted 'a reply behind each prompt' 'createtable t\nscan t \\0\n' 'root> ok\nr
 prompted 'who asks' 'as bob\n\n# nothing\nscan t \\0' 'root> bob> bob> bob> refused 1 UnknownUser bob\nbob> \n' ''
 prompted 'help for a line' 'help next\n help  close \n' \
     'root>   next SESSION COUNT\n  SESSION            the number that an open gave: a whole number of 32 bits without a sign, as 0\n  COUNT              how many cells: a whole number of 32 bits without a sign, as 100\nroot>   close SESSION\n  SESSION            the number that an open gave: a whole number of 32 bits without a sign, as 0\nroot> \n' ''
+prompted 'help for a line of one word' 'help rotate\n' 'root>   rotate\nroot> \n' ''
 prompted 'exit' 'createtable t\nexit\nbogus\n' 'root> ok\nroot> ' ''
 prompted 'help for what is no line' 'help bogus\n' 'root>   there is no such line: help lists them\nroot> \n' ''
 prompted 'a line fault' 'next 0\n' 'root> line fault\nroot> \n' \
     'line 1: word 3 is missing: expected COUNT (how many cells: a whole number of 32 bits without a sign, as 100)'
 printf 'help\n' | "$program" script --prompt >out 2>err
-[ "$(sed 's/^root> //' out | awk '/^  / {print $1}' | sort -u)" = "$({ echo exit; sed -n '/^| Line | Does |/,/^$/p' "$top/docs/SCRIPT.md" | grep -oE '`[a-z]+ [A-Z]' | tr -d '`' | awk '{print $1}' | grep -vx 'put\|del'; echo help; } | sort -u)" ]
+[ "$(sed 's/^root> //' out | awk '/^  / {print $1}' | sort -u)" = "$({ echo exit; sed -n '/^| Line | Does |/,/^$/p' "$top/docs/SCRIPT.md" | grep -oE '`[a-z]+ [A-Z]|^\| `[a-z]+` \|' | tr -d '`|' | awk '{print $1}' | grep -vx 'put\|del'; echo help; } | sort -u)" ]
 count 'prompts: help lists all lines' $?
 
 # ---- Why a line is a fault: a line of a script, and behind the tab what is said of it.
@@ -164,7 +165,7 @@ byte_word='a byte word: ! to ~ as they are but \\ for \, \xHH (H of 0-9 a-f) for
 number='a whole number of 64 bits with its sign, as 7 or -7'
 versions='VERSIONS (versions=N with N from 1 to 1000)'
 many='how many versions of a column are shown: a whole number from 1 to 1000'
-commands='a command, one of as at createtable droptable createuser dropuser setauths grant revoke rights constraints versions horizon insert delete mutate scan open next many close flush compact begin merge install status addsplit splitsize splits save load'
+commands='a command, one of as at createtable droptable createuser dropuser setauths grant revoke rights constraints versions horizon insert delete mutate scan open next many close flush compact begin merge install status addsplit splitsize splits save load rotate'
 system='SYSTEM_PERMISSION (GRANT, CREATE_TABLE, DROP_TABLE, ALTER_TABLE, CREATE_USER, DROP_USER, ALTER_USER or SYSTEM)'
 high='[ and a byte word (up to this row), ( and a byte word (before it), or \0 for no bound'
 session='SESSION (the number that an open gave: a whole number of 32 bits without a sign, as 0)'
@@ -236,6 +237,8 @@ install t r 0	word 3, "r": expected $job
 install t 0 x	word 4, "x": expected the end of the line
 install t 0	
 status t x	word 3, "x": expected the end of the line
+rotate x	word 2, "x": expected the end of the line
+rotate	
 scan t \\0 \\0 \\0 f:	word 6, "f:": expected COLS (FAM or FAM:QUAL, with commas between them, or \\0 for all) or the end of the line
 E
 cut -f1 table >script

@@ -61,19 +61,19 @@ tells_apart 'a stack that outlives its version' \
     'error\[borrow'
 
 tells_apart 'a receipt with another number' \
-    'use tab_book::{Origin, Receipt};' \
-    'pub fn read<L: Origin>(receipt: &Receipt<L>) -> u64 { receipt.number() }' \
-    'pub fn turned<L: Origin>(receipt: Receipt<L>) -> Receipt<L> { let mut turned = receipt; turned.number = 7; turned }' \
+    'use std::sync::ledger::Ledger; use tab_book::Receipt;' \
+    'pub fn read<L: Ledger>(receipt: &Receipt<L>) -> u64 { receipt.number() }' \
+    'pub fn turned<L: Ledger>(receipt: Receipt<L>) -> Receipt<L> { let mut turned = receipt; turned.number = 7; turned }' \
     'private'
 tells_apart 'a receipt that is made elsewhere' \
-    'use std::marker::PhantomData; use tab_book::{Entry, Origin, Receipt};' \
-    'pub fn first<L: Origin>(receipt: Receipt<L>) -> Option<Receipt<L>> { Some(receipt) }' \
-    'pub fn made<L: Origin>(entry: Entry) -> Receipt<L> { Receipt { number: 7, entry, held: None, of: PhantomData } }' \
+    'use std::marker::PhantomData; use std::sync::ledger::Ledger; use tab_book::{Entry, Receipt};' \
+    'pub fn first<L: Ledger>(receipt: Receipt<L>) -> Option<Receipt<L>> { Some(receipt) }' \
+    'pub fn made<L: Ledger>(entry: Entry) -> Receipt<L> { Receipt { number: 7, entry, held: None, of: PhantomData } }' \
     'private'
 tells_apart 'a receipt of one book in another' \
-    'use tab_book::{Book, Origin, Receipt, settle};' \
-    'pub fn one<L: Origin>(book: &Book<L>, receipts: &[Receipt<L>]) -> bool { settle(book, receipts) }' \
-    'pub fn other<L: Origin, M: Origin>(book: &Book<L>, receipts: &[Receipt<M>]) -> bool { settle(book, receipts) }' \
+    'use std::sync::ledger::Ledger; use tab_book::{Book, Receipt, settle};' \
+    'pub fn one<L: Ledger>(book: &Book<L>, receipts: &[Receipt<L>]) -> bool { settle(book, receipts) }' \
+    'pub fn other<L: Ledger, M: Ledger>(book: &Book<L>, receipts: &[Receipt<M>]) -> bool { settle(book, receipts) }' \
     'mismatched\|expected'
 echo "$passed passed, $failed failed"
 [ "$failed" -eq 0 ]

@@ -261,6 +261,8 @@ status t
 rights t
 flush t
 compact t full
+rotate
+rotate t
 scan nope \\0
 scan t \\0 [b [a
 scan t A

@@ -78,7 +78,7 @@ class Writer(Peer):
 
     def put(self, value):
         self.time += 1
-        return [Put("f", "q", value, timestamp=self.time)]
+        return [Put("f", "q", value=value, timestamp=self.time)]
 
     def write(self, client):
         row, value = self.row(), self.random.randbytes(self.random.choice([0, 10, 10, 1000, 50_000]))

@@ -4,7 +4,7 @@ use std::alloc::{AllocError, Global};
 use tab_help::forms;
 
 /// The version that `tabd --version` tells.
-const VERSION: &str = "0.10.0";
+const VERSION: &str = "0.11.0";
 
 /// What help says of the lines of a script: the texts of `tab_help`.
 pub fn line_help(alloc: Global) -> Result<String, AllocError> {
@@ -94,13 +94,19 @@ fn serve_command<'a>(alloc: Global) -> Result<Command<'a>, Error> {
         .value_parser(value_parser!(u32))
         .default_value("0")
         .help("Ends after this many connections, or never for 0");
+    let history = Arg::new(alloc, "history")
+        .long("history")
+        .value_name("FILE")
+        .action(ArgAction::Set)
+        .help("Appends what is asked to this file, as lines of a script");
     let serve = Command::new(alloc, "serve")
         .about("Answers frames on a port of this machine")
         .arg(port(alloc))?
         .arg(workers)?
         .arg(compactors)?
         .arg(accept)?
-        .arg(image(alloc))?;
+        .arg(image(alloc))?
+        .arg(history)?;
     Ok(serve)
 }
 

@@ -32,6 +32,8 @@ pub struct ScriptRequest<'a> {
 pub struct ServeRequest<'a> {
     /// The file of the image to begin with.
     pub image: Option<&'a str>,
+    /// The file that its history goes to.
+    pub history: Option<&'a str>,
     /// The port of 127.0.0.1, 1 to 65,535.
     pub port: u16,
     /// How many connections are answered at once, 1 to 64.
@@ -86,6 +88,7 @@ fn script_request<'a>(script: &ArgMatches<'a>) -> ScriptRequest<'a> {
 fn serve_request<'a>(serve: &ArgMatches<'a>) -> ServeRequest<'a> {
     ServeRequest {
         image: serve.get_str("image"),
+        history: serve.get_str("history"),
         port: port(serve),
         workers: serve.get_one::<u32>("workers").unwrap_or(4),
         compactors: serve.get_one::<u32>("compactors").unwrap_or(1),
