@@ -125,7 +125,7 @@ pub const ASKS_GATES_TOLD: &[u8] = b"\0\0\0\x01\x80\
 // A table is made, and the history handed out.
 pub const ROTATES: &[u8] = b"\0\0\0\x09\x01\0\0\0\x04root\
 \0\0\0\x0b\x02\0\0\0\x01t\0\0\0\0\x01\
-\0\0\0\x01\x11";
+\0\0\0\x01\x17";
 
 pub const ROTATES_TOLD: &[u8] = b"\0\0\0\x01\x80\
 \0\0\0\x01\x80\
