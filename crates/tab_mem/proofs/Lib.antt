@@ -25,3 +25,4 @@ pub mod Bounded
 pub mod CutPrefix
 pub mod Apart
 pub mod SameRow
+pub mod Copied

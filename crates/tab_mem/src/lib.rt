@@ -22,6 +22,7 @@
 //! | `draining`, `sampling` | the sort of a body in parts, and where these end |
 //! | `freezing`, `kept` | the steps of a freeze, and what is kept until it has its place |
 //! | `run` | a frozen run |
+//! | `building` | a run built of what a source has left |
 //! | `ordered`, `start`, `searching` | records by their index, where a search in them goes, and the searches |
 //! | `fronts` | a sparse index of records by their rows |
 //! | `rising` | the search among numbers that rise |
@@ -30,6 +31,7 @@
 
 mod active;
 mod appending;
+mod building;
 mod classes;
 mod column_item;
 mod cursor;

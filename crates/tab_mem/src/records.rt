@@ -12,7 +12,7 @@ use crate::{Fronts, Ordered, Start};
 use std::alloc::{AllocError, Global};
 use std::marker::Model;
 use std::ops::Range;
-use tab_key::{Key, Kind, RecordRef, append};
+use tab_key::{Key, Kind, RecordRef, append, append_copy};
 
 /// Records, one after another in one body, in the order in which they were put. A record takes there what `tab_key` puts, 8 bytes for
 /// its place, and one for a sparse index of their rows. A contract sees their list.
@@ -145,6 +145,28 @@ impl Records {
         }
     }
 
+    /// Puts a copy of the record at the end. `AllocError` leaves the records as they were.
+    pub(crate) fn push_copy(&mut self, source: &RecordRef<'_>) -> Result<(), AllocError>
+        ensures ok { OnOk result (self.new ≡ self.old ++ source.now ∷ []) }
+        ensures err { OnErr result (self.new ≡ self.old) }
+    {
+        let _timestamp = source.timestamp();
+        self.places.reserve(1)?;
+        self.fronts.make_room()?;
+        let bytes = self.body.len();
+        match append_copy(&mut self.body, source) {
+            Ok(place) => {
+                self.fronts.put(self.places.len(), source);
+                self.places.push_reserved(place);
+                Ok(())
+            }
+            Err(fault) => {
+                self.body.truncate(bytes);
+                Err(fault)
+            }
+        }
+    }
+
     /// Puts a copy of an item's record at the end. `AllocError` leaves the records as they were.
     pub(crate) fn push_item(&mut self, item: &Item<'_>) -> Result<(), AllocError>
         ensures ok { OnOk result (self.new ≡ self.old ++ item.now ∷ []) }
@@ -199,6 +221,15 @@ impl Records {
     {
         self.places.truncate(count);
         self.fronts.truncate(count);
+    }
+
+    /// Gives back the memory that isn't used.
+    pub(crate) fn shrink_to_fit(&mut self)
+        ensures { self.new ≡ self.old }
+    {
+        self.body.shrink_to_fit();
+        self.places.shrink_to_fit();
+        self.fronts.shrink_to_fit();
     }
 }
 
