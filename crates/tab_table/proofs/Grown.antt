@@ -1,10 +1,8 @@
 -- What lies in a table's body while it is built.
-use Rattle.std.proofs.Common.{◌≡◌, ℕ, ◌+◌, List, [], ◌∷◌, ◌++◌, sym, ◌∙◌, ap, subst, length, arith, append_assoc, append-nil}
-use Rattle.std.specs.Prelude.{Some, None}
+use Rattle.std.proofs.Common.{◌≡◌, ℕ, ◌+◌, List, [], ◌∷◌, ◌++◌, sym, ◌∙◌, ap, subst, length, arith}
 use Rattle.std.proofs.lemmas.List.Sums.{sum-map, sum_by_push}
 use Rattle.tab_key.specs.Encoding.{records_at, record_size}
 use Rattle.tab_key.specs.Records.{Record}
-use Rattle.tab_iter.specs.Lists.{first_of, tail}
 use Rattle.tab_mem.specs.Fronts.{AreFronts}
 use Rattle.tab_table.specs.Sizes.{encoded_size}
 
@@ -30,14 +28,3 @@ nothing_indexed numbers body places e f = subst (λ ns. AreFronts ns (records_at
 
 pub more_bytes : (old new : List ℕ) (rs now : List Record) (r : Record) → now ≡ rs ++ r ∷ [] → length new ≡ length old + record_size r → length old ≡ encoded_size rs → length new ≡ encoded_size now
 more_bytes old new rs now r e more size = omega (arith, more, size, ap encoded_size e, size_more rs r)
-
--- ---- a source that is copied
-pub copied_one : (done now left after all : List Record) (r : Record) → done ++ left ≡ all → Some r ≡ first_of left → now ≡ done ++ r ∷ [] → after ≡ tail left → now ++ after ≡ all
-copied_one done now [] after all r e f n a = absurd (let bad : Some r ≡ None = f in cc)
-copied_one done now (x ∷ xs) after all r e f n a =
-    let is : r ≡ x = cc in
-    (λ i. n i ++ a i) ∙ append_assoc done (r ∷ []) xs ∙ ap (λ u. done ++ u ∷ xs) is ∙ e
-
-pub copied_all : (done left all : List Record) → done ++ left ≡ all → None ≡ first_of left → done ≡ all
-copied_all done [] all e f = sym (append-nil done) ∙ e
-copied_all done (x ∷ xs) all e f = absurd (let bad : None ≡ Some x = f in cc)

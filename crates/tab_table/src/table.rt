@@ -1,5 +1,5 @@
 //! Sorted tables.
-ghost use Rattle.std.specs.Prelude.{◌≡◌, ◌<◌, ◌≤◌, ◌==◌, IsTrue, length, filter};
+ghost use Rattle.std.specs.Prelude.{◌≡◌, ◌<◌, ◌≤◌, ◌==◌, IsTrue, IfOk, length, filter};
 ghost use Rattle.std.specs.List.{slice_index_or};
 ghost use Rattle.std.proofs.lemmas.Map.Keys.{IsStrictlySortedBy-prop};
 ghost use Rattle.tab_key.specs.Encoding.{records_at, AreAt, AreAt-prop};
@@ -13,8 +13,9 @@ ghost use Rattle.tab_mem.specs.Lists.{part, HasShortParts};
 ghost use Rattle.tab_table.specs.Sizes.{encoded_size};
 
 use bytes::Bytes;
+use std::alloc::{AllocError, Global};
 use std::ops::Range;
-use tab_key::{Bounds, RecordRef};
+use tab_key::{Bounds, ByteString, RecordRef};
 use tab_mem::{Fronts, Ordered, Start, room_between, rows_in};
 
 /// Records that no longer change, in their order. A contract sees their list by `records`.
@@ -86,6 +87,17 @@ impl Table {
         ensures { (u : Fields) → result.now ≡ (slice_index_or (records self.now) index u).key.row }
     {
         self.get(index).row()
+    }
+
+    /// A copy of the row of the record at an index, counted from 0 in the order of records.
+    ///
+    /// `AllocError` says that memory for it lacked.
+    pub fn row_of(&self, alloc: Global, index: usize) -> Result<ByteString, AllocError>
+        requires { index < length (records self.now) }
+        ensures { (u : Fields) → IfOk result (λ row. row ≡ (slice_index_or (records self.now) index u).key.row) }
+    {
+        let copy = ByteString::from_slice(alloc, self.row(index))?;
+        Ok(copy)
     }
 
     /// How much room to ask for, in bytes, where the records from one index up to another are copied: what they take in the body. Only

@@ -9,11 +9,11 @@ ghost use Rattle.tab_version.specs.InTurn.{reaches};
 ghost use Rattle.tab_version.specs.Sources.{same_record, same_contents};
 
 use crate::Whole;
-use std::alloc::AllocError;
+use std::alloc::{AllocError, Global};
 use std::marker::Model;
 use std::sync::Arc;
 use tab_iter::Source;
-use tab_key::{Bounds, Key};
+use tab_key::{Bounds, ByteString, Key};
 use tab_mem::{Run, RunCursor};
 use tab_table::{Cursor, Table};
 
@@ -88,6 +88,19 @@ impl<W: Whole + Drop> Part<W> {
         let _end = self.end;
         let place = self.from + index;
         self.whole.row(place)
+    }
+
+    /// A copy of the row of the record at an index, counted from 0 in the order of records.
+    ///
+    /// `AllocError` says that memory for it lacked.
+    pub fn row_of(&self, alloc: Global, index: usize) -> Result<ByteString, AllocError>
+        requires { index < length self.now }
+        ensures { (u : Fields) → IfOk result (λ row. row ≡ (slice_index_or self.now index u).key.row) }
+    {
+        let _end = self.end;
+        let whole_index = self.from + index;
+        let row = self.whole.row_of(alloc, whole_index)?;
+        Ok(row)
     }
 
     // Whether the records at an index are the same.

@@ -14,7 +14,7 @@ use std::alloc::{AllocError, Global};
 use std::marker::Model;
 use std::sync::Arc;
 use tab_iter::{NoMemory, Source};
-use tab_key::{Bounds, Key};
+use tab_key::{Bounds, ByteString, Key};
 use tab_table::{Cursor, Table};
 
 /// The records of a shared table whose rows lie in bounds, and the size of the whole table, in bytes.
@@ -82,6 +82,16 @@ impl TableClip {
         ensures { (u : Fields) → result.now ≡ (slice_index_or self.now.records index u).key.row }
     {
         self.part.row(index)
+    }
+
+    /// A copy of the row of the record at an index, counted from 0 in the order of records.
+    ///
+    /// `AllocError` says that memory for it lacked.
+    pub fn row_of(&self, alloc: Global, index: usize) -> Result<ByteString, AllocError>
+        requires { index < length self.now.records }
+        ensures { (u : Fields) → IfOk result (λ row. row ≡ (slice_index_or self.now.records index u).key.row) }
+    {
+        self.part.row_of(alloc, index)
     }
 
     /// Whether the other clip has the same records, in order; the sizes of the whole tables aren't compared. It takes no memory, and time

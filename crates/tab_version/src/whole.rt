@@ -1,5 +1,5 @@
 //! What clips are cut of.
-ghost use Rattle.std.specs.Prelude.{◌≡◌, ◌<◌, ◌≤◌, IsTrue, List, length, filter, slice_index_or};
+ghost use Rattle.std.specs.Prelude.{◌≡◌, ◌<◌, ◌≤◌, IsTrue, IfOk, List, length, filter, slice_index_or};
 ghost use Rattle.std.specs.Ordering.{is_lt};
 ghost use Rattle.tab_key.specs.KeyOf.{key_of};
 ghost use Rattle.tab_key.specs.Order.{key_cmp};
@@ -8,8 +8,9 @@ ghost use Rattle.tab_iter.specs.Lists.{IsRising, HasI64Timestamps};
 ghost use Rattle.tab_mem.specs.Lists.{part, HasShortParts};
 ghost use Rattle.tab_version.specs.Sources.{same_record};
 
+use std::alloc::{AllocError, Global};
 use std::ops::Range;
-use tab_key::{Bounds, Key};
+use tab_key::{Bounds, ByteString, Key};
 use tab_mem::Run;
 use tab_table::Table;
 
@@ -35,6 +36,11 @@ pub trait Whole {
     fn row(&self, index: usize) -> &[u8]
         requires { index < length (listed self.now) }
         ensures { (u : Record) → result.now ≡ (slice_index_or (listed self.now) index u).key.row };
+
+    /// A copy of the row of the record at an index, counted from 0 in the order of records. `AllocError` says that memory for it lacked.
+    fn row_of(&self, alloc: Global, index: usize) -> Result<ByteString, AllocError>
+        requires { index < length (listed self.now) }
+        ensures { (u : Record) → IfOk result (λ row. row ≡ (slice_index_or (listed self.now) index u).key.row) };
 
     /// Whether the record at an index is the same as the one at an index of another whole.
     fn same_at(&self, index: usize, other: &Self, place: usize) -> bool
@@ -77,6 +83,11 @@ impl Whole for Run {
         self.get(index).row()
     }
 
+    fn row_of(&self, alloc: Global, index: usize) -> Result<ByteString, AllocError> {
+        let copy = ByteString::from_slice(alloc, self.get(index).row())?;
+        Ok(copy)
+    }
+
     fn same_at(&self, index: usize, other: &Run, place: usize) -> bool {
         let here = self.get(index);
         let there = other.get(place);
@@ -111,6 +122,10 @@ impl Whole for Table {
 
     fn row(&self, index: usize) -> &[u8] {
         Table::row(self, index)
+    }
+
+    fn row_of(&self, alloc: Global, index: usize) -> Result<ByteString, AllocError> {
+        Table::row_of(self, alloc, index)
     }
 
     fn same_at(&self, index: usize, other: &Table, place: usize) -> bool {

@@ -4,7 +4,8 @@ use Rattle.std.proofs.lemmas.List.{length-map}
 use Rattle.tab_key.specs.Encoding.{record_at, records_at, AreAt}
 use Rattle.tab_key.proofs.Placed.{pushed_at, pushed_records}
 use Rattle.tab_mem.specs.Fronts.{AreFronts}
-use Rattle.tab_table.proofs.Grown.{nothing_sized, nothing_indexed, more_bytes, copied_one}
+use Rattle.tab_mem.proofs.Copied.{copied_one}
+use Rattle.tab_table.proofs.Grown.{nothing_sized, nothing_indexed, more_bytes}
 use Rattle.tab_table.proofs.building.gather.Goals as goal
 
 pub loop-next-init : goal.loop-next-init
