@@ -15,9 +15,10 @@ use crate::taking::{take_runs, take_tables};
 use crate::{Clip, OneOf, TableClip};
 use std::alloc::{AllocError, Global};
 use std::marker::Model;
+use std::sync::Arc;
 use tab_iter::{NoMemory, Source};
 use tab_key::Bounds;
-use tab_mem::RunCursor;
+use tab_mem::{Run, RunCursor};
 use tab_table::{Cursor, Table};
 
 /// A cursor over a clip of a run or of a table.
@@ -175,6 +176,18 @@ impl Clips {
         ensures { IfOk result (λ t. records t ≡ S.rest source.old) }
     {
         Table::build(alloc, source, self.count(), self.room())
+    }
+
+    /// A run of the records that a source has left which reads these clips, as a clip. Room for all that they hold is asked for at once,
+    /// and what isn't needed of it is given back: so building takes no more memory than they hold.
+    ///
+    /// NoMemory says that it lacked; some of the records may be passed then.
+    pub fn run_of<S: Source>(&self, alloc: Global, source: &mut S) -> Result<Clip, NoMemory>
+        ensures { IfOk result (λ c. c ≡ S.rest source.old) }
+    {
+        let run = Run::build(alloc, source, self.count(), self.room())?;
+        let shared = Arc::new(alloc, run)?;
+        Ok(Clip::whole(shared))
     }
 
     /// A cursor over each clip, at its first record. No record has a part that is too long for a table.

@@ -13,7 +13,7 @@ use tab_iter::{NoMemory, Source};
 use tab_key::{Key, RecordRef};
 
 /// The records of lists that lie one behind the other. It holds a source over one of them alone: an advance makes one over the next
-/// list once that is at its end, and a seek goes to the list that the key lies in.
+/// list once that is at its end, and a seek goes to the list that the key lies in; a source that it leaves it gives back to the lists.
 #[derive(Drop)]
 pub struct InTurn<L: Lists<S>, S: Source> {
     alloc: Global,
@@ -38,9 +38,10 @@ impl<L: Lists<S> + Drop, S: Source + Drop> InTurn<L, S> {
         ensures whole { IfOk result (λ s. ⟦<InTurn<L, S> as Source>⟧.whole s ≡ flat (L.listed lists)) }
         ensures rest { IfOk result (λ s. ⟦<InTurn<L, S> as Source>⟧.rest s ≡ flat (L.listed lists)) }
     {
+        let mut lists = lists;
         let mut current = None;
         let mut next = 0;
-        go_on(alloc, &lists, &mut current, &mut next)?;
+        go_on(alloc, &mut lists, &mut current, &mut next)?;
         Ok(InTurn {
             alloc,
             lists,
@@ -103,7 +104,12 @@ impl<L: Lists<S>, S: Source + Drop> Source for InTurn<L, S> {
             return Err(AllocError);
         }
         self.unpositioned = true;
-        go_on(self.alloc, &self.lists, &mut self.current, &mut self.next)?;
+        go_on(
+            self.alloc,
+            &mut self.lists,
+            &mut self.current,
+            &mut self.next,
+        )?;
         self.unpositioned = false;
         Ok(())
     }
@@ -112,7 +118,7 @@ impl<L: Lists<S>, S: Source + Drop> Source for InTurn<L, S> {
         self.unpositioned = true;
         go_to(
             self.alloc,
-            &self.lists,
+            &mut self.lists,
             &mut self.current,
             &mut self.next,
             key,
@@ -163,17 +169,18 @@ fn seek_in<S: Source>(current: &mut Option<S>, key: Key<'_>) -> Result<(), NoMem
 #[inline(never)]
 fn go_on<L: Lists<S>, S: Source + Drop>(
     alloc: Global,
-    lists: &L,
+    lists: &mut L,
     current: &mut Option<S>,
     next: &mut usize,
 ) -> Result<(), NoMemory>
-    requires in_turn { AreInTurn (L.listed lists.now) }
-    requires over { of_current S.whole current.old ≡ before next.old (L.listed lists.now) }
+    requires in_turn { AreInTurn (L.listed lists.old) }
+    requires over { of_current S.whole current.old ≡ before next.old (L.listed lists.old) }
     requires at_end { of_current S.rest current.old ≡ [] }
-    ensures over { of_current S.whole current.new ≡ before next.new (L.listed lists.now) }
-    ensures left { OnOk result (left_in S.rest current.new next.new (L.listed lists.now) ≡ flat (drop next.old (L.listed lists.now))) }
-    ensures ended { OnOk result (of_current S.rest current.new ≡ [] → length (L.listed lists.now) ≤ next.new) }
+    ensures over { of_current S.whole current.new ≡ before next.new (L.listed lists.old) }
+    ensures left { OnOk result (left_in S.rest current.new next.new (L.listed lists.old) ≡ flat (drop next.old (L.listed lists.old))) }
+    ensures ended { OnOk result (of_current S.rest current.new ≡ [] → length (L.listed lists.old) ≤ next.new) }
     ensures err { OnErr result (of_current S.rest current.new ≡ []) }
+    ensures same { L.listed lists.new ≡ L.listed lists.old }
 {
     if *next >= lists.count() {
         return Ok(());
@@ -187,17 +194,18 @@ fn go_on<L: Lists<S>, S: Source + Drop>(
 // Goes to the first record of the lists whose key isn't before this one. After an error the source that is read has no record left.
 fn go_to<L: Lists<S>, S: Source + Drop>(
     alloc: Global,
-    lists: &L,
+    lists: &mut L,
     current: &mut Option<S>,
     next: &mut usize,
     key: Key<'_>,
 ) -> Result<(), NoMemory>
-    requires in_turn { AreInTurn (L.listed lists.now) }
-    requires over { of_current S.whole current.old ≡ before next.old (L.listed lists.now) }
-    ensures over { of_current S.whole current.new ≡ before next.new (L.listed lists.now) }
-    ensures left { OnOk result (left_in S.rest current.new next.new (L.listed lists.now) ≡ from_key (key_of key.entry) (flat (L.listed lists.now))) }
-    ensures ended { OnOk result (of_current S.rest current.new ≡ [] → length (L.listed lists.now) ≤ next.new) }
+    requires in_turn { AreInTurn (L.listed lists.old) }
+    requires over { of_current S.whole current.old ≡ before next.old (L.listed lists.old) }
+    ensures over { of_current S.whole current.new ≡ before next.new (L.listed lists.old) }
+    ensures left { OnOk result (left_in S.rest current.new next.new (L.listed lists.old) ≡ from_key (key_of key.entry) (flat (L.listed lists.old))) }
+    ensures ended { OnOk result (of_current S.rest current.new ≡ [] → length (L.listed lists.old) ≤ next.new) }
     ensures err { OnErr result (of_current S.rest current.new ≡ []) }
+    ensures same { L.listed lists.new ≡ L.listed lists.old }
 {
     if lists.count() == 0 {
         return Ok(());
@@ -208,27 +216,28 @@ fn go_to<L: Lists<S>, S: Source + Drop>(
     Ok(())
 }
 
-// Makes a source over the list with this index, unless it is the one that is read. The one that was read is dropped first, and after an
+// Makes a source over the list with this index, unless it is the one that is read. The one that was read is left first, and after an
 // error none is read.
 fn read_from<L: Lists<S>, S: Source + Drop>(
     alloc: Global,
-    lists: &L,
+    lists: &mut L,
     current: &mut Option<S>,
     next: &mut usize,
     at: usize,
 ) -> Result<(), NoMemory>
-    requires in_turn { AreInTurn (L.listed lists.now) }
-    requires over { of_current S.whole current.old ≡ before next.old (L.listed lists.now) }
-    requires inside { at < length (L.listed lists.now) }
+    requires in_turn { AreInTurn (L.listed lists.old) }
+    requires over { of_current S.whole current.old ≡ before next.old (L.listed lists.old) }
+    requires inside { at < length (L.listed lists.old) }
     requires fits { at < usize.MAX }
-    ensures over { of_current S.whole current.new ≡ before next.new (L.listed lists.now) }
+    ensures over { of_current S.whole current.new ≡ before next.new (L.listed lists.old) }
     ensures there { OnOk result (next.new ≡ at + 1) }
     ensures err { OnErr result (of_current S.rest current.new ≡ []) }
+    ensures same { L.listed lists.new ≡ L.listed lists.old }
 {
     if *next == at + 1 {
         return Ok(());
     }
-    clear(current);
+    leave(lists, current, *next);
     *next = 0;
     let source = lists.unpositioned_at(alloc, at)?;
     put(current, source);
@@ -236,11 +245,14 @@ fn read_from<L: Lists<S>, S: Source + Drop>(
     Ok(())
 }
 
-// Drops the source that was read.
-fn clear<S: Drop>(current: &mut Option<S>)
-    ensures { current.new ≡ None }
+// Gives the source that was read back to the lists, of which it was the one before this index.
+fn leave<L: Lists<S>, S: Source + Drop>(lists: &mut L, current: &mut Option<S>, next: usize)
+    ensures none { current.new ≡ None }
+    ensures same { L.listed lists.new ≡ L.listed lists.old }
 {
-    let _ = mem::replace(current, None);
+    if let Some(source) = mem::replace(current, None) {
+        lists.leave(next.saturating_sub(1), source);
+    }
 }
 
 // Puts the source in the place of the one that was read.

@@ -28,15 +28,21 @@ pub trait Lists<S: Source> {
         ensures found { result + 1 < length (listed self.now) → reaches (key_of key.entry) (slice_index_or (listed self.now) result []) ≡ true };
 
     /// A source over the list with this index, at its first record. The error comes only from want of memory.
-    fn source_at(&self, alloc: Global, index: usize) -> Result<S, NoMemory>
-        requires in_turn { AreInTurn (listed self.now) }
-        requires inside { index < length (listed self.now) }
-        ensures whole { IfOk result (λ s. S.whole s ≡ slice_index_or (listed self.now) index []) }
-        ensures rest { IfOk result (λ s. S.rest s ≡ S.whole s) };
+    fn source_at(&mut self, alloc: Global, index: usize) -> Result<S, NoMemory>
+        requires in_turn { AreInTurn (listed self.old) }
+        requires inside { index < length (listed self.old) }
+        ensures whole { IfOk result (λ s. S.whole s ≡ slice_index_or (listed self.old) index []) }
+        ensures rest { IfOk result (λ s. S.rest s ≡ S.whole s) }
+        ensures same { listed self.new ≡ listed self.old };
 
     /// The same, unpositioned: nothing is read before a seek.
-    fn unpositioned_at(&self, alloc: Global, index: usize) -> Result<S, NoMemory>
-        requires in_turn { AreInTurn (listed self.now) }
-        requires inside { index < length (listed self.now) }
-        ensures { IfOk result (λ s. S.whole s ≡ slice_index_or (listed self.now) index []) };
+    fn unpositioned_at(&mut self, alloc: Global, index: usize) -> Result<S, NoMemory>
+        requires in_turn { AreInTurn (listed self.old) }
+        requires inside { index < length (listed self.old) }
+        ensures whole { IfOk result (λ s. S.whole s ≡ slice_index_or (listed self.old) index []) }
+        ensures same { listed self.new ≡ listed self.old };
+
+    /// Takes back a source over the list with this index, which is read no more: what it has ready may serve the next one over that list.
+    fn leave(&mut self, index: usize, source: S)
+        ensures { listed self.new ≡ listed self.old };
 }

@@ -29,7 +29,7 @@ impl<'a> Lists<TabletSource<'a>> for &'a [Clips] {
         count_before(&tablets[..last], key)
     }
 
-    fn source_at(&self, alloc: Global, index: usize) -> Result<TabletSource<'a>, NoMemory> {
+    fn source_at(&mut self, alloc: Global, index: usize) -> Result<TabletSource<'a>, NoMemory> {
         let tablets: &'a [Clips] = *self;
         let tablet = &tablets[index];
         if let Some(cursor) = tablet.only_cursor() {
@@ -40,7 +40,11 @@ impl<'a> Lists<TabletSource<'a>> for &'a [Clips] {
         Ok(OneOf::Second(source))
     }
 
-    fn unpositioned_at(&self, alloc: Global, index: usize) -> Result<TabletSource<'a>, NoMemory> {
+    fn unpositioned_at(
+        &mut self,
+        alloc: Global,
+        index: usize,
+    ) -> Result<TabletSource<'a>, NoMemory> {
         let tablets: &'a [Clips] = *self;
         let tablet = &tablets[index];
         if let Some(cursor) = tablet.only_cursor() {
@@ -49,6 +53,10 @@ impl<'a> Lists<TabletSource<'a>> for &'a [Clips] {
         let cursors = tablet.cursors(alloc)?;
         let source = Merging::unpositioned(cursors)?;
         Ok(OneOf::Second(source))
+    }
+
+    fn leave(&mut self, _index: usize, source: TabletSource<'a>) {
+        let _ = source;
     }
 }
 
