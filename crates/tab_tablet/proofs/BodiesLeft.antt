@@ -8,6 +8,7 @@ use Rattle.std.proofs.lemmas.Bool.Decides.{Decides-eqb}
 use Rattle.tab_key.specs.Records.{Record}
 use Rattle.tab_iter.specs.Bags.{flat}
 use Rattle.tab_version.specs.Sources.{Sorted, Sources, without_runs, without_tables, left_by}
+use Rattle.tab_tablet.specs.BodyLists.{Bodies}
 use Rattle.tab_tablet.specs.Bodies.{AreBodies}
 use Rattle.tab_tablet.proofs.Parted.{some_is}
 
@@ -23,9 +24,9 @@ runs_stay inputs s left none e = go (without_runs inputs.runs s.runs) (ap (λ r.
     go None p q = absurd (cc)
     go (Some runs) p q = sym (some_is runs s.runs p) ∙ rest runs (without_tables inputs.tables s.tables) q
 
-pub bodies_stay : (inputs s left bodies : Sources) → (length inputs.runs == 0) ≡ true → left_by inputs s ≡ Some left → AreBodies s.runs bodies → AreBodies left.runs bodies
+pub bodies_stay : (inputs s left : Sources) (bodies : Bodies) → (length inputs.runs == 0) ≡ true → left_by inputs s ≡ Some left → AreBodies s.runs bodies → AreBodies left.runs bodies
 bodies_stay inputs s left bodies none e q = subst (λ (runs : List (List Record)). AreBodies runs bodies) (runs_stay inputs s left (nil_from_length inputs.runs ((Decides-eqb (length inputs.runs) 0).0 none)) e) q
 
 -- runs are their own bodies
-pub own_bodies : (runs : List (List Record)) → AreBodies runs (record { runs = runs; tables = [] })
+pub own_bodies : (runs : List (List Record)) → AreBodies runs (record { shared = runs; merged = [] })
 own_bodies runs = subst (IsPermutation (flat runs)) (sym (append-nil (flat runs))) (IsPermutation-refl (flat runs))

@@ -1,5 +1,5 @@
 -- Bodies hold what runs hold, in another order.
-use Rattle.std.proofs.Common.{◌≡◌, List, [], ◌∷◌, ◌++◌, Bool, refl, sym, ◌∙◌, ap, subst, append_assoc, ℕ, zero, suc, ◌+◌, ◌-◌, ◌≤◌, ◌==◌, true, false, cond, length, take, drop, arith}
+use Rattle.std.proofs.Common.{◌≡◌, List, [], ◌∷◌, ◌++◌, Bool, refl, sym, ◌∙◌, ap, subst, append_assoc, ℕ, zero, suc, ◌+◌, ◌-◌, ◌≤◌, ◌==◌, true, false, cond, length, take, drop, arith, append-nil}
 use Rattle.std.specs.Prelude.{ℤ, None, Some, Result, Ok, Err, IfOk, filter}
 use Rattle.std.specs.List.Sorted.{IsPermutation}
 use Rattle.std.proofs.lemmas.List.Sorted.{IsPermutation-refl, IsPermutation-sym, IsPermutation-trans, IsPermutation-append_comm, IsPermutation-append_left, IsPermutation-append_right, IsPermutation-append, Contains-permutation}
@@ -10,9 +10,9 @@ use Rattle.tab_key.proofs.Sorting.{distinct_permuted}
 use Rattle.tab_iter.specs.Bags.{flat}
 use Rattle.tab_iter.proofs.BagLaws.{sorted_filter}
 use Rattle.tab_version.specs.Sources.{Sorted, Sources, records_of, clipped}
+use Rattle.tab_tablet.specs.BodyLists.{Bodies, held_by}
 use Rattle.tab_tablet.specs.Bodies.{held_in, AreBodies, Freezes, IsFreezeOf, bodies_after}
-use Rattle.tab_tablet.proofs.Clipped.{held_more}
-use Rattle.tab_tablet.proofs.Cut.{clipped_records, runs_cut}
+use Rattle.tab_tablet.proofs.Cut.{runs_cut}
 use Rattle.tab_tablet.proofs.Gathered.{permuted_sorted, flat_more}
 use Rattle.tab_tablet.proofs.Moved.{distinct_left, distinct_right}
 use Rattle.tab_tablet.proofs.Compacted.{frozen_distinct_in}
@@ -48,88 +48,87 @@ filter_permuted p xs ys d q = same_sorted (filter p xs) (filter p ys) (filter_on
 
 -- ---- reading
 -- bodies and tables hold what runs and tables hold
-pub read_permuted : (s b : Sources) → AreBodies s.runs b → IsPermutation (records_of s) (records_of b ++ held_in s.tables)
-read_permuted s b p = IsPermutation-append_left (held_in s.tables) (flat s.runs) (records_of b) p
+pub read_permuted : (s : Sources) (b : Bodies) → AreBodies s.runs b → IsPermutation (records_of s) (held_by b ++ held_in s.tables)
+read_permuted s b p = IsPermutation-append_left (held_in s.tables) (flat s.runs) (held_by b) p
 
-pub read_once : (p : Record → Bool) (s b c : Sources) → AreBodies s.runs b → IsDistinct (records_of s) → records_of c ≡ filter p (records_of b ++ held_in s.tables) → sorted (records_of c) ≡ sorted (filter p (records_of s))
-read_once p s b c q d is = ap sorted is ∙ sym (filter_once p (records_of s) (records_of b ++ held_in s.tables) d (read_permuted s b q))
+pub read_once : (p : Record → Bool) (s c : Sources) (b : Bodies) → AreBodies s.runs b → IsDistinct (records_of s) → records_of c ≡ filter p (held_by b ++ held_in s.tables) → sorted (records_of c) ≡ sorted (filter p (records_of s))
+read_once p s c b q d is = ap sorted is ∙ sym (filter_once p (records_of s) (held_by b ++ held_in s.tables) d (read_permuted s b q))
 
 -- cut to rows they still do
-pub bodies_cut : (p : List ℕ → Bool) (s b : Sources) → AreBodies s.runs b → IsDistinct (records_of s) → AreBodies (clipped p s).runs (clipped p b)
-bodies_cut p s b q d =
+pub bodies_cut : (p : List ℕ → Bool) (s : Sources) (b cut : Bodies) → AreBodies s.runs b → IsDistinct (records_of s) → held_by cut ≡ filter (λ u. p u.key.row) (held_by b) → AreBodies (clipped p s).runs cut
+bodies_cut p s b cut q d is =
     let seen : Record → Bool = λ u. p u.key.row in
-    subst (λ l. IsPermutation l (records_of (clipped p b))) (sym (runs_cut seen s.runs))
-    (subst (IsPermutation (filter seen (flat s.runs))) (sym (clipped_records p b))
-    (filter_permuted seen (flat s.runs) (records_of b) (distinct_left (flat s.runs) (held_in s.tables) d) q))
-
--- what comes first may come behind the next
-front : (r x z : List Record) → IsPermutation (r ++ (x ++ z)) (x ++ (r ++ z))
-front r x z =
-    subst (λ l. IsPermutation l (x ++ (r ++ z))) (append_assoc r x z)
-    (subst (IsPermutation ((r ++ x) ++ z)) (append_assoc x r z) (IsPermutation-append_left z (r ++ x) (x ++ r) (IsPermutation-append_comm r x)))
+    subst (λ l. IsPermutation l (held_by cut)) (sym (runs_cut seen s.runs))
+    (subst (IsPermutation (filter seen (flat s.runs))) (sym is)
+    (filter_permuted seen (flat s.runs) (held_by b) (distinct_left (flat s.runs) (held_in s.tables) d) q))
 
 -- ---- one more run
+-- the first bodies and the others
+flat_parts : (n : ℕ) (bs : List (List Record)) → flat bs ≡ flat (take n bs) ++ flat (drop n bs)
+flat_parts zero [] = refl
+flat_parts zero (b ∷ bs) = refl
+flat_parts (suc n) [] = refl
+flat_parts (suc n) (b ∷ bs) = ap (λ l. b ++ l) (flat_parts n bs) ∙ sym (append_assoc b (flat (take n bs)) (flat (drop n bs)))
+
+-- bodies and a run, as the only sources
+pub inputs_held : (bodies items : List (List Record)) (run : List Record) (tables : List Sorted) (s : Sources) → items ≡ bodies ++ run ∷ [] → tables ≡ [] → s ≡ record { runs = items; tables = tables } → records_of s ≡ flat bodies ++ run
+inputs_held bodies items run tables s more none is = ap records_of is ∙ (λ i. flat (more i) ++ held_in (none i)) ∙ append-nil (flat (bodies ++ run ∷ [])) ∙ flat_more bodies run
+
 module _ (run : List Record) where
   -- as a body of its own
-  pub with_beside : (b : Sources) → IsPermutation (run ++ records_of b) (records_of (record b { runs = b.runs ++ run ∷ [] }))
+  pub with_beside : (b : Bodies) → IsPermutation (run ++ held_by b) (held_by (record b { shared = b.shared ++ run ∷ [] }))
   with_beside b =
-      subst (λ l. IsPermutation (run ++ records_of b) (l ++ held_in b.tables)) (sym (flat_more b.runs run))
-      (subst (λ l. IsPermutation l ((flat b.runs ++ run) ++ held_in b.tables)) (append_assoc run (flat b.runs) (held_in b.tables))
-      (IsPermutation-append_left (held_in b.tables) (run ++ flat b.runs) (flat b.runs ++ run) (IsPermutation-append_comm run (flat b.runs))))
+      subst (λ l. IsPermutation (run ++ held_by b) (l ++ flat b.merged)) (sym (flat_more b.shared run))
+      (subst (λ l. IsPermutation l ((flat b.shared ++ run) ++ flat b.merged)) (append_assoc run (flat b.shared) (flat b.merged))
+      (IsPermutation-append_left (flat b.merged) (run ++ flat b.shared) (flat b.shared ++ run) (IsPermutation-append_comm run (flat b.shared))))
 
-  -- merged with some of the tables: x the runs, a the tables that stay, z the ones that are merged
-  moved : (x a z : List Record) → IsPermutation (run ++ (x ++ (a ++ z))) (x ++ (a ++ sorted (run ++ z)))
+  -- merged with some of the bodies: x the shared ones, a the merged ones that stay, z the ones that are merged with it
+  moved : (x a z : List Record) → IsPermutation (run ++ (x ++ (a ++ z))) (x ++ (a ++ sorted (z ++ run)))
   moved x a z =
-      IsPermutation-trans (run ++ (x ++ (a ++ z))) ((x ++ a) ++ (run ++ z)) (x ++ (a ++ sorted (run ++ z)))
-      (subst (λ l. IsPermutation (run ++ l) ((x ++ a) ++ (run ++ z))) (append_assoc x a z) (front run (x ++ a) z))
-      (subst (IsPermutation ((x ++ a) ++ (run ++ z))) (append_assoc x a (sorted (run ++ z)))
-      (IsPermutation-append_right (x ++ a) (run ++ z) (sorted (run ++ z)) (permuted_sorted (run ++ z))))
+      let behind : (x ++ (a ++ z)) ++ run ≡ x ++ (a ++ (z ++ run)) = append_assoc x (a ++ z) run ∙ ap (λ l. x ++ l) (append_assoc a z run) in
+      IsPermutation-trans (run ++ (x ++ (a ++ z))) ((x ++ (a ++ z)) ++ run) (x ++ (a ++ sorted (z ++ run)))
+      (IsPermutation-append_comm run (x ++ (a ++ z)))
+      (subst (λ l. IsPermutation l (x ++ (a ++ sorted (z ++ run)))) (sym behind)
+      (IsPermutation-append_right x (a ++ (z ++ run)) (a ++ sorted (z ++ run)) (IsPermutation-append_right a (z ++ run) (sorted (z ++ run)) (permuted_sorted (z ++ run)))))
 
-  pub with_merged : (runs : List (List Record)) (tables kept taken more : List Sorted) (t : Sorted) → held_in tables ≡ held_in kept ++ held_in taken → t.records ≡ sorted (run ++ held_in taken) → more ≡ kept ++ t ∷ []
-      → IsPermutation (run ++ (flat runs ++ held_in tables)) (flat runs ++ held_in more)
-  with_merged runs tables kept taken more t parts is now =
-      subst (λ l. IsPermutation (run ++ (flat runs ++ l)) (flat runs ++ held_in more)) (sym parts)
-      (subst (λ l. IsPermutation (run ++ (flat runs ++ (held_in kept ++ held_in taken))) (flat runs ++ l)) (sym (ap held_in now ∙ held_more kept t ∙ ap (λ l. held_in kept ++ l) is))
-      (moved (flat runs) (held_in kept) (held_in taken)))
+  pub with_merged : (b : Bodies) (n : ℕ) (one : List Record) → one ≡ sorted (flat (drop n b.merged) ++ run) → IsPermutation (run ++ held_by b) (held_by (record b { merged = take n b.merged ++ one ∷ [] }))
+  with_merged b n one is =
+      subst (λ l. IsPermutation (run ++ (flat b.shared ++ l)) (held_by (record b { merged = take n b.merged ++ one ∷ [] }))) (sym (flat_parts n b.merged))
+      (subst (λ l. IsPermutation (run ++ (flat b.shared ++ (flat (take n b.merged) ++ flat (drop n b.merged)))) (flat b.shared ++ l)) (sym (flat_more (take n b.merged) one ∙ ap (λ l. flat (take n b.merged) ++ l) is))
+      (moved (flat b.shared) (flat (take n b.merged)) (flat (drop n b.merged))))
 
--- the first tables and the others
-pub held_parts : (n : ℕ) (ts : List Sorted) → held_in ts ≡ held_in (take n ts) ++ held_in (drop n ts)
-held_parts zero [] = refl
-held_parts zero (t ∷ ts) = refl
-held_parts (suc n) [] = refl
-held_parts (suc n) (t ∷ ts) = ap (λ l. t.records ++ l) (held_parts n ts) ∙ sym (append_assoc t.records (held_in (take n ts)) (held_in (drop n ts)))
-
--- the records of the run and of the last tables are held once
-pub distinct_merged : (run : List Record) (b : Sources) (n : ℕ) → IsDistinct (run ++ records_of b) → IsDistinct (run ++ held_in (drop n b.tables))
+-- the records of the run and of the last bodies are held once
+pub distinct_merged : (run : List Record) (b : Bodies) (n : ℕ) → IsDistinct (run ++ held_by b) → IsDistinct (flat (drop n b.merged) ++ run)
 distinct_merged run b n d =
-    let z : List Record = held_in (drop n b.tables) in
-    let a : List Record = held_in (take n b.tables) in
-    let all : IsDistinct (run ++ (flat b.runs ++ (a ++ z))) = subst (λ l. IsDistinct (run ++ (flat b.runs ++ l))) (held_parts n b.tables) d in
-    let moves : IsPermutation (run ++ (flat b.runs ++ (a ++ z))) ((flat b.runs ++ a) ++ (run ++ z)) =
-    subst (λ l. IsPermutation (run ++ l) ((flat b.runs ++ a) ++ (run ++ z))) (append_assoc (flat b.runs) a z) (front run (flat b.runs ++ a) z) in
-    distinct_right (flat b.runs ++ a) (run ++ z) (distinct_permuted (run ++ (flat b.runs ++ (a ++ z))) ((flat b.runs ++ a) ++ (run ++ z)) moves all)
+    let x : List Record = flat b.shared in
+    let a : List Record = flat (take n b.merged) in
+    let z : List Record = flat (drop n b.merged) in
+    let all : IsDistinct (run ++ (x ++ (a ++ z))) = subst (λ l. IsDistinct (run ++ (x ++ l))) (flat_parts n b.merged) d in
+    let behind : (x ++ (a ++ z)) ++ run ≡ (x ++ a) ++ (z ++ run) = ap (λ l. l ++ run) (sym (append_assoc x a z)) ∙ append_assoc (x ++ a) z run in
+    let moves : IsPermutation (run ++ (x ++ (a ++ z))) ((x ++ a) ++ (z ++ run)) = subst (IsPermutation (run ++ (x ++ (a ++ z)))) behind (IsPermutation-append_comm run (x ++ (a ++ z))) in
+    distinct_right (x ++ a) (z ++ run) (distinct_permuted (run ++ (x ++ (a ++ z))) ((x ++ a) ++ (z ++ run)) moves all)
 
-take_all : (k : ℕ) (ts : List Sorted) → length ts ≤ k → take k ts ≡ ts
+take_all : (k : ℕ) (bs : List (List Record)) → length bs ≤ k → take k bs ≡ bs
 take_all zero [] le = refl
 take_all (suc k) [] le = refl
-take_all zero (t ∷ ts) le = absurd (omega arith)
-take_all (suc k) (t ∷ ts) le = ap (λ l. t ∷ l) (take_all k ts (omega arith))
+take_all zero (b ∷ bs) le = absurd (omega arith)
+take_all (suc k) (b ∷ bs) le = ap (λ l. b ∷ l) (take_all k bs (omega arith))
 
-pub slice_rest : (n : ℕ) (ts : List Sorted) → n ≤ length ts → take (length ts - n) (drop n ts) ≡ drop n ts
-slice_rest zero ts le = take_all (length ts - 0) ts (omega arith)
+pub slice_rest : (n : ℕ) (bs : List (List Record)) → n ≤ length bs → take (length bs - n) (drop n bs) ≡ drop n bs
+slice_rest zero bs le = take_all (length bs - 0) bs (omega arith)
 slice_rest (suc n) [] le = take_all (0 - suc n) [] (omega arith)
-slice_rest (suc n) (t ∷ ts) le = let e : length (t ∷ ts) - suc n ≡ length ts - n = omega arith in ap (λ k. take k (drop n ts)) e ∙ slice_rest n ts (omega arith)
+slice_rest (suc n) (b ∷ bs) le = let e : length (b ∷ bs) - suc n ≡ length bs - n = omega arith in ap (λ k. take k (drop n bs)) e ∙ slice_rest n bs (omega arith)
 
 -- the bodies with the run are those of the runs with it
-pub bodies_more : (runs : List (List Record)) (run : List Record) (b more : Sources) → AreBodies runs b → IsPermutation (run ++ records_of b) (records_of more) → AreBodies (runs ++ run ∷ []) more
+pub bodies_more : (runs : List (List Record)) (run : List Record) (b more : Bodies) → AreBodies runs b → IsPermutation (run ++ held_by b) (held_by more) → AreBodies (runs ++ run ∷ []) more
 bodies_more runs run b more q p =
-    subst (λ l. IsPermutation l (records_of more)) (sym (flat_more runs run))
-    (IsPermutation-trans (flat runs ++ run) (run ++ flat runs) (records_of more) (IsPermutation-append_comm (flat runs) run)
-    (IsPermutation-trans (run ++ flat runs) (run ++ records_of b) (records_of more) (IsPermutation-append_right run (flat runs) (records_of b) q) p))
+    subst (λ l. IsPermutation l (held_by more)) (sym (flat_more runs run))
+    (IsPermutation-trans (flat runs ++ run) (run ++ flat runs) (held_by more) (IsPermutation-append_comm (flat runs) run)
+    (IsPermutation-trans (run ++ flat runs) (run ++ held_by b) (held_by more) (IsPermutation-append_right run (flat runs) (held_by b) q) p))
 
 -- ---- reading, if memory suffices
-pub read_ok : {E : Type 0} (p : Record → Bool) (s b : Sources) (ts : List Sorted) (r : Result Sources E) → AreBodies s.runs b → IsDistinct (records_of s) → ts ≡ s.tables → IfOk r (λ c. records_of c ≡ filter p (records_of b ++ held_in ts)) → IfOk r (λ c. sorted (records_of c) ≡ sorted (filter p (records_of s)))
-read_ok p s b ts (Ok c) q d e is = read_once p s b c q d (is ∙ ap (λ l. filter p (records_of b ++ held_in l)) e)
+pub read_ok : {E : Type 0} (p : Record → Bool) (s : Sources) (b : Bodies) (ts : List Sorted) (r : Result Sources E) → AreBodies s.runs b → IsDistinct (records_of s) → ts ≡ s.tables → IfOk r (λ c. records_of c ≡ filter p (held_by b ++ held_in ts)) → IfOk r (λ c. sorted (records_of c) ≡ sorted (filter p (records_of s)))
+read_ok p s b ts (Ok c) q d e is = read_once p s c b q d (is ∙ ap (λ l. filter p (held_by b ++ held_in l)) e)
 read_ok p s b ts (Err x) q d e is = is
 
 -- ---- a freeze
@@ -138,14 +137,14 @@ pub run_some : (us : List Record) → (length us == 0) ≡ false → run_of us �
 run_some [] e = absurd (true≢false e)
 run_some (u ∷ us) e = refl
 
-pub distinct_with : (active run : List Record) (s b : Sources) → IsDistinct (active ++ records_of s) → run ≡ sorted active → AreBodies s.runs b → IsDistinct (run ++ records_of b)
+pub distinct_with : (active run : List Record) (s : Sources) (b : Bodies) → IsDistinct (active ++ records_of s) → run ≡ sorted active → AreBodies s.runs b → IsDistinct (run ++ held_by b)
 distinct_with active run s b d e q =
-    subst (λ l. IsDistinct (l ++ records_of b)) (sym e)
-    (distinct_permuted (active ++ flat s.runs) (sorted active ++ records_of b)
-    (IsPermutation-append active (sorted active) (flat s.runs) (records_of b) (permuted_sorted active) q)
+    subst (λ l. IsDistinct (l ++ held_by b)) (sym e)
+    (distinct_permuted (active ++ flat s.runs) (sorted active ++ held_by b)
+    (IsPermutation-append active (sorted active) (flat s.runs) (held_by b) (permuted_sorted active) q)
     (distinct_left (active ++ flat s.runs) (held_in s.tables) (subst IsDistinct (sym (append_assoc active (flat s.runs) (held_in s.tables))) d)))
 
-pub freeze_is : (active : List Record) (s b : Sources) (f : Freeze) → (length active == 0) ≡ false → f.run ≡ sorted active → AreBodies s.runs b → IsPermutation (f.run ++ records_of b) (records_of f.bodies) → Freezes active s f
+pub freeze_is : (active : List Record) (s : Sources) (b : Bodies) (f : Freeze) → (length active == 0) ≡ false → f.run ≡ sorted active → AreBodies s.runs b → IsPermutation (f.run ++ held_by b) (held_by f.bodies) → Freezes active s f
 freeze_is active s b f some e q p = record { run = run_some active some ∙ ap (λ l. l ∷ []) (sym e); bodies = bodies_more s.runs f.run b f.bodies q p }
 
 -- the frozen tablet holds no record twice
@@ -159,7 +158,7 @@ no_runs runs n e = let z = (Decides-eqb (length runs + n) 0).0 e in nil_from_len
 none_held : (runs : List (List Record)) (n : ℕ) → (length runs + n == 0) ≡ true → IsPermutation (flat runs) []
 none_held runs n e = subst (λ (l : List (List Record)). IsPermutation (flat l) []) (sym (no_runs runs n e)) (IsPermutation-refl [])
 
-pub bodies_compacted : (tablet : ℕ) (kind : Compaction) (floor : ℤ) (n : ℕ) (s b : Sources) → AreBodies s.runs b → AreBodies (sources_after kind (captured tablet 0 kind floor n s) s).runs (bodies_after kind b)
+pub bodies_compacted : (tablet : ℕ) (kind : Compaction) (floor : ℤ) (n : ℕ) (s : Sources) (b : Bodies) → AreBodies s.runs b → AreBodies (sources_after kind (captured tablet 0 kind floor n s) s).runs (bodies_after kind b)
 bodies_compacted tablet kind floor n s b q = go kind (count_of (inputs_of kind s) == 0) refl
   where
     go : (k : Compaction) (v : Bool) → (count_of (inputs_of k s) == 0) ≡ v → AreBodies (sources_after k (cond v None (Some (record { tablet = tablet; number = 0; kind = k; inputs = inputs_of k s; floor = floor; versions = n }))) s).runs (bodies_after k b)

@@ -7,7 +7,8 @@ use Rattle.tab_key.specs.Sorted.{sorted}
 use Rattle.tab_key.proofs.Rising.{in_from, in_to, in_sorted}
 use Rattle.tab_cells.proofs.Lists.{filter_append}
 use Rattle.tab_iter.specs.Bags.{flat}
-use Rattle.tab_version.specs.Sources.{Sorted, Sources, records_of}
+use Rattle.tab_version.specs.Sources.{Sorted}
+use Rattle.tab_tablet.specs.BodyLists.{Bodies, held_by}
 pub use Rattle.tab_tablet.specs.Bodies.{held_in}
 use Rattle.tab_tablet.proofs.Gathered.{flat_more}
 
@@ -36,19 +37,27 @@ tables_more p tables clips more i table part lt is of before after =
 pub below_sorted : (seq : ℕ) (us : List Record) → ((u : Record) → Contains us u → u.seq < seq) → (u : Record) → Contains (sorted us) u → u.seq < seq
 below_sorted seq us below u k = below u (in_to us u (in_sorted us u (in_from (sorted us) u k)))
 
--- the same behind other records
-pub tables_beside : (p : Record → Bool) (first : List Record) (tables clips more : List Sorted) (i : ℕ) (table part : Sorted) → i < length tables → table ≡ get_or tables i table → part ≡ record table { records = filter p table.records }
-    → held_in clips ≡ first ++ filter p (held_in (take i tables)) → held_in more ≡ held_in clips ++ part.records → held_in more ≡ first ++ filter p (held_in (take (i + 1) tables))
-tables_beside p first tables clips more i table part lt is of before after =
-    after ∙ (λ j. before j ++ (of j).records)
-    ∙ append_assoc first (filter p (held_in (take i tables))) (filter p table.records)
-    ∙ ap (λ l. first ++ l) (sym (filter_append p (held_in (take i tables)) table.records) ∙ ap (filter p) (sym (held_next tables i table lt is)))
+-- ---- the parts of bodies and of tables
+-- the parts of the first runs, and that of the next, behind other records
+pub parts_beside : (p : Record → Bool) (first : List Record) (runs clips more : List (List Record)) (i : ℕ) (run part : List Record) → i < length runs → run ≡ get_or runs i run → part ≡ filter p run
+    → flat clips ≡ first ++ filter p (flat (take i runs)) → flat more ≡ flat clips ++ part → flat more ≡ first ++ filter p (flat (take (i + 1) runs))
+parts_beside p first runs clips more i run part lt is of before after =
+    after ∙ (λ j. before j ++ of j)
+    ∙ append_assoc first (filter p (flat (take i runs))) (filter p run)
+    ∙ ap (λ l. first ++ l) (sym (filter_append p (flat (take i runs)) run) ∙ ap (filter p) (sym (flat_next runs i run lt is)))
 
--- the parts of bodies and of tables
-pub parts_read : (p : Record → Bool) (b : Sources) (ts : List Sorted) (runs : List (List Record)) (none some clips : List Sorted) → flat runs ≡ filter p (flat b.runs) → held_in none ≡ [] → held_in some ≡ held_in none ++ filter p (held_in b.tables) → held_in clips ≡ held_in some ++ filter p (held_in ts)
-    → flat runs ++ held_in clips ≡ filter p (records_of b ++ held_in ts)
-parts_read p b ts runs none some clips of_runs empty first second =
-    (λ i. of_runs i ++ (second ∙ ap (λ l. l ++ filter p (held_in ts)) (first ∙ ap (λ l. l ++ filter p (held_in b.tables)) empty)) i)
-    ∙ sym (append_assoc (filter p (flat b.runs)) (filter p (held_in b.tables)) (filter p (held_in ts)))
-    ∙ ap (λ l. l ++ filter p (held_in ts)) (sym (filter_append p (flat b.runs) (held_in b.tables)))
-    ∙ sym (filter_append p (records_of b) (held_in ts))
+-- of both kinds of bodies, one behind the other
+pub bodies_read : (p : Record → Bool) (b : Bodies) (none some clips : List (List Record)) → flat none ≡ [] → flat some ≡ flat none ++ filter p (flat b.shared) → flat clips ≡ flat some ++ filter p (flat b.merged) → flat clips ≡ filter p (held_by b)
+bodies_read p b none some clips empty first second =
+    second ∙ ap (λ l. l ++ filter p (flat b.merged)) (first ∙ ap (λ l. l ++ filter p (flat b.shared)) empty) ∙ sym (filter_append p (flat b.shared) (flat b.merged))
+
+-- of bodies and of tables
+pub parts_read : (p : Record → Bool) (b : Bodies) (ts : List Sorted) (runs : List (List Record)) (clips : List Sorted) → flat runs ≡ filter p (held_by b) → held_in clips ≡ filter p (held_in ts) → flat runs ++ held_in clips ≡ filter p (held_by b ++ held_in ts)
+parts_read p b ts runs clips of_bodies of_tables = (λ i. of_bodies i ++ of_tables i) ∙ sym (filter_append p (held_by b) (held_in ts))
+
+-- of bodies that are cut, each kind by itself
+pub bodies_parts : (p : Record → Bool) (b : Bodies) (none shared none_yet merged : List (List Record)) → flat none ≡ [] → flat shared ≡ flat none ++ filter p (flat b.shared) → flat none_yet ≡ [] → flat merged ≡ flat none_yet ++ filter p (flat b.merged)
+    → flat shared ++ flat merged ≡ filter p (held_by b)
+bodies_parts p b none shared none_yet merged empty first empty_yet second =
+    (λ i. (first ∙ ap (λ l. l ++ filter p (flat b.shared)) empty) i ++ (second ∙ ap (λ l. l ++ filter p (flat b.merged)) empty_yet) i)
+    ∙ sym (filter_append p (flat b.shared) (flat b.merged))

@@ -1,6 +1,6 @@
 -- The records of a tablet, wherever they lie.
-use Rattle.std.proofs.Common.{◌≡◌, ℕ, ◌<◌, List, [], ◌∷◌, ◌++◌, Bool, sym, ◌∙◌, ap, subst, append_assoc, ◌+◌, length, take, get_or, append-nil}
-use Rattle.std.specs.Prelude.{filter, Contains, Result, Ok, Err, ⊤, OnOk, OnErr}
+use Rattle.std.proofs.Common.{◌≡◌, ℕ, ◌<◌, List, [], ◌∷◌, ◌++◌, sym, ◌∙◌, ap, subst, append_assoc, append-nil}
+use Rattle.std.specs.Prelude.{Contains, Result, Ok, Err, ⊤, OnOk, OnErr}
 use Rattle.std.specs.List.Sorted.{IsPermutation}
 use Rattle.std.proofs.lemmas.List.Sorted.{IsPermutation-sym, IsPermutation-trans, IsPermutation-append_comm, IsPermutation-append_left, IsPermutation-append_right, Contains-permutation}
 use Rattle.tab_key.specs.Records.{Record}
@@ -9,8 +9,6 @@ use Rattle.tab_key.proofs.Rising.{in_from, in_to, in_sorted, sorted_in, rising_s
 use Rattle.tab_key.proofs.Sorting.{distinct_permuted}
 use Rattle.tab_cells.specs.Written.{TimedUpdate, records_of}
 use Rattle.tab_iter.specs.Bags.{flat}
-use Rattle.tab_cells.proofs.Lists.{filter_append}
-use Rattle.std.proofs.lemmas.List.{take_more}
 use Rattle.tab_cells.proofs.Written.{distinct_new}
 use Rattle.tab_cells.proofs.Rising.{contains_first, sorted_contains}
 pub use Rattle.tab_version.proofs.InOrder.{permuted_sorted}
@@ -40,15 +38,6 @@ frozen_sorted active runs d = sorted_once (active ++ runs) (runs ++ sorted activ
 pub flat_more : (xss : List (List Record)) (xs : List Record) → flat (xss ++ xs ∷ []) ≡ flat xss ++ xs
 flat_more [] xs = append-nil xs
 flat_more (ys ∷ xss) xs = ap (λ l. ys ++ l) (flat_more xss xs) ∙ sym (append_assoc ys (flat xss) xs)
-
--- ---- parts of the runs
--- the parts of the first runs, and that of the next
-pub parts_more : (p : Record → Bool) (runs clips more : List (List Record)) (i : ℕ) (run part : List Record) → i < length runs → run ≡ get_or runs i run → part ≡ filter p run
-    → flat clips ≡ filter p (flat (take i runs)) → flat more ≡ flat clips ++ part → flat more ≡ filter p (flat (take (i + 1) runs))
-parts_more p runs clips more i run part lt is of before after =
-    after ∙ (λ j. before j ++ of j)
-    ∙ sym (filter_append p (flat (take i runs)) run)
-    ∙ ap (filter p) (sym (ap flat (take_more runs i run lt ∙ ap (λ x. take i runs ++ x ∷ []) (sym is)) ∙ flat_more (take i runs) run))
 
 -- ---- a write
 module _ (seq : ℕ) (row : List ℕ) (ps : List TimedUpdate) (active runs : List Record) (below : (u : Record) → Contains (sorted (active ++ runs)) u → u.seq < seq) (d : IsDistinct (active ++ runs)) where

@@ -1,3 +1,4 @@
+pub mod BodyLists
 pub mod Bodies
 pub mod Opened
 pub mod Tablets

@@ -1,106 +1,109 @@
 //! What scans read in the place of runs: few bodies, however many runs there are.
 //!
-//! A small run is merged with the small bodies before it, so that each body has more than twice the records of the next one; a large
-//! one is shared. So the bodies are as many as the logarithm of the records, and one more for each 16,384 records at most.
-ghost use Rattle.std.specs.Prelude.{◌≡◌, ◌≤◌, ◌++◌, length, IfOk};
-ghost use Rattle.std.specs.List.Sorted.{IsPermutation};
-ghost use Rattle.tab_key.specs.Sorted.{sorted, IsDistinct};
-ghost use Rattle.tab_tablet.specs.Bodies.{held_in};
-ghost use Rattle.tab_version.specs.Sources.{records_of};
+//! A small run is merged with the small bodies before it, so that each of these has more than twice the records of the next one; a
+//! large one is shared. So the bodies are as many as the logarithm of the records, and one more for each 16,384 records at most.
+ghost use Rattle.std.specs.Prelude.{◌≡◌, ◌++◌, ◌∷◌, [], filter, take, IfOk, OnOk};
+ghost use Rattle.tab_key.specs.Ranges.{is_in_range};
+ghost use Rattle.tab_tablet.specs.BodyLists.{no_bodies, held_by};
 
-use crate::merging::merged;
-use std::alloc::Global;
-use tab_iter::NoMemory;
-use tab_version::{Clip, Clips, TableClip};
+use crate::clipping::add_parts;
+use std::alloc::{AllocError, Global};
+use std::marker::Model;
+use tab_key::Bounds;
+use tab_version::Clip;
 
-/// The most records of a run that is copied into a body.
-const MOST_COPIED: usize = 16_384;
+/// Bodies: shares of runs as they are, and runs that small ones were merged into. A contract sees the records of each.
+#[derive(Drop)]
+pub(crate) struct Bodies {
+    shared: Vec<Clip>,
+    merged: Vec<Clip>,
+}
 
-/// The most records of a body that is merged of others.
-const MOST_MERGED: usize = 65_536;
+impl Model for Bodies {
+    ghost use Rattle.tab_tablet.specs.BodyLists.{Bodies as Held};
 
-/// The bodies with the records of one more run. These stay as they are, and so does the run.
-///
-/// Where memory for a merge lacks, the run is a body of its own. NoMemory says that there is none for a share of each body either.
-pub(crate) fn bodies_with(alloc: Global, bodies: &Clips, run: &Clip) -> Result<Clips, NoMemory>
-    requires { IsDistinct (run.now ++ records_of bodies.now) }
-    ensures { IfOk result (λ b. IsPermutation (run.now ++ records_of bodies.now) (records_of b)) }
-{
-    if run.len() > MOST_COPIED {
-        return beside(alloc, bodies, run);
+    ghost Value = { Held };
+
+    ghost view = { λ b. record { shared = b.shared.items; merged = b.merged.items } };
+}
+
+impl Bodies {
+    /// No bodies. It takes no memory.
+    pub(crate) fn new(alloc: Global) -> Bodies
+        ensures { result ≡ no_bodies }
+    {
+        Bodies {
+            shared: Vec::new(alloc),
+            merged: Vec::new(alloc),
+        }
     }
-    let kept = count_kept(bodies.tables(), run.len());
-    match merged_behind(alloc, bodies, kept, run) {
-        Ok(with) => Ok(with),
-        Err(_) => beside(alloc, bodies, run),
+
+    /// These bodies. It takes no memory.
+    pub(crate) fn of(shared: Vec<Clip>, merged: Vec<Clip>) -> Bodies
+        ensures { result ≡ record { shared = shared.items; merged = merged.items } }
+    {
+        Bodies { shared, merged }
+    }
+
+    /// The runs that are shared as they are.
+    pub(crate) fn shared(&self) -> &[Clip]
+        ensures { result.now ≡ self.now.shared }
+    {
+        self.shared.as_slice()
+    }
+
+    /// The runs that small ones were merged into.
+    pub(crate) fn merged(&self) -> &[Clip]
+        ensures { result.now ≡ self.now.merged }
+    {
+        self.merged.as_slice()
+    }
+
+    /// The same bodies, each shared once more.
+    pub(crate) fn share(&self, alloc: Global) -> Result<Bodies, AllocError>
+        ensures { IfOk result (λ b. b ≡ self.now) }
+    {
+        let shared = shares(alloc, &self.shared)?;
+        let merged = shares(alloc, &self.merged)?;
+        Ok(Bodies { shared, merged })
+    }
+
+    /// The bodies, each cut to the rows in bounds, without those that have no record there.
+    pub(crate) fn in_rows(&self, alloc: Global, bounds: &Bounds) -> Result<Bodies, AllocError>
+        ensures { IfOk result (λ b. held_by b ≡ filter (λ u. is_in_range bounds.now u.key.row) (held_by self.now)) }
+    {
+        let mut shared = Vec::new(alloc);
+        add_parts(&mut shared, &self.shared, bounds)?;
+        let mut merged = Vec::new(alloc);
+        add_parts(&mut merged, &self.merged, bounds)?;
+        Ok(Bodies { shared, merged })
+    }
+
+    /// Puts the run behind those that are shared as they are.
+    pub(crate) fn add_shared(&mut self, run: Clip) -> Result<(), AllocError>
+        ensures { OnOk result (self.new ≡ record (self.old) { shared = self.old.shared ++ run ∷ [] }) }
+    {
+        self.shared.push(run)?;
+        Ok(())
+    }
+
+    /// Puts the run in the place of all those merged from this one on.
+    pub(crate) fn put_merged(&mut self, kept: usize, run: Clip) -> Result<(), AllocError>
+        ensures { OnOk result (self.new ≡ record (self.old) { merged = take kept self.old.merged ++ run ∷ [] }) }
+    {
+        self.merged.truncate(kept);
+        self.merged.push(run)?;
+        Ok(())
     }
 }
 
-// The bodies, and the run as one more.
-fn beside(alloc: Global, bodies: &Clips, run: &Clip) -> Result<Clips, NoMemory>
-    ensures { IfOk result (λ b. IsPermutation (run.now ++ records_of bodies.now) (records_of b)) }
+/// The same runs, each shared once more.
+pub(crate) fn shares(alloc: Global, runs: &[Clip]) -> Result<Vec<Clip>, AllocError>
+    ensures { IfOk result (λ v. v.items ≡ runs.now) }
 {
-    let mut with = bodies.share(alloc)?;
-    with.add_run(run.share()?)?;
-    Ok(with)
-}
-
-// The bodies, but for the tables from this one on, which are merged with the run.
-fn merged_behind(alloc: Global, bodies: &Clips, kept: usize, run: &Clip) -> Result<Clips, NoMemory>
-    requires inside { kept ≤ length bodies.now.tables }
-    requires distinct { IsDistinct (run.now ++ records_of bodies.now) }
-    ensures { IfOk result (λ b. IsPermutation (run.now ++ records_of bodies.now) (records_of b)) }
-{
-    let table = merged_with(alloc, &bodies.tables()[kept..], run)?;
-    let shared = bodies.share(alloc)?;
-    let (runs, mut tables) = shared.into_parts();
-    tables.truncate(kept);
-    tables.push(table)?;
-    Ok(Clips::of(runs, tables))
-}
-
-// The tables and the run, merged.
-fn merged_with(alloc: Global, tables: &[TableClip], run: &Clip) -> Result<TableClip, NoMemory>
-    requires { IsDistinct (run.now ++ held_in tables.now) }
-    ensures { IfOk result (λ t. t.records ≡ sorted (run.now ++ held_in tables.now)) }
-{
-    let mut runs = Vec::with_capacity(alloc, 1)?;
-    runs.push(run.share()?)?;
-    let inputs = Clips::of(runs, shares(alloc, tables)?);
-    merged(alloc, &inputs)
-}
-
-// The same tables, each shared once more.
-fn shares(alloc: Global, tables: &[TableClip]) -> Result<Vec<TableClip>, NoMemory>
-    ensures { IfOk result (λ v. v.items ≡ tables.now) }
-{
-    let mut shared = Vec::with_capacity(alloc, tables.len())?;
-    for table in tables {
-        shared.push(table.share()?)?;
+    let mut shared = Vec::with_capacity(alloc, runs.len())?;
+    for run in runs {
+        shared.push(run.share()?)?;
     }
     Ok(shared)
-}
-
-// How many of the tables stay where so many records come behind them; the others are merged with these.
-fn count_kept(tables: &[TableClip], count: usize) -> usize
-    ensures { result ≤ length tables.now }
-{
-    let mut kept = tables.len();
-    let mut merged = count;
-    for table in tables.iter().rev() {
-        if !are_merged(table.len(), merged) {
-            return kept;
-        }
-        merged = merged.saturating_add(table.len());
-        kept = kept.saturating_sub(1);
-    }
-    kept
-}
-
-// Whether a body of so many records is merged with so many that come behind it.
-fn are_merged(before: usize, behind: usize) -> bool {
-    if before / 2 > behind {
-        return false;
-    }
-    before.saturating_add(behind) <= MOST_MERGED
 }

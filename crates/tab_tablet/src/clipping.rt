@@ -3,8 +3,10 @@ ghost use Rattle.std.specs.Prelude.{◌≡◌, ◌++◌, filter, map, IfOk, OnOk
 ghost use Rattle.tab_key.specs.Ranges.{is_in_range};
 ghost use Rattle.tab_iter.specs.Bags.{flat};
 ghost use Rattle.tab_tablet.specs.Bodies.{held_in};
+ghost use Rattle.tab_tablet.specs.BodyLists.{held_by};
 ghost use Rattle.tab_version.specs.Sources.{records_of};
 
+use crate::bodies::Bodies;
 use std::alloc::{AllocError, Global};
 use tab_key::Bounds;
 use tab_version::{Clip, Clips, TableClip};
@@ -12,28 +14,31 @@ use tab_version::{Clip, Clips, TableClip};
 /// The part of each body and of each table whose rows are in range, without those that have none. No record is copied.
 pub(crate) fn clips_in(
     alloc: Global,
-    bodies: &Clips,
+    bodies: &Bodies,
     tables: &[TableClip],
     bounds: &Bounds,
 ) -> Result<Clips, AllocError>
-    ensures { IfOk result (λ c. records_of c ≡ filter (λ u. is_in_range bounds.now u.key.row) (records_of bodies.now ++ held_in tables.now)) }
+    ensures { IfOk result (λ c. records_of c ≡ filter (λ u. is_in_range bounds.now u.key.row) (held_by bodies.now ++ held_in tables.now)) }
 {
-    let runs = runs_in(alloc, bodies.runs(), bounds)?;
-    let mut clips = Vec::new(alloc);
-    tables_in(&mut clips, bodies.tables(), bounds)?;
-    tables_in(&mut clips, tables, bounds)?;
-    Ok(Clips::of(runs, clips))
+    let mut runs = Vec::new(alloc);
+    add_parts(&mut runs, bodies.shared(), bounds)?;
+    add_parts(&mut runs, bodies.merged(), bounds)?;
+    let tables = tables_in(alloc, tables, bounds)?;
+    Ok(Clips::of(runs, tables))
 }
 
-// The part of each run.
-fn runs_in(alloc: Global, runs: &[Clip], bounds: &Bounds) -> Result<Vec<Clip>, AllocError>
-    ensures { IfOk result (λ clips. flat clips.items ≡ filter (λ u. is_in_range bounds.now u.key.row) (flat runs.now)) }
+/// Puts the part of each run behind the others, without those that have no record in range.
+pub(crate) fn add_parts(
+    clips: &mut Vec<Clip>,
+    runs: &[Clip],
+    bounds: &Bounds,
+) -> Result<(), AllocError>
+    ensures { OnOk result (flat clips.new.items ≡ flat clips.old.items ++ filter (λ u. is_in_range bounds.now u.key.row) (flat runs.now)) }
 {
-    let mut clips = Vec::new(alloc);
     for run in runs {
-        add_run(&mut clips, run.in_rows(bounds)?)?;
+        add_run(clips, run.in_rows(bounds)?)?;
     }
-    Ok(clips)
+    Ok(())
 }
 
 // Puts the clip behind the others, if it has a record.
@@ -47,18 +52,19 @@ fn add_run(clips: &mut Vec<Clip>, clip: Clip) -> Result<(), AllocError>
     Ok(())
 }
 
-// Puts the part of each table behind the others.
+// The part of each table.
 fn tables_in(
-    clips: &mut Vec<TableClip>,
+    alloc: Global,
     tables: &[TableClip],
     bounds: &Bounds,
-) -> Result<(), AllocError>
-    ensures { OnOk result (held_in clips.new.items ≡ held_in clips.old.items ++ filter (λ u. is_in_range bounds.now u.key.row) (held_in tables.now)) }
+) -> Result<Vec<TableClip>, AllocError>
+    ensures { IfOk result (λ clips. held_in clips.items ≡ filter (λ u. is_in_range bounds.now u.key.row) (held_in tables.now)) }
 {
+    let mut clips = Vec::new(alloc);
     for table in tables {
-        add_table(clips, table.in_rows(bounds)?)?;
+        add_table(&mut clips, table.in_rows(bounds)?)?;
     }
-    Ok(())
+    Ok(clips)
 }
 
 // Puts the clip behind the others, if it has a record.

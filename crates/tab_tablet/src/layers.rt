@@ -7,10 +7,11 @@ ghost use Rattle.tab_compact.specs.Merges.{output, captured};
 ghost use Rattle.tab_tablet.specs.Bodies.{AreBodies, Freezes, bodies_after};
 ghost use Rattle.tab_tablet.specs.Spared.{sources_after};
 
-use crate::bodies::bodies_with;
+use crate::bodies::{Bodies, shares};
 use crate::clipping::clips_in;
 use crate::compacting::compacted;
 use crate::freeze::Freeze;
+use crate::growing::bodies_with;
 use std::alloc::{AllocError, Global};
 use std::marker::Model;
 use tab_cells::Compaction;
@@ -25,7 +26,7 @@ use tab_version::{Clip, Clips, TableClip};
 #[derive(Drop)]
 pub(crate) struct Layers {
     sources: Clips,
-    bodies: Clips,
+    bodies: Bodies,
 }
 
 impl Model for Layers {
@@ -46,7 +47,7 @@ impl Layers {
     {
         Layers {
             sources: Clips::new(alloc),
-            bodies: Clips::new(alloc),
+            bodies: Bodies::new(alloc),
         }
     }
 
@@ -57,7 +58,7 @@ impl Layers {
     {
         Layers {
             sources,
-            bodies: Clips::new(alloc),
+            bodies: Bodies::new(alloc),
         }
     }
 
@@ -177,7 +178,7 @@ impl Layers {
     }
 
     // The bodies of the runs that are left where these inputs are taken out: where there are no runs among these, all runs are left.
-    fn bodies_left(&self, alloc: Global, left: &Clips, inputs: &Clips) -> Result<Clips, AllocError>
+    fn bodies_left(&self, alloc: Global, left: &Clips, inputs: &Clips) -> Result<Bodies, AllocError>
         requires { left_by inputs.now self.now ≡ Some left.now }
         ensures { IfOk result (λ b. AreBodies left.now.runs b) }
     {
@@ -185,26 +186,26 @@ impl Layers {
             let bodies = self.bodies.share(alloc)?;
             return Ok(bodies);
         }
-        let bodies = runs_of(alloc, left)?;
+        let bodies = own_bodies(alloc, left.runs())?;
         Ok(bodies)
     }
 }
 
-// A share of each run, without the tables.
-fn runs_of(alloc: Global, sources: &Clips) -> Result<Clips, AllocError>
-    ensures { IfOk result (λ r. r ≡ record { runs = sources.now.runs; tables = [] }) }
+// A share of each run, as a body.
+fn own_bodies(alloc: Global, runs: &[Clip]) -> Result<Bodies, AllocError>
+    ensures { IfOk result (λ b. b ≡ record { shared = runs.now; merged = [] }) }
 {
-    let (runs, _) = sources.share(alloc)?.into_parts();
-    Ok(Clips::of(runs, Vec::new(alloc)))
+    let shared = shares(alloc, runs)?;
+    Ok(Bodies::of(shared, Vec::new(alloc)))
 }
 
 // The bodies after a compaction of this kind: a partial one leaves the runs, the others merge them.
-fn bodies_after(alloc: Global, kind: Compaction, bodies: Clips) -> Clips
+fn bodies_after(alloc: Global, kind: Compaction, bodies: Bodies) -> Bodies
     ensures { result ≡ bodies_after kind bodies }
 {
     match kind {
-        Compaction::Minor => Clips::new(alloc),
+        Compaction::Minor => Bodies::new(alloc),
         Compaction::Partial => bodies,
-        Compaction::Full => Clips::new(alloc),
+        Compaction::Full => Bodies::new(alloc),
     }
 }

@@ -9,8 +9,9 @@
 //! | `tablet` | the tablet: writes, freezes, compactions, splits, and what a scan reads |
 //! | `sources` | its sources, if there are any, and the place where they lie |
 //! | `layers` | the sources, and the bodies that scans read in the place of runs |
-//! | `bodies` | these, with one more run |
-//! | `merging` | sources merged into one sorted table |
+//! | `bodies` | these |
+//! | `growing` | these, with one more run |
+//! | `merging` | sources merged into one run |
 //! | `freezing` | what was written, made a run |
 //! | `freeze` | what is made before a tablet is frozen in its place |
 //! | `clipping` | the records of bodies and tables in range |
@@ -41,6 +42,7 @@ mod entries;
 mod entry;
 mod freeze;
 mod freezing;
+mod growing;
 mod installed;
 mod jobs;
 mod layers;

@@ -49,8 +49,7 @@ impl Search {
         requires inside { self.old.place < length (records_of self.old.left) }
         ensures { IfOk result (λ found. MatchOption found (IsNarrower (records_of self.old.left) self.old.place (records_of self.new.left) self.new.place) (λ row. slice_get (rows_of (records_of self.old.left)) self.old.place ≡ Some row)) }
     {
-        let middle = probe(alloc, &self.left)?;
-        let row = ByteString::from_slice(alloc, middle)?;
+        let row = probe(alloc, &self.left)?;
         if self.cut_below(alloc, &row)? {
             return Ok(None);
         }

@@ -7,4 +7,4 @@ use Rattle.tab_tablet.proofs.probing.add_run.Goals as goal
 pub returns : goal.returns
 returns c = λ us m.
     subst (AreMiddles (us ++ c.args.run.now)) (sym c.in_ok-push.ensures.items)
-    (one_more us c.args.run.now c.args.middles.now.items c.row-row.result.now m (has_at c.args.run.now (c.len-count.result / 2) c.row-row.result.now (omega (arith, c.len-count.ensures.len, c.if-count-eq0.false)) c.row-row.ensures))
+    (one_more us c.args.run.now c.args.middles.now.items c.in_ok-row.row m (has_at c.args.run.now (c.len-count.result / 2) c.in_ok-row.row (omega (arith, c.len-count.ensures.len, c.if-count-eq0.false)) (λ u. c.in_ok-row.ensures u)))

@@ -1,5 +1,5 @@
 -- All runs are left, or those that are left are their own bodies.
-use Rattle.std.proofs.Common.{◌≡◌, ◌==◌, true, length, sym, subst, rules}
+use Rattle.std.proofs.Common.{◌≡◌, ◌==◌, [], true, length, sym, subst, rules}
 use Rattle.std.specs.Prelude.{Some}
 use Rattle.tab_version.specs.Sources.{Sources, left_by}
 use Rattle.tab_tablet.specs.Bodies.{AreBodies}
@@ -13,4 +13,6 @@ returns-then-is_empty c =
     subst (AreBodies c.args.left.now.runs) (sym c.in_ok-bodies.ensures) (bodies_stay c.args.inputs.now c.self.inside.sources c.args.left.now c.self.inside.bodies none found c.self.invariant)
 
 pub returns : goal.returns
-returns c = subst (AreBodies c.args.left.now.runs) (sym c.in_ok-bodies-2.ensures) (own_bodies c.args.left.now.runs)
+returns c =
+    let is : c.in_ok-bodies-2.bodies ≡ record { shared = c.args.left.now.runs; merged = [] } = search rules in
+    subst (AreBodies c.args.left.now.runs) (sym is) (own_bodies c.args.left.now.runs)

@@ -1,8 +1,0 @@
-use Rattle.tab_key.specs.Ranges.{is_in_range}
-use Rattle.tab_tablet.proofs.Gathered.{parts_more}
-use Rattle.tab_tablet.proofs.clipping.runs_in.Goals as goal
-
-pub loop-run-preserved : goal.loop-run-preserved
-loop-run-preserved c =
-    parts_more (λ u. is_in_range c.args.bounds.now u.key.row) c.args.runs.now c.loop-run.clips.items c.add_run.new.clips.items c.loop-run.run-index c.run-item.result c.in_ok-in_rows.field-0
-    c.loop-run-test.true c.run-item.is c.in_ok-in_rows.ensures c.loop-run.invariant c.in_ok-add_run.ensures
