@@ -1,22 +1,27 @@
 #!/usr/bin/env python3
-"""A soak of `tabd serve`, by hand: 64 connections for a minute. Two thirds of them write, scan, leave sessions open and come again; the
-others are rude: they stop inside a frame, never read, send what is no frame, say nothing, or break off. At the end
+"""A soak of `tabd serve --history FILE`, by hand: 64 connections for a minute. Two thirds of them write, scan, leave sessions open and come
+again, and two of these rotate the history all the time; the others are rude: they stop inside a frame, never read, send what is no frame,
+say nothing, or break off. At the end
 
 - every acknowledged write is read back, and no writer's row holds anything else;
-- nothing of a frame that was cut off took effect, and of those who never read a beginning of their writes did, each whole;
-- the server still serves, and its memory stayed below a bound.
+- the history has every acknowledged write once, each writer's in his order, whichever part it went with;
+- nothing of a frame that was cut off took effect, and of those who never read a beginning of each visit's writes did, each whole;
+- the server still serves, its memory stayed below a bound, and over the last half it is level.
 
-Usage: tests/soak.py [--seconds N] [--connections N] [--memory MIB] [--seed N]   (from anywhere; wants Python 3.9; builds the program if it
-  isn't built)
+Usage: tests/soak.py [--seconds N] [--connections N] [--memory MIB] [--seed N] [--folder F]   (from anywhere; wants Python 3.9; builds the
+  program if it isn't built; the history lies in the folder, and takes up to 10 MB a second there)
   TABD in the environment: another built program
 """
 import argparse
+import hashlib
 import os
 import random
+import re
 import socket
 import struct
 import subprocess
 import sys
+import tempfile
 import threading
 import time
 from collections import Counter
@@ -29,6 +34,9 @@ import tabd  # noqa: E402
 from tabd import Delete, Put, Range  # noqa: E402
 
 ROWS = 200  # of each writer
+VISIT, ROUND = 1000, 5000  # writes in a visit of who never reads, and rows that he fills
+PATIENCE = 300  # seconds without an answer, also where other work takes all processors
+SIZES = 5 * [0] + 15 * [10] + 4 * [1000] + [50_000]
 HELLO = b"\0\0\0\x09\x01\0\0\0\x04root"
 
 
@@ -57,15 +65,42 @@ class Peer(threading.Thread):
             self.faults.append(f"{type(self).__name__} {self.number}: {type(error).__name__}: {error}")
 
 
+class Written:
+    """The sum of a writer's writes, in their order, and how many they are."""
+
+    def __init__(self):
+        self.sum, self.count = hashlib.sha256(), 0
+
+    def add(self, row, value, time_of):
+        """A put of this value, or a delete."""
+        self.sum.update(b"%s %d %s\n" % (row, time_of, b"-" if value is None else b"+" + hashlib.sha256(value).digest()))
+        self.count += 1
+
+    def told(self):
+        return self.count, self.sum.hexdigest()
+
+
+class Rotator(Peer):
+    """Rotates the history, now and then behind a pause."""
+
+    def visit(self):
+        with tabd.connect(self.soak.port, "root", timeout=PATIENCE) as client:
+            while time.monotonic() < self.soak.ends:
+                client.rotate()
+                self.done["rotate"] += 1
+                self.soak.over.wait(self.random.choice([0, 0.01, 0.1]))
+
+
 class Writer(Peer):
     """Writes rows of its own, and remembers what was acknowledged; reads in all ways."""
 
     def __init__(self, number, soak):
         super().__init__(number, soak)
         self.acknowledged, self.time = {}, 0
+        self.written, self.slowest = Written(), 0
 
     def visit(self):
-        with tabd.connect(self.soak.port, "root", timeout=60) as client:
+        with tabd.connect(self.soak.port, "root", timeout=PATIENCE) as client:
             for _ in range(self.random.randrange(1, 200)):
                 if time.monotonic() >= self.soak.ends:
                     break
@@ -81,18 +116,22 @@ class Writer(Peer):
         return [Put("f", "q", value=value, timestamp=self.time)]
 
     def write(self, client):
-        row, value = self.row(), self.random.randbytes(self.random.choice([0, 10, 10, 1000, 50_000]))
+        row, value, began = self.row(), self.random.randbytes(self.random.choice(SIZES)), time.monotonic()
         client.write("t", row, self.put(value))
+        self.slowest = max(self.slowest, time.monotonic() - began)
         self.acknowledged[row] = value
+        self.written.add(row, value, self.time)
 
     def pipeline(self, client):
-        written = {}
+        written = []
         with client.pipeline():
             for _ in range(self.random.randrange(300)):
                 row, value = self.row(), b"%d" % self.time
                 client.write("t", row, self.put(value))
-                written[row] = value
-        self.acknowledged.update(written)
+                written.append((row, value, self.time))
+        for row, value, time_of in written:
+            self.acknowledged[row] = value
+            self.written.add(row, value, time_of)
         self.done["writes in pipelines"] += len(written)
 
     def delete(self, client):
@@ -100,6 +139,7 @@ class Writer(Peer):
         self.time += 1
         client.write("t", row, [Delete("f", "q", timestamp=self.time)])
         self.acknowledged.pop(row, None)
+        self.written.add(row, None, self.time)
 
     def tidy(self, client):
         if self.random.randrange(20) == 0:
@@ -134,7 +174,7 @@ class Rude(Peer):
 
     def __init__(self, number, soak):
         super().__init__(number, soak)
-        self.sent, self.visits = 0, []
+        self.sent = 0
 
     def visit(self):
         with socket.create_connection(("127.0.0.1", self.soak.port)) as link:
@@ -155,10 +195,9 @@ class Rude(Peer):
 
     def never_read(self, link):
         link.settimeout(0.5)
-        rows = [b"u%03d-%08d" % (self.number, self.sent + at) for at in range(1000)]
-        self.sent += len(rows)
-        self.visits.append(rows)
-        link.sendall(HELLO + b"".join(write_frame(row, b"v") for row in rows))
+        writes = range(self.sent, self.sent + VISIT)
+        self.sent += VISIT
+        link.sendall(HELLO + b"".join(write_frame(b"u%03d-%04d" % (self.number, at % ROUND), b"%d" % at) for at in writes))
         link.sendall(field(b"\x0b" + field(b"t") + b"\0\0" + bytes(8)) + field(b"\x0c" + bytes(4) + b"\xff\xff\xff\xff") * 10_000)
 
     def no_frame(self, link):
@@ -178,14 +217,20 @@ class Soak:
         self.seed = asked.seed
         with socket.create_server(("127.0.0.1", 0)) as listener:
             self.port = listener.getsockname()[1]
-        words = [program, "serve", "--port", str(self.port), "--workers", str(asked.connections)]
+        self.folder = tempfile.TemporaryDirectory(dir=asked.folder)
+        self.history = os.path.join(self.folder.name, "history")
+        words = [program, "serve", "--port", str(self.port), "--workers", str(asked.connections), "--compactors", "2", "--history", self.history]
         self.server = subprocess.Popen(words, stdin=subprocess.DEVNULL, stdout=subprocess.PIPE)
         if self.server.stdout.readline() != b"listening %d\n" % self.port:
             sys.exit(f"{program} doesn't listen")
         with tabd.connect(self.port, "root") as root:
             root.create_table("t")
         self.ends, self.over = time.monotonic() + asked.seconds, threading.Event()
-        self.peers = [Rude(number, self) if number % 3 == 2 else Writer(number, self) for number in range(asked.connections)]
+        self.peers = [self.peer(number) for number in range(asked.connections)]
+        self.resident = []
+
+    def peer(self, number):
+        return (Rotator if number in (1, 3) else Rude if number % 3 == 2 else Writer)(number, self)
 
     def memory(self):
         """MiB that are resident, and the most that were."""
@@ -198,28 +243,82 @@ class Soak:
             peer.start()
         while time.monotonic() < self.ends and self.server.poll() is None:
             time.sleep(min(5, max(0, self.ends - time.monotonic())))
-            print("{:4.0f} s left, {:.0f} MiB resident, {:.0f} MiB at most".format(max(0, self.ends - time.monotonic()), *self.memory()), flush=True)
+            told = self.memory()
+            self.resident.append(told[0])
+            print("{:4.0f} s left, {:.0f} MiB resident, {:.0f} MiB at most".format(max(0, self.ends - time.monotonic()), *told), flush=True)
         self.over.set()
         for peer in self.peers:
-            peer.join(60)
+            peer.join(PATIENCE)
         return [f"{type(peer).__name__} {peer.number} doesn't end" for peer in self.peers if peer.is_alive()]
 
     def read_back(self):
         """What is wrong with what the store holds, once all connections have ended."""
-        with tabd.connect(self.port, "root", timeout=60) as root:
+        with tabd.connect(self.port, "root", timeout=PATIENCE) as root:
             found = {cell.row: cell.value for cell in root.scan("t", batch=100)}
         for peer in self.peers:
             if isinstance(peer, Writer):
                 own = {row: value for row, value in found.items() if row.startswith(b"w%03d-" % peer.number)}
                 if own != peer.acknowledged:
                     yield f"writer {peer.number}: {len(peer.acknowledged)} rows were acknowledged, {len(own)} are held, and they differ"
-            else:
-                for rows in peer.visits:
-                    held = [found.get(row) for row in rows]
-                    if held != [b"v"] * (len(rows) - held.count(None)) + [None] * held.count(None):
-                        yield f"peer {peer.number}, who never reads: what is held is no beginning of his writes"
+        if any(row[:1] == b"u" and int(value) % ROUND != int(row[5:]) for row, value in found.items()):
+            yield "a row of who never reads holds what wasn't written to it"
         if b"cut" in found:
             yield "a write whose frame was cut took effect"
+
+    def hand_on(self):
+        """Has the server hand the rest of its history on, and waits until it is in the file."""
+        with tabd.connect(self.port, "root", timeout=PATIENCE) as root:
+            root.create_user("the-end")
+            root.rotate()
+        for _ in range(600):
+            with open(self.history, "rb") as file:
+                file.seek(-min(4096, os.path.getsize(self.history)), os.SEEK_END)
+                if b"\ncreateuser the-end\n# ok\n" in file.read():
+                    return
+            time.sleep(0.1)
+
+    def settle(self):
+        """What is wrong with the history: each writer's writes stand in it once, in his order, and of each visit of who never reads a beginning."""
+        written = {peer.number: Written() for peer in self.peers if isinstance(peer, Writer)}
+        visits, self.entries, rotations, clock = Counter(), 0, 0, 0
+        with open(self.history, "rb") as file:
+            for at, user, line, reply in zip(file, file, file, file):
+                self.entries += 1
+                if at[:3] != b"at " or user != b"as root\n" or reply[:2] != b"# " or int(at[3:]) < clock:
+                    yield f"entry {self.entries} of the history is none: {(at, user, line[:100], reply)}"
+                    return
+                clock = int(at[3:])
+                rotations += line == b"rotate\n" and reply == b"# ok\n"
+                words = line.split()
+                if words[0] != b"mutate" or reply != b"# ok\n":
+                    continue
+                row = words[2]
+                if row[:1] == b"w":
+                    value = unescaped(words[7]) if words[3] == b"put" else None
+                    written[int(row[1:4])].add(row, value, int(words[-1]))
+                elif row[:1] == b"u":
+                    place = int(row[1:4]), int(words[7]) // VISIT
+                    if int(words[7]) % VISIT != visits[place]:
+                        yield f"peer {place[0]}, who never reads: the writes of a visit are no beginning of it"
+                    visits[place] += 1
+                else:
+                    yield "the history has a write whose frame was cut"
+        for peer in self.peers:
+            if isinstance(peer, Writer) and written[peer.number].told() != peer.written.told():
+                yield f"writer {peer.number}: {peer.written.count} writes were acknowledged, {written[peer.number].count} are in the history, and they differ"
+        asked = sum(peer.done["rotate"] for peer in self.peers)
+        if rotations < asked:
+            yield f"{asked} rotations were acknowledged, {rotations} are in the history"
+
+    def levels(self):
+        """The greatest memory that was seen resident over the third and the last quarter, in MiB."""
+        quarter = len(self.resident) // 4
+        return [max(part) for part in (self.resident[2 * quarter : 3 * quarter], self.resident[3 * quarter :])] if quarter else [0, 0]
+
+
+def unescaped(word):
+    """The bytes that a word of a script says."""
+    return b"" if word == b"\\e" else re.sub(rb"\\(x..|.)", lambda found: bytes.fromhex(found[1][1:].decode()) if found[1][:1] == b"x" else found[1], word)
 
 
 def main():
@@ -228,6 +327,7 @@ def main():
     parser.add_argument("--connections", type=int, default=64, help="at once, 64 at most")
     parser.add_argument("--memory", type=float, default=2048, help="the bound in MiB")
     parser.add_argument("--seed", type=int, default=1)
+    parser.add_argument("--folder", help="where the history lies")
     asked = parser.parse_args()
     program = os.environ.get("TABD") or subprocess.check_output([TOP / "release/program"], text=True).strip()
     soak = Soak(program, asked)
@@ -235,14 +335,23 @@ def main():
         faults = soak.run()
         faults += [fault for peer in soak.peers for fault in peer.faults] + list(soak.read_back())
         resident, most = soak.memory()
+        soak.hand_on()
+        faults += soak.settle()
     finally:
         soak.server.kill()
         soak.server.wait()
     done = sum((peer.done for peer in soak.peers), Counter())
     print(", ".join(f"{name} {count}" for name, count in sorted(done.items())))
-    print(f"{resident:.0f} MiB resident, {most:.0f} MiB at most, bound {asked.memory:.0f} MiB")
+    writers = [peer for peer in soak.peers if isinstance(peer, Writer)]
+    print(f"{soak.entries} entries in {os.path.getsize(soak.history) / 2**20:.0f} MiB, {sum(peer.written.count for peer in writers)} of them writes that were acknowledged")
+    print(f"the slowest write by itself: {max(peer.slowest for peer in writers) * 1000:.0f} ms")
+    third, last = soak.levels()
+    print(f"{resident:.0f} MiB resident, {most:.0f} MiB at most, bound {asked.memory:.0f} MiB; at most {third:.0f} in the third quarter, {last:.0f} in the last")
     if most > asked.memory:
         faults.append("over the bound of memory")
+    if last > 1.25 * third + 64:
+        faults.append("memory isn't level over the last half")
+    soak.folder.cleanup()
     print("\n".join(faults) or "nothing is lost")
     sys.exit(bool(faults))
 
