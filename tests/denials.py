@@ -4,9 +4,11 @@ it was answered 17, and as after the whole event where it wasn't. Lines go to a 
 
 Usage: denials.py PROGRAM [--anew]   (with --anew each try is made in a process of its own)"""
 import itertools
+import os
 import re
 import sys
 import tempfile
+import time
 from pathlib import Path
 
 from failing import NO_MEMORY, Connection, Counted, Script, Server, Silent, library
@@ -59,6 +61,7 @@ CASES = [
     ("constraints", SORTED, "constraints t alphanum,numeric", [*TABLE, "insert t r- f q A x 9"]),
     ("versions", SORTED, "versions t 1", TABLE, True),
     ("a horizon", SORTED, "horizon t 6", [*TABLE, "insert t b f q A x 5"], True),
+    ("a rotation", [*SORTED, "createuser u", "setauths u A,B", "grant u READ t"], "rotate", OF_USER),
 ]
 # what only a script has
 JOB = [*AGAIN, "begin t b full"]
@@ -216,6 +219,93 @@ def cases(folder, preloaded):
     print(f"{tries} tries, in {refused} of which an event was refused for memory")
 
 
+# ---- The clock.
+TIMED = ["insert t c f q A 5", "createuser v", "addsplit t e", "open t A,B", "flush t", "compact t full", "begin t b minor", "rotate", "status none", "versions t 3"]
+
+
+def clocks(folder, preloaded):
+    """What stands after an event of a later moment has the earlier clock where it was told 17, or its own; else its own."""
+    script, now = Script(PROGRAM, folder, preloaded), 0
+    for event in TIMED:
+        wrong, at, spared = [], 0, 0
+        while spared < 2:
+            at, now = at + 1, now + 100
+            script.ask("at %d" % now, *CLEAN, "dropuser v", "droptable clock", *SORTED, "at %d" % (now + 50))
+            script.control.deny(at, 0)
+            answer = script.ask(event)[0]
+            failed = script.control.lift() > 0
+            spared = 0 if failed else spared + 1
+            cell = script.ask("at 0", "createtable clock time=server", "insert clock r f q \\e v", "scan clock \\0")[-1]
+            times = [now, now + 50] if failed and answer == NO_MEMORY else [now + 50]
+            if cell not in [b"r f q \\e %d v\nend\n" % time for time in times]:
+                wrong.append((at, answer, cell, now))
+        counted.tell(f"the clock behind {event}", not wrong, wrong[:1])
+    script.close()
+
+
+# ---- Rotations, of a server that keeps its history in a file.
+def rotations(folder, preloaded):
+    """Each request for memory of a rotation is refused in turn, from the client's frame to the file. What is asked afterwards is as before;
+    what is done is in the file once, unless it is said that its part couldn't be written."""
+    log = Path(folder, "log")
+    server = Server(PROGRAM, folder, preloaded, "--history", str(log), workers=2)
+    os.set_blocking(server.process.stderr.fileno(), False)
+    client = server.connect()
+    client.ask(*SORTED, "createuser u", "setauths u A,B", "grant u READ t")
+    user = server.connect("u")
+    rotate = b"rotate\n# ok\n"
+
+    def asked():
+        return client.ask(*TABLE), user.ask("rights t", "scan t A,B", "scan t B")
+
+    def handed_on(since, mark):
+        """What the file gets, up to this mark and behind it a rotation that is told of twice: the client's entry, and the recorder's."""
+        ends = time.monotonic() + 30
+        while time.monotonic() < ends:
+            with open(log, "rb") as file:
+                file.seek(since)
+                more = file.read()
+            if re.search(mark + rb"(?s:.*)\n" + rotate + rb"at \d+\nas root\n" + rotate + rb"\Z", more):
+                return more
+            time.sleep(0.001)
+        raise Silent("the history isn't handed on")
+
+    def once_denied(at, stays):
+        """Whether memory was refused, and what is wrong."""
+        client.ask("droptable zeroth%d%d" % (stays, at), "rotate")
+        handed_on(0, b"zeroth%d%d" % (stays, at))
+        before, since = asked(), log.stat().st_size
+        client.ask("droptable first%d%d" % (stays, at))
+        server.control.deny(at, stays)
+        answer = client.ask("rotate")[0]
+        time.sleep(0.03 if stays else 0.015)
+        failed = server.control.lift() > 0
+        after = asked()
+        client.ask("droptable second%d%d" % (stays, at))
+        again = client.ask("rotate")[0]
+        text, said = handed_on(since, b"second%d%d" % (stays, at)), server.process.stderr.read() or b""
+        lost = said.count(b"fault: %s: no memory\n" % bytes(log))
+        marks = [text.count(b"droptable %s%d%d\n# refused 2 NoTable" % (word, stays, at)) for word in (b"first", b"second")]
+        good = answer in (b"ok\n", NO_MEMORY) and (failed or answer == b"ok\n" and not lost) and again == b"ok\n" and before == after
+        good = good and said.count(b"\n") == lost and (marks == [1, 1] or lost and marks == [0, 1])
+        return failed, answer == NO_MEMORY, lost, [] if good else [(at, stays, failed, answer, again, said, marks, before == after)]
+
+    asked()  # its scan freezes what was written
+    tries = refused = lost = 0
+    wrong = []
+    for stays in (0, 1):
+        at, spared = 0, 0
+        while spared < 3:
+            at, tries = at + 1, tries + 1
+            failed, told, gone, why = once_denied(at, stays)
+            spared, refused, lost, wrong = 0 if failed else spared + 1, refused + told, lost + gone, wrong + why
+    counted.tell(f"rotations of a server, {tries} tries", not wrong and refused > 4, wrong[:1] or refused)
+    print(f"{tries} rotations, {refused} of them refused for memory, {lost} whose part couldn't be written")
+    client.close()
+    user.close()
+    server.close()
+
+
 # ---- Lines and frames that take much memory to read.
 def long_ones(folder, preloaded):
     """A line or a frame of over two MiB that is cut off from memory anywhere is read to its end, and what is behind it is answered."""
@@ -306,11 +396,18 @@ def numbers(folder, preloaded):
     server.close()
 
 
-with tempfile.TemporaryDirectory() as work:
-    made = library(work)
-    cases(work, made)
-    if not ANEW:
-        long_ones(work, made)
-        beginnings(work, made)
-        numbers(work, made)
-counted.end()
+def main():
+    with tempfile.TemporaryDirectory() as work:
+        made = library(work)
+        cases(work, made)
+        if not ANEW:
+            clocks(work, made)
+            rotations(work, made)
+            long_ones(work, made)
+            beginnings(work, made)
+            numbers(work, made)
+    counted.end()
+
+
+if __name__ == "__main__":
+    main()

@@ -151,6 +151,8 @@ def permission(words):
 
 def frame_of(line):
     """The frame that asks what the line does."""
+    if line == "rotate":
+        return field(b"\x17")
     word, first, *rest = line.split(" ")
     name = field(first.encode())
     if word == "createtable":
@@ -286,6 +288,33 @@ class Server:
         connection = Connection(self, user)
         connection.greet()
         return connection
+
+    def close(self):
+        self.process.kill()
+        self.process.communicate()
+
+
+class Piped(Connection):
+    """A connection over a program's own standard streams."""
+
+    def __init__(self, program, folder, preloaded, *words):
+        self.control = Control(folder)
+        self.process = start(program, words, folder, preloaded, self.control)
+        self.link, self.user, self.behind = self, "root", b""
+        self.greet()
+
+    def sendall(self, text):
+        self.process.stdin.write(text)
+
+    def recv(self, count):
+        if not select.select([self.process.stdout], [], [], PATIENCE)[0]:
+            raise Silent("nothing for %d seconds" % PATIENCE)
+        return os.read(self.process.stdout.fileno(), count)
+
+    def end(self):
+        """Its status once nothing more is asked, and what it says then."""
+        said = self.process.communicate(timeout=PATIENCE)[1]
+        return self.process.returncode, said
 
     def close(self):
         self.process.kill()
