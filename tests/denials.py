@@ -5,9 +5,11 @@ it was answered 17, and as after the whole event where it wasn't. Lines go to a 
 Usage: denials.py PROGRAM [--anew]   (with --anew each try is made in a process of its own)"""
 import itertools
 import os
+import random
 import re
 import sys
 import tempfile
+import threading
 import time
 from pathlib import Path
 
@@ -306,6 +308,82 @@ def rotations(folder, preloaded):
     server.close()
 
 
+# ---- Many at once.
+ROWS, UPDATES = 160, 40
+PUTS = " ; ".join("put f q%02d \\e v 5" % at for at in range(UPDATES))
+
+
+class Writing(threading.Thread):
+    """Writes rows of its own, some of them refused, scans, flushes and rotates between; remembers which were done."""
+
+    def __init__(self, server, number):
+        super().__init__()
+        self.client, self.number, self.done, self.refused, self.wrong = server.connect(), number, [], 0, []
+
+    def run(self):
+        try:
+            for at in range(ROWS):
+                row = "%d-%05d" % (self.number, at)
+                self.told(self.client.ask(f"mutate t {row} {PUTS}")[0], row)
+                if at % 20 == self.number:
+                    self.scans()
+                if at % 50 == self.number:
+                    self.told(self.client.ask("flush t")[0])
+                    self.told(self.client.ask("rotate")[0])
+        except Silent as why:
+            self.wrong.append(why)
+
+    def told(self, answer, row=None):
+        self.refused += answer == NO_MEMORY
+        if answer == b"ok\n" and row:
+            self.done.append(row.encode())
+        elif answer not in (b"ok\n", NO_MEMORY):
+            self.wrong.append(answer)
+
+    def scans(self):
+        """Its own rows: all that were done, each whole; the first thousand cells."""
+        cells = self.client.ask("scan t \\0 [%d- (%d-~" % (self.number, self.number))[0]
+        if cells == NO_MEMORY:
+            self.refused += 1
+        elif cells.splitlines()[:-1] != [b"%s f q%02d \\e 5 v" % (row, at) for row in self.done for at in range(UPDATES)][:1000]:
+            self.wrong.append(cells[-100:])
+
+
+def many_at_once(folder, preloaded):
+    """Memory is refused now and then, beside four who write, two compactors and rotations: what was done stands whole, in the table and, unless
+    it is said that its part couldn't be written, once in the history; what was refused stands nowhere."""
+    log, r = Path(folder, "many"), random.Random(1)
+    server = Server(PROGRAM, folder, preloaded, "--history", str(log), workers=6, compactors=2)
+    client = server.connect()
+    client.ask("createtable t")
+    writers = [Writing(server, number) for number in range(4)]
+    for writer in writers:
+        writer.start()
+    failed = 0
+    while any(writer.is_alive() for writer in writers):
+        stays = r.randrange(4) == 0
+        server.control.deny(1 if stays else r.randrange(1, 500), stays)
+        time.sleep(0.0005 if stays else 0.002)
+        failed += server.control.lift()
+    done = sorted(row for writer in writers for row in writer.done)
+    refused, wrong = sum(writer.refused for writer in writers), [one for writer in writers for one in writer.wrong]
+    opened = int(client.ask("open t \\0")[0].split()[1])
+    cells = client.ask(f"next {opened} {4 * ROWS * UPDATES}")[0].split(b"\n")[:-2]
+    held = [b"%s f q%02d \\e 5 v" % (row, at) for row in done for at in range(UPDATES)]
+    counted.tell("many at once: what was done stands whole, and nothing else", cells == held and not wrong and refused > 20 and failed > 30, wrong[:1] or (refused, failed, len(cells), len(held)))
+    client.ask("rotate", "createuser the-end", "rotate")
+    ends = time.monotonic() + 30
+    while b"\ncreateuser the-end\n# ok\n" not in log.read_bytes()[-1000:] and time.monotonic() < ends:
+        time.sleep(0.01)
+    text = log.read_bytes()
+    rows = re.findall(rb"^mutate t (\S+) .*\n# ok$", text, re.MULTILINE)
+    server.process.kill()
+    lost = server.process.communicate()[1]
+    good = sorted(rows) == done or lost and len(set(rows)) == len(rows) and set(rows) <= set(done)
+    counted.tell("many at once: and is in the history once", good and text.count(b"# begin t") > 0, (len(rows), len(done), lost))
+    print(f"many at once: {len(done)} rows, {refused} requests refused for memory, {failed} times")
+
+
 # ---- Lines and frames that take much memory to read.
 def long_ones(folder, preloaded):
     """A line or a frame of over two MiB that is cut off from memory anywhere is read to its end, and what is behind it is answered."""
@@ -403,6 +481,7 @@ def main():
         if not ANEW:
             clocks(work, made)
             rotations(work, made)
+            many_at_once(work, made)
             long_ones(work, made)
             beginnings(work, made)
             numbers(work, made)

@@ -270,15 +270,15 @@ class Connection:
 
 
 class Server:
-    """A server with one worker and no compactor, so that nothing but what is asked takes memory."""
+    """A server with one worker and no compactor, unless it is said, so that nothing but what is asked takes memory."""
 
-    def __init__(self, program, folder, preloaded, *words, workers=1):
+    def __init__(self, program, folder, preloaded, *words, workers=1, compactors=0):
         self.control = Control(folder)
         for _ in range(3):
             with socket.create_server(("127.0.0.1", 0)) as probe:
                 self.port = probe.getsockname()[1]
-            words = ["serve", "--port", str(self.port), "--workers", str(workers), "--compactors", "0", *words]
-            self.process = start(program, words, folder, preloaded, self.control)
+            told = ["serve", "--port", str(self.port), "--workers", str(workers), "--compactors", str(compactors), *words]
+            self.process = start(program, told, folder, preloaded, self.control)
             if self.process.stdout.readline():
                 break
         # its workers begin behind that line; once it has served a connection they are there
@@ -295,13 +295,16 @@ class Server:
 
 
 class Piped(Connection):
-    """A connection over a program's own standard streams."""
+    """A connection over a program's own standard streams; it is root's, whoever `as` names."""
 
     def __init__(self, program, folder, preloaded, *words):
         self.control = Control(folder)
         self.process = start(program, words, folder, preloaded, self.control)
         self.link, self.user, self.behind = self, "root", b""
         self.greet()
+
+    def ask(self, *lines):
+        return super().ask(*(line for line in lines if not line.startswith("as ")))
 
     def sendall(self, text):
         self.process.stdin.write(text)
