@@ -155,9 +155,23 @@ def converse(server, frames):
         link.close()
 
 
+def found_behind(server):
+    """What the next connection is told of what took effect; then it takes the table away."""
+    other = server.connect()
+    said = other.ask("status t", "splits t", "rights t", "scan t \\0")
+    other.ask("droptable t")
+    other.close()
+    return said
+
+
 def connections(folder, preloaded):
     server = Server(PROGRAM, folder, preloaded, workers=2)
     frames = frames_with(150_000)
+    # what the next connection finds behind so many of the frames
+    states = []
+    for count in range(len(frames) + 1):
+        converse(server, frames[:count])
+        states.append(found_behind(server))
     whole, _ = converse(server, frames)
     counted.tell("a connection", strict.judge(b"".join(frames), whole) == len(frames))
     for name, which, why in (("reads", READS, errno.ECONNRESET), ("writes", WRITES, errno.EPIPE), ("writes that are reset", WRITES, errno.ECONNRESET), ("reads out of time", READS, errno.ETIMEDOUT)):
@@ -170,10 +184,10 @@ def connections(folder, preloaded):
             # the end of what is sent is read too: where that fails, all was told
             if not whole.startswith(told) or not (is_whole or failed) or is_whole and told != whole or server.process.poll() is not None:
                 wrong.append((at, failed, len(told), is_whole))
-            # the next one is served, and the table is there or isn't
-            other = server.connect()
-            other.ask("droptable t")
-            other.close()
+            # the next one finds what was answered; where a write failed the last request may have been done too
+            done, found = strict.judge(b"".join(frames), told, False), found_behind(server)
+            if found not in states[done : done + 1 + (which == WRITES)]:
+                wrong.append((at, failed, done, found))
         counted.tell(f"{at - 1} {name} of a server that fail", not wrong and at > 8, wrong[:1])
     few = frames_with(1000)
     short, _ = converse(server, few)
