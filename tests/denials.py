@@ -226,7 +226,7 @@ TIMED = ["insert t c f q A 5", "createuser v", "addsplit t e", "open t A,B", "fl
 
 
 def clocks(folder, preloaded):
-    """What stands after an event of a later moment has the earlier clock where it was told 17, or its own; else its own."""
+    """Behind an event of a later moment the clock is the earlier one where it was told 17, and else its own."""
     script, now = Script(PROGRAM, folder, preloaded), 0
     for event in TIMED:
         wrong, at, spared = [], 0, 0
@@ -238,8 +238,7 @@ def clocks(folder, preloaded):
             failed = script.control.lift() > 0
             spared = 0 if failed else spared + 1
             cell = script.ask("at 0", "createtable clock time=server", "insert clock r f q \\e v", "scan clock \\0")[-1]
-            times = [now, now + 50] if failed and answer == NO_MEMORY else [now + 50]
-            if cell not in [b"r f q \\e %d v\nend\n" % time for time in times]:
+            if cell != b"r f q \\e %d v\nend\n" % (now if failed and answer == NO_MEMORY else now + 50):
                 wrong.append((at, answer, cell, now))
         counted.tell(f"the clock behind {event}", not wrong, wrong[:1])
     script.close()
