@@ -1,6 +1,7 @@
 #!/usr/bin/env bash
 # The release: it is made of this checkout's sources, it unpacks to the program of its digest, and that is the program which was built here,
-# byte for byte; and a fresh checkout without the kit does what README shows, its first replies within two seconds.
+# byte for byte; the page is of its digest and its sources; and a fresh checkout without the kit does what README shows, its first replies
+# within two seconds.
 # Usage: tests/release.sh   (from anywhere; compares with the built program where there is one, and the kit that made the release)
 set -u
 top=$(cd "$(dirname -- "${BASH_SOURCE[0]}")/.." && pwd)
@@ -28,6 +29,12 @@ count 'it unpacks to the program of its digest' $?
 count 'its version is told by the program, and by CHANGELOG.md' $?
 diff <(release/sources --crates) <(sed -n 's/^\([a-z_]*\): logic=proved .*/\1/p' release/release.txt) >/dev/null
 count 'it tells the proof of each crate below the program' $?
+[ "$(sha256sum <web/index.html)" = "$(value page)  -" ]
+count "the page is the release's (web/make renews it)" $?
+[ "$(release/sources page)" = "$(value 'page sources')" ]
+count 'the page is of these sources (web/make renews it)' $?
+[[ "$(value 'page proof')" == 'logic=proved '* ]] && [ "$(wc -c <web/index.html)" -le 700000 ]
+count "the page's library is proved, and the page is small" $?
 if ! command -v rt >/dev/null || [ "$(rt version)" != "$(value kit)" ] || [ "$(release/program --current)" != "$top/crates/tabd/out/tabd" ]; then
     echo 'skipped: the program was not built here by the kit of the release, so their bytes are not compared'
     skipped=1
