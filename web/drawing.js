@@ -48,7 +48,7 @@ function brief(answer, line) {
   const last = lines.at(-1);
   if (last.startsWith("line fault")) return { kind: "bad", text: "line fault" };
   if (last.startsWith("refused") || last.startsWith("fault")) return { kind: "bad", text: last.replace(/^refused \d+ /, "") };
-  if (lines.length === 1 && last !== "end" && last !== "more") return { kind: "good", text: last };
+  if (lines.length === 1 && last !== "end" && last !== "more") return { kind: "good", text: last.replace(/^tablets \d+ sources (\d+) records (\d+)$/, "$1 sources, $2 records") };
   const cells = cellsOf(answer).length;
   return { kind: "good", text: /^ *(rights|splits)/.test(line) ? plural(lines.length - 1, "line") : plural(cells, "cell") };
 }

@@ -203,6 +203,7 @@ function choose(index) {
   state.readers.forEach((it) => it.card.root.remove());
   state.readers = example.readers.map((it) => makeCard({ name: it.name, auths: [...it.auths] }));
   [...$("examples").children].forEach((it, i) => it.setAttribute("aria-pressed", String(i === index)));
+  $("examples").children[index].scrollIntoView({ block: "nearest", inline: "nearest" });
   $("about").textContent = example.about;
   $("worlds").hidden = !example.other;
   drawWorlds();
