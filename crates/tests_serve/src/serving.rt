@@ -171,3 +171,68 @@ fn leaves_what_it_did(rt: HostRuntime) {
     expect_told_by(&rt, rt.alloc(), &mut core, told(1));
     expect_told_by(&rt, rt.alloc(), &mut core, TOLD_AGAIN)
 }
+
+// What it is told by a core that was told the first talk: its cell is there too, and one was asked for.
+const TOLD_ON: &[u8] = b"\0\0\0\x01\x80\
+\0\0\0\x07\x81\x0a\0\0\0\x01t\
+\0\0\0\x05\x84\0\0\0\0\
+\0\0\0\x21\x82\0\0\0\x01r\0\0\0\x01f\0\0\0\x01q\0\0\0\0\0\0\0\0\0\0\0\x05\0\0\0\x01v\
+\0\0\0\x02\x83\0";
+
+// What it is told by a core that was asked the frames that are whole among so many bytes of the first talk.
+fn told_behind(read: u64) -> &'static [u8] {
+    match read {
+        0..28 => told(1),
+        28..76 => TOLD_AGAIN,
+        _ => TOLD_ON,
+    }
+}
+
+// The first talk ends by this fault; then the second one is told this by the same core.
+fn expect_told_behind(
+    rt: &impl Abort,
+    alloc: Global,
+    reader: PieceReader<'_>,
+    writer: PieceWriter,
+    fault: ServeFault,
+    want: &[u8],
+) {
+    let mut core = Core::new(alloc).expect(rt, "memory");
+    let bytes = served_by(rt, alloc, &mut core, reader, writer, Err(fault));
+    assert!(rt; told(0).starts_with(bytes.as_slice()));
+    expect_told_by(rt, alloc, &mut core, want);
+}
+
+// Behind a reader that fails, the next connection finds what was asked by whole frames, and nothing else.
+#[test]
+fn goes_on_behind_a_readers_fault(rt: HostRuntime) {
+    let kind = ErrorKind::Other;
+    for after in 0..12 {
+        let reader = PieceReader::new(asked(0), 9).failing(Fault { after, kind });
+        let writer = PieceWriter::new(rt.alloc(), 64);
+        let want = told_behind(9 * after);
+        expect_told_behind(&rt, rt.alloc(), reader, writer, ServeFault::Read, want);
+    }
+}
+
+// How many bytes of the first talk were read, 64 at once, where the call of the writer behind so many fails. The first one flushes nothing, before
+// the first read; three write and flush what the two frames are told that this gave whole; then all was read.
+fn read_before(calls: u64) -> u64 {
+    match calls {
+        0 => 0,
+        1..4 => 64,
+        _ => 109,
+    }
+}
+
+// Behind a writer that fails, the next connection finds what was asked by all frames that were read whole.
+#[test]
+fn goes_on_behind_a_writers_fault(rt: HostRuntime) {
+    let kind = ErrorKind::Other;
+    for after in 0..8 {
+        let reader = PieceReader::new(asked(0), 64);
+        let writer = PieceWriter::new(rt.alloc(), 9).failing(Fault { after, kind });
+        let want = told_behind(read_before(after));
+        expect_told_behind(&rt, rt.alloc(), reader, writer, ServeFault::Write, want);
+    }
+}
