@@ -313,3 +313,13 @@ shared_alone r value ws ks all none h is k =
 pub none_held : IsHeld []
 unfolding IsDistinct
 none_held = record { apart = tt; timestamps = λ u h. absurd h }
+
+-- ---- what was written, as one run
+run_moves : (xs run : List Record) → run ≡ sorted (as_written xs) → IsPermutation xs run
+run_moves xs run e = subst (IsPermutation xs) (sym e) (IsPermutation-trans xs (as_written xs) (sorted (as_written xs)) (written_moves xs) (sorted_moves (as_written xs)))
+
+pub run_held : (xs run : List Record) → run ≡ sorted (as_written xs) → IsHeld xs → IsHeld run
+run_held xs run e h = held_moved xs run (run_moves xs run e) h
+
+pub run_written : (xs run : List Record) → run ≡ sorted (as_written xs) → IsHeld xs → as_written run ≡ as_written xs
+run_written xs run e h = written_same xs run (run_moves xs run e) h

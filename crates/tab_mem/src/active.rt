@@ -115,6 +115,24 @@ impl Active {
         }
     }
 
+    /// The same records once more. What is written to one of the two later doesn't stand in the other.
+    ///
+    /// They share the run that `freeze` made, where nothing was written since. Else the records are copied once, which takes memory as
+    /// `to_run` does. `AllocError` says that it lacked.
+    pub fn copied(&self, alloc: Global) -> Result<Active, AllocError>
+        ensures { IfOk result (λ copy. copy ≡ self.now) }
+    {
+        if self.is_empty() {
+            return Ok(Active::new(alloc));
+        }
+        let _count = self.written.len();
+        let run = self.to_run(alloc)?;
+        Ok(Active {
+            written: Partitions::new(alloc),
+            kept: Kept::made(run),
+        })
+    }
+
     // The run that a freeze made, if it made one and holds all records.
     fn made(&self) -> Result<Option<Arc<Run>>, AllocError>
         ensures { IfOk result (λ o. IfSome o (λ run. run.value ≡ sorted self.now)) }
