@@ -164,6 +164,25 @@ impl Tablet {
         })
     }
 
+    /// The same tablet once more. What is done to one of the two later doesn't change the other. They share the sources, what scans read,
+    /// and the merges under way.
+    ///
+    /// It takes memory for a share of each of these, and for a copy of what was written since the last freeze. `AllocError` says that it
+    /// lacked.
+    pub fn copied(&self, alloc: Global) -> Result<Tablet, AllocError>
+        ensures { IfOk result (λ t. t ≡ self.now) }
+    {
+        let active = self.active.copied(alloc)?;
+        let sources = self.sources.share(alloc)?;
+        let jobs = self.jobs.share(alloc)?;
+        Ok(Tablet {
+            number: self.number,
+            active,
+            sources,
+            jobs,
+        })
+    }
+
     /// The tablet after a compaction: frozen, and what the merge makes of the sources that a compaction of this kind reads in their
     /// place, as the last table; no merge of the kind is under way then. The floor is that of the table's timestamps; of a column so many
     /// versions are kept. Where there is nothing to merge it is only frozen. This one stays as it is.
