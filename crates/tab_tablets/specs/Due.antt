@@ -10,6 +10,10 @@ use Rattle.tab_tablets.specs.Places.{tablet_at}
 abbrev pub first_due : DueKind → List Tablet → Option ℕ
 first_due kind ts = option_map (λ (t : Tablet). t.number) (find (is_due kind) ts)
 
+-- a tablet's number, where it is due for work of this kind
+abbrev pub number_due : DueKind → Tablet → Option ℕ
+number_due kind t = cond (is_due kind t) (Some t.number) None
+
 -- ---- where a tablet begins
 -- the least row above this end row; of all rows, if there is none
 abbrev pub least_above : Option (List ℕ) → List ℕ

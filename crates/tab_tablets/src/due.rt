@@ -1,6 +1,7 @@
 //! Which tablet of a table is due for work, and where it begins.
-ghost use Rattle.std.specs.Prelude.{◌≡◌, None, IfOk};
-ghost use Rattle.tab_tablets.specs.Due.{first_due, start_of};
+ghost use Rattle.std.specs.Prelude.{◌≡◌, ◌<◌, None, length, IfOk};
+ghost use Rattle.tab_tablets.specs.Due.{first_due, number_due, start_of};
+ghost use Rattle.tab_tablets.specs.Places.{tablet_at};
 
 use crate::tablets::Tablets;
 use std::alloc::{AllocError, Global};
@@ -14,6 +15,25 @@ impl Tablets {
         ensures { result ≡ first_due kind self.now }
     {
         self.line.due(kind)
+    }
+
+    /// How many places there are, one for each tablet.
+    pub fn places(&self) -> usize
+        ensures { result ≡ length self.now }
+    {
+        self.line.len()
+    }
+
+    /// The number of the tablet at a place, counted from 0 in the order of rows, where it is due for work of this kind. It takes no memory.
+    pub fn due_at(&self, kind: DueKind, place: usize) -> Option<u64>
+        requires { place < length self.now }
+        ensures { result ≡ number_due kind (tablet_at self.now place) }
+    {
+        let tablet = self.line.tablet(place);
+        if tablet.is_due(kind) {
+            return Some(tablet.number());
+        }
+        None
     }
 
     /// The least row of the tablet with this number, if there is one: the end row before it and a zero byte, or the empty row.

@@ -17,6 +17,7 @@
 //! | `opening` | what a scan reads of them |
 //! | `listing` | all that each of them holds |
 //! | `compacting` | compactions of all of them |
+//! | `copying` | copies of all of them, which share what they hold |
 //! | `parts` | compactions of one of them in parts |
 //! | `tablet_job` | a merge of one of them that is to be made, and one that is made |
 //! | `due` | which of them is due for work, and where it begins |
@@ -28,6 +29,7 @@
 
 mod bounds;
 mod compacting;
+mod copying;
 mod counting;
 mod due;
 mod ends;

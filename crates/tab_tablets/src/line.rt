@@ -13,6 +13,7 @@ ghost use Rattle.tab_tablets.specs.Places.{ended, tablet_at, IsPlaceOf, at_place
 ghost use Rattle.tab_tablets.specs.Due.{first_due, IsFirstWith, start_at};
 ghost use Rattle.tab_tablets.specs.Splits.{is_full};
 
+use crate::copying::copied_lower;
 use crate::counting::{count_records, count_sources};
 use crate::ends::ends_of;
 use crate::lower::Lower;
@@ -111,6 +112,17 @@ impl Line {
             return self.lower[place].tablet();
         }
         &self.last
+    }
+
+    /// The same tablets once more, each as `Tablet::copied` has it.
+    ///
+    /// It takes memory as that does, for each. `AllocError` says that it lacked.
+    pub(crate) fn copied(&self, alloc: Global) -> Result<Line, AllocError>
+        ensures { IfOk result (λ l. l ≡ self.now) }
+    {
+        let lower = copied_lower(alloc, &self.lower)?;
+        let last = self.last.copied(alloc)?;
+        Line::of(alloc, lower, last)
     }
 
     /// Puts another tablet in the place of one, up to the same end row.

@@ -85,6 +85,17 @@ impl Lower {
         &self.tablet
     }
 
+    /// The same tablet up to the same end row once more, as `Tablet::copied` has it.
+    ///
+    /// It takes memory as that does, for its place and for the end row. `AllocError` says that it lacked.
+    pub(crate) fn copied(&self, alloc: Global) -> Result<Lower, AllocError>
+        ensures { IfOk result (λ l. l ≡ self.now) }
+    {
+        let end = self.end.clone()?;
+        let tablet = self.tablet.copied(alloc)?;
+        Lower::new(alloc, end, tablet)
+    }
+
     /// Puts another tablet in its place.
     pub(crate) fn put(&mut self, tablet: Tablet)
         ensures { self.new ≡ ended self.old.end tablet }
