@@ -2,7 +2,8 @@
 """Random hostile input by a generator. Each round many connections at once send requests with fields cut, counts forged, lengths off by
 one, opcodes out of turn and bytes flipped, whole or in pieces, and some break off or never read; tests/strict.py reads what they are told.
 Beside them images are cut, forged, flipped, sorted otherwise and lengthened, and loaded: what tests/strict.py takes for an image is loaded
-and saved as itself, and nothing else is. A script is given broken lines, and shells are told broken replies. After each round
+and saved as itself, and nothing else is. A script is given broken lines, and shells are told broken replies. Over memory, by the programs
+that the gate builds for tests, a core and books are sent the same connections, and tell the same. After each round
 
 - the server still runs, has said nothing on standard error, and all its workers serve;
 - an honest client finds its data, and nobody else's;
@@ -12,7 +13,7 @@ What is sent depends on the seed, the round and the number of the connection alo
 
 Usage: tests/hostile.py [--seed S] [--rounds N] [--first N] [--connections N] [--keep FOLDER]   (from anywhere; wants Python 3.9)
   N rounds, 2 where unsaid, endless with 0; --first begins with another round than the first; what went wrong is written to the folder
-  TABD in the environment: another built program
+  TABD, FRAMES, BOOK_FRAMES in the environment: other built programs
 """
 import argparse
 import concurrent.futures
@@ -299,6 +300,39 @@ class Round:
             done = list(pool.map(self.connection, range(self.asked.connections)))
         self.sent, self.told, self.answered, self.whole = (sum(one[part] for one in done) for part in range(4))
         return [fault for *_, fault in done if fault]
+
+
+# ---- Connections over memory.
+def programs_for_tests():
+    """The programs for tests that are built: of each how it is called, and whose answers are the same."""
+    frames, books = (os.environ.get(name.upper()) or TOP / "crates" / name / "out" / name for name in ("frames", "book_frames"))
+    ways = [([frames], "whole"), ([books, "served"], "whole"), ([books, "book"], "parts"), ([books, "shared"], "parts")]
+    return [(words, same) for words, same in ways if os.access(words[0], os.X_OK)]
+
+
+def in_memory(asked, number, at):
+    """What is wrong with the answers to one connection, and how many of its requests were answered: each is the protocol's, those of a core and
+    of `serve_shared` are the same, and so are those by a book's own calls and by a shared one's. By the latter compactions have three parts."""
+    sent = Maker(random.Random(f"memory {asked.seed} {number} {at}")).connection()
+    faults, answered, first = [], 0, {}
+    for words, same in programs_for_tests():
+        try:
+            done = subprocess.run(words, input=sent, stdout=subprocess.PIPE, stderr=subprocess.PIPE, timeout=PATIENCE)
+            answered += strict.judge(sent, done.stdout)
+            if (done.returncode, done.stderr) != (0, b""):
+                faults.append(f"round {number}, connection {at}, {words}: status {done.returncode}, {done.stderr[:200]}")
+            if first.setdefault(same, done.stdout) != done.stdout:
+                faults.append(f"round {number}, connection {at}: {words} tells something else")
+        except (strict.Strange, struct.error, subprocess.TimeoutExpired) as fault:
+            faults.append(f"round {number}, connection {at}, {words}: {type(fault).__name__}: {fault}")
+    return faults, answered
+
+
+def all_in_memory(asked, number):
+    """The faults of half as many connections as come over loopback, and how many requests were answered."""
+    with concurrent.futures.ThreadPoolExecutor(4) as pool:
+        done = list(pool.map(lambda at: in_memory(asked, number, at), range(asked.connections // 2)))
+    return [fault for faults, _ in done for fault in faults], sum(answered for _, answered in done)
 
 
 # ---- The server and its honest client.
@@ -636,6 +670,10 @@ def main():
             faults = this.run()
             sent, told = sent + this.sent, told + this.told
             count("connections", faults or ([] if this.answered > asked.connections else [f"{this.answered} requests were answered"]))
+            ways = len(programs_for_tests())
+            if ways:
+                memory_faults, in_all = all_in_memory(asked, number)
+                count("connections over memory", memory_faults or ([] if in_all > asked.connections else [f"{in_all} requests were answered"]))
             image_faults, loaded = images(program, asked, number)
             count("images", image_faults or ([] if loaded > 2 else ["none was loaded"]))
             count("lines", list(lines(program, asked, number)))
@@ -649,7 +687,7 @@ def main():
             # what each worker may hold of a frame and of replies, and the history, which keeps a part of what was sent
             most, bound = server.most_memory(), 32 + 9 * WORKERS + sent / MIB
             count("memory is bounded", [] if most <= bound else [f"{most:.0f} MiB at most, where {bound:.0f} MiB are the bound"])
-            print(f"round {number}: {this.answered} requests answered, {this.whole} connections whole, {this.sent / MIB:.1f} MiB sent, "
+            print(f"round {number}: {this.answered} requests answered, {in_all if ways else 0} over memory, {this.whole} connections whole, {this.sent / MIB:.1f} MiB sent, "
                   f"{this.told / MIB:.1f} MiB told, {loaded} images loaded, {most:.0f} MiB of memory at most, {time.monotonic() - began:.1f} s", flush=True)
             if asked.rounds == 0 and failed:
                 break
