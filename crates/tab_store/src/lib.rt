@@ -18,7 +18,6 @@
 //! | `setting` | what of a table may be set |
 //! | `table` | one table: its settings, and its tablets |
 //! | `tables` | tables by name |
-//! | `base_table` | a table as data |
 //! | `due` | work that is due, and where it is to be done |
 //! | `laws` | the laws of the definitions, each the contract of a function that does nothing |
 //! | `proofs/HeldMerge` | held records still refine the updates once some of them are merged |
@@ -43,14 +42,12 @@
 //! | `proofs/Targets` | work that is due has a target |
 #![tactic(auto)]
 
-mod base_table;
 mod due;
 mod laws;
 mod setting;
 mod table;
 mod tables;
 
-pub use base_table::BaseTable;
 pub use due::Due;
 pub use laws::{
     bases_read, beginnings_keep, begun_belong, begun_belong_on, belonging_stays,

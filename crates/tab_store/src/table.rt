@@ -42,6 +42,7 @@ pub struct Table {
 
 #[derive(Drop)]
 struct Contents {
+    alloc: Global,
     time: TimeMode,
     versions: Versions,
     constraints: ConstraintSet,
@@ -55,6 +56,26 @@ impl Model for Table {
     ghost Value = { TableState };
 
     ghost view = { λ t. record { settings = record { time = t.contents.value.time; versions = t.contents.value.versions; constraints = t.contents.value.constraints; horizon = t.contents.value.horizon }; tablets = t.contents.value.tablets } };
+}
+
+/// A copy with the same settings and the same tablets. What is done to one of the two later doesn't change the other. It takes memory for
+/// its place and the constraints, and for the tablets as `Tablets::copied` says; all is given back where that lacks.
+impl Clone for Table {
+    ghost is_clone = { λ source copy. copy ≡ source };
+
+    fn clone(&self) -> Result<Table, AllocError> {
+        let contents = &self.contents;
+        let constraints = contents.constraints.clone()?;
+        let tablets = contents.tablets.copied(contents.alloc)?;
+        Table::holding(
+            contents.alloc,
+            contents.time,
+            contents.versions,
+            constraints,
+            contents.horizon,
+            tablets,
+        )
+    }
 }
 
 impl Table {
@@ -115,6 +136,7 @@ impl Table {
         ensures { IfOk result (λ t. t ≡ record { settings = record { time = time; versions = versions; constraints = constraints; horizon = horizon }; tablets = tablets }) }
     {
         let contents = Contents {
+            alloc,
             time,
             versions,
             constraints,
@@ -279,6 +301,13 @@ impl Table {
         ensures { result ≡ first_due kind self.now.tablets }
     {
         self.contents.tablets.due(kind)
+    }
+
+    /// Its tablets.
+    pub fn tablets(&self) -> &Tablets
+        ensures { result.now ≡ self.now.tablets }
+    {
+        &self.contents.tablets
     }
 
     /// The least row of its tablet with this number, if there is one: the end row before it and a zero byte, or the empty row.

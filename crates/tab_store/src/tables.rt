@@ -52,6 +52,18 @@ impl Model for Tables {
     ghost invariant = { λ t. IsOrdered bytes_cmp t.by_name };
 }
 
+/// A copy with the same tables, each copied as [`Table`] says. What is done to one of the two later doesn't change the other.
+impl Clone for Tables {
+    ghost is_clone = { λ source copy. copy ≡ source };
+
+    fn clone(&self) -> Result<Tables, AllocError> {
+        Ok(Tables {
+            alloc: self.alloc,
+            by_name: self.by_name.clone()?,
+        })
+    }
+}
+
 impl Tables {
     /// No table. It takes no memory.
     pub fn new(alloc: Global) -> Tables
