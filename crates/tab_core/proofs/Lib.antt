@@ -24,3 +24,4 @@ pub mod Picked
 pub use Rattle.tab_store.proofs.ChainLaws
 pub use Rattle.tab_store.proofs.Joining
 pub mod Rotated
+pub mod Raised
