@@ -23,6 +23,7 @@ pub mod ChainLaws
 pub mod Joining
 pub mod Missing
 pub mod DueTables
+pub mod DueList
 pub mod Named
 pub mod Changed
 pub mod Fewer

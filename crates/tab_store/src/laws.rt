@@ -3,6 +3,7 @@ ghost use Rattle.tab_store.specs.Stepping.{TellsLegally, CapturesAreThere};
 ghost use Rattle.tab_store.specs.Keeping.{FreezesKeep, WritesKeep, CompactionsKeep, BeginningsKeep, InstallsKeep, SplitsKeep, LaterKeeps, FewerKeeps, SoundWithFewer, WorkKeeps, StaysWhole, TabletsHoldAll, SoundTabletsLieApart, MiddlesLieInside, EachTabletRefines, WorkStaysSound, NewTablesAreSound, SoundLater, BasesRead};
 ghost use Rattle.tab_store.specs.Numbers.{NewStoresAreNumbered, NumbersStay};
 ghost use Rattle.tab_store.specs.Belonging.{ChainsKeepNumbers, InstallsByNumber, OthersAreStale, BegunBelong, BelongingStays, BegunBelongOn, ElsewhereIsStale};
+ghost use Rattle.tab_store.specs.Due.{DueIsFirst};
 ghost use Rattle.tab_store.specs.Targets.{StartsLieInside, TargetsAreDue};
 ghost use Rattle.tab_store.specs.Rightness.{NewStoresAreStores, StoresAreSound, StepsAreRight, StoresStay};
 ghost use Rattle.tab_store.specs.Chains.{ChainsStay, ChainsAreLegal};
@@ -195,4 +196,9 @@ pub fn starts_lie_inside()
 /// Work that is due has a target, which is the tablet that is due, as long as there are numbers.
 pub fn targets_are_due()
     ensures { TargetsAreDue }
+{}
+
+/// The first work of a list of those that are due is the first that is due.
+pub fn due_is_first()
+    ensures { DueIsFirst }
 {}

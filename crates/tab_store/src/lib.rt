@@ -36,7 +36,7 @@
 //! | `proofs/Missing` | what is read of a table that is missing |
 //! | `proofs/Named` | tables by name, as the map has them |
 //! | `proofs/Changed` | a change of one table, as an exact step and as histories read it |
-//! | `proofs/DueTables` | work that is due, table by table |
+//! | `proofs/DueTables`, `DueList` | work that is due, table by table, and lists of it |
 //! | `proofs/Numbered`, `Numbering` | no two tablets have one number, whatever is done to them |
 //! | `proofs/ByNumber`, `Belonging` | installs find their tablet by its number, and only in the merge's own table |
 //! | `proofs/Targets` | work that is due has a target |
@@ -52,12 +52,12 @@ pub use due::Due;
 pub use laws::{
     bases_read, beginnings_keep, begun_belong, begun_belong_on, belonging_stays,
     captures_are_there, chains_are_legal, chains_keep_numbers, chains_stay, compactions_keep,
-    each_tablet_refines, elsewhere_is_stale, fewer_keeps, freezes_keep, installs_by_number,
-    installs_keep, later_keeps, middles_lie_inside, new_stores_are_numbered, new_stores_are_stores,
-    new_tables_are_sound, numbers_stay, others_are_stale, sound_later, sound_tablets_lie_apart,
-    sound_with_fewer, splits_keep, starts_lie_inside, stays_whole, steps_are_right,
-    stores_are_sound, stores_stay, tablets_hold_all, targets_are_due, tells_legally, work_keeps,
-    work_stays_sound, writes_keep,
+    due_is_first, each_tablet_refines, elsewhere_is_stale, fewer_keeps, freezes_keep,
+    installs_by_number, installs_keep, later_keeps, middles_lie_inside, new_stores_are_numbered,
+    new_stores_are_stores, new_tables_are_sound, numbers_stay, others_are_stale, sound_later,
+    sound_tablets_lie_apart, sound_with_fewer, splits_keep, starts_lie_inside, stays_whole,
+    steps_are_right, stores_are_sound, stores_stay, tablets_hold_all, targets_are_due,
+    tells_legally, work_keeps, work_stays_sound, writes_keep,
 };
 pub use setting::Setting;
 pub use tab_tablets::{DueKind, FinishedJob, Installed, Split, TabletJob};
