@@ -5,7 +5,7 @@ ghost use Rattle.tab_history.specs.Bases.{new_core};
 ghost use Rattle.tab_history.specs.Answers.{told_of, job_of};
 ghost use Rattle.tab_history.specs.Histories.{world_of};
 ghost use Rattle.tab_history.specs.Refinement.{Refines};
-ghost use Rattle.tab_store.specs.Due.{due_in, target_of};
+ghost use Rattle.tab_store.specs.Due.{due_in, due_listed, target_of};
 ghost use Rattle.tab_store.specs.Stores.{base_of, IsNewStore};
 ghost use Rattle.tab_store.specs.Stepping.{StepsExactly};
 ghost use Rattle.tab_core.specs.Bounded.{WritesBare};
@@ -115,6 +115,16 @@ impl Core {
         ensures { result ≡ due_in self.now.tables }
     {
         self.store.tables.due()
+    }
+
+    /// The first compactions and splits that are due, in the order in which [`due`](Core::due) looks for one: so many at most, and at most
+    /// one for each tablet, the first.
+    ///
+    /// It takes memory for the list. `AllocError` says that it lacked.
+    pub fn due_list(&self, alloc: Global, max: usize) -> Result<Vec<Due>, AllocError>
+        ensures { IfOk result (λ list. list.items ≡ due_listed max self.now.tables) }
+    {
+        self.store.tables.due_list(alloc, max)
     }
 
     /// The table and the least row of the tablet that is due, none where that is gone.
