@@ -17,8 +17,8 @@ pub fn unjudged(alloc: Global, auths: &AuthSet) -> Verdicts
     Verdicts::none(alloc)
 }
 
-// The source has the records of these updates left, and no others.
-fn expect_rest<S: Source>(rt: &impl Abort, source: &mut S, want: &[Update]) {
+/// The source has the records of these updates left, and no others.
+pub fn expect_rest<S: Source>(rt: &impl Abort, source: &mut S, want: &[Update]) {
     for update in want {
         let is_next = source.top().is_some_and(|record| update.is_record(&record));
         assert!(rt; is_next);
