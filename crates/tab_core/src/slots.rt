@@ -51,11 +51,11 @@ impl KeptSession {
     }
 
     // The whole answer in each of the ranges.
-    fn scan_many(&mut self, alloc: Global, ranges: &[Bounds]) -> Result<Items<Cells>, AllocError>
+    fn scan_each(&mut self, alloc: Global, ranges: &[Bounds]) -> Result<Items<Cells>, AllocError>
         ensures cells { IfOk result (λ cells. cells ≡ cells_in self.old ranges.now) }
         ensures same { self.new ≡ self.old }
     {
-        self.session.scan_many(alloc, ranges)
+        self.session.scan_each(alloc, ranges)
     }
 }
 
@@ -240,7 +240,7 @@ fn in_ranges(alloc: Global, session: &mut KeptSession, ranges: &[Bounds]) -> Rep
     if let Some(refusal) = ranges_refusal(ranges) {
         return Reply::Refused(refusal);
     }
-    match session.scan_many(alloc, ranges) {
+    match session.scan_each(alloc, ranges) {
         Ok(cells) => Reply::Ranges(cells),
         Err(AllocError) => Reply::Refused(Refusal::NoMemory),
     }

@@ -13,9 +13,11 @@
 //! | `taking` | the cells of a batch |
 //! | `room` | how much memory a batch asks for at once |
 //! | `rows` | the cells of a range of rows |
+//! | `chunks` | many ranges, read by several threads |
 #![tactic(auto)]
 
 mod bookmark;
+mod chunks;
 mod open_scan;
 mod room;
 mod rows;

@@ -5,10 +5,12 @@ ghost use Rattle.tab_cells.specs.SessionState.{batch, gave, in_ranges};
 ghost use Rattle.tab_iter.specs.Stack.{query_of};
 
 use crate::bookmark::Bookmark;
+use crate::chunks::LEAST_RANGES;
 use crate::room::Room;
 use crate::snapshot_scan::SnapshotScan;
 use std::alloc::{AllocError, Global};
 use std::marker::Model;
+use std::thread::Threads;
 use tab_key::{Bounds, Cells, Column, Items};
 use tab_label::AuthSet;
 use tab_version::Version;
@@ -79,7 +81,7 @@ impl OpenScan {
     ///
     /// A range is read from its low end to the first row above its high one, by a seek in what the ranges before it were read from. A
     /// range that is none has no cell. The error comes only from want of memory.
-    pub(crate) fn scan_many(
+    pub(crate) fn scan_each(
         &mut self,
         alloc: Global,
         ranges: &[Bounds],
@@ -88,5 +90,21 @@ impl OpenScan {
         ensures same { self.new ≡ self.old }
     {
         self.scan.read_ranges(alloc, ranges)
+    }
+
+    /// The same answers, read by several threads where there are enough ranges.
+    pub(crate) fn scan_many(
+        &mut self,
+        rt: &(impl Threads + Sync),
+        alloc: Global,
+        ranges: &[Bounds],
+    ) -> Result<Items<Cells>, AllocError>
+        ensures cells { IfOk result (λ cells. cells ≡ in_ranges self.old ranges.now) }
+        ensures same { self.new ≡ self.old }
+    {
+        if ranges.len() < LEAST_RANGES {
+            return self.scan_each(alloc, ranges);
+        }
+        self.scan.read_at_once(rt, alloc, ranges)
     }
 }

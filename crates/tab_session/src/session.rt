@@ -8,6 +8,7 @@ ghost use Rattle.tab_session.specs.OpenSession.{opened, is_short};
 use crate::open_scan::OpenScan;
 use std::alloc::{AllocError, Global};
 use std::marker::Model;
+use std::thread::Threads;
 use tab_key::{Bounds, Cells, Column, Items};
 use tab_label::AuthSet;
 use tab_version::Version;
@@ -83,7 +84,7 @@ impl Session {
     ///
     /// A range is read from its low end to the first row above its high one, by a seek in what the ranges before it were read from. A
     /// range that is none has no cell. The error comes only from want of memory.
-    pub fn scan_many(
+    pub fn scan_each(
         &mut self,
         alloc: Global,
         ranges: &[Bounds],
@@ -91,6 +92,23 @@ impl Session {
         ensures cells { IfOk result (λ cells. cells ≡ in_ranges self.old.state ranges.now) }
         ensures same { self.new ≡ self.old }
     {
-        self.scan.scan_many(alloc, ranges)
+        self.scan.scan_each(alloc, ranges)
+    }
+
+    /// The same answers, read by several threads where there are 500 ranges or more: in chunks of 250, each as [`Session::scan_each`]
+    /// reads ranges, but with verdicts of its own, which are dropped behind it. So a chunk judges the labels that it meets anew.
+    ///
+    /// There are no more threads than processors, and where none can be made the calling one reads all. The error comes only from want
+    /// of memory, of whichever chunk; the session is as before.
+    pub fn scan_many(
+        &mut self,
+        rt: &(impl Threads + Sync),
+        alloc: Global,
+        ranges: &[Bounds],
+    ) -> Result<Items<Cells>, AllocError>
+        ensures cells { IfOk result (λ cells. cells ≡ in_ranges self.old.state ranges.now) }
+        ensures same { self.new ≡ self.old }
+    {
+        self.scan.scan_many(rt, alloc, ranges)
     }
 }

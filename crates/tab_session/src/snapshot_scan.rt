@@ -8,20 +8,22 @@ ghost use Rattle.tab_session.specs.Bookmarks.{from_mark, ahead_of};
 ghost use Rattle.tab_version.specs.Shown.{shown};
 
 use crate::bookmark::{Bookmark, pass_before};
+use crate::chunks::{joined, read_chunks};
 use crate::room::Room;
 use crate::rows::take_ranges;
 use crate::taking::take;
 use std::alloc::Global;
 use std::marker::Model;
 use std::mem;
+use std::thread::Threads;
 use tab_iter::{NoMemory, Source, Verdicts, verdicts_of};
 use tab_key::{Bounds, Cells, Column, Items};
 use tab_label::AuthSet;
 use tab_version::{Stack, Version};
 
-// What is asked of a version: these columns, under these authorizations, so many versions of each column.
+/// What is asked of a version: these columns, under these authorizations, so many versions of each column.
 #[derive(Drop)]
-struct Asked {
+pub(crate) struct Asked {
     columns: Items<Column>,
     auths: AuthSet,
     versions: u32,
@@ -115,6 +117,19 @@ impl SnapshotScan {
         self.verdicts = verdicts_of(alloc, source, &asked.auths);
         Ok(Items::from_vec(answers))
     }
+
+    /// The same, read by several threads in chunks of the ranges, each under verdicts of its own.
+    pub(crate) fn read_at_once(
+        &self,
+        rt: &(impl Threads + Sync),
+        alloc: Global,
+        ranges: &[Bounds],
+    ) -> Result<Items<Cells>, NoMemory>
+        ensures { IfOk result (λ answers. answers ≡ map (λ rows. cells_within rows (map cell_of self.now)) ranges.now) }
+    {
+        let chunks = read_chunks(rt, alloc, &self.version, &self.asked, ranges)?;
+        Ok(Items::from_vec(joined(alloc, chunks)?))
+    }
 }
 
 // The records from the bookmark on. Nothing before its column is read.
@@ -143,8 +158,8 @@ fn source<'a>(
     }
 }
 
-// All records, none of them read before a seek.
-fn unread<'a>(
+/// All records, none of them read before a seek.
+pub(crate) fn unread<'a>(
     alloc: Global,
     version: &'a Version,
     asked: &'a Asked,
