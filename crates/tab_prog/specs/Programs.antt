@@ -26,24 +26,24 @@ abbrev pub DoesWork : {F W E : Type 0} → FilesGhosts F → Ghosts W → FileKi
 DoesWork f g kind name files old files' new o o' r = (outcome : Outcome) × GivesOutcome f kind name old.core files outcome files' × (new ≡ script_after old outcome) × Puts g o o' (outcome_text outcome) r
 
 -- ---- a chain of runs
--- the script runs over the input to its end, or until a side fails
-abbrev pub Runs : {R W : Type 0} → InputGhosts R → Ghosts W → ScriptState → R → W → R → W → Result (Unit {0}) ScriptFault → Type 0
-Runs i g script input o input' o' (Ok u) = (last : ScriptState) × RunsScript i g script input o last input' o' (Ok Input)
-Runs i g script input o input' o' (Err e) = (last : ScriptState) × RunsScript i g script input o last input' o' (Err e)
-
--- The script runs over the input. Each run that ends at a file line is followed by the outcome that the files gave, of which the text is put,
--- and then by the next run, of the script as the outcome left it; where that text can't be put, the chain ends.
-abbrev pub RunsOn : {F R W : Type 0} → FilesGhosts F → InputGhosts R → Ghosts W → List Outcome → ScriptState → F → R → W → F → R → W → Result (Unit {0}) ScriptFault → Type 0
-RunsOn f i g [] script files input o files' input' o' r = Runs i g script input o input' o' r × (files' ≡ files)
-RunsOn {F} {R} {W} f i g (outcome ∷ outcomes) script files input o files' input' o' r =
+-- The script runs over the input, and is left as the last one. Each run that ends at a file line is followed by the outcome that the files gave,
+-- of which the text is put, and then by the next run, of the script as the outcome left it; where that text can't be put, the chain ends.
+abbrev pub RunsOn : {F R W : Type 0} → FilesGhosts F → InputGhosts R → Ghosts W → List Outcome → ScriptState → F → R → W → ScriptState → F → R → W → Result (Unit {0}) ScriptFault → Type 0
+RunsOn f i g [] script files input o last files' input' o' (Ok u) = RunsScript i g script input o last input' o' (Ok Input) × (files' ≡ files)
+RunsOn f i g [] script files input o last files' input' o' (Err e) = RunsScript i g script input o last input' o' (Err e) × (files' ≡ files)
+RunsOn {F} {R} {W} f i g (outcome ∷ outcomes) script files input o last files' input' o' r =
     (file : FileLine) × (mid : ScriptState) × (after : F) × (at : R) × (o1 o2 : W)
     × RunsScript i g script input o mid at o1 (Ok (File file)) × GivesOutcome f file.kind file.name mid.core files outcome after
-    × ((HasPut g o1 o2 (outcome_text outcome) × RunsOn f i g outcomes (script_after mid outcome) after at o2 files' input' o' r)
-    ⊎ (HasPutPart g o1 o' (outcome_text outcome) × (files' ≡ after) × (input' ≡ at) × (r ≡ Err side.Write)))
+    × ((HasPut g o1 o2 (outcome_text outcome) × RunsOn f i g outcomes (script_after mid outcome) after at o2 last files' input' o' r)
+    ⊎ (HasPutPart g o1 o' (outcome_text outcome) × (last ≡ script_after mid outcome) × (files' ≡ after) × (input' ≡ at) × (r ≡ Err side.Write)))
 
--- the script runs over the input, whatever the files give
+-- the script runs over the input, whatever the files give, and is left as the last one
+abbrev pub RunsTo : {F R W : Type 0} → FilesGhosts F → InputGhosts R → Ghosts W → ScriptState → F → R → W → ScriptState → F → R → W → Result (Unit {0}) ScriptFault → Type 0
+RunsTo f i g script files input o last files' input' o' r = (outcomes : List Outcome) × RunsOn f i g outcomes script files input o last files' input' o' r
+
+-- the script runs over the input, and is dropped
 abbrev pub RunsThrough : {F R W : Type 0} → FilesGhosts F → InputGhosts R → Ghosts W → ScriptState → F → R → W → F → R → W → Result (Unit {0}) ScriptFault → Type 0
-RunsThrough f i g script files input o files' input' o' r = (outcomes : List Outcome) × RunsOn f i g outcomes script files input o files' input' o' r
+RunsThrough f i g script files input o files' input' o' r = (last : ScriptState) × RunsTo f i g script files input o last files' input' o' r
 
 -- ---- subcommands
 -- the side of a script that failed

@@ -21,6 +21,6 @@ mod shelling;
 
 pub use files::Files;
 pub use outcome::{LoadFault, SaveFault};
-pub use scripting::{ProgramFault, script, script_over};
+pub use scripting::{ProgramFault, script, script_on, script_over};
 pub use shelling::{ShellFault, shell_run};
 pub use tab_lines::FileName;

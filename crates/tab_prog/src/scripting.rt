@@ -1,6 +1,6 @@
 //! `tabd script`.
 ghost use Rattle.std.specs.Prelude.{IfOk};
-ghost use Rattle.tab_prog.specs.Programs.{IsFresh, RunsThrough, RunsProgram};
+ghost use Rattle.tab_prog.specs.Programs.{IsFresh, RunsTo, RunsThrough, RunsProgram};
 ghost use Rattle.tab_shell.specs.Scripts.{new_script};
 
 use crate::files::Files;
@@ -82,7 +82,7 @@ fn begun(alloc: Global) -> Result<Script, AllocError>
     Ok(Script::new(alloc, core))
 }
 
-// Runs the script up to each file line in turn, does what that one asks, and drops the script at the end.
+// The same, by a script that is dropped at the end.
 fn answered<F: Files, R: Input, W: Output>(
     mut script: Script,
     files: &mut F,
@@ -91,9 +91,24 @@ fn answered<F: Files, R: Input, W: Output>(
 ) -> Result<(), ScriptFault>
     ensures { RunsThrough F.Files R.Input W.Output script files.old input.old output.old files.new input.new output.new result }
 {
+    script_on(&mut script, files, input, output)
+}
+
+/// Answers the lines of the input on the output by this script, until the input ends, and leaves the script as they leave it.
+///
+/// What an accepted `save` or `load` asks of its file, `files` does, as in [`script`]. An error says which side failed; the lines answered
+/// before it have taken effect.
+pub fn script_on<F: Files, R: Input, W: Output>(
+    script: &mut Script,
+    files: &mut F,
+    input: &mut R,
+    output: &mut W,
+) -> Result<(), ScriptFault>
+    ensures { RunsTo F.Files R.Input W.Output script.old files.old input.old output.old script.new files.new input.new output.new result }
+{
     loop {
         match script.run(input, output) {
-            Ok(Ended::File(line)) => match work(&mut script, files, line, output) {
+            Ok(Ended::File(line)) => match work(script, files, line, output) {
                 Ok(()) => {}
                 Err(_) => return Err(ScriptFault::Write),
             },
