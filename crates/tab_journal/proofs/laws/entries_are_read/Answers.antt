@@ -1,0 +1,5 @@
+use Rattle.tab_journal.proofs.Forms.{entries_are_read}
+use Rattle.tab_journal.proofs.laws.entries_are_read.Goals as goal
+
+pub returns : goal.returns
+returns c = entries_are_read

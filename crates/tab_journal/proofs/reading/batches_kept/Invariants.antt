@@ -1,0 +1,13 @@
+use Rattle.std.proofs.Common.{◌≡◌, ℕ, ◌≤◌, List, ◌++◌, length}
+use Rattle.std.specs.List.{flat_map}
+use Rattle.tab_journal.specs.Journals.{Batch}
+use Rattle.tab_journal.specs.Reading.{batches_within}
+use Rattle.tab_journal.specs.Said.{last_of}
+use Rattle.tab_journal.proofs.Steps.{Reads}
+use Rattle.tab_journal.proofs.reading.batches_kept.Given as goal
+
+abbrev pub invariant-loop-batch : goal.invariant-loop-batch
+invariant-loop-batch l = record { reads : Reads l.fn.front.salt l.fn.front.sum l.fn.bytes l.text.items l.sum l.rest }
+
+abbrev pub decreases-loop-batch : goal.decreases-loop-batch
+decreases-loop-batch l = length l.rest

@@ -1,0 +1,24 @@
+-- Worked examples, computed: the forms of fronts and batches.
+use Rattle.std.specs.Prelude.{pos, ◌≡◌, [], ◌∷◌, ◌++◌, codes, None, refl}
+use Rattle.tab_parts.specs.Reading.{u32_at, u64_at, field_at}
+use Rattle.tab_wire.specs.Replies.{u32, u64, i64}
+use Rattle.tab_journal.specs.Journals.{mark, front_summed, batch_summed}
+use Rattle.tab_journal.specs.Reading.{batch_at}
+
+-- the six bytes and the version
+marked : mark ≡ 84 ∷ 65 ∷ 66 ∷ 74 ∷ 82 ∷ 78 ∷ 0 ∷ 1 ∷ []
+marked = refl
+
+-- what sums are taken of: a front's own bytes, and a batch behind the salt and the sum before it
+front_before_its_sum : front_summed 1 2 (pos 3) 4 ≡ mark ++ (0 ∷ 0 ∷ 0 ∷ 0 ∷ 0 ∷ 0 ∷ 0 ∷ 1 ∷ 0 ∷ 0 ∷ 0 ∷ 0 ∷ 0 ∷ 0 ∷ 0 ∷ 2 ∷ 0 ∷ 0 ∷ 0 ∷ 0 ∷ 0 ∷ 0 ∷ 0 ∷ 3 ∷ 0 ∷ 0 ∷ 0 ∷ 0 ∷ 0 ∷ 0 ∷ 0 ∷ 4 ∷ [])
+unfolding front_summed u64 i64
+front_before_its_sum = refl
+
+batch_behind_salt_and_sum : batch_summed 1 2 48 (codes "a\n") ≡ 0 ∷ 0 ∷ 0 ∷ 0 ∷ 0 ∷ 0 ∷ 0 ∷ 1 ∷ 0 ∷ 0 ∷ 0 ∷ 0 ∷ 0 ∷ 0 ∷ 0 ∷ 2 ∷ 0 ∷ 0 ∷ 0 ∷ 0 ∷ 0 ∷ 0 ∷ 0 ∷ 48 ∷ 0 ∷ 0 ∷ 0 ∷ 2 ∷ 97 ∷ 10 ∷ []
+unfolding batch_summed u32 u64
+batch_behind_salt_and_sum = refl
+
+-- no batch begins where there are too few bytes for one
+too_few : batch_at 1 2 (0 ∷ 0 ∷ 0 ∷ 0 ∷ 0 ∷ 0 ∷ 0 ∷ 48 ∷ 0 ∷ 0 ∷ 0 ∷ 2 ∷ 97 ∷ []) ≡ None
+unfolding batch_at u32_at u64_at field_at
+too_few = refl

@@ -1,0 +1,98 @@
+-- How what is to be kept lies in the bytes of a journal, as relations. They say nothing of how bytes are read.
+use Rattle.std.specs.Prelude.{ℕ, ℤ, ◌≡◌, List, [], ◌∷◌, ◌++◌, codes}
+use Rattle.std.specs.Hash.DefaultHasher.{initial, write, finish}
+use Rattle.tab_history.specs.declared.event.Event.{Event}
+use Rattle.tab_parts.specs.Parts.{IsBytes, IsU32, IsU64, IsI64, IsField, IsNameField, IsCounted}
+use Rattle.tab_wire.specs.Forms.{IsRequest}
+use Rattle.tab_wire.specs.Replies.{u64, i64, field}
+use Rattle.tab_wire.specs.declared.request.Request.TheVariants as asks
+
+-- ---- sums
+-- the sum of some bytes: SipHash-1-3 with both keys 0
+unfoldable pub sum_of : List ℕ → ℕ
+sum_of bytes = finish (write initial bytes)
+
+-- ---- the front
+-- which journal it is; the number of the next mutation, and the clock, of the core that it goes on from; a number by which its sums differ from those of others
+pub record Front : Type 0 where
+  pub generation : ℕ
+  pub next : ℕ
+  pub clock : ℤ
+  pub salt : ℕ
+  pub sum : ℕ
+
+-- what a journal begins with: six bytes and the version
+abbrev pub mark : List ℕ
+mark = codes "TABJRN" ++ 0 ∷ 1 ∷ []
+
+-- what the sum of a front is taken of
+unfoldable pub front_summed : ℕ → ℕ → ℤ → ℕ → List ℕ
+front_summed generation next clock salt = mark ++ (u64 generation ++ (u64 next ++ (i64 clock ++ u64 salt)))
+
+-- 48 bytes: the mark, three numbers, the salt, and the sum
+pub record IsFront (bytes : List ℕ) (f : Front) : Type 0 where
+  pub g : List ℕ
+  pub n : List ℕ
+  pub c : List ℕ
+  pub s : List ℕ
+  pub m : List ℕ
+  pub spelled : bytes ≡ mark ++ (g ++ (n ++ (c ++ (s ++ m))))
+  pub generation : IsU64 g f.generation
+  pub next : IsU64 n f.next
+  pub clock : IsI64 c f.clock
+  pub salt : IsU64 s f.salt
+  pub sum : IsU64 m f.sum
+  pub fits : f.sum ≡ sum_of (front_summed f.generation f.next f.clock f.salt)
+
+-- ---- batches
+-- how many bytes of the journal were on the disk when it was written, the bytes that it keeps, and its sum
+pub record Batch : Type 0 where
+  pub settled : ℕ
+  pub body : List ℕ
+  pub sum : ℕ
+
+-- what the sum of a batch is taken of, where the journal has this salt and the sum before it is this one
+unfoldable pub batch_summed : ℕ → ℕ → ℕ → List ℕ → List ℕ
+batch_summed salt before settled body = u64 salt ++ (u64 before ++ (u64 settled ++ field body))
+
+-- a number, a field, and the sum
+pub record IsBatch (salt before : ℕ) (bytes : List ℕ) (b : Batch) : Type 0 where
+  pub s : List ℕ
+  pub f : List ℕ
+  pub m : List ℕ
+  pub spelled : bytes ≡ s ++ (f ++ m)
+  pub settled : IsU64 s b.settled
+  pub body : IsField f b.body
+  pub sum : IsU64 m b.sum
+  pub fits : b.sum ≡ sum_of (batch_summed salt before b.settled b.body)
+
+-- one batch behind another, each with the sum of the one before it
+abbrev pub AreBatches : ℕ → ℕ → List ℕ → List Batch → Type 0
+AreBatches salt before bytes [] = bytes ≡ []
+AreBatches salt before bytes (b ∷ bs) = (first : List ℕ) × (others : List ℕ) × (bytes ≡ first ++ others) × IsBatch salt before first b × AreBatches salt b.sum others bs
+
+-- ---- journals
+-- a front, and batches behind it, of which the first one has the front's sum before it
+abbrev pub IsJournal : List ℕ → Front → List Batch → Type 0
+IsJournal bytes front bs = (first : List ℕ) × (others : List ℕ) × (bytes ≡ first ++ others) × IsFront first front × AreBatches front.salt front.sum others bs
+
+-- ---- entries, of which the bytes of a batch may be
+-- a field of bytes
+abbrev pub IsText : List ℕ → List ℕ → Type 0
+IsText bytes text = IsField bytes text × IsBytes text
+
+-- an event that was done: its moment, which is the clock that it met, its user, and the body of a frame that asks its act
+pub record IsEntry (bytes : List ℕ) (e : Event) : Type 0 where
+  pub c : List ℕ
+  pub u : List ℕ
+  pub f : List ℕ
+  pub body : List ℕ
+  pub spelled : bytes ≡ c ++ (u ++ f)
+  pub moment : IsI64 c e.moment
+  pub user : IsNameField u e.user
+  pub text : IsText f body
+  pub act : IsRequest body (asks.Act e.act)
+
+-- the bytes of a batch are these entries, the oldest first: their count, and each of them
+abbrev pub AreEntries : List ℕ → List Event → Type 0
+AreEntries = IsCounted IsU32 IsEntry

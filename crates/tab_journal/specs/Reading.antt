@@ -1,0 +1,61 @@
+-- What the bytes of a journal say, as a function.
+use Rattle.std.specs.Prelude.{ℕ, ℤ, zero, suc, ◌==◌, List, [], ◌∷◌, length, bytes_eq, Option, Some, None, unwrap_or}
+use Rattle.tab_history.specs.declared.event.Act.{Act}
+use Rattle.tab_history.specs.declared.event.Event.{Event}
+use Rattle.tab_parts.specs.Reading.{◌>>=◌, Reader, and_then, picked, only_if, whole, u32_at, u64_at, i64_at, bytes_at, field_at, name_at, counted_at}
+use Rattle.tab_wire.specs.Requests.{request_in}
+use Rattle.tab_wire.specs.declared.request.Request.{Request}
+use Rattle.tab_wire.specs.declared.request.Request.TheVariants as asks
+use Rattle.tab_journal.specs.Journals.{sum_of, mark, Front, front_summed, Batch, batch_summed}
+
+-- ---- the front
+abbrev pub front_of : ℕ → ℕ → ℤ → ℕ → ℕ → Option Front
+front_of generation next clock salt sum = only_if (λ (f : Front). f.sum == sum_of (front_summed f.generation f.next f.clock f.salt)) (record { generation = generation; next = next; clock = clock; salt = salt; sum = sum })
+
+unfoldable pub mark_at : Reader (List ℕ)
+mark_at bytes = picked (only_if (bytes_eq mark)) (bytes_at 8) bytes
+
+unfoldable pub front_at : Reader Front
+front_at bytes = and_then mark_at (λ _. and_then u64_at (λ generation. and_then u64_at (λ next. and_then i64_at (λ clock. and_then u64_at (λ salt. picked (front_of generation next clock salt) u64_at))))) bytes
+
+-- ---- batches
+abbrev pub batch_of : ℕ → ℕ → ℕ → List ℕ → ℕ → Option Batch
+batch_of salt before settled body sum = only_if (λ (b : Batch). b.sum == sum_of (batch_summed salt before b.settled b.body)) (record { settled = settled; body = body; sum = sum })
+
+unfoldable pub batch_at : ℕ → ℕ → Reader Batch
+batch_at salt before bytes = and_then u64_at (λ settled. and_then field_at (λ body. picked (batch_of salt before settled body) u64_at)) bytes
+
+-- at most so many batches, and what stands behind them
+abbrev pub batches_within : ℕ → ℕ → ℕ → List ℕ → List Batch × List ℕ
+batches_within salt before zero bytes = ([], bytes)
+batches_within salt before (suc k) bytes = unwrap_or (batch_at salt before bytes >>= λ b. let behind = batches_within salt b.0.sum k b.1 in Some (b.0 ∷ behind.0, behind.1)) ([], bytes)
+
+-- ---- journals
+-- the front, the whole batches behind it, and what is left behind these
+pub record Journal : Type 0 where
+  pub front : Front
+  pub batches : List Batch
+  pub left : List ℕ
+
+abbrev pub journal_from : Front × List ℕ → Journal
+journal_from f = let read = batches_within f.0.salt f.0.sum (length f.1) f.1 in record { front = f.0; batches = read.0; left = read.1 }
+
+-- what these bytes say; nothing, where they don't begin with a front
+unfoldable pub journal_of : List ℕ → Option Journal
+journal_of bytes = front_at bytes >>= λ f. Some (journal_from f)
+
+-- ---- entries
+-- the act that is asked, if that is what is asked
+abbrev pub act_of : Option Request → Option Act
+act_of (Some (asks.Act act)) = Some act
+act_of asked = None
+
+abbrev pub event_of : ℤ → List ℕ → List ℕ → Option Event
+event_of moment user body = act_of (request_in body) >>= λ act. Some (record { user = user; moment = moment; act = act })
+
+unfoldable pub entry_at : Reader Event
+entry_at bytes = and_then i64_at (λ moment. and_then name_at (λ user. picked (event_of moment user) field_at)) bytes
+
+-- a count, and that many entries of at least 16 bytes each
+unfoldable pub entries_in : List ℕ → Option (List Event)
+entries_in body = whole (counted_at u32_at 16 entry_at body)

@@ -1,0 +1,27 @@
+//! What holds of journals: laws, each the contract of a function that does nothing.
+ghost use Rattle.tab_journal.specs.Laws.{JournalsAreRead, WholeBatchesAreKept, CutsAreBeginnings, EntriesAreRead, TextsHaveForm};
+
+/// What is read of a journal's bytes is what they say, and bytes that say something are read so.
+pub fn journals_are_read()
+    ensures { JournalsAreRead }
+{}
+
+/// What is read in front of something left is a whole journal, and no batch begins behind it.
+pub fn whole_batches_are_kept()
+    ensures { WholeBatchesAreKept }
+{}
+
+/// A beginning of a journal, with its front, says the first of its batches, whole ones alone.
+pub fn cuts_are_beginnings()
+    ensures { CutsAreBeginnings }
+{}
+
+/// The same of the entries that the bytes of a batch may be.
+pub fn entries_are_read()
+    ensures { EntriesAreRead }
+{}
+
+/// What is written has its form.
+pub fn texts_have_form()
+    ensures { TextsHaveForm }
+{}

@@ -1,0 +1,36 @@
+//! The bytes of a journal: what is to outlive a crash of a program, put behind one another as it comes.
+//!
+//! A journal is a front of 48 bytes, and batches. A batch is what one write puts: eight bytes that say how long the journal was when all of it
+//! was on the disk, a length of four bytes and that many bytes, and a sum of eight bytes. The sum is SipHash-1-3 of the journal's salt, the sum
+//! before it, and the batch: so each batch fits behind one other alone, and bytes of an older file don't fit. A write that a crash cuts off
+//! leaves no batch; what stands before it is read.
+//!
+//! The bytes of a batch are whatever is to be kept: lines of a script, or the entries of a history, each at the clock that it met, as the body
+//! of the frame that asks it.
+//!
+//! | File | What |
+//! |---|---|
+//! | `front`, `batch` | their texts, and what is read of them |
+//! | `reading` | a whole journal, read |
+//! | `sums`, `taking` | sums, and numbers and fields at the front of some bytes |
+//! | `laws` | reading is exactly the forms, and a beginning of a journal says the first of its batches |
+//!
+//! In `specs`, `Journals` says what the bytes of a journal are, as relations, `Reading` reads them, `Spelling` has the bytes that are written,
+//! `Laws` the laws, and `Examples` computes examples. In `proofs`, `Forms` shows that parts are read exactly, `Whole` that journals are, and
+//! what is read of a part of one.
+#![tactic(auto)]
+
+mod batch;
+mod front;
+mod laws;
+mod reading;
+mod sums;
+mod taking;
+
+pub use batch::{Batch, batch_text, take_batch};
+pub use front::{Front, front_text, take_front};
+pub use laws::{
+    cuts_are_beginnings, entries_are_read, journals_are_read, texts_have_form,
+    whole_batches_are_kept,
+};
+pub use reading::{Kept, read_journal};
