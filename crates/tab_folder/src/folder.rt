@@ -1,0 +1,227 @@
+//! The folder: taken up, read, and left with the next image.
+use crate::left::left_in;
+use crate::log::Log;
+use crate::names::{Kind, PART, image_path, journal_path, kind_of, loaded_path};
+use crate::{FolderFault, Left};
+use std::fs::{DirBuilder, File, OpenOptions, TryLockError};
+use std::io::{ErrorKind, Read};
+use std::os::unix::fs::{DirBuilderExt, OpenOptionsExt};
+use std::path::Path;
+use std::random::RandomSource;
+use std::{fs, io};
+use tab_core::Core;
+use tab_io::{BlockReader, BlockWriter, Output};
+use tab_journal::Front;
+
+// Who may use the folder and read what is in it: whoever runs the program.
+const FOLDER_MODE: u32 = 0o700;
+
+const FILE_MODE: u32 = 0o600;
+
+/// A folder that was taken up. No other process takes it up until this is dropped.
+#[derive(Drop)]
+pub struct Folder<'a> {
+    rt: &'a HostRuntime,
+    path: &'a str,
+    // locked for as long as it is open
+    _lock: File,
+    newest: Option<u64>,
+}
+
+impl<'a> Folder<'a> {
+    /// Takes the folder of this path up, which is made where it isn't there, for its owner alone.
+    pub fn open(rt: &'a HostRuntime, path: &'a str) -> Result<Folder<'a>, FolderFault> {
+        make(rt, path)?;
+        let lock = locked(rt, path)?;
+        let newest = newest(rt, path)?;
+        Ok(Folder {
+            rt,
+            path,
+            _lock: lock,
+            newest,
+        })
+    }
+
+    /// Whether there is an image in it.
+    pub fn has_image(&self) -> bool {
+        self.newest.is_some()
+    }
+
+    /// The core of its image. One that can't be loaded is told by its name, and no older one is taken in its place.
+    pub fn load(&self) -> Result<Core, FolderFault> {
+        let number = self.number()?;
+        let name = image_path(self.rt.alloc(), self.path, number)?;
+        self.read(number, name.as_str())
+    }
+
+    /// The core that a `load` of a run that didn't end has given, at this place among its loads.
+    pub fn loaded(&self, place: u64) -> Result<Core, FolderFault> {
+        let number = self.number()?;
+        let name = loaded_path(self.rt.alloc(), self.path, number, place)?;
+        self.read(number, name.as_str())
+    }
+
+    /// Keeps the core that a `load` gives, at this place among those of the run.
+    pub fn keep_loaded(&self, place: u64, core: &Core) -> Result<(), FolderFault> {
+        let number = self.number()?;
+        let name = loaded_path(self.rt.alloc(), self.path, number, place)?;
+        self.write(name.as_str(), core)
+    }
+
+    /// What a run that didn't end left behind this image. Memory is taken for the whole journal.
+    pub fn left(&self, core: &Core) -> Result<Left, FolderFault> {
+        let number = self.number()?;
+        let mut bytes = Vec::new(self.rt.alloc());
+        let name = journal_path(self.rt.alloc(), self.path, number)?;
+        match File::open(self.rt, name.as_str()) {
+            Ok(mut file) => {
+                file.read_to_end(&mut bytes)?;
+            }
+            Err(error) if error.kind() == ErrorKind::NotFound => {}
+            Err(error) => return Err(FolderFault::Refused(error)),
+        }
+        left_in(self.rt.alloc(), number, core, bytes.as_slice())
+    }
+
+    /// Begins the journal behind this image, whose core this is. What stood there is lost.
+    pub fn begin(&self, core: &Core) -> Result<Log, FolderFault> {
+        let number = self.number()?;
+        let mut salt = [0; 8];
+        self.rt.fill_bytes(&mut salt)?;
+        let name = journal_path(self.rt.alloc(), self.path, number)?;
+        let file = created(self.rt, name.as_str())?;
+        let front = Front::new(number, core.next(), core.clock(), u64::from_be_bytes(salt));
+        let log = Log::begin(self.rt.alloc(), file, front)?;
+        sync_folder(self.rt, self.path)?;
+        Ok(log)
+    }
+
+    /// Leaves an image of the core as the newest one, on the disk, and removes what was there before. After an error the image before stands.
+    pub fn keep(&mut self, core: &Core) -> Result<(), FolderFault> {
+        let number = match self.newest {
+            None => 0,
+            Some(newest) => newest.checked_add(1).ok_or(FolderFault::Full)?,
+        };
+        let name = image_path(self.rt.alloc(), self.path, number)?;
+        self.write(name.as_str(), core)?;
+        self.newest = Some(number);
+        sweep(self.rt, self.path, number);
+        Ok(())
+    }
+
+    // Writes the image of the core under this name, down to the disk.
+    fn write(&self, name: &str, core: &Core) -> Result<(), FolderFault> {
+        let part = format!(in self.rt.alloc(); "{name}{PART}")?;
+        write(self.rt, part.as_str(), core)?;
+        fs::rename(self.rt, part.as_str(), name)?;
+        sync_folder(self.rt, self.path)
+    }
+
+    // The core of the image in the file of this name.
+    fn read(&self, number: u64, name: &str) -> Result<Core, FolderFault> {
+        let file = File::open(self.rt, name)?;
+        let mut input = BlockReader::new(self.rt.alloc(), file)?;
+        match tab_loading::load(self.rt.alloc(), &mut input) {
+            Ok(core) => Ok(core),
+            Err(fault) => Err(FolderFault::Load(number, fault)),
+        }
+    }
+
+    // The number of its image.
+    fn number(&self) -> Result<u64, FolderFault> {
+        self.newest.ok_or(FolderFault::Empty)
+    }
+}
+
+// Makes the folder where it isn't there, down to the disk.
+fn make(rt: &HostRuntime, path: &str) -> Result<(), FolderFault> {
+    match DirBuilder::new().mode(FOLDER_MODE).create(rt, path) {
+        Ok(()) => {}
+        Err(error) if error.kind() == ErrorKind::AlreadyExists => return Ok(()),
+        Err(error) => return Err(FolderFault::Refused(error)),
+    }
+    let above = match Path::new(path).parent() {
+        Some(parent) if !parent.as_os_str().is_empty() => parent,
+        _ => Path::new("."),
+    };
+    Ok(synced(File::open(rt, above)?.sync_all())?)
+}
+
+// The lock of the folder, held from now on.
+fn locked(rt: &HostRuntime, path: &str) -> Result<File, FolderFault> {
+    let name = format!(in rt.alloc(); "{path}/lock")?;
+    let file = OpenOptions::new()
+        .write(true)
+        .create(true)
+        .mode(FILE_MODE)
+        .open(rt, name.as_str())?;
+    match file.try_lock() {
+        Ok(()) => Ok(file),
+        Err(TryLockError::WouldBlock) => Err(FolderFault::Taken),
+        Err(TryLockError::Error(error)) => Err(FolderFault::Refused(error)),
+    }
+}
+
+// The greatest number of an image in the folder.
+fn newest(rt: &HostRuntime, path: &str) -> Result<Option<u64>, FolderFault> {
+    let mut newest = None;
+    for entry in fs::read_dir(rt, path)? {
+        let entry = entry?;
+        if let Kind::Image(number) = kind_of(entry.file_name()) {
+            newest = newest.max(Some(number));
+        }
+    }
+    Ok(newest)
+}
+
+// An empty file of this name, for its owner alone.
+fn created(rt: &HostRuntime, name: &str) -> Result<File, FolderFault> {
+    let mut options = OpenOptions::new();
+    options
+        .write(true)
+        .create(true)
+        .truncate(true)
+        .mode(FILE_MODE);
+    Ok(options.open(rt, name)?)
+}
+
+// Writes the image of the core, down to the disk, in the place of what was left of one that was cut off.
+fn write(rt: &HostRuntime, part: &str, core: &Core) -> Result<(), FolderFault> {
+    let mut output = BlockWriter::new(rt.alloc(), created(rt, part)?)?;
+    tab_saving::save(rt.alloc(), &mut output, core)?;
+    if output.flush().is_err() {
+        return Err(FolderFault::Write);
+    }
+    Ok(output.get_ref().sync_all()?)
+}
+
+fn sync_folder(rt: &HostRuntime, path: &str) -> Result<(), FolderFault> {
+    Ok(synced(File::open(rt, path)?.sync_all())?)
+}
+
+// What came of a folder's sync. Some file systems sync no folder, and say so.
+fn synced(outcome: io::Result<()>) -> io::Result<()> {
+    match outcome {
+        Err(error) if error.kind() == ErrorKind::InvalidInput => Ok(()),
+        Err(error) if error.kind() == ErrorKind::Unsupported => Ok(()),
+        outcome => outcome,
+    }
+}
+
+// Removes the images before this one and what goes with them, and parts of this one. What can't be removed now is removed another time.
+fn sweep(rt: &HostRuntime, path: &str, number: u64) {
+    let Ok(entries) = fs::read_dir(rt, path) else {
+        return;
+    };
+    for entry in entries {
+        let Ok(entry) = entry else {
+            return;
+        };
+        match kind_of(entry.file_name()) {
+            Kind::Image(older) | Kind::With(older) if older < number => {
+                let _ = fs::remove_file(rt, entry.path());
+            }
+            _ => {}
+        }
+    }
+}

@@ -1,0 +1,85 @@
+//! Streams beside a journal.
+use crate::FolderFault;
+use crate::log::Log;
+use std::io;
+use std::io::{Error, ErrorKind, Read, Write};
+
+/// A reader whose bytes are put into a journal before anybody sees them. What it reads ends with a line feed there: where the last line lacks
+/// one, it is put as the reader ends.
+#[derive(Drop)]
+pub struct Logged<'a, R> {
+    reader: R,
+    log: &'a Log,
+    // whether a line has begun that hasn't ended
+    within: bool,
+}
+
+impl<'a, R> Logged<'a, R> {
+    /// Over this reader, of which nothing was read yet.
+    pub fn new(reader: R, log: &'a Log) -> Logged<'a, R> {
+        Logged {
+            reader,
+            log,
+            within: false,
+        }
+    }
+}
+
+impl<R> Logged<'_, R> {
+    // Puts what was read.
+    fn put(&mut self, text: &[u8]) -> Result<(), FolderFault> {
+        self.within = !text.ends_with(b"\n");
+        self.log.put(text)
+    }
+
+    // Ends the last line.
+    fn end(&mut self) -> Result<(), FolderFault> {
+        if !self.within {
+            return Ok(());
+        }
+        self.within = false;
+        self.log.put(b"\n")
+    }
+}
+
+impl<R: Read> Read for Logged<'_, R> {
+    fn read(&mut self, buf: &mut [u8]) -> io::Result<usize> {
+        let count = self.reader.read(buf)?;
+        let outcome = if count == 0 {
+            self.end()
+        } else {
+            self.put(&buf[..count])
+        };
+        match outcome {
+            Ok(()) => Ok(count),
+            Err(_) => Err(Error::from(ErrorKind::Other)),
+        }
+    }
+}
+
+/// A writer that sees a journal on the disk before it writes.
+#[derive(Drop)]
+pub struct Settled<'a, W> {
+    writer: W,
+    log: &'a Log,
+}
+
+impl<'a, W> Settled<'a, W> {
+    /// Over this writer.
+    pub fn new(writer: W, log: &'a Log) -> Settled<'a, W> {
+        Settled { writer, log }
+    }
+}
+
+impl<W: Write> Write for Settled<'_, W> {
+    fn write(&mut self, buf: &[u8]) -> io::Result<usize> {
+        if self.log.settle().is_err() {
+            return Err(Error::from(ErrorKind::Other));
+        }
+        self.writer.write(buf)
+    }
+
+    fn flush(&mut self) -> io::Result<()> {
+        self.writer.flush()
+    }
+}
