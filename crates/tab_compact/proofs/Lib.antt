@@ -2,3 +2,4 @@
 pub mod Plans
 pub mod Inputs
 pub mod BySize
+pub mod Together

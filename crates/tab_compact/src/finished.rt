@@ -8,7 +8,7 @@ use std::marker::Model;
 use std::sync::Arc;
 use tab_table::Table;
 
-/// A job with the table that its merge made. Only [`Job::merge`] makes one. A contract sees the job's `Merge`.
+/// A job with the table that its merge made. Only [`Job::merge`] and [`merge_many`](crate::merge_many) make one. A contract sees the job's `Merge`.
 #[derive(Drop)]
 pub struct Finished {
     job: Job,

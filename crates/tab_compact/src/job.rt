@@ -148,7 +148,7 @@ impl Job {
     }
 
     // The table that the merge makes.
-    fn table(&self, alloc: Global) -> Result<Arc<Table>, NoMemory>
+    pub(crate) fn table(&self, alloc: Global) -> Result<Arc<Table>, NoMemory>
         ensures { IfOk result (λ t. records t.value ≡ output self.now) }
     {
         let sources = self.inputs.cursors(alloc)?;
