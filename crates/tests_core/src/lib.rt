@@ -5,6 +5,8 @@
 //!
 //! | File | What is tested |
 //! |---|---|
+//! | `bases` | cores that are made of the base of another one |
+//! | `due` | lists of the work that is due |
 //! | `runs` | runs of steps, and their sessions |
 //! | `comparing` | pairs of runs that look alike to one user, and what he is told |
 //! | `jobs` | compactions in three parts, in runs and in cores |
@@ -14,7 +16,11 @@
 #![tactic(auto)]
 
 #[cfg(test)]
+mod bases;
+#[cfg(test)]
 mod comparing;
+#[cfg(test)]
+mod due;
 #[cfg(test)]
 mod jobs;
 #[cfg(test)]

@@ -124,13 +124,14 @@ fn add_number(rt: &impl Abort, alloc: Global, text: &mut Vec<u8>, number: i64) {
     add(rt, text, digits.as_bytes())
 }
 
-fn add_count(rt: &impl Abort, alloc: Global, text: &mut Vec<u8>, count: u64) {
+/// The count in digits.
+pub fn add_count(rt: &impl Abort, alloc: Global, text: &mut Vec<u8>, count: u64) {
     let digits = format!(in alloc; "{count}").expect(rt, "memory");
     add(rt, text, digits.as_bytes())
 }
 
-// The cells, as `label@timestamp=value` with a comma after each.
-fn add_cells(rt: &impl Abort, alloc: Global, text: &mut Vec<u8>, cells: &Cells) {
+/// The cells, as `label@timestamp=value` with a comma after each.
+pub fn add_cells(rt: &impl Abort, alloc: Global, text: &mut Vec<u8>, cells: &Cells) {
     for index in 0..cells.len() {
         let cell = cells.get(index);
         add(rt, text, cell.label());
@@ -159,7 +160,8 @@ fn word_of(refusal: &Refusal) -> &'static [u8] {
     }
 }
 
-fn add(rt: &impl Abort, text: &mut Vec<u8>, word: &[u8]) {
+/// Puts the word behind the text.
+pub fn add(rt: &impl Abort, text: &mut Vec<u8>, word: &[u8]) {
     text.extend_from_slice(word).expect(rt, "memory");
 }
 
@@ -176,7 +178,8 @@ fn add_terms(rt: &impl Abort, text: &mut Vec<u8>, auths: &AuthSet) {
     }
 }
 
-fn add_reply(rt: &impl Abort, alloc: Global, text: &mut Vec<u8>, reply: &Reply) {
+/// Puts the reply behind the text.
+pub fn add_reply(rt: &impl Abort, alloc: Global, text: &mut Vec<u8>, reply: &Reply) {
     match reply {
         Reply::Done => add(rt, text, b"ok"),
         Reply::Refused(refusal) => add(rt, text, word_of(refusal)),
