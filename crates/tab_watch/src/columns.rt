@@ -1,0 +1,112 @@
+//! A writer that puts cells into columns.
+use crate::kinds::{Kind, kind_of};
+use std::alloc::{AllocError, Global};
+use std::io;
+use std::io::Write;
+use tab_io::{BLOCK_LENGTH, length_before};
+
+// How many words a cell has before its value.
+const COLUMNS: usize = 5;
+
+// How wide a column gets at most: a longer word moves the rest of its line.
+const WIDEST: usize = 24;
+
+// Spaces to fill a column with.
+const SPACES: &[u8] = b"                          ";
+
+/// A writer for a terminal: what is written is handed on once the writer is flushed, or there is a block of it, with the words of cells
+/// one under the other. What is no cell is handed on as it is; where memory lacks, all is.
+#[derive(Drop)]
+pub struct Columns<W> {
+    alloc: Global,
+    inner: W,
+    text: Vec<u8>,
+    on: bool,
+}
+
+impl<W: Write> Columns<W> {
+    /// Writes to this one; with no columns where none are wanted.
+    pub fn new(alloc: Global, inner: W, on: bool) -> Columns<W> {
+        Columns {
+            alloc,
+            inner,
+            text: Vec::new(alloc),
+            on,
+        }
+    }
+
+    // Hands on all that is here.
+    fn put(&mut self) -> io::Result<()> {
+        let text = self.text.as_slice();
+        match lay_out(self.alloc, text) {
+            Ok(laid) => self.inner.write_all(laid.as_slice())?,
+            Err(_) => self.inner.write_all(text)?,
+        }
+        self.text.clear();
+        Ok(())
+    }
+}
+
+// The lines, with their cells in columns.
+fn lay_out(alloc: Global, text: &[u8]) -> Result<Vec<u8>, AllocError> {
+    let widths = widths_of(text);
+    let mut laid = Vec::new(alloc);
+    let mut rest = text;
+    for _ in 0..u64::MAX {
+        let at = length_before(b'\n', rest);
+        lay_line(&mut laid, rest.split_at(at).0, &widths)?;
+        if at == rest.len() {
+            break;
+        }
+        laid.extend_from_slice(b"\n")?;
+        rest = rest.split_at(at + 1).1;
+    }
+    Ok(laid)
+}
+
+// How wide the columns of the cells in these lines are.
+fn widths_of(text: &[u8]) -> [usize; COLUMNS] {
+    let mut widths = [0usize; COLUMNS];
+    for line in text.split(|byte| *byte == b'\n') {
+        if kind_of(line) == Kind::Cell {
+            for (word, width) in line.split(|byte| *byte == b' ').zip(widths.iter_mut()) {
+                *width = (*width).max(word.len().min(WIDEST));
+            }
+        }
+    }
+    widths
+}
+
+// Puts a line, a cell with its words in columns.
+fn lay_line(laid: &mut Vec<u8>, line: &[u8], widths: &[usize; COLUMNS]) -> Result<(), AllocError> {
+    if kind_of(line) != Kind::Cell {
+        return laid.extend_from_slice(line);
+    }
+    let mut widths = widths.iter();
+    for word in line.split(|byte| *byte == b' ') {
+        laid.extend_from_slice(word)?;
+        if let Some(width) = widths.next() {
+            let lacking = width.saturating_sub(word.len()).saturating_add(2);
+            laid.extend_from_slice(SPACES.get(..lacking).unwrap_or(b"  "))?;
+        }
+    }
+    Ok(())
+}
+
+impl<W: Write> Write for Columns<W> {
+    fn write(&mut self, buf: &[u8]) -> io::Result<usize> {
+        if !self.on {
+            return self.inner.write(buf);
+        }
+        if self.text.len() >= BLOCK_LENGTH || self.text.extend_from_slice(buf).is_err() {
+            self.put()?;
+            return self.inner.write(buf);
+        }
+        Ok(buf.len())
+    }
+
+    fn flush(&mut self) -> io::Result<()> {
+        self.put()?;
+        self.inner.flush()
+    }
+}

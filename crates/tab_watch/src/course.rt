@@ -1,0 +1,79 @@
+//! What is asked of a run, and where it stands.
+use std::cell::Cell;
+use std::fmt;
+use std::fmt::{Display, Formatter};
+
+/// What is asked of a run.
+#[derive(Clone, Copy, Debug, PartialEq, Eq)]
+pub struct Watch {
+    /// Whether it stops at the first fault or refusal.
+    pub strict: bool,
+    /// Whether it prints only what isn't `ok`.
+    pub quiet: bool,
+}
+
+impl Watch {
+    /// Whether anything is asked.
+    pub fn is_on(self) -> bool {
+        self.strict || self.quiet
+    }
+}
+
+/// How many lines were answered `ok`, by a refusal, and by a fault.
+#[derive(Clone, Copy, Debug, PartialEq, Eq)]
+pub struct Tally {
+    pub done: u64,
+    pub refused: u64,
+    pub faults: u64,
+}
+
+impl Display for Tally {
+    fn fmt<W: fmt::Write>(&self, f: &mut Formatter<W>) -> fmt::Result {
+        let (done, refused, faults) = (self.done, self.refused, self.faults);
+        write!(f, "{done} ok, {refused} refused, {faults} faults")
+    }
+}
+
+/// Where a run stands: the line that is being answered, counted from 1, and whether the run has stopped. Its reader and its writer share it.
+#[derive(Drop)]
+pub struct Course {
+    watch: Watch,
+    line: Cell<u64>,
+    stopped: Cell<bool>,
+}
+
+impl Course {
+    /// The course of a run of which this is asked. No line was read yet.
+    pub fn new(watch: Watch) -> Course {
+        Course {
+            watch,
+            line: Cell::new(0),
+            stopped: Cell::new(false),
+        }
+    }
+
+    /// What is asked of the run.
+    pub fn watch(&self) -> Watch {
+        self.watch
+    }
+
+    /// The line that is being answered, or 0 before the first.
+    pub fn line(&self) -> u64 {
+        self.line.get()
+    }
+
+    /// Whether the run has stopped at that line.
+    pub fn has_stopped(&self) -> bool {
+        self.stopped.get()
+    }
+
+    /// The next line is read.
+    pub(crate) fn step(&self) {
+        self.line.set(self.line.get().saturating_add(1));
+    }
+
+    /// The run stops at this line.
+    pub(crate) fn stop(&self) {
+        self.stopped.set(true);
+    }
+}
