@@ -1,40 +1,117 @@
 //! Images in files of the system.
-use std::alloc::Global;
+use crate::Noting;
+use crate::parts::{Part, begin};
+use crate::sums::{Sum, Summing, compare, line_of_sum, name_of_sum};
+use std::alloc::{AllocError, Global};
 use std::fs;
 use std::fs::File;
-use std::io::ErrorKind;
+use std::io::{Error, ErrorKind, Write};
 use std::path::Path;
 use tab_core::Core;
 use tab_io::{BlockReader, BlockWriter, Output};
 use tab_loading::LoadFault;
 use tab_saving::SaveFault;
 
-/// How many names are tried for a new file before a save gives up.
-const TRIES: u32 = 1000;
-
-/// The core of which the file of this name holds an image. `Io` is told also where the file can't be opened.
-pub fn load(rt: &HostRuntime, name: &str) -> Result<Core, LoadFault> {
-    let Ok(file) = File::open(rt, name) else {
-        return Err(LoadFault::Io);
-    };
-    let Ok(mut input) = BlockReader::new(rt.alloc(), file) else {
-        return Err(LoadFault::NoMemory);
-    };
-    tab_loading::load(rt.alloc(), &mut input)
+/// Why an image isn't saved under a name. What the name had before, it has still.
+#[derive(Clone, Copy, Debug, thiserror::Error)]
+pub enum NotSaved {
+    /// There was no memory.
+    #[error("there is no memory for the image")]
+    NoMemory,
+    /// The name is a folder's or a device's.
+    #[error("the image can't be written: what has this name is no file")]
+    NoFile,
+    /// All names for a new file beside it are taken.
+    #[error("the image can't be written: there are too many .part files beside it")]
+    NoName,
+    /// The system refuses it, for this reason.
+    #[error("the image can't be written: {0}")]
+    Refused(Error),
 }
 
-/// Saves an image of the core under this name. `Write` is told of whatever the file system refuses.
+impl From<AllocError> for NotSaved {
+    fn from(_lack: AllocError) -> NotSaved {
+        NotSaved::NoMemory
+    }
+}
+
+impl From<Error> for NotSaved {
+    fn from(error: Error) -> NotSaved {
+        NotSaved::Refused(error)
+    }
+}
+
+/// Why no image is loaded.
+#[derive(Clone, Copy, Debug, PartialEq, Eq, thiserror::Error)]
+pub enum NotLoaded {
+    /// The file can't be read.
+    #[error("the image can't be read")]
+    Io,
+    /// There was no memory.
+    #[error("there is no memory for the image")]
+    NoMemory,
+    /// The file holds an image of a version that isn't known.
+    #[error("the image has the unknown version {0}")]
+    Version(u16),
+    /// The file holds no image.
+    #[error("this is no image")]
+    Bad,
+    /// The file has another checksum than the one beside it says.
+    #[error("differs from its checksum")]
+    Differs,
+}
+
+impl From<AllocError> for NotLoaded {
+    fn from(_lack: AllocError) -> NotLoaded {
+        NotLoaded::NoMemory
+    }
+}
+
+impl From<LoadFault> for NotLoaded {
+    fn from(fault: LoadFault) -> NotLoaded {
+        match fault {
+            LoadFault::Io => NotLoaded::Io,
+            LoadFault::NoMemory => NotLoaded::NoMemory,
+            LoadFault::Version(version) => NotLoaded::Version(version),
+            LoadFault::Bad => NotLoaded::Bad,
+        }
+    }
+}
+
+/// The core of which the file of this name holds an image. `Io` is told also where the file can't be opened.
+///
+/// Where a file FILE.sha256 stands beside it the image is compared with that checksum first, and an image that differs isn't looked at.
+pub fn load(rt: &HostRuntime, name: &str) -> Result<Core, NotLoaded> {
+    let Ok(file) = File::open(rt, name) else {
+        return Err(NotLoaded::Io);
+    };
+    compare(rt, name, &file)?;
+    read(rt.alloc(), file)
+}
+
+// The core of which the file holds an image.
+fn read(alloc: Global, file: File) -> Result<Core, NotLoaded> {
+    let mut input = BlockReader::new(alloc, file)?;
+    match tab_loading::load(alloc, &mut input) {
+        Ok(core) => Ok(core),
+        Err(fault) => Err(NotLoaded::from(fault)),
+    }
+}
+
+/// Saves an image of the core under this name, for its owner alone, and its checksum beside it in a file FILE.sha256, as `sha256sum`
+/// writes it.
 ///
 /// A save writes a new file beside the old one, under a name of its own, and gives it the old one's name once it is whole and on the
-/// disk. So a save that fails leaves the last image as it was.
-pub fn save(rt: &HostRuntime, name: &str, core: &Core) -> Result<(), SaveFault> {
+/// disk. So a save that fails leaves the last image as it was. The old checksum goes first and the new one comes last: so where a save
+/// is cut off an image may have no checksum, but never another one's.
+pub fn save(rt: &HostRuntime, name: &str, core: &Core) -> Result<(), NotSaved> {
     if !may_be_given(rt, name) {
-        return Err(SaveFault::Write);
+        return Err(NotSaved::NoFile);
     }
-    let (part, file) = begin(rt, name)?;
-    let outcome = finish(rt, name, part.as_str(), file, core);
+    let part = begin(rt, name)?;
+    let outcome = finish(rt, name, &part, core);
     if outcome.is_err() {
-        let _ = fs::remove_file(rt, part.as_str());
+        let _ = fs::remove_file(rt, part.name.as_str());
     }
     outcome
 }
@@ -47,52 +124,71 @@ fn may_be_given(rt: &HostRuntime, name: &str) -> bool {
     }
 }
 
-// A new file beside the one of this name, and the name that it has for now. A name that is taken may be another save's, or left by
-// one that was cut off: it isn't touched.
-fn begin(rt: &HostRuntime, name: &str) -> Result<(String, File), SaveFault> {
-    for number in 0..TRIES {
-        let Ok(part) = format!(in rt.alloc(); "{name}.{number}.part") else {
-            return Err(SaveFault::NoMemory);
-        };
-        match File::create_new(rt, part.as_str()) {
-            Ok(file) => return Ok((part, file)),
-            Err(error) if error.kind() == ErrorKind::AlreadyExists => {}
-            Err(_) => return Err(SaveFault::Write),
-        }
+// Writes the image, and gives it the name, with its checksum beside it.
+fn finish(rt: &HostRuntime, name: &str, part: &Part, core: &Core) -> Result<(), NotSaved> {
+    let sum = write(rt.alloc(), &part.file, core)?;
+    let line = line_of_sum(rt.alloc(), name, sum)?;
+    let beside = name_of_sum(rt.alloc(), name)?;
+    let small = begin(rt, beside.as_str())?;
+    let outcome = place(rt, name, part, beside.as_str(), &small, line.as_bytes());
+    if outcome.is_err() {
+        let _ = fs::remove_file(rt, small.name.as_str());
     }
-    Err(SaveFault::Write)
+    outcome
 }
 
-// Writes the image, and gives it the name.
-fn finish(
+// Writes the checksum, and gives both files their names.
+fn place(
     rt: &HostRuntime,
     name: &str,
-    part: &str,
-    file: File,
-    core: &Core,
-) -> Result<(), SaveFault> {
-    write(rt.alloc(), file, core)?;
-    match fs::rename(rt, part, name) {
-        Ok(()) => {}
-        Err(_) => return Err(SaveFault::Write),
+    part: &Part,
+    beside: &str,
+    small: &Part,
+    line: &[u8],
+) -> Result<(), NotSaved> {
+    let mut file = &small.file;
+    file.write_all(line)?;
+    file.sync_all()?;
+    match fs::remove_file(rt, beside) {
+        Err(error) if error.kind() != ErrorKind::NotFound => return Err(NotSaved::Refused(error)),
+        _ => {}
+    }
+    fs::rename(rt, part.name.as_str(), name)?;
+    // The image has its name now: where its checksum gets none it stands without one.
+    if fs::rename(rt, small.name.as_str(), beside).is_err() {
+        let _ = fs::remove_file(rt, small.name.as_str());
     }
     settle(rt, name);
     Ok(())
 }
 
-// Writes the image of the core, down to the disk.
-fn write(alloc: Global, file: File, core: &Core) -> Result<(), SaveFault> {
-    let Ok(mut output) = BlockWriter::new(alloc, file) else {
+// Writes the image of the core, down to the disk, and tells its checksum.
+fn write(alloc: Global, file: &File, core: &Core) -> Result<Sum, NotSaved> {
+    let mut stream = Summing::new(Noting::new(file));
+    match put(alloc, &mut stream, core) {
+        Ok(()) => {}
+        Err(SaveFault::NoMemory) => return Err(NotSaved::NoMemory),
+        Err(SaveFault::Write) => return Err(refused(stream.get_ref().failure())),
+    }
+    file.sync_all()?;
+    Ok(stream.into_sum())
+}
+
+// Writes the image of the core.
+fn put<W: Write + Drop>(alloc: Global, stream: W, core: &Core) -> Result<(), SaveFault> {
+    let Ok(mut output) = BlockWriter::new(alloc, stream) else {
         return Err(SaveFault::NoMemory);
     };
     tab_saving::save(alloc, &mut output, core)?;
-    if output.flush().is_err() {
-        return Err(SaveFault::Write);
-    }
-    output.get_ref().sync_all().map_err(|_| SaveFault::Write)
+    output.flush().map_err(|_| SaveFault::Write)
 }
 
-// Asks that the folder have the name on the disk too. The image has its name already, and until then the name's last image stands there:
+// A write that failed for this reason, if one is known.
+fn refused(reason: Option<Error>) -> NotSaved {
+    NotSaved::Refused(reason.unwrap_or(Error::from(ErrorKind::Other)))
+}
+
+// Asks that the folder have the names on the disk too. The image has its name already, and until then the name's last image stands there:
 // so it is no fault where the system can't do it.
 fn settle(rt: &HostRuntime, name: &str) {
     let folder = match Path::new(name).parent() {

@@ -9,4 +9,7 @@ pub enum NetFault {
     /// No server is reached on the port.
     #[error("no server is reached on port {0}")]
     Connect(u16),
+    /// What listens on the port gives no answer.
+    #[error("port {0} doesn't answer as tabd")]
+    Silent(u16),
 }
