@@ -3,11 +3,13 @@ ghost use Rattle.std.specs.Prelude.{◌≡◌, ◌++◌, decimal};
 ghost use Rattle.tab_io.specs.Writing.{Puts};
 ghost use Rattle.tab_help.specs.Explaining.{Explains};
 
+use crate::asks::Asks;
 use crate::reason::fault;
 use std::alloc::{AllocError, Global};
 use std::io;
 use std::io::Read;
 use tab_io::{Output, WriteFault, length_before, put_decimal};
+use tab_lines::Words;
 
 /// What was said of a line.
 #[derive(Clone, Copy, Debug, PartialEq, Eq)]
@@ -44,6 +46,37 @@ pub fn explain<W: Output>(
     }
 }
 
+/// The same for a line of those that are asked for: one that only a script has is no line of a shell.
+pub(crate) fn explain_asked<W: Output>(
+    alloc: Global,
+    asks: Asks,
+    number: u64,
+    line: &[u8],
+    output: &mut W,
+) -> Result<(), WriteFault> {
+    let mut words = Words::of(line);
+    match words.next() {
+        Some(command) if !asks.has(command) => put_script_only(output, number, command),
+        _ => match explain(alloc, number, line, output) {
+            Ok(_) => Ok(()),
+            Err(fault) => Err(fault),
+        },
+    }
+}
+
+// Says that a shell lacks a script's line.
+fn put_script_only<W: Output>(
+    output: &mut W,
+    number: u64,
+    command: &[u8],
+) -> Result<(), WriteFault> {
+    output.put(b"line ")?;
+    put_decimal(output, number)?;
+    output.put(b": word 1, \"")?;
+    output.put(command)?;
+    output.put(b"\": expected a line of a shell; this one is a script's alone\n")
+}
+
 // Puts the text with the number before it, and this in front.
 #[tactic(auto, using(tab_io::proofs::Putting::putting))]
 fn put_numbered<W: Output>(
@@ -77,6 +110,7 @@ fn whole<'a>(part: &'a [u8], begun: &'a [u8]) -> &'a [u8] {
 #[derive(Drop)]
 struct Lines<W> {
     alloc: Global,
+    asks: Asks,
     begun: Vec<u8>,
     lost: bool,
     ended: u64,
@@ -100,7 +134,7 @@ impl<W: Output> Lines<W> {
         }
         if !self.lost {
             let line = whole(part, self.begun.as_slice());
-            let _ = explain(self.alloc, self.ended, line, &mut self.notes);
+            let _ = explain_asked(self.alloc, self.asks, self.ended, line, &mut self.notes);
         }
         self.begun.clear();
         self.lost = false;
@@ -140,14 +174,15 @@ pub struct Explaining<R, W> {
 }
 
 impl<R: Read, W: Output> Explaining<R, W> {
-    /// Reads from the one, and explains on the other.
-    pub fn new(alloc: Global, inner: R, notes: W) -> Explaining<R, W>
+    /// Reads from the one, and explains on the other what of these lines is a fault.
+    pub fn new(alloc: Global, asks: Asks, inner: R, notes: W) -> Explaining<R, W>
         ensures { ⟦<Explaining<R, W> as Read>⟧.remaining result ≡ R.remaining inner }
     {
         Explaining {
             inner,
             lines: Lines {
                 alloc,
+                asks,
                 begun: Vec::new(alloc),
                 lost: false,
                 ended: 0,

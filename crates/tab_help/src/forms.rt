@@ -39,6 +39,41 @@ pub const LINES: &str = "  as U
   load FILE
   rotate";
 
+/// What each line does, in a sentence.
+pub const DEEDS: &str = "  as           Later lines are this user's.
+  at           Later lines come at this moment.
+  createtable  Makes a table.
+  droptable    Drops a table, with its cells and all rights on it.
+  createuser   Makes a user.
+  dropuser     Drops a user, with his rights and authorizations.
+  setauths     Gives a user these authorizations in place of those that he holds.
+  grant        Gives a user a permission.
+  revoke       Takes a permission from a user.
+  rights       Tells your own permissions, those on a table among them, and your authorizations.
+  constraints  Sets what all that is written to a table must keep to.
+  versions     Lowers how many versions of a column a table shows.
+  horizon      Has a table refuse what is written below this time.
+  insert       Writes one cell.
+  delete       Hides what a column holds up to a time.
+  mutate       Writes all of these updates to a row, or none.
+  scan         Shows the cells whose labels hold under these authorizations.
+  open         Opens a session on what a scan would show now.
+  next         Shows the next cells of a session.
+  many         Shows what a session has in each of these ranges of rows.
+  close        Closes a session.
+  flush        Makes a sorted table of what was written, in each tablet of a table.
+  compact      Merges the sorted tables of each tablet of a table.
+  begin        Begins a compaction of one tablet, and tells its number.
+  merge        Makes the merge of a compaction.
+  install      Puts a finished merge in the place of what it merged.
+  status       Counts what a table consists of.
+  addsplit     Splits a tablet of a table behind this row.
+  splitsize    Splits a tablet in its middle, if it is large enough.
+  splits       Lists the rows at which a table is split.
+  save         Saves an image of everything to a file.
+  load         Puts what an image holds in the place of everything.
+  rotate       Hands out the history so far, and begins a new one.";
+
 /// The updates of a `mutate`, as the lines.
 pub const UPDATES: &str = "  put FAM QUAL LABEL VALUE STAMP
   del FAM QUAL LABEL STAMP";

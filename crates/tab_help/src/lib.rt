@@ -8,6 +8,8 @@
 //! | File | What |
 //! |---|---|
 //! | `forms` | the table: the forms of lines and of updates, and the kinds of words |
+//! | `asks` | which lines are asked for: a script's, or a shell's |
+//! | `near` | the command that a word is likely meant to be |
 //! | `kinds` | whether a word is of a kind |
 //! | `fitting` | the word at which a line stops to fit a form |
 //! | `reason` | why a line is a fault |
@@ -18,13 +20,16 @@
 //! `specs/Explaining` says when a line is explained.
 #![tactic(auto)]
 
+mod asks;
 mod explaining;
 mod fitting;
 pub mod forms;
 mod kinds;
+mod near;
 mod prompting;
 mod reason;
 mod wording;
 
+pub use asks::Asks;
 pub use explaining::{Explaining, Told, explain};
-pub use prompting::{Asks, Prompting};
+pub use prompting::Prompting;

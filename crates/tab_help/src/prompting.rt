@@ -1,40 +1,30 @@
 //! A reader that asks for each line by a prompt, and answers lines that ask for help.
 ghost use Rattle.std.specs.Prelude.{◌≤◌, length};
 
-use crate::explaining::explain;
-use crate::forms::{KINDS, LINES, UPDATES, behind, parted};
+use crate::asks::Asks;
+use crate::explaining::explain_asked;
+use crate::forms::{DEEDS, KINDS, LINES, UPDATES, behind, parted, row_of};
 use std::alloc::Global;
 use std::io;
 use std::io::{Error, ErrorKind, Read};
-use tab_io::{BLOCK_LENGTH, Output, WriteFault, length_before, put_decimal};
+use tab_io::{BLOCK_LENGTH, Output, WriteFault, length_before};
 use tab_key::Name;
 use tab_lines::{Line, Words, read_line};
 
-/// Which lines are asked for.
-#[derive(Clone, Copy, Debug, PartialEq, Eq)]
-pub enum Asks {
-    /// Those of a script, in which a line may say who asks from then on.
-    Script,
-    /// Those of a shell, which lacks a script's own lines.
-    Shell,
-}
+// What is said at the beginning.
+const SCRIPT_BEGINS: &[u8] =
+    b"tabd: a sorted store in memory. What it holds is gone at the end, unless you save it.\n";
 
-impl Asks {
-    // Whether the line of this command is one.
-    fn has(self, command: &[u8]) -> bool {
-        match command {
-            b"as" | b"at" | b"begin" | b"merge" | b"install" | b"splitsize" | b"save" | b"load" => {
-                self == Asks::Script
-            }
-            _ => true,
-        }
-    }
-}
+const SHELL_BEGINS: &[u8] =
+    b"tabd: lines for a server, which keeps what they write until it ends.\n";
+
+const WAYS: &[u8] = b"help lists the lines, help LINE tells what one does, quit ends.\n";
 
 /// A reader that passes the lines of another one along, one by one, each behind a prompt: the name of who asks, and `>`.
 ///
-/// A line `help` or `help LINE` isn't passed along: forms of lines are put behind the prompt in its place. A line `exit` is the end. Why a line is a line fault is put
-/// to the notes once the next line is asked for, so behind the reply. Faults of both outputs are passed over.
+/// First it is said what this is, and how to get help and out. A line `help` or `help LINE`, or with `?` in its place, isn't passed along: what lines
+/// do is put behind the prompt in its place. A line `quit` or `exit` is the end. Why a line is a line fault is put to the notes once the next line is
+/// asked for, so behind the reply. Faults of both outputs are passed over.
 #[derive(Drop)]
 pub struct Prompting<R, W, N> {
     alloc: Global,
@@ -77,17 +67,21 @@ impl<R: Read, W: Output, N: Output> Prompting<R, W, N> {
 
     // Asks for lines until one is no question for help. Whether there is one.
     fn ask(&mut self) -> io::Result<bool> {
+        if self.number == 0 {
+            let _ = put_beginning(&mut self.prompts, self.asks);
+        }
         for _ in 0..u64::MAX {
             let _ = self.put_prompt();
             if !self.take_line()? {
                 break;
             }
-            if is_command(self.text(), b"exit") {
-                return Ok(false);
-            }
-            if !is_command(self.text(), b"help") {
-                self.follow();
-                return Ok(true);
+            match own_of(self.text()) {
+                Own::Quit => return Ok(false),
+                Own::Help => {}
+                Own::None => {
+                    self.follow();
+                    return Ok(true);
+                }
             }
             let _ = put_help(&mut self.prompts, self.asks, self.line.as_slice());
         }
@@ -180,15 +174,7 @@ impl<R: Read, W: Output, N: Output> Prompting<R, W, N> {
     fn explain(&mut self) -> Result<(), WriteFault> {
         let line = self.line.as_slice();
         let text = line.split_at(length_before(b'\n', line)).0;
-        let mut words = Words::of(text);
-        match words.next() {
-            Some(command) if !self.asks.has(command) => {
-                put_script_only(&mut self.notes, self.number, command)?;
-            }
-            _ => {
-                explain(self.alloc, self.number, text, &mut self.notes)?;
-            }
-        }
+        explain_asked(self.alloc, self.asks, self.number, text, &mut self.notes)?;
         self.notes.flush()
     }
 }
@@ -223,19 +209,6 @@ fn give(line: &[u8], given: usize, buf: &mut [u8]) -> usize
     count
 }
 
-// Says that a shell lacks a script's line.
-fn put_script_only<W: Output>(
-    output: &mut W,
-    number: u64,
-    command: &[u8],
-) -> Result<(), WriteFault> {
-    output.put(b"line ")?;
-    put_decimal(output, number)?;
-    output.put(b": word 1, \"")?;
-    output.put(command)?;
-    output.put(b"\": expected a line of a shell; this one is a script's alone\n")
-}
-
 // Who asks from this line on, where it says so.
 fn asker(alloc: Global, line: &[u8]) -> Option<Name> {
     match read_line(alloc, line) {
@@ -252,13 +225,31 @@ fn named(line: Line) -> Option<Name> {
     }
 }
 
-// Whether this is the line's first word.
-fn is_command(line: &[u8], command: &[u8]) -> bool {
+// What a line asks of the prompt itself.
+#[derive(Clone, Copy, Debug, PartialEq, Eq)]
+enum Own {
+    Quit,
+    Help,
+    None,
+}
+
+// What this line asks of it, by its first word.
+fn own_of(line: &[u8]) -> Own {
     let mut words = Words::of(line);
     match words.next() {
-        Some(word) => word == command,
-        None => false,
+        Some(b"quit" | b"exit") => Own::Quit,
+        Some(b"help" | b"?") => Own::Help,
+        _ => Own::None,
     }
+}
+
+// Says what this is, and how to get help and out.
+fn put_beginning<W: Output>(output: &mut W, asks: Asks) -> Result<(), WriteFault> {
+    output.put(match asks {
+        Asks::Script => SCRIPT_BEGINS,
+        Asks::Shell => SHELL_BEGINS,
+    })?;
+    output.put(WAYS)
 }
 
 // Puts the forms of the line that the second word names, or of all.
@@ -281,14 +272,15 @@ fn put_all<W: Output>(output: &mut W, asks: Asks) -> Result<(), WriteFault> {
             put_row(output, row)?;
         }
     }
-    output.put(b"  help [LINE]\n  exit\n")
+    output.put(b"  help [LINE]\n  quit\n")
 }
 
-// Puts the forms of one line, and what their words are.
+// Puts what one line does, its forms, and what their words are.
 fn put_forms<W: Output>(output: &mut W, asks: Asks, command: &[u8]) -> Result<(), WriteFault> {
     if !asks.has(command) || !LINES.lines().any(|row| behind(row, command).is_some()) {
         return output.put(b"  there is no such line: help lists them\n");
     }
+    put_deed(output, command)?;
     for row in LINES.lines() {
         if behind(row, command).is_some() {
             put_row(output, row)?;
@@ -304,6 +296,13 @@ fn put_forms<W: Output>(output: &mut W, asks: Asks, command: &[u8]) -> Result<()
         }
     }
     Ok(())
+}
+
+// Puts what the line does.
+fn put_deed<W: Output>(output: &mut W, command: &[u8]) -> Result<(), WriteFault> {
+    let deed = row_of(DEEDS, command).unwrap_or("");
+    output.put(deed.trim_start().as_bytes())?;
+    output.put(b"\n")
 }
 
 // Whether a form of the line has a word of this kind.

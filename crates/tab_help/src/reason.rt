@@ -5,6 +5,7 @@ ghost use Rattle.tab_help.specs.Explaining.{IsLine};
 
 use crate::fitting::{Misfit, furthest_misfit};
 use crate::forms::{LINES, behind};
+use crate::near::near_command;
 use std::alloc::{AllocError, Global};
 use tab_lines::{LineError, Words, read_line};
 
@@ -17,6 +18,8 @@ pub enum Reason<'a> {
     Return(u64, &'a [u8]),
     /// The first word is no command.
     Command(&'a [u8]),
+    /// The first word is no command, but near to this one.
+    Near(&'a [u8], &'static str),
     /// A word doesn't fit, or is missing.
     Word(Misfit<'a>),
     /// The line is of no form.
@@ -41,6 +44,14 @@ fn is_command(word: &[u8]) -> bool {
     LINES.lines().any(|row| behind(row, word).is_some())
 }
 
+// That the word is no command.
+fn unknown_command(alloc: Global, word: &[u8]) -> Result<Reason<'_>, AllocError> {
+    Ok(match near_command(alloc, word)? {
+        Some(command) => Reason::Near(word, command),
+        None => Reason::Command(word),
+    })
+}
+
 // Why the line is a fault, which it is. A mark and a carriage return come first: they are in the way of all else.
 fn reason_for<'a>(alloc: Global, line: &'a [u8], is_first: bool) -> Result<Reason<'a>, AllocError> {
     let mut words = Words::of(line);
@@ -55,7 +66,7 @@ fn reason_for<'a>(alloc: Global, line: &'a [u8], is_first: bool) -> Result<Reaso
         return Ok(Reason::Return(place, word));
     }
     if !is_command(command) {
-        return Ok(Reason::Command(command));
+        return unknown_command(alloc, command);
     }
     match furthest_misfit(alloc, command, words)? {
         Some(found) => Ok(Reason::Word(found)),

@@ -90,6 +90,11 @@ impl Display for Reason<'_> {
                 Shown(word),
                 Commands
             ),
+            Reason::Near(word, command) => write!(
+                f,
+                "word 1, \"{}\": expected a command: did you mean {command}?",
+                Shown(word)
+            ),
             Reason::Word(misfit) => Display::fmt(misfit, f),
             Reason::Form => f.write_str("expected a line of another form"),
         }
