@@ -1,48 +1,118 @@
 //! The command line, built.
 use clap::{Arg, ArgAction, Command, Error, value_parser};
 use std::alloc::{AllocError, Global};
-use tab_help::forms;
+use std::fmt;
+use std::fmt::{Display, Formatter};
+use tab_help::{Asks, forms};
 
 /// The version that `tabd --version` tells.
 const VERSION: &str = "0.11.0";
 
-/// What help says of the lines of a script: the texts of `tab_help`.
-pub fn line_help(alloc: Global) -> Result<String, AllocError> {
+/// What help says of lines: the texts of `tab_help`.
+#[derive(Drop)]
+pub struct LineHelp {
+    script: String,
+    shell: String,
+}
+
+impl LineHelp {
+    /// Takes memory for some 12,000 bytes.
+    pub fn new(alloc: Global) -> Result<LineHelp, AllocError> {
+        let script = help_of(alloc, Asks::Script)?;
+        let shell = help_of(alloc, Asks::Shell)?;
+        Ok(LineHelp { script, shell })
+    }
+}
+
+// What it says of these lines.
+fn help_of(alloc: Global, asks: Asks) -> Result<String, AllocError> {
+    let of = match asks {
+        Asks::Script => "a script",
+        Asks::Shell => "a shell",
+    };
     let text = format!(in alloc;
-        "The lines of a script. Words are parted by spaces; a line that begins with # says nothing.\n{}\n\n\
+        "The lines of {of}. Words are parted by spaces; a line that begins with # says nothing.\n{}\n\
          The updates of a mutate:\n{}\n\nThe words:\n{}\n\n\
          docs/SCRIPT.md says what each line does, and what it answers.",
-        forms::LINES,
+        Rows(asks),
         forms::UPDATES,
         forms::KINDS
     );
     text.map_err(|_| AllocError)
 }
 
+// The forms of these lines, a row each.
+#[derive(Clone, Copy)]
+struct Rows(Asks);
+
+impl Display for Rows {
+    fn fmt<W: fmt::Write>(&self, f: &mut Formatter<W>) -> fmt::Result {
+        for row in forms::LINES.lines() {
+            if self.0.has(command_of(row).as_bytes()) {
+                writeln!(f, "{row}")?;
+            }
+        }
+        Ok(())
+    }
+}
+
+// The command of a form.
+fn command_of(row: &str) -> &str {
+    let words = row.trim_start();
+    match words.split_once(' ') {
+        Some((command, _)) => command,
+        None => words,
+    }
+}
+
 /// The command line, with this help of lines.
-pub fn command<'a>(alloc: Global, lines: &'a str) -> Result<Command<'a>, Error> {
-    let explain = Arg::new(alloc, "explain")
-        .long("explain")
-        .action(ArgAction::SetTrue)
-        .help("Says on standard error why a line is a line fault");
+pub fn command<'a>(alloc: Global, lines: &'a LineHelp) -> Result<Command<'a>, Error> {
     let script = Command::new(alloc, "script")
         .about("Answers the lines of standard input on standard output")
-        .after_help(lines)
-        .arg(explain)?
+        .after_help(lines.script.as_str())
+        .arg(explain(alloc))?
         .arg(prompt(alloc))?
+        .arg(strict(alloc))?
+        .arg(quiet(alloc))?
         .arg(image(alloc))?;
     let tabd = Command::new(alloc, "tabd")
         .version(VERSION)
         .about(
             "A sorted store in memory whose every cell carries a label that says who may read it",
         )
-        .after_help(lines)
+        .after_help(lines.script.as_str())
         .subcommand_required(true)
         .arg_required_else_help(true)
         .subcommand(script)?
         .subcommand(serve_command(alloc)?)?
         .subcommand(shell_command(alloc, lines)?)?;
     Ok(tabd)
+}
+
+// Whether line faults are explained.
+fn explain<'a>(alloc: Global) -> Arg<'a> {
+    Arg::new(alloc, "explain")
+        .long("explain")
+        .action(ArgAction::SetTrue)
+        .help("Says on standard error why a line is a line fault")
+}
+
+// Whether a run stops at the first fault or refusal.
+fn strict<'a>(alloc: Global) -> Arg<'a> {
+    Arg::new(alloc, "strict")
+        .long("strict")
+        .action(ArgAction::SetTrue)
+        .help(
+            "Stops at the first fault or refusal, with the line's number on standard error and status 3",
+        )
+}
+
+// Whether a run prints only what isn't `ok`.
+fn quiet<'a>(alloc: Global) -> Arg<'a> {
+    Arg::new(alloc, "quiet")
+        .long("quiet")
+        .action(ArgAction::SetTrue)
+        .help("Prints no reply ok, and at the end on standard error how many there were")
 }
 
 // The image to begin with.
@@ -111,7 +181,13 @@ fn serve_command<'a>(alloc: Global) -> Result<Command<'a>, Error> {
 }
 
 // The command line of `shell`.
-fn shell_command<'a>(alloc: Global, lines: &'a str) -> Result<Command<'a>, Error> {
+fn shell_command<'a>(alloc: Global, lines: &'a LineHelp) -> Result<Command<'a>, Error> {
+    let timeout = Arg::new(alloc, "timeout")
+        .long("timeout")
+        .value_name("SECONDS")
+        .value_parser(value_parser!(u32).range(1..86_401))
+        .default_value("10")
+        .help("How long the server is waited for, to connect and for its first answer, 1 to 86400");
     let user = Arg::new(alloc, "user")
         .long("user")
         .value_name("U")
@@ -120,9 +196,13 @@ fn shell_command<'a>(alloc: Global, lines: &'a str) -> Result<Command<'a>, Error
         .help("Who asks");
     let shell = Command::new(alloc, "shell")
         .about("Asks a server what the lines of standard input say")
-        .after_help(lines)
+        .after_help(lines.shell.as_str())
         .arg(port(alloc))?
         .arg(user)?
-        .arg(prompt(alloc))?;
+        .arg(timeout)?
+        .arg(explain(alloc))?
+        .arg(prompt(alloc))?
+        .arg(strict(alloc))?
+        .arg(quiet(alloc))?;
     Ok(shell)
 }

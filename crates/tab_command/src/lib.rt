@@ -11,5 +11,5 @@
 mod building;
 mod request;
 
-pub use building::line_help;
+pub use building::LineHelp;
 pub use request::{Request, ScriptRequest, ServeRequest, ShellRequest, parse};

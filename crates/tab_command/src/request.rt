@@ -1,5 +1,5 @@
 //! What a command line asks for.
-use crate::building::command;
+use crate::building::{LineHelp, command};
 use clap::{ArgMatches, Error};
 use std::alloc::Global;
 
@@ -25,6 +25,10 @@ pub struct ScriptRequest<'a> {
     pub explained: bool,
     /// Whether lines are prompted for.
     pub prompted: bool,
+    /// Whether it stops at the first fault or refusal.
+    pub strict: bool,
+    /// Whether it prints only what isn't `ok`.
+    pub quiet: bool,
 }
 
 /// What `tabd serve` is asked for.
@@ -51,14 +55,26 @@ pub struct ShellRequest<'a> {
     pub user: &'a str,
     /// The port of 127.0.0.1, 1 to 65,535.
     pub port: u16,
+    /// Whether line faults are explained.
+    pub explained: bool,
     /// Whether lines are prompted for.
     pub prompted: bool,
+    /// Whether it stops at the first fault or refusal.
+    pub strict: bool,
+    /// Whether it prints only what isn't `ok`.
+    pub quiet: bool,
+    /// For how many seconds the server is waited for, 1 to 86,400.
+    pub timeout: u32,
 }
 
-/// Reads the words of a command line, of which the first is the program's name. `lines` is what help says of the lines of a script.
+/// Reads the words of a command line, of which the first is the program's name. `lines` is what help says of lines.
 ///
 /// An error has the help or the version that was asked for, why the words are refused, or want of memory.
-pub fn parse<'a>(alloc: Global, lines: &'a str, words: &'a [String]) -> Result<Request<'a>, Error> {
+pub fn parse<'a>(
+    alloc: Global,
+    lines: &'a LineHelp,
+    words: &'a [String],
+) -> Result<Request<'a>, Error> {
     let matches = command(alloc, lines)?.try_get_matches_from(words)?;
     Ok(requested(&matches))
 }
@@ -82,6 +98,8 @@ fn script_request<'a>(script: &ArgMatches<'a>) -> ScriptRequest<'a> {
         image: script.get_str("image"),
         explained: script.get_flag("explain"),
         prompted: script.get_flag("prompt"),
+        strict: script.get_flag("strict"),
+        quiet: script.get_flag("quiet"),
     }
 }
 
@@ -100,7 +118,11 @@ fn shell_request<'a>(shell: &ArgMatches<'a>) -> ShellRequest<'a> {
     ShellRequest {
         user: shell.get_str("user").unwrap_or(""),
         port: port(shell),
+        explained: shell.get_flag("explain"),
         prompted: shell.get_flag("prompt"),
+        strict: shell.get_flag("strict"),
+        quiet: shell.get_flag("quiet"),
+        timeout: shell.get_one::<u32>("timeout").unwrap_or(10),
     }
 }
 
