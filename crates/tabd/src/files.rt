@@ -1,6 +1,7 @@
 //! Images in files, as lines and the command line name them.
 use anyhow::Context;
 use tab_core::Core;
+use tab_host::{NotLoaded, NotSaved};
 use tab_prog::{FileName, Files, LoadFault, ProgramFault, SaveFault};
 
 /// Saves images to files of the system and loads them from there, by their paths.
@@ -22,11 +23,17 @@ impl Files for Disk<'_> {
     ghost loads = { λ _ _ _ _. Unit {0} };
 
     fn save(&mut self, name: &FileName, core: &Core) -> Result<(), SaveFault> {
-        tab_host::save(self.rt, name.as_str(), core).map_err(save_fault)
+        match tab_host::save(self.rt, name.as_str(), core) {
+            Ok(()) => Ok(()),
+            Err(fault) => Err(not_saved(self.rt, name.as_str(), fault)),
+        }
     }
 
     fn load(&mut self, name: &FileName) -> Result<Core, LoadFault> {
-        load(self.rt, name.as_str())
+        match tab_host::load(self.rt, name.as_str()) {
+            Ok(core) => Ok(core),
+            Err(fault) => Err(not_loaded(self.rt, name.as_str(), fault)),
+        }
     }
 }
 
@@ -43,27 +50,29 @@ pub fn loaded(rt: &HostRuntime, image: Option<&str>) -> anyhow::Result<Option<Co
     let Some(name) = image else {
         return Ok(None);
     };
-    let core = load(rt, name).with_context(|| name)?;
+    let core = tab_host::load(rt, name).with_context(|| name)?;
     Ok(Some(core))
 }
 
-// The core of which the file of this name holds an image.
-fn load(rt: &HostRuntime, name: &str) -> Result<Core, LoadFault> {
-    tab_host::load(rt, name).map_err(load_fault)
-}
-
-fn save_fault(fault: tab_saving::SaveFault) -> SaveFault {
+// What a line is told of a save that failed; standard error has why.
+fn not_saved(rt: &HostRuntime, name: &str, fault: NotSaved) -> SaveFault {
+    let _ = eprintln!(rt; "fault: {name}: {fault}");
     match fault {
-        tab_saving::SaveFault::Write => SaveFault::Io,
-        tab_saving::SaveFault::NoMemory => SaveFault::NoMemory,
+        NotSaved::NoMemory => SaveFault::NoMemory,
+        NotSaved::NoFile | NotSaved::NoName | NotSaved::Refused(_) => SaveFault::Io,
     }
 }
 
-fn load_fault(fault: tab_loading::LoadFault) -> LoadFault {
+// What a line is told of a load that failed; standard error has it where the image isn't the one that was saved.
+fn not_loaded(rt: &HostRuntime, name: &str, fault: NotLoaded) -> LoadFault {
     match fault {
-        tab_loading::LoadFault::Io => LoadFault::Io,
-        tab_loading::LoadFault::NoMemory => LoadFault::NoMemory,
-        tab_loading::LoadFault::Version(version) => LoadFault::Version(version),
-        tab_loading::LoadFault::Bad => LoadFault::Bad,
+        NotLoaded::Io => LoadFault::Io,
+        NotLoaded::NoMemory => LoadFault::NoMemory,
+        NotLoaded::Version(version) => LoadFault::Version(version),
+        NotLoaded::Bad => LoadFault::Bad,
+        NotLoaded::Differs => {
+            let _ = eprintln!(rt; "fault: {name}: {fault}");
+            LoadFault::Io
+        }
     }
 }

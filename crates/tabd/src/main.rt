@@ -3,6 +3,7 @@
 //! | File | What |
 //! |---|---|
 //! | `scripting`, `serving`, `shell` | `tabd script`, `tabd serve` and `tabd shell` |
+//! | `watching` | how a run of lines ends that is watched |
 //! | `history` | the history of a server, in a file |
 //! | `files` | images in files, as lines and the command line name them |
 #![tactic(auto)]
@@ -12,20 +13,22 @@ mod history;
 mod scripting;
 mod serving;
 mod shell;
+mod watching;
 
 use anyhow::Context;
 use clap::Error;
 use scripting::{Style, run_script};
 use serving::run_serve;
-use shell::run_shell;
+use shell::{Way, run_shell};
 use std::io::ErrorKind;
 use std::process::ExitCode;
 use std::sync::Wait;
 use std::thread::Threads;
-use std::time::Clock;
-use tab_command::{Request, ScriptRequest, ServeRequest, ShellRequest, line_help, parse};
+use std::time::{Clock, Duration};
+use tab_command::{LineHelp, Request, ScriptRequest, ServeRequest, ShellRequest, parse};
 use tab_key::Name;
 use tab_prog::ProgramFault;
+use tab_watch::Watch;
 use tab_work::Options;
 
 // From how many entries on a server's history is dropped.
@@ -55,8 +58,8 @@ fn run<R: Threads + Wait + Clock + Sync>(
         }
         Err(_) => return Err(ProgramFault::NoMemory.into()),
     };
-    let lines = line_help(alloc).map_err(|_| ProgramFault::NoMemory)?;
-    match parse(alloc, lines.as_str(), words.as_slice()) {
+    let lines = LineHelp::new(alloc).map_err(|_| ProgramFault::NoMemory)?;
+    match parse(alloc, &lines, words.as_slice()) {
         Ok(request) => asked(rt, threads, request),
         Err(error) => told(rt, &error),
     }
@@ -96,13 +99,25 @@ fn asked<R: Threads + Wait + Clock + Sync>(
 
 // Runs a script.
 fn scripted(rt: &HostRuntime, script: ScriptRequest<'_>) -> anyhow::Result<ExitCode> {
-    let style = match (script.prompted, script.explained) {
+    let watch = Watch {
+        strict: script.strict,
+        quiet: script.quiet,
+    };
+    run_script(
+        rt,
+        script.image,
+        style_of(script.prompted, script.explained),
+        watch,
+    )
+}
+
+// What goes with the lines: prompts explain line faults too.
+fn style_of(prompted: bool, explained: bool) -> Style {
+    match (prompted, explained) {
         (true, _) => Style::Prompted,
         (false, true) => Style::Explained,
         (false, false) => Style::Plain,
-    };
-    run_script(rt, script.image, style)?;
-    Ok(ExitCode::SUCCESS)
+    }
 }
 
 // Runs a server.
@@ -126,6 +141,14 @@ fn shelled(rt: &HostRuntime, shell: ShellRequest<'_>) -> anyhow::Result<ExitCode
     let Some(user) = Name::new(shell.user.as_bytes()) else {
         return Ok(refused(rt, "the user isn't a name: 1 to 128 of a-z A-Z 0-9 _ - ."));
     };
-    run_shell(rt, shell.port, user, shell.prompted)?;
-    Ok(ExitCode::SUCCESS)
+    let way = Way {
+        port: shell.port,
+        patience: Duration::from_secs(shell.timeout as u64),
+        style: style_of(shell.prompted, shell.explained),
+        watch: Watch {
+            strict: shell.strict,
+            quiet: shell.quiet,
+        },
+    };
+    run_shell(rt, &way, user)
 }

@@ -1,15 +1,18 @@
 //! `tabd script`.
 use crate::files::{Disk, loaded};
-use std::io::{Read, Write};
+use crate::watching::ended;
+use std::io::{IsTerminal, Read, Write};
+use std::process::ExitCode;
 use tab_core::Core;
 use tab_help::{Asks, Explaining, Prompting};
 use tab_host::Noting;
 use tab_io::{BlockReader, BlockWriter};
 use tab_key::Name;
 use tab_prog::{ProgramFault, script, script_over};
+use tab_watch::{Columns, Course, Replies, Steps, Watch};
 
 /// What goes with the lines of a script.
-#[derive(Clone, Copy)]
+#[derive(Clone, Copy, Debug, PartialEq, Eq)]
 pub enum Style {
     /// Replies alone.
     Plain,
@@ -19,28 +22,59 @@ pub enum Style {
     Prompted,
 }
 
-/// Answers the lines of standard input on standard output, by the core of this image, or by a new one. A fault tells the system's reason.
-pub fn run_script(rt: &HostRuntime, image: Option<&str>, style: Style) -> anyhow::Result<()> {
+/// Answers the lines of standard input on standard output, by the core of this image, or by a new one. Gives the status; a fault tells the
+/// system's reason.
+pub fn run_script(
+    rt: &HostRuntime,
+    image: Option<&str>,
+    style: Style,
+    watch: Watch,
+) -> anyhow::Result<ExitCode> {
     let core = loaded(rt, image)?;
+    let course = Course::new(watch);
     let mut input = Noting::new(rt.stdin());
     let mut output = Noting::new(rt.stdout());
+    let columns = Columns::new(
+        rt.alloc(),
+        &mut output,
+        style == Style::Prompted && rt.stdout().is_terminal(),
+    );
+    let mut replies = Replies::new(rt.alloc(), &course, columns);
     let outcome = match style {
-        Style::Plain => answered(rt, core, &mut input, &mut output),
-        Style::Explained => explained(rt, core, &mut input, &mut output),
-        Style::Prompted => prompted(rt, core, &mut input, &mut output),
+        Style::Plain => plain(rt, core, &course, &mut input, &mut replies),
+        Style::Explained => explained(rt, core, &course, &mut input, &mut replies),
+        Style::Prompted => prompted(rt, core, &course, &mut input, &mut replies),
     };
-    let Err(fault) = outcome else {
-        return Ok(());
-    };
+    let status = ended(rt, &course, &mut replies);
+    drop(replies);
+    match outcome {
+        Ok(()) => Ok(status),
+        Err(fault) => Err(with_reason(fault, &input, &output)),
+    }
+}
+
+// The fault, with the system's reason behind it.
+fn with_reason<R, W>(fault: ProgramFault, input: &Noting<R>, output: &Noting<W>) -> anyhow::Error {
     let reason = match fault {
         ProgramFault::Read => input.failure(),
         ProgramFault::Write => output.failure(),
         ProgramFault::NoMemory => None,
     };
     match reason {
-        Some(reason) => Err(anyhow::Error::from(reason).context(fault)),
-        None => Err(fault.into()),
+        Some(reason) => anyhow::Error::from(reason).context(fault),
+        None => fault.into(),
     }
+}
+
+// The lines of the reader, one by one where the run is watched, answered on the writer.
+fn plain<R: Read + Drop, W: Write + Drop>(
+    rt: &HostRuntime,
+    core: Option<Core>,
+    course: &Course,
+    reader: R,
+    writer: W,
+) -> Result<(), ProgramFault> {
+    answered(rt, core, Steps::new(rt.alloc(), course, reader), writer)
 }
 
 // The lines of the reader, answered on the writer.
@@ -68,6 +102,7 @@ fn answered<R: Read + Drop, W: Write + Drop>(
 fn explained<R: Read + Drop, W: Write + Drop>(
     rt: &HostRuntime,
     core: Option<Core>,
+    course: &Course,
     reader: R,
     writer: W,
 ) -> Result<(), ProgramFault> {
@@ -75,13 +110,20 @@ fn explained<R: Read + Drop, W: Write + Drop>(
     let Ok(notes) = BlockWriter::new(alloc, rt.stderr()) else {
         return Err(ProgramFault::NoMemory);
     };
-    answered(rt, core, Explaining::new(alloc, reader, notes), writer)
+    let steps = Steps::new(alloc, course, reader);
+    answered(
+        rt,
+        core,
+        Explaining::new(alloc, Asks::Script, steps, notes),
+        writer,
+    )
 }
 
 // The same, behind a prompt for each line.
 fn prompted<R: Read + Drop, W: Write + Drop>(
     rt: &HostRuntime,
     core: Option<Core>,
+    course: &Course,
     reader: R,
     writer: W,
 ) -> Result<(), ProgramFault> {
@@ -96,5 +138,5 @@ fn prompted<R: Read + Drop, W: Write + Drop>(
         return Err(ProgramFault::NoMemory);
     };
     let lines = Prompting::new(alloc, reader, Asks::Script, root, prompts, notes);
-    answered(rt, core, lines, writer)
+    plain(rt, core, course, lines, writer)
 }

@@ -1,33 +1,61 @@
 //! `tabd shell`.
+use crate::scripting::Style;
+use crate::watching::ended;
 use anyhow::Context;
-use std::io::{Error, Read, Write};
-use std::net::{Ipv4Addr, TcpStream};
-use tab_help::{Asks, Prompting};
-use tab_host::{NetFault, Noting};
+use std::io::{Error, IsTerminal, Read, Write};
+use std::net::{Ipv4Addr, SocketAddr, TcpStream};
+use std::process::ExitCode;
+use std::time::Duration;
+use tab_help::{Asks, Explaining, Prompting};
+use tab_host::{FirstWait, NetFault, Noting};
 use tab_io::{BlockReader, BlockWriter};
 use tab_key::Name;
 use tab_prog::{ShellFault, shell_run};
+use tab_watch::{Columns, Course, Replies, Steps, Watch};
 
-/// Asks the server on this port of 127.0.0.1 what the lines of standard input say, as this user, and prints what it tells on standard
-/// output; with prompts where they are wanted. A fault tells the system's reason.
-pub fn run_shell(rt: &HostRuntime, port: u16, user: Name, prompts: bool) -> anyhow::Result<()> {
-    let stream = TcpStream::connect(rt, (Ipv4Addr::LOCALHOST, port)).with_context(
-        || NetFault::Connect(port),
-    )?;
-    stream
-        .set_nodelay(true)
-        .with_context(|| NetFault::Connect(port))?;
+/// Whom a shell asks, and how.
+#[derive(Clone, Copy, Debug)]
+pub struct Way {
+    /// The port of 127.0.0.1.
+    pub port: u16,
+    /// How long the server is waited for, to connect and for its first answer.
+    pub patience: Duration,
+    /// What goes with the lines.
+    pub style: Style,
+    /// What is asked of the run.
+    pub watch: Watch,
+}
+
+/// Asks the server what the lines of standard input say, as this user, and prints what it tells on standard output. Gives the status; a
+/// fault tells the system's reason.
+pub fn run_shell(rt: &HostRuntime, way: &Way, user: Name) -> anyhow::Result<ExitCode> {
+    let stream = connected(rt, way)?;
+    let mut first = FirstWait::new(&stream, way.patience)?;
+    let course = Course::new(way.watch);
     let mut lines = Noting::new(rt.stdin());
     let mut out = Noting::new(rt.stdout());
-    let mut reader = Noting::new(&stream);
+    let mut reader = Noting::new(&mut first);
     let mut writer = Noting::new(&stream);
-    let outcome = if prompts {
-        prompted(rt, &mut lines, &mut out, &mut reader, &mut writer, user)
-    } else {
-        asked(rt, &mut lines, &mut out, &mut reader, &mut writer, user)
-    };
+    let columns = Columns::new(
+        rt.alloc(),
+        &mut out,
+        way.style == Style::Prompted && rt.stdout().is_terminal(),
+    );
+    let mut replies = Replies::new(rt.alloc(), &course, columns);
+    let outcome = styled(
+        rt,
+        way.style,
+        &course,
+        &mut lines,
+        &mut replies,
+        &mut reader,
+        &mut writer,
+        user,
+    );
+    let status = ended(rt, &course, &mut replies);
+    drop(replies);
     let Err(fault) = outcome else {
-        return Ok(());
+        return Ok(status);
     };
     let reason = match fault {
         ShellFault::Read => lines.failure(),
@@ -36,7 +64,38 @@ pub fn run_shell(rt: &HostRuntime, port: u16, user: Name, prompts: bool) -> anyh
         ShellFault::Receive => reader.failure(),
         _ => None,
     };
+    drop(reader);
+    if first.is_late() {
+        return Err(NetFault::Silent(way.port).into());
+    }
     Err(with_reason(fault, reason))
+}
+
+// A connection to the server.
+fn connected(rt: &HostRuntime, way: &Way) -> anyhow::Result<TcpStream> {
+    let address = SocketAddr::from((Ipv4Addr::LOCALHOST, way.port));
+    let fault = NetFault::Connect(way.port);
+    let stream = TcpStream::connect_timeout(rt, &address, way.patience).with_context(|| fault)?;
+    stream.set_nodelay(true).with_context(|| fault)?;
+    Ok(stream)
+}
+
+// The lines, with what goes with them, asked of the server.
+fn styled<L: Read + Drop, O: Write + Drop, R: Read + Drop, W: Write + Drop>(
+    rt: &HostRuntime,
+    style: Style,
+    course: &Course,
+    lines: L,
+    out: O,
+    reader: R,
+    writer: W,
+    user: Name,
+) -> Result<(), ShellFault> {
+    match style {
+        Style::Plain => plain(rt, course, lines, out, reader, writer, user),
+        Style::Explained => explained(rt, course, lines, out, reader, writer, user),
+        Style::Prompted => prompted(rt, course, lines, out, reader, writer, user),
+    }
 }
 
 // The fault, with the system's reason behind it.
@@ -72,9 +131,49 @@ fn asked<L: Read + Drop, O: Write + Drop, R: Read + Drop, W: Write + Drop>(
     shell_run(alloc, &mut lines, &mut out, &mut reader, &mut writer, user)
 }
 
+// Each line, one by one where the run is watched.
+fn plain<L: Read + Drop, O: Write + Drop, R: Read + Drop, W: Write + Drop>(
+    rt: &HostRuntime,
+    course: &Course,
+    lines: L,
+    out: O,
+    reader: R,
+    writer: W,
+    user: Name,
+) -> Result<(), ShellFault> {
+    asked(
+        rt,
+        Steps::new(rt.alloc(), course, lines),
+        out,
+        reader,
+        writer,
+        user,
+    )
+}
+
+// The same, with its line faults explained on standard error.
+fn explained<L: Read + Drop, O: Write + Drop, R: Read + Drop, W: Write + Drop>(
+    rt: &HostRuntime,
+    course: &Course,
+    lines: L,
+    out: O,
+    reader: R,
+    writer: W,
+    user: Name,
+) -> Result<(), ShellFault> {
+    let alloc = rt.alloc();
+    let Ok(notes) = BlockWriter::new(alloc, rt.stderr()) else {
+        return Err(ShellFault::NoMemory);
+    };
+    let steps = Steps::new(alloc, course, lines);
+    let lines = Explaining::new(alloc, Asks::Shell, steps, notes);
+    asked(rt, lines, out, reader, writer, user)
+}
+
 // The same, behind a prompt for each line.
 fn prompted<L: Read + Drop, O: Write + Drop, R: Read + Drop, W: Write + Drop>(
     rt: &HostRuntime,
+    course: &Course,
     lines: L,
     out: O,
     reader: R,
@@ -89,5 +188,5 @@ fn prompted<L: Read + Drop, O: Write + Drop, R: Read + Drop, W: Write + Drop>(
         return Err(ShellFault::NoMemory);
     };
     let lines = Prompting::new(alloc, lines, Asks::Shell, user, prompts, notes);
-    asked(rt, lines, out, reader, writer, user)
+    plain(rt, course, lines, out, reader, writer, user)
 }
