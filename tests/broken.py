@@ -248,6 +248,7 @@ def files(folder, preloaded):
                 wrong.append((at, failed, said, kept == old, kept == new, list(Path(folder).glob("*.part"))))
         counted.tell(f"{at - 1} {name} of a save that fail", not wrong and (at > 2 or kinds & READS), wrong[:1])
     image.write_bytes(old)
+    Path(folder, "image.sha256").unlink()
     for kinds, name in ((READS | OTHERS, "reads"), (DISK, "names")):
         at, failed, wrong = 0, True, []
         while failed and at < 100:

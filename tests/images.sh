@@ -1,5 +1,5 @@
 #!/usr/bin/env bash
-# Images in files: what `save`, `load` and `--image` do, what they tell, and what is left of the old file where a save fails.
+# Images in files: what `save`, `load` and `--image` do, what they tell, what is left of the old file where a save fails, and checksums.
 # Usage: tests/images.sh   (from anywhere; wants python3; TABD names another program)
 set -u
 top=$(cd "$(dirname -- "${BASH_SOURCE[0]}")/.." && pwd)
@@ -24,6 +24,15 @@ answers() { # NAME LINES REPLIES [WORD ..]
     shift 3
     printf "$lines" | "$program" script "$@" >out 2>err
     [ "${PIPESTATUS[1]},$(cat out err)" = "0,$(printf "$replies")" ]
+    count "$name" $?
+}
+
+# The same, but that standard error has this line.
+tells() { # NAME LINES REPLIES LINE [WORD ..]
+    local name=$1 lines=$2 replies=$3 line=$4
+    shift 4
+    printf "$lines" | "$program" script "$@" >out 2>err
+    [ "${PIPESTATUS[1]},$(cat out)" = "0,$(printf "$replies")" ] && [ "$(cat err)" = "$line" ]
     count "$name" $?
 }
 
@@ -52,8 +61,12 @@ holds 'its image is spelled so' one "$one"
 answers 'a record in a sorted table is saved' 'createtable t time=any\ninsert t r f q \\e v 5\nflush t\ncompact t full\nsave again\n' 'ok\nok\nok\nok\nok\n'
 cmp -s one again
 count 'where records lie is not in an image' $?
-[ "$(ls)" = "$(printf 'again\nerr\nnew\none\nout')" ]
+[ "$(ls)" = "$(printf 'again\nagain.sha256\nerr\nnew\nnew.sha256\none\none.sha256\nout')" ]
 count 'no other file is left' $?
+[ "$(stat -c %a new new.sha256 one | sort -u)" = 600 ]
+count 'an image is its owner'"'"'s alone, and its checksum' $?
+[ "$(cat one.sha256)" = "$(sha256sum one)" ] && sha256sum --quiet -c new.sha256 one.sha256
+count 'the checksum is the one of sha256sum' $?
 
 # ---- What is loaded.
 bytes first.empty "$first_empty"
@@ -76,11 +89,15 @@ answers 'a file that is replaced' 'save here\ncreatetable u\nsave here\nload her
 answers 'a path' 'save ./here\nload ./here\n' 'ok\nok\n'
 mkdir folder
 answers 'a file in another folder' "save $work/folder/one\nload folder/one\nscan t \\\\0\n" 'ok\nok\nr f q \\e 5 v\nend\n' --image one
-[ "$(ls folder)" = one ]
+[ "$(ls folder)" = "$(printf 'one\none.sha256')" ] && (cd folder && sha256sum --quiet -c one.sha256)
 count 'no other file is left there' $?
 answers 'a name with a space' 'save a\\x20b\nload a\\x20b\n' 'ok\nok\n'
 [ -f 'a b' ]
 count 'the name with a space is one file' $?
+answers 'a name of two lines' 'save a\\x0a\\x5cb\nload a\\x0a\\x5cb\n' 'ok\nok\n'
+sha256sum --quiet -c -- *b.sha256
+count 'their checksums are as sha256sum spells them' $?
+rm -- *b *b.sha256
 
 # All that a core holds comes back: users with their permissions and authorizations, rights, settings, end rows, records in all places.
 cat >whole <<'.'
@@ -225,9 +242,11 @@ for pair in missing:io folder:io none:bad cut:bad longer:bad mixed:bad turned:ba
     [ "${PIPESTATUS[1]},$(cat out),$(cat err)" = "1,,fault: load ${pair#*:}" ] || { [ "${PIPESTATUS[1]:-1}" = 1 ] && [ ! -s out ] && [ "$(wc -l <err)" = 1 ] && [ "$(cut -d ' ' -f 1 err)" = 'fault:' ]; }
     count "--image ${pair%%:*} ends with 1 and a line that says why" $?
 done
-answers 'save where there is no folder' 'save missing/one\nscan t \\0\n' 'fault save io\nr f q \\e 5 v\nend\n' --image one
-answers 'save over a folder' 'save folder\nscan t \\0\n' 'fault save io\nr f q \\e 5 v\nend\n' --image one
-[ "$(ls folder)" = one ]
+tells 'save where there is no folder' 'save missing/one\nscan t \\0\n' 'fault save io\nr f q \\e 5 v\nend\n' \
+    "fault: missing/one: the image can't be written: No such file or directory (os error 2)" --image one
+tells 'save over a folder' 'save folder\nscan t \\0\n' 'fault save io\nr f q \\e 5 v\nend\n' \
+    "fault: folder: the image can't be written: what has this name is no file" --image one
+[ "$(ls folder)" = "$(printf 'one\none.sha256')" ]
 count 'the folder stands' $?
 # A pipe or a device is never replaced, nor a link to one; a link stands in for the machine's own devices.
 mkfifo pipe
@@ -235,7 +254,8 @@ ln -s /dev/null null
 ln -s /dev/full device
 ln -s pipe piped
 for name in pipe null device piped; do
-    answers "save over $name" "save $name\nscan t \\\\0\n" 'fault save io\nr f q \\e 5 v\nend\n' --image one
+    tells "save over $name" "save $name\nscan t \\\\0\n" 'fault save io\nr f q \\e 5 v\nend\n' \
+        "fault: $name: the image can't be written: what has this name is no file" --image one
 done
 [ -p pipe ] && [ -L null ] && [ -c null ] && [ -L device ] && [ -c device ] && [ -L piped ] && [ -p piped ] && [ -z "$(find . -name '*.part')" ]
 count 'a pipe and a device stand as they were' $?
@@ -248,10 +268,62 @@ printf 'save full\nstatus big\n' >short
 cat big short | (trap '' XFSZ; ulimit -f 8; exec "$program" script) 2>err | tail -n 2 >out
 [ "$(cat out)" = "$(printf 'fault save io\ntablets 1 sources 0 records 20000')" ]
 count 'a disk that is full' $?
+[ "$(cat err)" = "fault: full: the image can't be written: File too large (os error 27)" ]
+count 'standard error says why' $?
 cmp -s new full
 count 'the last image stands' $?
 [ "$(ls -a | grep -vx -e big -e short)" = "$(grep -vx -e big -e short <<<"$before")" ]
 count 'nothing is left beside it' $?
+
+# ---- Checksums: an image that differs from the one beside it isn't loaded; one without is.
+answers 'an image to be changed' 'setauths root A\ncreatetable t time=any\ninsert t r f q A v 5\nsave kept\n' 'ok\nok\nok\nok\n'
+python3 -c 'i = bytearray(open("kept", "rb").read()); i[i.rindex(b"A")] ^= 3; open("kept", "wb").write(i)'
+tells 'a label with another bit' 'load kept\nscan t \\0\n' 'fault load io\nr f q \\e 5 v\nend\n' 'fault: kept: differs from its checksum' --image one
+printf 'scan t \\0\n' | "$program" script --image kept >out 2>err
+[ "${PIPESTATUS[1]},$(cat out),$(cat err)" = '1,,fault: kept: differs from its checksum' ]
+count '--image of an image that differs' $?
+: >kept.sha256
+tells 'a checksum that is empty' 'load kept\n' 'fault load io\n' 'fault: kept: differs from its checksum'
+sha256sum kept one >kept.sha256
+answers 'a checksum that was made by hand' 'load kept\nscan t \\0\n' 'ok\nend\n'
+rm kept.sha256
+answers 'an image without a checksum' 'load kept\nscan t \\0\nsave kept\nload kept\n' 'ok\nend\nok\nok\n'
+sha256sum --quiet -c kept.sha256
+count 'a save puts the right one beside it' $?
+
+# ---- What dead runs have left goes with the next save; what a live one writes, and what is something else, stays.
+mkdir left
+for number in 0 1 3; do printf 'TABIMG\000\002and more' >left/one.$number.part; done
+: >left/one.4.part
+echo 'something else' >left/one.2.part
+echo '0123456789abcdef' >left/one.sha256.0.part
+python3 - "$program" <<'.'
+import fcntl, subprocess, sys
+with open("left/one.1.part") as held:
+    fcntl.flock(held, fcntl.LOCK_EX)
+    subprocess.run([sys.argv[1], "script"], input=b"save left/one\n", stdout=subprocess.DEVNULL)
+.
+[ "$(ls left)" = "$(printf 'one\none.1.part\none.2.part\none.sha256')" ]
+count 'left-over parts are taken away, and no others' $?
+"$program" script <<<'save left/one' >out
+[ "$(ls left)" = "$(printf 'one\none.2.part\none.sha256')" ]
+count 'that of a run that has ended is, too' $?
+
+# ---- A clock that is years ahead is named where a server begins on it; a server of no connections would not end, so one is made.
+answers 'an image of another time' 'at 4102444800000\ncreatetable t\nsave ahead\n' 'ok\nok\n'
+python3 - "$program" <<'.' >clock
+import socket, subprocess, sys
+with socket.socket() as probe:
+    probe.bind(("127.0.0.1", 0))
+    port = probe.getsockname()[1]
+for image in "ahead", "one":
+    server = subprocess.Popen([sys.argv[1], "serve", "--port", str(port), "--accept", "1", "--image", image], stdout=subprocess.PIPE, stderr=subprocess.PIPE)
+    server.stdout.readline()
+    socket.create_connection(("127.0.0.1", port)).close()
+    print(server.communicate()[1].decode().split(" years")[0].rstrip("0123456789"))
+.
+[ "$(cat clock)" = 'note: ahead: its clock is ' ]
+count 'a clock that is years ahead' $?
 
 # ---- Each image cut at each of its lengths is none, and one byte changed is none or is saved as itself; one of version 1 in version 2.
 python3 - "$program" one whole.image first.one <<'.' >changed

@@ -168,6 +168,25 @@ for words in --help --version nonsense serve; do
     count "\`$words\` is answered by a release of other sources" $?
 done
 
+# ---- At a terminal lines are asked for, with rlwrap where there is one, and Ctrl-C doesn't reach the program.
+if command -v python3 >/dev/null; then
+    printf '#!/bin/sh\necho "built with $*"\ngrep SigIgn /proc/self/status\n' >"$work/built"
+    edit
+    printf '#!/bin/sh\necho "edited: $1 $2"\nshift 2\nexec "$@"\n' >"$bin/wrap"
+    chmod +x "$bin/wrap"
+    typed() { # what a terminal shows of `tabd script`
+        (cd "$caller" && PATH=$bin:$PATH python3 -c 'import pty, sys; pty.spawn(sys.argv[1:])' "$here/tabd" script </dev/null) >"$work/out" 2>"$work/err"
+        ignored=$(tr -d '\r' <"$work/out" | sed -n 's/^SigIgn:[[:space:]]*//p')
+        grep -q '^built with script --prompt' "$work/out" && [ $((0x${ignored:-0} & 2)) -ne 0 ]
+    }
+    typed
+    count 'at a terminal there are prompts, and Ctrl-C is ignored' $?
+    mv "$bin/wrap" "$bin/rlwrap"
+    typed && grep -q '^edited: -C tabd' "$work/out"
+    count 'rlwrap stands between them' $?
+    rm -rf "$bin/rlwrap" "$here/crates/tabd/out"
+fi
+
 # ---- What can't be built.
 (cd "$caller" && PATH=/usr/bin:/bin "$here/tabd" one) >"$work/out" 2>"$work/err" </dev/null
 status=$?

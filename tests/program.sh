@@ -59,6 +59,11 @@ for words in '' nonsense 'script extra' --nonsense 'script --nonsense' $'\xff' $
     count "refused command line '$words', full standard error" $?
 done
 
+# A shell's help has the lines that it takes.
+run shell --help
+[ "$(sed -n '/^The lines of a shell/,/^The updates/p' out | awk '/^  / {print $1}')" = "$("$program" script --help | sed -n '/^The lines of a script/,/^The updates/p' | awk '/^  / {print $1}' | grep -vxE 'as|at|begin|merge|install|splitsize|save|load')" ]
+count "a shell's help lists what it takes" $?
+
 # ---- The ends of the input: status 0, these replies, and nothing on standard error.
 answers() { # NAME INPUT REPLIES
     printf "$2" | "$program" script >out 2>err
@@ -140,23 +145,29 @@ else
 fi
 
 # ---- Prompts: who asks, help, and behind each line fault why.
+begins='tabd: a sorted store in memory. What it holds is gone at the end, unless you save it.
+help lists the lines, help LINE tells what one does, quit ends.
+'
 prompted() { # NAME INPUT OUTPUT ERRORS
     printf "$2" | "$program" script --prompt >out 2>err
-    [ "${PIPESTATUS[1]}" -eq 0 ] && [ "$(cat out)" = "$(printf "$3")" ] && [ "$(cat err)" = "$4" ]
+    [ "${PIPESTATUS[1]}" -eq 0 ] && [ "$(cat out)" = "$begins$(printf "$3")" ] && [ "$(cat err)" = "$4" ]
     count "prompts: $1" $?
 }
 prompted 'no line' '' 'root> \n' ''
 prompted 'a reply behind each prompt' 'createtable t\nscan t \\0\n' 'root> ok\nroot> end\nroot> \n' ''
 prompted 'who asks' 'as bob\n\n# nothing\nscan t \\0' 'root> bob> bob> bob> refused 1 UnknownUser bob\nbob> \n' ''
 prompted 'help for a line' 'help next\n help  close \n' \
-    'root>   next SESSION COUNT\n  SESSION            the number that an open gave: a whole number of 32 bits without a sign, as 0\n  COUNT              how many cells: a whole number of 32 bits without a sign, as 100\nroot>   close SESSION\n  SESSION            the number that an open gave: a whole number of 32 bits without a sign, as 0\nroot> \n' ''
-prompted 'help for a line of one word' 'help rotate\n' 'root>   rotate\nroot> \n' ''
+    'root> Shows the next cells of a session.\n  next SESSION COUNT\n  SESSION            the number that an open gave: a whole number of 32 bits without a sign, as 0\n  COUNT              how many cells: a whole number of 32 bits without a sign, as 100\nroot> Closes a session.\n  close SESSION\n  SESSION            the number that an open gave: a whole number of 32 bits without a sign, as 0\nroot> \n' ''
+prompted 'help for a line of one word' 'help rotate\n' 'root> Hands out the history so far, and begins a new one.\n  rotate\nroot> \n' ''
 prompted 'exit' 'createtable t\nexit\nbogus\n' 'root> ok\nroot> ' ''
+prompted 'quit' 'createtable t\nquit\nbogus\n' 'root> ok\nroot> ' ''
+prompted 'a question mark' '? rotate\n' 'root> Hands out the history so far, and begins a new one.\n  rotate\nroot> \n' ''
+prompted 'a near word' 'creattable t\n' 'root> line fault\nroot> \n' 'line 1: word 1, "creattable": expected a command: did you mean createtable?'
 prompted 'help for what is no line' 'help bogus\n' 'root>   there is no such line: help lists them\nroot> \n' ''
 prompted 'a line fault' 'next 0\n' 'root> line fault\nroot> \n' \
     'line 1: word 3 is missing: expected COUNT (how many cells: a whole number of 32 bits without a sign, as 100)'
 printf 'help\n' | "$program" script --prompt >out 2>err
-[ "$(sed 's/^root> //' out | awk '/^  / {print $1}' | sort -u)" = "$({ echo exit; sed -n '/^| Line | Does |/,/^$/p' "$top/docs/SCRIPT.md" | grep -oE '`[a-z]+ [A-Z]|^\| `[a-z]+` \|' | tr -d '`|' | awk '{print $1}' | grep -vx 'put\|del'; echo help; } | sort -u)" ]
+[ "$(sed 's/^root> //' out | awk '/^  / {print $1}' | sort -u)" = "$({ echo quit; sed -n '/^| Line | Does |/,/^$/p' "$top/docs/SCRIPT.md" | grep -oE '`[a-z]+ [A-Z]|^\| `[a-z]+` \|' | tr -d '`|' | awk '{print $1}' | grep -vx 'put\|del'; echo help; } | sort -u)" ]
 count 'prompts: help lists all lines' $?
 
 # ---- Why a line is a fault: a line of a script, and behind the tab what is said of it.
@@ -177,7 +188,9 @@ cat >table <<E
 	
 bogus	word 1, "bogus": expected $commands
  # spaces before it	word 1, "#": expected $commands
-As u	word 1, "As": expected $commands
+As u	word 1, "As": expected a command: did you mean as?
+creattable t	word 1, "creattable": expected a command: did you mean createtable?
+grnat u READ t	word 1, "grnat": expected a command: did you mean grant?
 ${sixty}yz	word 1, "$sixty..": expected $commands
 as	word 2 is missing: expected U (a user's $name)
 as u v	word 3, "v": expected the end of the line
@@ -261,6 +274,31 @@ count 'a byte order mark, carriage returns, and a last line without a line feed'
 printf '%s\n' "line 1: word 1, \"$sixty..\": expected $commands" "line 2: word 2 is missing: expected U (a user's $name)" | diff - err
 count 'a line of several blocks is explained once' $?
 
+# ---- Strict and quiet runs.
+watched() { # NAME INPUT STATUS OUTPUT ERRORS WORD ..
+    local name=$1 input=$2 status=$3 output=$4 errors=$5
+    shift 5
+    printf "$input" | "$program" script "$@" >out 2>err
+    [ "${PIPESTATUS[1]},$(cat out)" = "$status,$(printf "$output")" ] && [ "$(cat err)" = "$(printf "$errors")" ]
+    count "$name" $?
+}
+lines='# made\ncreatetable t time=any\ninsert t refused 6 Cell \\e v 5\nsplits u\n\nbogus\nload no-such-file\naddsplit t ok\nsplits t\nscan t \\0'
+cell='refused 6 Cell \\e 5 v'
+watched 'a strict run stops at the first refusal' "$lines" 3 'ok\nok\nrefused 2 NoTable u\n' 'line 4: refused 2 NoTable u\n' --strict
+watched 'a strict run stops at a line fault' 'createtable t\nbogus\ndroptable t\n' 3 'ok\nline fault\n' 'line 2: line fault\n' --strict
+watched 'a strict run stops at the fault of a file' 'createtable t\nload no-such-file\ndroptable t\n' 3 'ok\nfault load io\n' 'line 2: fault load io\n' --strict
+watched 'a strict run in which nothing is refused' "createtable t time=any\ninsert t refused 6 Cell \\\\e v 5\nscan t \\\\0" 0 "ok\nok\n$cell\nend\n" '' --strict
+watched 'a strict run says why a line is a fault' 'as\n' 3 'line fault\n' "line 1: word 2 is missing: expected U (a user's $name)\nline 1: line fault\n" --strict --explain
+watched 'a quiet run' "$lines" 0 "refused 2 NoTable u\nline fault\nfault load io\nok\nend\n$cell\nend\n" '3 ok, 1 refused, 2 faults\n' --quiet
+watched 'a quiet and strict run' "$lines" 3 'refused 2 NoTable u\n' '2 ok, 1 refused, 0 faults\nline 4: refused 2 NoTable u\n' --quiet --strict
+watched 'a quiet run of no line' '' 0 '' '0 ok, 0 refused, 0 faults\n' --quiet
+{ echo 'createtable t' && seq 40000 | sed 's/.*/insert t row& f q \\e value/' && printf 'scan t \\0\nscan u \\0\ndroptable t\n'; } >long
+"$program" script --strict --quiet <long >out 2>err
+[ $? -eq 3 ] && [ "$(wc -l <out)" -eq 40002 ] && [ "$(tail -n 1 out)" = 'refused 2 NoTable u' ] && [ "$(cat err)" = "$(printf '40001 ok, 1 refused, 0 faults\nline 40003: refused 2 NoTable u')" ]
+count 'a strict run past blocks' $?
+head -n 40002 long | "$program" script --strict | cmp - <(head -n 40002 long | "$program" script)
+count 'a strict run prints what a script prints' $?
+
 # ---- Each reply comes before more input is awaited, and an explanation with it.
 pairs=('createtable t=ok' 'insert t r f q \e v 5=ok' 'bogus=line fault' 'scan u \0=refused 2 NoTable u' 'scan t \0=r f q \e 5 v')
 coproc TABD { exec "$program" script --explain 2>err; }
@@ -299,6 +337,23 @@ os.write(terminal, b"\x04")
 sys.exit(os.waitstatus_to_exitcode(os.waitpid(child, 0)[1]))
 P
     count 'typed replies come before more input, and the end of typing ends it' $?
+    # at a terminal the cells of a scan stand in columns
+    timeout 60 python3 - "$program" <<'P' >out
+import os, pty, sys
+child, terminal = pty.fork()
+if child == 0:
+    os.execv(sys.argv[1], ["tabd", "script", "--prompt"])
+os.write(terminal, b"createtable t time=any\ninsert t row-of-some-length f q \\e v 5\ninsert t r f q \\e v 1234\nscan t \\0\nquit\n")
+seen = b""
+try:
+    while piece := os.read(terminal, 4096):
+        seen += piece
+except OSError:
+    pass
+print(seen.decode().replace("\r", ""))
+P
+    grep -qx '\(root> \)\?r                   f  q  \\e  1234  v' out && grep -qx 'row-of-some-length  f  q  \\e  5     v' out
+    count 'at a terminal cells stand in columns' $?
 fi
 
 echo "$passed passed, $failed failed$([ "$skipped" -eq 0 ] || echo ", $skipped skipped")"

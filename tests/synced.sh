@@ -1,5 +1,6 @@
 #!/usr/bin/env bash
-# What a save asks of the disk, and in which order: the new file is synced whole before it gets its name, and its folder afterwards. Where
+# What a save asks of the disk, and in which order: the new file and its checksum are synced whole before they get
+# their names, and the folder afterwards. Where
 # the disk can't sync it, the save fails, and the old file stands.
 # Usage: tests/synced.sh   (from anywhere; wants a C compiler; TABD names another program)
 set -eu
@@ -64,11 +65,16 @@ saves() { # NAME LINES REPLIES NOTES [VARIABLE]
     fi
 }
 
-saves 'a save' 'save one\n' 'ok\n' 'sync one.0.part 49\nrename one\nsync folder images\n'
-saves 'a save over an image' 'createtable t\nsave one\n' 'ok\nok\n' 'sync one.0.part 93\nrename one\nsync folder images\n'
-saves 'two saves' 'save one\nsave two\n' 'ok\nok\n' 'sync one.0.part 49\nrename one\nsync folder images\nsync two.0.part 49\nrename two\nsync folder images\n'
+# what is asked of the disk for an image of this name and length, and for its checksum
+asks() { # NAME LENGTH FOLDER
+    echo "sync $1.0.part $2\\nsync $1.sha256.0.part 70\\nrename $1\\nrename $1.sha256\\nsync folder $3\\n"
+}
+
+saves 'a save' 'save one\n' 'ok\n' "$(asks one 49 images)"
+saves 'a save over an image' 'createtable t\nsave one\n' 'ok\nok\n' "$(asks one 93 images)"
+saves 'two saves' 'save one\nsave two\n' 'ok\nok\n' "$(asks one 49 images)$(asks two 49 images)"
 mkdir "$work/images/more"
-saves 'a save in another folder' 'save more/one\n' 'ok\n' 'sync one.0.part 49\nrename one\nsync folder more\n'
+saves 'a save in another folder' 'save more/one\n' 'ok\n' "$(asks one 49 more)"
 cp "$work/images/one" "$work/before"
 saves 'a save that is not synced' 'createtable t\nsave one\nsplits t\n' 'ok\nfault save io\nend\n' 'sync one.0.part 93\n' UNSYNCED=1
 if cmp -s "$work/images/one" "$work/before" && [ -z "$(find "$work" -name '*.part')" ]; then passed=$((passed + 1)); else
