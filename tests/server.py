@@ -50,6 +50,26 @@ def statuses():
         count("and it ends", server.ends() == 0, server.process.returncode)
 
 
+def watched_shells():
+    """A shell that stops, that says little, that explains, and one whose server gives no answer."""
+    with Server() as server:
+        for name, lines, words, wanted in (
+            ("strict", b"createtable t\n\nsplits u\ndroptable t\n", ["--strict"], (3, b"ok\nrefused 2 NoTable u\n", b"line 3: refused 2 NoTable u\n")),
+            ("quiet", b"addsplit t ok\nsplits t\nsplits u\n", ["--quiet"], (0, b"ok\nend\nrefused 2 NoTable u\n", b"1 ok, 1 refused, 0 faults\n")),
+            ("explaining", b"at 5\nclose\n", ["--explain"], (0, b"line fault\nline fault\n", b'line 1: word 1, "at": expected a line of a shell; '
+             b"this one is a script's alone\nline 2: word 2 is missing: expected SESSION (the number that an open gave: a whole number of 32 bits without a sign, as 0)\n")),
+        ):
+            ran = server.shell(lines, *words)
+            count("a shell that is " + name, (ran.returncode, ran.stdout, ran.stderr) == wanted, ran)
+    with socket.create_server(("127.0.0.1", 0)) as silent:
+        port = silent.getsockname()[1]
+        ran = run("shell", "--port", str(port), "--user", "root", "--timeout", "1", stdin=b"splits t\n")
+        count("a server that says nothing", (ran.returncode, ran.stdout, ran.stderr) == (1, b"", b"fault: port %d doesn't answer as tabd\n" % port), ran)
+    for words in ("--timeout 0", "--timeout 86401", "--timeout x"):
+        ran = run("shell", "--port", "1", "--user", "root", *words.split())
+        count("refused: " + words, (ran.returncode, ran.stdout) == (2, b"") and ran.stderr, ran)
+
+
 def other_addresses():
     """Addresses of this machine beside 127.0.0.1: what listens on all of them is reached there."""
     yield socket.AF_INET, "127.0.0.2"
@@ -461,5 +481,5 @@ def goes_away():
                   (process.returncode, out, err))
 
 
-run_parts(refused_command_lines, statuses, this_machine_alone, frames, moments, side_by_side, stuck_peers, own_write_is_read,
+run_parts(refused_command_lines, statuses, watched_shells, this_machine_alone, frames, moments, side_by_side, stuck_peers, own_write_is_read,
           compacted_beside, shell_over_loopback, shells, each_reply, scans_close_sessions)
