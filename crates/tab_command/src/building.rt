@@ -74,7 +74,8 @@ pub fn command<'a>(alloc: Global, lines: &'a LineHelp) -> Result<Command<'a>, Er
         .arg(prompt(alloc))?
         .arg(strict(alloc))?
         .arg(quiet(alloc))?
-        .arg(image(alloc))?;
+        .arg(image(alloc))?
+        .arg(store(alloc))?;
     let tabd = Command::new(alloc, "tabd")
         .version(VERSION)
         .about(
@@ -122,6 +123,15 @@ fn image<'a>(alloc: Global) -> Arg<'a> {
         .value_name("FILE")
         .action(ArgAction::Set)
         .help("Begins with what this image holds, and not with nothing")
+}
+
+// The folder that keeps what a script does.
+fn store<'a>(alloc: Global) -> Arg<'a> {
+    Arg::new(alloc, "store")
+        .long("store")
+        .value_name("FOLDER")
+        .action(ArgAction::Set)
+        .help("Begins with what this folder keeps, and keeps there each line that was answered")
 }
 
 // Whether lines are prompted for.

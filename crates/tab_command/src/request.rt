@@ -21,6 +21,8 @@ pub enum Request<'a> {
 pub struct ScriptRequest<'a> {
     /// The file of the image to begin with.
     pub image: Option<&'a str>,
+    /// The folder that keeps what the script does.
+    pub store: Option<&'a str>,
     /// Whether line faults are explained.
     pub explained: bool,
     /// Whether lines are prompted for.
@@ -96,6 +98,7 @@ fn requested<'a>(matches: &ArgMatches<'a>) -> Request<'a> {
 fn script_request<'a>(script: &ArgMatches<'a>) -> ScriptRequest<'a> {
     ScriptRequest {
         image: script.get_str("image"),
+        store: script.get_str("store"),
         explained: script.get_flag("explain"),
         prompted: script.get_flag("prompt"),
         strict: script.get_flag("strict"),

@@ -4,12 +4,14 @@
 //! |---|---|
 //! | `scripting`, `serving`, `shell` | `tabd script`, `tabd serve` and `tabd shell` |
 //! | `watching` | how a run of lines ends that is watched |
+//! | `keeping` | a script over a folder, which keeps what it does |
 //! | `history` | the history of a server, in a file |
 //! | `files` | images in files, as lines and the command line name them |
 #![tactic(auto)]
 
 mod files;
 mod history;
+mod keeping;
 mod scripting;
 mod serving;
 mod shell;
@@ -17,7 +19,7 @@ mod watching;
 
 use anyhow::Context;
 use clap::Error;
-use scripting::{Style, run_script};
+use scripting::{Style, run_kept, run_script};
 use serving::run_serve;
 use shell::{Way, run_shell};
 use std::io::ErrorKind;
@@ -103,12 +105,11 @@ fn scripted(rt: &HostRuntime, script: ScriptRequest<'_>) -> anyhow::Result<ExitC
         strict: script.strict,
         quiet: script.quiet,
     };
-    run_script(
-        rt,
-        script.image,
-        style_of(script.prompted, script.explained),
-        watch,
-    )
+    let style = style_of(script.prompted, script.explained);
+    match script.store {
+        Some(folder) => run_kept(rt, folder, script.image, style, watch),
+        None => run_script(rt, script.image, style, watch),
+    }
 }
 
 // What goes with the lines: prompts explain line faults too.

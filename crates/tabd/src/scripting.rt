@@ -1,14 +1,18 @@
 //! `tabd script`.
 use crate::files::{Disk, loaded};
+use crate::keeping::{Keeping, taken_up};
 use crate::watching::ended;
+use anyhow::Context;
 use std::io::{IsTerminal, Read, Write};
 use std::process::ExitCode;
 use tab_core::Core;
+use tab_folder::Folder;
 use tab_help::{Asks, Explaining, Prompting};
 use tab_host::Noting;
 use tab_io::{BlockReader, BlockWriter};
 use tab_key::Name;
 use tab_prog::{ProgramFault, script, script_over};
+use tab_shell::Script;
 use tab_watch::{Columns, Course, Replies, Steps, Watch};
 
 /// What goes with the lines of a script.
@@ -22,6 +26,17 @@ pub enum Style {
     Prompted,
 }
 
+// What a script begins with.
+#[derive(Drop)]
+enum Begins<'a> {
+    // A new core.
+    New,
+    // This core, which ends with the script.
+    Over(Core),
+    // What a folder keeps, which it keeps on.
+    Kept(Keeping<'a>),
+}
+
 /// Answers the lines of standard input on standard output, by the core of this image, or by a new one. Gives the status; a fault tells the
 /// system's reason.
 pub fn run_script(
@@ -30,7 +45,42 @@ pub fn run_script(
     style: Style,
     watch: Watch,
 ) -> anyhow::Result<ExitCode> {
-    let core = loaded(rt, image)?;
+    match loaded(rt, image)? {
+        Some(core) => styled(rt, Begins::Over(core), style, watch),
+        None => styled(rt, Begins::New, style, watch),
+    }
+}
+
+/// The same, by the core that this folder keeps; or, where it keeps none yet, by the one of the image, or a new one. Each line that was
+/// answered is kept from then on; once the input has ended, the folder has an image of what the core is then.
+pub fn run_kept(
+    rt: &HostRuntime,
+    path: &str,
+    image: Option<&str>,
+    style: Style,
+    watch: Watch,
+) -> anyhow::Result<ExitCode> {
+    let mut folder = Folder::open(rt, path).with_context(|| path)?;
+    let core = taken_up(rt, &mut folder, path, image)?;
+    let log = folder.begin(&core).with_context(|| path)?;
+    let mut script = Script::new(rt.alloc(), core);
+    let keeping = Keeping::new(&folder, &log, &mut script);
+    let outcome = styled(rt, Begins::Kept(keeping), style, watch);
+    if let Some(fault) = log.failure() {
+        return Err(fault).with_context(|| path);
+    }
+    let status = outcome?;
+    folder.keep(script.core()).with_context(|| path)?;
+    Ok(status)
+}
+
+// Answers the lines of standard input on standard output, in this style. Gives the status; a fault tells the system's reason.
+fn styled(
+    rt: &HostRuntime,
+    begins: Begins<'_>,
+    style: Style,
+    watch: Watch,
+) -> anyhow::Result<ExitCode> {
     let course = Course::new(watch);
     let mut input = Noting::new(rt.stdin());
     let mut output = Noting::new(rt.stdout());
@@ -41,9 +91,9 @@ pub fn run_script(
     );
     let mut replies = Replies::new(rt.alloc(), &course, columns);
     let outcome = match style {
-        Style::Plain => plain(rt, core, &course, &mut input, &mut replies),
-        Style::Explained => explained(rt, core, &course, &mut input, &mut replies),
-        Style::Prompted => prompted(rt, core, &course, &mut input, &mut replies),
+        Style::Plain => plain(rt, begins, &course, &mut input, &mut replies),
+        Style::Explained => explained(rt, begins, &course, &mut input, &mut replies),
+        Style::Prompted => prompted(rt, begins, &course, &mut input, &mut replies),
     };
     let status = ended(rt, &course, &mut replies);
     drop(replies);
@@ -69,16 +119,30 @@ fn with_reason<R, W>(fault: ProgramFault, input: &Noting<R>, output: &Noting<W>)
 // The lines of the reader, one by one where the run is watched, answered on the writer.
 fn plain<R: Read + Drop, W: Write + Drop>(
     rt: &HostRuntime,
-    core: Option<Core>,
+    begins: Begins<'_>,
     course: &Course,
     reader: R,
     writer: W,
 ) -> Result<(), ProgramFault> {
-    answered(rt, core, Steps::new(rt.alloc(), course, reader), writer)
+    answered(rt, begins, Steps::new(rt.alloc(), course, reader), writer)
 }
 
 // The lines of the reader, answered on the writer.
 fn answered<R: Read + Drop, W: Write + Drop>(
+    rt: &HostRuntime,
+    begins: Begins<'_>,
+    reader: R,
+    writer: W,
+) -> Result<(), ProgramFault> {
+    match begins {
+        Begins::New => dropped(rt, None, reader, writer),
+        Begins::Over(core) => dropped(rt, Some(core), reader, writer),
+        Begins::Kept(keeping) => keeping.answer(rt, reader, writer),
+    }
+}
+
+// The same, where nothing is kept.
+fn dropped<R: Read + Drop, W: Write + Drop>(
     rt: &HostRuntime,
     core: Option<Core>,
     reader: R,
@@ -101,7 +165,7 @@ fn answered<R: Read + Drop, W: Write + Drop>(
 // The same, with its line faults explained on standard error.
 fn explained<R: Read + Drop, W: Write + Drop>(
     rt: &HostRuntime,
-    core: Option<Core>,
+    begins: Begins<'_>,
     course: &Course,
     reader: R,
     writer: W,
@@ -113,7 +177,7 @@ fn explained<R: Read + Drop, W: Write + Drop>(
     let steps = Steps::new(alloc, course, reader);
     answered(
         rt,
-        core,
+        begins,
         Explaining::new(alloc, Asks::Script, steps, notes),
         writer,
     )
@@ -122,7 +186,7 @@ fn explained<R: Read + Drop, W: Write + Drop>(
 // The same, behind a prompt for each line.
 fn prompted<R: Read + Drop, W: Write + Drop>(
     rt: &HostRuntime,
-    core: Option<Core>,
+    begins: Begins<'_>,
     course: &Course,
     reader: R,
     writer: W,
@@ -138,5 +202,5 @@ fn prompted<R: Read + Drop, W: Write + Drop>(
         return Err(ProgramFault::NoMemory);
     };
     let lines = Prompting::new(alloc, reader, Asks::Script, root, prompts, notes);
-    plain(rt, core, course, lines, writer)
+    plain(rt, begins, course, lines, writer)
 }

@@ -1,0 +1,164 @@
+//! A script over a folder, which keeps what it does.
+use crate::files::{Disk, core_of};
+use anyhow::Context;
+use std::io;
+use std::io::{Read, Write};
+use tab_core::Core;
+use tab_folder::{Folder, Left, Log, Logged, Settled};
+use tab_io::{BlockReader, BlockWriter};
+use tab_prog::{FileName, Files, LoadFault, ProgramFault, SaveFault, script_on};
+use tab_shell::Script;
+
+// Why a script isn't begun over a folder.
+#[derive(Clone, Copy, Debug, thiserror::Error)]
+enum KeptFault {
+    #[error("it keeps something already, so no image is loaded into it")]
+    Image,
+}
+
+/// A script whose lines go into the journal of a folder before it sees them.
+#[derive(Drop)]
+pub struct Keeping<'a> {
+    folder: &'a Folder<'a>,
+    log: &'a Log,
+    script: &'a mut Script,
+}
+
+impl<'a> Keeping<'a> {
+    /// This script, whose core is that of the folder's image, and the journal behind it.
+    pub fn new(folder: &'a Folder<'a>, log: &'a Log, script: &'a mut Script) -> Keeping<'a> {
+        Keeping {
+            folder,
+            log,
+            script,
+        }
+    }
+
+    /// Answers the lines of the reader on the writer. Nothing is written before the lines that it answers are on the disk.
+    pub fn answer<R: Read + Drop, W: Write + Drop>(
+        self,
+        rt: &HostRuntime,
+        reader: R,
+        writer: W,
+    ) -> Result<(), ProgramFault> {
+        let Ok(mut input) = BlockReader::new(rt.alloc(), Logged::new(reader, self.log)) else {
+            return Err(ProgramFault::NoMemory);
+        };
+        let Ok(mut output) = BlockWriter::new(rt.alloc(), Settled::new(writer, self.log)) else {
+            return Err(ProgramFault::NoMemory);
+        };
+        let mut files = KeptFiles::new(rt, self.folder, false);
+        Ok(script_on(self.script, &mut files, &mut input, &mut output)?)
+    }
+}
+
+/// The core that the folder keeps, or else the one of this image, or a new one. What a run that didn't end has read is done again.
+pub fn taken_up(
+    rt: &HostRuntime,
+    folder: &mut Folder<'_>,
+    path: &str,
+    image: Option<&str>,
+) -> anyhow::Result<Core> {
+    if !folder.has_image() {
+        let core = core_of(rt, image)?;
+        folder.keep(&core).with_context(|| path)?;
+        return Ok(core);
+    }
+    if image.is_some() {
+        return Err(KeptFault::Image).with_context(|| path);
+    }
+    let core = folder.load().with_context(|| path)?;
+    let left = folder.left(&core).with_context(|| path)?;
+    if left.cut > 0 {
+        let _ = eprintln!(rt;
+            "{path}: {} bytes at the end of the journal are cut off",
+            left.cut
+        );
+    }
+    if left.lines.is_empty() {
+        return Ok(core);
+    }
+    done_again(rt, folder, path, core, &left)
+}
+
+// Does the lines again that were left, and keeps what comes of them.
+fn done_again(
+    rt: &HostRuntime,
+    folder: &mut Folder<'_>,
+    path: &str,
+    core: Core,
+    left: &Left,
+) -> anyhow::Result<Core> {
+    let mut script = Script::new(rt.alloc(), core);
+    replay(rt, folder, &mut script, left)?;
+    folder.keep(script.core()).with_context(|| path)?;
+    let _ = eprintln!(rt;
+        "{path}: {} bytes of lines are done again",
+        left.lines.len()
+    );
+    folder.load().with_context(|| path)
+}
+
+// Runs the lines that were left. Their answers go nowhere.
+fn replay(
+    rt: &HostRuntime,
+    folder: &Folder<'_>,
+    script: &mut Script,
+    left: &Left,
+) -> Result<(), ProgramFault> {
+    let Ok(mut input) = BlockReader::new(rt.alloc(), left.lines.as_slice()) else {
+        return Err(ProgramFault::NoMemory);
+    };
+    let Ok(mut output) = BlockWriter::new(rt.alloc(), io::sink()) else {
+        return Err(ProgramFault::NoMemory);
+    };
+    let mut files = KeptFiles::new(rt, folder, true);
+    Ok(script_on(script, &mut files, &mut input, &mut output)?)
+}
+
+// The files that the lines of such a script name. What is loaded is kept in the folder, since the file may be another one when the line is
+// done again; then nothing is saved.
+#[derive(Drop)]
+struct KeptFiles<'a> {
+    disk: Disk<'a>,
+    folder: &'a Folder<'a>,
+    again: bool,
+    loads: u64,
+}
+
+impl<'a> KeptFiles<'a> {
+    fn new(rt: &'a HostRuntime, folder: &'a Folder<'a>, again: bool) -> KeptFiles<'a> {
+        KeptFiles {
+            disk: Disk::new(rt),
+            folder,
+            again,
+            loads: 0,
+        }
+    }
+}
+
+impl Files for KeptFiles<'_> {
+    ghost saves = { λ _ _ _ _ _. Unit {0} };
+
+    ghost loads = { λ _ _ _ _. Unit {0} };
+
+    fn save(&mut self, name: &FileName, core: &Core) -> Result<(), SaveFault> {
+        if self.again {
+            return Ok(());
+        }
+        self.disk.save(name, core)
+    }
+
+    fn load(&mut self, name: &FileName) -> Result<Core, LoadFault> {
+        let place = self.loads;
+        self.loads = place.saturating_add(1);
+        if self.again {
+            return self.folder.loaded(place).map_err(|_| LoadFault::Io);
+        }
+        let core = self.disk.load(name)?;
+        match self.folder.keep_loaded(place, &core) {
+            Ok(()) => Ok(core),
+            Err(_) => Err(LoadFault::Io),
+        }
+    }
+}
