@@ -120,7 +120,7 @@ def kills():
             count(f"{how} {at}: the status is that of a kill or a fault", status == (1 if how == "fails" else -9) or (how == "fails" and answered == ROWS))
             copied("lost")
             count(f"{how} {at}: what was answered is kept", is_kept(answered))
-            if at % 5 == 1 and how != "fails":
+            if at % 9 == 1 and how != "fails":
                 starts(how, at, answered)
             at += 1
 
