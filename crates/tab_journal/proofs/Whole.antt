@@ -8,7 +8,7 @@ use Rattle.tab_parts.specs.Parts.{IsBytes}
 use Rattle.tab_parts.specs.Reading.{◌>>=◌, Reader, u64_at}
 use Rattle.tab_parts.specs.Exactness.{Exact}
 use Rattle.tab_parts.proofs.Exact.{bytes-drop, bytes-take, some_inj, bind_some, on_bind}
-use Rattle.tab_journal.specs.Journals.{Front, IsFront, Batch, IsBatch, AreBatches, IsJournal}
+use Rattle.tab_journal.specs.Journals.{Batch, IsBatch, AreBatches, IsJournal}
 use Rattle.tab_journal.specs.Reading.{front_at, batch_at, batches_within, Journal, journal_from, journal_of}
 use Rattle.tab_journal.specs.Laws.{JournalsAreRead, last_sum, IsKept, WholeBatchesAreKept, CutsAreBeginnings}
 use Rattle.tab_journal.proofs.Forms.{exact_front, front_long, exact_batch, batch_long}

@@ -1,8 +1,4 @@
-use Rattle.std.proofs.Common.{◌≡◌, ℕ, ◌≤◌, List, ◌++◌, length}
-use Rattle.std.specs.List.{flat_map}
-use Rattle.tab_journal.specs.Journals.{Batch}
-use Rattle.tab_journal.specs.Reading.{batches_within}
-use Rattle.tab_journal.specs.Said.{last_of}
+use Rattle.std.proofs.Common.{length}
 use Rattle.tab_journal.proofs.Steps.{Reads}
 use Rattle.tab_journal.proofs.reading.batches_kept.Given as goal
 
