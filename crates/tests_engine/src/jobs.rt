@@ -4,7 +4,7 @@ use crate::sources::{Numbered, random_sources};
 use std::alloc::Global;
 use std::process::Abort;
 use tab_cells::Compaction;
-use tab_compact::Job;
+use tab_compact::{Job, merge_many};
 use tab_table::Table;
 use tab_testing::{Holding, Random, Update, table_len};
 
@@ -74,5 +74,47 @@ fn random_sources_are_merged(rt: HostRuntime) {
     for kind in [Compaction::Minor, Compaction::Partial, Compaction::Full] {
         assert!(rt; compare_all(&rt, alloc, kind, 240, 11) > 200);
         assert!(rt; compare_all(&rt, alloc, kind, 12, 64) > 100);
+    }
+}
+
+// Eight full compactions of random sources, and what the model keeps of each.
+fn full_jobs(rt: &impl Abort, alloc: Global, wanted: &mut Vec<Vec<Update>>) -> Vec<Job> {
+    let mut random = Random::new(8);
+    let mut jobs = Vec::new(alloc);
+    for count in 1..9 {
+        let mut holding = Holding::new(alloc);
+        let numbered = random_sources(rt, alloc, &mut random, count, &mut holding);
+        let want = holding
+            .output(alloc, Compaction::Full, 0, 1)
+            .expect(rt, "memory");
+        let job = numbered
+            .captured(alloc, Compaction::Full, 0, 1)
+            .expect(rt, "memory");
+        jobs.push(job.expect(rt, "sources")).expect(rt, "memory");
+        wanted.push(want.expect(rt, "sources")).expect(rt, "memory");
+    }
+    jobs
+}
+
+#[test]
+fn many_jobs_are_merged_as_each_is(rt: HostRuntime) {
+    let alloc = rt.alloc();
+    let mut wanted = Vec::new(alloc);
+    let jobs = full_jobs(&rt, alloc, &mut wanted);
+    let Ok(finished) = merge_many(&rt, alloc, jobs) else {
+        panic!(rt; "memory");
+    };
+    assert!(rt; finished.len() == 8);
+    for (merge, want) in finished.iter().zip(&wanted) {
+        expect_table(&rt, merge.table(), want);
+    }
+}
+
+#[test]
+fn no_jobs_are_merged_to_none(rt: HostRuntime) {
+    let alloc = rt.alloc();
+    match merge_many(&rt, alloc, Vec::new(alloc)) {
+        Ok(finished) => assert!(rt; finished.is_empty()),
+        Err(_) => panic!(rt; "memory"),
     }
 }

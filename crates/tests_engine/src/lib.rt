@@ -6,7 +6,7 @@
 //! | File | What is tested |
 //! |---|---|
 //! | `layers` | a small table; `system_iterators`: each of them alone; `failing`: each layer and the stack of them, over a source of it that fails once |
-//! | `versions` | versions of runs and of a table; `cuts`: over many tablets; `copies`: runs built of these, and copied rows; `sessions`: when a session is done |
+//! | `versions` | versions of runs and of a table; `cuts`: over many tablets; `copies`: runs built of these, and copied rows; `sessions`: when a session is done; `ranges`: many of them at once |
 //! | `tablets` | scans of what was written, beside the model; `bodies`: few runs, however often one is frozen; `parts`: a merge that another one began |
 //! | `jobs` | merges of random sources of each kind, beside the model |
 //! | `sources` | helpers: sources of what is written, and random ones |

@@ -5,6 +5,7 @@ ghost use Rattle.tab_version.specs.Sources.{records_of};
 
 mod copies;
 mod cuts;
+mod ranges;
 mod sessions;
 
 use crate::reading::expect_scan;
