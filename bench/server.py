@@ -26,7 +26,7 @@ sys.path.insert(0, str(TOP / "bench" / "store"))
 from phases import memory, processor_seconds  # noqa: E402
 
 # what a part may take of the plain server's time; and of several at once, of its throughput at least
-AIMS = {"writes of 100": 0.7, "writes of one": 0.7, "ten whole scans": 0.5, "100000 ranges": 0.8, "one at a time, writes": 1.1, "one at a time, ranges": 1.1}
+AIMS = {"writes of 100": 0.7, "writes of one": 0.7, "ten whole scans": 0.5, "ranges": 0.8, "one at a time, writes": 1.1, "one at a time, ranges": 1.1}
 THROUGHPUT = 1.0
 
 
@@ -35,7 +35,7 @@ def arguments():
     parser.add_argument("--cells", type=int, default=1_000_000, help="of each of two tables, a multiple of 100")
     parser.add_argument("--rounds", type=int, default=5)
     parser.add_argument("--connections", default="1,4,16", help="how many at once, part by part")
-    parser.add_argument("--operations", type=int, default=100_000, help="of each of these parts")
+    parser.add_argument("--operations", type=int, default=100_000, help="of each of these parts, and ranges by one")
     parser.add_argument("--compactors", type=int, help="of tabd's threads; the program's own number where unsaid")
     parser.add_argument("--figures", help="a file for the medians, from which server_picture.py draws")
     return parser.parse_args()
