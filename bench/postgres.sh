@@ -35,15 +35,16 @@ trap 'exit 1' INT TERM HUP
 
 free_port() { python3 -c 'import socket; print(socket.create_server(("127.0.0.1", 0)).getsockname()[1])'; }
 
-sql() { psql -X -q -h 127.0.0.1 -p "$port" -U postgres -v ON_ERROR_STOP=1 "$@" postgres; }
+sql() { "$bin/psql" -X -q -h 127.0.0.1 -p "$port" -U postgres -v ON_ERROR_STOP=1 "$@" postgres; }
 
 start_postgres() {
     local settings='listen_addresses=127.0.0.1 unix_socket_directories= fsync=off synchronous_commit=off full_page_writes=off
         wal_level=minimal max_wal_senders=0 max_wal_size=8GB shared_buffers=1GB work_mem=256MB random_page_cost=1.1 jit=off
-        autovacuum_naptime=1s' setting
+        autovacuum_naptime=1s'
     port=$(free_port)
     chmod 755 "$work"
-    install -d -m 700 $([ "$(id -u)" != 0 ] || echo '-o postgres') "$work/data"
+    mkdir "$work/data"
+    [ "$(id -u)" != 0 ] || chown postgres "$work/data"
     unprivileged "$bin/initdb" -D "$work/data" -U postgres -A trust -E SQL_ASCII --locale=C -N >/dev/null
     unprivileged "$bin/pg_ctl" -D "$work/data" -l "$work/data/log" -w -o "-p $port $(printf ' -c %s' $settings)" start >/dev/null ||
         { cat "$work/data/log" >&2; exit 1; }
@@ -88,7 +89,8 @@ rustc --edition=2021 -O --cfg postgres -o "$work/postgres" "$top/bench/server/cl
 start_postgres
 few=$((cells < 10000 ? cells : 10000))
 for who in tabd postgres; do ask "$who" "$few" 1 1000 "$work/cells.$who"; done
-[ -s "$work/cells.tabd" ] && cmp "$work/cells.tabd" "$work/cells.postgres"
+cmp "$work/cells.tabd" "$work/cells.postgres"
+echo "Both show a reader the same of $few cells: $(stat -c %s "$work/cells.tabd") bytes. $cells cells a table, medians of $rounds:"
 rm "$work"/cells.* "$work/seen"
 for _ in $(seq "$rounds"); do
     for who in tabd postgres; do ask "$who" "$cells" 1,4,16 "$operations"; done

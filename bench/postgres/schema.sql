@@ -4,11 +4,14 @@
 drop table if exists wide, tall, visible cascade;
 drop role if exists reader;
 create role reader login;
+-- Its statements are planned once, and a range in the order of the key, without a sort.
 alter role reader set plan_cache_mode = force_generic_plan;
+alter role reader set enable_bitmapscan = off;
 
 create table visible (reader name, label bytea, primary key (reader, label));
 insert into visible select 'reader', label::bytea from unnest('{A,A&B,A&(B|C),B|D}'::text[]) label;
 grant select on visible to reader;
+analyze visible;
 
 create unlogged table wide (row bytea, family bytea, qualifier bytea, label bytea, time bigint not null, value bytea not null,
                             primary key (row, family, qualifier, label));

@@ -35,7 +35,7 @@ impl Requests {
         self.count += 1;
     }
 
-    /// Begins as the user `reader`, and prepares what schema.sql keeps of each table.
+    /// Begins as the user `reader`, and prepares the statements of both tables.
     pub fn hello(mut self) -> Requests {
         let words = b"\0\x03\0\0user\0reader\0database\0postgres\0\0";
         number(&mut self.bytes, words.len() + 4);
@@ -46,10 +46,12 @@ impl Requests {
         self
     }
 
+    /// The statements of a table, the fastest form of each.
     fn prepare_for(&mut self, table: &str) {
         let cells = format!("select row, family, qualifier, label, time, value from {table}");
         let order = "order by row, family, qualifier, label";
-        let range = format!("{cells} where row >= low and row < high {order}");
+        let range = |low, high| format!("{cells} where row >= {low} and row < {high} {order}");
+        let each = range("low", "high");
         let puts = "unnest($2::bytea[], $3::bytea[], $4::bytea[], $5::bytea[]) puts (family, qualifier, label, value)";
         let newest = format!(
             "on conflict (row, family, qualifier, label) do update
@@ -60,8 +62,8 @@ impl Requests {
             ("puts", format!("insert into {table}_written select $1, family, qualifier, label, 1, value from {puts} {newest}")),
             ("scan", format!("{cells} {order}")),
             ("next", format!("{cells} {order} limit 1000")),
-            ("range", range.replace("low", "$1").replace("high", "$2")),
-            ("ranges", format!("select cell.* from unnest($1::bytea[], $2::bytea[]) ranges (low, high), lateral ({range}) cell")),
+            ("range", range("$1", "$2")),
+            ("ranges", format!("select cell.* from unnest($1::bytea[], $2::bytea[]) ranges (low, high), lateral ({each}) cell")),
         ] {
             self.prepare(&format!("{name} {table}"), &text);
         }
