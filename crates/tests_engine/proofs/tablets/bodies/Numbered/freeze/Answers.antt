@@ -1,5 +1,5 @@
 -- What is frozen keeps its numbers.
-use Rattle.std.proofs.Common.{◌≡◌, sym, subst, rules}
+use Rattle.std.proofs.Common.{◌≡◌, ◌<◌, sym, subst, rules}
 use Rattle.std.specs.Prelude.{Contains}
 use Rattle.tab_key.specs.Records.{Record}
 use Rattle.tab_key.proofs.Rising.{in_from, in_to}

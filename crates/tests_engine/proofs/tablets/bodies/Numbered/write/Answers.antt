@@ -1,5 +1,5 @@
 -- A mutation more has the next number.
-use Rattle.std.proofs.Common.{◌≡◌, ◌++◌, refl, sym, subst, arith, rules}
+use Rattle.std.proofs.Common.{◌≡◌, ◌++◌, ◌+◌, ◌<◌, refl, sym, subst, arith, rules}
 use Rattle.std.specs.Prelude.{pos, Contains}
 use Rattle.tab_key.specs.Records.{Record}
 use Rattle.tab_cells.specs.Written.{mutation_records}
