@@ -9,9 +9,9 @@ use tab_history::Step;
 // Two tablets, 1 and 2, with three sorted tables each, and a table of one, 3.
 const MADE: &[u8] =
     b"createtable t\naddsplit t m\ncreatetable v\ninsert t a f q \\e 1 1\ninsert t z f q \\e 1 1\n\
-insert v a f q \\e 1 1\ncompact t minor\ncompact v minor\ninsert t a f q \\e 1 1\ninsert t z f q \\e 1 1\n\
-insert v a f q \\e 1 1\ncompact t minor\ncompact v minor\ninsert t a f q \\e 1 1\ninsert t z f q \\e 1 1\n\
-insert v a f q \\e 1 1\ncompact t minor\ncompact v minor";
+insert v a f q \\e 1 1\nflush t\nflush v\ninsert t a f q \\e 1 1\ninsert t z f q \\e 1 1\n\
+insert v a f q \\e 1 1\nflush t\nflush v\ninsert t a f q \\e 1 1\ninsert t z f q \\e 1 1\n\
+insert v a f q \\e 1 1\nflush t\nflush v";
 
 fn add_step(alloc: Global, core: &mut Core, step: Step) {
     if let Step::Event(event) = step {
