@@ -176,7 +176,7 @@ full_merges_all = refl
 abbrev table_lengths : List Deed → List (List ℕ)
 table_lengths ds = map (λ (x : Tablet). map (λ (s : Sorted). length s.records) x.sources.tables) (doing_all ds (shop (made_with Any 1))).tablets
 
-output_comes_last : table_lengths (one (codes "a") ∷ Do flush ∷ put (codes "b") 1 (codes "thirty bytes of value, or more") ∷ Do flush ∷ one (codes "c") ∷ Do flush ∷ one (codes "d") ∷ Do flush ∷ Do partly ∷ []) ≡ (1 ∷ 3 ∷ []) ∷ []
+output_comes_last : table_lengths (one (codes "a") ∷ Do flush ∷ put (codes "b") 1 (codes "thirty-five bytes of value, or more") ∷ Do flush ∷ one (codes "c") ∷ Do flush ∷ one (codes "d") ∷ Do flush ∷ Do partly ∷ []) ≡ (1 ∷ 3 ∷ []) ∷ []
 unfolding everything
 output_comes_last = refl
 

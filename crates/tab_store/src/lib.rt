@@ -60,6 +60,8 @@ pub use laws::{
     tells_legally, work_keeps, work_stays_sound, writes_keep,
 };
 pub use setting::Setting;
-pub use tab_tablets::{DueKind, FinishedJob, Installed, Split, TabletJob};
+pub use tab_tablets::{
+    DueKind, FinishedJob, Installed, Job, MadeTable, Pending, Split, TabletJob, merge_all,
+};
 pub use table::Table;
 pub use tables::Tables;

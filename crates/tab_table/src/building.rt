@@ -1,22 +1,24 @@
 //! Tables built of what a source has left.
-ghost use Rattle.std.specs.Prelude.{◌≡◌, true, IfOk, OnOk, IsErr, length};
+ghost use Rattle.std.specs.Prelude.{◌≡◌, true, IfOk, OnOk, IsErr};
 ghost use Rattle.tab_key.specs.Encoding.{records_at, AreAt};
 ghost use Rattle.tab_mem.specs.Fronts.{AreFronts};
 ghost use Rattle.tab_table.specs.Sizes.{encoded_size};
 
 use crate::Table;
+use crate::block::{base_of, size_behind};
 use bytes::Bytes;
 use std::alloc::{AllocError, Global};
 use tab_iter::{NoMemory, Source};
-use tab_key::append_copy;
+use tab_key::{RecordRef, append_copy};
 use tab_mem::Fronts;
 
-// Records, one after another, where their heads begin, and the sparse index of their rows.
+// Records, one after another, where their heads begin, the sparse index of their rows, and what they take in blocks.
 #[derive(Drop)]
 struct Gathered {
     body: Vec<u8>,
     places: Vec<usize>,
     fronts: Fronts,
+    size: u64,
 }
 
 // Copies of the records that the source has left, with room from the start for so many in so many bytes.
@@ -28,16 +30,19 @@ fn gather<S: Source>(
 ) -> Result<Gathered, NoMemory>
     ensures records { IfOk result (λ g. records_at g.body.items g.places.items ≡ S.rest source.old) }
     ensures within { IfOk result (λ g. AreAt g.body.items g.places.items) }
-    ensures size { IfOk result (λ g. length g.body.items ≡ encoded_size (records_at g.body.items g.places.items)) }
+    ensures size { IfOk result (λ g. g.size ≡ encoded_size (records_at g.body.items g.places.items)) }
     ensures indexed { IfOk result (λ g. AreFronts g.fronts.numbers.items (records_at g.body.items g.places.items)) }
 {
     let mut body = Vec::with_capacity(alloc, bytes)?;
     let mut places = Vec::with_capacity(alloc, count)?;
     let mut fronts = Fronts::with_capacity(alloc, count)?;
+    let mut size = 0;
     while let Some(next) = source.top() {
         fronts.make_room()?;
         fronts.put(places.len(), &next);
         let place = append_copy(&mut body, &next)?;
+        let more = size_behind(base_of(&body, &places), &RecordRef::at(&body, place));
+        size += more as u64;
         places.push(place)?;
         source.advance()?;
     }
@@ -45,6 +50,7 @@ fn gather<S: Source>(
         body,
         places,
         fronts,
+        size,
     })
 }
 
@@ -81,6 +87,7 @@ impl Table {
             mut body,
             mut places,
             mut fronts,
+            size,
         } = gather(alloc, source, count, bytes)?;
         body.shrink_to_fit();
         places.shrink_to_fit();
@@ -90,6 +97,7 @@ impl Table {
                 body,
                 places,
                 fronts,
+                size,
             }),
             Err(_) => Err(AllocError),
         }

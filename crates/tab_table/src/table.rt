@@ -28,21 +28,24 @@ pub struct Table {
     // where the records' heads begin
     pub(crate) places: Vec<usize>,
     pub(crate) fronts: Fronts,
+    // what the records take in blocks
+    pub(crate) size: u64,
     ghost within: { AreAt body places.items } by { AreAt-prop body places.items },
     ghost rising: { IsRising (records_at body places.items) } by { IsStrictlySortedBy-prop record_cmp (records_at body places.items) },
     ghost timestamps: { HasI64Timestamps (records_at body places.items) } by { HasI64Timestamps-prop (records_at body places.items) },
-    ghost sized: { length body ≡ encoded_size (records_at body places.items) },
+    ghost sized: { size ≡ encoded_size (records_at body places.items) },
     ghost indexed: { AreFronts fronts.numbers.items (records_at body places.items) } by { AreFronts-prop fronts.numbers.items (records_at body places.items) },
 }
 
 impl Table {
     ghost use Rattle.tab_table.specs.Tables.{records};
 
-    /// How many bytes the records take: 41 for each and its five byte strings.
+    /// How many bytes the records take in blocks of 64: each 57, its value, and of its row, family, qualifier and label what lies behind
+    /// the first bytes shared with the record before it. A block's first record shares none. It is counted once, while the table is built.
     pub fn size(&self) -> u64
         ensures { result ≡ encoded_size (records self.now) }
     {
-        self.body.len() as u64
+        self.size
     }
 
     /// How many records there are, markers and hidden ones among them.

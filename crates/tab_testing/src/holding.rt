@@ -2,7 +2,7 @@
 //! and major compactions)
 
 use crate::model::merged;
-use crate::update::Update;
+use crate::update::{Update, sort};
 use std::alloc::{AllocError, Global};
 use tab_cells::Compaction;
 
@@ -19,26 +19,58 @@ pub struct Holding {
     sources: Vec<Held>,
 }
 
-/// The bytes of one record of a table: 41, and its five byte strings.
-fn record_len(update: &Update) -> u64 {
+/// How many records a block of a table has.
+const BLOCK_LEN: usize = 64;
+
+/// What stands before a block's first record.
+const NOTHING: Update = Update {
+    row: b"",
+    family: b"",
+    qualifier: b"",
+    label: b"",
+    timestamp: 0,
+    is_clocked: false,
+    is_put: false,
+    seq: 0,
+    idx: 0,
+};
+
+/// The bytes of a part that the same part before it doesn't begin with.
+fn rest_len(before: &[u8], part: &[u8]) -> u64 {
+    let mut len = part.len() as u64;
+    for (old, new) in before.iter().zip(part) {
+        if old != new {
+            return len;
+        }
+        len = len.saturating_sub(1);
+    }
+    len
+}
+
+/// The bytes of one record of a table behind another one: 57, what its four parts don't share with that one, and its value.
+fn record_len(before: &Update, update: &Update) -> u64 {
     let value = if update.is_put {
         update.value().len()
     } else {
         0
     };
-    41u64
-        .saturating_add(update.row.len() as u64)
-        .saturating_add(update.family.len() as u64)
-        .saturating_add(update.qualifier.len() as u64)
-        .saturating_add(update.label.len() as u64)
+    57u64
+        .saturating_add(rest_len(before.row, update.row))
+        .saturating_add(rest_len(before.family, update.family))
+        .saturating_add(rest_len(before.qualifier, update.qualifier))
+        .saturating_add(rest_len(before.label, update.label))
         .saturating_add(value as u64)
 }
 
-/// The bytes of a table of these updates.
+/// The bytes of a table of these updates, which are in their order.
 pub fn table_len(updates: &[Update]) -> u64 {
     let mut len = 0u64;
-    for update in updates {
-        len = len.saturating_add(record_len(update));
+    for block in updates.chunks(BLOCK_LEN) {
+        let mut before = NOTHING;
+        for update in block {
+            len = len.saturating_add(record_len(&before, update));
+            before = *update;
+        }
     }
     len
 }
@@ -112,7 +144,8 @@ impl Holding {
     }
 
     /// A table more.
-    pub fn add_table(&mut self, updates: Vec<Update>) -> Result<(), AllocError> {
+    pub fn add_table(&mut self, mut updates: Vec<Update>) -> Result<(), AllocError> {
+        sort(&mut updates);
         let held = Held {
             is_table: true,
             updates,

@@ -135,7 +135,7 @@ impl TableClip {
         self.part.table_cursor()
     }
 
-    /// The size of the whole table, in bytes: 41 for each of its records and that record's five byte strings.
+    /// The size of the whole table, in bytes, as `Table::size` of `tab_table` counts them.
     pub fn size(&self) -> u64
         ensures { result ≡ self.now.size }
     {

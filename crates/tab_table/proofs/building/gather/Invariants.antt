@@ -1,5 +1,5 @@
 -- What was copied, and what is left.
-use Rattle.std.proofs.Common.{◌≡◌, ◌++◌, length}
+use Rattle.std.proofs.Common.{◌≡◌, ◌≤◌, ◌*◌, ◌++◌, length}
 use Rattle.tab_key.specs.Encoding.{records_at, AreAt}
 use Rattle.tab_mem.specs.Fronts.{AreFronts}
 use Rattle.tab_table.specs.Sizes.{encoded_size}
@@ -9,7 +9,8 @@ abbrev pub invariant-loop-next : goal.invariant-loop-next
 invariant-loop-next g l = record {
   copied : records_at l.body.items l.places.items ++ g.S.Source.rest l.source ≡ g.S.Source.rest l.initial.source;
   within : AreAt l.body.items l.places.items;
-  size : length l.body.items ≡ encoded_size (records_at l.body.items l.places.items);
+  size : l.size ≡ encoded_size (records_at l.body.items l.places.items);
+  few : l.size ≤ 2 * length l.body.items;
   indexed : AreFronts l.fronts.numbers.items (records_at l.body.items l.places.items);
 }
 

@@ -1,4 +1,4 @@
-use Rattle.std.proofs.Common.{rules, ◌≡◌, sym, subst, length}
+use Rattle.std.proofs.Common.{rules, ◌≡◌, sym, subst}
 use Rattle.tab_iter.specs.Lists.{IsRising, HasI64Timestamps}
 use Rattle.tab_iter.proofs.ListLaws.{rising_end, in_end}
 use Rattle.tab_key.specs.Encoding.{records_at, AreAt}
@@ -26,5 +26,5 @@ invariant_of-result g c =
       rising = moved (λ x y. IsRising (records_at x y)) b0 b p0 p eb ep (subst IsRising (sym all) (rising_end rest whole suffix (g.met.S.Source.whole_rises source)));
       timestamps = moved (λ x y. HasI64Timestamps (records_at x y)) b0 b p0 p eb ep (subst HasI64Timestamps (sym all) (λ u h. g.met.S.Source.has_i64_timestamps source u (in_end rest whole suffix u h)));
       indexed = subst (λ ns. AreFronts ns (records_at b p)) (sym same) (moved (λ x y. AreFronts c.in_ok-body.field-0.fronts.numbers.items (records_at x y)) b0 b p0 p eb ep c.in_ok-body.ensures.indexed);
-      sized = moved (λ x y. length x ≡ encoded_size (records_at x y)) b0 b p0 p eb ep c.in_ok-body.ensures.size;
+      sized = moved (λ x y. c.in_ok-body.field-0.size ≡ encoded_size (records_at x y)) b0 b p0 p eb ep c.in_ok-body.ensures.size;
     }
