@@ -25,3 +25,4 @@ pub use Rattle.tab_store.proofs.ChainLaws
 pub use Rattle.tab_store.proofs.Joining
 pub mod Rotated
 pub mod Raised
+pub mod Summed

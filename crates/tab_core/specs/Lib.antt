@@ -11,6 +11,7 @@ pub mod Spending
 pub mod EventReplies
 pub mod Recording
 pub mod Rotating
+pub mod Totals
 pub mod Comparing
 pub mod ComparingExamples
 pub use Rattle.tab_store.specs.Stores

@@ -17,13 +17,15 @@
 //! | `base` | what a core holds, as data, on which a history begins |
 //! | `event_reply`, `recording` | what an event is told, copied, and the step whose history is recorded |
 //! | `slots`, `sessions`, `job_slots` | the sessions of one user, those of all users by name, and the jobs of all |
+//! | `ranges_reader` | how the ranges of a session are read |
+//! | `totals` | what all tables hold, counted |
 //! | `running` | runs of steps |
 //! | `comparing` | two runs compared by what one user is told in them |
 //!
 //! Of the definitions in `specs`, `Stepping` says what a step does, `Holding` what a store holds, `Bounded` which limits a core keeps to
 //! beside those of its tables, `EventReplies` what an event is told, `Spending` what is left of an act that was lent, `ByTablet` what each
 //! tablet of a core refines, `Recording` what a step means for a history that is recorded beside the core, `Rotating` the base on which one
-//! begins anew, `Slots`, `Sessions` and `JobSlots` what a run or a script keeps, `Lending` what is left of sessions that were lent, `Owners`
+//! begins anew, `Totals` what all tables hold, `Slots`, `Sessions` and `JobSlots` what a run or a script keeps, `Lending` what is left of sessions that were lent, `Owners`
 //! what a step of a run does, and `Comparing` what two runs tell; `ComparingExamples` computes it for a small history.
 #![tactic(auto)]
 
@@ -39,6 +41,7 @@ mod jobs;
 mod labels;
 mod numbering;
 mod policing;
+mod ranges_reader;
 mod recording;
 mod reply;
 mod running;
@@ -49,6 +52,7 @@ mod splits;
 mod state;
 mod store;
 mod tablets;
+mod totals;
 mod users;
 mod writes;
 
@@ -62,4 +66,4 @@ pub use sessions::{Kept, Sessions};
 pub use slots::Slots;
 pub use state::Core;
 pub use tab_session::Session;
-pub use tab_store::{Due, DueKind, FinishedJob, TabletJob};
+pub use tab_store::{Due, DueKind, FinishedJob, Job, MadeTable, Pending, TabletJob, merge_all};

@@ -10,11 +10,13 @@ ghost use Rattle.tab_core.specs.Stepping.{asked_at};
 
 use crate::Session;
 use crate::checking::ranges_refusal;
+use crate::ranges_reader::{ByThreads, OneByOne, RangesReader};
 use crate::reply::with_session;
 use crate::state::Core;
 use std::alloc::{AllocError, Global};
 use std::marker::Model;
 use std::mem;
+use std::thread::Threads;
 use tab_history::{Act, Refusal, Reply, Scan};
 use tab_key::{Bounds, Cells, Items, MAX_OPENED, MAX_SESSIONS, Name, Part};
 
@@ -51,11 +53,17 @@ impl KeptSession {
     }
 
     // The whole answer in each of the ranges.
-    fn scan_each(&mut self, alloc: Global, ranges: &[Bounds]) -> Result<Items<Cells>, AllocError>
+    fn scan<R: RangesReader>(
+        &mut self,
+        reader: &R,
+        alloc: Global,
+        ranges: &[Bounds],
+    ) -> Result<Items<Cells>, AllocError>
+        requires { R.ready }
         ensures cells { IfOk result (λ cells. cells ≡ cells_in self.old ranges.now) }
         ensures same { self.new ≡ self.old }
     {
-        self.session.scan_each(alloc, ranges)
+        reader.read(alloc, &mut self.session, ranges)
     }
 }
 
@@ -184,11 +192,41 @@ impl Slots {
         ensures answers { ManyFrom self.old slot ranges.now result }
         ensures same { self.new ≡ self.old }
     {
+        self.many_by(&OneByOne, alloc, slot, ranges)
+    }
+
+    /// The same answer, read by several threads where there are 500 ranges or more, as [`Session::scan_many`] reads them. Where memory lacks
+    /// in one of them, it's the whole request that it lacks for.
+    pub fn many_by_threads(
+        &mut self,
+        rt: &(impl Threads + Sync),
+        alloc: Global,
+        slot: u32,
+        ranges: &[Bounds],
+    ) -> Reply
+        ensures answers { ManyFrom self.old slot ranges.now result }
+        ensures same { self.new ≡ self.old }
+    {
+        self.many_by(&ByThreads { rt }, alloc, slot, ranges)
+    }
+
+    // The same answer, read by this reader.
+    fn many_by<R: RangesReader>(
+        &mut self,
+        reader: &R,
+        alloc: Global,
+        slot: u32,
+        ranges: &[Bounds],
+    ) -> Reply
+        requires { R.ready }
+        ensures answers { ManyFrom self.old slot ranges.now result }
+        ensures same { self.new ≡ self.old }
+    {
         let at = slot as usize;
         if at >= self.slots.len() {
             return Reply::Refused(Refusal::NoSession(slot));
         }
-        many_at(alloc, &mut self.slots[at], slot, ranges)
+        many_at(reader, alloc, &mut self.slots[at], slot, ranges)
     }
 
     /// Closes the session in the slot.
@@ -222,25 +260,38 @@ fn keep(slots: &mut Vec<Option<KeptSession>>, open: &mut usize, session: Option<
 }
 
 // The whole answer of the session at the slot's place, in each of the ranges.
-fn many_at(alloc: Global, place: &mut Option<KeptSession>, slot: u32, ranges: &[Bounds]) -> Reply
+fn many_at<R: RangesReader>(
+    reader: &R,
+    alloc: Global,
+    place: &mut Option<KeptSession>,
+    slot: u32,
+    ranges: &[Bounds],
+) -> Reply
+    requires { R.ready }
     ensures answers { (result ≡ many_answer place.old slot ranges.now) ⊎ (result ≡ Reply.Refused Refusal.NoMemory) }
     ensures same { place.new ≡ place.old }
 {
     match place {
         None => Reply::Refused(Refusal::NoSession(slot)),
-        Some(session) => in_ranges(alloc, session, ranges),
+        Some(session) => in_ranges(reader, alloc, session, ranges),
     }
 }
 
 // The session's whole answer in each of the ranges, or what is wrong with these.
-fn in_ranges(alloc: Global, session: &mut KeptSession, ranges: &[Bounds]) -> Reply
+fn in_ranges<R: RangesReader>(
+    reader: &R,
+    alloc: Global,
+    session: &mut KeptSession,
+    ranges: &[Bounds],
+) -> Reply
+    requires { R.ready }
     ensures answers { (result ≡ ranges_told session.old ranges.now) ⊎ (result ≡ Reply.Refused Refusal.NoMemory) }
     ensures same { session.new ≡ session.old }
 {
     if let Some(refusal) = ranges_refusal(ranges) {
         return Reply::Refused(refusal);
     }
-    match session.scan_each(alloc, ranges) {
+    match session.scan(reader, alloc, ranges) {
         Ok(cells) => Reply::Ranges(cells),
         Err(AllocError) => Reply::Refused(Refusal::NoMemory),
     }

@@ -11,13 +11,15 @@ ghost use Rattle.tab_store.specs.Stepping.{StepsExactly};
 ghost use Rattle.tab_core.specs.Bounded.{WritesBare};
 ghost use Rattle.tab_core.specs.Spending.{left_of};
 ghost use Rattle.tab_core.specs.Stepping.{Steps, StepsWith, IsCore, asked_at, installs_at};
+ghost use Rattle.tab_core.specs.Totals.{totals_of};
 
 use crate::policing::named_slot;
 use crate::reply::{Answer, move_clock};
 use crate::store::Store;
+use crate::totals::totals;
 use std::alloc::{AllocError, Global};
 use std::marker::Model;
-use tab_history::{Act, Event, Refusal, Reply, Scan};
+use tab_history::{Act, Counts, Event, Refusal, Reply, Scan};
 use tab_key::{ByteString, Name};
 use tab_label::KnownLabels;
 use tab_policy::Policy;
@@ -132,6 +134,14 @@ impl Core {
         ensures { IfOk result (λ target. target ≡ target_of due.now self.now.tables) }
     {
         self.store.tables.target(alloc, due)
+    }
+
+    /// What a status tells of each table, summed over all tables; the greatest `u64` for any sum above it. It takes no memory, and time linear
+    /// in the tablets and their sources.
+    pub fn counts(&self) -> Counts
+        ensures { result ≡ totals_of self.now.tables }
+    {
+        totals(&self.store.tables)
     }
 
     /// What each core keeps: nothing is done, and it is known afterwards.

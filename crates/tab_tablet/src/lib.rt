@@ -61,5 +61,5 @@ pub use bounding::{rows_above, rows_up_to};
 pub use due::DueKind;
 pub use freeze::Freeze;
 pub use installed::Installed;
-pub use tab_compact::{Finished, Job};
+pub use tab_compact::{Finished, Job, MadeTable, Pending, merge_all};
 pub use tablet::Tablet;

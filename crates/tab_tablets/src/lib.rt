@@ -51,7 +51,7 @@ mod tablets;
 pub use laws::{lists_in_order, lists_on, restored_are_whole, restored_hold_all};
 pub use split::Split;
 pub use tab_mem::Records;
-pub use tab_tablet::{DueKind, Installed};
+pub use tab_tablet::{DueKind, Installed, Job, MadeTable, Pending, merge_all};
 pub use tab_version::Version;
 pub use tablet_job::{FinishedJob, TabletJob};
 pub use tablets::Tablets;

@@ -6,7 +6,7 @@ use std::alloc::Global;
 use std::marker::Model;
 use tab_iter::NoMemory;
 use tab_key::ByteString;
-use tab_tablet::{Finished, Job};
+use tab_tablet::{Finished, Job, MadeTable, Pending};
 
 /// A merge that was begun in one of the tablets of a table, with the row for which that was found. It is made apart from the table,
 /// which goes on meanwhile. A contract sees it as a `TabletMerge`. (Accumulo user manual: minor and major compactions)
@@ -58,7 +58,26 @@ impl TabletJob {
     }
 }
 
-/// A merge that was made, to be installed in its tablet. Only [`TabletJob::merge`] makes one. A contract sees it as a `TabletMerge`.
+impl Pending for TabletJob {
+    type Done = FinishedJob;
+
+    ghost merge = { λ job. job.merge };
+
+    ghost finishes = { λ job finished. finished ≡ job };
+
+    fn job(&self) -> &Job {
+        &self.job
+    }
+
+    fn finish(self, made: MadeTable) -> FinishedJob {
+        let TabletJob { row, job } = self;
+        let finished = job.with_table(made);
+        FinishedJob { row, finished }
+    }
+}
+
+/// A merge that was made, to be installed in its tablet. Only [`TabletJob::merge`] and [`merge_all`](tab_tablet::merge_all) make one. A
+/// contract sees it as a `TabletMerge`.
 #[derive(Drop)]
 pub struct FinishedJob {
     row: ByteString,
