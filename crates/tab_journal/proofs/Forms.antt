@@ -1,5 +1,5 @@
 -- Fronts, entries and batches are read exactly where they stand.
-use Rattle.std.proofs.Common.{◌≡◌, ℕ, ◌^◌, ◌<◌, ◌≤◌, ◌==◌, true, List, ◌++◌, length, take, drop, Option, Some, None, refl, sym, ap, subst, ◌∙◌, append_assoc, arith}
+use Rattle.std.proofs.Common.{◌≡◌, ℕ, ◌^◌, ◌<◌, ◌≤◌, ◌==◌, Bool, true, false, cond, List, ◌++◌, length, take, drop, Option, Some, None, refl, sym, ap, subst, ◌∙◌, append_assoc, arith}
 use Rattle.std.specs.Prelude.{bytes_eq}
 use Rattle.std.specs.Int.{w32, w64, to_be_bytes, cast_unsigned}
 use Rattle.std.proofs.lemmas.Int.{to_z-of_z}
@@ -8,20 +8,22 @@ use Rattle.std.proofs.lemmas.Slice.Eq.{bytes_eq-Decides}
 use Rattle.std.proofs.lemmas.List.{take_at, drop_at, length-append}
 use Rattle.tab_history.specs.declared.event.Act.{Act}
 use Rattle.tab_history.specs.declared.event.Event.{Event}
-use Rattle.tab_parts.specs.Parts.{IsBytes, IsU32, IsU64, IsI64, IsField, IsNameField}
-use Rattle.tab_parts.specs.Reading.{Reader, and_then, picked, only_if, u32_at, u64_at, i64_at, bytes_at, field_at, name_at, counted_at}
+use Rattle.tab_parts.specs.Parts.{IsBytes, IsU64, IsI64, IsField, IsNameField}
+use Rattle.tab_parts.specs.Reading.{Reader, and_then, picked, u64_at, i64_at, bytes_at, field_at, name_at}
 use Rattle.tab_parts.specs.Exactness.{Exact}
-use Rattle.tab_parts.proofs.Exact.{bytes-drop, bytes-take, some_inj, bind_some, on_bind, exact_as, Follows, exact_then, Picks, exact_picked, exact_u32, exact_u64, exact_bytes, whole_sound, whole_complete}
-use Rattle.tab_parts.proofs.PartLaw.{exact_i64, exact_field, exact_name, exact_counted, only_passed, only_passes, field_long, eq_is}
+use Rattle.tab_parts.proofs.Exact.{bytes-drop, bytes-take, some_inj, bind_some, on_bind, exact_as, Follows, exact_then, Picks, exact_picked, exact_u64, exact_bytes}
+use Rattle.tab_parts.proofs.PartLaw.{exact_i64, exact_field, exact_name, only_passed, only_passes, field_long, eq_is}
 use Rattle.tab_wire.specs.Requests.{request_in}
 use Rattle.tab_wire.specs.declared.request.Request.{Request}
 use Rattle.tab_wire.specs.declared.request.Request.TheVariants as asks
 use Rattle.tab_wire.specs.Replies.{u32, u64, i64, field}
 use Rattle.tab_wire.proofs.RequestLaw.{requests_are_forms}
-use Rattle.tab_journal.specs.Journals.{sum_of, mark, Front, front_summed, IsFront, IsText, IsEntry, AreEntries, Batch, batch_summed, IsBatch}
-use Rattle.tab_journal.specs.Laws.{EntriesAreRead, FitsFront, TextsHaveForm}
+use Rattle.tab_journal.specs.declared.format.Format.{Format}
+use Rattle.tab_journal.specs.declared.format.Format.TheVariants.{Lines, Events}
+use Rattle.tab_journal.specs.Journals.{sum_of, mark, Front, front_summed, IsFront, IsText, IsEntry, Batch, batch_summed, IsBatch}
+use Rattle.tab_journal.specs.Laws.{FitsFront, TextsHaveForm}
 use Rattle.tab_journal.specs.Spelling.{front_bytes, batch_bytes}
-use Rattle.tab_journal.specs.Reading.{front_of, mark_at, front_at, act_of, event_of, entry_at, entries_in, batch_of, batch_at}
+use Rattle.tab_journal.specs.Reading.{format_of, front_of, mark_at, front_at, act_of, event_of, entry_at, batch_of, batch_at}
 
 equal : (n k : ℕ) → n ≡ k → (n == k) ≡ true
 equal n k e = grind (arith, nat_tests, e)
@@ -43,36 +45,46 @@ exact_text = record {
 }
 
 -- ---- the front
-abbrev IsMark : List ℕ → List ℕ → Type 0
-IsMark bytes m = (bytes ≡ mark) × (m ≡ mark)
+abbrev IsMark : List ℕ → Format → Type 0
+IsMark bytes f = bytes ≡ mark f
 
-mark_to : (bytes m : List ℕ) → Picks (λ (bs text : List ℕ). (bs ≡ text) × (length text ≡ 8)) (only_if (bytes_eq mark)) bytes m → IsMark bytes m
-mark_to bytes m p =
-    let e = only_passed (bytes_eq mark) p.first m p.picks in
-    let is : mark ≡ p.first = (bytes_eq-Decides mark p.first).0 e.0 in
-    (p.says.0 ∙ sym is, sym e.1 ∙ sym is)
+format_by : (a b : Bool) (text : List ℕ) (f : Format) → bytes_eq text (mark Lines) ≡ a → bytes_eq text (mark Events) ≡ b → cond a (Some Lines) (cond b (Some Events) None) ≡ Some f → text ≡ mark f
+format_by true b text f first second is = (bytes_eq-Decides text (mark Lines)).0 first ∙ ap mark (some_inj Lines f is)
+format_by false true text f first second is = (bytes_eq-Decides text (mark Events)).0 second ∙ ap mark (some_inj Events f is)
+format_by false false text f first second is = absurd cc
 
-mark_back : (bytes m : List ℕ) → IsMark bytes m → Picks (λ (bs text : List ℕ). (bs ≡ text) × (length text ≡ 8)) (only_if (bytes_eq mark)) bytes m
-mark_back bytes m is = record { first = mark; says = (is.0, refl); picks = only_passes (bytes_eq mark) mark refl ∙ ap (λ (z : List ℕ). Some z) (sym is.1) }
+format_again : (f : Format) → format_of (mark f) ≡ Some f
+format_again Lines = refl
+format_again Events = refl
+
+mark_to : (bytes : List ℕ) (f : Format) → Picks (λ (bs text : List ℕ). (bs ≡ text) × (length text ≡ 8)) format_of bytes f → IsMark bytes f
+mark_to bytes f p = p.says.0 ∙ format_by (bytes_eq p.first (mark Lines)) (bytes_eq p.first (mark Events)) p.first f refl refl p.picks
+
+mark_long : (f : Format) → length (mark f) ≡ 8
+mark_long Lines = refl
+mark_long Events = refl
+
+mark_back : (bytes : List ℕ) (f : Format) → IsMark bytes f → Picks (λ (bs text : List ℕ). (bs ≡ text) × (length text ≡ 8)) format_of bytes f
+mark_back bytes f is = record { first = mark f; says = (is, mark_long f); picks = format_again f }
 
 exact_mark : Exact mark_at IsMark
 unfolding mark_at
-exact_mark = exact_as IsMark (exact_picked (only_if (bytes_eq mark)) (bytes_at 8) (λ bs text. (bs ≡ text) × (length text ≡ 8)) (exact_bytes 8)) mark_to mark_back
+exact_mark = exact_as IsMark (exact_picked format_of (bytes_at 8) (λ bs text. (bs ≡ text) × (length text ≡ 8)) (exact_bytes 8)) mark_to mark_back
 
 abbrev FrontParts : List ℕ → Front → Type 0
-FrontParts = Follows IsMark (λ _. Follows IsU64 (λ g. Follows IsU64 (λ n. Follows IsI64 (λ c. Follows IsU64 (λ s. Picks IsU64 (front_of g n c s))))))
+FrontParts = Follows IsMark (λ x. Follows IsU64 (λ g. Follows IsU64 (λ n. Follows IsI64 (λ c. Follows IsU64 (λ s. Picks IsU64 (front_of x g n c s))))))
 
 abbrev front_parts_at : Reader Front
-front_parts_at = and_then mark_at (λ _. and_then u64_at (λ g. and_then u64_at (λ n. and_then i64_at (λ c. and_then u64_at (λ s. picked (front_of g n c s) u64_at)))))
+front_parts_at = and_then mark_at (λ x. and_then u64_at (λ g. and_then u64_at (λ n. and_then i64_at (λ c. and_then u64_at (λ s. picked (front_of x g n c s) u64_at)))))
 
 exact_front_parts : Exact front_parts_at FrontParts
 exact_front_parts =
-    exact_then mark_at IsMark _ _ exact_mark (λ _.
+    exact_then mark_at IsMark _ _ exact_mark (λ x.
     exact_then u64_at IsU64 _ _ exact_u64 (λ g.
     exact_then u64_at IsU64 _ _ exact_u64 (λ n.
     exact_then i64_at IsI64 _ _ exact_i64 (λ c.
     exact_then u64_at IsU64 _ _ exact_u64 (λ s.
-    exact_picked (front_of g n c s) u64_at IsU64 exact_u64)))))
+    exact_picked (front_of x g n c s) u64_at IsU64 exact_u64)))))
 
 front_to : (bytes : List ℕ) (f : Front) → FrontParts bytes f → IsFront bytes f
 front_to bytes f a =
@@ -81,31 +93,31 @@ front_to bytes f a =
     let d = c.next in
     let e = d.next in
     let p = e.next in
-    let made : Front = record { generation = b.first; next = c.first; clock = d.first; salt = e.first; sum = p.first } in
-    let is = only_passed (λ (x : Front). x.sum == sum_of (front_summed x.generation x.next x.clock x.salt)) made f p.picks in
+    let made : Front = record { format = a.first; generation = b.first; next = c.first; clock = d.first; salt = e.first; sum = p.first } in
+    let is = only_passed (λ (x : Front). x.sum == sum_of (front_summed x.format x.generation x.next x.clock x.salt)) made f p.picks in
     subst (λ (x : Front). IsFront bytes x) is.1 (record {
       g = b.front;
       n = c.front;
       c = d.front;
       s = e.front;
       m = e.back;
-      spelled = a.parts ∙ ap (λ (z : List ℕ). z ++ a.back) a.says.0 ∙ ap (λ (z : List ℕ). mark ++ z)
+      spelled = a.parts ∙ ap (λ (z : List ℕ). z ++ a.back) a.says ∙ ap (λ (z : List ℕ). mark a.first ++ z)
           (b.parts ∙ ap (λ (z : List ℕ). b.front ++ z) (c.parts ∙ ap (λ (z : List ℕ). c.front ++ z) (d.parts ∙ ap (λ (z : List ℕ). d.front ++ z) e.parts)));
       generation = b.says;
       next = c.says;
       clock = d.says;
       salt = e.says;
       sum = p.says;
-      fits = eq_is p.first (sum_of (front_summed b.first c.first d.first e.first)) is.0;
+      fits = eq_is p.first (sum_of (front_summed a.first b.first c.first d.first e.first)) is.0;
     })
 
 front_back : (bytes : List ℕ) (f : Front) → IsFront bytes f → FrontParts bytes f
 front_back bytes f is = record {
-  first = mark;
-  front = mark;
+  first = f.format;
+  front = mark f.format;
   back = is.g ++ (is.n ++ (is.c ++ (is.s ++ is.m)));
   parts = is.spelled;
-  says = (refl, refl);
+  says = refl;
   next = record {
     first = f.generation;
     front = is.g;
@@ -133,7 +145,7 @@ front_back bytes f is = record {
           next = record {
             first = f.sum;
             says = is.sum;
-            picks = only_passes (λ (x : Front). x.sum == sum_of (front_summed x.generation x.next x.clock x.salt)) f (equal f.sum (sum_of (front_summed f.generation f.next f.clock f.salt)) is.fits);
+            picks = only_passes (λ (x : Front). x.sum == sum_of (front_summed x.format x.generation x.next x.clock x.salt)) f (equal f.sum (sum_of (front_summed f.format f.generation f.next f.clock f.salt)) is.fits);
           };
         };
       };
@@ -147,7 +159,7 @@ exact_front = exact_as IsFront exact_front_parts front_to front_back
 
 pub front_long : (bytes : List ℕ) (f : Front) → IsFront bytes f → length bytes ≡ 48
 front_long bytes f is =
-    let len : length bytes ≡ length (mark ++ (is.g ++ (is.n ++ (is.c ++ (is.s ++ is.m))))) = ap (λ (z : List ℕ). length z) is.spelled in
+    let len : length bytes ≡ length (mark f.format ++ (is.g ++ (is.n ++ (is.c ++ (is.s ++ is.m))))) = ap (λ (z : List ℕ). length z) is.spelled in
     let g : length is.g ≡ 8 = ap (λ (z : List ℕ). length z) is.generation.0 in
     let n : length is.n ≡ 8 = ap (λ (z : List ℕ). length z) is.next.0 in
     let c : length is.c ≡ 8 = ap (λ (z : List ℕ). length z) is.clock.1.0 in
@@ -161,6 +173,8 @@ front_long bytes f is =
       c,
       s,
       m,
+      mark_long f.format,
+      length-append (mark f.format) (is.g ++ (is.n ++ (is.c ++ (is.s ++ is.m)))),
       length-append is.g (is.n ++ (is.c ++ (is.s ++ is.m))),
       length-append is.n (is.c ++ (is.s ++ is.m)),
       length-append is.c (is.s ++ is.m),
@@ -231,18 +245,11 @@ pub exact_entry : Exact entry_at IsEntry
 unfolding entry_at
 exact_entry = exact_as IsEntry exact_entry_parts entry_to entry_back
 
-entry_long : (bytes : List ℕ) (e : Event) → IsEntry bytes e → 16 ≤ length bytes
+pub entry_long : (bytes : List ℕ) (e : Event) → IsEntry bytes e → 16 ≤ length bytes
 entry_long bytes e is =
     let len : length bytes ≡ length (is.c ++ (is.u ++ is.f)) = ap (λ (z : List ℕ). length z) is.spelled in
     let c : length is.c ≡ 8 = ap (λ (z : List ℕ). length z) is.moment.1.0 in
     omega (arith, len, c, length-append is.c (is.u ++ is.f), length-append is.u is.f, field_long is.u e.user is.user.0, field_long is.f is.body is.text.0)
-
-exact_entries : Exact (counted_at u32_at 16 entry_at) AreEntries
-exact_entries = exact_counted u32_at IsU32 16 entry_at IsEntry exact_u32 exact_entry entry_long
-
-pub entries_are_read : EntriesAreRead
-unfolding entries_in
-entries_are_read bytes es fits = (whole_sound (counted_at u32_at 16 entry_at) AreEntries exact_entries bytes es fits, whole_complete (counted_at u32_at 16 entry_at) AreEntries exact_entries bytes es)
 
 -- ---- batches
 module _ (salt before : ℕ) where

@@ -1,5 +1,10 @@
 pub mod Forms
+pub mod Entries
+pub mod Asked
 pub mod Whole
 pub mod Hashing
 pub mod Steps
+pub mod Spelled
+pub mod Keeping
 pub mod Texts
+pub mod Stretching

@@ -2,10 +2,12 @@
 use Rattle.std.specs.Prelude.{ℕ, ℤ, ◌≡◌, List, [], ◌∷◌, ◌++◌, codes}
 use Rattle.std.specs.Hash.DefaultHasher.{initial, write, finish}
 use Rattle.tab_history.specs.declared.event.Event.{Event}
-use Rattle.tab_parts.specs.Parts.{IsBytes, IsU32, IsU64, IsI64, IsField, IsNameField, IsCounted}
+use Rattle.tab_parts.specs.Parts.{IsBytes, IsU64, IsI64, IsField, IsNameField, AreParts}
 use Rattle.tab_wire.specs.Forms.{IsRequest}
 use Rattle.tab_wire.specs.Replies.{u64, i64, field}
 use Rattle.tab_wire.specs.declared.request.Request.TheVariants as asks
+use Rattle.tab_journal.specs.declared.format.Format.{Format}
+use Rattle.tab_journal.specs.declared.format.Format.TheVariants.{Lines, Events}
 
 -- ---- sums
 -- the sum of some bytes: SipHash-1-3 with both keys 0
@@ -13,21 +15,28 @@ unfoldable pub sum_of : List ℕ → ℕ
 sum_of bytes = finish (write initial bytes)
 
 -- ---- the front
--- which journal it is; the number of the next mutation, and the clock, of the core that it goes on from; a number by which its sums differ from those of others
+-- what its batches keep; which journal it is; the number of the next mutation, and the clock, of the core that it goes on from; a number by which its sums
+-- differ from those of others
 pub record Front : Type 0 where
+  pub format : Format
   pub generation : ℕ
   pub next : ℕ
   pub clock : ℤ
   pub salt : ℕ
   pub sum : ℕ
 
+-- the version of the form of a journal goes by what its batches keep
+abbrev pub version_of : Format → ℕ
+version_of Lines = 1
+version_of Events = 2
+
 -- what a journal begins with: six bytes and the version
-abbrev pub mark : List ℕ
-mark = codes "TABJRN" ++ 0 ∷ 1 ∷ []
+abbrev pub mark : Format → List ℕ
+mark format = codes "TABJRN" ++ 0 ∷ version_of format ∷ []
 
 -- what the sum of a front is taken of
-unfoldable pub front_summed : ℕ → ℕ → ℤ → ℕ → List ℕ
-front_summed generation next clock salt = mark ++ (u64 generation ++ (u64 next ++ (i64 clock ++ u64 salt)))
+unfoldable pub front_summed : Format → ℕ → ℕ → ℤ → ℕ → List ℕ
+front_summed format generation next clock salt = mark format ++ (u64 generation ++ (u64 next ++ (i64 clock ++ u64 salt)))
 
 -- 48 bytes: the mark, three numbers, the salt, and the sum
 pub record IsFront (bytes : List ℕ) (f : Front) : Type 0 where
@@ -36,13 +45,13 @@ pub record IsFront (bytes : List ℕ) (f : Front) : Type 0 where
   pub c : List ℕ
   pub s : List ℕ
   pub m : List ℕ
-  pub spelled : bytes ≡ mark ++ (g ++ (n ++ (c ++ (s ++ m))))
+  pub spelled : bytes ≡ mark f.format ++ (g ++ (n ++ (c ++ (s ++ m))))
   pub generation : IsU64 g f.generation
   pub next : IsU64 n f.next
   pub clock : IsI64 c f.clock
   pub salt : IsU64 s f.salt
   pub sum : IsU64 m f.sum
-  pub fits : f.sum ≡ sum_of (front_summed f.generation f.next f.clock f.salt)
+  pub fits : f.sum ≡ sum_of (front_summed f.format f.generation f.next f.clock f.salt)
 
 -- ---- batches
 -- how many bytes of the journal were on the disk when it was written, the bytes that it keeps, and its sum
@@ -93,6 +102,6 @@ pub record IsEntry (bytes : List ℕ) (e : Event) : Type 0 where
   pub text : IsText f body
   pub act : IsRequest body (asks.Act e.act)
 
--- the bytes of a batch are these entries, the oldest first: their count, and each of them
+-- these bytes are these entries, the oldest first, one behind the other
 abbrev pub AreEntries : List ℕ → List Event → Type 0
-AreEntries = IsCounted IsU32 IsEntry
+AreEntries = AreParts IsEntry

@@ -44,7 +44,7 @@ pub record FitsFront (f : Front) : Type 0 where
   pub bits : cast_unsigned w64 f.clock < 2 ^ 64
   pub salt : f.salt < 2 ^ 64
   pub sum : f.sum < 2 ^ 64
-  pub right : f.sum ≡ sum_of (front_summed f.generation f.next f.clock f.salt)
+  pub right : f.sum ≡ sum_of (front_summed f.format f.generation f.next f.clock f.salt)
 
 abbrev pub TextsHaveForm : Type 0
 TextsHaveForm =

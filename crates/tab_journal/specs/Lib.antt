@@ -1,6 +1,9 @@
 pub mod Journals
 pub mod Reading
 pub mod Spelling
+pub mod Fitting
+pub mod Stretches
+pub mod Gathering
 pub mod Laws
 pub mod Said
 pub mod Examples

@@ -1,22 +1,28 @@
 -- What the bytes of a journal say, as a function.
-use Rattle.std.specs.Prelude.{ℕ, ℤ, zero, suc, ◌==◌, List, [], ◌∷◌, length, bytes_eq, Option, Some, None, unwrap_or}
+use Rattle.std.specs.Prelude.{ℕ, ℤ, zero, suc, ◌==◌, List, [], ◌∷◌, length, bytes_eq, Option, Some, None, unwrap_or, if◌then◌else◌}
 use Rattle.tab_history.specs.declared.event.Act.{Act}
 use Rattle.tab_history.specs.declared.event.Event.{Event}
-use Rattle.tab_parts.specs.Reading.{◌>>=◌, Reader, and_then, picked, only_if, whole, u32_at, u64_at, i64_at, bytes_at, field_at, name_at, counted_at}
+use Rattle.tab_parts.specs.Reading.{◌>>=◌, Reader, and_then, mapped, picked, only_if, whole, u64_at, i64_at, bytes_at, field_at, is_name, name_at}
 use Rattle.tab_wire.specs.Requests.{request_in}
 use Rattle.tab_wire.specs.declared.request.Request.{Request}
 use Rattle.tab_wire.specs.declared.request.Request.TheVariants as asks
+use Rattle.tab_journal.specs.declared.format.Format.{Format}
+use Rattle.tab_journal.specs.declared.format.Format.TheVariants.{Lines, Events}
 use Rattle.tab_journal.specs.Journals.{sum_of, mark, Front, front_summed, Batch, batch_summed}
 
 -- ---- the front
-abbrev pub front_of : ℕ → ℕ → ℤ → ℕ → ℕ → Option Front
-front_of generation next clock salt sum = only_if (λ (f : Front). f.sum == sum_of (front_summed f.generation f.next f.clock f.salt)) (record { generation = generation; next = next; clock = clock; salt = salt; sum = sum })
+abbrev pub front_of : Format → ℕ → ℕ → ℤ → ℕ → ℕ → Option Front
+front_of format generation next clock salt sum = only_if (λ (f : Front). f.sum == sum_of (front_summed f.format f.generation f.next f.clock f.salt)) (record { format = format; generation = generation; next = next; clock = clock; salt = salt; sum = sum })
 
-unfoldable pub mark_at : Reader (List ℕ)
-mark_at bytes = picked (only_if (bytes_eq mark)) (bytes_at 8) bytes
+-- the format whose mark this is
+abbrev pub format_of : List ℕ → Option Format
+format_of text = if bytes_eq text (mark Lines) then Some Lines else if bytes_eq text (mark Events) then Some Events else None
+
+unfoldable pub mark_at : Reader Format
+mark_at bytes = picked format_of (bytes_at 8) bytes
 
 unfoldable pub front_at : Reader Front
-front_at bytes = and_then mark_at (λ _. and_then u64_at (λ generation. and_then u64_at (λ next. and_then i64_at (λ clock. and_then u64_at (λ salt. picked (front_of generation next clock salt) u64_at))))) bytes
+front_at bytes = and_then mark_at (λ format. and_then u64_at (λ generation. and_then u64_at (λ next. and_then i64_at (λ clock. and_then u64_at (λ salt. picked (front_of format generation next clock salt) u64_at))))) bytes
 
 -- ---- batches
 abbrev pub batch_of : ℕ → ℕ → ℕ → List ℕ → ℕ → Option Batch
@@ -53,9 +59,35 @@ act_of asked = None
 abbrev pub event_of : ℤ → List ℕ → List ℕ → Option Event
 event_of moment user body = act_of (request_in body) >>= λ act. Some (record { user = user; moment = moment; act = act })
 
+-- an entry of which neither the name nor the act is read yet
+pub record Parts : Type 0 where
+  pub moment : ℤ
+  pub user : List ℕ
+  pub body : List ℕ
+
+unfoldable pub parts_at : Reader Parts
+parts_at bytes = and_then i64_at (λ moment. and_then field_at (λ user. mapped (λ body. record { moment = moment; user = user; body = body }) field_at)) bytes
+
+-- the entry of this moment, user and body, before these bytes
+abbrev pub entry_of : ℤ → List ℕ → List ℕ → List ℕ → Option (Event × List ℕ)
+entry_of moment user body rest = event_of moment user body >>= λ e. Some (e, rest)
+
+-- the same of parts
+abbrev pub entry_of_parts : Parts × List ℕ → Option (Event × List ℕ)
+entry_of_parts p = only_if is_name p.0.user >>= λ user. entry_of p.0.moment user p.0.body p.1
+
 unfoldable pub entry_at : Reader Event
 entry_at bytes = and_then i64_at (λ moment. and_then name_at (λ user. picked (event_of moment user) field_at)) bytes
 
--- a count, and that many entries of at least 16 bytes each
+-- at most so many entries, and what stands behind them
+abbrev pub entries_within : ℕ → List ℕ → List Event × List ℕ
+entries_within zero bytes = ([], bytes)
+entries_within (suc k) bytes = unwrap_or (entry_at bytes >>= λ e. let behind = entries_within k e.1 in Some (e.0 ∷ behind.0, behind.1)) ([], bytes)
+
+-- the entries in front, and what is left behind them: no entry
+unfoldable pub entries_from : List ℕ → List Event × List ℕ
+entries_from bytes = entries_within (length bytes) bytes
+
+-- the entries, where nothing is left
 unfoldable pub entries_in : List ℕ → Option (List Event)
-entries_in body = whole (counted_at u32_at 16 entry_at body)
+entries_in bytes = whole (Some (entries_from bytes))

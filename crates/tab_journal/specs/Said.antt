@@ -8,7 +8,7 @@ use Rattle.tab_journal.specs.Journals.{Front, Batch}
 use Rattle.tab_journal.specs.Reading.{Journal}
 
 abbrev pub front_in : TheFront → Front
-front_in f = record { generation = f.generation; next = f.next; clock = f.clock; salt = f.salt; sum = f.sum }
+front_in f = record { format = f.format; generation = f.generation; next = f.next; clock = f.clock; salt = f.salt; sum = f.sum }
 
 abbrev pub batch_in : TheBatch → Batch
 batch_in b = record { settled = b.settled; body = b.body.now; sum = b.sum }

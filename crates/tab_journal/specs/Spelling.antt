@@ -1,6 +1,11 @@
 -- The bytes that are written.
-use Rattle.std.specs.Prelude.{ℕ, List, ◌++◌}
+use Rattle.std.specs.Prelude.{ℕ, List, [], ◌++◌, cond}
+use Rattle.std.specs.List.{flat_map}
+use Rattle.tab_history.specs.declared.event.Act.{Act}
+use Rattle.tab_history.specs.declared.event.Event.{Event}
+use Rattle.tab_lasting.specs.Lasting.{leaves_trace}
 use Rattle.tab_wire.specs.Replies.{u64, i64, field}
+use Rattle.tab_wire.specs.Sending.{act_bytes}
 use Rattle.tab_journal.specs.Journals.{sum_of, mark, Front, batch_summed}
 
 -- of a batch that keeps these bytes, behind this sum
@@ -9,4 +14,16 @@ batch_bytes salt before settled body = u64 settled ++ (field body ++ u64 (sum_of
 
 -- of a front
 abbrev pub front_bytes : Front → List ℕ
-front_bytes f = mark ++ (u64 f.generation ++ (u64 f.next ++ (i64 f.clock ++ (u64 f.salt ++ u64 f.sum))))
+front_bytes f = mark f.format ++ (u64 f.generation ++ (u64 f.next ++ (i64 f.clock ++ (u64 f.salt ++ u64 f.sum))))
+
+-- of an event that was done, at the clock that it met: that clock, the user, and the body of a frame that asks the act
+abbrev pub entry_bytes : Event → List ℕ
+entry_bytes e = i64 e.moment ++ (field e.user ++ field (act_bytes e.act))
+
+-- of several, one behind the other
+abbrev pub entries_bytes : List Event → List ℕ
+entries_bytes = flat_map entry_bytes
+
+-- of an act, where it leaves something
+abbrev pub trace_bytes : Act → List ℕ
+trace_bytes act = cond (leaves_trace act) (act_bytes act) []

@@ -1,10 +1,11 @@
 //! The front of a journal: its text, and what is read of it.
 ghost use Rattle.std.specs.Prelude.{◌≡◌, IfOk, option_map};
-ghost use Rattle.tab_journal.specs.Journals.{sum_of, front_summed, mark};
+ghost use Rattle.tab_journal.specs.Journals.{sum_of, front_summed};
 ghost use Rattle.tab_journal.specs.Reading.{front_at, mark_at};
 ghost use Rattle.tab_journal.specs.Said.{front_in};
 ghost use Rattle.tab_journal.specs.Spelling.{front_bytes};
 
+use crate::format::{Format, format_of, mark_of};
 use crate::sums::front_sum;
 use crate::taking::{take_long, take_signed};
 use std::alloc::{AllocError, Global};
@@ -12,6 +13,8 @@ use std::alloc::{AllocError, Global};
 /// What a journal begins with.
 #[derive(Clone, Copy, Debug, PartialEq, Eq)]
 pub struct Front {
+    /// What the batches keep.
+    pub format: Format,
     /// Which journal it is.
     pub generation: u64,
     /// The number of the next mutation of the core that it goes on from.
@@ -26,16 +29,17 @@ pub struct Front {
 
 impl Front {
     /// A front with these numbers, and its sum.
-    pub fn new(generation: u64, next: u64, clock: i64, salt: u64) -> Front
-        ensures sum { result.sum ≡ sum_of (front_summed generation next clock salt) }
-        ensures numbers { result ≡ record { generation = generation; next = next; clock = clock; salt = salt; sum = result.sum } }
+    pub fn new(format: Format, generation: u64, next: u64, clock: i64, salt: u64) -> Front
+        ensures sum { result.sum ≡ sum_of (front_summed format generation next clock salt) }
+        ensures numbers { result ≡ record { format = format; generation = generation; next = next; clock = clock; salt = salt; sum = result.sum } }
     {
         Front {
+            format,
             generation,
             next,
             clock,
             salt,
-            sum: front_sum(generation, next, clock, salt),
+            sum: front_sum(format, generation, next, clock, salt),
         }
     }
 }
@@ -45,7 +49,7 @@ pub fn front_text(alloc: Global, front: Front) -> Result<Vec<u8>, AllocError>
     ensures { IfOk result (λ text. text.items ≡ front_bytes (front_in front)) }
 {
     let mut text = Vec::new(alloc);
-    text.extend_from_slice(b"TABJRN\x00\x01")?;
+    text.extend_from_slice(&mark_of(front.format))?;
     text.extend_from_slice(&front.generation.to_be_bytes())?;
     text.extend_from_slice(&front.next.to_be_bytes())?;
     text.extend_from_slice(&front.clock.to_be_bytes())?;
@@ -59,17 +63,18 @@ pub fn front_text(alloc: Global, front: Front) -> Result<Vec<u8>, AllocError>
 pub fn take_front(bytes: &[u8]) -> Option<(Front, &[u8])>
     ensures { option_map (λ x. (front_in x.0, x.1.now)) result ≡ front_at bytes.now }
 {
-    let rest = take_mark(bytes)?;
+    let (format, rest) = take_mark(bytes)?;
     let (generation, rest) = take_long(rest)?;
     let (next, rest) = take_long(rest)?;
     let (clock, rest) = take_signed(rest)?;
     let (salt, rest) = take_long(rest)?;
     let (sum, rest) = take_long(rest)?;
-    if sum != front_sum(generation, next, clock, salt) {
+    if sum != front_sum(format, generation, next, clock, salt) {
         return None;
     }
     Some((
         Front {
+            format,
             generation,
             next,
             clock,
@@ -80,10 +85,14 @@ pub fn take_front(bytes: &[u8]) -> Option<(Front, &[u8])>
     ))
 }
 
-// What stands behind the mark.
+// The format whose mark stands in front, and what stands behind it.
 #[tactic(auto, unfolding(crate::specs::Reading::mark_at))]
-fn take_mark(bytes: &[u8]) -> Option<&[u8]>
-    ensures { option_map (λ rest. (mark, rest.now)) result ≡ mark_at bytes.now }
+fn take_mark(bytes: &[u8]) -> Option<(Format, &[u8])>
+    ensures { option_map (λ x. (x.0, x.1.now)) result ≡ mark_at bytes.now }
 {
-    bytes.strip_prefix(b"TABJRN\x00\x01".as_slice())
+    if bytes.len() < 8 {
+        return None;
+    }
+    let (mark, rest) = bytes.split_at(8);
+    Some((format_of(mark)?, rest))
 }

@@ -1,5 +1,6 @@
 //! What holds of journals: laws, each the contract of a function that does nothing.
 ghost use Rattle.tab_journal.specs.Laws.{JournalsAreRead, WholeBatchesAreKept, CutsAreBeginnings, EntriesAreRead, TextsHaveForm};
+ghost use Rattle.tab_journal.specs.Stretches.{GatheredIsLasting};
 
 /// What is read of a journal's bytes is what they say, and bytes that say something are read so.
 pub fn journals_are_read()
@@ -24,4 +25,9 @@ pub fn entries_are_read()
 /// What is written has its form.
 pub fn texts_have_form()
     ensures { TextsHaveForm }
+{}
+
+/// What was gathered entry by entry is what is to be kept of all of them, each at the clock that it met.
+pub fn gathered_is_lasting()
+    ensures { GatheredIsLasting }
 {}

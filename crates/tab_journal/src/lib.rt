@@ -10,27 +10,41 @@
 //!
 //! | File | What |
 //! |---|---|
+//! | `format` | what the batches keep: lines or entries |
 //! | `front`, `batch` | their texts, and what is read of them |
 //! | `reading` | a whole journal, read |
+//! | `lasting`, `fitting` | which events leave a trace, and which fit into the field of an entry |
+//! | `spelling`, `gathered` | the bytes of an entry, and those of a stretch of a history |
+//! | `entry` | an entry, read |
 //! | `sums`, `taking` | sums, and numbers and fields at the front of some bytes |
 //! | `laws` | reading is exactly the forms, and a beginning of a journal says the first of its batches |
 //!
 //! In `specs`, `Journals` says what the bytes of a journal are, as relations, `Reading` reads them, `Spelling` has the bytes that are written,
 //! `Laws` the laws, and `Examples` computes examples. In `proofs`, `Forms` shows that parts are read exactly, `Whole` that journals are, and
-//! what is read of a part of one.
+//! what is read of a part of one. `Stretches` and `Gathering` say what is gathered of a history, entry by entry, and `Fitting` which entries have
+//! a spelling.
 #![tactic(auto)]
 
 mod batch;
+mod entry;
+mod fitting;
+mod format;
 mod front;
+mod gathered;
+mod lasting;
 mod laws;
 mod reading;
+mod spelling;
 mod sums;
 mod taking;
 
 pub use batch::{Batch, batch_text, take_batch};
+pub use entry::next_entry;
+pub use format::Format;
 pub use front::{Front, front_text, take_front};
+pub use gathered::Gathered;
 pub use laws::{
-    cuts_are_beginnings, entries_are_read, journals_are_read, texts_have_form,
+    cuts_are_beginnings, entries_are_read, gathered_is_lasting, journals_are_read, texts_have_form,
     whole_batches_are_kept,
 };
 pub use reading::{Kept, read_journal};

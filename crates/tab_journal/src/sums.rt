@@ -2,15 +2,16 @@
 ghost use Rattle.std.specs.Prelude.{◌≡◌, ◌<◌, ◌^◌, length};
 ghost use Rattle.tab_journal.specs.Journals.{sum_of, front_summed, batch_summed};
 
+use crate::format::{Format, mark_of};
 use std::hash::{DefaultHasher, Hasher};
 
 /// The sum of a front.
 #[tactic(auto, using(crate::proofs::Hashing::front_sums))]
-pub fn front_sum(generation: u64, next: u64, clock: i64, salt: u64) -> u64
-    ensures { result ≡ sum_of (front_summed generation next clock salt) }
+pub fn front_sum(format: Format, generation: u64, next: u64, clock: i64, salt: u64) -> u64
+    ensures { result ≡ sum_of (front_summed format generation next clock salt) }
 {
     let mut hasher = DefaultHasher::new();
-    hasher.write(b"TABJRN\x00\x01");
+    hasher.write(&mark_of(format));
     hasher.write(&generation.to_be_bytes());
     hasher.write(&next.to_be_bytes());
     hasher.write(&clock.to_be_bytes());

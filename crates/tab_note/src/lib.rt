@@ -21,5 +21,9 @@ mod kept_versions;
 mod note;
 mod text;
 
+pub use act::{KeptAct, KeptPermission, KeptScan, PlainAct};
 pub use equal::{same_refusal, same_rights, same_rows};
+pub use kept_name::KeptName;
+pub use kept_versions::KeptVersions;
 pub use note::Note;
+pub use text::Text;

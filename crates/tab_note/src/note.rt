@@ -1,6 +1,7 @@
 //! Events as a history keeps them.
 ghost use Rattle.std.specs.Prelude.{◌≡◌, ◌↔◌, IsTrue, IfOk};
-ghost use Rattle.tab_note.specs.Acts.{is_write};
+ghost use Rattle.tab_key.specs.Names.{IsName};
+ghost use Rattle.tab_note.specs.Acts.{act_in, is_write};
 
 use crate::act::KeptAct;
 use crate::kept_name::KeptName;
@@ -57,11 +58,25 @@ impl Note {
         self.user.as_bytes()
     }
 
+    /// What each note keeps: its caller has a name. Nothing is done, and it is known afterwards.
+    pub fn keeps(&self)
+        ensures { IsName self.now.user }
+    {
+        let _ = self.user.as_bytes();
+    }
+
     /// The moment that the caller handed in.
     pub fn moment(&self) -> i64
         ensures { result ≡ self.now.moment }
     {
         self.moment
+    }
+
+    /// What is asked, as it is kept.
+    pub fn act(&self) -> &KeptAct
+        ensures { act_in result.now ≡ self.now.act }
+    {
+        &self.act
     }
 
     /// Whether it is a Write.

@@ -1,5 +1,5 @@
-//! Bytes that are gathered in memory before they are sent.
-ghost use Rattle.std.specs.Prelude.{◌≡◌, [], false, Some};
+//! Bytes that are gathered in memory before they are sent or kept.
+ghost use Rattle.std.specs.Prelude.{◌≡◌, [], false, Some, take};
 
 use std::alloc::Global;
 use tab_io::{Output, WriteFault};
@@ -28,6 +28,15 @@ impl Gathering {
         ensures lost { self.new.lost ≡ false }
     {
         self.bytes.clear();
+        self.lost = false;
+    }
+
+    /// Forgets all but this many bytes from the front, where there are more. It can be put to again after a fault.
+    pub fn cut(&mut self, count: usize)
+        ensures bytes { self.new.bytes.items ≡ take count self.old.bytes.items }
+        ensures lost { self.new.lost ≡ false }
+    {
+        self.bytes.truncate(count);
         self.lost = false;
     }
 

@@ -50,7 +50,7 @@
 //! | `refusal`, `reply`, `cell_frame` | the frames of refusals and replies, and of a cell: `write_reply` |
 //! | `head`, `frame` | one frame after another, taken of a stream into memory that is used again |
 //! | `conn`, `asked` | the server's side of a connection: what is asked next, and what it is told |
-//! | `asking`, `sending`, `gathering` | the bytes of requests, gathered as a client sends them |
+//! | `asking`, `sending`, `gathering` | the bytes of requests, of parts that are lent, gathered as a client sends them |
 //! | `told`, `answer` | what one frame of a reply tells, and what all frames of one do |
 //! | `client` | the client's side of a connection: `Client` |
 //! | `laws` | reading is exactly the forms, the first reason is told, refusals are read as they are written, a stream is split in one way, a connection makes a legal history |
@@ -93,8 +93,10 @@ mod value;
 
 pub use answer::Answer;
 pub use asked::Asked;
+pub use bits::constraint_bits;
 pub use client::{Client, ReceiveFault, SendFault};
 pub use conn::Conn;
+pub use gathering::Gathering;
 pub use laws::{
     reasons_are_first, refusals_are_told, requests_are_forms, requests_in_turn, streams_split_once,
     talks_stay_legal,
@@ -105,3 +107,8 @@ pub use reason::Reason;
 pub use refusal::write_bad_frame;
 pub use reply::write_reply;
 pub use request::Request;
+pub use sending::{
+    put_auths, put_create, put_horizon, put_marked, put_named, put_row, put_system, put_table,
+    put_versions, put_write,
+};
+pub use value::{Value, put_values};

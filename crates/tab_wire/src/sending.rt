@@ -73,16 +73,16 @@ fn put_act<W: Output>(output: &mut W, act: &Act) -> Result<(), WriteFault>
     }
 }
 
-// An opcode and a name.
-fn put_named<W: Output>(output: &mut W, opcode: u8, name: &[u8]) -> Result<(), WriteFault>
+/// Puts an opcode and a name.
+pub fn put_named<W: Output>(output: &mut W, opcode: u8, name: &[u8]) -> Result<(), WriteFault>
     ensures { Puts W.Output output.old output.new (opcode ∷ field name.now) result }
 {
     put_byte(output, opcode)?;
     put_field(output, name)
 }
 
-// An opcode, a name and a byte.
-fn put_marked<W: Output>(
+/// Puts an opcode, a name and a byte.
+pub fn put_marked<W: Output>(
     output: &mut W,
     opcode: u8,
     name: &[u8],
@@ -118,7 +118,12 @@ fn put_two<W: Output>(output: &mut W, opcode: u8, number: u32, other: u32) -> Re
     )
 }
 
-fn put_row<'a, W: Output>(output: &mut W, table: &'a [u8], row: &'a [u8]) -> Result<(), WriteFault>
+/// Puts what asks that a tablet of the table be split at a row.
+pub fn put_row<'a, W: Output>(
+    output: &mut W,
+    table: &'a [u8],
+    row: &'a [u8],
+) -> Result<(), WriteFault>
     ensures { Puts W.Output output.old output.new (17 ∷ (field table.now ++ field row.now)) result }
 {
     put_values(
@@ -127,7 +132,8 @@ fn put_row<'a, W: Output>(output: &mut W, table: &'a [u8], row: &'a [u8]) -> Res
     )
 }
 
-fn put_create<W: Output>(
+/// Puts what asks for a new table.
+pub fn put_create<W: Output>(
     output: &mut W,
     table: &[u8],
     time: TimeMode,
@@ -146,7 +152,12 @@ fn put_create<W: Output>(
     )
 }
 
-fn put_versions<W: Output>(output: &mut W, table: &[u8], versions: u32) -> Result<(), WriteFault>
+/// Puts what asks that the table show so many versions.
+pub fn put_versions<W: Output>(
+    output: &mut W,
+    table: &[u8],
+    versions: u32,
+) -> Result<(), WriteFault>
     ensures { Puts W.Output output.old output.new (21 ∷ (field table.now ++ u32 versions)) result }
 {
     put_values(
@@ -159,7 +170,8 @@ fn put_versions<W: Output>(output: &mut W, table: &[u8], versions: u32) -> Resul
     )
 }
 
-fn put_horizon<W: Output>(output: &mut W, table: &[u8], horizon: i64) -> Result<(), WriteFault>
+/// Puts what asks for a horizon of the table.
+pub fn put_horizon<W: Output>(output: &mut W, table: &[u8], horizon: i64) -> Result<(), WriteFault>
     ensures { Puts W.Output output.old output.new (22 ∷ (field table.now ++ i64 horizon)) result }
 {
     put_values(
@@ -172,7 +184,8 @@ fn put_horizon<W: Output>(output: &mut W, table: &[u8], horizon: i64) -> Result<
     )
 }
 
-fn put_auths<'a, W: Output>(
+/// Puts what asks for new authorizations of the user.
+pub fn put_auths<'a, W: Output>(
     output: &mut W,
     user: &'a [u8],
     auths: &'a AuthSet,
@@ -205,7 +218,8 @@ fn put_right<W: Output>(
     }
 }
 
-fn put_system<W: Output>(
+/// Puts an opcode, a user, and a permission for the whole server.
+pub fn put_system<W: Output>(
     output: &mut W,
     opcode: u8,
     user: &[u8],
@@ -224,7 +238,8 @@ fn put_system<W: Output>(
     )
 }
 
-fn put_table<'a, W: Output>(
+/// Puts an opcode, a user, and a permission for a table.
+pub fn put_table<'a, W: Output>(
     output: &mut W,
     opcode: u8,
     user: &'a [u8],
@@ -263,7 +278,12 @@ fn extent_byte(extent: Extent) -> u8
     }
 }
 
-fn put_write<W: Output>(output: &mut W, table: &[u8], mutation: &Mutation) -> Result<(), WriteFault>
+/// Puts what asks for a mutation of the table.
+pub fn put_write<W: Output>(
+    output: &mut W,
+    table: &[u8],
+    mutation: &Mutation,
+) -> Result<(), WriteFault>
     ensures { Puts W.Output output.old output.new (10 ∷ (field table.now ++ mutation_bytes mutation.now)) result }
 {
     put_byte(output, 0x0a)?;

@@ -1,4 +1,4 @@
-use Rattle.tab_journal.proofs.Forms.{entries_are_read}
+use Rattle.tab_journal.proofs.Entries.{entries_are_read}
 use Rattle.tab_journal.proofs.laws.entries_are_read.Goals as goal
 
 pub returns : goal.returns

@@ -1,0 +1,45 @@
+-- What events that are kept fit: names are names, numbers have their widths, and sets stand in their one form.
+use Rattle.std.specs.Prelude.{ℕ, ℤ, ◌≡◌, ◌<◌, ◌≤◌, FitsSigned, Some, length}
+use Rattle.std.specs.Int.{w64}
+use Rattle.std.specs.List.{AllByRecursion, slice_index_or}
+use Rattle.tab_key.specs.Names.{IsName}
+use Rattle.tab_label.specs.Sets.{IsRising}
+use Rattle.tab_mutation.specs.Mutations.{Update, Mutation, IsBare}
+use Rattle.tab_policy.specs.declared.permission.Permission.{Permission}
+use Rattle.tab_policy.specs.declared.permission.Permission.TheVariants.{OfSystem, OfTable}
+use Rattle.tab_rules.specs.Constraints.{constraint_set_of}
+use Rattle.tab_history.specs.declared.event.Act.{Act}
+use Rattle.tab_history.specs.declared.event.Act.TheVariants.{Write, CreateTable, DropTable, SetConstraints, SetVersions, SetHorizon, CreateUser, DropUser, SetAuths, Grant, Revoke, AddSplit}
+
+-- a timestamp, where there is one, has eight bytes
+abbrev pub FitsTime : Update → Type 0
+FitsTime u = (t : ℤ) → u.timestamp ≡ Some t → FitsSigned w64 t
+
+-- markers have no value, and timestamps fit
+pub record FitsMutation (m : Mutation) : Type 0 where
+  pub bare : AllByRecursion IsBare m.updates
+  pub times : (k : ℕ) (d : Update) → k < length m.updates → FitsTime (slice_index_or m.updates k d)
+
+-- a number of versions
+abbrev pub FitsVersions : ℕ → Type 0
+FitsVersions n = (1 ≤ n) × (n ≤ 1000)
+
+abbrev pub FitsPermission : Permission → Type 0
+FitsPermission (OfSystem p) = Unit {0}
+FitsPermission (OfTable p t) = IsName t
+
+-- an act that leaves something
+abbrev pub FitsAct : Act → Type 0
+FitsAct (Write t m) = IsName t × FitsMutation m
+FitsAct (CreateTable t time n) = IsName t × FitsVersions n
+FitsAct (DropTable t) = IsName t
+FitsAct (SetConstraints t cs) = IsName t × (constraint_set_of cs ≡ cs)
+FitsAct (SetVersions t n) = IsName t × FitsVersions n
+FitsAct (SetHorizon t low) = IsName t × FitsSigned w64 low
+FitsAct (CreateUser n) = IsName n
+FitsAct (DropUser n) = IsName n
+FitsAct (SetAuths n auths) = IsName n × IsRising auths
+FitsAct (Grant n p) = IsName n × FitsPermission p
+FitsAct (Revoke n p) = IsName n × FitsPermission p
+FitsAct (AddSplit t row) = IsName t
+FitsAct act = Unit {0}

@@ -1,0 +1,3 @@
+pub mod Going
+pub mod Progress
+pub mod Answered

@@ -1,0 +1,3 @@
+pub mod Recovering
+pub mod Redoing
+pub mod Answering
