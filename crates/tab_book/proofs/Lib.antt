@@ -1,4 +1,5 @@
 pub mod InBlocks
+pub mod Stretches
 pub mod Whole
 pub mod Growing
 pub mod Handing

@@ -14,6 +14,7 @@ use Rattle.tab_core.specs.Rotating.{raised}
 use Rattle.tab_book.specs.Entries.{Posted, Record, past, next_of}
 use Rattle.tab_book.specs.Receipts.{Slip, StandsIn, Has}
 use Rattle.tab_book.specs.Rotating.{Portion, rotation, Leaves}
+use Rattle.tab_book.specs.Slices.{shown, stretch_of}
 
 -- what root asks at 0
 abbrev asks : Act → Event
@@ -96,3 +97,14 @@ not_in_the_book base core has = omega (arith, has.0)
 kept : (base : Base) (core : Held) (left : Record) → Leaves (three base core) (pos 5) (slip 3 unknown) None left
     → left ≡ holding base left.core 0 (made ∷ dropped ∷ refused ∷ unknown ∷ [])
 kept base core left leaves = leaves.1
+
+-- ---- slices
+-- of three entries that are numbered from 4 on, at most two from 5 on are the last two; from 0 on they begin at 4, and there are none at 9
+two_shared : stretch_of 4 (made ∷ dropped ∷ refused ∷ []) 5 2 ≡ record { first = 5; entries = shown dropped ∷ shown refused ∷ [] }
+two_shared = refl
+
+first_shared : stretch_of 4 (made ∷ dropped ∷ refused ∷ []) 0 1 ≡ record { first = 4; entries = shown made ∷ [] }
+first_shared = refl
+
+none_shared : stretch_of 4 (made ∷ dropped ∷ refused ∷ []) 9 2 ≡ record { first = 9; entries = [] }
+none_shared = refl

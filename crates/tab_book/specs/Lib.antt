@@ -1,5 +1,6 @@
 pub mod KeptReplies
 pub mod Entries
+pub mod Slices
 pub mod Blocks
 pub mod HandedOut
 pub mod Installs

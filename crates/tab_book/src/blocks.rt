@@ -1,8 +1,10 @@
 //! Entries in blocks.
-ghost use Rattle.std.specs.Prelude.{◌≡◌, ◌+◌, ◌^◌, ◌<◌, ◌≤◌, ◌⊎◌, ◌∷◌, [], ◌++◌, length, slice_get, Some, None, IfSome, IfNone, OnOk, OnErr};
+ghost use Rattle.std.specs.Prelude.{◌≡◌, ◌+◌, ◌^◌, ◌<◌, ◌≤◌, ◌⊎◌, ◌∷◌, [], ◌++◌, length, map, take, drop, slice_get, Some, None, IfSome, IfNone, IfOk, OnOk, OnErr};
 ghost use Rattle.tab_book.specs.Blocks.{block_at};
+ghost use Rattle.tab_book.specs.Slices.{shown};
 
 use crate::entry::KeptEntry;
+use crate::slice::SharedEntry;
 use std::alloc::{AllocError, Global};
 use std::marker::Model;
 use std::mem;
@@ -90,6 +92,36 @@ impl Blocks {
         }
         let at = number as usize;
         nth(block_of(&self.full, &self.last, at / BLOCK), at % BLOCK)
+    }
+
+    /// The entries from this number on, from 0 on, at most so many, each shared.
+    pub fn stretch(
+        &self,
+        alloc: Global,
+        from: u64,
+        most: u64,
+    ) -> Result<Vec<SharedEntry>, AllocError>
+        ensures { IfOk result (λ shared. shared.items ≡ map shown (take most (drop from self.now.entries))) }
+    {
+        let end = from.saturating_add(most).min(self.count).max(from);
+        let mut shared = Vec::with_capacity(alloc, (end - from) as usize)?;
+        for number in from..end {
+            match self.share_into(number, &mut shared) {
+                Ok(()) => {}
+                Err(_) => return Err(AllocError),
+            }
+        }
+        Ok(shared)
+    }
+
+    // Puts the entry with this number behind those that are shared, if there is one.
+    fn share_into(&self, number: u64, shared: &mut Vec<SharedEntry>) -> Result<(), AllocError>
+        ensures { OnOk result (shared.new.items ≡ shared.old.items ++ map shown (take 1 (drop number self.now.entries))) }
+    {
+        if let Some(entry) = self.get(number) {
+            shared.push(entry.share()?)?;
+        }
+        Ok(())
     }
 }
 

@@ -6,6 +6,7 @@ ghost use Rattle.tab_core.specs.Stepping.{asked_at};
 ghost use Rattle.tab_core.specs.Recording.{RefinesHistory, IsLegalFrom};
 ghost use Rattle.tab_book.specs.Entries.{place, next_of, past};
 ghost use Rattle.tab_book.specs.Receipts.{Applies, Has};
+ghost use Rattle.tab_book.specs.Slices.{stretch_of};
 ghost use Rattle.tab_book.specs.Wholeness.{AreApart, IsWhole};
 
 use crate::blocks::Blocks;
@@ -14,6 +15,7 @@ use crate::posting::post;
 use crate::receipt::Receipt;
 use crate::reservation::Reservation;
 use crate::seat::Seat;
+use crate::slice::{Slice, slice_of};
 use std::alloc::{AllocError, Global};
 use std::marker::Model;
 use std::sync::ledger::{Blank, Book as Tickets, Ledger, Share};
@@ -99,11 +101,18 @@ impl<L: Ledger> Book<L> {
         })
     }
 
-    // The number of the next entry.
-    pub(crate) fn next(&self) -> u64
+    /// The number of the next entry: how many there were.
+    pub fn next(&self) -> u64
         ensures { result ≡ next_of self.now }
     {
         self.first + self.entries.len()
+    }
+
+    /// How many entries it has: those since its history was handed out.
+    pub fn len(&self) -> u64
+        ensures { result ≡ length self.now.entries }
+    {
+        self.entries.len()
     }
 
     /// Whether the next entry's number is above all that the seat saw, as it is of a seat of this book.
@@ -176,6 +185,16 @@ impl<L: Ledger> Book<L> {
             answer,
             told,
         ))
+    }
+
+    /// The entries from this number on, at most so many, each shared with the book: no event and no reply is copied. From a number below that
+    /// of the first entry that is still there they are those from the first on; behind the last one there are none.
+    ///
+    /// It takes memory for 16 bytes an entry, and time by how many these are.
+    pub fn slice(&self, alloc: Global, from: u64, most: u64) -> Result<Slice<L>, AllocError>
+        ensures { IfOk result (λ s. s ≡ stretch_of self.now.first self.now.entries from most) }
+    {
+        slice_of(alloc, self.first, &self.entries, from, most)
     }
 
     // Whether the receipt's entry stands at its number.

@@ -1,9 +1,12 @@
 //! Entries of a history.
-ghost use Rattle.std.specs.Prelude.{◌≡◌, ◌↔◌, IsTrue};
+ghost use Rattle.std.specs.Prelude.{◌≡◌, ◌↔◌, IsTrue, IfOk};
 ghost use Rattle.std.specs.Arc.{arc_value};
 ghost use Rattle.tab_book.specs.KeptReplies.{reply_in};
+ghost use Rattle.tab_book.specs.Slices.{shown};
 
 use crate::kept_reply::KeptReply;
+use crate::slice::SharedEntry;
+use std::alloc::AllocError;
 use std::marker::Model;
 use std::mem::size_of;
 use std::sync::Arc;
@@ -105,6 +108,13 @@ impl KeptEntry {
         ensures { reply_in result.now ≡ self.now.reply }
     {
         &self.reply
+    }
+
+    // What it says, shared.
+    pub(crate) fn share(&self) -> Result<SharedEntry, AllocError>
+        ensures { IfOk result (λ shared. shared ≡ shown self.now) }
+    {
+        Ok(SharedEntry::new(Arc::try_clone(&self.event)?, self.reply.outcome()))
     }
 
     // Whether it is this entry.

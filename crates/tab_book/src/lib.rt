@@ -12,6 +12,8 @@
 //! the core holds. Numbers go on, and so do sessions and jobs. A part is legal from its own base ([`part_is_legal`]) and settles its own
 //! receipts ([`Part::settle`]); two parts of which the second follows on the first are one history ([`parts_are_one_history`]).
 //!
+//! Who writes a history elsewhere takes its entries in a row ([`Book::slice`], [`Part::slice`]): they are shared, not copied.
+//!
 //! An entry takes 216 bytes beside the bytes of its names, its rows and its mutation; what says where a mutation's further updates lie, a
 //! scan's columns and authorizations, and a reply other than done and opened come to that. The event is there once, for the book and for the
 //! receipt. A base keeps the sorted tables that it shares with the core for as long as the book or the part has it: after compactions a table
@@ -29,12 +31,13 @@
 //! | `entry` | entries, as a receipt has them and at rest |
 //! | `blocks` | the entries of a book, in blocks: none moves once its block is full |
 //! | `reservation` | the memory of an entry, which can be found before the book is locked |
-//! | `kept_reply` | replies at rest |
+//! | `kept_reply`, `outcome` | replies at rest, and how the events ended that were told so |
+//! | `slice` | entries of a history in a row, shared |
 //!
 //! Of the definitions in `specs`, `Entries` says what a book is and what each keeps, `Receipts` what a receipt is and what an event does to
 //! a book, `Rotating` what a rotation does, and `Examples` computes them for a small history; `Wholeness` says when receipts are all that a
 //! book gave, `HandedOut` and `Installs` say what goes with a reply and which event a finished
-//! merge comes with, `KeptReplies` which replies are kept, and `Blocks` how entries lie. Events at rest are `tab_note`'s.
+//! merge comes with, `KeptReplies` which replies are kept, `Slices` which entries a slice shares, and `Blocks` how entries lie. Events at rest are `tab_note`'s.
 #![tactic(auto)]
 
 mod blocks;
@@ -44,22 +47,26 @@ mod held;
 mod installation;
 mod installing;
 mod kept_reply;
+mod outcome;
 mod part;
 mod posting;
 mod receipt;
 mod reservation;
 mod rotating;
 mod seat;
+mod slice;
 
 pub use book::{Book, SeatsOut, book_is_legal, receipts_are_whole, settle};
 pub use entry::{Entry, KeptEntry};
 pub use held::Held;
 pub use installation::Installation;
 pub use kept_reply::KeptReply;
+pub use outcome::Outcome;
 pub use part::{Part, part_is_legal, parts_are_one_history};
 pub use receipt::Receipt;
 pub use reservation::Reservation;
 pub use seat::Seat;
+pub use slice::{SharedEntry, Slice};
 pub use tab_note::Note;
 
 #[cfg(test)]

@@ -1,13 +1,16 @@
 //! Histories that are handed out.
-ghost use Rattle.std.specs.Prelude.{◌≡◌, ◌++◌, ◌↔◌, All, IsTrue, IfSome, IfNone, Some, None, length, slice_get};
+ghost use Rattle.std.specs.Prelude.{◌≡◌, ◌++◌, ◌↔◌, All, IsTrue, IfOk, IfSome, IfNone, Some, None, length, slice_get};
 ghost use Rattle.tab_core.specs.Recording.{IsLegalFrom};
 ghost use Rattle.tab_book.specs.Entries.{past};
 ghost use Rattle.tab_book.specs.Receipts.{StandsIn};
 ghost use Rattle.tab_book.specs.Rotating.{FollowsOn};
+ghost use Rattle.tab_book.specs.Slices.{stretch_of};
 
 use crate::blocks::Blocks;
 use crate::entry::KeptEntry;
 use crate::receipt::Receipt;
+use crate::slice::{Slice, slice_of};
+use std::alloc::{AllocError, Global};
 use std::marker::{Model, PhantomData};
 use std::sync::ledger::Ledger;
 use tab_core::Base;
@@ -75,6 +78,13 @@ impl<L: Ledger> Part<L> {
         ensures none { IfNone result (slice_get self.now.entries place ≡ None) }
     {
         self.entries.get(place)
+    }
+
+    /// The entries from this number on, at most so many, each shared with the part: as [`crate::Book::slice`] gives those of a book.
+    pub fn slice(&self, alloc: Global, from: u64, most: u64) -> Result<Slice<L>, AllocError>
+        ensures { IfOk result (λ s. s ≡ stretch_of self.now.first self.now.entries from most) }
+    {
+        slice_of(alloc, self.first, &self.entries, from, most)
     }
 
     /// Whether each receipt's entry stands in it at its number.

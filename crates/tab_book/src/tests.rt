@@ -1,7 +1,7 @@
-//! Rotations, as one seat sees them; and that `settle` says no of a receipt that was changed, which only this crate can do.
+//! Rotations, as one seat sees them; slices; and that `settle` says no of a receipt that was changed, which only this crate can do.
 ghost use Rattle.std.specs.Prelude.{◌≡◌, ◌^◌, ◌≤◌};
 
-use crate::{Book, Part, Receipt, Seat, settle};
+use crate::{Book, Outcome, Part, Receipt, Seat, Slice, settle};
 use std::alloc::{AllocError, Global};
 use std::marker::Brand;
 use std::process::Abort;
@@ -153,4 +153,37 @@ fn refuses_another_reply<L: Ledger, R: Abort>(rt: &R, alloc: Global, blank: Blan
     receipt.number = 0;
     let _done = mem::replace(&mut receipt.entry.reply, Reply::Opened(()));
     assert!(rt; !settle(&book, slice::from_ref(&receipt)));
+}
+
+#[test]
+fn slices_are_the_entries_from_a_number_on(rt: HostRuntime) {
+    shares_entries::<Brand, _>(&rt, rt.alloc(), Blank::new(1 << 32))
+}
+
+fn shares_entries<L: Ledger, R: Abort>(rt: &R, alloc: Global, blank: Blank)
+    requires name { blank.name ≡ L.name }
+    requires parts { blank.parts ≡ L.parts }
+    requires enough { 2 ^ 32 ≤ blank.parts }
+{
+    let (mut book, mut seat) = opened::<L, R>(rt, alloc, blank);
+    let mut receipts = three(rt, alloc, &mut book, &mut seat);
+    let part = four_out(rt, alloc, &mut book, &mut seat, &mut receipts);
+    for _ in 0..2_000 {
+        let _ = saves(rt, alloc, &mut book, &mut seat);
+    }
+    assert!(rt; shared(rt, part.slice(alloc, 1, 2)) == (1, 2));
+    assert!(rt; shared(rt, part.slice(alloc, 3, 9)) == (3, 1));
+    assert!(rt; shared(rt, book.slice(alloc, 0, 1_500)) == (4, 1_500));
+    assert!(rt; shared(rt, book.slice(alloc, 1_000, 5_000)) == (1_000, 1_004));
+    assert!(rt; shared(rt, book.slice(alloc, 9_000, 1)) == (9_000, 0));
+}
+
+// The number of a slice's first entry, and how many it has. Each is a save of root's, which was answered, or his rotation.
+fn shared<L: Ledger, R: Abort>(rt: &R, slice: Result<Slice<L>, AllocError>) -> (u64, usize) {
+    let slice = slice.expect(rt, "memory");
+    for entry in slice.entries() {
+        assert!(rt; entry.outcome() == Outcome::Answered);
+        assert!(rt; entry.event().user() == b"root".as_slice());
+    }
+    (slice.first(), slice.entries().len())
 }

@@ -1,0 +1,58 @@
+//! How events ended.
+ghost use Rattle.std.specs.Prelude.{◌≡◌};
+ghost use Rattle.tab_history.specs.declared.reply.Reply.TheVariants.{Refused};
+ghost use Rattle.tab_core.specs.EventReplies.{told_in};
+ghost use Rattle.tab_book.specs.KeptReplies.{reply_in};
+ghost use Rattle.tab_book.specs.Slices.{outcome_of};
+
+use crate::kept_reply::KeptReply;
+use tab_core::EventReply;
+use tab_history::Refusal;
+use tab_key::Part;
+
+/// How an event ended, as far as what it leaves goes.
+#[derive(Clone, Copy, PartialEq, Eq, Debug)]
+pub enum Outcome {
+    /// It was refused, and left nothing at all: it moved no clock.
+    Void,
+    /// It was refused: it moved the clock, and changed nothing else.
+    Refused,
+    /// It was answered otherwise: it moved the clock, and made its changes.
+    Answered,
+}
+
+impl KeptReply {
+    // How the event ended that was told so.
+    pub(crate) fn outcome(&self) -> Outcome
+        ensures { result ≡ outcome_of (reply_in self.now) }
+    {
+        match self {
+            KeptReply::Done => Outcome::Answered,
+            KeptReply::Opened => Outcome::Answered,
+            KeptReply::Other(told) => outcome_told(told),
+        }
+    }
+}
+
+// How the event ended that was told this.
+fn outcome_told(told: &EventReply) -> Outcome
+    ensures { result ≡ outcome_of (told_in told.now) }
+{
+    match told {
+        EventReply::Refused(refusal) => outcome_refused(refusal),
+        _ => Outcome::Answered,
+    }
+}
+
+// How the event ended that was refused so.
+fn outcome_refused(refusal: &Refusal) -> Outcome
+    ensures { result ≡ outcome_of (Refused refusal.now) }
+{
+    match refusal {
+        Refusal::NoMemory => Outcome::Void,
+        Refusal::NoSession(_) => Outcome::Void,
+        Refusal::NoJob(_) => Outcome::Void,
+        Refusal::TooLarge(Part::Sessions) => Outcome::Void,
+        _ => Outcome::Refused,
+    }
+}
