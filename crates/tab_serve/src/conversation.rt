@@ -16,7 +16,8 @@ fn answer_front<R: Input, W: Output, S: Service>(
     output: &mut W,
     service: &mut S,
 ) -> Result<bool, ServeFault>
-    requires { conn.old.opened ≡ S.opened service.old }
+    requires ready { S.ready }
+    requires opened { conn.old.opened ≡ S.opened service.old }
     ensures goes { Goes R.Input W.Output S.Service (side conn.old service.old) input.old output.old (side conn.new service.new) input.new output.new result }
     ensures spends { IfOk result (λ on. SpendsOn R.Input input.old input.new on) }
     ensures faults { Faults R.Input W.Output result input.old input.new output.old output.new }
@@ -45,7 +46,8 @@ fn answer_all<R: Input, W: Output, S: Service>(
     output: &mut W,
     service: &mut S,
 ) -> Result<(), ServeFault>
-    requires { conn.old.opened ≡ S.opened service.old }
+    requires ready { S.ready }
+    requires opened { conn.old.opened ≡ S.opened service.old }
     ensures goes { GoesAll R.Input W.Output S.Service (side conn.old service.old) input.old output.old (side conn.new service.new) input.new output.new result }
     ensures faults { Faults R.Input W.Output result input.old input.new output.old output.new }
 {
@@ -81,17 +83,18 @@ fn flushed<W: Output>(answered: Result<(), ServeFault>, output: &mut W) -> Resul
 
 /// Answers each frame that is read, until the input ends between two frames, or in what is no frame.
 ///
-/// The service answers each request once, in the order of the frames, as soon as its frame was read; nothing else is asked of it. How the
-/// input is cut into reads makes no difference. Replies are written before a read that may wait. After an error the requests that were
-/// answered have taken effect. After a fault of the reader these are all whose frames stand whole in front of what is left to read, and all
-/// their replies are written.
+/// The service hears each frame, and answers each request once, in the order of the frames, as soon as its frame was read; nothing else is
+/// asked of it. How the input is cut into reads makes no difference. Replies are written before a read that may wait. After an error the
+/// requests that were answered have taken effect. After a fault of the reader these are all whose frames stand whole in front of what is left
+/// to read, and all their replies are written.
 pub fn converse<R: Input, W: Output, S: Service>(
     alloc: Global,
     input: &mut R,
     output: &mut W,
     service: &mut S,
 ) -> Result<(), ServeFault>
-    requires { S.opened service.old ≡ 0 }
+    requires ready { S.ready }
+    requires none { S.opened service.old ≡ 0 }
     ensures answers { Converses R.Input W.Output S.Service service.old input.old output.old service.new input.new output.new result }
     ensures faults { Faults R.Input W.Output result input.old input.new output.old output.new }
 {

@@ -32,6 +32,8 @@ impl<'a, M: Moments> Service for CoreService<'a, M> {
 
     ghost told = { λ s. s.reply.now };
 
+    ghost ready = { Unit {0} };
+
     ghost answers = { λ old user request reply new. CoreAnswers M.gives old user request reply new };
 
     fn answer(&mut self, user: &Name, request: &mut Request) {

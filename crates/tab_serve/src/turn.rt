@@ -33,6 +33,7 @@ fn answer<W: Output, S: Service>(
     output: &mut W,
     service: &mut S,
 ) -> Result<(), WriteFault>
+    requires ready { S.ready }
     requires opened { conn.old.opened ≡ S.opened service.old }
     requires user { is_some conn.old.user ≡ true }
     ensures told { (sent : Sent) × Tells S.Service service.old (heard.Request (unwrap_or conn.old.user []) request.old) sent service.new × Puts W.Output output.old output.new (sent_bytes sent) result }
@@ -51,6 +52,7 @@ fn tell<W: Output, S: Service>(
     output: &mut W,
     service: &mut S,
 ) -> Result<(), WriteFault>
+    requires ready { S.ready }
     requires opened { conn.old.opened ≡ S.opened service.old }
     requires user { HasUser conn.old.user asked.old }
     ensures told { (sent : Sent) × Tells S.Service service.old (heard_by conn.old.user asked.old) sent service.new × Puts W.Output output.old output.new (sent_bytes sent) result }
@@ -79,6 +81,7 @@ fn tell_on<W: Output, S: Service>(
     output: &mut W,
     service: &mut S,
 ) -> Result<bool, ServeFault>
+    requires ready { S.ready }
     requires opened { conn.old.opened ≡ S.opened service.old }
     requires user { HasUser conn.old.user asked.old }
     ensures told { (sent : Sent) × Tells S.Service service.old (heard_by conn.old.user asked.old) sent service.new × PutsOn W.Output output.old output.new (sent_bytes sent) result }
@@ -93,13 +96,14 @@ fn tell_on<W: Output, S: Service>(
     }
 }
 
-// The same of what was read, which is let go then.
+// The same of what was read, which the service hears before, and which is let go then.
 fn tell_read<W: Output, S: Service>(
     conn: &mut Conn,
     mut asked: Asked,
     output: &mut W,
     service: &mut S,
 ) -> Result<bool, ServeFault>
+    requires ready { S.ready }
     requires opened { conn.old.opened ≡ S.opened service.old }
     requires user { HasUser conn.old.user asked }
     ensures told { (sent : Sent) × Tells S.Service service.old (heard_by conn.old.user asked) sent service.new × PutsOn W.Output output.old output.new (sent_bytes sent) result }
@@ -107,6 +111,7 @@ fn tell_read<W: Output, S: Service>(
     ensures user { conn.new.user ≡ conn.old.user }
     ensures opened { conn.new.opened ≡ S.opened service.new }
 {
+    service.hear(&asked);
     tell_on(conn, &mut asked, output, service)
 }
 
@@ -162,7 +167,8 @@ pub fn turn<R: Input, W: Output, S: Service>(
     output: &mut W,
     service: &mut S,
 ) -> Result<bool, ServeFault>
-    requires { conn.old.opened ≡ S.opened service.old }
+    requires ready { S.ready }
+    requires opened { conn.old.opened ≡ S.opened service.old }
     ensures goes { Goes R.Input W.Output S.Service (side conn.old service.old) input.old output.old (side conn.new service.new) input.new output.new result }
     ensures flushes { IfOk result (λ _. FlushesFirst R.Input W.Output input.old output.old output.new) }
     ensures costs { IfOk result (λ on. CostsOn R.Input input.old input.new on) }

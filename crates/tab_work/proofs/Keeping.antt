@@ -73,6 +73,7 @@ module _ {S M : Type 0} (s : Ghosts S) (gives : M → ℤ → M → Type 0) (vie
   keeping = record {
     opened = λ k. s.opened k.0;
     told = λ k. s.told k.0;
+    ready = s.ready;
     answers = λ k user request r k'. Shares gives (having k.1 (view k.0)) (slots_of k.0) user request r (having k'.1 (view k'.0)) (slots_of k'.0) × Lent k.0 k'.0;
   }
 

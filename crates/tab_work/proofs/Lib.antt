@@ -5,3 +5,4 @@ pub mod Joining
 pub mod Keeping
 pub mod Rotated
 pub mod Following
+pub mod Aims

@@ -1,5 +1,7 @@
 pub mod Receiving
 pub mod Rotations
+pub mod Slicing
+pub mod Basing
 pub mod Writes
 pub mod Dues
 pub mod Ends
@@ -8,3 +10,4 @@ pub mod Shares
 pub mod SharedAnswers
 pub mod Sharing
 pub mod Unkept
+pub mod Holdings

@@ -8,13 +8,14 @@ use crate::{Gate, Shared};
 use std::alloc::Global;
 use std::sync::Wait;
 use std::sync::ledger::Ledger;
+use std::thread::Threads;
 use tab_book::Seat;
 use tab_core::Slots;
 use tab_history::Reply;
 use tab_io::{Input, Output};
 use tab_key::Name;
 use tab_serve::{Moments, ServeFault, Service, converse};
-use tab_wire::Request;
+use tab_wire::{Asked, Request};
 
 // A seat that answers the requests of one connection, and forgets the receipts at each of them.
 #[derive(Drop)]
@@ -23,7 +24,9 @@ struct Forgetting<'a, L: Ledger, R, M, G> {
 }
 
 #[tactic(auto, using(crate::proofs::Counting::shares_room, crate::proofs::Counting::shares_opened))]
-impl<'a, L: Ledger, R: Wait, M: Moments, G: Gate> Service for Forgetting<'a, L, R, M, G> {
+impl<'a, L: Ledger, R: Threads + Wait + Sync, M: Moments, G: Gate> Service
+    for Forgetting<'a, L, R, M, G> {
+    ghost use Rattle.std.specs.Thread.{IsSync};
     ghost use Rattle.std.specs.Prelude.{length};
     ghost use Rattle.tab_work.specs.SharedAnswers.{told_by};
     ghost use Rattle.tab_work.specs.Unkept.{Forgets};
@@ -32,11 +35,18 @@ impl<'a, L: Ledger, R: Wait, M: Moments, G: Gate> Service for Forgetting<'a, L, 
 
     ghost told = { λ s. told_by s.service };
 
+    ghost ready = { IsSync R.row };
+
     ghost answers = { λ old user request reply new. Forgets M.gives old.service user request reply new.service };
+
+    fn hear(&self, asked: &Asked) {
+        self.service.hear(asked);
+    }
 
     fn answer(&mut self, user: &Name, request: &mut Request) {
         self.service.receipts.clear();
         self.service.does(user, request);
+        self.service.gate.after_reply(self.service.reply());
     }
 
     fn reply(&self) -> &Reply {
@@ -46,7 +56,14 @@ impl<'a, L: Ledger, R: Wait, M: Moments, G: Gate> Service for Forgetting<'a, L, 
 
 /// Answers each frame that is read as [`serve_shared`](crate::serve_shared) does, and drops each receipt at the next request: the connection's
 /// memory doesn't grow with its events.
-pub(crate) fn serve_forgetting<L: Ledger, R: Wait, I: Input, W: Output, M: Moments, G: Gate>(
+pub fn serve_forgetting<
+    L: Ledger,
+    R: Threads + Wait + Sync,
+    I: Input,
+    W: Output,
+    M: Moments,
+    G: Gate,
+>(
     rt: &R,
     alloc: Global,
     input: &mut I,

@@ -1,12 +1,14 @@
-//! Where work that takes long may be held up, and what follows a write.
+//! Where work that takes long may be held up, and what follows what was done.
 ghost use Rattle.std.specs.Prelude.{◌≡◌, true};
 ghost use Rattle.tab_work.specs.Writes.{is_done_write};
 
 use std::sync::ledger::Ledger;
 use tab_book::Receipt;
 use tab_history::Reply;
+use tab_wire::Asked;
 
-/// What is asked before work that takes long, done outside of the lock, and told of writes: an observer, or in a test whoever holds work up.
+/// What is asked before work that takes long, done outside of the lock, and told of what connections ask and are told: an observer, or in a test
+/// whoever holds work up.
 pub trait Gate {
     /// Before the sources of a compaction are merged.
     fn before_merge(&self);
@@ -16,6 +18,18 @@ pub trait Gate {
 
     /// Behind each Write that was done.
     fn after_write(&self);
+
+    /// Behind each event of a connection, with the number of its entry. By default nothing.
+    fn after_event(&self, _number: u64) {}
+
+    /// Behind each Install of a compactor that was done. By default nothing.
+    fn after_install(&self) {}
+
+    /// At each frame of a connection, before it is told anything. By default nothing.
+    fn hear(&self, _asked: &Asked) {}
+
+    /// Behind each request of a connection, with what it is told. By default nothing.
+    fn after_reply(&self, _reply: &Reply) {}
 }
 
 /// It holds nothing up.

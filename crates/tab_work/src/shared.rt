@@ -6,10 +6,10 @@ ghost use Rattle.tab_book.specs.HandedOut.{session_in};
 ghost use Rattle.tab_book.specs.Installs.{event_of};
 ghost use Rattle.tab_book.specs.Receipts.{Receives};
 ghost use Rattle.tab_serve.specs.Serves.{asked_at};
-ghost use Rattle.tab_work.specs.Dues.{IsDue};
+ghost use Rattle.tab_work.specs.Dues.{AreDue, IsDue};
 ghost use Rattle.tab_work.specs.Receiving.{HandsOut};
 
-use crate::dues::due_in;
+use crate::dues::{due_in, due_list_in};
 use std::alloc::{AllocError, Global};
 use std::sync::ledger::Ledger;
 use std::sync::{Mutex, MutexGuard, Wait};
@@ -86,8 +86,16 @@ impl<L: Ledger> Shared<L> {
         Shared::over(book, false)
     }
 
+    /// The same for a book whose history one of those who share it hands on, as a server's recorder does: a rotation that a connection asks for is
+    /// an entry, behind which [`Shared::is_long`] holds, and hands nothing out.
+    pub fn recorded(book: Book<L>) -> Shared<L>
+        requires { book.back ≡ 0 }
+    {
+        Shared::over(book, true)
+    }
+
     // The same for a book whose history is handed on by one of those who share it, or not.
-    pub(crate) fn over(book: Book<L>, recorded: bool) -> Shared<L>
+    fn over(book: Book<L>, recorded: bool) -> Shared<L>
         requires { book.back ≡ 0 }
     {
         Shared {
@@ -201,6 +209,23 @@ impl<L: Ledger> Shared<L> {
     {
         let desk = self.desk.lock(rt);
         due_in(alloc, &desk.book)
+    }
+
+    /// What is due first, so many works at most and at most one for each tablet, each with the table and the least row of its tablet: the
+    /// first of them is the one of [`Shared::due`]. It takes time linear in the tablets for each kind of work and for each target, and memory
+    /// for the list and the rows.
+    ///
+    /// It is what is due in the book's own core at some moment of the call, as far as that is said of [`Shared::due`].
+    pub fn due_list(
+        &self,
+        rt: &impl Wait,
+        alloc: Global,
+        max: usize,
+    ) -> Result<Vec<(Due, Name, ByteString)>, AllocError>
+        ensures { IfOk result (λ found. AreDue max found.items) }
+    {
+        let desk = self.desk.lock(rt);
+        due_list_in(alloc, &desk.book, max)
     }
 
     /// Ends it, where all seats are back. The book has as many entries as they counted. Else all comes back, with the number of seats that

@@ -15,12 +15,13 @@ use std::alloc::{AllocError, Global};
 use std::mem;
 use std::sync::Wait;
 use std::sync::ledger::Ledger;
+use std::thread::Threads;
 use tab_book::{Held, Receipt, Seat};
 use tab_core::{Session, Slots};
 use tab_history::{Act, Refusal, Reply};
 use tab_key::{Bounds, Items, Name, Part};
 use tab_serve::{Moments, Service};
-use tab_wire::Request;
+use tab_wire::{Asked, Request};
 
 // A seat, the receipts that are added for it, the sessions that it opened for the connection, and where its moments come from. All that
 // changes is lent.
@@ -41,7 +42,9 @@ pub(crate) struct SharedService<'a, L: Ledger, R, M, G> {
 }
 
 #[tactic(auto, using(crate::proofs::Counting::shares_room, crate::proofs::Counting::shares_opened))]
-impl<'a, L: Ledger, R: Wait, M: Moments, G: Gate> Service for SharedService<'a, L, R, M, G> {
+impl<'a, L: Ledger, R: Threads + Wait + Sync, M: Moments, G: Gate> Service
+    for SharedService<'a, L, R, M, G> {
+    ghost use Rattle.std.specs.Thread.{IsSync};
     ghost use Rattle.std.specs.Prelude.{length};
     ghost use Rattle.tab_work.specs.SharedAnswers.{SharedAnswers, told_by};
 
@@ -49,10 +52,17 @@ impl<'a, L: Ledger, R: Wait, M: Moments, G: Gate> Service for SharedService<'a, 
 
     ghost told = { λ s. told_by s };
 
+    ghost ready = { IsSync R.row };
+
     ghost answers = { λ old user request reply new. SharedAnswers M.gives old user request reply new };
+
+    fn hear(&self, asked: &Asked) {
+        self.gate.hear(asked);
+    }
 
     fn answer(&mut self, user: &Name, request: &mut Request) {
         self.does(user, request);
+        self.gate.after_reply(self.reply());
     }
 
     fn reply(&self) -> &Reply {
@@ -63,7 +73,7 @@ impl<'a, L: Ledger, R: Wait, M: Moments, G: Gate> Service for SharedService<'a, 
     }
 }
 
-impl<'a, L: Ledger, R: Wait, M: Moments, G: Gate> SharedService<'a, L, R, M, G> {
+impl<'a, L: Ledger, R: Threads + Wait + Sync, M: Moments, G: Gate> SharedService<'a, L, R, M, G> {
     // Does what is asked. Hello says who asks, and changes nothing.
     pub(crate) fn does(&mut self, user: &Name, request: &mut Request)
         ensures { SharedAnswers M.gives self.old user.now request.old (told_by self.new) self.new }
@@ -100,7 +110,9 @@ impl<'a, L: Ledger, R: Wait, M: Moments, G: Gate> SharedService<'a, L, R, M, G> 
         ensures { SharedAnswers M.gives self.old user.now (Request.Many slot ranges.now) (told_by self.new) self.new }
     {
         let _ = user;
-        let reply = self.slots.many(self.alloc, slot, ranges.as_slice());
+        let reply = self
+            .slots
+            .many_by_threads(self.rt, self.alloc, slot, ranges.as_slice());
         self.tell(reply);
     }
 
@@ -203,6 +215,7 @@ impl<'a, L: Ledger, R: Wait, M: Moments, G: Gate> SharedService<'a, L, R, M, G> 
     {
         let mut receipt = receipt;
         let session = session_of(receipt.take());
+        self.gate.after_event(receipt.number());
         tell_if_written(self.gate, &receipt);
         self.receipts.push_reserved(receipt);
         self.booked = true;

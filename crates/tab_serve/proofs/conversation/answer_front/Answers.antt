@@ -10,7 +10,7 @@ pub loop-fault-init : goal.loop-fault-init
 loop-fault-init g c =
     let out = c.args.output.now in record {
       goes = none_on g.S.Service (side c.args.conn.now c.args.service.now) (HasPut g.W.Output out out) (put_none g.W.Output out) (g.R.Input.remaining c.args.input.now);
-      opened = c.requires;
+      opened = c.requires.opened;
       reads = refl;
       writes = refl;
       here = ap (λ (xs : List ℕ). length xs) c.front-here.ensures.value;

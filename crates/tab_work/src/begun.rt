@@ -1,0 +1,43 @@
+//! Merges that a compactor began.
+ghost use Rattle.std.specs.Prelude.{◌≡◌};
+
+use tab_core::{Due, FinishedJob, Job, MadeTable, Pending, TabletJob};
+use tab_key::Name;
+
+/// A merge that was begun in a tablet of the table. What was due there is claimed.
+#[derive(Drop)]
+pub(crate) struct Begun {
+    pub(crate) due: Due,
+    pub(crate) table: Name,
+    pub(crate) job: TabletJob,
+}
+
+/// The same, made.
+#[derive(Drop)]
+pub(crate) struct Made {
+    pub(crate) due: Due,
+    pub(crate) table: Name,
+    pub(crate) finished: FinishedJob,
+}
+
+impl Pending for Begun {
+    type Done = Made;
+
+    ghost merge = { λ begun. begun.job.merge };
+
+    ghost finishes = { λ begun made. (made.due ≡ begun.due) × (made.table ≡ begun.table) × (made.finished ≡ begun.job) };
+
+    fn job(&self) -> &Job {
+        self.job.job()
+    }
+
+    fn finish(self, made: MadeTable) -> Made {
+        let Begun { due, table, job } = self;
+        let finished = job.finish(made);
+        Made {
+            due,
+            table,
+            finished,
+        }
+    }
+}
