@@ -1,0 +1,43 @@
+//! The server: who accepts connections, the threads that serve them, those that compact beside them, and the one that hands the history on.
+//!
+//! | File | What |
+//! |---|---|
+//! | `clock` | moments of the machine's clock |
+//! | `inbox` | where requests to the compactors come in |
+//! | `history`, `recorder` | where a server's history goes, and who hands it on |
+//! | `store`, `log`, `round`, `settled` | where a server keeps what it did, what is kept there of the book's history, and how a reply waits for it |
+//! | `keeper` | who has the store make images |
+//! | `connections` | all connections, which can be ended at once |
+//! | `tally`, `counters`, `refused`, `watch` | what is counted of connections as they are served |
+//! | `connection`, `figures`, `reporting` | a connection in a line, what a server tells of itself, and who reports it |
+//! | `accepting`, `crew`, `workers`, `server` | who accepts, who is at work, the threads, and how a server begins and ends |
+#![tactic(auto)]
+
+mod accepting;
+mod clock;
+mod connection;
+mod connections;
+mod counters;
+mod crew;
+mod figures;
+mod history;
+mod inbox;
+mod keeper;
+mod log;
+mod recorder;
+mod refused;
+mod reporting;
+mod round;
+mod server;
+mod settled;
+mod store;
+mod tally;
+mod watch;
+mod workers;
+
+pub use clock::WallClock;
+pub use connection::{Connection, Ending, Peer};
+pub use figures::Figures;
+pub use history::{Dropped, History};
+pub use server::{Options, ServerFault, run_server};
+pub use store::{NotKept, Nowhere, Store};

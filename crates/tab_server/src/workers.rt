@@ -1,0 +1,282 @@
+//! The threads of a server.
+
+use crate::accepting::accept_all;
+use crate::clock::WallClock;
+use crate::connection::Peer;
+use crate::connections::Connections;
+use crate::counters::Counters;
+use crate::crew::{Crew, Member, Role};
+use crate::inbox::Inbox;
+use crate::keeper::keep_images;
+use crate::log::Log;
+use crate::recorder::Recorder;
+use crate::settled::{Marking, Settled};
+use crate::tally::Tally;
+use crate::watch::Watch;
+use crate::{History, Options, ServerFault, Store};
+use crossbeam_channel::Receiver;
+use std::alloc::{AllocError, Global};
+use std::cell::Cell;
+use std::sync::Wait;
+use std::sync::ledger::Ledger;
+use std::thread;
+use std::thread::{JoinHandle, Threads};
+use std::time::Clock;
+use tab_book::Seat;
+use tab_io::{BlockReader, BlockWriter};
+use tab_key::Name;
+use tab_serve::ServeFault;
+use tab_socket::{Connection, End, Listener, Stream};
+use tab_work::{Claims, Compactor, Gate, Requests, Shared, serve_forgetting};
+
+/// Has a thread for each of the crew: the workers serve the connections that are accepted, the compactors compact beside them, and the recorder
+/// hands the history on. Gives the seats back.
+pub(crate) fn serve_all<
+    'a,
+    L: Ledger + Send + Sync,
+    R: Threads + Wait + Clock + Sync,
+    N: Listener,
+    H: History + Sync,
+    D: Store + Sync,
+>(
+    rt: &'a R,
+    alloc: Global,
+    shared: &'a Shared<L>,
+    crew: Crew<'a, L, R>,
+    listener: &'a N,
+    options: Options,
+    history: &'a H,
+    log: &'a Log<'a, L, D>,
+    connections: &'a Connections,
+) -> Result<Vec<Seat<L>>, ServerFault> {
+    let (to, from) = crossbeam_channel::bounded(alloc, options.workers as usize)?;
+    let claims = Claims::new(alloc);
+    let counters = Counters::new(alloc, options.workers)?;
+    let Crew { members, inbox } = crew;
+    let (from, inbox, claims, counters) = (&from, &inbox, &claims, &counters);
+    let many = options.rotate_at.max(1);
+    thread::scope(thread::scope_env(), rt, |scope| {
+        let mut threads = Vec::new(alloc);
+        for member in members {
+            threads.reserve(1)?;
+            match scope.spawn(move || work(
+                rt,
+                alloc,
+                shared,
+                member,
+                from,
+                inbox,
+                claims,
+                counters,
+                history,
+                log,
+                connections,
+                many,
+            )) {
+                Ok(thread) => threads.push_reserved(thread),
+                Err(_) => return Err(ServerFault::NoThread),
+            }
+        }
+        accept_all(rt, listener, to, options.accept, options.idle, connections);
+        seats_of(rt, alloc, threads)
+    })
+}
+
+// The seats of the threads, once they have ended.
+fn seats_of<L: Ledger>(
+    rt: &impl Threads,
+    alloc: Global,
+    threads: Vec<JoinHandle<Seat<L>>>,
+) -> Result<Vec<Seat<L>>, ServerFault> {
+    let mut seats = Vec::new(alloc);
+    for thread in threads {
+        seats.reserve(1)?;
+        seats.push_reserved(thread.join(rt));
+    }
+    Ok(seats)
+}
+
+// What one of the crew does, to its end.
+fn work<L: Ledger, R: Threads + Wait + Clock + Sync, H: History, D: Store>(
+    rt: &R,
+    alloc: Global,
+    shared: &Shared<L>,
+    member: Member<'_, L, R>,
+    from: &Receiver<Connection>,
+    inbox: &Inbox,
+    claims: &Claims,
+    counters: &Counters,
+    history: &H,
+    log: &Log<'_, L, D>,
+    connections: &Connections,
+    many: u64,
+) -> Seat<L> {
+    let Member { role, seat, life } = member;
+    let seat = match role {
+        Role::Worker(number, requests) => {
+            let tally = counters.take();
+            let place = (connections, number);
+            serve(
+                rt, alloc, shared, seat, from, requests, tally, history, log, place,
+            )
+        }
+        Role::Compactor => compact(rt, alloc, shared, seat, inbox, claims, counters),
+        Role::Keeper(others) => {
+            keep_images(rt, log, &others);
+            seat
+        }
+        Role::Recorder(others) => {
+            record(
+                rt, alloc, shared, history, log, counters, seat, many, others,
+            )
+        }
+    };
+    drop(life);
+    seat
+}
+
+// Serves one connection after another, until the channel is closed, as the worker of this number. Nothing that happens to one of them stops the
+// next.
+fn serve<L: Ledger, R: Threads + Wait + Clock + Sync, H: History, D: Store>(
+    rt: &R,
+    alloc: Global,
+    shared: &Shared<L>,
+    seat: Seat<L>,
+    from: &Receiver<Connection>,
+    requests: Requests<'_, R>,
+    tally: &Tally,
+    history: &H,
+    log: &Log<'_, L, D>,
+    place: (&Connections, usize),
+) -> Seat<L> {
+    let mut seat = seat;
+    for _ in rt.forever() {
+        let Ok(stream) = from.recv(rt) else {
+            break;
+        };
+        if enters(rt, place, &stream) {
+            serve_stream(
+                rt, alloc, shared, &mut seat, &stream, &requests, tally, history, log,
+            );
+        }
+        place.0.leave(rt, place.1);
+    }
+    seat
+}
+
+// Whether the worker at this place may serve the stream. One that couldn't be closed is dropped.
+fn enters<R: Wait, S: Stream>(rt: &R, place: (&Connections, usize), stream: &S) -> bool {
+    match stream.closer() {
+        Ok(closer) => place.0.enter(rt, place.1, closer),
+        Err(_) => false,
+    }
+}
+
+// Serves a connection to its end or its first fault, and tells of it.
+fn serve_stream<L: Ledger, R: Threads + Wait + Clock + Sync, S: Stream, H: History, D: Store>(
+    rt: &R,
+    alloc: Global,
+    shared: &Shared<L>,
+    seat: &mut Seat<L>,
+    stream: &S,
+    requests: &Requests<'_, R>,
+    tally: &Tally,
+    history: &H,
+    log: &Log<'_, L, D>,
+) {
+    let peer = peer_of(stream);
+    let patience = stream.read_timeout().unwrap_or(None);
+    let watch = Watch::new(rt, requests, tally, patience);
+    let served = converse_over(rt, alloc, shared, seat, stream, &watch, log);
+    history.end(&watch.end(peer, served));
+}
+
+// Answers what the stream asks, to its end or its first fault.
+fn converse_over<L: Ledger, R: Threads + Wait + Clock + Sync, S: Stream, G: Gate, D: Store>(
+    rt: &R,
+    alloc: Global,
+    shared: &Shared<L>,
+    seat: &mut Seat<L>,
+    stream: &S,
+    gate: &G,
+    log: &Log<'_, L, D>,
+) -> Result<Result<(), ServeFault>, AllocError> {
+    let mut input = BlockReader::new(alloc, End::new(stream))?;
+    let mark = Cell::new(0);
+    let settled = Settled::new(rt, log, &mark, End::new(stream));
+    let mut output = BlockWriter::new(alloc, settled)?;
+    let gate = Marking::new(gate, &mark);
+    let mut moments = WallClock::new(rt);
+    Ok(serve_forgetting(
+        rt,
+        alloc,
+        &mut input,
+        &mut output,
+        &mut moments,
+        shared,
+        seat,
+        &gate,
+    ))
+}
+
+// Who has connected.
+fn peer_of<S: Stream>(stream: &S) -> Peer {
+    match stream.peer() {
+        Ok(Some(address)) => Peer::Address(address),
+        Ok(None) => Peer::Socket,
+        Err(_) => Peer::Unknown,
+    }
+}
+
+// Compacts what is due at each request, as root, until nobody can send any more.
+fn compact<L: Ledger, R: Threads + Wait + Clock + Sync>(
+    rt: &R,
+    alloc: Global,
+    shared: &Shared<L>,
+    seat: Seat<L>,
+    inbox: &Inbox,
+    claims: &Claims,
+    counters: &Counters,
+) -> Seat<L> {
+    let moments = WallClock::new(rt);
+    let mut compactor = Compactor::new(rt, alloc, shared, seat, root(), moments, claims, counters);
+    for _ in rt.forever() {
+        if !inbox.wait(rt) {
+            break;
+        }
+        compactor.compact();
+        compactor.forget_receipts();
+    }
+    compactor.into_parts().0
+}
+
+// Hands the history on, as root, until nobody else is at work.
+fn record<L: Ledger, R: Wait + Clock, H: History, D: Store>(
+    rt: &R,
+    alloc: Global,
+    shared: &Shared<L>,
+    history: &H,
+    log: &Log<'_, L, D>,
+    counters: &Counters,
+    seat: Seat<L>,
+    many: u64,
+    others: Receiver<()>,
+) -> Seat<L> {
+    let recorder = Recorder {
+        rt,
+        alloc,
+        shared,
+        seat,
+        user: root(),
+        history,
+        log,
+        synced: None,
+        counters,
+    };
+    recorder.record(many, &others)
+}
+
+// Who compacts, and who rotates.
+fn root() -> Name {
+    Name::new(b"root").unwrap()
+}

@@ -1,0 +1,29 @@
+//! Streams between processes of one machine: over a port, or over a socket file, whose rights say who may connect.
+//!
+//! | File | What |
+//! |---|---|
+//! | `stream` | a stream, and its ends, of which one reads and the other writes |
+//! | `connection` | a stream that was accepted, by a port or a socket file |
+//! | `closer` | what closes a socket |
+//! | `listener` | what a server's connections come by |
+//! | `socket_file` | a socket file that is listened on: how it gets its name, and how it goes |
+//! | `room` | a folder of one's own beside a file |
+//! | `mode` | a file's mode, as it is written |
+//!
+//! What sockets and files of a system do no contract says.
+#![tactic(auto)]
+
+mod closer;
+mod connection;
+mod listener;
+mod mode;
+mod room;
+mod socket_file;
+mod stream;
+
+pub use closer::Closer;
+pub use connection::Connection;
+pub use listener::Listener;
+pub use mode::mode_of;
+pub use socket_file::{SocketFault, SocketFile};
+pub use stream::{End, Stream};
