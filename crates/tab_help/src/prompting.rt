@@ -10,6 +10,7 @@ use std::io::{Error, ErrorKind, Read};
 use tab_io::{BLOCK_LENGTH, Output, WriteFault, length_before};
 use tab_key::Name;
 use tab_lines::{Line, Words, read_line};
+use tab_terminal::{Misquote, Unsent, sent_line};
 
 // What is said at the beginning.
 const SCRIPT_BEGINS: &[u8] =
@@ -21,6 +22,9 @@ const SHELL_BEGINS: &[u8] =
 const WAYS: &[u8] = b"help lists the lines, help LINE tells what one does, quit ends.\n";
 
 /// A reader that passes the lines of another one along, one by one, each behind a prompt: the name of who asks, and `>`.
+///
+/// A line is passed along as `sent_line` has it, with the words that stood in quotes and what isn't ASCII in escapes; one whose quotes say
+/// nothing isn't, and it is put to the notes why.
 ///
 /// First it is said what this is, and how to get help and out. A line `help` or `help LINE`, or with `?` in its place, isn't passed along: what lines
 /// do is put behind the prompt in its place. A line `quit` or `exit` is the end. Why a line is a line fault is put to the notes once the next line is
@@ -74,6 +78,9 @@ impl<R: Read, W: Output, N: Output> Prompting<R, W, N> {
             let _ = self.put_prompt();
             if !self.take_line()? {
                 break;
+            }
+            if !self.spell()? {
+                continue;
             }
             match own_of(self.text()) {
                 Own::Quit => return Ok(false),
@@ -160,6 +167,27 @@ impl<R: Read, W: Output, N: Output> Prompting<R, W, N> {
         Ok(at < count)
     }
 
+    // Puts what is sent for the line in its place. Whether its quotes say something: else it is told why they don't.
+    fn spell(&mut self) -> io::Result<bool> {
+        match sent_line(self.alloc, self.text()) {
+            Ok(line) => self.replace(line),
+            Err(Unsent::Misquoted(why)) => {
+                let _ = put_misquote(self.alloc, &mut self.notes, self.number, why);
+                Ok(false)
+            }
+            Err(Unsent::NoMemory) => Err(Error::from(ErrorKind::OutOfMemory)),
+        }
+    }
+
+    // This is the line, but for its line feed.
+    fn replace(&mut self, line: Vec<u8>) -> io::Result<bool> {
+        self.line = line;
+        if self.line.extend_from_slice(b"\n").is_err() {
+            return Err(Error::from(ErrorKind::OutOfMemory));
+        }
+        Ok(true)
+    }
+
     // Notes who asks from this line on.
     fn follow(&mut self) {
         if self.asks == Asks::Shell {
@@ -223,6 +251,19 @@ fn named(line: Line) -> Option<Name> {
         Line::As(user) => Some(user),
         _ => None,
     }
+}
+
+// Says why the line isn't sent. Where memory lacks nothing is said.
+fn put_misquote<W: Output>(
+    alloc: Global,
+    notes: &mut W,
+    number: u64,
+    why: Misquote,
+) -> Result<(), WriteFault> {
+    if let Ok(text) = format!(in alloc; "line {number}: {why}; nothing was sent\n") {
+        notes.put(text.as_bytes())?;
+    }
+    notes.flush()
 }
 
 // What a line asks of the prompt itself.

@@ -1,21 +1,23 @@
 //! A writer that puts cells into columns.
 use crate::kinds::{Kind, kind_of};
 use std::alloc::{AllocError, Global};
-use std::io;
 use std::io::Write;
+use std::{io, str};
 use tab_io::{BLOCK_LENGTH, length_before};
+use tab_terminal::shown_word;
+use unicode_width::UnicodeWidthStr;
 
 // How many words a cell has before its value.
 const COLUMNS: usize = 5;
 
-// How wide a column gets at most: a longer word moves the rest of its line.
+// How wide a column gets at most, as a terminal draws it: a longer word moves the rest of its line.
 const WIDEST: usize = 24;
 
 // Spaces to fill a column with.
 const SPACES: &[u8] = b"                          ";
 
 /// A writer for a terminal: what is written is handed on once the writer is flushed, or there is a block of it, with the words of cells
-/// one under the other. What is no cell is handed on as it is; where memory lacks, all is.
+/// one under the other and as `shown_word` has them. What is no cell is handed on as it is; where memory lacks, all is.
 #[derive(Drop)]
 pub struct Columns<W> {
     alloc: Global,
@@ -49,12 +51,12 @@ impl<W: Write> Columns<W> {
 
 // The lines, with their cells in columns.
 fn lay_out(alloc: Global, text: &[u8]) -> Result<Vec<u8>, AllocError> {
-    let widths = widths_of(text);
+    let widths = widths_of(alloc, text)?;
     let mut laid = Vec::new(alloc);
     let mut rest = text;
     for _ in 0..u64::MAX {
         let at = length_before(b'\n', rest);
-        lay_line(&mut laid, rest.split_at(at).0, &widths)?;
+        lay_line(alloc, &mut laid, rest.split_at(at).0, &widths)?;
         if at == rest.len() {
             break;
         }
@@ -65,28 +67,45 @@ fn lay_out(alloc: Global, text: &[u8]) -> Result<Vec<u8>, AllocError> {
 }
 
 // How wide the columns of the cells in these lines are.
-fn widths_of(text: &[u8]) -> [usize; COLUMNS] {
+fn widths_of(alloc: Global, text: &[u8]) -> Result<[usize; COLUMNS], AllocError> {
     let mut widths = [0usize; COLUMNS];
     for line in text.split(|byte| *byte == b'\n') {
         if kind_of(line) == Kind::Cell {
             for (word, width) in line.split(|byte| *byte == b' ').zip(widths.iter_mut()) {
-                *width = (*width).max(word.len().min(WIDEST));
+                let shown = shown_word(alloc, word)?;
+                *width = (*width).max(drawn_width(shown.as_slice()).min(WIDEST));
             }
         }
     }
-    widths
+    Ok(widths)
+}
+
+// How many columns of a terminal a text takes.
+fn drawn_width(text: &[u8]) -> usize {
+    match str::from_utf8(text) {
+        Ok(text) => text.width(),
+        Err(_) => text.len(),
+    }
 }
 
 // Puts a line, a cell with its words in columns.
-fn lay_line(laid: &mut Vec<u8>, line: &[u8], widths: &[usize; COLUMNS]) -> Result<(), AllocError> {
+fn lay_line(
+    alloc: Global,
+    laid: &mut Vec<u8>,
+    line: &[u8],
+    widths: &[usize; COLUMNS],
+) -> Result<(), AllocError> {
     if kind_of(line) != Kind::Cell {
         return laid.extend_from_slice(line);
     }
     let mut widths = widths.iter();
     for word in line.split(|byte| *byte == b' ') {
-        laid.extend_from_slice(word)?;
+        let shown = shown_word(alloc, word)?;
+        laid.extend_from_slice(shown.as_slice())?;
         if let Some(width) = widths.next() {
-            let lacking = width.saturating_sub(word.len()).saturating_add(2);
+            let lacking = width
+                .saturating_sub(drawn_width(shown.as_slice()))
+                .saturating_add(2);
             laid.extend_from_slice(SPACES.get(..lacking).unwrap_or(b"  "))?;
         }
     }
