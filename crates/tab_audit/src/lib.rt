@@ -30,3 +30,4 @@ mod updates;
 
 pub use act::put_act;
 pub use entry::{clock_behind, is_replayed, put_entry};
+pub use piece::{Piece, put_line};

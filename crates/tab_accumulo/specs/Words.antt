@@ -1,0 +1,37 @@
+-- Words as the shell of Apache Accumulo reads them.
+use Rattle.std.specs.Prelude.{ℕ, ◌==◌, List, [], ◌∷◌, ◌++◌, codes, if◌then◌else◌}
+use Rattle.std.specs.List.{flat_map}
+use Rattle.std.specs.Fmt.{decimal, signed_decimal}
+use Rattle.tab_text.specs.Words.{word}
+use Rattle.tab_accumulo.specs.declared.word.ShellWord.{ShellWord}
+use Rattle.tab_accumulo.specs.declared.word.ShellWord.TheVariants.{Text, Qualified, Quoted, Setting, Number, Signed, Authorizations}
+
+-- texts, one after another
+abbrev pub joined : List (List ℕ) → List ℕ
+joined = flat_map (λ text. text)
+
+-- a byte between double quotes: as in a word of a script, but that a double quote is written as a number
+abbrev pub shell_byte : ℕ → List ℕ
+shell_byte b = if b == 34 then codes "\\x22" else word (b ∷ [])
+
+abbrev pub shell_bytes : List ℕ → List ℕ
+shell_bytes = flat_map shell_byte
+
+-- between double quotes
+abbrev pub quoted : List ℕ → List ℕ
+quoted bytes = joined (codes "\"" ∷ shell_bytes bytes ∷ codes "\"" ∷ [])
+
+-- the option of `setauths`: what stands for each, between commas, or none at all
+abbrev pub listed : {A : Type 0} → (A → List ℕ) → List A → List ℕ
+listed f [] = codes "-c"
+listed f (x ∷ xs) = joined (codes "-s \"" ∷ f x ∷ flat_map (λ y. 44 ∷ f y) xs ∷ codes "\"" ∷ [])
+
+-- the text of one word, in the code
+abbrev pub shell_word : ShellWord → List ℕ
+shell_word (Text text) = text.now
+shell_word (Qualified kind name) = kind.now ++ 46 ∷ name.now
+shell_word (Quoted bytes) = quoted bytes.now
+shell_word (Setting key number) = key.now ++ 61 ∷ decimal number
+shell_word (Number number) = decimal number
+shell_word (Signed number) = signed_decimal number
+shell_word (Authorizations auths) = listed shell_bytes auths.now

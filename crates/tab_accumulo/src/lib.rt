@@ -1,0 +1,24 @@
+//! What an image says, as lines of the shell of Apache Accumulo, so that a cluster can be fed with it.
+//!
+//! Each text is proved to be exactly what `specs/Lines` says. What that shell makes of it isn't proved, nor tried: docs/ACCUMULO.md says
+//! what goes over, and what doesn't.
+//!
+//! | File | What |
+//! |---|---|
+//! | `shell` | the whole |
+//! | `users`, `tables`, `versions`, `records`, `settings` | its parts |
+//! | `word`, `quoting` | words on a line, and bytes between quotes |
+//!
+//! In `specs`, `Words` says how words are written, `Lines` which lines there are, `Parts` which part of them a value of the code stands for.
+#![tactic(auto)]
+
+mod quoting;
+mod records;
+mod settings;
+mod shell;
+mod tables;
+mod users;
+mod versions;
+mod word;
+
+pub use shell::put_shell_lines;

@@ -1,0 +1,18 @@
+//! What an image says, for a person to read and search: one fact a line.
+//!
+//! | File | What |
+//! |---|---|
+//! | `image` | the whole |
+//! | `users`, `tables` | what is shown of a user and of a table |
+//! | `tally` | how many records a table has, and how many bytes |
+//!
+//! In `specs`, `Facts` says which lines there are, `Parts` which part of them a value of the code stands for.
+#![tactic(auto)]
+
+mod image;
+mod tables;
+mod tally;
+mod users;
+
+pub use image::put_facts;
+pub use tally::Tally;
