@@ -1,12 +1,14 @@
 //! The command line, built.
-use clap::{Arg, ArgAction, Command, Error, value_parser};
+use crate::looking::{export_command, inspect_command};
+use clap::builder::ValueParser;
+use clap::{Arg, ArgAction, ArgGroup, Command, Error, value_parser};
 use std::alloc::{AllocError, Global};
 use std::fmt;
 use std::fmt::{Display, Formatter};
 use tab_help::{Asks, forms};
 
 /// The version that `tabd --version` tells.
-const VERSION: &str = "0.12.0";
+const VERSION: &str = "0.13.0";
 
 /// What help says of lines: the texts of `tab_help`.
 #[derive(Drop)]
@@ -86,7 +88,9 @@ pub fn command<'a>(alloc: Global, lines: &'a LineHelp) -> Result<Command<'a>, Er
         .arg_required_else_help(true)
         .subcommand(script)?
         .subcommand(serve_command(alloc)?)?
-        .subcommand(shell_command(alloc, lines)?)?;
+        .subcommand(shell_command(alloc, lines)?)?
+        .subcommand(inspect_command(alloc)?)?
+        .subcommand(export_command(alloc)?)?;
     Ok(tabd)
 }
 
@@ -134,6 +138,39 @@ fn store<'a>(alloc: Global) -> Arg<'a> {
         .help("Begins with what this folder keeps, and keeps there each line that was answered")
 }
 
+// The folder that keeps what a server does.
+fn server_store<'a>(alloc: Global) -> Arg<'a> {
+    Arg::new(alloc, "store")
+        .long("store")
+        .value_name("FOLDER")
+        .action(ArgAction::Set)
+        .help("Begins with what this folder keeps, and keeps there all that is answered")
+}
+
+// How large a journal gets.
+fn checkpoint<'a>(alloc: Global) -> Result<Arg<'a>, AllocError> {
+    Arg::new(alloc, "checkpoint")
+        .long("checkpoint")
+        .value_name("BYTES")
+        .value_parser(value_parser!(u64))
+        .default_value("67108864")
+        .help("From how many bytes of its journal on an image is made in the place of them")
+        .requires_arg("store")
+}
+
+// When what is kept is on the disk.
+fn sync<'a>(alloc: Global) -> Result<Arg<'a>, AllocError> {
+    Arg::new(alloc, "sync")
+        .long("sync")
+        .value_name("WHEN")
+        .value_parser(ValueParser::Names(&["always", "interval"]))
+        .default_value("always")
+        .help(
+            "When it is on the disk: always, before anything is answered, or in an interval of a second",
+        )
+        .requires_arg("store")
+}
+
 // Whether lines are prompted for.
 fn prompt<'a>(alloc: Global) -> Arg<'a> {
     Arg::new(alloc, "prompt")
@@ -150,44 +187,142 @@ fn port<'a>(alloc: Global) -> Arg<'a> {
         .long("port")
         .value_name("N")
         .value_parser(value_parser!(u16).range(1..65_536))
-        .required(true)
         .help("The port of 127.0.0.1, 1 to 65535")
+}
+
+// The socket file of a server.
+fn socket<'a>(alloc: Global) -> Arg<'a> {
+    Arg::new(alloc, "socket")
+        .long("socket")
+        .value_name("FILE")
+        .action(ArgAction::Set)
+        .help("The socket file in place of a port, whose rights say who may connect")
+}
+
+// The mode of a server's socket file.
+fn socket_mode<'a>(alloc: Global) -> Result<Arg<'a>, AllocError> {
+    Arg::new(alloc, "socket-mode")
+        .long("socket-mode")
+        .value_name("MODE")
+        .action(ArgAction::Set)
+        .help("The socket file's mode in octal digits, 600 where unsaid")
+        .conflicts_with("port")
+}
+
+// Where a server is: at a port or at a socket file, one of them.
+fn place<'a>(alloc: Global) -> Result<ArgGroup<'a>, AllocError> {
+    let place = ArgGroup::new(alloc, "place").required(true);
+    place.arg("port")?.arg("socket")
 }
 
 // The command line of `serve`.
 fn serve_command<'a>(alloc: Global) -> Result<Command<'a>, Error> {
-    let workers = Arg::new(alloc, "workers")
+    let serve = Command::new(alloc, "serve")
+        .about("Answers frames on a port of this machine, or on a socket file")
+        .arg(port(alloc))?
+        .arg(socket(alloc))?
+        .arg(socket_mode(alloc)?)?
+        .group(place(alloc)?)?;
+    with_telling(alloc, with_keeping(alloc, with_threads(alloc, serve)?)?)
+}
+
+// With its threads, and how long it serves.
+fn with_threads<'a>(alloc: Global, serve: Command<'a>) -> Result<Command<'a>, Error> {
+    let serve = serve
+        .arg(workers(alloc))?
+        .arg(compactors(alloc))?
+        .arg(accept(alloc))?
+        .arg(idle(alloc))?;
+    Ok(serve)
+}
+
+// With what it begins with, and where it keeps what it does.
+fn with_keeping<'a>(alloc: Global, serve: Command<'a>) -> Result<Command<'a>, Error> {
+    let serve = serve
+        .arg(image(alloc))?
+        .arg(server_store(alloc))?
+        .arg(sync(alloc)?)?
+        .arg(checkpoint(alloc)?)?;
+    Ok(serve)
+}
+
+// With what it tells beside its answers.
+fn with_telling<'a>(alloc: Global, serve: Command<'a>) -> Result<Command<'a>, Error> {
+    let serve = serve
+        .arg(history(alloc))?
+        .arg(metrics(alloc))?
+        .arg(log(alloc))?;
+    Ok(serve)
+}
+
+// How many connections are served at once.
+fn workers<'a>(alloc: Global) -> Arg<'a> {
+    Arg::new(alloc, "workers")
         .long("workers")
         .value_name("W")
         .value_parser(value_parser!(u32).range(1..65))
         .default_value("4")
-        .help("How many connections are answered at once, 1 to 64");
-    let compactors = Arg::new(alloc, "compactors")
+        .help("How many connections are answered at once, 1 to 64")
+}
+
+// How many threads compact beside them.
+fn compactors<'a>(alloc: Global) -> Arg<'a> {
+    Arg::new(alloc, "compactors")
         .long("compactors")
         .value_name("C")
         .value_parser(value_parser!(u32).range(0..17))
         .default_value("1")
-        .help("How many threads compact and split tablets beside them, 0 to 16");
-    let accept = Arg::new(alloc, "accept")
+        .help("How many threads compact and split tablets beside them, 0 to 16")
+}
+
+// After how many connections it ends.
+fn accept<'a>(alloc: Global) -> Arg<'a> {
+    Arg::new(alloc, "accept")
         .long("accept")
         .value_name("K")
         .value_parser(value_parser!(u32))
         .default_value("0")
-        .help("Ends after this many connections, or never for 0");
-    let history = Arg::new(alloc, "history")
+        .help("Ends after this many connections, or never for 0")
+}
+
+// How long a connection may say nothing.
+fn idle<'a>(alloc: Global) -> Arg<'a> {
+    Arg::new(alloc, "idle")
+        .long("idle")
+        .value_name("SECONDS")
+        .value_parser(value_parser!(u32))
+        .default_value("600")
+        .help(
+            "Ends a connection that says nothing, or takes nothing of what it is told, for so long, or never for 0",
+        )
+}
+
+// The file of a server's history.
+fn history<'a>(alloc: Global) -> Arg<'a> {
+    Arg::new(alloc, "history")
         .long("history")
         .value_name("FILE")
         .action(ArgAction::Set)
-        .help("Appends what is asked to this file, as lines of a script");
-    let serve = Command::new(alloc, "serve")
-        .about("Answers frames on a port of this machine")
-        .arg(port(alloc))?
-        .arg(workers)?
-        .arg(compactors)?
-        .arg(accept)?
-        .arg(image(alloc))?
-        .arg(history)?;
-    Ok(serve)
+        .help("Appends what is asked to this file, as lines of a script")
+}
+
+// The file in which a server tells of itself.
+fn metrics<'a>(alloc: Global) -> Arg<'a> {
+    Arg::new(alloc, "metrics")
+        .long("metrics")
+        .value_name("FILE")
+        .action(ArgAction::Set)
+        .help(
+            "Writes counts of what it does to this file every ten seconds, as Prometheus reads them",
+        )
+}
+
+// Whether a server tells of connections.
+fn log<'a>(alloc: Global) -> Arg<'a> {
+    Arg::new(alloc, "log")
+        .long("log")
+        .action(ArgAction::SetTrue)
+        .help("Tells each connection that has ended in a line on standard error")
 }
 
 // The command line of `shell`.
@@ -208,6 +343,8 @@ fn shell_command<'a>(alloc: Global, lines: &'a LineHelp) -> Result<Command<'a>, 
         .about("Asks a server what the lines of standard input say")
         .after_help(lines.shell.as_str())
         .arg(port(alloc))?
+        .arg(socket(alloc))?
+        .group(place(alloc)?)?
         .arg(user)?
         .arg(timeout)?
         .arg(explain(alloc))?

@@ -3,13 +3,16 @@
 //! | File | What |
 //! |---|---|
 //! | `building` | the command line, built, and the texts of its help |
+//! | `looking` | the command lines of `inspect` and `export` |
 //! | `request` | what the words ask for |
 //!
 //! Nothing is done here: the program does what a [`Request`] says.
 #![tactic(auto)]
 
 mod building;
+mod looking;
 mod request;
 
 pub use building::LineHelp;
-pub use request::{Request, ScriptRequest, ServeRequest, ShellRequest, parse};
+pub use looking::{ExportRequest, InspectRequest};
+pub use request::{Place, Request, ScriptRequest, ServeRequest, ShellRequest, SyncMode, parse};

@@ -1,5 +1,6 @@
 //! What a command line asks for.
 use crate::building::{LineHelp, command};
+use crate::looking::{ExportRequest, InspectRequest, export_request, inspect_request};
 use clap::{ArgMatches, Error};
 use std::alloc::Global;
 
@@ -12,8 +13,21 @@ pub enum Request<'a> {
     Serve(ServeRequest<'a>),
     /// `tabd shell`.
     Shell(ShellRequest<'a>),
+    /// `tabd inspect`.
+    Inspect(InspectRequest<'a>),
+    /// `tabd export`.
+    Export(ExportRequest<'a>),
     /// None of them. The command line asks for one, so this is never read.
     Nothing,
+}
+
+/// Where a server is.
+#[derive(Clone, Copy)]
+pub enum Place<'a> {
+    /// A port of 127.0.0.1, 1 to 65,535.
+    Port(u16),
+    /// A socket file.
+    Socket(&'a str),
 }
 
 /// What `tabd script` is asked for.
@@ -33,21 +47,44 @@ pub struct ScriptRequest<'a> {
     pub quiet: bool,
 }
 
+/// When what a server keeps is on the disk.
+#[derive(Clone, Copy, Debug, PartialEq, Eq)]
+pub enum SyncMode {
+    /// Before anything is answered that rests on it.
+    Always,
+    /// Within about a second.
+    Interval,
+}
+
 /// What `tabd serve` is asked for.
 #[derive(Clone, Copy)]
 pub struct ServeRequest<'a> {
     /// The file of the image to begin with.
     pub image: Option<&'a str>,
+    /// The folder that keeps what it does.
+    pub store: Option<&'a str>,
+    /// When what it does is on the disk.
+    pub sync: SyncMode,
+    /// From how many bytes of its journal on an image is made.
+    pub checkpoint: u64,
     /// The file that its history goes to.
     pub history: Option<&'a str>,
-    /// The port of 127.0.0.1, 1 to 65,535.
-    pub port: u16,
+    /// The file that it tells of itself in.
+    pub metrics: Option<&'a str>,
+    /// Whether it tells of each connection that has ended.
+    pub logged: bool,
+    /// Where it is.
+    pub place: Place<'a>,
+    /// The mode of its socket file, as it is written.
+    pub socket_mode: Option<&'a str>,
     /// How many connections are answered at once, 1 to 64.
     pub workers: u32,
     /// How many threads compact and split tablets, 0 to 16.
     pub compactors: u32,
     /// After how many connections it ends, or 0 for never.
     pub accept: u32,
+    /// After how many seconds a connection ends that says and takes nothing, or 0 for never.
+    pub idle: u32,
 }
 
 /// What `tabd shell` is asked for.
@@ -55,8 +92,8 @@ pub struct ServeRequest<'a> {
 pub struct ShellRequest<'a> {
     /// Who asks.
     pub user: &'a str,
-    /// The port of 127.0.0.1, 1 to 65,535.
-    pub port: u16,
+    /// Where the server is.
+    pub place: Place<'a>,
     /// Whether line faults are explained.
     pub explained: bool,
     /// Whether lines are prompted for.
@@ -89,6 +126,12 @@ fn requested<'a>(matches: &ArgMatches<'a>) -> Request<'a> {
     if let Some(serve) = matches.subcommand_matches("serve") {
         return Request::Serve(serve_request(serve));
     }
+    if let Some(inspect) = matches.subcommand_matches("inspect") {
+        return Request::Inspect(inspect_request(inspect));
+    }
+    if let Some(export) = matches.subcommand_matches("export") {
+        return Request::Export(export_request(export));
+    }
     match matches.subcommand_matches("shell") {
         Some(shell) => Request::Shell(shell_request(shell)),
         None => Request::Nothing,
@@ -109,18 +152,25 @@ fn script_request<'a>(script: &ArgMatches<'a>) -> ScriptRequest<'a> {
 fn serve_request<'a>(serve: &ArgMatches<'a>) -> ServeRequest<'a> {
     ServeRequest {
         image: serve.get_str("image"),
+        store: serve.get_str("store"),
+        sync: sync_mode(serve),
+        checkpoint: serve.get_one::<u64>("checkpoint").unwrap_or(u64::MAX),
         history: serve.get_str("history"),
-        port: port(serve),
+        metrics: serve.get_str("metrics"),
+        logged: serve.get_flag("log"),
+        place: place_in(serve),
+        socket_mode: serve.get_str("socket-mode"),
         workers: serve.get_one::<u32>("workers").unwrap_or(4),
         compactors: serve.get_one::<u32>("compactors").unwrap_or(1),
         accept: serve.get_one::<u32>("accept").unwrap_or(0),
+        idle: serve.get_one::<u32>("idle").unwrap_or(600),
     }
 }
 
 fn shell_request<'a>(shell: &ArgMatches<'a>) -> ShellRequest<'a> {
     ShellRequest {
         user: shell.get_str("user").unwrap_or(""),
-        port: port(shell),
+        place: place_in(shell),
         explained: shell.get_flag("explain"),
         prompted: shell.get_flag("prompt"),
         strict: shell.get_flag("strict"),
@@ -129,7 +179,18 @@ fn shell_request<'a>(shell: &ArgMatches<'a>) -> ShellRequest<'a> {
     }
 }
 
-// The port, which a command line can't do without.
-fn port(subcommand: &ArgMatches<'_>) -> u16 {
-    subcommand.get_one::<u16>("port").unwrap_or(0)
+// When what is kept is on the disk.
+fn sync_mode(serve: &ArgMatches<'_>) -> SyncMode {
+    match serve.get_str("sync") {
+        Some("interval") => SyncMode::Interval,
+        _ => SyncMode::Always,
+    }
+}
+
+// The port or the socket file, one of which a command line can't do without.
+fn place_in<'a>(subcommand: &ArgMatches<'a>) -> Place<'a> {
+    match subcommand.get_str("socket") {
+        Some(file) => Place::Socket(file),
+        None => Place::Port(subcommand.get_one::<u16>("port").unwrap_or(0)),
+    }
 }

@@ -25,6 +25,9 @@ pub enum FolderFault {
     /// The journal of this number has wrong bytes, from the place on or behind it, before others that had come to the disk.
     #[error("journal.{0} is damaged at {1}")]
     Damaged(u64, u64),
+    /// The journal of this number ends in bytes that are no whole batch, though it was whole on the disk when the next one was begun.
+    #[error("journal.{0} is cut, and isn't the last one")]
+    Torn(u64),
     /// The next image isn't written.
     #[error("the image can't be written")]
     Write,

@@ -1,17 +1,18 @@
 //! The folder: taken up, read, and left with the next image.
+use crate::journal::Journal;
 use crate::left::left_in;
-use crate::log::Log;
 use crate::names::{Kind, PART, image_path, journal_path, kind_of, loaded_path};
 use crate::{FolderFault, Left};
 use std::fs::{DirBuilder, File, OpenOptions, TryLockError};
 use std::io::{ErrorKind, Read};
+use std::ops::Range;
 use std::os::unix::fs::{DirBuilderExt, OpenOptionsExt};
 use std::path::Path;
 use std::random::RandomSource;
 use std::{fs, io};
 use tab_core::Core;
 use tab_io::{BlockReader, BlockWriter, Output};
-use tab_journal::Front;
+use tab_journal::{Format, Front};
 
 // Who may use the folder and read what is in it: whoever runs the program.
 const FOLDER_MODE: u32 = 0o700;
@@ -25,7 +26,9 @@ pub struct Folder<'a> {
     path: &'a str,
     // locked for as long as it is open
     _lock: File,
+    // the greatest number of an image, and of an image or a journal
     newest: Option<u64>,
+    last: Option<u64>,
 }
 
 impl<'a> Folder<'a> {
@@ -33,12 +36,13 @@ impl<'a> Folder<'a> {
     pub fn open(rt: &'a HostRuntime, path: &'a str) -> Result<Folder<'a>, FolderFault> {
         make(rt, path)?;
         let lock = locked(rt, path)?;
-        let newest = newest(rt, path)?;
+        let (newest, last) = numbers(rt, path)?;
         Ok(Folder {
             rt,
             path,
             _lock: lock,
             newest,
+            last,
         })
     }
 
@@ -68,45 +72,84 @@ impl<'a> Folder<'a> {
         self.write(name.as_str(), core)
     }
 
-    /// What a run that didn't end left behind this image. Memory is taken for the whole journal.
-    pub fn left(&self, core: &Core) -> Result<Left, FolderFault> {
+    /// The numbers of the journals that stand behind its image, the first of which is the image's own: of an image that was being made the
+    /// journal may be there already.
+    pub fn journals(&self) -> Result<Range<u64>, FolderFault> {
         let number = self.number()?;
-        let mut bytes = Vec::new(self.rt.alloc());
-        let name = journal_path(self.rt.alloc(), self.path, number)?;
-        match File::open(self.rt, name.as_str()) {
-            Ok(mut file) => {
-                file.read_to_end(&mut bytes)?;
-            }
-            Err(error) if error.kind() == ErrorKind::NotFound => {}
-            Err(error) => return Err(FolderFault::Refused(error)),
-        }
-        left_in(self.rt.alloc(), number, core, bytes.as_slice())
+        let last = self.last.unwrap_or(number);
+        Ok(number..last.saturating_add(1))
     }
 
-    /// Begins the journal behind this image, whose core this is. What stood there is lost.
-    pub fn begin(&self, core: &Core) -> Result<Log, FolderFault> {
-        let number = self.number()?;
+    /// What a run that didn't end left in the journal of this number, which goes on from this core. Memory is taken for the whole journal.
+    pub fn left(&self, number: u64, core: &Core) -> Result<Left, FolderFault> {
+        let is_first = self.newest == Some(number);
+        let base = (core.next(), core.clock());
+        left_behind(self.rt, self.path, number, is_first, base)
+    }
+
+    /// Begins the journal behind this image, whose core this is, for lines or events. What stood there is lost.
+    pub fn begin(&self, core: &Core, format: Format) -> Result<Journal, FolderFault> {
+        self.begin_at(self.number()?, core, format)
+    }
+
+    /// Begins the next journal of events, behind an image of this core that [`Folder::keep_next`] will make. What was put into the journals before
+    /// is to be on the disk.
+    pub fn begin_next(&mut self, core: &Core) -> Result<Journal, FolderFault> {
+        let number = self.next_number()?;
+        let journal = self.begin_at(number, core, Format::Events)?;
+        self.last = Some(number);
+        Ok(journal)
+    }
+
+    // Begins the journal of this number.
+    fn begin_at(&self, number: u64, core: &Core, format: Format) -> Result<Journal, FolderFault> {
         let mut salt = [0; 8];
         self.rt.fill_bytes(&mut salt)?;
         let name = journal_path(self.rt.alloc(), self.path, number)?;
         let file = created(self.rt, name.as_str())?;
-        let front = Front::new(number, core.next(), core.clock(), u64::from_be_bytes(salt));
-        let log = Log::begin(self.rt.alloc(), file, front)?;
+        let salt = u64::from_be_bytes(salt);
+        let front = Front::new(format, number, core.next(), core.clock(), salt);
+        let journal = Journal::begin(self.rt.alloc(), file, front)?;
         sync_folder(self.rt, self.path)?;
-        Ok(log)
+        Ok(journal)
     }
 
     /// Leaves an image of the core as the newest one, on the disk, and removes what was there before. After an error the image before stands.
     pub fn keep(&mut self, core: &Core) -> Result<(), FolderFault> {
-        let number = match self.newest {
-            None => 0,
-            Some(newest) => newest.checked_add(1).ok_or(FolderFault::Full)?,
-        };
+        let number = self.next_number()?;
+        self.keep_at(number, core)?;
+        self.last = Some(number);
+        Ok(())
+    }
+
+    /// Leaves an image of the core behind which the last journal was begun, and removes what was there before that.
+    pub fn keep_next(&mut self, core: &Core) -> Result<(), FolderFault> {
+        let number = self.last.ok_or(FolderFault::Empty)?;
+        self.keep_at(number, core)
+    }
+
+    /// How many bytes its image has.
+    pub fn image_length(&self) -> Result<u64, FolderFault> {
+        let number = self.number()?;
+        let name = image_path(self.rt.alloc(), self.path, number)?;
+        Ok(fs::metadata(self.rt, name.as_str())?.len())
+    }
+
+    // Leaves an image of the core under this number as the newest one.
+    fn keep_at(&mut self, number: u64, core: &Core) -> Result<(), FolderFault> {
         let name = image_path(self.rt.alloc(), self.path, number)?;
         self.write(name.as_str(), core)?;
         self.newest = Some(number);
         sweep(self.rt, self.path, number);
         Ok(())
+    }
+
+    // The number above all that are there.
+    fn next_number(&self) -> Result<u64, FolderFault> {
+        match self.last {
+            None => Ok(0),
+            Some(last) => last.checked_add(1).ok_or(FolderFault::Full),
+        }
     }
 
     // Writes the image of the core under this name, down to the disk.
@@ -131,6 +174,27 @@ impl<'a> Folder<'a> {
     fn number(&self) -> Result<u64, FolderFault> {
         self.newest.ok_or(FolderFault::Empty)
     }
+}
+
+// What stands in the journal of this number, the first one behind an image or a later one, which goes on from a core of which `base` has the
+// number of the next mutation and the clock.
+pub(crate) fn left_behind(
+    rt: &HostRuntime,
+    path: &str,
+    number: u64,
+    is_first: bool,
+    base: (u64, i64),
+) -> Result<Left, FolderFault> {
+    let mut bytes = Vec::new(rt.alloc());
+    let name = journal_path(rt.alloc(), path, number)?;
+    match File::open(rt, name.as_str()) {
+        Ok(mut file) => {
+            file.read_to_end(&mut bytes)?;
+        }
+        Err(error) if error.kind() == ErrorKind::NotFound => {}
+        Err(error) => return Err(FolderFault::Refused(error)),
+    }
+    left_in(rt.alloc(), number, is_first, base, bytes.as_slice())
 }
 
 // Makes the folder where it isn't there, down to the disk.
@@ -162,16 +226,24 @@ fn locked(rt: &HostRuntime, path: &str) -> Result<File, FolderFault> {
     }
 }
 
-// The greatest number of an image in the folder.
-fn newest(rt: &HostRuntime, path: &str) -> Result<Option<u64>, FolderFault> {
-    let mut newest = None;
+// The greatest number of an image in the folder, and of whatever has one.
+pub(crate) fn numbers(
+    rt: &HostRuntime,
+    path: &str,
+) -> Result<(Option<u64>, Option<u64>), FolderFault> {
+    let (mut newest, mut last) = (None, None);
     for entry in fs::read_dir(rt, path)? {
         let entry = entry?;
-        if let Kind::Image(number) = kind_of(entry.file_name()) {
-            newest = newest.max(Some(number));
+        match kind_of(entry.file_name()) {
+            Kind::Image(number) => {
+                newest = newest.max(Some(number));
+                last = last.max(Some(number));
+            }
+            Kind::With(number) => last = last.max(Some(number)),
+            Kind::Other => {}
         }
     }
-    Ok(newest)
+    Ok((newest, last))
 }
 
 // An empty file of this name, for its owner alone.

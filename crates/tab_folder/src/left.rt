@@ -1,8 +1,7 @@
 //! What a run that didn't end left in its journal.
 use crate::FolderFault;
 use std::alloc::Global;
-use tab_core::Core;
-use tab_journal::{Front, Kept, read_journal, take_batch};
+use tab_journal::{Format, Front, Kept, read_journal, take_batch};
 
 // How many bytes a front has.
 const FRONT: usize = 48;
@@ -10,36 +9,56 @@ const FRONT: usize = 48;
 /// What a run that didn't end left in its journal.
 #[derive(Drop)]
 pub struct Left {
-    /// The lines that it read, up to the last one that ends.
-    pub lines: Vec<u8>,
+    /// What the journal keeps.
+    pub format: Format,
+    /// The lines that a script read, up to the last one that ends, or the entries of a server's history.
+    pub text: Vec<u8>,
     /// How many bytes stand behind them that are no whole batch: what the crash cut off.
     pub cut: usize,
+    /// Whether the journal has a front: nothing was kept in it otherwise.
+    pub has_front: bool,
 }
 
-/// What these bytes of the journal of this number left to a core.
+/// What these bytes of the journal of this number left to a core, of which `base` has the number of the next mutation and the clock: the first
+/// journal behind an image, or a later one.
 pub(crate) fn left_in(
     alloc: Global,
     number: u64,
-    core: &Core,
+    is_first: bool,
+    base: (u64, i64),
     bytes: &[u8],
 ) -> Result<Left, FolderFault> {
     let Some(kept) = read_journal(alloc, bytes)? else {
         return frontless(alloc, number, bytes);
     };
-    if !follows_on(&kept.front, number, core) {
+    if !follows_on(&kept.front, number, is_first, base) {
         return Err(FolderFault::Strange(number));
     }
     let length = bytes.len().saturating_sub(kept.left);
     if is_damaged(&kept, bytes, length) {
         return Err(FolderFault::Damaged(number, length as u64));
     }
-    let Kept { mut text, left, .. } = kept;
+    let Kept {
+        front,
+        mut text,
+        left,
+        ..
+    } = kept;
+    if front.format == Format::Lines {
+        end_with_line(&mut text);
+    }
+    Ok(Left {
+        format: front.format,
+        text,
+        cut: left,
+        has_front: true,
+    })
+}
+
+// Leaves what comes before the last line that doesn't end.
+fn end_with_line(text: &mut Vec<u8>) {
     let whole = text.as_slice().iter().rposition(|byte| *byte == b'\n');
     text.truncate(whole.map_or(0, |last| last.saturating_add(1)));
-    Ok(Left {
-        lines: text,
-        cut: left,
-    })
 }
 
 // A journal that has no front. Nothing is put before its front is on the disk.
@@ -48,37 +67,54 @@ fn frontless(alloc: Global, number: u64, bytes: &[u8]) -> Result<Left, FolderFau
         return Err(FolderFault::Damaged(number, 0));
     }
     Ok(Left {
-        lines: Vec::new(alloc),
+        format: Format::Events,
+        text: Vec::new(alloc),
         cut: bytes.len(),
+        has_front: false,
     })
 }
 
-// Whether the journal was begun on the image of this number, which has this core.
-fn follows_on(front: &Front, number: u64, core: &Core) -> bool {
-    front.generation == number && front.next == core.next() && front.clock == core.clock()
+// Whether the journal of this number was begun on a core of which `base` has the number of the next mutation and the clock: the one of the image
+// of its number, or one that did what stands in the journals before, and whose clock may be lower.
+fn follows_on(front: &Front, number: u64, is_first: bool, base: (u64, i64)) -> bool {
+    let is_at = if is_first {
+        front.clock == base.1
+    } else {
+        front.clock >= base.1
+    };
+    front.generation == number && front.next == base.0 && is_at
 }
 
 // Whether some batch stands behind the first ones that were read, and was written when more than these were on the disk.
 fn is_damaged(kept: &Kept, bytes: &[u8], length: usize) -> bool {
     for place in length..bytes.len() {
-        if settled_at(kept.front.salt, bytes, place) > length as u64 {
+        if is_later(kept.front.salt, bytes, place, length) {
             return true;
         }
     }
     false
 }
 
-// What the batch at this place says of the disk, or 0 where none begins there. What stands before the place is the sum before it.
-fn settled_at(salt: u64, bytes: &[u8], place: usize) -> u64 {
-    let Some([a, b, c, d, e, f, g, h]) = bytes.get(place.saturating_sub(8)..place) else {
-        return 0;
-    };
-    let before = u64::from_be_bytes([*a, *b, *c, *d, *e, *f, *g, *h]);
-    let Some(behind) = bytes.get(place..) else {
-        return 0;
-    };
-    match take_batch(salt, before, behind) {
-        Some((batch, _)) => batch.settled,
-        None => 0,
+// Whether a batch begins at this place that was written when more than the first so many bytes were on the disk, and no more than stand before
+// it. What stands before the place is the sum before it. A sum is made only where the rest fits: that takes long.
+fn is_later(salt: u64, bytes: &[u8], place: usize, length: usize) -> bool {
+    let settled = number_at(bytes, place).unwrap_or(0);
+    if settled <= length as u64 || settled > place as u64 {
+        return false;
     }
+    let Some(before) = number_at(bytes, place.saturating_sub(8)) else {
+        return false;
+    };
+    match bytes.get(place..) {
+        Some(behind) => take_batch(salt, before, behind).is_some(),
+        None => false,
+    }
+}
+
+// The eight bytes at this place as a number.
+fn number_at(bytes: &[u8], place: usize) -> Option<u64> {
+    let Some([a, b, c, d, e, f, g, h]) = bytes.get(place..place.saturating_add(8)) else {
+        return None;
+    };
+    Some(u64::from_be_bytes([*a, *b, *c, *d, *e, *f, *g, *h]))
 }

@@ -1,16 +1,18 @@
 //! The folder of a store, which keeps a core from one start of the program to the next.
 //!
 //! It has a file `lock`, which whoever has taken the folder up holds for himself; an image of the core, whose name is `image.` and a number that
-//! rises; and, while a script runs, `journal.` and that number, with the lines that the script has read since. A line is in the journal
-//! before the script sees it, and on the disk before anything is answered. Where the script ends, a new image is written under a name of its
-//! own, synced, and renamed; the folder is synced, and only then the old image and its journal are removed. So at each moment the image of the
-//! greatest number is whole, and behind it stand all lines that were answered since.
+//! rises; and, while a script or a server runs, `journal.` and that number, with the lines that the script has read since, or the entries of the
+//! server's history. A line is in the journal before the script sees it, and on the disk before anything is answered. Where the script ends, a new
+//! image is written under a name of its own, synced, and renamed; the folder is synced, and only then the old image and its journal are removed.
+//! So at each moment the image of the greatest number is whole, and behind it stands all that was answered since.
 //!
 //! | File | What |
 //! |---|---|
 //! | `folder` | the folder: taken up, read, and left with the next image |
+//! | `looking` | a folder that is looked into, and left as it is |
 //! | `left` | what a run that didn't end left in its journal |
-//! | `log`, `streams` | a journal that is being written, and the streams of a script beside it |
+//! | `journal` | a journal that is being written |
+//! | `log`, `streams` | the journal of a script's lines, and the streams of a script beside it |
 //! | `names` | the names of the files |
 //! | `fault` | why a folder can't be taken up, and why nothing is kept in it |
 //!
@@ -19,13 +21,18 @@
 
 mod fault;
 mod folder;
+mod journal;
 mod left;
 mod log;
+mod looking;
 mod names;
 mod streams;
 
 pub use fault::FolderFault;
 pub use folder::Folder;
+pub use journal::Journal;
 pub use left::Left;
 pub use log::Log;
+pub use looking::Look;
 pub use streams::{Logged, Settled};
+pub use tab_journal::Format;

@@ -1,13 +1,13 @@
 //! A socket whose first bytes are waited for only so long.
 use std::io;
 use std::io::{ErrorKind, Read};
-use std::net::TcpStream;
 use std::time::Duration;
+use tab_socket::Stream;
 
 /// A reader of a socket, whose first read fails where nothing comes in time. Later ones wait as long as it takes.
 #[derive(Drop)]
-pub struct FirstWait<'a> {
-    stream: &'a TcpStream,
+pub struct FirstWait<'a, S> {
+    stream: &'a S,
     state: Wait,
 }
 
@@ -19,9 +19,9 @@ enum Wait {
     Later,
 }
 
-impl<'a> FirstWait<'a> {
+impl<'a, S: Stream> FirstWait<'a, S> {
     /// Waits so long for the first bytes, above 0.
-    pub fn new(stream: &'a TcpStream, time: Duration) -> io::Result<FirstWait<'a>> {
+    pub fn new(stream: &'a S, time: Duration) -> io::Result<FirstWait<'a, S>> {
         stream.set_read_timeout(Some(time))?;
         Ok(FirstWait {
             stream,
@@ -41,13 +41,12 @@ impl<'a> FirstWait<'a> {
     }
 }
 
-impl Read for FirstWait<'_> {
+impl<'a, S: Stream> Read for FirstWait<'a, S> {
     fn read(&mut self, buf: &mut [u8]) -> io::Result<usize> {
-        let mut stream = self.stream;
         if self.state == Wait::Later {
-            return stream.read(buf);
+            return self.stream.receive(buf);
         }
-        match stream.read(buf) {
+        match self.stream.receive(buf) {
             Ok(count) => {
                 self.relax()?;
                 Ok(count)

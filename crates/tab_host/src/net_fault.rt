@@ -1,6 +1,6 @@
-//! Why a port can't be used.
+//! Why a port, or a socket file, can't be used.
 
-/// Why a port of this machine can't be used; the system's reason goes behind it.
+/// Why a port of this machine can't be used, or a socket file, whose name stands in front of it; the system's reason goes behind it.
 #[derive(Clone, Copy, Debug, PartialEq, Eq, thiserror::Error)]
 pub enum NetFault {
     /// The port can't be listened on.
@@ -12,4 +12,10 @@ pub enum NetFault {
     /// What listens on the port gives no answer.
     #[error("port {0} doesn't answer as tabd")]
     Silent(u16),
+    /// No server is reached at the file.
+    #[error("no server is reached")]
+    NoServer,
+    /// What listens at the file gives no answer.
+    #[error("it doesn't answer as tabd")]
+    NoAnswer,
 }

@@ -8,7 +8,7 @@ use tab_audit::{clock_behind, put_entry};
 use tab_book::{KeptEntry, KeptReply, Part};
 use tab_core::EventReply;
 use tab_io::{BlockWriter, Output, WriteFault};
-use tab_work::History;
+use tab_server::History;
 
 // Who may read the file that is made: whoever runs the server.
 const MODE: u32 = 0o600;

@@ -1,10 +1,11 @@
 //! A script over a folder, which keeps what it does.
 use crate::files::{Disk, core_of};
+use crate::replaying::entries_done;
 use anyhow::Context;
 use std::io;
 use std::io::{Read, Write};
 use tab_core::Core;
-use tab_folder::{Folder, Left, Log, Logged, Settled};
+use tab_folder::{Folder, Format, Left, Log, Logged, Settled};
 use tab_io::{BlockReader, BlockWriter};
 use tab_prog::{FileName, Files, LoadFault, ProgramFault, SaveFault, script_on};
 use tab_shell::Script;
@@ -68,34 +69,35 @@ pub fn taken_up(
         return Err(KeptFault::Image).with_context(|| path);
     }
     let core = folder.load().with_context(|| path)?;
-    let left = folder.left(&core).with_context(|| path)?;
-    if left.cut > 0 {
-        let _ = eprintln!(rt;
-            "{path}: {} bytes at the end of the journal are cut off",
-            left.cut
-        );
+    let journals = folder.journals().with_context(|| path)?;
+    let left = folder.left(journals.start, &core).with_context(|| path)?;
+    match left.format {
+        Format::Lines => lines_done(rt, folder, path, core, &left),
+        Format::Events => entries_done(rt, folder, path, core, left),
     }
-    if left.lines.is_empty() {
-        return Ok(core);
-    }
-    done_again(rt, folder, path, core, &left)
 }
 
 // Does the lines again that were left, and keeps what comes of them.
-fn done_again(
+fn lines_done(
     rt: &HostRuntime,
     folder: &mut Folder<'_>,
     path: &str,
     core: Core,
     left: &Left,
 ) -> anyhow::Result<Core> {
+    if left.cut > 0 {
+        let _ = eprintln!(rt;
+            "{path}: {} bytes at the end of the journal are cut off",
+            left.cut
+        );
+    }
+    if left.text.is_empty() {
+        return Ok(core);
+    }
     let mut script = Script::new(rt.alloc(), core);
     replay(rt, folder, &mut script, left)?;
     folder.keep(script.core()).with_context(|| path)?;
-    let _ = eprintln!(rt;
-        "{path}: {} bytes of lines are done again",
-        left.lines.len()
-    );
+    let _ = eprintln!(rt; "{path}: {} bytes of lines are done again", left.text.len());
     folder.load().with_context(|| path)
 }
 
@@ -106,7 +108,7 @@ fn replay(
     script: &mut Script,
     left: &Left,
 ) -> Result<(), ProgramFault> {
-    let Ok(mut input) = BlockReader::new(rt.alloc(), left.lines.as_slice()) else {
+    let Ok(mut input) = BlockReader::new(rt.alloc(), left.text.as_slice()) else {
         return Err(ProgramFault::NoMemory);
     };
     let Ok(mut output) = BlockWriter::new(rt.alloc(), io::sink()) else {

@@ -5,20 +5,29 @@
 //! | `scripting`, `serving`, `shell` | `tabd script`, `tabd serve` and `tabd shell` |
 //! | `watching` | how a run of lines ends that is watched |
 //! | `keeping` | a script over a folder, which keeps what it does |
+//! | `kept`, `replaying` | what a server keeps in a folder, and what one left there, done again |
 //! | `history` | the history of a server, in a file |
+//! | `telling`, `metrics` | what a server tells beside its answers, and what it tells of itself, in a file |
+//! | `looking` | `tabd inspect` and `tabd export` |
 //! | `files` | images in files, as lines and the command line name them |
 #![tactic(auto)]
 
 mod files;
 mod history;
 mod keeping;
+mod kept;
+mod looking;
+mod metrics;
+mod replaying;
 mod scripting;
 mod serving;
 mod shell;
+mod telling;
 mod watching;
 
 use anyhow::Context;
 use clap::Error;
+use looking::{Form, run_look};
 use scripting::{Style, run_kept, run_script};
 use serving::run_serve;
 use shell::{Way, run_shell};
@@ -27,14 +36,20 @@ use std::process::ExitCode;
 use std::sync::Wait;
 use std::thread::Threads;
 use std::time::{Clock, Duration};
-use tab_command::{LineHelp, Request, ScriptRequest, ServeRequest, ShellRequest, parse};
+use tab_command::{
+    ExportRequest, LineHelp, Request, ScriptRequest, ServeRequest, ShellRequest, parse,
+};
 use tab_key::Name;
 use tab_prog::ProgramFault;
+use tab_server::Options;
+use tab_socket::mode_of;
 use tab_watch::Watch;
-use tab_work::Options;
 
 // From how many entries on a server's history is dropped.
 const ROTATE_AT: u64 = 16_384;
+
+// Who may connect to a server's socket file, unless the command line says otherwise: whoever runs the server.
+const SOCKET_MODE: &str = "600";
 
 fn main(rt: HostRuntime) -> ExitCode {
     match run(&rt, &rt) {
@@ -95,8 +110,24 @@ fn asked<R: Threads + Wait + Clock + Sync>(
         Request::Script(script) => scripted(rt, script),
         Request::Serve(serve) => served(rt, threads, serve),
         Request::Shell(shell) => shelled(rt, shell),
+        Request::Inspect(inspect) => {
+            run_look(rt, inspect.path, Form::Facts, inspect.progress)?;
+            Ok(ExitCode::SUCCESS)
+        }
+        Request::Export(export) => exported(rt, export),
         Request::Nothing => Ok(ExitCode::SUCCESS),
     }
+}
+
+// Writes an image as lines.
+fn exported(rt: &HostRuntime, export: ExportRequest<'_>) -> anyhow::Result<ExitCode> {
+    let form = if export.accumulo {
+        Form::Accumulo
+    } else {
+        Form::Script
+    };
+    run_look(rt, export.path, form, export.progress)?;
+    Ok(ExitCode::SUCCESS)
 }
 
 // Runs a script.
@@ -127,14 +158,17 @@ fn served<R: Threads + Wait + Clock + Sync>(
     threads: &R,
     serve: ServeRequest<'_>,
 ) -> anyhow::Result<ExitCode> {
+    let Some(mode) = mode_of(serve.socket_mode.unwrap_or(SOCKET_MODE)) else {
+        return Ok(refused(rt, "the mode isn't octal digits: 0 to 777"));
+    };
     let options = Options {
         workers: serve.workers,
         compactors: serve.compactors,
         accept: serve.accept,
+        idle: serve.idle,
         rotate_at: ROTATE_AT,
     };
-    run_serve(rt, threads, serve.image, serve.history, serve.port, options)?;
-    Ok(ExitCode::SUCCESS)
+    run_serve(rt, threads, serve, mode, options)
 }
 
 // Runs a shell.
@@ -143,7 +177,7 @@ fn shelled(rt: &HostRuntime, shell: ShellRequest<'_>) -> anyhow::Result<ExitCode
         return Ok(refused(rt, "the user isn't a name: 1 to 128 of a-z A-Z 0-9 _ - ."));
     };
     let way = Way {
-        port: shell.port,
+        place: shell.place,
         patience: Duration::from_secs(shell.timeout as u64),
         style: style_of(shell.prompted, shell.explained),
         watch: Watch {

@@ -6,7 +6,7 @@ use anyhow::Context;
 use std::io::{IsTerminal, Read, Write};
 use std::process::ExitCode;
 use tab_core::Core;
-use tab_folder::Folder;
+use tab_folder::{Folder, Format, Log};
 use tab_help::{Asks, Explaining, Prompting};
 use tab_host::Noting;
 use tab_io::{BlockReader, BlockWriter};
@@ -62,7 +62,8 @@ pub fn run_kept(
 ) -> anyhow::Result<ExitCode> {
     let mut folder = Folder::open(rt, path).with_context(|| path)?;
     let core = taken_up(rt, &mut folder, path, image)?;
-    let log = folder.begin(&core).with_context(|| path)?;
+    let journal = folder.begin(&core, Format::Lines).with_context(|| path)?;
+    let log = Log::new(journal);
     let mut script = Script::new(rt.alloc(), core);
     let keeping = Keeping::new(&folder, &log, &mut script);
     let outcome = styled(rt, Begins::Kept(keeping), style, watch);

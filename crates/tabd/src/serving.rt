@@ -1,42 +1,119 @@
 //! `tabd serve`.
 use crate::files::core_of;
 use crate::history::LogFile;
+use crate::kept::Kept;
+use crate::telling::Telling;
 use anyhow::Context;
+use std::fmt::Display;
 use std::net::{Ipv4Addr, TcpListener};
+use std::process::ExitCode;
 use std::sync::Wait;
 use std::thread::Threads;
 use std::time::Clock;
+use tab_command::{Place, ServeRequest};
+use tab_core::Core;
 use tab_host::NetFault;
 use tab_prog::ProgramFault;
 use tab_serve::Moments;
-use tab_work::{Options, WallClock, run_server};
+use tab_server::{Nowhere, Options, Store, WallClock, run_server};
+use tab_socket::{Listener, SocketFile};
 
 // A year, in milliseconds.
 const YEAR: i64 = 31_557_600_000;
 
-/// Listens on the port of 127.0.0.1, says so on standard output, and answers connections over the core of this image, or over a new one. The
-/// history goes to the file of this name, if one is named.
+/// Listens on a port of 127.0.0.1, or at a socket file of this mode, says so on standard output, and answers connections over the core of the folder that is named, which keeps
+/// what it answers; or else over that of the image, or a new one, which end with it. It tells so much beside its answers as is asked for. Gives
+/// the status.
 ///
 /// A fault tells the system's reason.
 pub fn run_serve<R: Threads + Wait + Clock + Sync>(
     rt: &HostRuntime,
     threads: &R,
-    image: Option<&str>,
-    history: Option<&str>,
-    port: u16,
+    serve: ServeRequest<'_>,
+    mode: u32,
     options: Options,
+) -> anyhow::Result<ExitCode> {
+    match serve.store {
+        None => {
+            let core = core_of(rt, serve.image)?;
+            answer(rt, threads, serve, mode, options, core, &Nowhere)?;
+            Ok(ExitCode::SUCCESS)
+        }
+        Some(path) => {
+            let (core, kept) = Kept::take_up(rt, path, serve)?;
+            answer(rt, threads, serve, mode, options, core, &kept)?;
+            Ok(kept.status())
+        }
+    }
+}
+
+// Listens, and answers connections over the core, whose events the store keeps.
+fn answer<R: Threads + Wait + Clock + Sync, D: Store + Sync>(
+    rt: &HostRuntime,
+    threads: &R,
+    serve: ServeRequest<'_>,
+    mode: u32,
+    options: Options,
+    core: Core,
+    store: &D,
 ) -> anyhow::Result<()> {
-    let alloc = rt.alloc();
-    let core = core_of(rt, image)?;
-    if let Some(name) = image {
+    if let Some(name) = serve.store.or(serve.image) {
         tell_clock(rt, name, core.clock());
     }
-    let log = LogFile::open(rt, history)?;
+    let log = LogFile::open(rt, serve.history)?;
+    let telling = Telling::new(rt, log, serve.metrics, serve.logged)?;
+    match serve.place {
+        Place::Port(port) => at_port(rt, threads, port, options, core, &telling, store),
+        Place::Socket(name) => at_file(rt, threads, name, mode, options, core, &telling, store),
+    }
+}
+
+// The same on this port.
+fn at_port<R: Threads + Wait + Clock + Sync, D: Store + Sync>(
+    rt: &HostRuntime,
+    threads: &R,
+    port: u16,
+    options: Options,
+    core: Core,
+    telling: &Telling<'_>,
+    store: &D,
+) -> anyhow::Result<()> {
     let listener = TcpListener::bind(rt, (Ipv4Addr::LOCALHOST, port)).with_context(
         || NetFault::Listen(port),
     )?;
-    println!(rt; "listening {port}").context(ProgramFault::Write)?;
-    run_server(threads, alloc, core, &listener, options, &log)?;
+    listen(rt, threads, &listener, port, options, core, telling, store)
+}
+
+// The same at a socket file of this name and mode, which goes at the end.
+fn at_file<R: Threads + Wait + Clock + Sync, D: Store + Sync>(
+    rt: &HostRuntime,
+    threads: &R,
+    name: &str,
+    mode: u32,
+    options: Options,
+    core: Core,
+    telling: &Telling<'_>,
+    store: &D,
+) -> anyhow::Result<()> {
+    let file = SocketFile::bind(rt, name, mode).with_context(|| name)?;
+    let outcome = listen(rt, threads, &file, name, options, core, telling, store);
+    file.remove();
+    outcome
+}
+
+// The same by this listener, which has this name.
+fn listen<R: Threads + Wait + Clock + Sync, N: Listener, T: Display + Drop, D: Store + Sync>(
+    rt: &HostRuntime,
+    threads: &R,
+    listener: &N,
+    name: T,
+    options: Options,
+    core: Core,
+    telling: &Telling<'_>,
+    store: &D,
+) -> anyhow::Result<()> {
+    println!(rt; "listening {name}").context(ProgramFault::Write)?;
+    run_server(threads, rt.alloc(), core, listener, options, telling, store)?;
     Ok(())
 }
 

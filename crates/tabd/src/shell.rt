@@ -4,21 +4,24 @@ use crate::watching::ended;
 use anyhow::Context;
 use std::io::{Error, IsTerminal, Read, Write};
 use std::net::{Ipv4Addr, SocketAddr, TcpStream};
+use std::os::unix::net::UnixStream;
 use std::process::ExitCode;
 use std::time::Duration;
+use tab_command::Place;
 use tab_help::{Asks, Explaining, Prompting};
 use tab_host::{FirstWait, NetFault, Noting};
 use tab_io::{BlockReader, BlockWriter};
 use tab_key::Name;
 use tab_prog::{ShellFault, shell_run};
+use tab_socket::{End, Stream};
 use tab_watch::{Columns, Course, Replies, Steps, Watch};
 
 /// Whom a shell asks, and how.
-#[derive(Clone, Copy, Debug)]
-pub struct Way {
-    /// The port of 127.0.0.1.
-    pub port: u16,
-    /// How long the server is waited for, to connect and for its first answer.
+#[derive(Clone, Copy)]
+pub struct Way<'a> {
+    /// Where the server is.
+    pub place: Place<'a>,
+    /// How long the server is waited for, to connect to its port and for its first answer.
     pub patience: Duration,
     /// What goes with the lines.
     pub style: Style,
@@ -28,14 +31,26 @@ pub struct Way {
 
 /// Asks the server what the lines of standard input say, as this user, and prints what it tells on standard output. Gives the status; a
 /// fault tells the system's reason.
-pub fn run_shell(rt: &HostRuntime, way: &Way, user: Name) -> anyhow::Result<ExitCode> {
-    let stream = connected(rt, way)?;
+pub fn run_shell(rt: &HostRuntime, way: &Way<'_>, user: Name) -> anyhow::Result<ExitCode> {
+    match way.place {
+        Place::Port(port) => shell_over(rt, way, connected(rt, port, way.patience)?, user),
+        Place::Socket(name) => shell_over(rt, way, opened(rt, name)?, user),
+    }
+}
+
+// The same over a connection.
+fn shell_over<S: Stream>(
+    rt: &HostRuntime,
+    way: &Way<'_>,
+    stream: S,
+    user: Name,
+) -> anyhow::Result<ExitCode> {
     let mut first = FirstWait::new(&stream, way.patience)?;
     let course = Course::new(way.watch);
     let mut lines = Noting::new(rt.stdin());
     let mut out = Noting::new(rt.stdout());
     let mut reader = Noting::new(&mut first);
-    let mut writer = Noting::new(&stream);
+    let mut writer = Noting::new(End::new(&stream));
     let columns = Columns::new(
         rt.alloc(),
         &mut out,
@@ -66,18 +81,34 @@ pub fn run_shell(rt: &HostRuntime, way: &Way, user: Name) -> anyhow::Result<Exit
     };
     drop(reader);
     if first.is_late() {
-        return Err(NetFault::Silent(way.port).into());
+        return Err(silent(way.place));
     }
     Err(with_reason(fault, reason))
 }
 
-// A connection to the server.
-fn connected(rt: &HostRuntime, way: &Way) -> anyhow::Result<TcpStream> {
-    let address = SocketAddr::from((Ipv4Addr::LOCALHOST, way.port));
-    let fault = NetFault::Connect(way.port);
-    let stream = TcpStream::connect_timeout(rt, &address, way.patience).with_context(|| fault)?;
+// A connection to the server on a port.
+fn connected(rt: &HostRuntime, port: u16, patience: Duration) -> anyhow::Result<TcpStream> {
+    let address = SocketAddr::from((Ipv4Addr::LOCALHOST, port));
+    let fault = NetFault::Connect(port);
+    let stream = TcpStream::connect_timeout(rt, &address, patience).with_context(|| fault)?;
     stream.set_nodelay(true).with_context(|| fault)?;
     Ok(stream)
+}
+
+// A connection to the server at a socket file.
+fn opened(rt: &HostRuntime, name: &str) -> anyhow::Result<UnixStream> {
+    let stream = UnixStream::connect(rt, name)
+        .with_context(|| NetFault::NoServer)
+        .with_context(|| name)?;
+    Ok(stream)
+}
+
+// The fault of a server that gives no first answer.
+fn silent(place: Place<'_>) -> anyhow::Error {
+    match place {
+        Place::Port(port) => NetFault::Silent(port).into(),
+        Place::Socket(name) => anyhow::Error::from(NetFault::NoAnswer).context(name),
+    }
 }
 
 // The lines, with what goes with them, asked of the server.

@@ -1,0 +1,108 @@
+//! What a server tells of itself, in a file.
+use std::fmt::{Display, Formatter};
+use std::fs::{OpenOptions, Permissions};
+use std::io::{Error, ErrorKind, Write};
+use std::os::unix::fs::{OpenOptionsExt, PermissionsExt};
+use std::sync::atomic::{AtomicBool, Ordering};
+use std::{fmt, fs, io};
+use tab_prog::ProgramFault;
+use tab_server::Figures;
+
+// Who may read the file: everybody, since whoever collects it runs as another user.
+const MODE: u32 = 0o644;
+
+/// A file that is written anew each time, and gets its name once it is whole.
+#[derive(Drop)]
+pub struct MetricsFile<'a> {
+    rt: &'a HostRuntime,
+    name: &'a str,
+    part: String,
+    // whether it couldn't be written last time
+    has_failed: AtomicBool,
+}
+
+impl<'a> MetricsFile<'a> {
+    /// The file of this name, which isn't written yet. It takes memory for the name.
+    pub fn new(rt: &'a HostRuntime, name: &'a str) -> Result<MetricsFile<'a>, ProgramFault> {
+        let part = format!(in rt.alloc(); "{name}.part").map_err(|_| ProgramFault::NoMemory)?;
+        Ok(MetricsFile {
+            rt,
+            name,
+            part,
+            has_failed: AtomicBool::new(false),
+        })
+    }
+
+    /// Writes the file. Where it can't be, the last one stays, and standard error tells why, unless it couldn't be the last time either.
+    pub fn write(&self, figures: &Figures<'_>) {
+        match self.replace(figures) {
+            Ok(()) => self.has_failed.store(false, Ordering::SeqCst),
+            Err(error) => self.tell(error),
+        }
+    }
+
+    // Tells why it can't be written, unless it was told last time.
+    fn tell(&self, error: Error) {
+        if !self.has_failed.swap(true, Ordering::SeqCst) {
+            let _ = eprintln!(self.rt;
+                "fault: {}: the metrics can't be written: {error}",
+                self.name
+            );
+        }
+    }
+
+    // Writes a new file, and gives it the name of the old one.
+    fn replace(&self, figures: &Figures<'_>) -> io::Result<()> {
+        let resident = Resident(resident_bytes(self.rt));
+        let text = format!(in self.rt.alloc(); "{figures}{resident}");
+        let text = text.map_err(|_| Error::from(ErrorKind::OutOfMemory))?;
+        let outcome = self.put(text.as_bytes());
+        if outcome.is_err() {
+            let _ = fs::remove_file(self.rt, self.part.as_str());
+        }
+        outcome
+    }
+
+    // Writes these bytes to a new file, and gives it the name. What has its name before that is what a dead run has left.
+    fn put(&self, bytes: &[u8]) -> io::Result<()> {
+        let part = self.part.as_str();
+        let _ = fs::remove_file(self.rt, part);
+        let mut file = OpenOptions::new()
+            .write(true)
+            .create_new(true)
+            .mode(MODE)
+            .open(self.rt, part)?;
+        file.set_permissions(Permissions::from_mode(MODE))?;
+        file.write_all(bytes)?;
+        fs::rename(self.rt, part, self.name)
+    }
+}
+
+// How many bytes of memory the program has, if the system tells; as a metric.
+#[derive(Clone, Copy)]
+struct Resident(Option<u64>);
+
+impl Display for Resident {
+    fn fmt<W: fmt::Write>(&self, f: &mut Formatter<W>) -> fmt::Result {
+        let Some(bytes) = self.0 else {
+            return Ok(());
+        };
+        writeln!(
+            f,
+            "# HELP tabd_resident_memory_bytes Memory that the program has."
+        )?;
+        writeln!(f, "# TYPE tabd_resident_memory_bytes gauge")?;
+        writeln!(f, "tabd_resident_memory_bytes {bytes}")
+    }
+}
+
+// How many bytes of memory the program has; none where the system doesn't tell.
+fn resident_bytes(rt: &HostRuntime) -> Option<u64> {
+    let status = fs::read_to_string(rt, "/proc/self/status").ok()?;
+    let line = status
+        .as_str()
+        .lines()
+        .find(|line| line.starts_with("VmRSS:"))?;
+    let kilobytes = line.split_whitespace().nth(1)?.parse::<u64>().ok()?;
+    kilobytes.checked_mul(1024)
+}
