@@ -32,6 +32,7 @@ use std::marker::Brand;
 use std::process::ExitCode;
 use std::sync::Wait;
 use std::sync::ledger::{Blank, Ledger};
+use std::thread::Threads;
 use tab_book::{Book, Seat, SeatsOut};
 use tab_core::Core;
 use tab_io::{BlockReader, BlockWriter, Input, Output};
@@ -62,7 +63,7 @@ fn main(rt: HostRuntime) -> ExitCode {
 }
 
 // Serves the connection to its end. Whether all settles then.
-fn run<R: Wait>(rt: &HostRuntime, waits: &R) -> anyhow::Result<bool> {
+fn run<R: Threads + Wait + Sync>(rt: &HostRuntime, waits: &R) -> anyhow::Result<bool> {
     let alloc = rt.alloc();
     let calls = asked_for(rt)?;
     let core = Core::new(alloc)?;
@@ -90,7 +91,7 @@ fn asked_for(rt: &HostRuntime) -> anyhow::Result<Calls> {
 }
 
 // The same with the ledger on which the seat counts.
-fn serve<L: Ledger, R: Wait, I: Input, W: Output>(
+fn serve<L: Ledger, R: Threads + Wait + Sync, I: Input, W: Output>(
     rt: &R,
     alloc: Global,
     core: Core,
@@ -175,7 +176,7 @@ fn by_shared<L: Ledger, R: Wait, I: Input, W: Output>(
 }
 
 // By `serve_shared`.
-fn by_frames<L: Ledger, R: Wait, I: Input, W: Output>(
+fn by_frames<L: Ledger, R: Threads + Wait + Sync, I: Input, W: Output>(
     rt: &R,
     alloc: Global,
     shared: Shared<L>,

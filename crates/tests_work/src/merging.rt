@@ -72,7 +72,7 @@ fn is_due<L: Ledger, R: Wait + Abort>(rt: &R, alloc: Global, shared: &Shared<L>)
 }
 
 // What is due is compacted, the merge held up.
-fn compacts_held_up<L: Ledger, R: Wait + Abort + Clock>(
+fn compacts_held_up<L: Ledger, R: Threads + Wait + Abort + Clock + Sync>(
     rt: &R,
     alloc: Global,
     shared: &Shared<L>,
@@ -90,7 +90,7 @@ fn compacts_held_up<L: Ledger, R: Wait + Abort + Clock>(
 }
 
 // What a connection is told that writes into the table and reads it while the merge is held up, and whether that was.
-fn writes_meanwhile<L: Ledger, R: Wait + Abort + Clock>(
+fn writes_meanwhile<L: Ledger, R: Threads + Wait + Abort + Clock + Sync>(
     rt: &R,
     alloc: Global,
     shared: &Shared<L>,

@@ -36,7 +36,7 @@ impl<R: Clock> Gate for Held<'_, R> {
 }
 
 // What a connection is told that makes a table and reads it, its batch held up.
-fn reads_held_up<L: Ledger, R: Wait + Abort + Clock>(
+fn reads_held_up<L: Ledger, R: Threads + Wait + Abort + Clock + Sync>(
     rt: &R,
     alloc: Global,
     shared: &Shared<L>,
@@ -62,7 +62,7 @@ fn reads_held_up<L: Ledger, R: Wait + Abort + Clock>(
 }
 
 // What a connection is told that writes into the table and reads it while the other one is held up, and whether that one was.
-fn writes_meanwhile<L: Ledger, R: Wait + Abort + Clock>(
+fn writes_meanwhile<L: Ledger, R: Threads + Wait + Abort + Clock + Sync>(
     rt: &R,
     alloc: Global,
     shared: &Shared<L>,

@@ -10,6 +10,7 @@ use std::marker::Brand;
 use std::process::Abort;
 use std::sync::Wait;
 use std::sync::ledger::{Blank, Ledger};
+use std::thread::Threads;
 use tab_book::Receipt;
 use tab_core::Core;
 use tab_io::memory::{PieceReader, PieceWriter};
@@ -25,7 +26,12 @@ fn rising<L: Ledger>(rt: &impl Abort, receipts: &[Receipt<L>]) -> u64 {
     next
 }
 
-fn reads_own_writes<L: Ledger, R: Wait + Abort>(rt: &R, alloc: Global, core: Core, blank: Blank)
+fn reads_own_writes<L: Ledger, R: Threads + Wait + Abort + Sync>(
+    rt: &R,
+    alloc: Global,
+    core: Core,
+    blank: Blank,
+)
     requires name { blank.name ≡ L.name }
     requires parts { blank.parts ≡ L.parts }
     requires enough { 2 ^ 32 ≤ blank.parts }

@@ -230,7 +230,12 @@ fn a_job_outlives_a_rotation(rt: HostRuntime) {
     installs_behind::<Brand, _>(&rt, rt.alloc(), core, Blank::new(1 << 32));
 }
 
-fn rotates_over_frames<L: Ledger, R: Wait + Abort>(rt: &R, alloc: Global, core: Core, blank: Blank)
+fn rotates_over_frames<L: Ledger, R: Threads + Wait + Abort + Sync>(
+    rt: &R,
+    alloc: Global,
+    core: Core,
+    blank: Blank,
+)
     requires name { blank.name ≡ L.name }
     requires parts { blank.parts ≡ L.parts }
     requires enough { 2 ^ 32 ≤ blank.parts }

@@ -9,6 +9,7 @@ use std::marker::Brand;
 use std::process::Abort;
 use std::sync::Wait;
 use std::sync::ledger::{Blank, Ledger};
+use std::thread::Threads;
 use tab_book::{Receipt, Seat, settle};
 use tab_core::Core;
 use tab_io::memory::{Fault, PieceReader, PieceWriter};
@@ -17,7 +18,7 @@ use tab_serve::{Listed, ServeFault};
 use tab_work::{Gate, OpenGate, Shared, serve_shared};
 
 // How the connection of this reader ends on this seat, and what stands in the writer then. Each event has the moment 0.
-pub fn served_by<L: Ledger, R: Wait + Abort, G: Gate>(
+pub fn served_by<L: Ledger, R: Threads + Wait + Abort + Sync, G: Gate>(
     rt: &R,
     alloc: Global,
     shared: &Shared<L>,
@@ -46,7 +47,7 @@ pub fn served_by<L: Ledger, R: Wait + Abort, G: Gate>(
 }
 
 // The same with a new book. The receipts settle in it.
-fn served_at<L: Ledger, R: Wait + Abort>(
+fn served_at<L: Ledger, R: Threads + Wait + Abort + Sync>(
     rt: &R,
     alloc: Global,
     core: Core,
@@ -92,7 +93,7 @@ fn settles<L: Ledger, R: Wait + Abort>(
 }
 
 // What the connection of this reader is told over a new core, which ends so.
-fn served<R: Wait + Abort>(
+fn served<R: Threads + Wait + Abort + Sync>(
     rt: &R,
     alloc: Global,
     reader: PieceReader<'_>,
@@ -113,7 +114,7 @@ fn served<R: Wait + Abort>(
 }
 
 // What the talk is told, read and written in pieces of this length.
-fn expect_told<R: Wait + Abort>(rt: &R, alloc: Global, talk: u32, piece: usize) {
+fn expect_told<R: Threads + Wait + Abort + Sync>(rt: &R, alloc: Global, talk: u32, piece: usize) {
     let reader = PieceReader::new(asked(talk), piece);
     let bytes = served(rt, alloc, reader, PieceWriter::new(alloc, piece), Ok(()));
     assert!(rt; bytes.as_slice() == told(talk));
@@ -130,7 +131,12 @@ fn reads_to_any_place(rt: HostRuntime) {
 }
 
 // The talk, cut there, is told of the frames before, and that a frame is cut, if one is.
-fn expect_told_until<R: Wait + Abort>(rt: &R, alloc: Global, talk: u32, at: usize) {
+fn expect_told_until<R: Threads + Wait + Abort + Sync>(
+    rt: &R,
+    alloc: Global,
+    talk: u32,
+    at: usize,
+) {
     let front = asked(talk).get(..at).expect(rt, "a beginning");
     let reader = PieceReader::new(front, 64);
     let bytes = served(rt, alloc, reader, PieceWriter::new(alloc, 64), Ok(()));
@@ -148,7 +154,7 @@ fn ends_at_any_place(rt: HostRuntime) {
 }
 
 // The first talk ends by this fault, and a beginning of its replies is written.
-fn expect_fault<R: Wait + Abort>(
+fn expect_fault<R: Threads + Wait + Abort + Sync>(
     rt: &R,
     alloc: Global,
     reader: PieceReader<'_>,
@@ -178,5 +184,107 @@ fn stops_where_the_writer_fails(rt: HostRuntime) {
         let reader = PieceReader::new(asked(0), 64);
         let writer = PieceWriter::new(rt.alloc(), 9).failing(Fault { after, kind });
         expect_fault(&rt, rt.alloc(), reader, writer, ServeFault::Write);
+    }
+}
+
+// What the second talk is told by a book whose core was told the first: its table and its cell are there, and one cell was asked for.
+const TOLD_ON: &[u8] = b"\0\0\0\x01\x80\
+\0\0\0\x07\x81\x0a\0\0\0\x01t\
+\0\0\0\x05\x84\0\0\0\0\
+\0\0\0\x21\x82\0\0\0\x01r\0\0\0\x01f\0\0\0\x01q\0\0\0\0\0\0\0\0\0\0\0\x05\0\0\0\x01v\
+\0\0\0\x02\x83\0";
+
+// What it is told where only the table is there.
+const TOLD_AGAIN: &[u8] = b"\0\0\0\x01\x80\
+\0\0\0\x07\x81\x0a\0\0\0\x01t\
+\0\0\0\x05\x84\0\0\0\0\
+\0\0\0\x02\x83\x01";
+
+// What it is told by a book that was asked the frames that are whole among so many bytes of the first talk.
+fn told_behind(read: u64) -> &'static [u8] {
+    match read {
+        0..28 => told(1),
+        28..76 => TOLD_AGAIN,
+        _ => TOLD_ON,
+    }
+}
+
+// The connection of this reader ends by this fault; what the second talk is told then over the same book, by the same seat. All receipts settle.
+fn told_on<L: Ledger, R: Threads + Wait + Sync + Abort>(
+    rt: &R,
+    alloc: Global,
+    core: Core,
+    blank: Blank,
+    reader: PieceReader<'_>,
+    writer: PieceWriter,
+    fault: ServeFault,
+) -> Vec<u8>
+    requires name { blank.name ≡ L.name }
+    requires parts { blank.parts ≡ L.parts }
+    requires enough { 2 ^ 32 ≤ blank.parts }
+{
+    let shared = shared_over::<L, R>(rt, alloc, core, blank);
+    let mut seat = shared.join(rt).expect(rt, "a seat");
+    let mut all = Vec::new(alloc);
+    let (ended, bytes) = served_by(
+        rt, alloc, &shared, &mut seat, &mut all, &OpenGate, reader, writer,
+    );
+    assert!(rt; ended == Err(fault));
+    assert!(rt; told(0).starts_with(bytes.as_slice()));
+    let (reader, writer) = (PieceReader::new(asked(1), 64), PieceWriter::new(alloc, 64));
+    let (ended, bytes) = served_by(
+        rt, alloc, &shared, &mut seat, &mut all, &OpenGate, reader, writer,
+    );
+    assert!(rt; ended == Ok(()));
+    assert!(rt; settles(rt, alloc, shared, seat, &all));
+    bytes
+}
+
+// The first talk ends by this fault over a new book; the second one is told this then.
+fn expect_told_on<R: Threads + Wait + Sync + Abort>(
+    rt: &R,
+    alloc: Global,
+    reader: PieceReader<'_>,
+    writer: PieceWriter,
+    fault: ServeFault,
+    want: &[u8],
+) {
+    let core = Core::new(alloc).expect(rt, "memory");
+    let blank = Blank::new(1 << 32);
+    let bytes = told_on::<Brand, _>(rt, alloc, core, blank, reader, writer, fault);
+    assert!(rt; bytes.as_slice() == want);
+}
+
+// Behind a reader that fails, the next connection finds what was asked by whole frames, and nothing else.
+#[test]
+fn goes_on_behind_a_readers_fault(rt: HostRuntime) {
+    let kind = ErrorKind::Other;
+    for after in 0..12 {
+        let reader = PieceReader::new(asked(0), 9).failing(Fault { after, kind });
+        let writer = PieceWriter::new(rt.alloc(), 64);
+        let want = told_behind(9 * after);
+        expect_told_on(&rt, rt.alloc(), reader, writer, ServeFault::Read, want);
+    }
+}
+
+// How many bytes of the first talk were read, 64 at once, where the call of the writer behind so many fails. The first one flushes nothing, before
+// the first read; three write and flush what the two frames are told that this gave whole; then all was read.
+fn read_before(calls: u64) -> u64 {
+    match calls {
+        0 => 0,
+        1..4 => 64,
+        _ => 109,
+    }
+}
+
+// Behind a writer that fails, the next connection finds what was asked by all frames that were read whole.
+#[test]
+fn goes_on_behind_a_writers_fault(rt: HostRuntime) {
+    let kind = ErrorKind::Other;
+    for after in 0..8 {
+        let reader = PieceReader::new(asked(0), 64);
+        let writer = PieceWriter::new(rt.alloc(), 9).failing(Fault { after, kind });
+        let want = told_behind(read_before(after));
+        expect_told_on(&rt, rt.alloc(), reader, writer, ServeFault::Write, want);
     }
 }

@@ -60,7 +60,7 @@ fn ask_all<L: Ledger, R: Wait + Abort>(
 }
 
 // A connection is served to its end.
-fn serve_one<L: Ledger, R: Wait + Abort>(
+fn serve_one<L: Ledger, R: Threads + Wait + Abort + Sync>(
     rt: &R,
     alloc: Global,
     shared: &Shared<L>,
@@ -84,7 +84,7 @@ fn serve_one<L: Ledger, R: Wait + Abort>(
 }
 
 // Four threads that ask for events, beside two that serve connections.
-fn work<L: Ledger, R: Wait + Abort>(
+fn work<L: Ledger, R: Threads + Wait + Abort + Sync>(
     rt: &R,
     alloc: Global,
     shared: &Shared<L>,

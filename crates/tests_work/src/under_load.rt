@@ -74,7 +74,7 @@ fn write_all<L: Ledger, R: Wait + Abort>(
 }
 
 // What is due is compacted at each request.
-fn compact_all<L: Ledger, R: Wait + Abort>(
+fn compact_all<L: Ledger, R: Threads + Wait + Abort + Sync>(
     rt: &R,
     alloc: Global,
     shared: &Shared<L>,
