@@ -7,7 +7,7 @@ Usage: books.py PROGRAM"""
 import sys
 import tempfile
 
-from denials import AGAIN, CASES, SORTED, TABLE, counted, deny_in_turn
+from denials import AGAIN, CASES, MANY, SORTED, TABLE, counted, deny_in_turn
 from failing import NO_MEMORY, Piped, library
 
 PROGRAM = sys.argv[1]
@@ -68,10 +68,10 @@ def calls(folder, preloaded):
     tries = refused = 0
     for kind in ("book", "shared", "served"):
         pipe = Pipe(folder, preloaded, kind)
-        for name, before, event, afterwards, *_ in CASES + MORE:
+        for name, before, event, afterwards, *_ in [*CASES, *MORE, MANY]:
             if is_compaction(event) and kind != "served":
                 continue
-            some = deny_in_turn(kind, pipe, name, before, event, afterwards)
+            some = deny_in_turn(kind, pipe, name, before, event, afterwards, step=29 if name == MANY[0] else 1)
             tries, refused = tries + some[0], refused + some[1]
         if kind != "served":
             compactions(pipe, kind)

@@ -97,6 +97,14 @@ counts 'and drops it once the clock of the server has passed it' 'tablets 1 sour
 counts 'a partial compaction of three equal tables keeps that marker' 'tablets 1 sources 1 records 2' \
     'createtable t time=server' 'at 1' 'insert t a f q \e \e' 'flush t' 'insert t b f q \e \e' 'flush t' 'delete t a f q \e' 'flush t' \
     'at 9' 'compact t partial' 'status t'
+counts 'three tables of as many bytes are merged' 'tablets 1 sources 1 records 6' \
+    'createtable t' 'insert t aaaaaaaaaaa f q \e v 1' 'insert t bbbbbbbbbbb f q \e v 1' 'flush t' 'insert t ccccccccccc f q \e v 1' \
+    'insert t ddddddddddd f q \e v 1' 'flush t' 'insert t eeeeeeeeeee f q \e v 1' 'insert t fffffffffff f q \e v 1' 'flush t' \
+    'compact t partial' 'status t'
+counts 'not where rows of one share their first bytes' 'tablets 1 sources 3 records 6' \
+    'createtable t' 'insert t aaaaaaaaaaa f q \e v 1' 'insert t aaaaaaaaaab f q \e v 1' 'flush t' 'insert t ccccccccccc f q \e v 1' \
+    'insert t ddddddddddd f q \e v 1' 'flush t' 'insert t eeeeeeeeeee f q \e v 1' 'insert t fffffffffff f q \e v 1' 'flush t' \
+    'compact t partial' 'status t'
 counts 'tables of no record are sources' 'tablets 1 sources 1 records 0' \
     'createtable t time=server' 'delete t a f q \e' 'at 1' 'compact t full' 'status t'
 echo "$passed passed, $failed failed"

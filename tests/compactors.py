@@ -76,6 +76,25 @@ def again_and_again():
                       and int(words[5]) <= 1000 * number, words)
 
 
+def several_at_once():
+    """Twelve tables get 5,000 cells each, so that several of them are due at once, in two rounds, the second beside scans. Each is compacted,
+    and shows all of its cells, and those that were written last."""
+    tables = [b"t%02d" % number for number in range(12)]
+    rows = [b"%02d" % number for number in range(5)]
+    for compactors in ("1", "3"):
+        with Server("--compactors", compactors) as server, server.connect() as stream:
+            good = told_ok(stream, HELLO, *(frame(b"\x02" + field(table) + b"\x00" + struct.pack(">I", 1)) for table in tables))
+            for word in (b"first", b"second"):
+                good = good and told_ok(stream, *(write(table, row, [word + table + row] * 1000) for row in rows for table in tables))
+                for table in tables:
+                    words = status(server, table, lambda tablets, sources, records: 1 <= sources <= 4)
+                    count("%s of %s by %s" % (word.decode(), table.decode(), compactors), good and len(words) == 6 and 1 <= int(words[3]) <= 4, words)
+            for table in tables:
+                cells = server.shell(b"scan %s \\0\n" % table).stdout.splitlines()[:-1]
+                values = {cell.rsplit(b" ", 1)[1] for cell in cells}
+                count("all cells of %s by %s" % (table.decode(), compactors), len(cells) == 5000 and values == {b"second" + table + row for row in rows}, (len(cells), cells[:1]))
+
+
 def split_in_two():
     """A tablet of 18 MiB in two sorted tables is split; then each half is one sorted table. So is one of a second table."""
     value = 1_000_000 * b"v"
@@ -122,4 +141,4 @@ def nothing_is_kept():
         count("it isn't split", words == b"tablets 1 sources 1 records 17\n", words)
 
 
-run_parts(again_and_again, split_in_two, nothing_is_kept)
+run_parts(again_and_again, several_at_once, split_in_two, nothing_is_kept)

@@ -7,13 +7,14 @@ import itertools
 import os
 import random
 import re
+import socket
 import sys
 import tempfile
 import threading
 import time
 from pathlib import Path
 
-from failing import NO_MEMORY, Connection, Counted, Script, Server, Silent, library
+from failing import NO_MEMORY, PATIENCE, Connection, Control, Counted, Script, Server, Silent, library, start
 
 PROGRAM, ANEW = sys.argv[1], "--anew" in sys.argv[2:]
 counted = Counted()
@@ -64,6 +65,21 @@ CASES = [
     ("versions", SORTED, "versions t 1", TABLE, True),
     ("a horizon", SORTED, "horizon t 6", [*TABLE, "insert t b f q A x 5"], True),
     ("a rotation", [*SORTED, "createuser u", "setauths u A,B", "grant u READ t"], "rotate", OF_USER),
+    ("a table that gives the times", [], "createtable t time=server", [*TABLE, "insert t b f q A x 5", "insert t b f q A x"]),
+    ("a scan", SORTED, "scan t A,B", TABLE),
+    ("an open of columns", SORTED, "open t A,B [b \\0 f:q,g:a-longer-one", TABLE),
+    ("a right of the system that goes", USER, "revoke u CREATE_USER", OF_USER, True),
+    # what is refused, by what takes memory to find or to tell
+    ("a table that is there", SORTED, "createtable t", TABLE),
+    ("a user that is there", USER, "createuser u", OF_USER),
+    ("authorizations that aren't held", USER, "open t A,C,a-longer-one-than-the-others", OF_USER),
+    ("a label that is none", SORTED, "mutate t k put f q A 2 9 ; put f q A&(B|) 3 9", TABLE),
+    ("a mutation that breaks constraints", [*SORTED, "constraints t alphanum,numeric,visibility"], "mutate t k- put f! q A&C x 9 ; put f q? B y 9 ; del f q- C 4", TABLE),
+    ("a mutation without updates", SORTED, "mutate t k", TABLE),
+    ("a mutation below the horizon", [*SORTED, "horizon t 6"], "mutate t k put f q A 2 9 ; put f q2 B 3 5", TABLE),
+    ("a range that is none", SORTED, "open t A,B (b (b", TABLE),
+    ("ranges one of which is none", OPENED, "many {k} [a [c (f [a", OF_SESSION),
+    ("a session that is closed", [*OPENED, "close {k}"], "next {k} 3", TABLE),
 ]
 # what only a script has
 JOB = [*AGAIN, "begin t b full"]
@@ -77,6 +93,8 @@ LINES = [
     ("a save", [*SORTED, "save image", "insert t q f q A 9 9"], "save image", [*TABLE, "load image", *TABLE]),
     ("a load", [*SORTED, "save image", "createtable other", "droptable t"], "load image", [*TABLE, "status other"]),
 ]
+# as many ranges as several threads read, of a server's connections
+MANY = ("many ranges", OPENED, "many {k} [a [c (f [m" + 598 * " \\0 \\0", OF_SESSION)
 CLEAN = ["as root", "droptable t", "dropuser u", "droptable other"]
 
 
@@ -179,7 +197,8 @@ def shape(answer):
     return re.sub(rb"^(session|job|refused 15 NoSession|refused \(15,) \d+", rb"\1", answer)
 
 
-def deny_in_turn(kind, way, name, before, event, afterwards, is_free=False):
+def deny_in_turn(kind, way, name, before, event, afterwards, is_free=False, step=1):
+    """How many tries there were, and how many were refused. With a step only each such request is."""
     _, unchanged, _ = once(way, before, None, afterwards)
     right, changed, _ = once(way, before, event, afterwards)
     is_fault = event.split()[0] in ("save", "load")
@@ -187,15 +206,16 @@ def deny_in_turn(kind, way, name, before, event, afterwards, is_free=False):
     refused = tries = 0
     wrong = []
     for stays in (0, 1):
-        at, spared = 0, 0
+        at, spared = 1 - step, 0
         while spared < 2:
-            at += 1
+            at += step
             answer, said, failed = once(way, before, event, afterwards, at, stays)
             spared = 0 if failed else spared + 1
             tries += 1
             if answer in (refusal, NO_MEMORY) and failed and not (is_free and kind == "lines"):
                 refused += 1
-                good = list(map(shape, said)) == list(map(shape, unchanged))
+                # a scan's Open has taken effect where a batch behind it is refused
+                good = list(map(shape, said)) in [list(map(shape, state)) for state in (unchanged, changed)[: 1 + event.startswith("scan ")]]
             else:
                 good = shape(answer) == shape(right) and list(map(shape, said)) == list(map(shape, changed))
             if not good:
@@ -206,10 +226,10 @@ def deny_in_turn(kind, way, name, before, event, afterwards, is_free=False):
 
 def cases(folder, preloaded):
     tries = refused = 0
-    for kind, way, these in (("lines", Lines(folder, preloaded), CASES + LINES), ("frames", Frames(folder, preloaded), CASES)):
+    for kind, way, these in (("lines", Lines(folder, preloaded), CASES + LINES), ("frames", Frames(folder, preloaded), CASES + [MANY])):
         for name, *case in these:
             try:
-                some = deny_in_turn(kind, way, name, *case)
+                some = deny_in_turn(kind, way, name, *case, step=29 if name == MANY[0] else 1)
                 tries, refused = tries + some[0], refused + some[1]
             except Silent as why:
                 counted.tell(f"{name}, {kind}", False, why)
@@ -444,6 +464,66 @@ def beginnings(folder, preloaded):
     counted.tell("connections that begin without memory", not wrong and at > 3, wrong[:1])
 
 
+def starts(folder, preloaded):
+    """A server for which there is no memory when it begins ends with the status 1 and a line that says so; or it listens, and serves."""
+    for words in ([], ["--image", "started"]):
+        script = Script(PROGRAM, folder, preloaded)
+        script.ask(*CLEAN, *SORTED, "save started")
+        script.close()
+        wrong, told, at, failed = [], 0, 0, True
+        while failed:
+            at, control = at + 1, Control(folder)
+            control.deny(at, 0)
+            with socket.create_server(("127.0.0.1", 0)) as probe:
+                port = probe.getsockname()[1]
+            process = start(PROGRAM, ["serve", "--port", str(port), "--workers", "1", "--compactors", "0", *words], folder, preloaded, control)
+            line = process.stdout.readline()
+            failed = control.lift() > 0
+            if line:
+                process.kill()
+            said = process.communicate(timeout=PATIENCE)[1]
+            told += not line
+            if not (line.startswith(b"listening ") or failed and process.returncode == 1 and re.fullmatch(rb"fault: [^\n]*memory[^\n]*\n", said)):
+                wrong.append((at, line, process.returncode, said))
+        counted.tell(f"a server begins without memory, {words}", not wrong and told > 2, wrong[:1] or told)
+
+
+# ---- A script that keeps what it does in a folder.
+def stores(folder, preloaded):
+    """A line is answered, or refused for memory, or the run ends and says that memory lacked; whoever takes the folder up next finds all that
+    was answered `ok`, and the line done whole or not at all."""
+    def kept(name, *lines, at=0):
+        """What the lines are told, the last one with this request for memory refused, or why the run ended; whether one was; and what is found then."""
+        words = ["--store", str(Path(folder, f"store-{name}"))]
+        script = Script(PROGRAM, folder, preloaded, *words)
+        script.ask(*lines[:-1])
+        script.control.deny(at, 0)
+        try:
+            answer = script.ask(lines[-1])[0]
+        except Silent as why:
+            answer = str(why).encode()
+        failed = script.control.lift() > 0
+        script.close()
+        script = Script(PROGRAM, folder, preloaded, *words)
+        found = script.ask(*TABLE)
+        script.close()
+        return answer, failed, found
+
+    for event in ("mutate t k put f q A 2 9 ; del f q A&B 4", "addsplit t g", "compact t full", "createuser u"):
+        word = event.split()[0]
+        before, after = kept(word + "-before", *SORTED)[2], kept(word + "-after", *SORTED, event)[2]
+        wrong, ended, at, failed = [], 0, 0, True
+        while failed:
+            at += 1
+            answer, failed, found = kept(f"{word}-{at}", *SORTED, event, at=at)
+            has_ended = answer.startswith(b"it ended with 1: ") and b"there is no memory" in answer
+            ended += has_ended
+            if found not in ([after] if answer == b"ok\n" else [before, after]) or not (answer == b"ok\n" or failed and (has_ended or answer == NO_MEMORY)):
+                wrong.append((at, answer, found))
+        counted.tell(f"{word} into a store without memory", not wrong and at > 3, wrong[:1] or at)
+        print(f"{word} into a store: {at} tries, behind {ended} of which the run ended")
+
+
 # ---- Numbers that are used up.
 def numbers(folder, preloaded):
     """An image whose next number is used up: no write is numbered any more, and all else goes on."""
@@ -483,6 +563,8 @@ def main():
             many_at_once(work, made)
             long_ones(work, made)
             beginnings(work, made)
+            starts(work, made)
+            stores(work, made)
             numbers(work, made)
     counted.end()
 

@@ -1,6 +1,6 @@
 #!/usr/bin/env bash
 # The examples print what stands beside them: examples/clinic.txt as a script, and examples/clinic.py over a server on a free port. And
-# docs/promise.svg is what docs/promise.py draws.
+# docs/promise.svg is what docs/promise.py draws, and docs/growth.svg what docs/growth.py draws of bench/growth.txt.
 # Usage: tests/examples.sh   (from anywhere; wants python3; TABD names another program)
 set -u
 top=$(cd "$(dirname -- "${BASH_SOURCE[0]}")/.." && pwd)
@@ -25,6 +25,9 @@ compare examples/clinic.txt "$top/examples/clinic.out" "$work/printed" $?
 
 TABD=$program python3 "$top/docs/promise.py" >"$work/printed" 2>"$work/errors"
 compare docs/promise.svg "$top/docs/promise.svg" "$work/printed" $?
+
+python3 -B "$top/docs/growth.py" >"$work/printed" 2>"$work/errors"
+compare docs/growth.svg "$top/docs/growth.svg" "$work/printed" $?
 
 # The program ends once the example's seven connections have ended.
 port=$(python3 -c 'import socket; print(socket.create_server(("127.0.0.1", 0)).getsockname()[1])') || exit 1

@@ -135,6 +135,11 @@ def bound(word):
     return b"\0" if word == "\\0" else bytes([1 + "[(".index(word[0])]) + field(word[1:].encode())
 
 
+def column(word):
+    family, colon, qualifier = word.partition(b":")
+    return field(family) + (b"\1" + field(qualifier) if colon else b"\0")
+
+
 def put(words, kind):
     family, qualifier, label, *rest = words
     value, time = (rest[0], rest[1:]) if kind else ("", rest)
@@ -168,11 +173,11 @@ def frame_of(line):
     elif word in ("insert", "delete"):
         body = b"\x0a" + name + field(rest[0].encode()) + struct.pack(">I", 1) + put(rest[1:], word == "insert")
     elif word == "mutate":
-        updates = [update.split() for update in " ".join(rest[1:]).split(" ; ")]
+        updates = [update.split() for update in " ".join(rest[1:]).split(" ; ") if update]
         body = b"\x0a" + name + field(rest[0].encode()) + struct.pack(">I", len(updates)) + b"".join(put(u[1:], u[0] == "put") for u in updates)
     elif word == "open":
-        bounds = rest[1:3] or ["\\0", "\\0"]
-        body = b"\x0b" + name + b"".join(map(bound, bounds)) + struct.pack(">I", 0) + listed(rest[0])
+        bounds, columns = rest[1:3] or ["\\0", "\\0"], rest[3] if len(rest) > 3 else "\\0"
+        body = b"\x0b" + name + b"".join(map(bound, bounds)) + listed(columns, column) + listed(rest[0])
     elif word == "next":
         body = b"\x0c" + struct.pack(">II", int(first), int(rest[0]))
     elif word == "many":

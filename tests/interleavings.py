@@ -5,6 +5,7 @@ compaction is said to keep.
 Usage: interleavings.py PROGRAM [STEPS]   (one script of so many lines, and many short ones; 10,000 where unsaid)"""
 import bisect
 import itertools
+import os
 import random
 import subprocess
 import sys
@@ -20,8 +21,7 @@ class Record:
     def __init__(self, row, column, time, kind, value, seq):
         self.row, self.column, self.time, self.kind, self.value, self.seq = row, column, time, kind, value, seq
         self.place = (row, *column, -time, kind, -seq)
-        # what it takes in a sorted table: five byte strings, and 41 bytes besides
-        self.size = 41 + len(row) + sum(map(len, column)) + len(value)
+        self.parts = (row, *column)
 
 
 def kept(records, versions):
@@ -45,6 +45,16 @@ def merged(records, is_full, floor, versions):
     return sorted(kept(records, versions) + markers, key=lambda r: r.place)
 
 
+def size_of(records):
+    """What they take in a sorted table: each 57 bytes, its value, and what the four parts don't share with the record before in its block."""
+    size = 0
+    for k, r in enumerate(records):
+        before = records[k - 1].parts if k % 64 else ("",) * 4
+        shared = sum(len(os.path.commonprefix(pair)) for pair in zip(before, r.parts))
+        size += 57 + sum(map(len, r.parts)) - shared + len(r.value)
+    return size
+
+
 class Sorted:
     """A tablet's part of a sorted table, with the size of the whole."""
 
@@ -61,7 +71,7 @@ class Merge:
     def output(self):
         records = [r for run in self.runs for r in run] + [r for table in self.tables for r in table.records]
         made = merged(records, self.kind == "full", self.floor, self.versions)
-        return Sorted(made, sum(r.size for r in made))
+        return Sorted(made, size_of(made))
 
     def is_like(self, other):
         """Whether both read sources of equal contents in one order, with one floor and number of versions."""

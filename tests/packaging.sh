@@ -41,7 +41,7 @@ files() { # FOLDER   what is in it, but for folders
 }
 
 parts=$({
-    printf './%s\n' bin/tabd lib/systemd/system/tabd.service share/man/man1/tabd.1.gz
+    printf './%s\n' bin/tabd lib/systemd/system/tabd{,-socket}.service share/man/man1/tabd.1.gz
     cd "$top/clients/python" && printf './lib/python3/dist-packages/%s\n' tabd/*.py tabd/py.typed
 } | sort)
 prefix=$work/prefix
@@ -62,6 +62,8 @@ diff -r -x __pycache__ "$top/clients/python/tabd" "$prefix/lib/python3/dist-pack
 count 'the client is the one of clients/python' $?
 ! grep /usr/bin "$prefix/lib/systemd/system/tabd.service" >out && grep -qxF "ExecStart=$prefix/bin/tabd serve \$TABD_OPTIONS" "$prefix/lib/systemd/system/tabd.service"
 count 'the unit names the program where it is' $?
+! grep /usr/bin "$prefix/lib/systemd/system/tabd-socket.service" >out && grep -q "^ExecStart=$prefix/bin/tabd serve --socket " "$prefix/lib/systemd/system/tabd-socket.service"
+count 'and so does the one of the socket file' $?
 DESTDIR=$work/stage "$top/packaging/install" /opt/tabd >out 2>err &&
     [ "$(files stage/opt/tabd)" = "$parts" ] && [ "$(files stage)" = "${parts//.\//./opt/tabd/}" ] &&
     grep -qxF 'ExecStart=/opt/tabd/bin/tabd serve $TABD_OPTIONS' stage/opt/tabd/lib/systemd/system/tabd.service
@@ -104,7 +106,9 @@ if ! lacks python3 'servers, and the client in Python'; then
     port=$(free_port)
     unit=$prefix/lib/systemd/system/tabd.service
     options=$(sed -n 's/^Environment="TABD_OPTIONS=\(.*\)"$/\1/p' "$unit")
-    read -r -a command < <(sed -n 's/^ExecStart=//p' "$unit" | sed "s|\$TABD_OPTIONS|${options/9997/$port}|")
+    options=${options/9997/$port}
+    options=${options/\/var\/lib\/tabd/$work/kept}
+    read -r -a command < <(sed -n 's/^ExecStart=//p' "$unit" | sed "s|\$TABD_OPTIONS|$options|")
     serve "$port" "${command[@]}"
     count 'the command of the unit listens' $?
     example README.md 4 "$port" >lines && bash lines >out 2>err
@@ -113,17 +117,28 @@ if ! lacks python3 'servers, and the client in Python'; then
     stop
     [ "$status" -eq 143 ]
     count 'a signal ends the server' $?
+    serve "$port" "${command[@]}" && [ "$(echo 'scan patients medical' | "$prefix/bin/tabd" shell --port "$port" --user nurse | cut -d ' ' -f 1-4)" = $'ann record diagnosis medical\nann record room \\e\nend' ]
+    count 'and the next one has what it kept' $?
+    stop
     port=$(free_port)
-    example docs/OPERATING.md 2 "$port" >lines
+    example docs/OPERATING.md 3 "$port" >lines
     sed '$d' lines | bash >out 2>err && [ "$(sort -u out)" = ok ] && read -r -a command < <(tail -n 1 lines) && serve "$port" "${command[@]}" &&
         [ "$(echo 'scan patients medical' | "$prefix/bin/tabd" shell --port "$port" --user nurse)" = $'ann record diagnosis medical 0 asthma\nend' ]
     count "a server begins with what docs/OPERATING.md's script saved" $?
     stop
+    mkdir run
+    read -r -a command < <(sed -n 's/^ExecStart=//p' "$prefix/lib/systemd/system/tabd-socket.service" | sed "s|/run/tabd-socket|$work/run|; s| \$TABD_OPTIONS||")
+    serve "$work/run/tabd.sock" "${command[@]}" && [ "$(stat -c %a run/tabd.sock)" = 660 ] &&
+        [ "$(echo 'createtable t' | "$prefix/bin/tabd" shell --socket run/tabd.sock --user root)" = ok ]
+    count "the socket unit's command makes a file for its group, and a shell is answered there" $?
+    stop
 fi
-if ! lacks systemd-analyze 'the unit is verified'; then
-    systemd-analyze verify --man=no "$prefix/lib/systemd/system/tabd.service" >out 2>err
-    [ $? -eq 0 ] && ! grep -q 'tabd' out err
-    count 'the unit is verified' $?
+if ! lacks systemd-analyze 'the units are verified'; then
+    for unit in tabd tabd-socket; do
+        systemd-analyze verify --man=no "$prefix/lib/systemd/system/$unit.service" >out 2>err
+        [ $? -eq 0 ] && ! grep -q 'tabd' out err
+        count "the unit $unit is verified" $?
+    done
 fi
 
 # ---- The man page.
@@ -132,7 +147,7 @@ if ! lacks groff 'the man page is rendered'; then
     groff -man -Tutf8 -P-c -rLL=300n -ww tabd.1 2>err | sed 's/.\x08//g' >page
     [ -s page ] && cp err out && [ ! -s err ]
     count 'the man page is rendered without a warning' $?
-    for words in '' script serve shell; do
+    for words in '' script serve shell inspect export; do
         # shellcheck disable=SC2086
         "$TABD" $words --help
     done | sed -nE 's/^ *((-., )?--[^ ]*( <[^ ]*>)?).*/\1/p; s/^  ([^ -].*)/\1/p' | sed 's/  */ /g' | sort -u >wanted

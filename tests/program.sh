@@ -166,6 +166,21 @@ prompted 'a near word' 'creattable t\n' 'root> line fault\nroot> \n' 'line 1: wo
 prompted 'help for what is no line' 'help bogus\n' 'root>   there is no such line: help lists them\nroot> \n' ''
 prompted 'a line fault' 'next 0\n' 'root> line fault\nroot> \n' \
     'line 1: word 3 is missing: expected COUNT (how many cells: a whole number of 32 bits without a sign, as 100)'
+# words in quotes and in UTF-8: a script without prompts tells which lines were sent
+prompted 'words in quotes and in UTF-8' 'createtable patients\ninsert patients "Ann Müller" record room "" "Zimmer 12"\nscan "patients" "\\0" "[Ann Müller" \\0\n' \
+    'root> ok\nroot> ok\nroot> Ann\\x20M\\xc3\\xbcller record room \\e 0 Zimmer\\x2012\nend\nroot> \n' ''
+prompted 'quotes inside of words' 'createtable t\nsetauths root "\\xc3\\x84 x,A"\ninsert t r "" 5" A|"x" say:"hi"\ninsert t r "" s "\\"\xc3\x84 x\\"|A" "\\\\ \\x5c \\"\x01\\""\nscan t "A,\xc3\x84 x"\n' \
+    'root> ok\nroot> ok\nroot> ok\nroot> ok\nroot> r \\e 5" A|"x" 0 say:"hi"\nr \\e s "\\xc3\\x84\\x20x"|A 0 \\\\\\x20\\\\\\x20"\\x01"\nend\nroot> \n' ''
+prompted 'an open quote' 'createtable t\ninsert t r f q "" "x\nscan t \\0\n' 'root> ok\nroot> root> end\nroot> \n' "line 2: a quote isn't closed; nothing was sent"
+prompted 'bytes behind a closing quote' 'createtable t\ninsert t r f q "a\\x20b"|c x\nscan t \\0\n' 'root> ok\nroot> root> end\nroot> \n' \
+    'line 2: behind the quote that closes a word stands a space; a quote inside of quotes is written \"; nothing was sent'
+prompted 'an escape that is none' 'createtable t\ninsert t r f q "" "a\\ b"\nscan t \\0\n' 'root> ok\nroot> root> end\nroot> \n' \
+    'line 2: in quotes a backslash stands before a quote, another backslash, or an escape as \x2c; nothing was sent'
+prompted 'quotes of a comment' '# "open\nas "root"\nhelp "rotate"\n"quit"\nbogus\n' 'root> root> root> Hands out the history so far, and begins a new one.\n  rotate\nroot> ' ''
+# without prompts quotes are bytes, and bytes that aren't ASCII a line fault
+printf 'createtable t\ninsert t "r f q \\e "v"\ninsert t "r f" "q q" \\e v\ninsert t M\xc3\xbc f q \\e v\nscan t \\0\n' | "$program" script >out 2>err
+[ "$(cat out)" = $'ok\nok\nline fault\nline fault\n"r f q \\e 0 "v"\nend' ] && [ ! -s err ]
+count 'without prompts a quote is a byte' $?
 printf 'help\n' | "$program" script --prompt >out 2>err
 [ "$(sed 's/^root> //' out | awk '/^  / {print $1}' | sort -u)" = "$({ echo quit; sed -n '/^| Line | Does |/,/^$/p' "$top/docs/SCRIPT.md" | grep -oE '`[a-z]+ [A-Z]|^\| `[a-z]+` \|' | tr -d '`|' | awk '{print $1}' | grep -vx 'put\|del'; echo help; } | sort -u)" ]
 count 'prompts: help lists all lines' $?
@@ -354,6 +369,28 @@ print(seen.decode().replace("\r", ""))
 P
     grep -qx '\(root> \)\?r                   f  q  \\e  1234  v' out && grep -qx 'row-of-some-length  f  q  \\e  5     v' out
     count 'at a terminal cells stand in columns' $?
+    # and words as they would be typed, in columns as wide as they are drawn; what controls a terminal isn't shown
+    timeout 60 python3 - "$program" <<'P' >out
+import os, pty, sys
+child, terminal = pty.fork()
+if child == 0:
+    os.execv(sys.argv[1], ["tabd", "script", "--prompt"])
+values = ['"Zimmer 12"', 'd\\xc3\\xa9j\\xc3\\xa0', '\\xe6\\xb0\\xb4\\x20x', '\\x1b[31mred', 'a\\xffb', 'ab\\xe2\\x80\\xae', '"\\"5"', 'x\\xc2\\x9b\\xc2\\xa0', '\\x00']
+lines = ["createtable t time=any", *(f'insert t "Ann Müller {at}" f "水" "" {value} 5' for at, value in enumerate(values)), 'insert t r f q "" v 5', 'scan t \\0', "quit"]
+os.write(terminal, "".join(line + "\n" for line in lines).encode())
+seen = b""
+try:
+    while piece := os.read(terminal, 4096):
+        seen += piece
+except OSError:
+    pass
+print(seen.decode().replace("\r", "").split("> \"Ann", 1)[-1])
+shown = ['"Zimmer 12"', "déjà", '"水 x"', '\\x1b[31mred', 'a\\xffb', 'ab\\xe2\\x80\\xae', '"\\"5"', 'x\\xc2\\x9b\\xc2\\xa0', '\\x00']
+rows = [f'"Ann Müller {at}"  f  水  \\e  5  {value}' for at, value in enumerate(shown)] + ["r               f  q   \\e  5  v"]
+told = seen.decode().replace("\r", "")
+sys.exit(not all(f"{row}\n" in told for row in rows) or "\x1b" in told.split("insert t r f q", 1)[1])
+P
+    count 'at a terminal words are shown as they would be typed' $?
 fi
 
 echo "$passed passed, $failed failed$([ "$skipped" -eq 0 ] || echo ", $skipped skipped")"

@@ -176,9 +176,13 @@ def stuck_peers():
 
 
 def shell_over_loopback():
-    with Server("--accept", "1") as server:
+    with Server("--accept", "2") as server:
         ran = server.shell(b"createtable t time=any\ninsert t r f q \\e v 5\nscan t \\0\n")
         count("shell_over_loopback", (ran.returncode, ran.stdout) == (0, b"ok\nok\nr f q \\e 5 v\nend\n"), ran)
+        ran = server.shell('insert t "Ann Müller" f q "" "a\\x09b" 6\ninsert t s f q "" "open 7\nscan t \\0\n'.encode(), "--prompt")
+        told = b"root> ok\nroot> root> Ann\\x20M\\xc3\\xbcller f q \\e 6 a\\x09b\nr f q \\e 5 v\nend\nroot> \n"
+        good = ran.returncode == 0 and ran.stdout.endswith(told) and ran.stderr == b"line 2: a quote isn't closed; nothing was sent\n"
+        count("a shell's prompt takes words in quotes and in UTF-8", good, ran)
 
 
 def own_write_is_read():

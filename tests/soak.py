@@ -97,7 +97,7 @@ class Writer(Peer):
     def __init__(self, number, soak):
         super().__init__(number, soak)
         self.acknowledged, self.time = {}, 0
-        self.written, self.slowest = Written(), 0
+        self.written, self.slowest = Written(), Counter()
 
     def visit(self):
         with tabd.connect(self.soak.port, "root", timeout=PATIENCE) as client:
@@ -105,7 +105,9 @@ class Writer(Peer):
                 if time.monotonic() >= self.soak.ends:
                     break
                 act = self.random.choice([self.write, self.write, self.pipeline, self.scan, self.leave, self.ranges, self.delete, self.tidy])
+                began = time.monotonic()
                 act(client)
+                self.slowest[act.__name__] = max(self.slowest[act.__name__], time.monotonic() - began)
                 self.done[act.__name__] += 1
 
     def row(self):
@@ -116,9 +118,8 @@ class Writer(Peer):
         return [Put("f", "q", value=value, timestamp=self.time)]
 
     def write(self, client):
-        row, value, began = self.row(), self.random.randbytes(self.random.choice(SIZES)), time.monotonic()
+        row, value = self.row(), self.random.randbytes(self.random.choice(SIZES))
         client.write("t", row, self.put(value))
-        self.slowest = max(self.slowest, time.monotonic() - began)
         self.acknowledged[row] = value
         self.written.add(row, value, self.time)
 
@@ -311,9 +312,17 @@ class Soak:
             yield f"{asked} rotations were acknowledged, {rotations} are in the history"
 
     def levels(self):
-        """The greatest memory that was seen resident over the third and the last quarter, in MiB."""
+        """The greatest memory that was seen resident over each quarter, in MiB."""
         quarter = len(self.resident) // 4
-        return [max(part) for part in (self.resident[2 * quarter : 3 * quarter], self.resident[3 * quarter :])] if quarter else [0, 0]
+        ends = [0, quarter, 2 * quarter, 3 * quarter, len(self.resident)]
+        return [max(self.resident[begin:end]) for begin, end in zip(ends, ends[1:])] if quarter else 4 * [0]
+
+
+def ticks():
+    """The processors' ticks since the machine began: those that were busy, and all."""
+    with open("/proc/stat", encoding="ascii") as told:
+        seen = [int(word) for word in told.readline().split()[1:9]]
+    return sum(seen) - seen[3] - seen[4], sum(seen)
 
 
 def unescaped(word):
@@ -330,9 +339,10 @@ def main():
     parser.add_argument("--folder", help="where the history lies")
     asked = parser.parse_args()
     program = os.environ.get("TABD") or subprocess.check_output([TOP / "release/program"], text=True).strip()
-    soak = Soak(program, asked)
+    soak, began = Soak(program, asked), ticks()
     try:
         faults = soak.run()
+        busy, all_of = (now - before for now, before in zip(ticks(), began))
         faults += [fault for peer in soak.peers for fault in peer.faults] + list(soak.read_back())
         resident, most = soak.memory()
         soak.hand_on()
@@ -344,9 +354,12 @@ def main():
     print(", ".join(f"{name} {count}" for name, count in sorted(done.items())))
     writers = [peer for peer in soak.peers if isinstance(peer, Writer)]
     print(f"{soak.entries} entries in {os.path.getsize(soak.history) / 2**20:.0f} MiB, {sum(peer.written.count for peer in writers)} of them writes that were acknowledged")
-    print(f"the slowest write by itself: {max(peer.slowest for peer in writers) * 1000:.0f} ms")
-    third, last = soak.levels()
-    print(f"{resident:.0f} MiB resident, {most:.0f} MiB at most, bound {asked.memory:.0f} MiB; at most {third:.0f} in the third quarter, {last:.0f} in the last")
+    slowest = {act: max(peer.slowest[act] for peer in writers) for act in sorted(set().union(*(peer.slowest for peer in writers)))}
+    print("the slowest, in ms: " + ", ".join(f"{act} {seconds * 1000:.0f}" for act, seconds in slowest.items()))
+    *_, third, last = levels = soak.levels()
+    quarters = ", ".join(f"{level:.0f}" for level in levels)
+    print(f"{resident:.0f} MiB resident, {most:.0f} MiB at most, bound {asked.memory:.0f} MiB; at most {quarters} in the four quarters")
+    print(f"processors busy: {busy / all_of * os.cpu_count():.1f} of {os.cpu_count()} on average, load {os.getloadavg()[2]:.1f} at the end")
     if most > asked.memory:
         faults.append("over the bound of memory")
     if last > 1.25 * third + 64:

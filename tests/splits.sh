@@ -100,7 +100,7 @@ tell 'the middle is the next lower row where it is the greatest' prints 'a/end' 
     'createtable t' 'insert t a f q \e v 1' 'insert t b f q \e v 1' 'insert t b f r \e v 1' 'flush t' 'splitsize t a 1' 'splits t'
 tell 'a whole table counts for each tablet that has a part of it' prints 'b/c/end' \
     'createtable t' 'insert t a f q \e v 1' 'insert t b f q \e v 1' 'insert t c f q \e v 1' 'insert t d f q \e v 1' 'flush t' \
-    'splitsize t a 180' 'splitsize t a 180' 'splits t'
+    'splitsize t a 238' 'splitsize t a 238' 'splits t'
 tell 'a row that is too large is refused after who may split' prints 'refused 9 TooLarge row' \
     'createtable t' "addsplit t $(head -c 1048577 /dev/zero | tr '\0' a)"
 tell 'who may not change the table may not split it' prints \
@@ -109,6 +109,17 @@ tell 'who may not change the table may not split it' prints \
 tell 'there must be such a table' prints 'refused 2 NoTable u/refused 2 NoTable u/refused 2 NoTable u' \
     'addsplit u m' 'splits u' 'splitsize u m 1'
 tell 'a table that is made again has one tablet' prints 'end' 'createtable t' 'addsplit t m' 'droptable t' 'createtable t' 'splits t'
+
+# A table of so many records of one row is no smaller than that, and no larger. Of each block of 64 the first takes 57 + 3 + 1 + 4 + 1 bytes,
+# a later one 57 + 1 + 1, one more where the tens of its qualifier are new and two where the hundreds are.
+takes() { # RECORDS BYTES
+    { echo 'createtable t' && seq -f 'insert t row f q%03g \e v 1' 0 $(($1 - 1)) && echo 'flush t' && echo "splitsize t row $(($2 + 1))" \
+        && echo "splitsize t row $2"; } | "$program" script 2>&1 | tail -n 2 | cmp -s - <(printf 'refused 20 BadSplit %s\n' small onerow)
+}
+tell 'a record has its size' takes 1 66
+tell 'a block of records shares what it may' takes 64 $((66 + 63 * 59 + 6))
+tell 'the next record begins a block' takes 65 $((66 + 63 * 59 + 6 + 66))
+tell 'so does the one behind two blocks' takes 129 $((66 + 63 * 59 + 6 + 66 + 63 * 59 + 7 + 66))
 
 # Many splits, with a write and a short scan between each two.
 many() {

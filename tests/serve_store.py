@@ -1,0 +1,495 @@
+"""Servers with --store FOLDER.
+
+A client makes a table and writes rows. The server is killed before, in and behind each call of the system that changes a file or a folder, in
+turn, or that call fails; then a server starts anew. All rows that were answered are there then, what is there is a beginning of what was asked,
+and the next start finds the same. So it is where the start behind a kill is killed too; where the server is killed at random times beneath eight
+writers and a reader, who has seen nothing that is lost; and where the disk is full. A journal with a byte that is turned is refused by its name, or
+cut where the byte stands in its last batch, or in the sum before that. Two servers don't have one folder at once.
+Usage: serve_store.py PROGRAM [SECONDS]"""
+
+import os
+import random
+import re
+import resource
+import select
+import shutil
+import signal
+import socket
+import struct
+import subprocess
+import sys
+import threading
+import time
+
+from serving import HELLO, MAKE, OK, PATIENCE, PROGRAM, count, field, frame, free_port, read_exactly, read_frame, run_parts
+
+SECONDS = float(sys.argv[2]) if len(sys.argv) > 2 else 20
+HERE = os.path.dirname(os.path.abspath(__file__))
+ROWS = 20
+CHUNK = 4
+STORE = "store"
+ASKED = ["r%02d" % number for number in range(ROWS)]
+
+
+def environment(at=0, how="before"):
+    if not at:
+        return {}
+    if os.path.exists("killed"):
+        os.remove("killed")
+    return {"LD_PRELOAD": os.path.abspath("killing.so"), "KILL_AT": str(at), "HOW": how, "KILLED": os.path.abspath("killed")}
+
+
+def was_met():
+    return os.path.exists("killed")
+
+
+class Server:
+    """A server over the folder. It may end before it listens."""
+
+    def __init__(self, *words, env=(), before=None):
+        for _ in range(3):
+            self.port = free_port()
+            self.process = subprocess.Popen(
+                [PROGRAM, "serve", "--port", str(self.port), "--store", STORE, *words], stdin=subprocess.DEVNULL, stdout=subprocess.PIPE,
+                stderr=subprocess.PIPE, env={**os.environ, **dict(env)}, preexec_fn=before)
+            select.select([self.process.stdout], [], [], PATIENCE)
+            self.said = self.process.stdout.readline()
+            if self.said or self.process.wait(PATIENCE) != 1:
+                break
+            self.told = self.process.stderr.read().decode()
+            if "port" not in self.told:
+                break
+
+    def connect(self):
+        stream = socket.create_connection(("127.0.0.1", self.port), timeout=PATIENCE)
+        stream.setsockopt(socket.IPPROTO_TCP, socket.TCP_NODELAY, 1)
+        stream.sendall(HELLO)
+        if read_frame(stream) != OK:
+            raise ConnectionError
+        return stream
+
+    def kill(self, how=signal.SIGKILL):
+        """Kills it, and gives what it said on standard error."""
+        self.process.send_signal(how)
+        return self.end()
+
+    def end(self, patience=PATIENCE):
+        """Waits for its end, for so many seconds, and gives what it said on standard error."""
+        try:
+            self.process.wait(patience)
+        except subprocess.TimeoutExpired:
+            self.process.kill()
+        _, told = self.process.communicate()
+        return told.decode() or getattr(self, "told", "")
+
+    def __enter__(self):
+        return self
+
+    def __exit__(self, *_):
+        if self.process.poll() is None:
+            self.process.kill()
+        self.process.communicate()
+
+
+def write(row):
+    update = b"\x01" + field(b"f") + field(b"q") + field(b"") + b"\x00" + field(b"v" * 20)
+    return frame(b"\x0a" + field(b"t") + field(row.encode()) + struct.pack(">I", 1) + update)
+
+
+def scan(lines="scan t \\0\n"):
+    """What a script over the folder is answered, and what it says on standard error."""
+    done = subprocess.run([PROGRAM, "script", "--store", STORE], input=lines, capture_output=True, text=True, timeout=60)
+    return done.stdout, done.stderr
+
+
+def rows_of_script():
+    """The rows that the folder keeps, by a script, and what it says; none where it isn't taken up."""
+    out, told = scan()
+    return None if "fault:" in told else named(out), told
+
+
+def named(out):
+    """The rows of these cells."""
+    return [line.split()[0] for line in out.splitlines() if re.match("[rsw][a-h]?[0-9]", line)]
+
+
+def rows_of_server():
+    """The same by a server, which is killed then."""
+    with Server() as server:
+        if not server.said:
+            return None, server.end()
+        done = subprocess.run([PROGRAM, "shell", "--port", str(server.port), "--user", "root"], input="scan t \\0\n", capture_output=True, text=True, timeout=60)
+        return named(done.stdout), server.kill()
+
+
+def write_rows(server, rows=None):
+    """Asks for the table and the rows, some at a time, each time once the last ones are answered, and gives how many rows were answered. Of rows
+    that are named the table is there."""
+    answered = 1 if rows else 0
+    if not server.said:
+        return 0
+    try:
+        with server.connect() as stream:
+            asks = [write(row) for row in rows] if rows else [MAKE] + [write(row) for row in ASKED]
+            for at in range(0, len(asks), CHUNK):
+                chunk = asks[at:at + CHUNK]
+                stream.sendall(b"".join(chunk))
+                for _ in chunk:
+                    if read_frame(stream) != OK:
+                        raise ConnectionError
+                    answered += 1
+    except OSError:
+        pass
+    return max(0, answered - 1)
+
+
+def is_kept(answered, asked=None):
+    """Whether the folder keeps a beginning of what was asked, with all that was answered, and keeps it still."""
+    asked = asked or ASKED
+    first, _ = rows_of_server()
+    again, _ = rows_of_script()
+    last, told = rows_of_server()
+    return first is not None and first == asked[:len(first)] and len(first) >= answered and first == again == last and told == ""
+
+
+def copied(name):
+    shutil.rmtree(name, ignore_errors=True)
+    if os.path.exists(STORE):
+        shutil.copytree(STORE, name)
+
+
+def put_back(name):
+    shutil.rmtree(STORE, ignore_errors=True)
+    if os.path.exists(name):
+        shutil.copytree(name, STORE)
+
+
+def run_once(at, how):
+    """A server that is killed at this call, or whose call fails: how many rows were answered, its status, and what it said."""
+    shutil.rmtree(STORE, ignore_errors=True)
+    with Server("--workers", "1", env=environment(at, how)) as server:
+        answered = write_rows(server)
+        if not was_met():
+            server.kill(signal.SIGTERM)
+            return answered, 0, ""
+        # what can't be removed is removed another time
+        told = server.end(1 if how == "fails" and answered == ROWS else PATIENCE)
+        return answered, server.process.returncode, told
+
+
+def kills():
+    """A kill at each call of a run, and at each call of the start behind some of them."""
+    for how in ("before", "half", "behind", "fails"):
+        at = 1
+        while True:
+            answered, status, told = run_once(at, how)
+            if not was_met():
+                count("%s %d: no call is met, and all is answered" % (how, at), answered == ROWS)
+                break
+            ended = status == 1 and told.count("\n") == 1 and told.startswith("fault: ") if how == "fails" else status == -signal.SIGKILL
+            count("%s %d: it ends so" % (how, at), ended or (how == "fails" and answered == ROWS), (status, told))
+            copied("lost")
+            count("%s %d: what was answered is kept" % (how, at), is_kept(answered), answered)
+            if at % 9 == 1 and how != "fails":
+                starts(how, at, answered)
+            at += 1
+
+
+MORE = ["s%02d" % number for number in range(12)]
+
+
+def newest():
+    """The greatest number of an image."""
+    names = os.listdir(STORE) if os.path.exists(STORE) else []
+    return max([int(name.split(".")[1]) for name in names if name.startswith("image.") and not name.endswith(".part")], default=-1)
+
+
+def run_longer(at, how):
+    """The same of a server that makes an image while it serves, and goes on behind it."""
+    shutil.rmtree(STORE, ignore_errors=True)
+    with Server("--workers", "1", "--checkpoint", "600", env=environment(at, how)) as server:
+        answered = write_rows(server)
+        ends = time.monotonic() + PATIENCE
+        while server.process.poll() is None and newest() < 1 and time.monotonic() < ends:
+            time.sleep(0.01)
+        if answered == ROWS and server.process.poll() is None:
+            answered += write_rows(server, MORE)
+        if not was_met():
+            server.kill(signal.SIGTERM)
+            return answered, newest()
+        server.end(1 if how == "fails" and answered == ROWS + len(MORE) else PATIENCE)
+        return answered, newest()
+
+
+def checkpoints():
+    """An image is made in the place of a long journal, while requests are answered, and kills meanwhile lose nothing."""
+    for how in ("half", "fails"):
+        at = 1
+        while True:
+            answered, number = run_longer(at, how)
+            if not was_met():
+                count("%s %d: all is answered, and an image was made" % (how, at), answered == ROWS + len(MORE) and number >= 1, (answered, number))
+                count("%s %d: all is kept" % (how, at), is_kept(answered, ASKED + MORE))
+                break
+            count("%s %d beside an image: what was answered is kept" % (how, at), is_kept(answered, ASKED + MORE), answered)
+            at += 1
+
+
+def starts(how, at, answered):
+    again = 1
+    while True:
+        put_back("lost")
+        with Server(env=environment(again, how)) as server:
+            met = was_met()
+            server.kill()
+        count("%s %d, and %d of the start: what was answered is kept" % (how, at, again), is_kept(answered))
+        if not met:
+            return
+        again += 1
+
+
+def killed_folder(*words, rows=ROWS):
+    """A folder whose server was killed once all was answered."""
+    shutil.rmtree(STORE, ignore_errors=True)
+    with Server(*words) as server:
+        answered = write_rows(server)
+        server.kill()
+    return answered == rows
+
+
+def turned():
+    """Each byte of a journal turned, in turn, and each of its beginnings."""
+    count("all is answered", killed_folder())
+    journal = [name for name in os.listdir(STORE) if name.startswith("journal.")][0]
+    copied("whole")
+    with open("%s/%s" % (STORE, journal), "rb") as file:
+        bytes_are = file.read()
+    fine, cut, refused = True, 0, 0
+    for place in range(0, len(bytes_are), 11):
+        put_back("whole")
+        with open("%s/%s" % (STORE, journal), "wb") as file:
+            file.write(bytes_are[:place] + bytes([bytes_are[place] ^ 0x40]) + bytes_are[place + 1:])
+        found, told = rows_of_script()
+        if found is None:
+            refused += 1
+            fine = fine and "%s is damaged" % journal in told
+        else:
+            cut += 1
+            fine = fine and "are cut off" in told and found == ASKED[:len(found)] and len(found) >= ROWS - 2 * CHUNK
+    count("a journal with a byte that is turned is refused or cut", fine and cut > 0 and refused > 0, (cut, refused))
+    put_back("whole")
+    with open("%s/%s" % (STORE, journal), "r+b") as file:
+        file.seek(70)
+        file.write(b"\xff")
+    before = sorted((name, os.stat("%s/%s" % (STORE, name)).st_size) for name in os.listdir(STORE))
+    with Server() as server:
+        told = server.end()
+        count("a server refuses it too", server.process.returncode == 1 and told.startswith("fault: %s: %s is damaged at " % (STORE, journal)), told)
+    count("and changes nothing", before == sorted((name, os.stat("%s/%s" % (STORE, name)).st_size) for name in os.listdir(STORE)))
+    fine = True
+    for length in range(0, len(bytes_are), 9):
+        put_back("whole")
+        os.truncate("%s/%s" % (STORE, journal), length)
+        found, _ = rows_of_script()
+        fine = fine and found == ASKED[:len(found)]
+    count("each beginning of a journal keeps a beginning of its rows", fine)
+
+
+def folders():
+    """What a folder is, and who takes it up."""
+    shutil.rmtree(STORE, ignore_errors=True)
+    with Server() as server:
+        count("all is answered", write_rows(server) == ROWS)
+        count("the folder is its owner's alone", os.stat(STORE).st_mode & 0o077 == 0)
+        count("and so are its files", all(os.stat("%s/%s" % (STORE, name)).st_mode & 0o077 == 0 for name in os.listdir(STORE)))
+        with Server() as second:
+            told = second.end()
+            count("a folder that is taken is refused", second.process.returncode == 1 and told == "fault: %s: another process has it\n" % STORE, told)
+        count("and to a script", scan("")[1] == "fault: %s: another process has it\n" % STORE)
+        server.kill(signal.SIGTERM)
+    with Server() as server:
+        told = server.kill()
+        count("a start tells what it found", told == "%s: %d entries are done again\n" % (STORE, ROWS + 1), told)
+    count("the next start finds nothing more", rows_of_server() == (ASKED, ""))
+    run = subprocess.run([PROGRAM, "serve", "--port", str(free_port()), "--store", STORE, "--image", "%s/image.0" % STORE], capture_output=True, text=True, timeout=60)
+    count("an image is for an empty folder", run.returncode == 1 and "keeps something already" in run.stderr, run.stderr)
+    image = [name for name in os.listdir(STORE) if name.startswith("image.")][0]
+    shutil.copy("%s/%s" % (STORE, image), "begun")
+    shutil.rmtree(STORE, ignore_errors=True)
+    with Server("--image", "begun") as server:
+        server.kill()
+    count("which keeps it from then on", rows_of_server() == (ASKED, ""))
+    run = subprocess.run([PROGRAM, "serve", "--port", str(free_port()), "--sync", "interval"], capture_output=True, text=True, timeout=60)
+    count("a sync is one of a store", run.returncode == 2 and "--store" in run.stderr, run.stderr)
+
+
+def both_formats():
+    """What a server left is taken up by a script, and what a script left by a server."""
+    count("all is answered", killed_folder())
+    found, told = rows_of_script()
+    count("a script takes up what a server left", found == ASKED and told == "%s: %d entries are done again\n" % (STORE, ROWS + 1), told)
+    script = subprocess.Popen([PROGRAM, "script", "--store", STORE], stdin=subprocess.PIPE, stdout=subprocess.PIPE, text=True)
+    script.stdin.write("insert t r99 f q \\e 1\n")
+    script.stdin.flush()
+    count("a script goes on", script.stdout.readline() == "ok\n")
+    script.kill()
+    script.communicate()
+    found, told = rows_of_server()
+    count("a server takes up what a script left", found == ASKED + ["r99"] and told.endswith("bytes of lines are done again\n"), told)
+
+
+def intervals():
+    """What is in the hands of the system outlives a kill."""
+    count("all is answered", killed_folder("--sync", "interval"))
+    count("all is there behind a kill", rows_of_server()[0] == ASKED)
+    shutil.rmtree(STORE, ignore_errors=True)
+    with Server("--sync", "interval", "--accept", "1") as server:
+        count("all is answered", write_rows(server) == ROWS)
+        told = server.end()
+        count("a server ends behind its connections", server.process.returncode == 0 and told == "", told)
+    count("all is there behind its end", rows_of_server()[0] == ASKED)
+
+
+def limited():
+    """No file may grow beyond some bytes."""
+    signal.signal(signal.SIGXFSZ, signal.SIG_IGN)
+    resource.setrlimit(resource.RLIMIT_FSIZE, (60_000, 60_000))
+
+
+def full_disk():
+    """A disk that is full ends the server, and each connection; no reply is told for what isn't kept."""
+    shutil.rmtree(STORE, ignore_errors=True)
+    with Server("--workers", "2", before=limited) as server:
+        idle = server.connect()
+        answered = 0
+        try:
+            with server.connect() as stream:
+                stream.sendall(MAKE)
+                read_frame(stream)
+                for number in range(4_000):
+                    stream.sendall(write("w%05d" % number))
+                    if read_frame(stream) != OK:
+                        break
+                    answered += 1
+        except OSError:
+            pass
+        told = server.end()
+        count("a full disk ends the server", server.process.returncode == 1 and told.count("\n") == 1 and told.startswith("fault: %s: " % STORE), told)
+        idle.settimeout(PATIENCE)
+        count("and each connection", read_exactly(idle, 1) == b"")
+        idle.close()
+    found, _ = rows_of_server()
+    count("what was answered is kept", found is not None and found == ["w%05d" % number for number in range(len(found))] and answered <= len(found) <= answered + 1 and answered > 100, (answered, found and len(found)))
+
+
+def reads_wait_for_nothing():
+    """Reads put nothing into the journal, and the disk isn't asked for anything."""
+    shutil.rmtree(STORE, ignore_errors=True)
+    at = 1
+    while True:
+        run_once(at, "fails")
+        if not was_met():
+            break
+        at += 1
+    shutil.rmtree(STORE, ignore_errors=True)
+    with Server(env=environment(at, "fails")) as server:
+        count("all is answered", write_rows(server) == ROWS)
+        run = subprocess.run([PROGRAM, "shell", "--port", str(server.port), "--user", "root"], input="scan t \\0\nstatus t\nrights -\ninsert u r f q \\e v\n" * 50, capture_output=True, text=True, timeout=60)
+        count("reads and refusals are answered", run.stdout.count("refused 2 NoTable u") == 50, run.stdout[-200:])
+        count("without the disk", not was_met() and server.process.poll() is None)
+
+
+class Writer(threading.Thread):
+    """Writes rows of its own one after another, some at a time, until the server is gone."""
+
+    def __init__(self, server, letter, seed):
+        super().__init__()
+        self.server, self.letter, self.random = server, letter, random.Random(seed)
+        self.asked = self.answered = 0
+
+    def run(self):
+        try:
+            with self.server.connect() as stream:
+                while True:
+                    many = self.random.choice((1, 1, 2, 7, 40))
+                    stream.sendall(b"".join(write("w%s%06d" % (self.letter, self.asked + each)) for each in range(many)))
+                    self.asked += many
+                    for _ in range(many):
+                        if read_frame(stream) != OK:
+                            return
+                        self.answered += 1
+                    if self.random.random() < 0.2:
+                        time.sleep(self.random.random() / 100)
+        except OSError:
+            pass
+
+
+def reads(server, seen):
+    """Scans again and again, and keeps what it saw last."""
+    while True:
+        try:
+            done = subprocess.run([PROGRAM, "shell", "--port", str(server.port), "--user", "root"], input="scan t \\0\n", capture_output=True, text=True, timeout=60)
+        except subprocess.TimeoutExpired:
+            return
+        if done.returncode != 0 or not done.stdout.endswith("end\n"):
+            return
+        seen[:] = named(done.stdout)
+
+
+def beneath_writers():
+    """Kills at random times beneath writers and a reader."""
+    seed = random.randrange(1 << 30)
+    chance = random.Random(seed)
+    ends = time.monotonic() + SECONDS
+    rounds = 0
+    while time.monotonic() < ends:
+        rounds += 1
+        shutil.rmtree(STORE, ignore_errors=True)
+        mode = chance.choice(("always", "always", "interval"))
+        long = chance.choice(("30000", "67108864"))
+        with Server("--workers", "10", "--sync", mode, "--checkpoint", long) as server:
+            with server.connect() as stream:
+                stream.sendall(MAKE)
+                read_frame(stream)
+            writers = [Writer(server, letter, chance.random()) for letter in "abcdefgh"]
+            seen = []
+            reader = threading.Thread(target=reads, args=(server, seen))
+            for thread in (*writers, reader):
+                thread.start()
+            time.sleep(chance.random() ** 2 * 1.5)
+            server.kill()
+            for thread in (*writers, reader):
+                thread.join()
+        found, told = rows_of_server()
+        again, _ = rows_of_script()
+        fine = found is not None and found == again
+        for writer in writers if fine else ():
+            mine = [row for row in found if row[1] == writer.letter]
+            fine = fine and mine == ["w%s%06d" % (writer.letter, each) for each in range(len(mine))] and writer.answered <= len(mine) <= writer.asked
+        count("round %d of seed %d: what was answered is kept, and what is there was asked" % (rounds, seed), fine, (mode, long, told))
+        count("round %d of seed %d: what was seen is there" % (rounds, seed), set(seen) <= set(found or ()))
+    count("there were rounds", rounds > 0)
+
+
+def readme():
+    """README's server that is killed, word for word."""
+    with open("%s/../README.md" % HERE, encoding="utf-8") as file:
+        section = file.read().split("## A server that is killed\n")[1].split("\n## ")[0]
+    blocks = [part.split("\n", 1) for part in section.split("```")[1::2]]
+    shown = [text for kind, text in blocks if kind == ""]
+    begin, write_some, again, read = [text for kind, text in blocks if kind == "sh"]
+    port = str(free_port())
+    listens = "until (exec 3<>/dev/tcp/127.0.0.1/%s) 2>/dev/null; do sleep 0.05; done\n" % port
+    lines = begin + listens + write_some + "wait $!\n" + again + listens + read + "kill -9 $!\n"
+    lines = lines.replace("./tabd", PROGRAM).replace("9997", port)
+    run = subprocess.run(["bash"], input=lines, capture_output=True, text=True, timeout=60)
+    count("README's server that is killed prints what it says", run.stdout == "listening %s\nok\nok\nok\nlistening %s\n" % (port, port) + shown[0], run.stdout)
+    told = "ward: 3 entries are done again"
+    count("and says what it says", "`%s`" % told in section and "%s\n" % told in run.stderr, run.stderr)
+
+
+def build():
+    subprocess.run([os.environ.get("CC", "cc"), "-shared", "-fPIC", "-O1", "-o", "killing.so", "%s/killing.c" % HERE, "-ldl"], check=True)
+
+
+run_parts(build, readme, folders, both_formats, intervals, full_disk, reads_wait_for_nothing, turned, kills, checkpoints, beneath_writers)
