@@ -5,7 +5,7 @@ import socket
 from contextlib import contextmanager
 from io import BufferedReader, BufferedWriter
 from types import TracebackType
-from typing import Any, BinaryIO, Callable, Dict, Iterable, Iterator, List, Literal, Optional, Type, TypeVar, overload
+from typing import Any, BinaryIO, Callable, Dict, Iterable, Iterator, List, Literal, Optional, Type, TypeVar, Union, overload
 
 from . import checks, requests, to_pandas
 from .connection import Connection
@@ -22,8 +22,8 @@ TIMEOUT = 60.0
 """Seconds that a client waits for its server, unless told otherwise."""
 
 
-def connect(port: int, user: Text, host: str = "127.0.0.1", timeout: Optional[float] = TIMEOUT) -> Client:
-    """A client of the server on this port, or an OSError.
+def connect(port: Union[int, str], user: Text, host: str = "127.0.0.1", timeout: Optional[float] = TIMEOUT) -> Client:
+    """A client of the server on this port, or at the socket file of this path, or an OSError.
 
     Where the server lets it wait for longer than the timeout (seconds; None is no bound), TimedOut closes the client. A first scan behind
     millions of writes and a full compaction can take seconds.
@@ -31,11 +31,27 @@ def connect(port: int, user: Text, host: str = "127.0.0.1", timeout: Optional[fl
     if timeout is not None and not timeout > 0:
         raise ValueError(f"timeout: {timeout} isn't above 0")
     checks.name(user, "user")
-    with socket.create_connection((host, checks.number(port, "port", 1, 65535)), timeout) as link:
-        link.setsockopt(socket.IPPROTO_TCP, socket.TCP_NODELAY, 1)
+    with _at_file(port, timeout) if isinstance(port, str) else _at_port(port, host, timeout) as link:
         reader, writer = BufferedReader(link.makefile("rb", 0), BUFFER), BufferedWriter(link.makefile("wb", 0), BUFFER)
         # the two streams keep the socket open
         return Client(reader, writer, user, break_off=lambda: link.shutdown(socket.SHUT_RDWR))
+
+
+def _at_port(port: int, host: str, timeout: Optional[float]) -> socket.socket:
+    link = socket.create_connection((host, checks.number(port, "port", 1, 65535)), timeout)
+    link.setsockopt(socket.IPPROTO_TCP, socket.TCP_NODELAY, 1)
+    return link
+
+
+def _at_file(path: str, timeout: Optional[float]) -> socket.socket:
+    link = socket.socket(socket.AF_UNIX)
+    try:
+        link.settimeout(timeout)
+        link.connect(path)
+    except BaseException:
+        link.close()
+        raise
+    return link
 
 
 class Client:

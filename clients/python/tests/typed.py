@@ -6,6 +6,8 @@ from tabd import Cell, Delete, Put, Range, Session
 
 
 def right(client: tabd.Client) -> List[bytes]:
+    tabd.connect(9997, "kim").close()
+    tabd.connect("/run/tabd.sock", b"kim", timeout=None).close()
     client.write("t", b"r", [Put("f", b"q", "label", "value", 5), Put("f", "q", value="v"), Delete("f", "q", timestamp=5)])
     client.set_authorizations("kim", ["care", b"desk"])
     with client.pipeline() as refused:
@@ -21,6 +23,7 @@ def right(client: tabd.Client) -> List[bytes]:
 
 
 def wrong(client: tabd.Client) -> None:
+    tabd.connect(b"/run/tabd.sock", "kim")  # type: ignore[arg-type]
     Put("f", "q", "v")  # type: ignore[call-overload]
     Put("f", "q")  # type: ignore[call-overload]
     Put("f", "q", value=5)  # type: ignore[call-overload]
