@@ -6,6 +6,11 @@
 #   ROUNDS  runs of each program, of which the median counts; 5 where unsaid
 #   CLOCK   in the environment: processor, for the processor's time in place of that which elapsed
 #   ENGINE  in the environment: a file that keeps the built program; where it is there already, it is measured and nothing is proved
+#   BUILT   in the environment: a folder that keeps the programs beside it, for more runs of the same sources
+#   SHAPES, MODES in the environment: those of tall and wide, of freeze and compact that are measured; all where unsaid
+#   PEERS   in the environment: those of rocksdb and leveldb beside which it is measured; both where unsaid
+#   FIGURES in the environment: a file to which a line is added for each program and shape that has ranges: the cells, the program, ns of a
+#           write (W and F), µs of a range of ten, bytes a cell at rest
 set -eu -o pipefail
 top=$(cd "$(dirname -- "${BASH_SOURCE[0]}")/.." && pwd)
 cells=${1:-1000000}
@@ -54,8 +59,11 @@ build_tabd() {
 
 # Builds a program in C++, where the package with its library is installed.
 build_peer() { # NAME PACKAGE
-    if dpkg-query -W -f '${Status}' "$2" 2>/dev/null | grep -q 'ok installed'; then
-        g++ -std=c++17 -O2 -o "$work/$1" "$top/bench/engine/$1.cc" "-l$1"
+    case " ${PEERS-rocksdb leveldb} " in *" $1 "*) ;; *) return 0 ;; esac
+    if [ -x "${BUILT:-$work}/$1" ]; then
+        peers="$peers $1"
+    elif dpkg-query -W -f '${Status}' "$2" 2>/dev/null | grep -q 'ok installed'; then
+        g++ -std=c++17 -O2 -o "${BUILT:-$work}/$1" "$top/bench/engine/$1.cc" "-l$1"
         peers="$peers $1"
     else
         echo "$1 is left out: the package $2 isn't installed" >&2
@@ -69,21 +77,23 @@ else
     build_tabd
     [ -z "${ENGINE:-}" ] || cp "$work/tabd" "$ENGINE"
 fi
-rustc -O -o "$work/rust" "$top/bench/engine/plain.rs"
+[ -x "${BUILT:-$work}/rust" ] || rustc -O -o "${BUILT:-$work}/rust" "$top/bench/engine/plain.rs"
 build_peer rocksdb librocksdb-dev
 build_peer leveldb libleveldb-dev
 
 # Runs a program once, and notes what it prints and how many bytes of files it leaves.
 run() { # NAME SHAPE MODE
     mkdir "$files/store"
-    "$work/$1" "$2" "$3" "$cells" "$files/store" | sed "s/^/$1 /" >>"$work/seen"
+    local program=${BUILT:-$work}/$1
+    [ "$1" != tabd ] || program=$work/tabd
+    "$program" "$2" "$3" "$cells" "$files/store" | sed "s/^/$1 /" >>"$work/seen"
     echo "$1 files $(find "$files/store" -type f -printf '%s\n' | awk '{ sum += $1 } END { print sum + 0 }')" >>"$work/seen"
     rm -r "$files/store"
 }
 
 # The table of what was seen. It fails where two programs gave different cells.
 report() { # TITLE
-    awk -v title="$1" -v peers="$peers" -v cells="$cells" -v clock="${CLOCK:-elapsed}" '
+    awk -v title="$1" -v peers="$peers" -v cells="$cells" -v clock="${CLOCK:-elapsed}" -v figures="${FIGURES:-/dev/null}" '
         function note(what, value) { seen[what, ++count[what]] = value }
         function median(what,   i, j, n, value, sorted) {
             n = count[what]
@@ -119,13 +129,16 @@ report() { # TITLE
             for (i = 1; i <= n; i++)
                 printf "%-24s %s %s %s %s %s %s\n", who[i], rate(who[i], "W"), rate(who[i], "WF"), rate(who[i], "S"), rate(who[i], "R"),
                     bytes(who[i], "rest"), bytes(who[i], "most")
+            for (i = 1; i <= n; i++)
+                if (count["R " who[i]])
+                    printf "%d %s %.0f %.3f %.0f\n", cells, who[i], median("WF " who[i]) / cells, median("R " who[i]) / cells / 100, median("rest " who[i]) / cells >>figures
             printf "S gives %s bytes%s\n\n", (split(given["S"], s, " ") ? s[1] " cells in " s[2] : ""), ("R" in given ? ", R " (split(given["R"], r, " ") ? r[1] " cells in " r[2] " bytes" : "") : "")
         }' "$work/seen"
 }
 
 echo "$cells cells, medians of $rounds rounds, ${CLOCK:-elapsed} time: millions of cells a second (ratio to rust), bytes a cell"
-for shape in tall wide; do
-    for mode in freeze compact; do
+for shape in ${SHAPES:-tall wide}; do
+    for mode in ${MODES:-freeze compact}; do
         : >"$work/seen"
         for _ in $(seq "$rounds"); do
             for who in $peers; do run "$who" "$shape" "$mode"; done
