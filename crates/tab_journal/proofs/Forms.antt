@@ -315,7 +315,7 @@ module _ (salt before : ℕ) where
       omega (arith, len, s, m, length-append is.s (is.f ++ is.m), length-append is.f is.m, field_long is.f b.body is.body)
 
 -- ---- what is written
-front_written : (f : Front) → FitsFront f → IsFront (front_bytes f) f
+pub front_written : (f : Front) → FitsFront f → IsFront (front_bytes f) f
 unfolding u64 i64
 front_written f fits = record {
   g = u64 f.generation;
@@ -332,7 +332,7 @@ front_written f fits = record {
   fits = fits.right;
 }
 
-batch_written : (salt before settled : ℕ) (body : List ℕ) → settled < 2 ^ 64 → length body < 2 ^ 32 → sum_of (batch_summed salt before settled body) < 2 ^ 64
+pub batch_written : (salt before settled : ℕ) (body : List ℕ) → settled < 2 ^ 64 → length body < 2 ^ 32 → sum_of (batch_summed salt before settled body) < 2 ^ 64
     → IsBatch salt before (batch_bytes salt before settled body) (record { settled = settled; body = body; sum = sum_of (batch_summed salt before settled body) })
 unfolding u32 u64
 batch_written salt before settled body low short fits = record {

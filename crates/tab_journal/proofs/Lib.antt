@@ -8,3 +8,8 @@ pub mod Spelled
 pub mod Keeping
 pub mod Texts
 pub mod Stretching
+pub mod Moments
+pub mod Crashing
+pub mod Appending
+pub mod Calling
+pub mod Lengths

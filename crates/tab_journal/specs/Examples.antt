@@ -1,10 +1,11 @@
 -- Worked examples, computed: the forms of fronts and batches.
-use Rattle.std.specs.Prelude.{pos, ◌≡◌, [], ◌∷◌, ◌++◌, codes, None, refl}
+use Rattle.std.specs.Prelude.{pos, true, false, ◌≡◌, [], ◌∷◌, ◌++◌, codes, None, refl}
 use Rattle.tab_parts.specs.Reading.{u32_at, u64_at, field_at}
 use Rattle.tab_wire.specs.Replies.{u32, u64, i64}
 use Rattle.tab_journal.specs.declared.format.Format.TheVariants.{Lines, Events}
 use Rattle.tab_journal.specs.Journals.{mark, front_summed, batch_summed}
 use Rattle.tab_journal.specs.Reading.{batch_at}
+use Rattle.tab_journal.specs.Calls.{appended, synced, state_behind}
 
 -- the six bytes and the version
 marked : mark Lines ≡ 84 ∷ 65 ∷ 66 ∷ 74 ∷ 82 ∷ 78 ∷ 0 ∷ 1 ∷ []
@@ -26,3 +27,10 @@ batch_behind_salt_and_sum = refl
 too_few : batch_at 1 2 (0 ∷ 0 ∷ 0 ∷ 0 ∷ 0 ∷ 0 ∷ 0 ∷ 48 ∷ 0 ∷ 0 ∷ 0 ∷ 2 ∷ 97 ∷ []) ≡ None
 unfolding batch_at u32_at u64_at field_at
 too_few = refl
+
+-- what is known of a file into which two bytes were put, which are on the disk, and then one more; and then three, and that failed
+put_and_synced : state_behind (appended true (codes "c") ∷ synced true ∷ appended true (codes "ab") ∷ []) ≡ record { seen = codes "abc"; settled = codes "ab"; torn = 0; is_usable = true; faults = 0 }
+put_and_synced = refl
+
+put_in_vain : state_behind (appended false (codes "def") ∷ appended true (codes "c") ∷ synced true ∷ appended true (codes "ab") ∷ []) ≡ record { seen = codes "abc"; settled = codes "ab"; torn = 3; is_usable = false; faults = 1 }
+put_in_vain = refl

@@ -7,3 +7,12 @@ pub mod Gathering
 pub mod Laws
 pub mod Said
 pub mod Examples
+pub mod Device
+pub mod Crashes
+pub mod Writing
+pub mod Writers
+pub mod Calls
+pub mod Past
+pub mod Memory
+pub mod Memories
+pub mod Reasons

@@ -31,6 +31,7 @@ impl Front {
     /// A front with these numbers, and its sum.
     pub fn new(format: Format, generation: u64, next: u64, clock: i64, salt: u64) -> Front
         ensures sum { result.sum ≡ sum_of (front_summed format generation next clock salt) }
+        ensures right { result.sum ≡ sum_of (front_summed result.format result.generation result.next result.clock result.salt) }
         ensures numbers { result ≡ record { format = format; generation = generation; next = next; clock = clock; salt = salt; sum = result.sum } }
     {
         Front {

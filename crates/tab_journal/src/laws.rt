@@ -1,5 +1,6 @@
 //! What holds of journals: laws, each the contract of a function that does nothing.
 ghost use Rattle.tab_journal.specs.Laws.{JournalsAreRead, WholeBatchesAreKept, CutsAreBeginnings, EntriesAreRead, TextsHaveForm};
+ghost use Rattle.tab_journal.specs.Crashes.{CrashesLeaveBeginnings};
 ghost use Rattle.tab_journal.specs.Stretches.{GatheredIsLasting};
 
 /// What is read of a journal's bytes is what they say, and bytes that say something are read so.
@@ -15,6 +16,11 @@ pub fn whole_batches_are_kept()
 /// A beginning of a journal, with its front, says the first of its batches, whole ones alone.
 pub fn cuts_are_beginnings()
     ensures { CutsAreBeginnings }
+{}
+
+/// Of what a crash leaves of a journal a beginning of what was put is read, with all that was on the disk.
+pub fn crashes_leave_beginnings()
+    ensures { CrashesLeaveBeginnings }
 {}
 
 /// The same of the entries that the bytes of a batch may be.

@@ -17,15 +17,20 @@
 //! | `spelling`, `gathered` | the bytes of an entry, and those of a stretch of a history |
 //! | `entry` | an entry, read |
 //! | `sums`, `taking` | sums, and numbers and fields at the front of some bytes |
+//! | `device`, `memory_device`, `memory` | a file as a journal sees it, and one in memory with the calls that it keeps |
+//! | `writer`, `beginning`, `write_error` | a journal that is being written into a device, its front, and why nothing is put |
 //! | `laws` | reading is exactly the forms, and a beginning of a journal says the first of its batches |
 //!
 //! In `specs`, `Journals` says what the bytes of a journal are, as relations, `Reading` reads them, `Spelling` has the bytes that are written,
 //! `Laws` the laws, and `Examples` computes examples. In `proofs`, `Forms` shows that parts are read exactly, `Whole` that journals are, and
 //! what is read of a part of one. `Stretches` and `Gathering` say what is gathered of a history, entry by entry, and `Fitting` which entries have
-//! a spelling.
+//! a spelling. `Device` says what calls of a device do to what a crash may leave, `Crashes` what is read of that, `Writing` and `Writers` what a
+//! writer has written, and `Calls` what is known of a file behind given calls.
 #![tactic(auto)]
 
 mod batch;
+mod beginning;
+mod device;
 mod entry;
 mod fitting;
 mod format;
@@ -33,18 +38,29 @@ mod front;
 mod gathered;
 mod lasting;
 mod laws;
+mod memory;
+mod memory_device;
 mod reading;
 mod spelling;
 mod sums;
 mod taking;
+mod write_error;
+mod writer;
+#[cfg(test)]
+mod writing_tests;
 
 pub use batch::{Batch, batch_text, take_batch};
+pub use device::{Device, DeviceError};
 pub use entry::next_entry;
 pub use format::Format;
 pub use front::{Front, front_text, take_front};
 pub use gathered::Gathered;
 pub use laws::{
-    cuts_are_beginnings, entries_are_read, gathered_is_lasting, journals_are_read, texts_have_form,
-    whole_batches_are_kept,
+    crashes_leave_beginnings, cuts_are_beginnings, entries_are_read, gathered_is_lasting,
+    journals_are_read, texts_have_form, whole_batches_are_kept,
 };
+pub use memory::MemoryCall;
+pub use memory_device::MemoryDevice;
 pub use reading::{Kept, read_journal};
+pub use write_error::WriteError;
+pub use writer::Writer;

@@ -1,0 +1,114 @@
+-- What is put behind a journal, and what a crash leaves of it.
+use Rattle.std.proofs.Common.{◌≡◌, ℕ, ◌+◌, ◌<◌, ◌≤◌, ◌^◌, List, [], ◌∷◌, ◌++◌, length, take, drop, refl, sym, ap, subst, ◌∙◌, append-nil, take-append-drop, length-append, arith}
+use Rattle.std.proofs.lemmas.List.{take_all, take-append-le, length-take}
+use Rattle.tab_journal.specs.Device.{Torn, Follows, Only}
+use Rattle.tab_journal.specs.Journals.{sum_of, Front, Batch, batch_summed, IsBatch, IsJournal}
+use Rattle.tab_journal.specs.Laws.{last_sum, FitsFront}
+use Rattle.tab_journal.specs.Crashes.{HasFirst, IsAsBefore}
+use Rattle.tab_journal.specs.Spelling.{front_bytes, batch_bytes}
+use Rattle.tab_journal.specs.Writing.{IsWritten, KeepFirst}
+use Rattle.tab_journal.proofs.Crashing.{journal_more, last_sum_more}
+use Rattle.tab_journal.proofs.Forms.{front_long, front_written, batch_written}
+
+-- ---- bytes
+pub take_first : (n m : ℕ) (c : List ℕ) → n ≤ m → n ≤ length c → take n c ≡ take n (take m c)
+take_first n m c le has = ap (λ (z : List ℕ). take n z) (sym (take-append-drop m c)) ∙ take-append-le n (take m c) (drop m c) (omega (arith, le, has, length-take m c))
+
+take_same : (n m : ℕ) (c d : List ℕ) → n ≤ m → n ≤ length c → n ≤ length d → take m c ≡ take m d → take n c ≡ take n d
+take_same n m c d le long has same = take_first n m c le long ∙ ap (λ (z : List ℕ). take n z) same ∙ sym (take_first n m d le has)
+
+-- ---- what a crash leaves of what is put
+module _ (n len : ℕ) (file : List ℕ) (old new : List ℕ → Type 0) (keeps : KeepFirst n file old) (low : n ≤ length file) (follows : Follows (Torn (length file) len) old new) where
+  -- at each moment of the call
+  pub torn_keeps : (c : List ℕ) → new c → HasFirst n file c × IsAsBefore (length file) old c
+  torn_keeps c left =
+      let from = follows c left in
+      let was = keeps from.0 from.1 in
+      let torn = from.2 in
+      let long : n ≤ length c = omega (arith, was.0.0, torn.no_shorter) in
+      ((long, take_same n (length file) c from.0 low long was.0.0 torn.before ∙ was.0.1), (from.0, from.1, torn.before))
+
+  -- once it has gone well
+  pub put_keeps : (text : List ℕ) → length text ≡ len → KeepFirst n (file ++ text) new
+  put_keeps text is c left =
+      let from = follows c left in
+      let was = keeps from.0 from.1 in
+      let kept = torn_keeps c left in
+      ((kept.0.0, kept.0.1 ∙ sym (take-append-le n file text low)), omega (arith, was.1, from.2.no_longer, is, length-append file text))
+
+-- before it
+pub still_keeps : (n : ℕ) (file : List ℕ) (old : List ℕ → Type 0) → KeepFirst n file old → (c : List ℕ) → old c → HasFirst n file c × IsAsBefore (length file) old c
+still_keeps n file old keeps c left = ((keeps c left).0, (c, left, refl))
+
+-- what is on the disk
+pub only_keeps : (file : List ℕ) (outcomes : List ℕ → Type 0) → Only file outcomes → KeepFirst (length file) file outcomes
+only_keeps file outcomes only c left =
+    let is = only c left in
+    let long = ap (λ (z : List ℕ). length z) is in
+    ((omega (arith, long), ap (λ (z : List ℕ). take (length file) z) is), omega (arith, long))
+
+pub keeps_only : (file : List ℕ) (outcomes : List ℕ → Type 0) → KeepFirst (length file) file outcomes → Only file outcomes
+keeps_only file outcomes keeps c left =
+    let was = keeps c left in
+    sym (take_all (length file) c (omega (arith, was.1))) ∙ was.0.1 ∙ take_all (length file) file (omega arith)
+
+-- what a crash leaves of the first text in an empty file
+pub torn_short : (at len most : ℕ) (old new : List ℕ → Type 0) → at + len ≤ most → Only [] old → Follows (Torn at len) old new → (c : List ℕ) → new c → length c ≤ most
+torn_short at len most old new le only follows c left =
+    let from = follows c left in
+    omega (arith, le, from.2.no_longer, ap (λ (z : List ℕ). length z) (only from.0 from.1))
+
+-- ---- the journal
+pub begun : (front : Front) → FitsFront front → IsWritten (front_bytes front) front.salt front.sum 48 front [] 0
+begun front fits =
+    let is = front_written front fits in
+    let all : take 48 (front_bytes front) ≡ front_bytes front = take_all 48 (front_bytes front) (omega (arith, front_long (front_bytes front) front is)) in
+    let journal : IsJournal (front_bytes front) front [] = (front_bytes front, [], sym (append-nil (front_bytes front)), is, refl) in
+    record { journal = journal; salted = refl; summed = refl; few = omega arith; first = subst (λ (z : List ℕ). IsJournal z front []) (sym all) journal }
+
+-- one batch more
+pub put_more : (bytes body : List ℕ) (salt sum n : ℕ) (front : Front) (bs : List Batch) (k : ℕ) → n ≤ length bytes → n < 2 ^ 64 → length body < 2 ^ 32 → sum_of (batch_summed salt sum n body) < 2 ^ 64
+    → IsWritten bytes salt sum n front bs k
+    → IsWritten (bytes ++ batch_bytes salt sum n body) salt (sum_of (batch_summed salt sum n body)) n front (bs ++ record { settled = n; body = body; sum = sum_of (batch_summed salt sum n body) } ∷ []) k
+put_more bytes body salt sum n front bs k low fits short right w =
+    let b : Batch = record { settled = n; body = body; sum = sum_of (batch_summed salt sum n body) } in
+    let text = batch_bytes salt sum n body in
+    let is : IsBatch salt sum text b = batch_written salt sum n body fits short right in
+    let here : IsBatch front.salt (last_sum front bs) text b =
+    subst (λ (s : ℕ). IsBatch s (last_sum front bs) text b) w.salted (subst (λ (s : ℕ). IsBatch salt s text b) w.summed is) in
+    record {
+      journal = journal_more bytes text front bs b w.journal here;
+      salted = w.salted;
+      summed = sym (last_sum_more front bs b);
+      few = omega (arith, w.few, length-append bs (b ∷ []));
+      first = subst (λ (z : List ℕ). IsJournal z front (take k (bs ++ b ∷ []))) (sym (take-append-le n bytes text low))
+          (subst (λ (z : List Batch). IsJournal (take n bytes) front z) (sym (take-append-le k bs (b ∷ []) w.few)) w.first);
+    }
+
+-- all of it on the disk
+pub all_settled : (bytes : List ℕ) (salt sum n : ℕ) (front : Front) (bs : List Batch) (k : ℕ) → IsWritten bytes salt sum n front bs k → IsWritten bytes salt sum (length bytes) front bs (length bs)
+all_settled bytes salt sum n front bs k w = record {
+  journal = w.journal;
+  salted = w.salted;
+  summed = w.summed;
+  few = omega arith;
+  first = subst (λ (z : List ℕ). IsJournal z front (take (length bs) bs)) (sym (take_all (length bytes) bytes (omega arith)))
+      (subst (λ (z : List Batch). IsJournal bytes front z) (sym (take_all (length bs) bs (omega arith))) w.journal);
+}
+
+-- the same of the bytes and the sum that are there then
+pub put_as : (bytes now body : List ℕ) (salt sum n next : ℕ) (front : Front) (bs : List Batch) (k : ℕ) → now ≡ bytes ++ batch_bytes salt sum n body → next ≡ sum_of (batch_summed salt sum n body)
+    → n ≤ length bytes → n < 2 ^ 64 → length body < 2 ^ 32 → next < 2 ^ 64 → IsWritten bytes salt sum n front bs k
+    → IsWritten now salt next n front (bs ++ record { settled = n; body = body; sum = next } ∷ []) k
+put_as bytes now body salt sum n next front bs k now_is next_is low fits short right w =
+    let made = put_more bytes body salt sum n front bs k low fits short (subst (λ (s : ℕ). s < 2 ^ 64) next_is right) w in
+    subst (λ (z : List ℕ). IsWritten z salt next n front (bs ++ record { settled = n; body = body; sum = next } ∷ []) k) (sym now_is)
+    (subst (λ (s : ℕ). IsWritten (bytes ++ batch_bytes salt sum n body) salt s n front (bs ++ record { settled = n; body = body; sum = s } ∷ []) k) (sym next_is) made)
+
+pub settled_as : (bytes now : List ℕ) (salt sum n all : ℕ) (front : Front) (bs : List Batch) (k : ℕ) → now ≡ bytes → all ≡ length bytes → IsWritten bytes salt sum n front bs k → IsWritten now salt sum all front bs (length bs)
+settled_as bytes now salt sum n all front bs k now_is all_is w =
+    subst (λ (z : List ℕ). IsWritten z salt sum all front bs (length bs)) (sym now_is)
+    (subst (λ (m : ℕ). IsWritten bytes salt sum m front bs (length bs)) (sym all_is) (all_settled bytes salt sum n front bs k w))
+
+pub begun_as : (now : List ℕ) (front : Front) → now ≡ front_bytes front → FitsFront front → IsWritten now front.salt front.sum 48 front [] 0
+begun_as now front is fits = subst (λ (z : List ℕ). IsWritten z front.salt front.sum 48 front [] 0) (sym is) (begun front fits)
