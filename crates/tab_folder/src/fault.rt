@@ -1,6 +1,7 @@
 //! Why a folder can't be taken up, and why nothing is kept in it.
 use std::alloc::AllocError;
-use std::io::Error;
+use std::io::{Error, ErrorKind};
+use tab_journal::{DeviceError, WriteError};
 use tab_loading::LoadFault;
 use tab_saving::SaveFault;
 
@@ -56,6 +57,19 @@ impl From<SaveFault> for FolderFault {
         match fault {
             SaveFault::Write => FolderFault::Write,
             SaveFault::NoMemory => FolderFault::NoMemory,
+        }
+    }
+}
+
+impl From<WriteError> for FolderFault {
+    fn from(error: WriteError) -> FolderFault {
+        match error {
+            WriteError::NoMemory | WriteError::Device(DeviceError::NoMemory) => {
+                FolderFault::NoMemory
+            }
+            WriteError::TooLong | WriteError::Full => FolderFault::Full,
+            WriteError::Stopped => FolderFault::Refused(Error::from(ErrorKind::Other)),
+            WriteError::Device(DeviceError::Failed(error)) => FolderFault::Refused(error),
         }
     }
 }

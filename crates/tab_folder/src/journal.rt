@@ -1,71 +1,95 @@
 //! A journal that is being written.
+ghost use Rattle.std.specs.Prelude.{◌≡◌};
+ghost use Rattle.tab_journal.specs.Journals.{sum_of, front_summed};
+
 use crate::FolderFault;
+use crate::file_device::FileDevice;
 use std::alloc::Global;
 use std::fs::File;
-use std::io::Write;
-use std::sync::atomic::{AtomicU64, Ordering};
-use tab_journal::{Front, batch_text, front_text};
+use tab_journal::{Front, WriteError, Writer};
 
-// The most bytes in a batch.
-const MOST: usize = 0xffff_ffff;
-
-/// A journal that is being written: batch after batch, each behind the sum of the one before. Of the threads that use it one at a time puts a
-/// batch.
+/// A journal that is being written: batch after batch, each behind the sum of the one before. After an error nothing more is put into it, and each
+/// call answers with that error.
 #[derive(Drop)]
 pub struct Journal {
-    alloc: Global,
-    file: File,
-    salt: u64,
-    // the sum that the next batch has before it
-    sum: AtomicU64,
-    // how many bytes are written, and how many of them are on the disk
-    written: AtomicU64,
-    settled: AtomicU64,
+    writer: Writer<FileDevice>,
+    failure: Option<FolderFault>,
 }
 
 impl Journal {
     /// Begins a journal with this front in an empty file, down to the disk.
-    pub(crate) fn begin(alloc: Global, file: File, front: Front) -> Result<Journal, FolderFault> {
-        let text = front_text(alloc, front)?;
-        (&file).write_all(text.as_slice())?;
-        file.sync_all()?;
-        let length = text.len() as u64;
-        Ok(Journal {
-            alloc,
-            file,
-            salt: front.salt,
-            sum: AtomicU64::new(front.sum),
-            written: AtomicU64::new(length),
-            settled: AtomicU64::new(length),
-        })
+    pub(crate) fn begin(alloc: Global, file: File, front: Front) -> Result<Journal, FolderFault>
+        requires { front.sum ≡ sum_of (front_summed front.format front.generation front.next front.clock front.salt) }
+    {
+        match Writer::begin(alloc, FileDevice::new(alloc, file), front) {
+            Ok(writer) => Ok(Journal {
+                writer,
+                failure: None,
+            }),
+            Err((error, _device)) => Err(FolderFault::from(error)),
+        }
     }
 
     /// How many bytes it has.
     pub fn length(&self) -> u64 {
-        self.written.load(Ordering::SeqCst)
+        self.writer.written()
     }
 
-    /// Puts these bytes as one batch. They needn't be on the disk yet. After an error nothing more may be put.
-    pub fn put(&self, body: &[u8]) -> Result<(), FolderFault> {
-        if body.len() > MOST {
-            return Err(FolderFault::Full);
-        }
-        let before = self.sum.load(Ordering::SeqCst);
-        let settled = self.settled.load(Ordering::SeqCst);
-        let (text, sum) = batch_text(self.alloc, self.salt, before, settled, body)?;
-        (&self.file).write_all(text.as_slice())?;
-        self.sum.store(sum, Ordering::SeqCst);
-        let _ = self.written.fetch_add(text.len() as u64, Ordering::SeqCst);
-        Ok(())
+    /// Whether all that was put is known to be on the disk, so that a sync asks it for nothing.
+    pub fn is_settled(&self) -> bool {
+        self.failure.is_none() && self.writer.settled() == self.writer.written()
     }
 
-    /// Sees that all that was put before this call is on the disk. After an error nothing more may be put, and no sync is tried again.
-    pub fn sync(&self) -> Result<(), FolderFault> {
-        let written = self.written.load(Ordering::SeqCst);
-        if self.settled.load(Ordering::SeqCst) < written {
-            self.file.sync_data()?;
-            self.settled.store(written, Ordering::SeqCst);
+    /// Why it couldn't be written, once it couldn't.
+    pub fn failure(&self) -> Option<FolderFault> {
+        self.failure
+    }
+
+    /// Another handle of its file, by which the disk may be asked for what was put while more is put; none, where all of it is on the disk.
+    pub fn beside(&self) -> Result<Option<File>, FolderFault> {
+        self.ready()?;
+        if self.is_settled() {
+            return Ok(None);
         }
-        Ok(())
+        Ok(Some(self.writer.device().beside()?))
+    }
+
+    /// Puts these bytes as one batch. They needn't be on the disk yet.
+    pub fn put(&mut self, body: &[u8]) -> Result<(), FolderFault> {
+        self.ready()?;
+        let outcome = self.writer.put(body);
+        self.noted(outcome)
+    }
+
+    /// Sees that all that was put is on the disk.
+    pub fn sync(&mut self) -> Result<(), FolderFault> {
+        self.ready()?;
+        let outcome = self.writer.sync();
+        self.noted(outcome)
+    }
+
+    /// Fails as asking the disk beside it has failed.
+    pub fn fail(&mut self, fault: FolderFault) {
+        self.failure = self.failure.or(Some(fault));
+    }
+
+    // Fails where it has failed before.
+    fn ready(&self) -> Result<(), FolderFault> {
+        match self.failure {
+            Some(fault) => Err(fault),
+            None => Ok(()),
+        }
+    }
+
+    // Keeps why something failed.
+    fn noted(&mut self, outcome: Result<(), WriteError>) -> Result<(), FolderFault> {
+        match outcome {
+            Ok(()) => Ok(()),
+            Err(error) => {
+                let fault = FolderFault::from(error);
+                self.fail(fault);
+                Err(fault)
+            }
+        }
     }
 }

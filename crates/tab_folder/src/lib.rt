@@ -12,6 +12,7 @@
 //! | `looking` | a folder that is looked into, and left as it is |
 //! | `left` | what a run that didn't end left in its journal |
 //! | `journal` | a journal that is being written |
+//! | `file_device`, `file_call` | its file, as the device of `tab_journal`, and the calls that are noted of it |
 //! | `log`, `streams` | the journal of a script's lines, and the streams of a script beside it |
 //! | `names` | the names of the files |
 //! | `fault` | why a folder can't be taken up, and why nothing is kept in it |
@@ -20,6 +21,8 @@
 #![tactic(auto)]
 
 mod fault;
+mod file_call;
+mod file_device;
 mod folder;
 mod journal;
 mod left;
