@@ -2,7 +2,7 @@
 
 use crate::tally::{Counter, Tallied, Tally};
 use std::alloc::{AllocError, Global};
-use std::sync::atomic::{AtomicUsize, Ordering};
+use std::sync::atomic::{AtomicBool, AtomicUsize, Ordering};
 use tab_work::Gate;
 
 /// What a server counts, each worker for itself. As a gate of compactors it counts what they install, and holds nothing up.
@@ -14,6 +14,8 @@ pub(crate) struct Counters {
     // how many of them are taken
     taken: AtomicUsize,
     installs: Counter,
+    // whether what was merged is to go from the history
+    wants_rotation: AtomicBool,
 }
 
 impl Counters {
@@ -29,6 +31,7 @@ impl Counters {
             spare,
             taken: AtomicUsize::new(0),
             installs: Counter::new(),
+            wants_rotation: AtomicBool::new(false),
         })
     }
 
@@ -62,6 +65,16 @@ impl Counters {
     /// How many merges compactors have installed.
     pub(crate) fn installs(&self) -> u64 {
         self.installs.get()
+    }
+
+    /// The history may hold what compactors have merged since: it is to be handed on, however long it is.
+    pub(crate) fn want_rotation(&self) {
+        self.wants_rotation.store(true, Ordering::SeqCst);
+    }
+
+    /// Whether it is to be handed on for that reason. Nobody wants it from now on.
+    pub(crate) fn take_want(&self) -> bool {
+        self.wants_rotation.swap(false, Ordering::SeqCst)
     }
 
     /// How many workers there are.

@@ -3,7 +3,8 @@
 //! | File | What |
 //! |---|---|
 //! | `clock` | moments of the machine's clock |
-//! | `inbox` | where requests to the compactors come in |
+//! | `inbox`, `lull` | where requests to the compactors come in, and when nobody sends any |
+//! | `idle`, `crowded` | what a compactor does then, and on which tablets |
 //! | `history`, `recorder` | where a server's history goes, and who hands it on |
 //! | `store`, `log`, `round`, `settled` | where a server keeps what it did, what is kept there of the book's history, and how a reply waits for it |
 //! | `keeper` | who has the store make images |
@@ -19,11 +20,14 @@ mod connection;
 mod connections;
 mod counters;
 mod crew;
+mod crowded;
 mod figures;
 mod history;
+mod idle;
 mod inbox;
 mod keeper;
 mod log;
+mod lull;
 mod recorder;
 mod refused;
 mod reporting;

@@ -62,26 +62,35 @@ impl<L: Ledger, R: Wait + Clock, H: History, D: Store> Recorder<'_, '_, L, R, H,
         recorder.into_seat()
     }
 
-    // Hands the history on if it has so many entries. How long to rest then.
+    // Hands the history on if it has so many entries, or if compactors want it. How long to rest then.
     fn hand_on_from(&mut self, many: u64) -> Duration {
-        if self.shared.is_long(self.rt, many) {
-            self.hand_on()
+        let is_wanted = self.counters.take_want();
+        if is_wanted || self.shared.is_long(self.rt, many) {
+            self.hand_on(is_wanted)
         } else {
             Duration::from_millis(PAUSE)
         }
     }
 
-    // Hands the history on. How long to rest then.
-    fn hand_on(&mut self) -> Duration {
+    // Hands the history on. Where that can't be, compactors want it still if they did. How long to rest then.
+    fn hand_on(&mut self, is_wanted: bool) -> Duration {
         let begun = Instant::now(self.rt);
         let moment = WallClock::new(self.rt).next();
         let (rt, log, user) = (self.rt, self.log, &self.user);
         let part = log.rotate(rt, &mut self.seat, user, moment);
         let rest = rest_since(rt, begun.ok());
-        if let Some(part) = &part {
-            self.history.take(part);
+        match &part {
+            Some(part) => self.history.take(part),
+            None => self.want_again(is_wanted),
         }
         rest
+    }
+
+    // Compactors want the history to be handed on still, if they did.
+    fn want_again(&self, is_wanted: bool) {
+        if is_wanted {
+            self.counters.want_rotation();
+        }
     }
 
     // Has the disk hold what is kept, once a second.

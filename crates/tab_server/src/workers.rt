@@ -6,7 +6,8 @@ use crate::connection::Peer;
 use crate::connections::Connections;
 use crate::counters::Counters;
 use crate::crew::{Crew, Member, Role};
-use crate::inbox::Inbox;
+use crate::idle::Idler;
+use crate::inbox::{Inbox, Woken};
 use crate::keeper::keep_images;
 use crate::log::Log;
 use crate::recorder::Recorder;
@@ -228,7 +229,7 @@ fn peer_of<S: Stream>(stream: &S) -> Peer {
     }
 }
 
-// Compacts what is due at each request, as root, until nobody can send any more.
+// Compacts what is due at each request, as root, and in idle time what isn't, until nobody can send any more.
 fn compact<L: Ledger, R: Threads + Wait + Clock + Sync>(
     rt: &R,
     alloc: Global,
@@ -238,16 +239,50 @@ fn compact<L: Ledger, R: Threads + Wait + Clock + Sync>(
     claims: &Claims,
     counters: &Counters,
 ) -> Seat<L> {
-    let moments = WallClock::new(rt);
-    let mut compactor = Compactor::new(rt, alloc, shared, seat, root(), moments, claims, counters);
+    let mut seat = seat;
+    let mut idler = Idler::new(rt, alloc, shared, root(), counters);
+    let mut woken = inbox.wait(rt);
     for _ in rt.forever() {
-        if !inbox.wait(rt) {
+        if woken == Woken::Closed {
             break;
         }
-        compactor.compact();
-        compactor.forget_receipts();
+        seat = compact_due(rt, alloc, shared, seat, claims, counters);
+        woken = if woken == Woken::Idle {
+            compact_idle(rt, inbox, &mut idler, &mut seat)
+        } else {
+            idler.forget();
+            inbox.finish(rt)
+        };
     }
+    seat
+}
+
+// Compacts what is due.
+fn compact_due<L: Ledger, R: Threads + Wait + Clock + Sync>(
+    rt: &R,
+    alloc: Global,
+    shared: &Shared<L>,
+    seat: Seat<L>,
+    claims: &Claims,
+    counters: &Counters,
+) -> Seat<L> {
+    let moments = WallClock::new(rt);
+    let mut compactor = Compactor::new(rt, alloc, shared, seat, root(), moments, claims, counters);
+    compactor.compact();
     compactor.into_parts().0
+}
+
+// Compacts one tablet on which nothing is due. Why the compactor is awake then.
+fn compact_idle<L: Ledger, R: Wait + Clock>(
+    rt: &R,
+    inbox: &Inbox,
+    idler: &mut Idler<'_, L, R>,
+    seat: &mut Seat<L>,
+) -> Woken {
+    match idler.compact_next(seat) {
+        Some(took) => inbox.go_on(rt, took),
+        None => inbox.end(rt),
+    }
 }
 
 // Hands the history on, as root, until nobody else is at work.
