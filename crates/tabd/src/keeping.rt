@@ -1,12 +1,12 @@
 //! A script over a folder, which keeps what it does.
 use crate::files::{Disk, core_of};
 use crate::replaying::entries_done;
+use crate::unheard::Unheard;
 use anyhow::Context;
-use std::io;
-use std::io::{Read, Write};
+use std::io::{ErrorKind, Read, Write};
 use tab_core::Core;
-use tab_folder::{Folder, Format, Left, Log, Logged, Settled};
-use tab_io::{BlockReader, BlockWriter};
+use tab_folder::{Folder, FolderFault, Format, Left, Log, Logged, Settled};
+use tab_io::{BlockReader, BlockWriter, Output};
 use tab_prog::{FileName, Files, LoadFault, ProgramFault, SaveFault, script_on};
 use tab_shell::Script;
 
@@ -95,27 +95,30 @@ fn lines_done(
         return Ok(core);
     }
     let mut script = Script::new(rt.alloc(), core);
-    replay(rt, folder, &mut script, left)?;
+    replay(rt, folder, &mut script, left).with_context(|| path)?;
     folder.keep(script.core()).with_context(|| path)?;
     let _ = eprintln!(rt; "{path}: {} bytes of lines are done again", left.text.len());
     folder.load().with_context(|| path)
 }
 
-// Runs the lines that were left. Their answers go nowhere.
+// Runs the lines that were left. Their answers go nowhere. After an error some of them aren't done as they were, so nothing may come of that.
 fn replay(
     rt: &HostRuntime,
     folder: &Folder<'_>,
     script: &mut Script,
     left: &Left,
-) -> Result<(), ProgramFault> {
-    let Ok(mut input) = BlockReader::new(rt.alloc(), left.text.as_slice()) else {
-        return Err(ProgramFault::NoMemory);
-    };
-    let Ok(mut output) = BlockWriter::new(rt.alloc(), io::sink()) else {
-        return Err(ProgramFault::NoMemory);
-    };
+) -> Result<(), FolderFault> {
+    let mut input = BlockReader::new(rt.alloc(), left.text.as_slice())?;
+    let mut output = BlockWriter::new(rt.alloc(), Unheard::new())?;
     let mut files = KeptFiles::new(rt, folder, true);
-    Ok(script_on(script, &mut files, &mut input, &mut output)?)
+    let outcome = script_on(script, &mut files, &mut input, &mut output);
+    if let Some(fault) = files.failure {
+        return Err(fault);
+    }
+    if outcome.is_err() || output.flush().is_err() || output.get_ref().has_lacked() {
+        return Err(FolderFault::NoMemory);
+    }
+    Ok(())
 }
 
 // The files that the lines of such a script name. What is loaded is kept in the folder, since the file may be another one when the line is
@@ -126,6 +129,8 @@ struct KeptFiles<'a> {
     folder: &'a Folder<'a>,
     again: bool,
     loads: u64,
+    // why an image that was loaded before can't be loaded again
+    failure: Option<FolderFault>,
 }
 
 impl<'a> KeptFiles<'a> {
@@ -135,7 +140,29 @@ impl<'a> KeptFiles<'a> {
             folder,
             again,
             loads: 0,
+            failure: None,
         }
+    }
+
+    // The core that the load at this place has given. Where none is there that load had failed.
+    fn loaded_again(&mut self, place: u64) -> Result<Core, LoadFault> {
+        match self.folder.loaded(place) {
+            Ok(core) => Ok(core),
+            Err(fault) => {
+                if !is_missing(&fault) {
+                    self.failure = Some(fault);
+                }
+                Err(LoadFault::Io)
+            }
+        }
+    }
+}
+
+// Whether a file isn't there.
+fn is_missing(fault: &FolderFault) -> bool {
+    match fault {
+        FolderFault::Refused(error) => error.kind() == ErrorKind::NotFound,
+        _ => false,
     }
 }
 
@@ -155,7 +182,7 @@ impl Files for KeptFiles<'_> {
         let place = self.loads;
         self.loads = place.saturating_add(1);
         if self.again {
-            return self.folder.loaded(place).map_err(|_| LoadFault::Io);
+            return self.loaded_again(place);
         }
         let core = self.disk.load(name)?;
         match self.folder.keep_loaded(place, &core) {

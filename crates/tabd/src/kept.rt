@@ -1,10 +1,11 @@
 //! What a server keeps in a folder.
+use crate::counts::DiskCounts;
 use crate::keeping::taken_up;
 use anyhow::Context;
-use std::alloc::AllocError;
 use std::process::ExitCode;
 use std::sync::atomic::{AtomicBool, AtomicU64, Ordering};
-use std::sync::{Arc, Mutex, Wait};
+use std::sync::{Mutex, Wait};
+use std::time::{Duration, Instant};
 use tab_command::{ServeRequest, SyncMode};
 use tab_core::Core;
 use tab_folder::{Folder, FolderFault, Format, Journal};
@@ -21,8 +22,9 @@ pub struct Kept<'a> {
     image: AtomicU64,
     // no other process takes it up until this ends
     folder: Mutex<Folder<'a>>,
-    journal: Mutex<Arc<Journal>>,
+    journal: Mutex<Journal>,
     has_failed: AtomicBool,
+    counts: DiskCounts,
 }
 
 impl<'a> Kept<'a> {
@@ -47,8 +49,10 @@ impl<'a> Kept<'a> {
         folder: Folder<'a>,
         core: &Core,
     ) -> Result<Kept<'a>, FolderFault> {
-        let journal = shared(rt, folder.begin(core, Format::Events)?)?;
+        let journal = folder.begin(core, Format::Events)?;
         let image = folder.image_length()?;
+        let counts = DiskCounts::new();
+        counts.set_journal(journal.length());
         Ok(Kept {
             rt,
             path,
@@ -58,6 +62,7 @@ impl<'a> Kept<'a> {
             folder: Mutex::new(folder),
             journal: Mutex::new(journal),
             has_failed: AtomicBool::new(false),
+            counts,
         })
     }
 
@@ -70,25 +75,62 @@ impl<'a> Kept<'a> {
         }
     }
 
-    // The journal that is written now.
-    fn journal<R: Wait>(&self, rt: &R) -> Result<Arc<Journal>, FolderFault> {
-        Ok(Arc::try_clone(&*self.journal.lock(rt))?)
+    /// What it has asked of the disk, in counts.
+    pub fn counts(&self) -> &DiskCounts {
+        &self.counts
     }
 
     // Puts the entries into the journal, and sees them on the disk if they are to be there at once.
     fn put<R: Wait>(&self, rt: &R, entries: &[u8]) -> Result<(), FolderFault> {
-        let journal = self.journal(rt)?;
+        let mut journal = self.journal.lock(rt);
         journal.put(entries)?;
+        self.counts.set_journal(journal.length());
         match self.mode {
-            SyncMode::Always => journal.sync(),
+            SyncMode::Always => self.sync_journal(&mut *journal),
             SyncMode::Interval => Ok(()),
+        }
+    }
+
+    // Sees on the disk what was put, and counts that.
+    fn sync_journal(&self, journal: &mut Journal) -> Result<(), FolderFault> {
+        if journal.is_settled() {
+            return Ok(());
+        }
+        let begun = Instant::now(self.rt);
+        journal.sync()?;
+        self.counts.add_sync(self.since(begun.ok()));
+        Ok(())
+    }
+
+    // The same. The disk is asked beside the journal first, so that nobody who puts waits for that, and then for what came since.
+    fn settle<R: Wait>(&self, rt: &R) -> Result<(), FolderFault> {
+        let beside = self.journal.lock(rt).beside()?;
+        let Some(beside) = beside else {
+            return Ok(());
+        };
+        let begun = Instant::now(self.rt);
+        let outcome = beside.sync_data();
+        let mut journal = self.journal.lock(rt);
+        match outcome {
+            Ok(()) => self.counts.add_sync(self.since(begun.ok())),
+            Err(error) => journal.fail(FolderFault::Refused(error)),
+        }
+        self.sync_journal(&mut *journal)
+    }
+
+    // How long it is since then; nothing where the clock doesn't tell.
+    fn since(&self, begun: Option<Instant>) -> Duration {
+        match begun {
+            Some(begun) => begun.elapsed(self.rt).unwrap_or(Duration::ZERO),
+            None => Duration::ZERO,
         }
     }
 
     // Begins the next journal, once the one before is on the disk.
     fn begin_next<R: Wait>(&self, rt: &R, core: &Core) -> Result<(), FolderFault> {
-        self.journal(rt)?.sync()?;
-        let journal = shared(self.rt, self.folder.lock(rt).begin_next(core)?)?;
+        self.settle(rt)?;
+        let journal = self.folder.lock(rt).begin_next(core)?;
+        self.counts.set_journal(journal.length());
         *self.journal.lock(rt) = journal;
         Ok(())
     }
@@ -98,6 +140,7 @@ impl<'a> Kept<'a> {
         let mut folder = self.folder.lock(rt);
         folder.keep_next(core)?;
         self.image.store(folder.image_length()?, Ordering::SeqCst);
+        self.counts.add_image();
         Ok(())
     }
 
@@ -110,14 +153,6 @@ impl<'a> Kept<'a> {
             let _ = eprintln!(self.rt; "fault: {}: {fault}", self.path);
         }
         Err(NotKept)
-    }
-}
-
-// The journal, for several owners.
-fn shared(rt: &HostRuntime, journal: Journal) -> Result<Arc<Journal>, AllocError> {
-    match Arc::new(rt.alloc(), journal) {
-        Ok(journal) => Ok(journal),
-        Err(_) => Err(AllocError),
     }
 }
 
@@ -134,7 +169,7 @@ impl Store for Kept<'_> {
         match self.mode {
             // Who keeps has asked the disk already. The system tells a failure once, so nobody else does.
             SyncMode::Always => Ok(()),
-            SyncMode::Interval => self.told(self.journal(rt).and_then(|journal| journal.sync())),
+            SyncMode::Interval => self.told(self.settle(rt)),
         }
     }
 

@@ -4,14 +4,15 @@
 //! |---|---|
 //! | `scripting`, `serving`, `shell` | `tabd script`, `tabd serve` and `tabd shell` |
 //! | `watching` | how a run of lines ends that is watched |
-//! | `keeping` | a script over a folder, which keeps what it does |
+//! | `keeping`, `unheard` | a script over a folder, which keeps what it does, and the answers to lines that are done again |
 //! | `kept`, `replaying` | what a server keeps in a folder, and what one left there, done again |
 //! | `history` | the history of a server, in a file |
-//! | `telling`, `metrics` | what a server tells beside its answers, and what it tells of itself, in a file |
+//! | `telling`, `metrics`, `counts` | what a server tells beside its answers, what it tells of itself, in a file, and what it asks of the disk |
 //! | `looking` | `tabd inspect` and `tabd export` |
 //! | `files` | images in files, as lines and the command line name them |
 #![tactic(auto)]
 
+mod counts;
 mod files;
 mod history;
 mod keeping;
@@ -23,6 +24,7 @@ mod scripting;
 mod serving;
 mod shell;
 mod telling;
+mod unheard;
 mod watching;
 
 use anyhow::Context;

@@ -1,4 +1,5 @@
 //! What a server tells of itself, in a file.
+use crate::counts::DiskCounts;
 use std::fmt::{Display, Formatter};
 use std::fs::{OpenOptions, Permissions};
 use std::io::{Error, ErrorKind, Write};
@@ -17,18 +18,25 @@ pub struct MetricsFile<'a> {
     rt: &'a HostRuntime,
     name: &'a str,
     part: String,
+    // of the folder that is kept, if one is
+    counts: Option<&'a DiskCounts>,
     // whether it couldn't be written last time
     has_failed: AtomicBool,
 }
 
 impl<'a> MetricsFile<'a> {
-    /// The file of this name, which isn't written yet. It takes memory for the name.
-    pub fn new(rt: &'a HostRuntime, name: &'a str) -> Result<MetricsFile<'a>, ProgramFault> {
+    /// The file of this name, which isn't written yet. It has these counts too, if there are any. It takes memory for the name.
+    pub fn new(
+        rt: &'a HostRuntime,
+        name: &'a str,
+        counts: Option<&'a DiskCounts>,
+    ) -> Result<MetricsFile<'a>, ProgramFault> {
         let part = format!(in rt.alloc(); "{name}.part").map_err(|_| ProgramFault::NoMemory)?;
         Ok(MetricsFile {
             rt,
             name,
             part,
+            counts,
             has_failed: AtomicBool::new(false),
         })
     }
@@ -54,7 +62,8 @@ impl<'a> MetricsFile<'a> {
     // Writes a new file, and gives it the name of the old one.
     fn replace(&self, figures: &Figures<'_>) -> io::Result<()> {
         let resident = Resident(resident_bytes(self.rt));
-        let text = format!(in self.rt.alloc(); "{figures}{resident}");
+        let counts = Counted(self.counts);
+        let text = format!(in self.rt.alloc(); "{figures}{counts}{resident}");
         let text = text.map_err(|_| Error::from(ErrorKind::OutOfMemory))?;
         let outcome = self.put(text.as_bytes());
         if outcome.is_err() {
@@ -75,6 +84,19 @@ impl<'a> MetricsFile<'a> {
         file.set_permissions(Permissions::from_mode(MODE))?;
         file.write_all(bytes)?;
         fs::rename(self.rt, part, self.name)
+    }
+}
+
+// The counts of a folder, as metrics, if one is kept.
+#[derive(Clone, Copy)]
+struct Counted<'a>(Option<&'a DiskCounts>);
+
+impl Display for Counted<'_> {
+    fn fmt<W: fmt::Write>(&self, f: &mut Formatter<W>) -> fmt::Result {
+        match self.0 {
+            Some(counts) => write!(f, "{counts}"),
+            None => Ok(()),
+        }
     }
 }
 

@@ -1,4 +1,5 @@
 //! `tabd serve`.
+use crate::counts::DiskCounts;
 use crate::files::core_of;
 use crate::history::LogFile;
 use crate::kept::Kept;
@@ -36,18 +37,27 @@ pub fn run_serve<R: Threads + Wait + Clock + Sync>(
     match serve.store {
         None => {
             let core = core_of(rt, serve.image)?;
-            answer(rt, threads, serve, mode, options, core, &Nowhere)?;
+            answer(rt, threads, serve, mode, options, core, None, &Nowhere)?;
             Ok(ExitCode::SUCCESS)
         }
         Some(path) => {
             let (core, kept) = Kept::take_up(rt, path, serve)?;
-            answer(rt, threads, serve, mode, options, core, &kept)?;
+            answer(
+                rt,
+                threads,
+                serve,
+                mode,
+                options,
+                core,
+                Some(kept.counts()),
+                &kept,
+            )?;
             Ok(kept.status())
         }
     }
 }
 
-// Listens, and answers connections over the core, whose events the store keeps.
+// Listens, and answers connections over the core, whose events the store keeps. Of that one these are the counts, if it keeps anything.
 fn answer<R: Threads + Wait + Clock + Sync, D: Store + Sync>(
     rt: &HostRuntime,
     threads: &R,
@@ -55,13 +65,14 @@ fn answer<R: Threads + Wait + Clock + Sync, D: Store + Sync>(
     mode: u32,
     options: Options,
     core: Core,
+    counts: Option<&DiskCounts>,
     store: &D,
 ) -> anyhow::Result<()> {
     if let Some(name) = serve.store.or(serve.image) {
         tell_clock(rt, name, core.clock());
     }
     let log = LogFile::open(rt, serve.history)?;
-    let telling = Telling::new(rt, log, serve.metrics, serve.logged)?;
+    let telling = Telling::new(rt, log, serve.metrics, counts, serve.logged)?;
     match serve.place {
         Place::Port(port) => at_port(rt, threads, port, options, core, &telling, store),
         Place::Socket(name) => at_file(rt, threads, name, mode, options, core, &telling, store),

@@ -1,4 +1,5 @@
 //! What a server tells beside its answers.
+use crate::counts::DiskCounts;
 use crate::history::LogFile;
 use crate::metrics::MetricsFile;
 use std::sync::ledger::Ledger;
@@ -16,15 +17,17 @@ pub struct Telling<'a> {
 }
 
 impl<'a> Telling<'a> {
-    /// The history goes there, what it tells of itself to the file of this name, if one is named, and whether connections are told.
+    /// The history goes there, what it tells of itself to the file of this name, if one is named, with these counts of the folder that is kept, if one
+    /// is, and whether connections are told.
     pub fn new(
         rt: &'a HostRuntime,
         history: LogFile<'a>,
         metrics: Option<&'a str>,
+        counts: Option<&'a DiskCounts>,
         is_logged: bool,
     ) -> Result<Telling<'a>, ProgramFault> {
         let metrics = match metrics {
-            Some(name) => Some(MetricsFile::new(rt, name)?),
+            Some(name) => Some(MetricsFile::new(rt, name, counts)?),
             None => None,
         };
         Ok(Telling {
