@@ -110,7 +110,9 @@ def split_in_two():
             words = status(server, table, lambda tablets, sources, records: tablets == 2 and sources == 2)
             count("%s is split in two tables" % table.decode(), words == b"tablets 2 sources 2 records 19".split(), words)
             words = server.shell(b"status %s\nsplits %s\n" % (table, table)).stdout
-            count("%s stays so" % table.decode(), words == b"tablets 2 sources 2 records 19\n08\nend\n", words[:200])
+            # (the middle without the last write, where a compactor saw a pause before that)
+            middles = (b"08", b"09")
+            count("%s stays so" % table.decode(), words in [b"tablets 2 sources 2 records 19\n%s\nend\n" % row for row in middles], words[:200])
 
 
 def nothing_is_kept():

@@ -1,6 +1,6 @@
 /* Preloaded into the program: the call of the number KILL_AT that changes a file or a folder ends the process, as kill -9 does: before it is
-   made (HOW=before), in the middle of it (half), where half of the bytes are written, or behind it (behind); or it fails (fails). A file
-   KILLED is made where there was a call of that number. */
+   made (HOW=before), in the middle of it (half), where half of the bytes are written, or behind it (behind); or it fails (fails); or a write
+   takes half of the bytes, and says so (short). A file KILLED is made where there was a call of that number. */
 #define _GNU_SOURCE
 #include <dlfcn.h>
 #include <errno.h>
@@ -32,7 +32,7 @@ static int meets(void) {
 
 /* What comes behind the call. */
 static void behind(int met) {
-    if (met) kill(getpid(), SIGKILL);
+    if (met && strcmp(how, "short") != 0) kill(getpid(), SIGKILL);
 }
 
 #define FAILS(met) if ((met) && strcmp(how, "fails") == 0) { errno = EIO; return -1; }
@@ -45,7 +45,7 @@ static int is_file(int file) {
 ssize_t write(int file, const void *bytes, size_t count) {
     int met = is_file(file) && meets();
     FAILS(met)
-    if (met && strcmp(how, "half") == 0) count /= 2;
+    if (met && (strcmp(how, "half") == 0 || strcmp(how, "short") == 0)) count = (count + 1) / 2;
     ssize_t done = REAL(write)(file, bytes, count);
     behind(met);
     return done;

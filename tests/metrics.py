@@ -16,11 +16,13 @@ BelowHorizon ServerTime""".split()
 PLAIN = """connections connections_total frames_total cells_written_total cells_read_total events_total compactions_total history_entries tables
 tablets sources records workers uptime_seconds resident_memory_bytes""".split()
 
+OF_STORES = "journal_bytes journal_syncs_total journal_sync_seconds_total images_total".split()
+
 
 # ---- The text form of Prometheus, strictly: for each metric its help, its type and its samples, once, in one place.
 HELP = re.compile(r"# HELP ([a-zA-Z_:][a-zA-Z0-9_:]*) ([^\n\\]+)")
 TYPE = re.compile(r"# TYPE ([a-zA-Z_:][a-zA-Z0-9_:]*) (counter|gauge)")
-SAMPLE = re.compile(r'([a-zA-Z_:][a-zA-Z0-9_:]*)(?:\{([a-zA-Z_][a-zA-Z0-9_]*)="([^"\\\n]*)"\})? ([0-9]+)')
+SAMPLE = re.compile(r'([a-zA-Z_:][a-zA-Z0-9_:]*)(?:\{([a-zA-Z_][a-zA-Z0-9_]*)="([^"\\\n]*)"\})? ([0-9]+(?:\.[0-9]+)?)')
 
 
 def parsed(text):
@@ -40,7 +42,7 @@ def parsed(text):
         sample = SAMPLE.fullmatch(line)
         assert sample and sample[1] == name, line
         assert (sample[1], sample[3]) not in samples, line
-        samples[sample[1], sample[3]] = int(sample[4])
+        samples[sample[1], sample[3]] = float(sample[4]) if "." in sample[4] else int(sample[4])
     assert {name for name, _ in samples} == set(kinds), "a metric without a sample"
     return samples
 
@@ -349,4 +351,35 @@ def compactions():
         count("it ends", server.ends() == 0)
 
 
-run_parts(off_by_default, all_counted, endings, files, masked, compactions)
+def stores():
+    """What is asked of the disk for a folder is counted: a sync for each write that is awaited, the journal's bytes, and images."""
+    path = os.path.abspath("stores.prom")
+    words = ("--metrics", path, "--store", "stored", "--checkpoint", "3000", "--accept", "1")
+    with Server(*words) as server:
+        first = until(path, lambda figures: True)
+        count("all names of a store are there", {name for name, label in first.samples if label is None} == {"tabd_" + name for name in PLAIN + OF_STORES}, first.text)
+        count("a journal has its front", (first["journal_bytes"], first["journal_syncs_total"], first["images_total"]) == (48, 0, 0), first.text)
+        client = Client(server)
+        client.ask(MAKE[4:])
+        for number in range(20):
+            client.ask(write(b"t", b"row%03d" % number, update()))
+        client.ask(b"\x12" + field(b"t"))
+        middle = until(path, lambda figures: figures["journal_syncs_total"] == 21)
+        size = sum(os.stat("stored/" + name).st_size for name in os.listdir("stored") if name.startswith("journal."))
+        count("a sync for each write, and none for what only asks", (middle["journal_syncs_total"], middle["images_total"]) == (21, 0), middle.text)
+        count("the journal's bytes", middle["journal_bytes"] == size > 1000, (size, middle.text))
+        count("they took some time", 0 < middle["journal_sync_seconds_total"] < 60, middle.text)
+        for number in range(100):
+            client.ask(write(b"t", b"more%03d" % number, update()))
+        for _ in range(150):
+            if os.path.exists("stored/journal.1") and not os.path.exists("stored/journal.0"):
+                break
+            time.sleep(0.1)
+        client.close()
+        count("it ends", server.ends() == 0)
+    last = Figures(path)
+    count("images are counted, and the journal begins anew", last["images_total"] >= 1 and last["journal_bytes"] < 48 + 121 * 120, last.text)
+    count("and its syncs go on", last["journal_syncs_total"] >= 121, last.text)
+
+
+run_parts(off_by_default, all_counted, stores, endings, files, masked, compactions)

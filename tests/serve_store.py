@@ -195,6 +195,21 @@ def kills():
             at += 1
 
 
+def short_writes():
+    """Each write takes half of its bytes, in turn, and the rest is written behind it."""
+    at = 1
+    while True:
+        shutil.rmtree(STORE, ignore_errors=True)
+        with Server("--workers", "1", env=environment(at, "short")) as server:
+            answered = write_rows(server)
+            met = was_met()
+            server.kill()
+        count("short %d: all is answered, and kept" % at, answered == ROWS and rows_of_script()[0] == ASKED, answered)
+        if not met:
+            return
+        at += 1
+
+
 MORE = ["s%02d" % number for number in range(12)]
 
 
@@ -492,4 +507,4 @@ def build():
     subprocess.run([os.environ.get("CC", "cc"), "-shared", "-fPIC", "-O1", "-o", "killing.so", "%s/killing.c" % HERE, "-ldl"], check=True)
 
 
-run_parts(build, readme, folders, both_formats, intervals, full_disk, reads_wait_for_nothing, turned, kills, checkpoints, beneath_writers)
+run_parts(build, readme, folders, both_formats, intervals, full_disk, reads_wait_for_nothing, turned, kills, short_writes, checkpoints, beneath_writers)

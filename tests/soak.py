@@ -8,8 +8,10 @@ say nothing, or break off. At the end
 - nothing of a frame that was cut off took effect, and of those who never read a beginning of each visit's writes did, each whole;
 - the server still serves, its memory stayed below a bound, and over the last half it is level.
 
-Usage: tests/soak.py [--seconds N] [--connections N] [--memory MIB] [--seed N] [--folder F]   (from anywhere; wants Python 3.9; builds the
-  program if it isn't built; the history lies in the folder, and takes up to 10 MB a second there)
+With --store the server keeps what it does in a folder. It is killed at the end and started again there: all is as it was.
+
+Usage: tests/soak.py [--seconds N] [--connections N] [--memory MIB] [--seed N] [--folder F] [--store always|interval]   (from anywhere; wants
+  Python 3.9; builds the program if it isn't built; the history and the store lie in the folder, and take up to 10 MB a second there)
   TABD in the environment: another built program
 """
 import argparse
@@ -220,15 +222,25 @@ class Soak:
             self.port = listener.getsockname()[1]
         self.folder = tempfile.TemporaryDirectory(dir=asked.folder)
         self.history = os.path.join(self.folder.name, "history")
-        words = [program, "serve", "--port", str(self.port), "--workers", str(asked.connections), "--compactors", "2", "--history", self.history]
-        self.server = subprocess.Popen(words, stdin=subprocess.DEVNULL, stdout=subprocess.PIPE)
-        if self.server.stdout.readline() != b"listening %d\n" % self.port:
-            sys.exit(f"{program} doesn't listen")
+        self.words = [program, "serve", "--port", str(self.port), "--workers", str(asked.connections), "--compactors", "2", "--history", self.history]
+        if asked.store:
+            self.words += ["--store", os.path.join(self.folder.name, "store"), "--sync", asked.store]
+        self.start()
         with tabd.connect(self.port, "root") as root:
             root.create_table("t")
         self.ends, self.over = time.monotonic() + asked.seconds, threading.Event()
         self.peers = [self.peer(number) for number in range(asked.connections)]
         self.resident = []
+
+    def start(self):
+        self.server = subprocess.Popen(self.words, stdin=subprocess.DEVNULL, stdout=subprocess.PIPE)
+        if self.server.stdout.readline() != b"listening %d\n" % self.port:
+            sys.exit(f"{self.words[0]} doesn't listen")
+
+    def start_again(self):
+        self.server.kill()
+        self.server.wait()
+        self.start()
 
     def peer(self, number):
         return (Rotator if number in (1, 3) else Rude if number % 3 == 2 else Writer)(number, self)
@@ -336,7 +348,8 @@ def main():
     parser.add_argument("--connections", type=int, default=64, help="at once, 64 at most")
     parser.add_argument("--memory", type=float, default=2048, help="the bound in MiB")
     parser.add_argument("--seed", type=int, default=1)
-    parser.add_argument("--folder", help="where the history lies")
+    parser.add_argument("--folder", help="where the history and the store lie")
+    parser.add_argument("--store", choices=["always", "interval"], help="keep what the server does in a folder, synced so")
     asked = parser.parse_args()
     program = os.environ.get("TABD") or subprocess.check_output([TOP / "release/program"], text=True).strip()
     soak, began = Soak(program, asked), ticks()
@@ -347,6 +360,9 @@ def main():
         resident, most = soak.memory()
         soak.hand_on()
         faults += soak.settle()
+        if asked.store:
+            soak.start_again()
+            faults += soak.read_back()
     finally:
         soak.server.kill()
         soak.server.wait()

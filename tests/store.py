@@ -125,6 +125,17 @@ def kills():
             at += 1
 
 
+def short_writes():
+    """Each write takes half of its bytes, in turn, and the rest is written behind it."""
+    at, met = 1, True
+    while met:
+        shutil.rmtree(store, ignore_errors=True)
+        answered, status = write_rows(environment(at, "short"))
+        met = was_met()
+        count(f"short {at}: all is answered, and kept", status == 0 and answered == ROWS and rows()[0] == asked)
+        at += 1
+
+
 def starts(how, at, answered):
     again = 1
     while True:
@@ -223,6 +234,7 @@ try:
     subprocess.run([os.environ.get("CC", "cc"), "-shared", "-fPIC", "-O1", "-o", f"{work}/killing.so", f"{here}/killing.c", "-ldl"], check=True)
     plain()
     kills()
+    short_writes()
     turned()
 finally:
     shutil.rmtree(work, ignore_errors=True)
