@@ -5,8 +5,11 @@
 //! name, its seconds by the clock, what it counted (writes, cells or operations, which the same parts of two servers must have alike), and
 //! the frames that it was told. CONNECTIONS are numbers parted by commas: a part of OPERATIONS by so many at once for each of them, and
 //! OPERATIONS ranges by one before. FILE takes all cells that the first connection is told.
+//! `client PORT PART ..` asks one part of ../durable/parts.rs.
 #[cfg_attr(postgres, path = "../postgres/wire.rs")]
 mod wire;
+#[path = "../durable/parts.rs"]
+mod durable;
 
 use std::error::Error;
 use std::fs::File;
@@ -192,6 +195,11 @@ fn together(port: u16, cells: usize, connections: usize, operations: usize) -> R
 
 fn main() -> Result<()> {
     let words: Vec<String> = std::env::args().skip(1).collect();
+    if let [port, part, numbers @ ..] = words.as_slice() {
+        if part.starts_with(char::is_alphabetic) {
+            return durable::main(port.parse()?, part, numbers);
+        }
+    }
     let [port, cells, connections, operations, file @ ..] = words.as_slice() else {
         return Err("client PORT CELLS CONNECTIONS OPERATIONS [FILE]".into());
     };
