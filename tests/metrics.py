@@ -375,9 +375,10 @@ def stores():
             if os.path.exists("stored/journal.1") and not os.path.exists("stored/journal.0"):
                 break
             time.sleep(0.1)
+        # an image is counted behind that, so the last report of a server that ends meanwhile may lack it
+        last = until(path, lambda figures: figures["images_total"] >= 1)
         client.close()
         count("it ends", server.ends() == 0)
-    last = Figures(path)
     count("images are counted, and the journal begins anew", last["images_total"] >= 1 and last["journal_bytes"] < 48 + 121 * 120, last.text)
     count("and its syncs go on", last["journal_syncs_total"] >= 121, last.text)
 
