@@ -1,5 +1,5 @@
 #!/usr/bin/env python3
-"""Ranges of sessions, asked by several connections at once of `tabd serve` over loopback: requests of 1,000 ranges, which a server reads by
+"""Ranges of sessions, asked by several connections at once of `tabd serve` over loopback: requests of 1,000 ranges, which a server may read by
 several threads, beside the same ranges in requests of 250 sent together, which the connection's worker reads alone. Both ways in turn,
 medians of the rounds, in thousands of ranges a second, and the server's seconds of the processor.
 

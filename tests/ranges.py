@@ -8,8 +8,10 @@ import threading
 from serving import Server, count, run, run_parts
 
 ROWS = 900
-# how many ranges one request has: around both bounds of the chunks, and the most that one may have, and one more
-COUNTS = (0, 1, 2, 249, 250, 499, 500, 501, 750, 999, 1000, 1001)
+# how many ranges one request has: around how many there are at least for threads, and the most that one may have, and one more
+COUNTS = (0, 1, 2, 63, 64, 65, 499, 500, 501, 999, 1000, 1001)
+# the same of ranges that have cells enough for threads
+WIDE_COUNTS = (499, 500, 501, 502, 503, 1000)
 COUNTING = r"""
 #define _GNU_SOURCE
 #include <dlfcn.h>
@@ -67,8 +69,14 @@ def bounds(r):
     return "%s%s %s%s" % (r.choice("[("), row(low), r.choice("[("), row(high))
 
 
-def many(r, number, session=0):
-    return " ".join(["many %d" % session, *(bounds(r) for _ in range(number))])
+def wide(r):
+    """One range of 200 rows, which have more than 32 cells."""
+    low = r.randrange(ROWS - 200)
+    return "[%s (%s" % (row(low), row(low + 200))
+
+
+def many(r, number, session=0, one=bounds):
+    return " ".join(["many %d" % session, *(one(r) for _ in range(number))])
 
 
 def requests(r):
@@ -77,6 +85,7 @@ def requests(r):
     for session in range(3):
         for number in COUNTS:
             lines.append(many(r, number, session))
+    lines += [many(r, number, 0, wide) for number in WIDE_COUNTS]
     bad = many(r, 600).split(" ")
     lines += [" ".join(bad[:400] + ["[z", "(a"] + bad[400:]), many(r, 600, 9), "next 0 50", "close 0", many(r, 600)]
     return lines
@@ -88,7 +97,7 @@ def as_one_after_another():
     said = run("script", stdin=lines)
     with Server("--workers", "4") as server:
         told = server.shell(lines)
-    told_of = 3 * sum(number for number in COUNTS if number <= 1000)
+    told_of = 3 * sum(number for number in COUNTS if number <= 1000) + sum(WIDE_COUNTS)
     count("a script answers", said.returncode == 0 and said.stdout.count(b"range\n") == told_of and said.stdout.count(b"refused") == 6, said.stdout[-200:])
     count("a server tells the same", told.stdout == said.stdout, (len(told.stdout), len(said.stdout), told.stderr))
 
@@ -97,7 +106,7 @@ def beside_writes():
     """Four connections at once, each of which asks for 1,000 ranges of a session of its own, again and again, beside one that writes: what a
     session shows is the same each time."""
     r = random.Random(11)
-    setup, ask, turns = table(r), many(r, 1000), 6
+    setup, ask, turns = table(r), many(r, 1000, 0, wide), 3
     same = []
 
     def reads(server):
@@ -122,7 +131,7 @@ def beside_writes():
 
 
 def by_threads():
-    """That 500 ranges are read by more threads than the server has, and 499 aren't."""
+    """That 500 ranges are read by more threads than the server has, and neither 499 are nor 1,000 that have few cells."""
     with open("counting.c", "w") as source:
         source.write(COUNTING)
     subprocess.run([os.environ.get("CC", "cc"), "-shared", "-fPIC", "-O1", "-o", "counting.so", "counting.c", "-ldl"], check=True)
@@ -137,12 +146,13 @@ def by_threads():
         lines = "\n".join([*table(r), "open t A,B", ""]).encode()
         count("a session", server.shell(lines).stdout.endswith(b"session 0\n"))
         seen = [made()]
-        for number in (499, 500, 1000):
-            told = server.shell(("open t A,B\n%s\n" % many(r, number)).encode()).stdout
+        for number, one in ((499, wide), (1000, bounds), (500, wide), (1000, wide)):
+            told = server.shell(("open t A,B\n%s\n" % many(r, number, 0, one)).encode()).stdout
             count("%d ranges" % number, told.count(b"range\n") == number, told[-100:])
             seen.append(made())
-    few, some, most = (b - a for a, b in zip(seen, seen[1:]))
+    few, short, some, most = (b - a for a, b in zip(seen, seen[1:]))
     count("499 ranges are read by one thread", few == 0, seen)
+    count("1,000 ranges of few cells are read by one thread", short == 0, seen)
     if os.cpu_count() > 1:
         count("500 and 1,000 by several", some > 0 and most >= some, seen)
 

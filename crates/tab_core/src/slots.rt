@@ -195,8 +195,8 @@ impl Slots {
         self.many_by(&OneByOne, alloc, slot, ranges)
     }
 
-    /// The same answer, read by several threads where there are 500 ranges or more, as [`Session::scan_many`] reads them. Where memory lacks
-    /// in one of them, it's the whole request that it lacks for.
+    /// The same answer, read by several threads where [`Session::scan_many`] does. Where memory lacks in one of them, it's the whole request
+    /// that it lacks for.
     pub fn many_by_threads(
         &mut self,
         rt: &(impl Threads + Sync),

@@ -1,4 +1,4 @@
--- The answers of all chunks are those of the whole list.
+-- The answers of all chunks, or of both parts, are those of the whole list.
 use Rattle.std.proofs.Common.{◌≡◌, ℕ, ◌<◌, List, [], ◌∷◌, ◌++◌, refl, sym, ◌∙◌, ap, subst, map, IfOk, Bor, Vec, Global}
 use Rattle.std.specs.Prelude.{Ok, Err, MatchResult, flat_map}
 use Rattle.std.specs.List.{AllZip}
@@ -28,3 +28,10 @@ module _ {X Y : Type 0} (E : Type 0) (f : X → Y) where
       ∙ ap (λ (l : List (List X)). map f (flat_map (λ xs. xs) l)) cut
       ∙ ap (map f) (chunks_of-concat size whole some)
   all_answered size whole chunks told (Err e) Q some cut each h = tt
+
+-- what both parts of a list give, in one list
+pub both_answered : {X Y : Type 0} (f : X → Y) (whole front back : List X) (first more all : List Y)
+    → whole ≡ front ++ back → first ≡ map f front → more ≡ map f back → all ≡ first ++ more
+    → all ≡ map f whole
+both_answered f whole front back first more all cut one other joined =
+    joined ∙ (λ i. one i ++ other i) ∙ sym (map-append f front back) ∙ ap (map f) (sym cut)

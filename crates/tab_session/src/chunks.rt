@@ -1,5 +1,5 @@
 //! Many ranges, read by several threads.
-ghost use Rattle.std.specs.Prelude.{◌≡◌, map, flat_map, IfOk};
+ghost use Rattle.std.specs.Prelude.{◌≡◌, ◌<◌, map, flat_map, IfOk};
 ghost use Rattle.tab_key.specs.Records.{cell_of};
 ghost use Rattle.tab_cells.specs.SessionState.{cells_within};
 ghost use Rattle.tab_version.specs.Shown.{shown};
@@ -13,11 +13,33 @@ use tab_iter::{NoMemory, Verdicts};
 use tab_key::{Bounds, Cells};
 use tab_version::Version;
 
-/// How many ranges there are at least, where several threads read them: fewer are read sooner by one.
+/// How many ranges there are at least, where several threads may read them: fewer are read sooner by one.
 pub(crate) const LEAST_RANGES: usize = 500;
 
-// How many ranges are worth a thread of their own.
-const CHUNK: usize = 250;
+/// How many of these the calling thread reads first.
+pub(crate) const FIRST_RANGES: usize = 64;
+
+// How many cells the answers in the first ranges have at least, where the others are worth threads: 32 a range.
+const LEAST_CELLS: usize = 2048;
+
+// In how many parts the others are read, each by a thread, one of them by the calling one.
+const CHUNKS: usize = 4;
+
+/// Whether ranges like those that have these answers are worth threads.
+pub(crate) fn are_worth_threads(answers: &[Cells]) -> bool {
+    let mut cells = 0usize;
+    for answer in answers {
+        cells = cells.saturating_add(answer.len());
+    }
+    cells >= LEAST_CELLS
+}
+
+// How many of so many ranges are a chunk.
+fn chunk_len(ranges: usize) -> usize
+    ensures { 0 < result }
+{
+    (ranges / CHUNKS).max(1)
+}
 
 /// The answers in the ranges, those of each chunk of them in one list.
 pub(crate) fn read_chunks(
@@ -31,7 +53,7 @@ pub(crate) fn read_chunks(
         ≡ map (λ rows. cells_within rows (map cell_of (shown version.now asked.now.versions asked.now.columns asked.now.auths))) ranges.now) }
 {
     ranges
-        .par_chunks(CHUNK)
+        .par_chunks(chunk_len(ranges.len()))
         .with_min_len(1)
         .map(
             |chunk: &[Bounds]| -> Result<Vec<Cells>, NoMemory>

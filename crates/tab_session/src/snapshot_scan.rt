@@ -8,7 +8,7 @@ ghost use Rattle.tab_session.specs.Bookmarks.{from_mark, ahead_of};
 ghost use Rattle.tab_version.specs.Shown.{shown};
 
 use crate::bookmark::{Bookmark, pass_before};
-use crate::chunks::{joined, read_chunks};
+use crate::chunks::{FIRST_RANGES, are_worth_threads, joined, read_chunks};
 use crate::room::Room;
 use crate::rows::take_ranges;
 use crate::taking::take;
@@ -110,25 +110,70 @@ impl SnapshotScan {
         ensures same { self.new ≡ self.old }
         ensures cells { IfOk result (λ answers. answers ≡ map (λ rows. cells_within rows (map cell_of self.old)) ranges.now) }
     {
+        let answers = self.read_each(alloc, ranges)?;
+        Ok(Items::from_vec(answers))
+    }
+
+    /// The same. The calling thread reads the first ranges, and several threads the others where those were worth it.
+    pub(crate) fn read_at_once(
+        &mut self,
+        rt: &(impl Threads + Sync),
+        alloc: Global,
+        ranges: &[Bounds],
+    ) -> Result<Items<Cells>, NoMemory>
+        ensures same { self.new ≡ self.old }
+        ensures cells { IfOk result (λ answers. answers ≡ map (λ rows. cells_within rows (map cell_of self.old)) ranges.now) }
+    {
+        let (first, others) = ranges.split_at(FIRST_RANGES.min(ranges.len()));
+        let mut answers = self.read_each(alloc, first)?;
+        let at_once = are_worth_threads(answers.as_slice());
+        let mut more = self.read_others(rt, alloc, others, at_once)?;
+        answers.append(&mut more)?;
+        Ok(Items::from_vec(answers))
+    }
+
+    // The same in a vector, read by several threads in chunks of the ranges, each under verdicts of its own, or by the calling one.
+    fn read_others(
+        &mut self,
+        rt: &(impl Threads + Sync),
+        alloc: Global,
+        ranges: &[Bounds],
+        at_once: bool,
+    ) -> Result<Vec<Cells>, NoMemory>
+        ensures same { self.new ≡ self.old }
+        ensures cells { IfOk result (λ v. v.items ≡ map (λ rows. cells_within rows (map cell_of self.old)) ranges.now) }
+    {
+        if at_once {
+            self.read_in_chunks(rt, alloc, ranges)
+        } else {
+            self.read_each(alloc, ranges)
+        }
+    }
+
+    // By several threads.
+    fn read_in_chunks(
+        &self,
+        rt: &(impl Threads + Sync),
+        alloc: Global,
+        ranges: &[Bounds],
+    ) -> Result<Vec<Cells>, NoMemory>
+        ensures { IfOk result (λ v. v.items ≡ map (λ rows. cells_within rows (map cell_of self.now)) ranges.now) }
+    {
+        let chunks = read_chunks(rt, alloc, &self.version, &self.asked, ranges)?;
+        joined(alloc, chunks)
+    }
+
+    // By the calling one.
+    fn read_each(&mut self, alloc: Global, ranges: &[Bounds]) -> Result<Vec<Cells>, NoMemory>
+        ensures same { self.new ≡ self.old }
+        ensures cells { IfOk result (λ v. v.items ≡ map (λ rows. cells_within rows (map cell_of self.old)) ranges.now) }
+    {
         let verdicts = mem::replace(&mut self.verdicts, Verdicts::none(alloc));
         let asked = &self.asked;
         let mut source = unread(alloc, &self.version, asked, verdicts);
         let answers = take_ranges(alloc, &mut source, ranges)?;
         self.verdicts = verdicts_of(alloc, source, &asked.auths);
-        Ok(Items::from_vec(answers))
-    }
-
-    /// The same, read by several threads in chunks of the ranges, each under verdicts of its own.
-    pub(crate) fn read_at_once(
-        &self,
-        rt: &(impl Threads + Sync),
-        alloc: Global,
-        ranges: &[Bounds],
-    ) -> Result<Items<Cells>, NoMemory>
-        ensures { IfOk result (λ answers. answers ≡ map (λ rows. cells_within rows (map cell_of self.now)) ranges.now) }
-    {
-        let chunks = read_chunks(rt, alloc, &self.version, &self.asked, ranges)?;
-        Ok(Items::from_vec(joined(alloc, chunks)?))
+        Ok(answers)
     }
 }
 

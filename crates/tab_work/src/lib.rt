@@ -11,6 +11,7 @@
 //! | `dues`, `holdings` | what is due in a book, and what it holds, counted |
 //! | `gate` | where work that takes long may be held up, and what follows a write |
 //! | `shared_service` | a seat that answers the requests of one connection |
+//! | `reading` | ranges of a session, by threads where nobody else reads any |
 //! | `serving` | a whole connection over a shared book: `serve_shared` |
 //! | `forgetting` | the same for the server: its receipts aren't kept |
 //! | `ends` | end rows of tablets, as a reply tells them |
@@ -33,6 +34,7 @@ mod ends;
 mod forgetting;
 mod gate;
 mod holdings;
+mod reading;
 mod requests;
 mod rotating;
 mod serving;

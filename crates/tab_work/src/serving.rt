@@ -19,9 +19,10 @@ use tab_serve::{Moments, ServeFault, converse};
 /// Each event is the seat's next one, at the next moment, in the order of the frames: the book does it, and its receipt, without its
 /// session, is added to those that are lent. Its reply is what is told, and the gate is told of a Write that was done. The connection begins
 /// without sessions, which end with it; a batch is cut from the session that came with the receipt of its Open, outside of the book's lock,
-/// and so is the answer in ranges, by several threads where there are 500 or more. The gate is asked before each Next, whether its session is
-/// there or not, and before no Many. Hello, what is asked of a session, what is no request, and an Open past the limit of sessions take no
-/// moment. Where the receipts, the sessions or the book's history can't grow, the event is refused for want of memory, and doesn't happen.
+/// and so is the answer in ranges: by several threads, as [`Session::scan_many`](tab_core::Session::scan_many) reads them, where no other
+/// connection over the book reads ranges. The gate is asked before each Next, whether its session is there or not, and before no Many. Hello,
+/// what is asked of a session, what is no request, and an Open past the limit of sessions take no moment. Where the receipts, the sessions or
+/// the book's history can't grow, the event is refused for want of memory, and doesn't happen.
 ///
 /// How the input is cut into reads makes no difference. Replies are written before a read that may wait. After an error the requests
 /// that were answered have taken effect. After a fault of the reader these are all whose frames stand whole in front of what is left to read,

@@ -11,6 +11,7 @@ ghost use Rattle.tab_work.specs.Receiving.{HandsOut};
 
 use crate::dues::{due_in, due_list_in};
 use std::alloc::{AllocError, Global};
+use std::sync::atomic::{AtomicUsize, Ordering};
 use std::sync::ledger::Ledger;
 use std::sync::{Mutex, MutexGuard, Wait};
 use std::thread;
@@ -74,6 +75,8 @@ fn install_to<L: Ledger>(
 #[derive(Drop)]
 pub struct Shared<L: Ledger> {
     pub(crate) desk: Mutex<Desk<L>>,
+    // how many of those who share it read ranges of a session at the moment
+    readers: AtomicUsize,
     // whether one of those who share it hands its history on
     recorded: bool,
 }
@@ -100,6 +103,7 @@ impl<L: Ledger> Shared<L> {
     {
         Shared {
             desk: Mutex::new(Desk { book, events: 0 }),
+            readers: AtomicUsize::new(0),
             recorded,
         }
     }
@@ -107,6 +111,16 @@ impl<L: Ledger> Shared<L> {
     // Whether one of those who share it hands its history on.
     pub(crate) fn is_recorded(&self) -> bool {
         self.recorded
+    }
+
+    // Whether nobody of those who share it reads ranges at the moment. Whoever asks does from now on, until `end_ranges`.
+    pub(crate) fn begin_ranges(&self) -> bool {
+        self.readers.fetch_add(1, Ordering::Relaxed) == 0
+    }
+
+    // Whoever read ranges doesn't any more.
+    pub(crate) fn end_ranges(&self) {
+        let _ = self.readers.fetch_sub(1, Ordering::Relaxed);
     }
 
     /// A new seat, which has seen nothing and has no entry. There are 4,294,967,295 of them, and none behind the last: that there is one
@@ -234,7 +248,7 @@ impl<L: Ledger> Shared<L> {
         ensures ok { IfOk result (λ b. next_of b ≡ sum_by (λ s. s.count) seats.items) }
         ensures err { IfErr result (λ r. (r.1 ≡ seats) × (0 < r.2.0)) }
     {
-        let Shared { desk, recorded } = self;
+        let Shared { desk, recorded, .. } = self;
         let Desk { book, .. } = desk.into_inner();
         match book.end(seats) {
             Ok(book) => Ok(book),

@@ -10,6 +10,7 @@ ghost use Rattle.tab_work.specs.Receiving.{HandsOut, spent};
 ghost use Rattle.tab_work.specs.SharedAnswers.{seated, slots_of, told_by, LentSame, SharedAnswers, Tells, Takes, Tries};
 
 use crate::gate::tell_if_written;
+use crate::reading::read_ranges;
 use crate::{Gate, Shared};
 use std::alloc::{AllocError, Global};
 use std::mem;
@@ -110,9 +111,8 @@ impl<'a, L: Ledger, R: Threads + Wait + Sync, M: Moments, G: Gate> SharedService
         ensures { SharedAnswers M.gives self.old user.now (Request.Many slot ranges.now) (told_by self.new) self.new }
     {
         let _ = user;
-        let reply = self
-            .slots
-            .many_by_threads(self.rt, self.alloc, slot, ranges.as_slice());
+        let ranges = ranges.as_slice();
+        let reply = read_ranges(self.rt, self.alloc, self.shared, self.slots, slot, ranges);
         self.tell(reply);
     }
 

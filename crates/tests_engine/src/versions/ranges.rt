@@ -46,15 +46,33 @@ fn are_same(some: &Cells, others: &Cells) -> bool {
     true
 }
 
-// So many ranges have the same cells in the same order, whoever reads them; how many.
+// 64 ranges of all rows, and behind them so many random ones: what is read first has so many cells that threads read the others.
+fn ranges_for_threads(
+    rt: &impl Abort,
+    alloc: Global,
+    random: &mut Random,
+    count: u64,
+) -> Vec<Bounds> {
+    let mut ranges = Vec::new(alloc);
+    for _ in 0..64 {
+        let whole = Bounds {
+            low: Bound::Unbounded,
+            high: Bound::Unbounded,
+        };
+        ranges.push(whole).expect(rt, "memory");
+    }
+    let mut others = random_ranges(rt, alloc, random, count);
+    ranges.append(&mut others).expect(rt, "memory");
+    ranges
+}
+
+// The ranges have the same cells in the same order, whoever reads them; how many.
 fn compare(
     rt: &(impl Abort + Threads + Sync),
     alloc: Global,
     session: &mut Session,
-    random: &mut Random,
-    count: u64,
+    ranges: Vec<Bounds>,
 ) -> usize {
-    let ranges = random_ranges(rt, alloc, random, count);
     let many = session.scan_many(rt, alloc, &ranges).expect(rt, "memory");
     let each = session.scan_each(alloc, &ranges).expect(rt, "memory");
     assert!(rt; many.len() == ranges.len());
@@ -67,15 +85,29 @@ fn compare(
     cells
 }
 
+// The same of so many random ranges.
+fn compare_random(
+    rt: &(impl Abort + Threads + Sync),
+    alloc: Global,
+    session: &mut Session,
+    random: &mut Random,
+    count: u64,
+) -> usize {
+    let ranges = random_ranges(rt, alloc, random, count);
+    compare(rt, alloc, session, ranges)
+}
+
 #[test]
 fn many_ranges_are_those_read_one_by_one(rt: HostRuntime) {
     let alloc = rt.alloc();
-    let mut random = Random::new(59);
+    let mut random = Random::new(31);
     let mut table = Vec::new(alloc);
     let version = random_version(&rt, alloc, &mut random, &mut table);
     let mut session = opened(&rt, alloc, version);
-    assert!(rt; compare(&rt, alloc, &mut session, &mut random, 0) == 0);
-    assert!(rt; compare(&rt, alloc, &mut session, &mut random, 1) < 1_000);
-    assert!(rt; compare(&rt, alloc, &mut session, &mut random, 2) < 2_000);
-    assert!(rt; compare(&rt, alloc, &mut session, &mut random, 1_000) > 1_000);
+    assert!(rt; compare_random(&rt, alloc, &mut session, &mut random, 0) == 0);
+    assert!(rt; compare_random(&rt, alloc, &mut session, &mut random, 1) < 1_000);
+    assert!(rt; compare_random(&rt, alloc, &mut session, &mut random, 2) < 2_000);
+    assert!(rt; compare_random(&rt, alloc, &mut session, &mut random, 1_000) > 1_000);
+    let ranges = ranges_for_threads(&rt, alloc, &mut random, 937);
+    assert!(rt; compare(&rt, alloc, &mut session, ranges) > 64 * 32);
 }
