@@ -6,6 +6,7 @@ ghost use Rattle.tab_cells.specs.SessionState.{cells_within};
 ghost use Rattle.tab_iter.specs.NamedColumns.{row_start};
 ghost use Rattle.tab_session.specs.LowEnds.{from_low};
 
+use crate::room::Room;
 use std::alloc::{AllocError, Global};
 use tab_iter::{NoMemory, Source};
 use tab_key::{Bound, Bounds, Cells, Key};
@@ -53,17 +54,18 @@ pub(crate) fn seek_low<S: Source>(
 }
 
 /// The cells of the source's records with a row in the range. The source stands at the first of them, and no record behind the first
-/// one past them is read.
+/// one past them is read. The room is taken at once; what the cells need beyond it is taken as they come.
 pub(crate) fn take_rows<S: Source>(
     alloc: Global,
     source: &mut S,
     rows: &Bounds,
+    room: Room,
 ) -> Result<Cells, NoMemory>
     requires { S.rest source.old ≡ from_low rows.now.low (S.whole source.old) }
     ensures whole { S.whole source.new ≡ S.whole source.old }
     ensures cells { IfOk result (λ v. v ≡ cells_within rows.now (map cell_of (S.whole source.old))) }
 {
-    let mut cells = Cells::new(alloc);
+    let mut cells = Cells::with_capacity(alloc, room.cells, room.bytes)?;
     while let Some(record) = source.top() {
         if !rows.high.is_below(record.row()) {
             break;
@@ -75,7 +77,7 @@ pub(crate) fn take_rows<S: Source>(
 }
 
 /// The cells of the source's records with a row in each of the ranges. What is read of a range begins at its low end, and ends with
-/// the first record behind its high one.
+/// the first record behind its high one. The memory for an answer is asked for at once, about as much as the one before it took.
 pub(crate) fn take_ranges<S: Source>(
     alloc: Global,
     source: &mut S,
@@ -84,10 +86,13 @@ pub(crate) fn take_ranges<S: Source>(
     ensures { IfOk result (λ v. v.items ≡ map (λ rows. cells_within rows (map cell_of (S.whole source.old))) ranges.now) }
 {
     let mut answers = Vec::with_capacity(alloc, ranges.len())?;
+    let mut room = Room::unknown();
     for rows in ranges {
         answers.reserve(1)?;
         seek_low(alloc, source, &rows.low)?;
-        answers.push_reserved(take_rows(alloc, source, rows)?);
+        let cells = take_rows(alloc, source, rows, room)?;
+        room = Room::of(&cells).for_next(u32::MAX);
+        answers.push_reserved(cells);
     }
     Ok(answers)
 }
