@@ -1,6 +1,7 @@
 #!/usr/bin/env bash
 # Sees that crates.txt lists for each crate what its files name, and nothing else; that each file says in its first line
-# what it is; and that the table of files in each crate's root names each of its modules. A crate's own tests (tests, NAME_tests) aside.
+# what it is, those of specs/ whether they are to be believed or only serve proofs; that docs/DEFINITIONS.md says how much the promise asks to
+# believe; and that the table of files in each crate's root names each of its modules. A crate's own tests (tests, NAME_tests) aside.
 # Usage: tests/layers.sh   (from anywhere; builds nothing)
 set -u
 top=$(cd "$(dirname -- "${BASH_SOURCE[0]}")/.." && pwd)
@@ -24,6 +25,9 @@ named_by() { # CRATE
         sed -E 's/^Rattle\.//; s/(::|\.(specs|proofs)\.)$//' | sort -u
 }
 
+# What the first line of a file of specs/ says: whether whoever relies on the promise has to believe it, or whoever relies on what it is about.
+said='To be believed\.|To be believed by whoever relies on it\.|For proofs\.'
+
 while IFS=: read -r crate listed; do
     [ -n "$crate" ] || continue
     # behind the name stand its counts
@@ -43,6 +47,12 @@ while IFS=: read -r crate listed; do
         grep -qE "^//!.*\`$module\`" "$root" || fail "$root: its table of files lacks $module"
     done
 done <crates.txt
+
+# How much the promise asks to believe: comments, imports and empty lines aside.
+believed=$(grep -lE '^-- To be believed\. ' crates/*/specs/*.antt)
+lines=$(cat $believed | grep -vcE '^[[:space:]]*(--([[:space:]]|$)|$)|^(pub |unfoldable )*use ')
+grep -qF "$(printf '%s' "$believed" | grep -c .) files of \`specs/\` with $(printf '%s' "$lines" | sed -E 's/([0-9])([0-9]{3})$/\1,\2/') lines" docs/DEFINITIONS.md ||
+    fail "docs/DEFINITIONS.md: it doesn't say that $(printf '%s\n' $believed | grep -c .) files with $lines lines are to be believed"
 
 echo "$((passed)) passed, $failed failed"
 [ "$failed" -eq 0 ]

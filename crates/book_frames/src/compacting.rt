@@ -1,7 +1,7 @@
 //! Compactions in three parts.
 
+use crate::book_calls::BookCalls;
 use crate::connection::{Connection, asked};
-use crate::desk::Desk;
 use std::alloc::{AllocError, Global};
 use std::mem;
 use std::sync::ledger::Ledger;
@@ -24,16 +24,16 @@ pub enum Stage {
 
 /// Begins a compaction in the table's first tablet, unless one is under way, makes its merge, and installs it. What is handed back for want of
 /// memory stays. The reply, or none where it is the last receipt's. There is a place for one receipt; for another one it is found here.
-pub fn compact<L: Ledger, D: Desk<L>>(
+pub fn compact<L: Ledger, D: BookCalls<L>>(
     connection: &mut Connection<L>,
     alloc: Global,
-    desk: &mut D,
+    book: &mut D,
     user: Name,
     table: Name,
     extent: Extent,
 ) -> Option<Reply> {
     if matches!(connection.stage, Stage::Idle) {
-        let told = begin(connection, alloc, desk, user, table, extent);
+        let told = begin(connection, alloc, book, user, table, extent);
         if told.is_some() || matches!(connection.stage, Stage::Idle) {
             return told;
         }
@@ -41,14 +41,14 @@ pub fn compact<L: Ledger, D: Desk<L>>(
     if merge(connection, alloc).is_err() || connection.receipts.reserve(1).is_err() {
         return Some(Reply::Refused(Refusal::NoMemory));
     }
-    install(connection, alloc, desk, user, table)
+    install(connection, alloc, book, user, table)
 }
 
 // Begins it. Where there is nothing to merge, or it is refused, none is under way.
-fn begin<L: Ledger, D: Desk<L>>(
+fn begin<L: Ledger, D: BookCalls<L>>(
     connection: &mut Connection<L>,
     alloc: Global,
-    desk: &mut D,
+    book: &mut D,
     user: Name,
     table: Name,
     extent: Extent,
@@ -61,7 +61,7 @@ fn begin<L: Ledger, D: Desk<L>>(
         return Some(Reply::Refused(Refusal::NoMemory));
     };
     let event = asked(user, Act::Begin(table, row, kind));
-    let Ok(mut receipt) = desk.apply(alloc, &mut connection.seat, event) else {
+    let Ok(mut receipt) = book.apply(alloc, &mut connection.seat, event) else {
         return Some(Reply::Refused(Refusal::NoMemory));
     };
     if let Some(Held::Job(job)) = receipt.take() {
@@ -91,10 +91,10 @@ fn merge<L: Ledger>(connection: &mut Connection<L>, alloc: Global) -> Result<(),
 }
 
 // Installs what was merged. The merge stays where the history can't grow.
-fn install<L: Ledger, D: Desk<L>>(
+fn install<L: Ledger, D: BookCalls<L>>(
     connection: &mut Connection<L>,
     alloc: Global,
-    desk: &mut D,
+    book: &mut D,
     user: Name,
     table: Name,
 ) -> Option<Reply> {
@@ -108,7 +108,7 @@ fn install<L: Ledger, D: Desk<L>>(
         table,
         finished,
     };
-    match desk.install(alloc, &mut connection.seat, asked) {
+    match book.install(alloc, &mut connection.seat, asked) {
         Ok(receipt) => connection.keep(receipt),
         Err((asked, _)) => {
             connection.stage = Stage::Merged(asked.finished);

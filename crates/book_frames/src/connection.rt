@@ -1,13 +1,13 @@
 //! A seat that answers requests, and keeps receipts and parts.
 
+use crate::book_calls::BookCalls;
 use crate::compacting::{Stage, compact};
-use crate::desk::Desk;
 use std::alloc::Global;
 use std::sync::ledger::Ledger;
 use tab_book::{Held, Part, Receipt, Seat};
 use tab_core::{Session, Slots};
 use tab_history::{Act, Event, Refusal, Reply};
-use tab_key::{Name, Part as Limit};
+use tab_key::{LimitedPart as Limit, Name};
 use tab_wire::Request;
 
 /// A seat with the sessions that it opened, its receipts, and the parts that it was handed.
@@ -33,16 +33,16 @@ impl<L: Ledger> Connection<L> {
     }
 
     /// Does what the user asks. The reply, or none where it is the last receipt's.
-    pub fn answer<D: Desk<L>>(
+    pub fn answer<D: BookCalls<L>>(
         &mut self,
         alloc: Global,
-        desk: &mut D,
+        book: &mut D,
         user: Name,
         request: Request,
     ) -> Option<Reply> {
         match request {
             Request::Hello(_) => Some(Reply::Done),
-            Request::Act(act) => self.act(alloc, desk, user, act),
+            Request::Act(act) => self.act(alloc, book, user, act),
             Request::Next { slot, count } => Some(self.slots.next(alloc, slot, count)),
             Request::Many { slot, ranges } => {
                 Some(self.slots.many(alloc, slot, ranges.as_slice()))
@@ -52,10 +52,10 @@ impl<L: Ledger> Connection<L> {
     }
 
     // An event, for whose receipt and part places are found before.
-    fn act<D: Desk<L>>(
+    fn act<D: BookCalls<L>>(
         &mut self,
         alloc: Global,
-        desk: &mut D,
+        book: &mut D,
         user: Name,
         act: Act,
     ) -> Option<Reply> {
@@ -63,16 +63,21 @@ impl<L: Ledger> Connection<L> {
             return Some(Reply::Refused(Refusal::NoMemory));
         }
         match act {
-            Act::Rotate => self.rotate(alloc, desk, &user),
-            Act::Compact(table, extent) => compact(self, alloc, desk, user, table, extent),
-            Act::Open(scan) => self.open(alloc, desk, asked(user, Act::Open(scan))),
-            act => self.apply(alloc, desk, asked(user, act)),
+            Act::Rotate => self.rotate(alloc, book, &user),
+            Act::Compact(table, extent) => compact(self, alloc, book, user, table, extent),
+            Act::Open(scan) => self.open(alloc, book, asked(user, Act::Open(scan))),
+            act => self.apply(alloc, book, asked(user, act)),
         }
     }
 
     // A rotation, whose part is kept.
-    fn rotate<D: Desk<L>>(&mut self, alloc: Global, desk: &mut D, user: &Name) -> Option<Reply> {
-        let Ok((receipt, part)) = desk.rotate(alloc, &mut self.seat, user) else {
+    fn rotate<D: BookCalls<L>>(
+        &mut self,
+        alloc: Global,
+        book: &mut D,
+        user: &Name,
+    ) -> Option<Reply> {
+        let Ok((receipt, part)) = book.rotate(alloc, &mut self.seat, user) else {
             return Some(Reply::Refused(Refusal::NoMemory));
         };
         if let Some(part) = part {
@@ -83,14 +88,19 @@ impl<L: Ledger> Connection<L> {
     }
 
     // An Open, for whose session a slot is found before.
-    fn open<D: Desk<L>>(&mut self, alloc: Global, desk: &mut D, event: Event) -> Option<Reply> {
+    fn open<D: BookCalls<L>>(
+        &mut self,
+        alloc: Global,
+        book: &mut D,
+        event: Event,
+    ) -> Option<Reply> {
         if self.slots.are_full() {
             return Some(Reply::Refused(Refusal::TooLarge(Limit::Sessions)));
         }
         if self.slots.prepare().is_err() {
             return Some(Reply::Refused(Refusal::NoMemory));
         }
-        let receipt = desk.apply(alloc, &mut self.seat, event);
+        let receipt = book.apply(alloc, &mut self.seat, event);
         let Ok(mut receipt) = receipt else {
             self.slots.keep(None);
             return Some(Reply::Refused(Refusal::NoMemory));
@@ -101,8 +111,13 @@ impl<L: Ledger> Connection<L> {
     }
 
     // Any other event.
-    fn apply<D: Desk<L>>(&mut self, alloc: Global, desk: &mut D, event: Event) -> Option<Reply> {
-        match desk.apply(alloc, &mut self.seat, event) {
+    fn apply<D: BookCalls<L>>(
+        &mut self,
+        alloc: Global,
+        book: &mut D,
+        event: Event,
+    ) -> Option<Reply> {
+        match book.apply(alloc, &mut self.seat, event) {
             Ok(receipt) => self.keep(receipt),
             Err(_) => return Some(Reply::Refused(Refusal::NoMemory)),
         }

@@ -9,23 +9,23 @@
 //!
 //! | File | What |
 //! |---|---|
-//! | `desk` | the calls of a book, by itself or shared |
+//! | `book_calls` | the calls of a book, by itself or shared |
 //! | `connection` | a seat that answers requests, and keeps receipts and parts |
 //! | `compacting` | compactions in three parts |
 //! | `talking` | frame after frame |
 //! | `settling` | whether all receipts settle |
 #![tactic(auto)]
 
+mod book_calls;
 mod compacting;
 mod connection;
-mod desk;
 mod settling;
 mod talking;
 
 ghost use Rattle.std.specs.Prelude.{◌≡◌, ◌^◌, ◌≤◌};
 
+use book_calls::{BookCalls, SharedBook};
 use connection::Connection;
-use desk::{Desk, Locked};
 use settling::{all_settle, last_settle};
 use std::alloc::{AllocError, Global};
 use std::marker::Brand;
@@ -155,11 +155,11 @@ fn by_shared<L: Ledger, R: Wait, I: Input, W: Output>(
         return Ok(false);
     };
     let mut connection = Connection::new(alloc, seat);
-    let mut desk = Locked {
+    let mut book = SharedBook {
         rt,
         shared: &shared,
     };
-    talk(rt, alloc, &mut desk, &mut connection, input, output)?;
+    talk(rt, alloc, &mut book, &mut connection, input, output)?;
     let Connection {
         seat,
         receipts,

@@ -1,7 +1,7 @@
 //! Frame after frame.
 
+use crate::book_calls::BookCalls;
 use crate::connection::Connection;
-use crate::desk::Desk;
 use std::alloc::Global;
 use std::sync::Wait;
 use std::sync::ledger::Ledger;
@@ -10,10 +10,10 @@ use tab_io::{Input, Output, WriteFault};
 use tab_wire::{Asked, Conn, Request, write_bad_frame, write_reply};
 
 /// Answers each frame that is read, to the end of the input or its first fault. Each reply is written before the next frame is read.
-pub fn talk<L: Ledger, D: Desk<L>, R: Wait, I: Input, W: Output>(
+pub fn talk<L: Ledger, D: BookCalls<L>, R: Wait, I: Input, W: Output>(
     rt: &R,
     alloc: Global,
-    desk: &mut D,
+    book: &mut D,
     connection: &mut Connection<L>,
     input: &mut I,
     output: &mut W,
@@ -24,7 +24,7 @@ pub fn talk<L: Ledger, D: Desk<L>, R: Wait, I: Input, W: Output>(
             break;
         };
         let is_broken = matches!(asked, Asked::Broken(_));
-        tell(alloc, desk, connection, &conn, asked, output)?;
+        tell(alloc, book, connection, &conn, asked, output)?;
         output.flush()?;
         if is_broken {
             break;
@@ -34,9 +34,9 @@ pub fn talk<L: Ledger, D: Desk<L>, R: Wait, I: Input, W: Output>(
 }
 
 // Tells what comes of what is asked.
-fn tell<L: Ledger, D: Desk<L>, W: Output>(
+fn tell<L: Ledger, D: BookCalls<L>, W: Output>(
     alloc: Global,
-    desk: &mut D,
+    book: &mut D,
     connection: &mut Connection<L>,
     conn: &Conn,
     asked: Asked,
@@ -45,7 +45,7 @@ fn tell<L: Ledger, D: Desk<L>, W: Output>(
     match (asked, conn.user()) {
         (Asked::Request(request), Some(user)) => {
             let count = cells_asked(&request);
-            let told = connection.answer(alloc, desk, *user, request);
+            let told = connection.answer(alloc, book, *user, request);
             write_told(connection, told, count, output)
         }
         (Asked::Bad(reason) | Asked::Broken(reason), _) => write_bad_frame(output, reason),

@@ -1,4 +1,4 @@
--- What a page is told.
+-- To be believed by whoever relies on it. What a page is told.
 use Rattle.std.specs.Prelude.{ℕ, ◌≡◌, ◌+◌, ◌^◌, ◌⊎◌, List, [], ◌++◌, length, take, drop, Ok, Some, None}
 use Rattle.tab_io.specs.declared.reading.Input.{Ghosts as InputGhosts}
 use Rattle.tab_io.specs.declared.writing.Output.{Ghosts}

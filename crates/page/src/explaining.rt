@@ -3,7 +3,7 @@ ghost use Rattle.page.specs.Answering.{Explained};
 
 use crate::filling::fill;
 use std::alloc::Global;
-use tab_help::{Told, explain};
+use tab_help::{Explanation, explain};
 use tab_io::memory::PieceWriter;
 use tab_io::{BLOCK_LENGTH, BlockWriter, Output};
 
@@ -16,13 +16,13 @@ pub fn why(alloc: Global, number: u64, line: &[u8], out: &mut [u8]) -> u64
         return u64::MAX;
     };
     match explain(alloc, number, line, &mut notes) {
-        Ok(Told::Reason) => {
+        Ok(Explanation::Reason) => {
             let Ok(()) = notes.flush() else {
                 return u64::MAX;
             };
             fill(notes.get_ref().bytes(), out)
         }
-        Ok(Told::Nothing) => 0,
+        Ok(Explanation::Nothing) => 0,
         _ => u64::MAX,
     }
 }

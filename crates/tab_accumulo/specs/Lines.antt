@@ -1,4 +1,4 @@
--- The lines of Accumulo's shell that make what an image says.
+-- To be believed by whoever relies on it. The lines of Accumulo's shell that make what an image says.
 use Rattle.std.specs.Prelude.{ℕ, List, [], ◌∷◌, ◌++◌, reverse, codes, cond, bytes_eq, int_lt}
 use Rattle.std.specs.List.{flat_map, list_any}
 use Rattle.std.specs.Fmt.{decimal, signed_decimal}

@@ -1,4 +1,4 @@
--- Words as the shell of Apache Accumulo reads them.
+-- To be believed by whoever relies on it. Words as the shell of Apache Accumulo reads them.
 use Rattle.std.specs.Prelude.{ℕ, ◌==◌, List, [], ◌∷◌, ◌++◌, codes, if◌then◌else◌}
 use Rattle.std.specs.List.{flat_map}
 use Rattle.std.specs.Fmt.{decimal, signed_decimal}

@@ -1,4 +1,4 @@
--- The text of an entry.
+-- To be believed by whoever relies on it. The text of an entry.
 use Rattle.std.specs.Prelude.{ℕ, ℤ, Bool, true, false, cond, List, [], ◌∷◌, ◌++◌, codes}
 use Rattle.std.specs.Int.{int_max}
 use Rattle.std.specs.Fmt.{signed_decimal}

@@ -1,4 +1,4 @@
--- A member of a list, in the code.
+-- For proofs. A member of a list, in the code.
 use Rattle.std.specs.Prelude.{ℕ, List, [], ◌∷◌, ◌++◌, codes, cond}
 use Rattle.tab_mutation.specs.Mutations.{Update}
 use Rattle.tab_rules.specs.Constraints.{constraint_name, is_set}

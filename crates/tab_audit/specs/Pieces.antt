@@ -1,4 +1,4 @@
--- The text of one word, in the code.
+-- For proofs. The text of one word, in the code.
 use Rattle.std.specs.Prelude.{ℕ, List}
 use Rattle.std.specs.Fmt.{decimal, signed_decimal}
 use Rattle.tab_rules.specs.Constraints.{constraint_name}

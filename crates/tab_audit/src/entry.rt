@@ -17,7 +17,7 @@ use crate::act::put_act;
 use tab_core::EventReply;
 use tab_history::{Act, Event, Refusal};
 use tab_io::{Output, WriteFault};
-use tab_key::Part;
+use tab_key::LimitedPart;
 use tab_replies::put_refusal;
 use tab_text::{Word, put_line};
 
@@ -42,7 +42,7 @@ pub fn clock_behind(clock: i64, event: &Event, told: &EventReply) -> i64
 {
     match told {
         EventReply::Refused(Refusal::NoMemory) => clock,
-        EventReply::Refused(Refusal::TooLarge(Part::Sessions)) => clock,
+        EventReply::Refused(Refusal::TooLarge(LimitedPart::Sessions)) => clock,
         EventReply::Refused(Refusal::NoSession(_)) => clock,
         EventReply::Refused(Refusal::NoJob(_)) => clock,
         _ => clock.max(event.moment),

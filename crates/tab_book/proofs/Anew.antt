@@ -19,7 +19,7 @@ use Rattle.tab_core.proofs.Recorded.{legal_empty}
 use Rattle.tab_core.specs.Recording.{RefinesHistory, IsLegalFrom, StepsOn, StepsWith, entry_of}
 use Rattle.tab_core.specs.Rotating.{raised}
 use Rattle.tab_core.specs.Stepping.{LaysExactly, now_at}
-use Rattle.tab_core.specs.Stores.{Held, base_of}
+use Rattle.tab_core.specs.Stores.{CoreContents, base_of}
 use Rattle.tab_book.specs.Entries.{Posted, Place, Record, next_of, past}
 use Rattle.tab_book.specs.Receipts.{Slip, Applies}
 use Rattle.tab_book.specs.Rotating.{Portion, portion_of, FollowsOn, rotation, Rotates}
@@ -30,7 +30,7 @@ use Rattle.tab_book.proofs.Growing.{past_more}
 abbrev pub IsPlain : Told → Type 0
 IsPlain reply = (reply ≡ Done) ⊎ ((refusal : Refusal) × (reply ≡ Refused refusal))
 
-laid : (o : Option Refusal) (old new : Held) (now : ℤ) (reply : Told) (job : Option TabletMerge) → LaysExactly old now None Rotate (told o Done) reply job new → IsPlain reply
+laid : (o : Option Refusal) (old new : CoreContents) (now : ℤ) (reply : Told) (job : Option TabletMerge) → LaysExactly old now None Rotate (told o Done) reply job new → IsPlain reply
 laid None old new now reply job lays = go lays.answers
   where
     go : (reply ≡ Done) ⊎ ((takes_memory Rotate ≡ true) × (reply ≡ Refused NoMemory)) → IsPlain reply
@@ -42,7 +42,7 @@ laid (Some r) old new now reply job lays = go lays.answers
     go (inl e) = inr (r, e)
     go (inr h) = inr (NoMemory, h.1)
 
-plainly : (old new : Held) (user : List ℕ) (moment : ℤ) (reply : Reply OpenSession TabletMerge) → StepsOn old None (rotation user moment) reply new → IsPlain (told_of reply)
+plainly : (old new : CoreContents) (user : List ℕ) (moment : ℤ) (reply : Reply OpenSession TabletMerge) → StepsOn old None (rotation user moment) reply new → IsPlain (told_of reply)
 plainly old new user moment reply steps = go steps.exact
   where
     go : StepsWith old None (rotation user moment) reply new → IsPlain (told_of reply)
@@ -76,7 +76,7 @@ risen b base h user moment r = record {
 }
 
 -- what the core held before the rotation, with the clock raised, refines what the history with the rotation leaves
-follows : (old new : Held) (base : Base) (h : List Entry) (user : List ℕ) (moment : ℤ) (reply : Reply OpenSession TabletMerge)
+follows : (old new : CoreContents) (base : Base) (h : List Entry) (user : List ℕ) (moment : ℤ) (reply : Reply OpenSession TabletMerge)
     → RefinesHistory old (base_of old) [] → RefinesHistory old base h → StepsOn old None (rotation user moment) reply new → told_of reply ≡ Done
     → Refines (world_of (raised moment (base_of old))) (world_after (world_of base) (entry_of (rotation user moment) Done ∷ h))
 unfolding RefinesHistory IsLegalFrom

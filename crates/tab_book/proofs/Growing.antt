@@ -7,7 +7,7 @@ use Rattle.tab_history.specs.Answers.{told_of}
 use Rattle.tab_history.specs.Histories.{Entry}
 use Rattle.tab_history.specs.declared.event.Event.{Event}
 use Rattle.tab_history.specs.declared.reply.Reply.{Reply}
-use Rattle.tab_core.specs.Stores.{Held}
+use Rattle.tab_core.specs.Stores.{CoreContents}
 use Rattle.tab_core.specs.Recording.{RefinesHistory, IsLegalFrom, StepsOn, entry_of}
 use Rattle.tab_core.proofs.Recorded.{legal_empty}
 use Rattle.tab_book.specs.Entries.{Posted, extend, past, IsKept}
@@ -21,7 +21,7 @@ pub past_more : (ps : List Posted) (p : Posted) → past (ps ++ p ∷ []) ≡ en
 past_more ps p = extend-append [] ps p
 
 -- the entry of an event that was told so
-pub kept_more : (base : Base) (first : ℕ) (ps now : List Posted) (p : Posted) (old new : Held) (joined out parts rest total total' : ℕ) (given : Option TabletMerge) (event : Event) (reply : Reply OpenSession TabletMerge)
+pub kept_more : (base : Base) (first : ℕ) (ps now : List Posted) (p : Posted) (old new : CoreContents) (joined out parts rest total total' : ℕ) (given : Option TabletMerge) (event : Event) (reply : Reply OpenSession TabletMerge)
     → IsKept base first ps old joined out parts rest total → StepsOn old given event reply new → now ≡ ps ++ p ∷ [] → p.event ≡ event → p.reply ≡ told_of reply → first + length ps + 1 < 2 ^ 64 → total' ≡ total + 1
     → IsKept base first now new joined out parts rest total'
 kept_more base first ps now p old new joined out parts rest total total' given event reply kept steps is asked told room one =
@@ -39,7 +39,7 @@ kept_more base first ps now p old new joined out parts rest total total' given e
     }
 
 -- a book without entries
-pub kept_empty : (base : Base) (first : ℕ) (entries : List Posted) (core : Held) (joined out parts rest total : ℕ) → entries ≡ [] → RefinesHistory core base [] → total ≡ first → first < 2 ^ 64 → rest + out ≡ parts → 2 ^ 32 ≤ parts → out ≤ joined
+pub kept_empty : (base : Base) (first : ℕ) (entries : List Posted) (core : CoreContents) (joined out parts rest total : ℕ) → entries ≡ [] → RefinesHistory core base [] → total ≡ first → first < 2 ^ 64 → rest + out ≡ parts → 2 ^ 32 ≤ parts → out ≤ joined
     → IsKept base first entries core joined out parts rest total
 kept_empty base first entries core joined out parts rest total none refines counted fits cut enough known =
     let n : length entries ≡ 0 = ap length none in

@@ -1,11 +1,11 @@
--- Entries that lie in blocks of 1,024.
+-- For proofs. Entries that lie in blocks of 1,024.
 use Rattle.std.specs.Prelude.{ℕ, ◌≡◌, ◌≤◌, ◌<◌, ◌^◌, ◌-◌, min, List, ◌++◌, length, slice_get, option_map, unwrap_or, Vec, vec_len, vec_capacity}
 use Rattle.std.specs.declared.alloc.Global.{Global}
 use Rattle.std.specs.List.{flat_map, AllByRecursion}
 use Rattle.tab_book.specs.Entries.{Posted}
 
 -- entries, the oldest first, and for how many more in their block there is memory
-pub record Held : Type 0 where
+pub record BlockEntries : Type 0 where
   pub entries : List Posted
   pub room : ℕ
 

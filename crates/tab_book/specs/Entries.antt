@@ -1,10 +1,10 @@
--- The history of a book, and what a seat knows.
+-- To be believed by whoever relies on it. The history of a book, and what a seat knows.
 use Rattle.std.specs.Prelude.{ℕ, ◌≡◌, ◌+◌, ◌^◌, ◌<◌, ◌≤◌, List, [], ◌∷◌, length}
 use Rattle.tab_history.specs.Bases.{Base}
 use Rattle.tab_history.specs.Answers.{Told}
 use Rattle.tab_history.specs.Histories.{Entry}
 use Rattle.tab_history.specs.declared.event.Event.{Event}
-use Rattle.tab_core.specs.Stores.{Held}
+use Rattle.tab_core.specs.Stores.{CoreContents}
 use Rattle.tab_core.specs.Recording.{RefinesHistory, IsLegalFrom, entry_of}
 
 -- an entry: the number of the seat that asked, what it asked, and what it was told
@@ -40,7 +40,7 @@ pub record Record : Type 0 where
   pub base : Base
   pub first : ℕ
   pub entries : List Posted
-  pub core : Held
+  pub core : CoreContents
   pub joined : ℕ
   pub out : ℕ
   pub back : ℕ
@@ -51,7 +51,7 @@ next_of b = b.first + length b.entries
 
 -- What each book keeps: its history is legal from the base and its core refines it; and the ledger, which is cut into so many parts, of
 -- which each seat that is out has one and the book the rest, has counted the entries, those that were handed out too.
-pub record IsKept (base : Base) (first : ℕ) (entries : List Posted) (core : Held) (joined out parts rest total : ℕ) : Type 0 where
+pub record IsKept (base : Base) (first : ℕ) (entries : List Posted) (core : CoreContents) (joined out parts rest total : ℕ) : Type 0 where
   pub legal : IsLegalFrom base (past entries)
   pub refines : RefinesHistory core base (past entries)
   pub counted : total ≡ first + length entries

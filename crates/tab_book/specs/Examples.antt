@@ -8,7 +8,7 @@ use Rattle.tab_history.specs.declared.event.Act.TheVariants.{CreateUser, DropUse
 use Rattle.tab_history.specs.declared.event.Event.{Event}
 use Rattle.tab_history.specs.declared.reply.Refusal.TheVariants.{NoUser, UnknownUser}
 use Rattle.tab_history.specs.declared.reply.Reply.TheVariants.{Done, Refused}
-use Rattle.tab_core.specs.Stores.{Held, base_of}
+use Rattle.tab_core.specs.Stores.{CoreContents, base_of}
 use Rattle.tab_core.specs.Recording.{entry_of}
 use Rattle.tab_core.specs.Rotating.{raised}
 use Rattle.tab_book.specs.Entries.{Posted, Record, past, next_of}
@@ -31,18 +31,18 @@ abbrev refused : Posted
 refused = record { seat = 1; event = asks (DropUser (codes "bob")); reply = Refused (NoUser (codes "bob")) }
 
 -- a book with these entries, the first of which has this number, on some base and over some core
-abbrev holding : Base → Held → ℕ → List Posted → Record
+abbrev holding : Base → CoreContents → ℕ → List Posted → Record
 holding base core first entries = record { base = base; first = first; entries = entries; core = core; joined = 2; out = 2; back = 0 }
 
-abbrev three : Base → Held → Record
+abbrev three : Base → CoreContents → Record
 three base core = holding base core 0 (made ∷ dropped ∷ refused ∷ [])
 
 -- the history has the newest first
-order : (base : Base) (core : Held) → past (three base core).entries ≡ entry_of refused.event refused.reply ∷ entry_of dropped.event Done ∷ entry_of made.event Done ∷ []
+order : (base : Base) (core : CoreContents) → past (three base core).entries ≡ entry_of refused.event refused.reply ∷ entry_of dropped.event Done ∷ entry_of made.event Done ∷ []
 order base core = refl
 
 -- entries are numbered from 0 on
-numbered : (base : Base) (core : Held) → next_of (three base core) ≡ 3
+numbered : (base : Base) (core : CoreContents) → next_of (three base core) ≡ 3
 numbered base core = refl
 
 -- a receipt of which nothing can be taken
@@ -50,14 +50,14 @@ abbrev slip : ℕ → Posted → Slip
 slip number entry = record { number = number; entry = entry; held = None }
 
 -- the second entry stands at 1, whatever was taken from its receipt
-stands : (base : Base) (core : Held) → Has (three base core) (slip 1 dropped)
+stands : (base : Base) (core : CoreContents) → Has (three base core) (slip 1 dropped)
 stands base core = (omega arith, refl)
 
 -- at 2 stands another entry, and at 3 none yet
-third : (base : Base) (core : Held) → slice_get (three base core).entries 2 ≡ Some refused
+third : (base : Base) (core : CoreContents) → slice_get (three base core).entries 2 ≡ Some refused
 third base core = refl
 
-none_yet : (base : Base) (core : Held) → slice_get (three base core).entries 3 ≡ None
+none_yet : (base : Base) (core : CoreContents) → slice_get (three base core).entries 3 ≡ None
 none_yet base core = refl
 
 -- ---- a rotation of seat 0, at 5
@@ -70,12 +70,12 @@ abbrev unknown : Posted
 unknown = record { seat = 0; event = rotation (codes "bob") (pos 5); reply = Refused (UnknownUser (codes "bob")) }
 
 -- root's rotation has number 3, and hands out four entries from 0 on, with the base on which they stood
-handed_out : (base : Base) (core : Held) (part : Portion) (left : Record) → Leaves (three base core) (pos 5) (slip 3 rotated) (Some part) left
+handed_out : (base : Base) (core : CoreContents) (part : Portion) (left : Record) → Leaves (three base core) (pos 5) (slip 3 rotated) (Some part) left
     → part ≡ record { first = 0; base = base; entries = made ∷ dropped ∷ refused ∷ rotated ∷ [] }
 handed_out base core part left leaves = leaves.1
 
 -- the book has no entry then, on what the core held, at 5 or later, and its next entry has number 4
-begun_anew : (base : Base) (core : Held) (part : Portion) (left : Record) → Leaves (three base core) (pos 5) (slip 3 rotated) (Some part) left
+begun_anew : (base : Base) (core : CoreContents) (part : Portion) (left : Record) → Leaves (three base core) (pos 5) (slip 3 rotated) (Some part) left
     → left ≡ holding (raised (pos 5) (base_of core)) left.core 4 []
 begun_anew base core part left leaves = leaves.2
 
@@ -86,15 +86,15 @@ in_the_part = (omega arith, refl)
 not_in_the_part : slice_get (made ∷ dropped ∷ refused ∷ rotated ∷ []) 4 ≡ None
 not_in_the_part = refl
 
-in_the_book : (base : Base) (core : Held) → Has (holding base core 4 (made ∷ [])) (slip 4 made)
+in_the_book : (base : Base) (core : CoreContents) → Has (holding base core 4 (made ∷ [])) (slip 4 made)
 in_the_book base core = (omega arith, refl)
 
 -- the fourth one doesn't, nor would it if an entry like it stood there
-not_in_the_book : (base : Base) (core : Held) → Has (holding base core 4 (rotated ∷ [])) (slip 3 rotated) → ⊥
+not_in_the_book : (base : Base) (core : CoreContents) → Has (holding base core 4 (rotated ∷ [])) (slip 3 rotated) → ⊥
 not_in_the_book base core has = omega (arith, has.0)
 
 -- bob's rotation is one entry more
-kept : (base : Base) (core : Held) (left : Record) → Leaves (three base core) (pos 5) (slip 3 unknown) None left
+kept : (base : Base) (core : CoreContents) (left : Record) → Leaves (three base core) (pos 5) (slip 3 unknown) None left
     → left ≡ holding base left.core 0 (made ∷ dropped ∷ refused ∷ unknown ∷ [])
 kept base core left leaves = leaves.1
 

@@ -1,4 +1,4 @@
--- What an event hands out beside its reply.
+-- For proofs. What an event hands out beside its reply.
 use Rattle.std.specs.Prelude.{Option, Some, None}
 use Rattle.std.specs.Option.{option_map}
 use Rattle.tab_history.specs.Answers.{session_of, job_of}

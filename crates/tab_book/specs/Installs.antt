@@ -1,4 +1,4 @@
--- Which event an Install is that comes with its finished merge.
+-- For proofs. Which event an Install is that comes with its finished merge.
 use Rattle.tab_history.specs.declared.event.Event.{Event}
 use Rattle.tab_core.specs.Stepping.{installs_at}
 use Rattle.tab_book.specs.declared.installation.Installation.{Installation}

@@ -1,4 +1,4 @@
-pub mod KeptReplies
+pub mod RecordedReplies
 pub mod Entries
 pub mod Slices
 pub mod Blocks
@@ -7,5 +7,5 @@ pub mod Installs
 pub mod Receipts
 pub mod Wholeness
 pub mod Examples
-pub use Rattle.tab_note.specs.Acts
+pub use Rattle.tab_event_record.specs.Acts
 pub mod Rotating

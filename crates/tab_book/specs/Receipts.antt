@@ -1,4 +1,4 @@
--- Receipts, and what an event does to a book.
+-- To be believed by whoever relies on it. Receipts, and what an event does to a book.
 use Rattle.std.specs.Prelude.{ℕ, ◌≡◌, ◌+◌, ◌-◌, ◌≤◌, List, [], ◌∷◌, ◌++◌, Option, Some, slice_get}
 use Rattle.tab_history.specs.Answers.{told_of}
 use Rattle.tab_history.specs.declared.event.Event.{Event}

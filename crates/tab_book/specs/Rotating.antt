@@ -1,4 +1,4 @@
--- Histories that are handed out part by part.
+-- To be believed by whoever relies on it. Histories that are handed out part by part.
 use Rattle.std.specs.Prelude.{ℕ, ℤ, ◌≡◌, ◌+◌, List, [], ◌∷◌, ◌++◌, Option, Some, None, length}
 use Rattle.tab_history.specs.Answers.{told_of}
 use Rattle.tab_history.specs.Bases.{Base}

@@ -1,6 +1,6 @@
--- Entries of a history, shared: what was asked, and how it ended.
+-- To be believed by whoever relies on it. Entries of a history, shared: what was asked, and how it ended.
 use Rattle.std.specs.Prelude.{ℕ, ◌-◌, max, List, map, take, drop}
-use Rattle.tab_key.specs.declared.part.Part.TheVariants.{Sessions}
+use Rattle.tab_key.specs.declared.limited_part.LimitedPart.TheVariants.{Sessions}
 use Rattle.tab_history.specs.Answers.{Told}
 use Rattle.tab_history.specs.declared.event.Event.{Event}
 use Rattle.tab_history.specs.declared.reply.Refusal.TheVariants.{NoMemory, TooLarge, NoSession, NoJob}

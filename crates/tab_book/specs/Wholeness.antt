@@ -1,4 +1,4 @@
--- When receipts are all that a book gave.
+-- To be believed by whoever relies on it. When receipts are all that a book gave.
 use Rattle.std.specs.Prelude.{ℕ, ◌≡◌, ◌+◌, List, [], ◌∷◌, Some, filter, map, nat_eq, slice_get}
 use Rattle.std.specs.List.{IsDistinct}
 use Rattle.tab_book.specs.Entries.{Posted, Record}

@@ -3,7 +3,7 @@ ghost use Rattle.std.specs.Prelude.{◌≡◌, ◌+◌, ◌^◌, ◌<◌, ◌≤
 ghost use Rattle.tab_book.specs.Blocks.{block_at};
 ghost use Rattle.tab_book.specs.Slices.{shown};
 
-use crate::entry::KeptEntry;
+use crate::entry::RecordedEntry;
 use crate::slice::SharedEntry;
 use std::alloc::{AllocError, Global};
 use std::marker::Model;
@@ -16,17 +16,17 @@ const BLOCK: usize = 1024;
 #[derive(Drop)]
 pub struct Blocks {
     // blocks of as many entries as one has
-    full: Vec<Vec<KeptEntry>>,
+    full: Vec<Vec<RecordedEntry>>,
     // the entries behind them
-    last: Vec<KeptEntry>,
+    last: Vec<RecordedEntry>,
     // how many there are
     count: u64,
 }
 
 impl Model for Blocks {
-    ghost use Rattle.tab_book.specs.Blocks.{Held, in_order, room_in, IsInBlocks};
+    ghost use Rattle.tab_book.specs.Blocks.{BlockEntries, in_order, room_in, IsInBlocks};
 
-    ghost Value = { Held };
+    ghost Value = { BlockEntries };
 
     ghost view = { λ b. record { entries = in_order b.full.items b.last.items; room = room_in b.last } };
 
@@ -73,7 +73,7 @@ impl Blocks {
     }
 
     /// Puts one behind the others.
-    pub fn push_reserved(&mut self, entry: KeptEntry)
+    pub fn push_reserved(&mut self, entry: RecordedEntry)
         requires room { 0 < self.old.room }
         requires number { length self.old.entries + 1 < 2 ^ 64 }
         ensures { self.new.entries ≡ self.old.entries ++ entry ∷ [] }
@@ -83,7 +83,7 @@ impl Blocks {
     }
 
     /// The entry with this number, from 0 on.
-    pub fn get(&self, number: u64) -> Option<&KeptEntry>
+    pub fn get(&self, number: u64) -> Option<&RecordedEntry>
         ensures some { IfSome result (λ entry. slice_get self.now.entries number ≡ Some entry.now) }
         ensures none { IfNone result (slice_get self.now.entries number ≡ None) }
     {
@@ -126,7 +126,11 @@ impl Blocks {
 }
 
 // The entries of the full block with this number, and the last ones where there is none.
-fn block_of<'a>(full: &'a [Vec<KeptEntry>], last: &'a [KeptEntry], at: usize) -> &'a [KeptEntry]
+fn block_of<'a>(
+    full: &'a [Vec<RecordedEntry>],
+    last: &'a [RecordedEntry],
+    at: usize,
+) -> &'a [RecordedEntry]
     ensures { result.now ≡ block_at full.now last.now at }
 {
     match full.get(at) {
@@ -136,7 +140,7 @@ fn block_of<'a>(full: &'a [Vec<KeptEntry>], last: &'a [KeptEntry], at: usize) ->
 }
 
 // The entry at this place.
-fn nth(block: &[KeptEntry], at: usize) -> Option<&KeptEntry>
+fn nth(block: &[RecordedEntry], at: usize) -> Option<&RecordedEntry>
     ensures some { IfSome result (λ entry. slice_get block.now at ≡ Some entry.now) }
     ensures none { IfNone result (slice_get block.now at ≡ None) }
 {

@@ -1,23 +1,23 @@
 //! Entries of a history.
 ghost use Rattle.std.specs.Prelude.{◌≡◌, ◌↔◌, IsTrue, IfOk};
 ghost use Rattle.std.specs.Arc.{arc_value};
-ghost use Rattle.tab_book.specs.KeptReplies.{reply_in};
+ghost use Rattle.tab_book.specs.RecordedReplies.{reply_in};
 ghost use Rattle.tab_book.specs.Slices.{shown};
 
-use crate::kept_reply::KeptReply;
+use crate::recorded_reply::RecordedReply;
 use crate::slice::SharedEntry;
 use std::alloc::AllocError;
 use std::marker::Model;
 use std::mem::size_of;
 use std::sync::Arc;
+use tab_event_record::EventRecord;
 use tab_history::Reply;
-use tab_note::Note;
 
 /// Who asked what, and what he was told.
 #[derive(Drop)]
 pub struct Entry {
     pub(crate) seat: u32,
-    pub(crate) event: Arc<Note>,
+    pub(crate) event: Arc<EventRecord>,
     pub(crate) reply: Reply,
 }
 
@@ -32,7 +32,7 @@ impl Model for Entry {
 
 impl Entry {
     // What the seat asked and was told.
-    pub(crate) fn new(seat: u32, event: Arc<Note>, reply: Reply) -> Entry
+    pub(crate) fn new(seat: u32, event: Arc<EventRecord>, reply: Reply) -> Entry
         ensures { result ≡ record { seat = seat; event = arc_value event; reply = reply } }
     {
         Entry { seat, event, reply }
@@ -46,7 +46,7 @@ impl Entry {
     }
 
     /// What was asked. The book has the same copy of it.
-    pub fn event(&self) -> &Note
+    pub fn event(&self) -> &EventRecord
         ensures { result.now ≡ self.now.event }
     {
         &*self.event
@@ -61,32 +61,34 @@ impl Entry {
 }
 
 // An entry at rest takes at most 216 bytes: its place in the book, the event, and the count of those who share it.
-const _: () = prove!(size_of::<KeptEntry>() + size_of::<Note>() + size_of::<usize>() <= 216);
+const _: () = prove!(
+    size_of::<RecordedEntry>() + size_of::<EventRecord>() + size_of::<usize>() <= 216
+);
 
 /// An entry at rest: 32 bytes in the book, and 184 for the event. The event is shared with the entry's receipt.
 #[derive(Drop)]
-pub struct KeptEntry {
+pub struct RecordedEntry {
     seat: u32,
-    event: Arc<Note>,
-    reply: KeptReply,
+    event: Arc<EventRecord>,
+    reply: RecordedReply,
 }
 
-impl Model for KeptEntry {
+impl Model for RecordedEntry {
     ghost use Rattle.std.specs.Arc.{arc_value};
     ghost use Rattle.tab_book.specs.Entries.{Posted};
-    ghost use Rattle.tab_book.specs.KeptReplies.{reply_in};
+    ghost use Rattle.tab_book.specs.RecordedReplies.{reply_in};
 
     ghost Value = { Posted };
 
     ghost view = { λ e. record { seat = e.seat; event = arc_value e.event; reply = reply_in e.reply } };
 }
 
-impl KeptEntry {
+impl RecordedEntry {
     // What the seat asked and was told.
-    pub(crate) fn new(seat: u32, event: Arc<Note>, reply: KeptReply) -> KeptEntry
+    pub(crate) fn new(seat: u32, event: Arc<EventRecord>, reply: RecordedReply) -> RecordedEntry
         ensures { result ≡ record { seat = seat; event = arc_value event; reply = reply_in reply } }
     {
-        KeptEntry { seat, event, reply }
+        RecordedEntry { seat, event, reply }
     }
 
     /// The number of the seat that asked.
@@ -97,14 +99,14 @@ impl KeptEntry {
     }
 
     /// What was asked.
-    pub fn event(&self) -> &Note
+    pub fn event(&self) -> &EventRecord
         ensures { result.now ≡ self.now.event }
     {
         &*self.event
     }
 
     /// What was told, as it is kept.
-    pub fn reply(&self) -> &KeptReply
+    pub fn reply(&self) -> &RecordedReply
         ensures { reply_in result.now ≡ self.now.reply }
     {
         &self.reply

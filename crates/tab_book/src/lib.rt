@@ -31,13 +31,13 @@
 //! | `entry` | entries, as a receipt has them and at rest |
 //! | `blocks` | the entries of a book, in blocks: none moves once its block is full |
 //! | `reservation` | the memory of an entry, which can be found before the book is locked |
-//! | `kept_reply`, `outcome` | replies at rest, and how the events ended that were told so |
+//! | `recorded_reply`, `outcome` | replies at rest, and how the events ended that were told so |
 //! | `slice` | entries of a history in a row, shared |
 //!
 //! Of the definitions in `specs`, `Entries` says what a book is and what each keeps, `Receipts` what a receipt is and what an event does to
 //! a book, `Rotating` what a rotation does, and `Examples` computes them for a small history; `Wholeness` says when receipts are all that a
 //! book gave, `HandedOut` and `Installs` say what goes with a reply and which event a finished
-//! merge comes with, `KeptReplies` which replies are kept, `Slices` which entries a slice shares, and `Blocks` how entries lie. Events at rest are `tab_note`'s.
+//! merge comes with, `RecordedReplies` which replies are kept, `Slices` which entries a slice shares, and `Blocks` how entries lie. Events at rest are `tab_event_record`'s.
 #![tactic(auto)]
 
 mod blocks;
@@ -46,28 +46,28 @@ mod entry;
 mod held;
 mod installation;
 mod installing;
-mod kept_reply;
 mod outcome;
 mod part;
 mod posting;
 mod receipt;
+mod recorded_reply;
 mod reservation;
 mod rotating;
 mod seat;
 mod slice;
 
 pub use book::{Book, SeatsOut, book_is_legal, receipts_are_whole, settle};
-pub use entry::{Entry, KeptEntry};
+pub use entry::{Entry, RecordedEntry};
 pub use held::Held;
 pub use installation::Installation;
-pub use kept_reply::KeptReply;
 pub use outcome::Outcome;
 pub use part::{Part, part_is_legal, parts_are_one_history};
 pub use receipt::Receipt;
+pub use recorded_reply::RecordedReply;
 pub use reservation::Reservation;
 pub use seat::Seat;
 pub use slice::{SharedEntry, Slice};
-pub use tab_note::Note;
+pub use tab_event_record::EventRecord;
 
 #[cfg(test)]
 mod tests;

@@ -2,13 +2,13 @@
 ghost use Rattle.std.specs.Prelude.{◌≡◌};
 ghost use Rattle.tab_history.specs.declared.reply.Reply.TheVariants.{Refused};
 ghost use Rattle.tab_core.specs.EventReplies.{told_in};
-ghost use Rattle.tab_book.specs.KeptReplies.{reply_in};
+ghost use Rattle.tab_book.specs.RecordedReplies.{reply_in};
 ghost use Rattle.tab_book.specs.Slices.{outcome_of};
 
-use crate::kept_reply::KeptReply;
+use crate::recorded_reply::RecordedReply;
 use tab_core::EventReply;
 use tab_history::Refusal;
-use tab_key::Part;
+use tab_key::LimitedPart;
 
 /// How an event ended, as far as what it leaves goes.
 #[derive(Clone, Copy, PartialEq, Eq, Debug)]
@@ -21,15 +21,15 @@ pub enum Outcome {
     Answered,
 }
 
-impl KeptReply {
+impl RecordedReply {
     // How the event ended that was told so.
     pub(crate) fn outcome(&self) -> Outcome
         ensures { result ≡ outcome_of (reply_in self.now) }
     {
         match self {
-            KeptReply::Done => Outcome::Answered,
-            KeptReply::Opened => Outcome::Answered,
-            KeptReply::Other(told) => outcome_told(told),
+            RecordedReply::Done => Outcome::Answered,
+            RecordedReply::Opened => Outcome::Answered,
+            RecordedReply::Other(told) => outcome_told(told),
         }
     }
 }
@@ -52,7 +52,7 @@ fn outcome_refused(refusal: &Refusal) -> Outcome
         Refusal::NoMemory => Outcome::Void,
         Refusal::NoSession(_) => Outcome::Void,
         Refusal::NoJob(_) => Outcome::Void,
-        Refusal::TooLarge(Part::Sessions) => Outcome::Void,
+        Refusal::TooLarge(LimitedPart::Sessions) => Outcome::Void,
         _ => Outcome::Refused,
     }
 }

@@ -7,7 +7,7 @@ ghost use Rattle.tab_book.specs.Rotating.{FollowsOn};
 ghost use Rattle.tab_book.specs.Slices.{stretch_of};
 
 use crate::blocks::Blocks;
-use crate::entry::KeptEntry;
+use crate::entry::RecordedEntry;
 use crate::receipt::Receipt;
 use crate::slice::{Slice, slice_of};
 use std::alloc::{AllocError, Global};
@@ -73,7 +73,7 @@ impl<L: Ledger> Part<L> {
     }
 
     /// The entry at this place, from 0 on: its number is that of the first one and the place.
-    pub fn entry(&self, place: u64) -> Option<&KeptEntry>
+    pub fn entry(&self, place: u64) -> Option<&RecordedEntry>
         ensures some { IfSome result (λ entry. slice_get self.now.entries place ≡ Some entry.now) }
         ensures none { IfNone result (slice_get self.now.entries place ≡ None) }
     {

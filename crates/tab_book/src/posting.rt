@@ -6,10 +6,10 @@ ghost use Rattle.tab_book.specs.Entries.{place, posted};
 ghost use Rattle.tab_book.specs.HandedOut.{held_of};
 
 use crate::blocks::Blocks;
-use crate::entry::{Entry, KeptEntry};
+use crate::entry::{Entry, RecordedEntry};
 use crate::held::Held;
-use crate::kept_reply::KeptReply;
 use crate::receipt::Receipt;
+use crate::recorded_reply::RecordedReply;
 use crate::reservation::Reservation;
 use crate::seat::Seat;
 use std::sync::ledger::{Book as Tickets, Ledger};
@@ -35,9 +35,13 @@ pub(crate) fn post<L: Ledger>(
     ensures seat { seat.new ≡ place seat.old.number (first + length entries.old.entries + 1) (seat.old.count + 1) }
 {
     let number = first + entries.len();
-    let (note, copy, place) = reservation.into_parts();
+    let (event_record, copy, place) = reservation.into_parts();
     let (reply, session, job) = answer.into_parts();
-    entries.push_reserved(KeptEntry::new(seat.number, note, KeptReply::of(told, place)));
+    entries.push_reserved(RecordedEntry::new(
+        seat.number,
+        event_record,
+        RecordedReply::of(told, place),
+    ));
     tickets.add(&mut seat.share, 1);
     seat.seen = number + 1;
     let entry = Entry::new(seat.number, copy, reply);

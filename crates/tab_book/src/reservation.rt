@@ -7,16 +7,16 @@ use std::alloc::{AllocError, Global};
 use std::marker::Model;
 use std::sync::Arc;
 use tab_core::EventReply;
+use tab_event_record::EventRecord;
 use tab_history::{Act, Event};
 use tab_key::Name;
-use tab_note::Note;
 
 /// The memory that an event's entry takes, with the event in it. Where a book is shared it's found before the book is locked.
 #[derive(Drop)]
 pub struct Reservation {
     // for the book and for the receipt
-    event: Arc<Note>,
-    copy: Arc<Note>,
+    event: Arc<EventRecord>,
+    copy: Arc<EventRecord>,
     // where a reply lies that takes a place of its own
     place: Box<EventReply>,
 }
@@ -50,8 +50,8 @@ impl Reservation {
     ) -> Result<Reservation, AllocError>
         ensures { IfOk result (λ reserved. reserved ≡ asked_at user.now moment act.now) }
     {
-        let note = Note::of(alloc, user, moment, act)?;
-        let Ok(first) = Arc::new(alloc, note) else {
+        let event_record = EventRecord::of(alloc, user, moment, act)?;
+        let Ok(first) = Arc::new(alloc, event_record) else {
             return Err(AllocError);
         };
         let copy = Arc::try_clone(&first)?;
@@ -66,7 +66,7 @@ impl Reservation {
     }
 
     // The event, for the book and for the receipt, and the place of a reply.
-    pub(crate) fn into_parts(self) -> (Arc<Note>, Arc<Note>, Box<EventReply>)
+    pub(crate) fn into_parts(self) -> (Arc<EventRecord>, Arc<EventRecord>, Box<EventReply>)
         ensures event { arc_value result.0 ≡ self }
         ensures copy { arc_value result.1 ≡ self }
     {

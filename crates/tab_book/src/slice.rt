@@ -9,12 +9,12 @@ use std::alloc::{AllocError, Global};
 use std::marker::{Model, PhantomData};
 use std::sync::Arc;
 use std::sync::ledger::Ledger;
-use tab_note::Note;
+use tab_event_record::EventRecord;
 
 /// What an entry says, in 16 bytes: the event, which it shares with the history, and how it ended.
 #[derive(Drop)]
 pub struct SharedEntry {
-    event: Arc<Note>,
+    event: Arc<EventRecord>,
     outcome: Outcome,
 }
 
@@ -29,14 +29,14 @@ impl Model for SharedEntry {
 
 impl SharedEntry {
     // This event, which ended so.
-    pub(crate) fn new(event: Arc<Note>, outcome: Outcome) -> SharedEntry
+    pub(crate) fn new(event: Arc<EventRecord>, outcome: Outcome) -> SharedEntry
         ensures { result ≡ record { event = arc_value event; outcome = outcome } }
     {
         SharedEntry { event, outcome }
     }
 
     /// What was asked.
-    pub fn event(&self) -> &Note
+    pub fn event(&self) -> &EventRecord
         ensures { result.now ≡ self.now.event }
     {
         &*self.event

@@ -1,4 +1,4 @@
--- The kinds of compactions.
+-- To be believed by whoever relies on it. The kinds of compactions.
 use Rattle.std.specs.Prelude.{Bool, true, false}
 use Rattle.tab_cells.specs.declared.compaction.Compaction.{Compaction}
 use Rattle.tab_cells.specs.declared.compaction.Compaction.TheVariants.{Minor, Partial, Full}

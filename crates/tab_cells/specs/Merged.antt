@@ -1,4 +1,4 @@
--- What a merge of records keeps. (Accumulo user manual: minor and major compactions)
+-- To be believed by whoever relies on it. What a merge of records keeps. (Accumulo user manual: minor and major compactions)
 use Rattle.std.specs.Prelude.{ℕ, ℤ, List, Bool, not, ◌&&◌, ◌||◌, int_lt, filter}
 use Rattle.std.specs.List.{list_any}
 use Rattle.tab_key.specs.Records.{Record}

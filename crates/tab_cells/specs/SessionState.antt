@@ -1,4 +1,4 @@
--- How far an open session has come, its next batch, and what it has in ranges of rows.
+-- To be believed. How far an open session has come, its next batch, and what it has in ranges of rows.
 use Rattle.std.specs.Prelude.{ℕ, List, ◌+◌, take, drop, filter, map}
 use Rattle.tab_key.specs.Records.{Cell}
 use Rattle.tab_key.specs.Ranges.{is_in_range}

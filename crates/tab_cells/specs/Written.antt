@@ -1,4 +1,4 @@
--- The records of an accepted mutation: each update with its timestamp settled, the mutation's number and its place there.
+-- To be believed. The records of an accepted mutation: each update with its timestamp settled, the mutation's number and its place there.
 use Rattle.std.specs.Prelude.{ℕ, ℤ, List, [], ◌∷◌, unwrap_or, length, map, reverse}
 use Rattle.tab_mutation.specs.Mutations.{Update, Mutation}
 use Rattle.tab_key.specs.Records.{Record}

@@ -1,4 +1,4 @@
--- Merges: what one reads, and what it makes. (Accumulo user manual: minor and major compactions)
+-- To be believed by whoever relies on it. Merges: what one reads, and what it makes. (Accumulo user manual: minor and major compactions)
 use Rattle.std.specs.Prelude.{ℕ, ℤ, List, [], ◌∷◌, Bool, false, ◌&&◌, ◌==◌, nat_lt, cond, Option, Some, None, map, take}
 use Rattle.std.specs.Ordering.{int_eq}
 use Rattle.tab_key.specs.Records.{Record}

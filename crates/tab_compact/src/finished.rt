@@ -1,23 +1,23 @@
 //! A merge that is made.
 ghost use Rattle.std.specs.Prelude.{◌≡◌};
-ghost use Rattle.tab_table.specs.Tables.{records};
+ghost use Rattle.tab_table.specs.SortedTables.{records};
 ghost use Rattle.tab_compact.specs.Merges.{output};
 
 use crate::Job;
 use std::marker::Model;
 use std::sync::Arc;
-use tab_table::Table;
+use tab_table::SortedTable;
 
 /// A job with the table that its merge made. Only [`Job::merge`] and [`merge_many`](crate::merge_many) make one. A contract sees the job's `Merge`.
 #[derive(Drop)]
 pub struct Finished {
     job: Job,
-    table: Arc<Table>,
+    table: Arc<SortedTable>,
 }
 
 impl Model for Finished {
     ghost use Rattle.std.specs.Prelude.{◌≡◌};
-    ghost use Rattle.tab_table.specs.Tables.{records};
+    ghost use Rattle.tab_table.specs.SortedTables.{records};
     ghost use Rattle.tab_compact.specs.Merges.{Merge, output};
 
     ghost Value = { Merge };
@@ -29,7 +29,7 @@ impl Model for Finished {
 
 impl Finished {
     // The job with its table.
-    pub(crate) fn new(job: Job, table: Arc<Table>) -> Finished
+    pub(crate) fn new(job: Job, table: Arc<SortedTable>) -> Finished
         requires { records table.value ≡ output job }
         ensures { result ≡ job }
     {
@@ -44,14 +44,14 @@ impl Finished {
     }
 
     /// The table that the merge made.
-    pub fn table(&self) -> &Arc<Table>
+    pub fn table(&self) -> &Arc<SortedTable>
         ensures { records result.now.value ≡ output self.now }
     {
         &self.table
     }
 
     /// The same table, taken out. The job and its share of the sources are dropped.
-    pub fn into_table(self) -> Arc<Table>
+    pub fn into_table(self) -> Arc<SortedTable>
         ensures { records result.value ≡ output self }
     {
         let Finished { table, .. } = self;

@@ -1,7 +1,7 @@
 //! A merge that is to be made.
 ghost use Rattle.std.specs.Prelude.{◌≡◌, Some, IfOk, IfErr};
 ghost use Rattle.tab_key.specs.Sorted.{IsDistinct};
-ghost use Rattle.tab_table.specs.Tables.{records};
+ghost use Rattle.tab_table.specs.SortedTables.{records};
 ghost use Rattle.tab_version.specs.Sources.{records_of};
 ghost use Rattle.tab_compact.specs.Merges.{output, is_under_way};
 
@@ -11,7 +11,7 @@ use std::marker::Model;
 use std::sync::Arc;
 use tab_cells::Compaction;
 use tab_iter::{NoMemory, merged_of};
-use tab_table::Table;
+use tab_table::SortedTable;
 use tab_version::Clips;
 
 /// A merge of some sources of a tablet that isn't made yet. A contract sees it as a `Merge`.
@@ -148,7 +148,7 @@ impl Job {
     }
 
     // The table that the merge makes.
-    pub(crate) fn table(&self, alloc: Global) -> Result<Arc<Table>, NoMemory>
+    pub(crate) fn table(&self, alloc: Global) -> Result<Arc<SortedTable>, NoMemory>
         ensures { IfOk result (λ t. records t.value ≡ output self.now) }
     {
         let sources = self.inputs.cursors(alloc)?;

@@ -7,18 +7,18 @@ use std::alloc::Global;
 use std::marker::Model;
 use std::sync::Arc;
 use tab_iter::NoMemory;
-use tab_table::Table;
+use tab_table::SortedTable;
 
 /// The table that a merge made, apart from its job. A contract sees its records.
 #[derive(Drop)]
 pub struct MadeTable {
-    table: Arc<Table>,
+    table: Arc<SortedTable>,
 }
 
 impl Model for MadeTable {
     ghost use Rattle.std.specs.Prelude.{List};
     ghost use Rattle.tab_key.specs.Records.{Record as Fields};
-    ghost use Rattle.tab_table.specs.Tables.{records};
+    ghost use Rattle.tab_table.specs.SortedTables.{records};
 
     ghost Value = { List Fields };
 

@@ -19,12 +19,12 @@ use Rattle.tab_history.specs.Readings.{has_user, has_system_right, has_table_rig
 use Rattle.tab_history.specs.Checks.{standing, exists_in, user_named, own_checks, action_of, denial, refusal_of}
 use Rattle.tab_history.specs.Answers.{told, are_used_up, numbered, granted, event_answer}
 use Rattle.tab_store.specs.Parts.{TabletMerge}
-use Rattle.tab_store.specs.Stores.{Held, base_of}
+use Rattle.tab_store.specs.Stores.{CoreContents, base_of}
 use Rattle.tab_core.specs.Stepping.{Acts, own_answer, IsAdmitted, IsCore}
 use Rattle.tab_core.proofs.Acting.{given_refused}
 
 -- ---- what the policy decides
-standing_same : (h : Held) → IsCore h → (user : List ℕ) → standing_of h.policy user ≡ (standing (base_of h) [] user).policy
+standing_same : (h : CoreContents) → IsCore h → (user : List ℕ) → standing_of h.policy user ≡ (standing (base_of h) [] user).policy
 unfolding standing has_user has_system_right has_table_right
 standing_same h core user = λ i. record {
   known = user_exists h.policy user;
@@ -33,7 +33,7 @@ standing_same h core user = λ i. record {
   exists = λ t. core.knows t i;
 }
 
-decided : (h : Held) → IsCore h → (user : List ℕ) (act : Act) → denial user (decision (standing_of h.policy user) (action_of act)) ≡ denial user (decision (standing (base_of h) [] user).policy (action_of act))
+decided : (h : CoreContents) → IsCore h → (user : List ℕ) (act : Act) → denial user (decision (standing_of h.policy user) (action_of act)) ≡ denial user (decision (standing (base_of h) [] user).policy (action_of act))
 decided h core user act = ap (λ s. denial user (decision s (action_of act))) (standing_same h core user)
 
 answer_is : (b : Base) (now : ℤ) (user : List ℕ) (act : Act) (d : Option Refusal) → denial user (decision (standing b [] user).policy (action_of act)) ≡ d
@@ -42,15 +42,15 @@ unfolding refusal_of
 answer_is b now user act d e = ap (λ o. told (or_else o (first_some (own_checks (standing b [] user) (exists_in b [] (user_named act)) now act))) (numbered (are_used_up b [] act) (granted (standing b [] user) act))) e
 
 -- an act that it denies
-pub denied : (h : Held) (now : ℤ) (given : Option TabletMerge) (user : List ℕ) (act : Act) (r : Refusal) → IsCore h → denial user (decision (standing_of h.policy user) (action_of act)) ≡ Some r → Acts (event_answer (base_of h) [] now user act) h now given user act (Refused r) h
+pub denied : (h : CoreContents) (now : ℤ) (given : Option TabletMerge) (user : List ℕ) (act : Act) (r : Refusal) → IsCore h → denial user (decision (standing_of h.policy user) (action_of act)) ≡ Some r → Acts (event_answer (base_of h) [] now user act) h now given user act (Refused r) h
 denied h now given user act r core e = given_refused (event_answer (base_of h) [] now user act) h now given user act r core (inl (sym (answer_is (base_of h) now user act (Some r) (sym (decided h core user act) ∙ e))))
 
 -- what it was asked it doesn't deny
-undenied : (h : Held) (user : List ℕ) (act : Act) (asked : Action) → asked ≡ action_of act → None ≡ decision (standing_of h.policy user) asked → denial user (decision (standing_of h.policy user) (action_of act)) ≡ None
+undenied : (h : CoreContents) (user : List ℕ) (act : Act) (asked : Action) → asked ≡ action_of act → None ≡ decision (standing_of h.policy user) asked → denial user (decision (standing_of h.policy user) (action_of act)) ≡ None
 undenied h user act asked is e = sym (ap (denial user) (e ∙ ap (decision (standing_of h.policy user)) is))
 
 -- an act that it admits, told by another name and at a clock that is told so
-pub admitted : (old new : Held) (now t : ℤ) (given : Option TabletMerge) (user : List ℕ) (act named : Act) (asked : Action) (reply : Reply OpenSession TabletMerge) → IsCore old → asked ≡ action_of act → None ≡ decision (standing_of old.policy user) asked → act ≡ named → t ≡ now
+pub admitted : (old new : CoreContents) (now t : ℤ) (given : Option TabletMerge) (user : List ℕ) (act named : Act) (asked : Action) (reply : Reply OpenSession TabletMerge) → IsCore old → asked ≡ action_of act → None ≡ decision (standing_of old.policy user) asked → act ≡ named → t ≡ now
     → Acts (own_answer (base_of old) t user named) old t given user named reply new → Acts (event_answer (base_of old) [] now user act) old now given user act reply new
 admitted old new now t given user act named asked reply core asks e is trip acts =
     subst (λ a. Acts a old now given user act reply new) (sym (answer_is (base_of old) now user act None (sym (decided old core user act) ∙ undenied old user act asked asks e)))
@@ -78,7 +78,7 @@ admitted_parts s a e = go s.known refl e
     go true is e = (is, judged_there s (table_named a) (permission_missing s (needs a)) e)
     go false is e = absurd (cc)
 
-pub is_admitted : (h : Held) (user : List ℕ) (act named : Act) (asked : Action) → IsCore h → asked ≡ action_of act → None ≡ decision (standing_of h.policy user) asked → act ≡ named → IsAdmitted (base_of h) user named
+pub is_admitted : (h : CoreContents) (user : List ℕ) (act named : Act) (asked : Action) → IsCore h → asked ≡ action_of act → None ≡ decision (standing_of h.policy user) asked → act ≡ named → IsAdmitted (base_of h) user named
 unfolding standing
 is_admitted h user act named asked core asks e is =
     subst (λ (a : Act). IsAdmitted (base_of h) user a) is

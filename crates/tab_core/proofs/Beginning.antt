@@ -19,7 +19,7 @@ use Rattle.tab_history.specs.Answers.{Told, told_of, job_of}
 use Rattle.tab_history.specs.Changes.{changes_of}
 use Rattle.tab_history.specs.Readings.{settings_of}
 use Rattle.std.specs.Option.{option_map}
-use Rattle.tab_store.specs.Stores.{HeldTable, Held, RiseByName, base_of, table_in, tablets_found}
+use Rattle.tab_store.specs.Stores.{TableContents, CoreContents, RiseByName, base_of, table_in, tablets_found}
 use Rattle.tab_store.specs.Stepping.{Beginning, Installing, On, lays, place_of, begun_by, told_job, told_install, laid_exactly, laid_told, job_by, handed, tablet_told, job_told}
 use Rattle.tab_store.specs.Tables.{TableState, with_tablets, table_at, changed_table, tablets_of, begun_in, state_of}
 use Rattle.tab_store.proofs.Changed.{tablets_read, settings_kept, begun_read, table_begun, table_installed, table_uninstalled}
@@ -32,14 +32,14 @@ abbrev pub begun_at_table : List ℕ → Compaction → ℤ → ℕ → TableSta
 begun_at_table row kind now number s = with_tablets (begins_at row number kind (floor_of s.settings.time now s.settings.horizon) s.settings.versions) s
 
 -- what a Begin leaves of these tables, and the merge that began
-pub record BeganSo (t row : List ℕ) (kind : Compaction) (now : ℤ) (number : ℕ) (ts new : List HeldTable) (job : Option TabletMerge) : Type 0 where
+pub record BeganSo (t row : List ℕ) (kind : Compaction) (now : ℤ) (number : ℕ) (ts new : List TableContents) (job : Option TabletMerge) : Type 0 where
   pub names : RiseByName new
   pub count : length new ≡ length ts
   pub began : job ≡ begun_in row number kind now (table_at ts t)
   pub changed : (q : List ℕ) → table_at new q ≡ changed_table t (begun_at_table row kind now number) ts q
 
 -- what a call that begins a merge ensures
-pub began_so : {E : Type 0} (t row : List ℕ) (kind : Compaction) (now : ℤ) (number : ℕ) (ts new : List HeldTable) (made : Result (Option TabletMerge) E) → RiseByName new → length new ≡ length ts → IfOk made (λ j. j ≡ begun_in row number kind now (table_at ts t))
+pub began_so : {E : Type 0} (t row : List ℕ) (kind : Compaction) (now : ℤ) (number : ℕ) (ts new : List TableContents) (made : Result (Option TabletMerge) E) → RiseByName new → length new ≡ length ts → IfOk made (λ j. j ≡ begun_in row number kind now (table_at ts t))
     → OnOk made ((q : List ℕ) → table_at new q ≡ changed_table t (begun_at_table row kind now number) ts q) → IfOk made (BeganSo t row kind now number ts new)
 began_so t row kind now number ts new (Ok job) names count began changed = record { names = names; count = count; began = began; changed = changed }
 began_so t row kind now number ts new (Err e) names count began changed = tt
@@ -56,7 +56,7 @@ none_changed now user a None none = none
 none_changed now user a (Some m) none = none
 
 -- memory didn't lack
-laid_so : (h : Held) (now : ℤ) (a : Act) (j : Option TabletMerge) (q : List ℕ) → laid_exactly h now None a Done q ≡ laid_told (told_job j) h now None a Done q
+laid_so : (h : CoreContents) (now : ℤ) (a : Act) (j : Option TabletMerge) (q : List ℕ) → laid_exactly h now None a Done q ≡ laid_told (told_job j) h now None a Done q
 laid_so h now a None q = refl
 laid_so h now a (Some m) q = refl
 
@@ -70,16 +70,16 @@ same_tablets : (j : Option TabletMerge) (t row : List ℕ) (kind : Compaction) (
 same_tablets None t row kind n = refl
 same_tablets (Some m) t row kind n = refl
 
-module _ (h : Held) (now : ℤ) (user t row : List ℕ) (kind : Compaction) (core : IsCore h) where
+module _ (h : CoreContents) (now : ℤ) (user t row : List ℕ) (kind : Compaction) (core : IsCore h) where
   -- the act, and what is told of it if memory doesn't lack
   abbrev asks : Act
   asks = act.Begin t row kind
 
-  begin_done : (ts : List HeldTable) (n : ℕ) (job : Option TabletMerge) (reply : Reply OpenSession TabletMerge) → BeganSo t row kind now h.job h.tables ts job → told_of reply ≡ told_job job → job_of reply ≡ job → n ≡ job_told (told_of reply) h.job
+  begin_done : (ts : List TableContents) (n : ℕ) (job : Option TabletMerge) (reply : Reply OpenSession TabletMerge) → BeganSo t row kind now h.job h.tables ts job → told_of reply ≡ told_job job → job_of reply ≡ job → n ≡ job_told (told_of reply) h.job
       → Acts (own_answer (base_of h) now user asks) h now None user asks reply (record h { tables = ts; job = n })
   unfolding lays
   begin_done ts n job reply after told is numbered =
-      let new : Held = record h { tables = ts; job = n } in
+      let new : CoreContents = record h { tables = ts; job = n } in
       let settings : (q : List ℕ) → settings_of (base_of new) [] q ≡ settings_of (base_of h) [] q = settings_kept h new t (begun_at_table row kind now h.job) (λ x. refl) after.changed in
       let none : changes_told now user asks (told_of reply) ≡ [] = ap (changes_told now user asks) told ∙ none_changed now user asks job refl in
       let began : job ≡ job_by h now (On t (Beginning row kind)) = after.began ∙ begun_read h now t Done row kind in
@@ -98,24 +98,24 @@ module _ (h : Held) (now : ℤ) (user t row : List ℕ) (kind : Compaction) (cor
       }
 
   -- whether there was memory for it or not
-  pub begins_or_lacks : {E : Type 0} (ts : List HeldTable) (n : ℕ) (made : Result (Option TabletMerge) E) (reply : Reply OpenSession TabletMerge) → IfOk made (BeganSo t row kind now h.job h.tables ts) → OnErr made (ts ≡ h.tables) → IfOk made (λ j. told_of reply ≡ told_job j)
+  pub begins_or_lacks : {E : Type 0} (ts : List TableContents) (n : ℕ) (made : Result (Option TabletMerge) E) (reply : Reply OpenSession TabletMerge) → IfOk made (BeganSo t row kind now h.job h.tables ts) → OnErr made (ts ≡ h.tables) → IfOk made (λ j. told_of reply ≡ told_job j)
       → IfOk made (λ j. job_of reply ≡ j) → OnErr made (reply ≡ Refused NoMemory) → n ≡ job_told (told_of reply) h.job → Acts (own_answer (base_of h) now user asks) h now None user asks reply (record h { tables = ts; job = n })
   begins_or_lacks ts n (Ok job) reply after same told is err numbered = begin_done ts n job reply after told is numbered
   begins_or_lacks ts n (Err e) reply after same told is err numbered =
       let kept : n ≡ h.job = numbered ∙ ap (λ r. job_told (told_of r) h.job) err in
       subst (λ r. Acts (own_answer (base_of h) now user asks) h now None user asks r (record h { tables = ts; job = n })) (sym err)
-      (subst (λ (new : Held). Acts (own_answer (base_of h) now user asks) h now None user asks (Refused NoMemory) new) (λ i. record h { tables = sym same i; job = sym kept i }) (lacked (own_answer (base_of h) now user asks) h now user asks refl core))
+      (subst (λ (new : CoreContents). Acts (own_answer (base_of h) now user asks) h now None user asks (Refused NoMemory) new) (λ i. record h { tables = sym same i; job = sym kept i }) (lacked (own_answer (base_of h) now user asks) h now user asks refl core))
 
 -- ---- a merge that is installed
 -- what an Install leaves of these tables, and how it ended
-pub record InstalledSo (t : List ℕ) (m : TabletMerge) (ts new : List HeldTable) (ended : Installed) : Type 0 where
+pub record InstalledSo (t : List ℕ) (m : TabletMerge) (ts new : List TableContents) (ended : Installed) : Type 0 where
   pub names : RiseByName new
   pub count : length new ≡ length ts
   pub told_so : ended ≡ (installs_in m (tablets_of (table_at ts t))).0
   pub changed : (q : List ℕ) → table_at new q ≡ changed_table t (with_tablets (λ us. (installs_in m us).1)) ts q
 
 -- what a call that installs ensures
-pub installed_so : {E : Type 0} (t : List ℕ) (m : TabletMerge) (ts new : List HeldTable) (made : Result Installed E) → RiseByName new → length new ≡ length ts → IfOk made (λ s. s ≡ (installs_in m (tablets_of (table_at ts t))).0)
+pub installed_so : {E : Type 0} (t : List ℕ) (m : TabletMerge) (ts new : List TableContents) (made : Result Installed E) → RiseByName new → length new ≡ length ts → IfOk made (λ s. s ≡ (installs_in m (tablets_of (table_at ts t))).0)
     → OnOk made ((q : List ℕ) → table_at new q ≡ changed_table t (with_tablets (λ us. (installs_in m us).1)) ts q) → IfOk made (InstalledSo t m ts new)
 installed_so t m ts new (Ok s) names count told changed = record { names = names; count = count; told_so = told; changed = changed }
 installed_so t m ts new (Err e) names count told changed = tt
@@ -130,7 +130,7 @@ none_read : (now : ℤ) (user : List ℕ) (a : Act) (s : Installed) → changes_
 none_read now user a installed.Done none = none
 none_read now user a (installed.Stale n) none = refl
 
-laid_as : (h : Held) (now : ℤ) (given : Option TabletMerge) (a : Act) (s : Installed) (q : List ℕ) → laid_exactly h now given a Done q ≡ laid_told (told_install Done s) h now given a Done q
+laid_as : (h : CoreContents) (now : ℤ) (given : Option TabletMerge) (a : Act) (s : Installed) (q : List ℕ) → laid_exactly h now given a Done q ≡ laid_told (told_install Done s) h now given a Done q
 laid_as h now given a installed.Done q = refl
 laid_as h now given a (installed.Stale n) q = refl
 
@@ -146,16 +146,16 @@ same_jobs : (s : Installed) (n : ℕ) → n ≡ job_told (told_install Done s) n
 same_jobs installed.Done n = refl
 same_jobs (installed.Stale k) n = refl
 
-module _ (h : Held) (now : ℤ) (user t : List ℕ) (m : TabletMerge) (core : IsCore h) where
+module _ (h : CoreContents) (now : ℤ) (user t : List ℕ) (m : TabletMerge) (core : IsCore h) where
   -- the act, with which the merge came
   abbrev installing : Act
   installing = act.Install t (ByHand m.merge.number)
 
-  install_done : (ts : List HeldTable) (s : Installed) (reply : Reply OpenSession TabletMerge) → InstalledSo t m h.tables ts s → told_of reply ≡ told_install Done s → job_of reply ≡ None
+  install_done : (ts : List TableContents) (s : Installed) (reply : Reply OpenSession TabletMerge) → InstalledSo t m h.tables ts s → told_of reply ≡ told_install Done s → job_of reply ≡ None
       → Acts (own_answer (base_of h) now user installing) h now (Some m) user installing reply (record h { tables = ts })
   unfolding lays
   install_done ts s reply after told is =
-      let new : Held = record h { tables = ts } in
+      let new : CoreContents = record h { tables = ts } in
       let settings : (q : List ℕ) → settings_of (base_of new) [] q ≡ settings_of (base_of h) [] q = settings_kept h new t (with_tablets (λ us. (installs_in m us).1)) (λ x. refl) after.changed in
       let none : changes_told now user installing (told_of reply) ≡ [] = ap (changes_told now user installing) told ∙ none_read now user installing s refl in
       record {
@@ -173,16 +173,16 @@ module _ (h : Held) (now : ℤ) (user t : List ℕ) (m : TabletMerge) (core : Is
       }
 
   -- whether there was memory for it or not
-  pub installs_or_lacks : {E : Type 0} (ts : List HeldTable) (made : Result Installed E) (reply : Reply OpenSession TabletMerge) → IfOk made (InstalledSo t m h.tables ts) → OnErr made (ts ≡ h.tables) → IfOk made (λ s. told_of reply ≡ told_install Done s)
+  pub installs_or_lacks : {E : Type 0} (ts : List TableContents) (made : Result Installed E) (reply : Reply OpenSession TabletMerge) → IfOk made (InstalledSo t m h.tables ts) → OnErr made (ts ≡ h.tables) → IfOk made (λ s. told_of reply ≡ told_install Done s)
       → job_of reply ≡ None → OnErr made (reply ≡ Refused NoMemory) → Acts (own_answer (base_of h) now user installing) h now (Some m) user installing reply (record h { tables = ts })
   installs_or_lacks ts (Ok s) reply after same told is err = install_done ts s reply after told is
   installs_or_lacks ts (Err e) reply after same told is err =
       subst (λ r. Acts (own_answer (base_of h) now user installing) h now (Some m) user installing r (record h { tables = ts })) (sym err)
-      (subst (λ (us : List HeldTable). Acts (own_answer (base_of h) now user installing) h now (Some m) user installing (Refused NoMemory) (record h { tables = us })) (sym same)
+      (subst (λ (us : List TableContents). Acts (own_answer (base_of h) now user installing) h now (Some m) user installing (Refused NoMemory) (record h { tables = us })) (sym same)
       (given_lacked (own_answer (base_of h) now user installing) h now (Some m) user installing refl core))
 
 -- ---- one that came without its merge
-pub none_installed : (h : Held) (now : ℤ) (user t : List ℕ) (by : Given) → IsCore h → Acts (own_answer (base_of h) now user (act.Install t by)) h now None user (act.Install t by) (Refused (Stale 0)) h
+pub none_installed : (h : CoreContents) (now : ℤ) (user t : List ℕ) (by : Given) → IsCore h → Acts (own_answer (base_of h) now user (act.Install t by)) h now None user (act.Install t by) (Refused (Stale 0)) h
 unfolding lays
 none_installed h now user t by core = record {
   exact = record {

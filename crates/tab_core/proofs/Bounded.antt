@@ -5,7 +5,7 @@ use Rattle.std.specs.Int.{int_max}
 use Rattle.std.proofs.lemmas.Bool.Decides.{nat_tests}
 use Rattle.std.proofs.lemmas.Slice.Eq.{bytes_eq-Decides}
 use mathlib.Core.Bool.{true≢false}
-use Rattle.tab_key.specs.declared.part.Part.TheVariants.{Authorizations}
+use Rattle.tab_key.specs.declared.limited_part.LimitedPart.TheVariants.{Authorizations}
 use Rattle.tab_mutation.specs.Shape.{first_some, when}
 use Rattle.tab_mutation.proofs.Shapes.{none_left, none_right, unmet}
 use Rattle.tab_policy.specs.declared.permission.Permission.TheVariants.{OfSystem, OfTable}
@@ -34,7 +34,7 @@ use Rattle.tab_history.proofs.Accepted.{own_pass}
 use Rattle.tab_history.proofs.NewCore.{new_core_refines}
 use Rattle.tab_history.proofs.RootStays.{root_stays}
 use Rattle.tab_store.specs.Parts.{TabletMerge}
-use Rattle.tab_store.specs.Stores.{HeldTable, Held, base_table_of, base_of, IsNewStore}
+use Rattle.tab_store.specs.Stores.{TableContents, CoreContents, base_table_of, base_of, IsNewStore}
 use Rattle.tab_store.specs.Stepping.{now_at, entry_of}
 use Rattle.tab_store.specs.Rightness.{IsStore, LeavesExactly}
 use Rattle.tab_store.proofs.Changed.{count_read}
@@ -150,7 +150,7 @@ holds : (v : Bool) → not v ≡ false → v ≡ true
 holds true e = refl
 holds false e = sym e
 
-module _ (old : Held) (user : List ℕ) (moment : ℤ) (h : IsBounded old) where
+module _ (old : CoreContents) (user : List ℕ) (moment : ℤ) (h : IsBounded old) where
   abbrev b : Base
   b = base_of old
 
@@ -216,7 +216,7 @@ rooted_alike : (v w : World) → ReadsAlike v w → IsRooted w.base w.changes �
 rooted_alike v w alike h = record { known = alike.known root ∙ h.known; alone = λ n. ap (λ r. bytes_eq n root || r) (alike.system n system.Grant) ∙ h.alone n }
 
 -- ---- a step
-pub limits_stay : (old new : Held) (given job : Option TabletMerge) (event : Event) (r : Told) → IsStore old → NamesNoSlot event.act → WritesBare event.act → IsBounded old → LeavesExactly old given event r job new → GoesRight (base_of old) (entry_of event r) (base_of new) → IsBounded new
+pub limits_stay : (old new : CoreContents) (given job : Option TabletMerge) (event : Event) (r : Told) → IsStore old → NamesNoSlot event.act → WritesBare event.act → IsBounded old → LeavesExactly old given event r job new → GoesRight (base_of old) (entry_of event r) (base_of new) → IsBounded new
 unfolding held_auths user_count table_count has_system_right journal clock_of
 limits_stay old new given job event r store named bare h leaves right =
     let keep : KeepTo (base_of old) (changes_by (now_at old event) (IsEvent event) r ++ []) =
@@ -238,11 +238,11 @@ no_settings : (ts : List BaseTable) (q : List ℕ) (s : Settings) → ts ≡ [] 
 no_settings [] q s none e = absurd (cc)
 no_settings (t ∷ ts) q s none e = absurd (cc)
 
-no_table : (ts : List HeldTable) (q : List ℕ) (t : HeldTable) → map base_table_of ts ≡ [] → find (λ (x : HeldTable). bytes_eq x.name q) ts ≡ Some t → ⊥
+no_table : (ts : List TableContents) (q : List ℕ) (t : TableContents) → map base_table_of ts ≡ [] → find (λ (x : TableContents). bytes_eq x.name q) ts ≡ Some t → ⊥
 no_table [] q t none e = cc
 no_table (x ∷ xs) q t none e = cc
 
-pub new_is_bounded : (h : Held) → IsNewStore h → IsBounded h
+pub new_is_bounded : (h : CoreContents) → IsNewStore h → IsBounded h
 unfolding table_count settings_of
 new_is_bounded h new = record {
   auths = λ n. ap too_many_auths (new.base.auths n);

@@ -8,7 +8,7 @@ use Rattle.tab_history.specs.Readings.{settings_of, next_number, updates_of}
 use Rattle.tab_history.specs.Histories.{World, world_of}
 use Rattle.tab_history.specs.Refinement.{Refines}
 use Rattle.tab_store.specs.Tablets.{Tablet}
-use Rattle.tab_store.specs.Stores.{HeldTable, Held, base_of, table_in, tablets_found, tablets_in}
+use Rattle.tab_store.specs.Stores.{TableContents, CoreContents, base_of, table_in, tablets_found, tablets_in}
 use Rattle.tab_store.specs.Keeping.{settings_in, TabletsRefine, AreSound}
 use Rattle.tab_store.proofs.EachTablet.{each_tablet_refines}
 use Rattle.tab_store.proofs.Reading.{bases_read}
@@ -27,11 +27,11 @@ sound_alike ts others next more a b clock now tablets number settings time sound
     (subst (λ (z : Settings). AreSound ts next z.versions (floor_of z.time now z.horizon)) settings
     (subst (λ (c : ℤ). AreSound ts next a.versions (floor_of a.time c a.horizon)) time sound)))
 
-pub tablets_refine_worlds : (h : Held) → IsCore h → TabletsRefineWorlds h
+pub tablets_refine_worlds : (h : CoreContents) → IsCore h → TabletsRefineWorlds h
 unfolding next_number
 tablets_refine_worlds h core w refines t s there = go (table_in h t) refl (sym (bases_read h t).0 ∙ refines.reads.settings t ∙ there)
   where
-    go : (o : Option HeldTable) → table_in h t ≡ o → settings_in o ≡ Some s
+    go : (o : Option TableContents) → table_in h t ≡ o → settings_in o ≡ Some s
         → TabletsRefine (tablets_in h t) (updates_of w.base w.changes t) (next_number w.base w.changes) s.versions (floor_of s.time w.clock s.horizon)
     go None found same = absurd (none-some s same)
     go (Some x) found same = each_tablet_refines (tablets_in h t) (updates_of w.base w.changes t) (next_number w.base w.changes) s.versions (floor_of s.time w.clock s.horizon)

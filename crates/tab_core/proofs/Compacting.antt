@@ -14,7 +14,7 @@ use Rattle.tab_history.specs.Changes.{changes_of}
 use Rattle.tab_history.specs.Readings.{settings_of}
 use Rattle.tab_history.specs.Legal.{takes_memory}
 use Rattle.tab_store.specs.Parts.{TabletMerge}
-use Rattle.tab_store.specs.Stores.{HeldTable, Held, RiseByName, base_of, counts_of}
+use Rattle.tab_store.specs.Stores.{TableContents, CoreContents, RiseByName, base_of, counts_of}
 use Rattle.tab_store.specs.Stepping.{Compacting, On, work_of, lays}
 use Rattle.tab_store.specs.Tables.{TableState, with_tablets, table_at, changed_table, tablets_of}
 use Rattle.tab_store.proofs.Changed.{tablets_read, settings_kept, table_compacted, table_counted}
@@ -27,17 +27,17 @@ abbrev pub compacted_at : Compaction → ℤ → TableState → TableState
 compacted_at kind now s = with_tablets (map (compacted kind (floor_of s.settings.time now s.settings.horizon) s.settings.versions)) s
 
 -- what a compaction leaves of these tables
-pub record Compacted (t : List ℕ) (kind : Compaction) (now : ℤ) (ts new : List HeldTable) : Type 0 where
+pub record Compacted (t : List ℕ) (kind : Compaction) (now : ℤ) (ts new : List TableContents) : Type 0 where
   pub names : RiseByName new
   pub count : length new ≡ length ts
   pub changed : (q : List ℕ) → table_at new q ≡ changed_table t (compacted_at kind now) ts q
 
 -- an act that compacts and changes nothing that histories read
-compaction_done : (h : Held) (ts : List HeldTable) (now : ℤ) (user t : List ℕ) (a : Act) (kind : Compaction) → IsCore h → work_of None a ≡ On t (Compacting kind) → Done ≡ own_answer (base_of h) now user a → changes_of now user a ≡ [] → Compacted t kind now h.tables ts
+compaction_done : (h : CoreContents) (ts : List TableContents) (now : ℤ) (user t : List ℕ) (a : Act) (kind : Compaction) → IsCore h → work_of None a ≡ On t (Compacting kind) → Done ≡ own_answer (base_of h) now user a → changes_of now user a ≡ [] → Compacted t kind now h.tables ts
     → Acts (own_answer (base_of h) now user a) h now None user a Done (record h { tables = ts })
 unfolding lays
 compaction_done h ts now user t a kind core is passes none after =
-    let new : Held = record h { tables = ts } in
+    let new : CoreContents = record h { tables = ts } in
     let settings : (q : List ℕ) → settings_of (base_of new) [] q ≡ settings_of (base_of h) [] q = settings_kept h new t (compacted_at kind now) (λ s. refl) after.changed in
     record {
       exact = done_exactly h new now a (own_answer (base_of h) now user a) (On t (Compacting kind)) is passes refl (table_compacted h new t now Done kind after.changed) after.names refl refl;
@@ -47,17 +47,17 @@ compaction_done h ts now user t a kind core is passes none after =
     }
 
 -- whether there was memory for it or not
-pub compacts : {T E : Type 0} (h : Held) (ts : List HeldTable) (now : ℤ) (user t : List ℕ) (a : Act) (kind : Compaction) (done : Result T E) (reply : Reply OpenSession TabletMerge) → IsCore h → takes_memory a ≡ true → work_of None a ≡ On t (Compacting kind) → Done ≡ own_answer (base_of h) now user a → changes_of now user a ≡ []
+pub compacts : {T E : Type 0} (h : CoreContents) (ts : List TableContents) (now : ℤ) (user t : List ℕ) (a : Act) (kind : Compaction) (done : Result T E) (reply : Reply OpenSession TabletMerge) → IsCore h → takes_memory a ≡ true → work_of None a ≡ On t (Compacting kind) → Done ≡ own_answer (base_of h) now user a → changes_of now user a ≡ []
     → OnOk done (Compacted t kind now h.tables ts) → OnErr done (ts ≡ h.tables) → OnOk done (reply ≡ Done) → OnErr done (reply ≡ Refused NoMemory)
     → Acts (own_answer (base_of h) now user a) h now None user a reply (record h { tables = ts })
 compacts h ts now user t a kind (Ok u) reply core takes is passes none after same ok err =
     subst (λ r. Acts (own_answer (base_of h) now user a) h now None user a r (record h { tables = ts })) (sym ok) (compaction_done h ts now user t a kind core is passes none after)
 compacts h ts now user t a kind (Err e) reply core takes is passes none after same ok err =
     subst (λ r. Acts (own_answer (base_of h) now user a) h now None user a r (record h { tables = ts })) (sym err)
-    (subst (λ (us : List HeldTable). Acts (own_answer (base_of h) now user a) h now None user a (Refused NoMemory) (record h { tables = us })) (sym same) (lacked (own_answer (base_of h) now user a) h now user a takes core))
+    (subst (λ (us : List TableContents). Acts (own_answer (base_of h) now user a) h now None user a (Refused NoMemory) (record h { tables = us })) (sym same) (lacked (own_answer (base_of h) now user a) h now user a takes core))
 
 -- ---- counts
-pub counted : (h : Held) (now : ℤ) (user t : List ℕ) (reply : Reply OpenSession TabletMerge) → IsCore h → reply ≡ Counted (counts_of (tablets_of (table_at h.tables t))) → Acts (own_answer (base_of h) now user (act.Status t)) h now None user (act.Status t) reply h
+pub counted : (h : CoreContents) (now : ℤ) (user t : List ℕ) (reply : Reply OpenSession TabletMerge) → IsCore h → reply ≡ Counted (counts_of (tablets_of (table_at h.tables t))) → Acts (own_answer (base_of h) now user (act.Status t)) h now None user (act.Status t) reply h
 unfolding lays
 counted h now user t reply core is = subst (λ r. Acts (own_answer (base_of h) now user (act.Status t)) h now None user (act.Status t) r h) (sym is) (record {
   exact = record {

@@ -3,7 +3,7 @@ use Rattle.std.proofs.Common.{◌≡◌, ◌⊎◌, inl, inr, ℕ, ℤ, Bool, tr
 use Rattle.std.specs.Prelude.{not, nat_lt, int_lt, bytes_eq}
 use Rattle.std.specs.List.{AllByRecursion}
 use Rattle.std.proofs.lemmas.Slice.Eq.{bytes_eq-Decides}
-use Rattle.tab_key.specs.declared.part.Part.TheVariants.{Authorizations}
+use Rattle.tab_key.specs.declared.limited_part.LimitedPart.TheVariants.{Authorizations}
 use Rattle.std.specs.Int.{int_max}
 use Rattle.tab_mutation.specs.Shape.{or_else, first_some, when}
 use Rattle.tab_policy.specs.Roots.{root}
@@ -24,7 +24,7 @@ use Rattle.tab_history.specs.declared.reply.Refusal.TheVariants.{BadAuthorizatio
 use Rattle.tab_history.specs.declared.reply.Reply.{Reply}
 use Rattle.tab_history.specs.declared.reply.Reply.TheVariants.{Done, Refused, Begun}
 use Rattle.tab_store.specs.Parts.{TabletMerge}
-use Rattle.tab_store.specs.Stores.{Held, base_of, tablets_in}
+use Rattle.tab_store.specs.Stores.{CoreContents, base_of, tablets_in}
 use Rattle.tab_store.specs.InstalledType.{Installed}
 use Rattle.tab_store.specs.InstalledVariants as installed
 use Rattle.tab_store.specs.Stepping.{StepsExactly, TableWork, work_of, lays, told_split, told_job, told_install, told_exactly, laid_told, tablet_told, job_told}
@@ -91,7 +91,7 @@ refusal_takes c there now user a x is long = long_takes c there now user a x (ta
 
 -- ---- what an act is told that can be forgotten
 -- the act takes memory, left the tablets as they were, and changed nothing else; and it is whole
-record Forgets (old : Held) (now : ℤ) (user : List ℕ) (a : Act) (plain r : Told) : Type 0 where
+record Forgets (old : CoreContents) (now : ℤ) (user : List ℕ) (a : Act) (plain r : Told) : Type 0 where
   takes : takes_memory a ≡ true
   laid : (q : List ℕ) → laid_told r old now None a plain q ≡ tablets_in old q
   still : changes_told now user a r ≡ []
@@ -100,7 +100,7 @@ record Forgets (old : Held) (now : ℤ) (user : List ℕ) (a : Act) (plain r : T
 never : {G : Type 0} (r s : Told) → r ≡ s → is_long s ≡ false → is_long r ≡ true → G
 never r s is short long = absurd (cc (sym long ∙ ap is_long is ∙ short))
 
-forgets_refused : (old : Held) (now : ℤ) (user : List ℕ) (a : Act) (x : Refusal) → is_long_refusal x ≡ true → takes_memory a ≡ true → Forgets old now user a (Refused x) (Refused x)
+forgets_refused : (old : CoreContents) (now : ℤ) (user : List ℕ) (a : Act) (x : Refusal) → is_long_refusal x ≡ true → takes_memory a ≡ true → Forgets old now user a (Refused x) (Refused x)
 forgets_refused old now user a (BadAuthorizations term) long takes = record { takes = takes; laid = λ q. refl; still = refl; whole = refl }
 forgets_refused old now user a (ConstraintViolation found) long takes = record { takes = takes; laid = λ q. refl; still = refl; whole = refl }
 forgets_refused old now user a _ long takes = absurd (cc)
@@ -121,7 +121,7 @@ short_job : (o : Option TabletMerge) → is_long (told_job o) ≡ false
 short_job None = refl
 short_job (Some m) = refl
 
-forgets_done : (old : Held) (now : ℤ) (user : List ℕ) (a : Act) (c : Caller) (r : Told) → r ≡ told_exactly old now None a (granted c a) → is_long r ≡ true → Forgets old now user a (granted c a) r
+forgets_done : (old : CoreContents) (now : ℤ) (user : List ℕ) (a : Act) (c : Caller) (r : Told) → r ≡ told_exactly old now None a (granted c a) → is_long r ≡ true → Forgets old now user a (granted c a) r
 unfolding lays
 forgets_done old now user (act.Rights t) c r is long = subst (λ (x : Told). Forgets old now user (act.Rights t) (granted c (act.Rights t)) x) (sym is) (record { takes = refl; laid = λ q. refl; still = refl; whole = refl })
 forgets_done old now user (act.AddSplit t row) c r is long = never r _ is (short_split _) long
@@ -130,7 +130,7 @@ forgets_done old now user (act.Splits t) c r is long = subst (λ (x : Told). For
 forgets_done old now user (act.Begin t row kind) c r is long = never r _ is (short_job _) long
 forgets_done old now user act c r is long = never r _ is refl long
 
-forgets : (old : Held) (now : ℤ) (user : List ℕ) (a : Act) (c : Caller) (used : Bool) (r : Told) (o : Option Refusal) → ((x : Refusal) → o ≡ Some x → is_long_refusal x ≡ true → takes_memory a ≡ true)
+forgets : (old : CoreContents) (now : ℤ) (user : List ℕ) (a : Act) (c : Caller) (used : Bool) (r : Told) (o : Option Refusal) → ((x : Refusal) → o ≡ Some x → is_long_refusal x ≡ true → takes_memory a ≡ true)
     → r ≡ told_exactly old now None a (told o (numbered used (granted c a))) → is_long r ≡ true → Forgets old now user a (told o (numbered used (granted c a))) r
 forgets old now user a c used r (Some x) takes is long =
     let so : is_long_refusal x ≡ true = sym (ap is_long is) ∙ long in
@@ -148,7 +148,7 @@ long_jobs (Begun u) n long = absurd (cc)
 long_jobs _ n long = refl
 
 -- what an act that is told so has done
-forgets_told : (old new : Held) (now : ℤ) (user : List ℕ) (a : Act) (reply : Reply OpenSession TabletMerge) → is_long (told_of reply) ≡ true → Acts (event_answer (base_of old) [] now user a) old now None user a reply new
+forgets_told : (old new : CoreContents) (now : ℤ) (user : List ℕ) (a : Act) (reply : Reply OpenSession TabletMerge) → is_long (told_of reply) ≡ true → Acts (event_answer (base_of old) [] now user a) old now None user a reply new
     → Forgets old now user a (event_answer (base_of old) [] now user a) (told_of reply)
 forgets_told old new now user a reply long acts = go acts.exact.answers
   where
@@ -160,7 +160,7 @@ forgets_told old new now user a reply long acts = go acts.exact.answers
         forgets old now user a c (are_used_up (base_of old) [] a) (told_of reply) (refusal_of c there now user a) (refusal_takes c there now user a) is long
 
 -- it may as well have lacked memory
-pub forgotten : (old new : Held) (now : ℤ) (user : List ℕ) (a : Act) (reply : Reply OpenSession TabletMerge) → is_long (told_of reply) ≡ true → Acts (event_answer (base_of old) [] now user a) old now None user a reply new
+pub forgotten : (old new : CoreContents) (now : ℤ) (user : List ℕ) (a : Act) (reply : Reply OpenSession TabletMerge) → is_long (told_of reply) ≡ true → Acts (event_answer (base_of old) [] now user a) old now None user a reply new
     → Acts (event_answer (base_of old) [] now user a) old now None user a (Refused NoMemory) new
 forgotten old new now user a reply long acts =
     let f : Forgets old now user a (event_answer (base_of old) [] now user a) (told_of reply) = forgets_told old new now user a reply long acts in
@@ -179,7 +179,7 @@ forgotten old new now user a reply long acts =
     }
 
 -- and nothing was taken out of it
-pub forgotten_whole : (old new : Held) (now : ℤ) (user : List ℕ) (a : Act) (reply : Reply OpenSession TabletMerge) → is_long (told_of reply) ≡ true → Acts (event_answer (base_of old) [] now user a) old now None user a reply new → left_of a (told_of reply) ≡ a
+pub forgotten_whole : (old new : CoreContents) (now : ℤ) (user : List ℕ) (a : Act) (reply : Reply OpenSession TabletMerge) → is_long (told_of reply) ≡ true → Acts (event_answer (base_of old) [] now user a) old now None user a reply new → left_of a (told_of reply) ≡ a
 forgotten_whole old new now user a reply long acts = (forgets_told old new now user a reply long acts).whole
 
 -- ---- what an Install is told is short
@@ -196,12 +196,12 @@ installed_short : (s : Installed) → is_long (told_install Done s) ≡ false
 installed_short installed.Done = refl
 installed_short (installed.Stale n) = refl
 
-install_told_short : (old : Held) (now : ℤ) (m : TabletMerge) (user t : List ℕ) (n : ℕ) (c : Caller) (there : Bool) (r : Told) (o : Option Refusal) → ((x : Refusal) → o ≡ Some x → is_long_refusal x ≡ false) → r ≡ told_exactly old now (Some m) (act.Install t (ByHand n)) (told o (numbered false (granted c (act.Install t (ByHand n))))) → is_long r ≡ false
+install_told_short : (old : CoreContents) (now : ℤ) (m : TabletMerge) (user t : List ℕ) (n : ℕ) (c : Caller) (there : Bool) (r : Told) (o : Option Refusal) → ((x : Refusal) → o ≡ Some x → is_long_refusal x ≡ false) → r ≡ told_exactly old now (Some m) (act.Install t (ByHand n)) (told o (numbered false (granted c (act.Install t (ByHand n))))) → is_long r ≡ false
 unfolding lays
 install_told_short old now m user t n c there r None short is = ap is_long is ∙ installed_short _
 install_told_short old now m user t n c there r (Some x) short is = ap is_long is ∙ short x refl
 
-pub short_install : (old new : Held) (m : TabletMerge) (user : List ℕ) (moment : ℤ) (t : List ℕ) (reply : Reply OpenSession TabletMerge) → StepsExactly old (Some m) (installs_at user moment t m) (told_of reply) (job_of reply) new → is_long (told_of reply) ≡ false
+pub short_install : (old new : CoreContents) (m : TabletMerge) (user : List ℕ) (moment : ℤ) (t : List ℕ) (reply : Reply OpenSession TabletMerge) → StepsExactly old (Some m) (installs_at user moment t m) (told_of reply) (job_of reply) new → is_long (told_of reply) ≡ false
 unfolding refusal_of
 short_install old new m user moment t reply did = go did.exact.answers
   where

@@ -26,7 +26,7 @@ use Rattle.tab_history.proofs.GoesOnLemmas.{slots_are_aside}
 use Rattle.tab_history.proofs.Playing.{unmoved}
 use Rattle.tab_session.specs.OpenSession.{OpenSession}
 use Rattle.tab_store.specs.Parts.{TabletMerge}
-use Rattle.tab_store.specs.Stores.{Held, base_of}
+use Rattle.tab_store.specs.Stores.{CoreContents, base_of}
 use Rattle.tab_store.specs.Stepping.{StepsExactly, LaysExactly, now_at, plain_answer, entry_of, work_of, job_by, handed}
 use Rattle.tab_store.specs.Chains.{Running, given_in, act_by_hand, by_hand, number_of, EntryGoes}
 use Rattle.tab_store.proofs.Joining.{chain_join}
@@ -183,7 +183,7 @@ hold_freed ss ms k h = hold_changed ss ms k Free (λ x e. absurd (cc)) h
 
 -- ---- exact steps
 -- what is no event
-goes_nowhere : (core : Held) (ss ss' : List JobSlot) (step : Step) (r : Told) → IsNoEvent step r → ((ms : List TabletMerge) → HoldMerges ss ms → HoldMerges ss' ms) → GoesExactly core ss (record { step = step; reply = r } ∷ []) core ss'
+goes_nowhere : (core : CoreContents) (ss ss' : List JobSlot) (step : Step) (r : Told) → IsNoEvent step r → ((ms : List TabletMerge) → HoldMerges ss ms → HoldMerges ss' ms) → GoesExactly core ss (record { step = step; reply = r } ∷ []) core ss'
 goes_nowhere core ss ss' step r none keeps ms h = (ms, keeps ms h, (record { held = core; begun = ms }, refl, inr (none, refl)))
 
 -- an act that names no slot comes with no merge, and as it is
@@ -197,7 +197,7 @@ same_act ms (Install t (InSlot slot)) alone = absurd alone
 same_act ms (Install t (ByHand n)) alone = refl
 same_act ms _ alone = refl
 
-goes_alone : (old new : Held) (ss : List JobSlot) (event : Event) (r : Told) (o : Option TabletMerge) → NamesNoSlot event.act → StepsExactly old None event r o new → GoesExactly old ss (entry_of event r ∷ []) new (kept_job ss o)
+goes_alone : (old new : CoreContents) (ss : List JobSlot) (event : Event) (r : Told) (o : Option TabletMerge) → NamesNoSlot event.act → StepsExactly old None event r o new → GoesExactly old ss (entry_of event r ∷ []) new (kept_job ss o)
 goes_alone old new ss event r o alone exact ms h = (
   ms ++ option_to_list o,
   hold_job ss ms o h,
@@ -205,7 +205,7 @@ goes_alone old new ss event r o alone exact ms h = (
 )
 
 -- an Install by a slot, with the merge of its job
-goes_by_slot : (old new : Held) (ss : List JobSlot) (user : List ℕ) (moment : ℤ) (t : List ℕ) (slot : ℕ) (m : TabletMerge) (r : Told) → merge_in (slot_in ss slot) ≡ Some m → StepsExactly old (Some m) (installs_at user moment t m) r None new
+goes_by_slot : (old new : CoreContents) (ss : List JobSlot) (user : List ℕ) (moment : ℤ) (t : List ℕ) (slot : ℕ) (m : TabletMerge) (r : Told) → merge_in (slot_in ss slot) ≡ Some m → StepsExactly old (Some m) (installs_at user moment t m) r None new
     → GoesExactly old ss (entry_of (record { user = user; moment = moment; act = Install t (InSlot slot) }) r ∷ []) new (slice_set ss slot Free)
 goes_by_slot old new ss user moment t slot m r is exact ms h =
     let had : slice_get ms slot ≡ Some m = h.holds slot m is in (
@@ -220,11 +220,11 @@ handed_none (Begun u) = refl
 handed_none _ = refl
 
 -- only a Begin hands one out
-begins_none : (old : Held) (now : ℤ) (given : Option TabletMerge) (act : Act) → is_begin act ≡ false → job_by old now (work_of given act) ≡ None
+begins_none : (old : CoreContents) (now : ℤ) (given : Option TabletMerge) (act : Act) → is_begin act ≡ false → job_by old now (work_of given act) ≡ None
 begins_none old now given (Begin t row kind) e = absurd (cc)
 begins_none old now given _ e = refl
 
-pub no_job : (old new : Held) (given : Option TabletMerge) (event : Event) (r : Told) (o : Option TabletMerge) → is_begin event.act ≡ false → StepsExactly old given event r o new → o ≡ None
+pub no_job : (old new : CoreContents) (given : Option TabletMerge) (event : Event) (r : Told) (o : Option TabletMerge) → is_begin event.act ≡ false → StepsExactly old given event r o new → o ≡ None
 no_job old new given event r o e exact = exact.exact.hands ∙ ap (handed r) (begins_none old (now_at old event) given event.act e) ∙ handed_none r
 
 -- ---- what jobs an event leaves
@@ -266,7 +266,7 @@ begin_takes : (act : Act) → is_begin act ≡ true → takes_memory act ≡ tru
 begin_takes (Begin t row kind) e = refl
 begin_takes _ e = absurd (cc)
 
-lacks_longer : (old : Held) (ss : List JobSlot) (event : Event) → is_begin event.act ≡ true → (w : World) (h : List Entry) → Refines (world_of (base_of old)) (world_after w h) → JobsAre (jobs_of h) ss → Lengthened w h (IsEvent event) (Refused NoMemory) (base_of old) ss
+lacks_longer : (old : CoreContents) (ss : List JobSlot) (event : Event) → is_begin event.act ≡ true → (w : World) (h : List Entry) → Refines (world_of (base_of old)) (world_after w h) → JobsAre (jobs_of h) ss → Lengthened w h (IsEvent event) (Refused NoMemory) (base_of old) ss
 unfolding jobs_of
 lacks_longer old ss event begins w h refines are = record {
   answers = inr (begin_takes event.act begins, refl);
@@ -290,7 +290,7 @@ none_answer w h user moment t slot none =
     subst (λ (x : Told). IsEventReply (Install t (InSlot slot)) x (Refused (NoJob slot)))
     (sym (ap (λ b. slotted (cond b None (Some slot)) (event_answer w.base (journal w h) (clock_at (clock_of w h) (IsEvent (by_slot user moment t slot))) user (Install t (InSlot slot)))) none)) refl
 
-none_longer : (old : Held) (ss : List JobSlot) (user : List ℕ) (moment : ℤ) (t : List ℕ) (slot : ℕ) → finished_in (slot_in ss slot) ≡ None → (w : World) (h : List Entry) → Refines (world_of (base_of old)) (world_after w h) → JobsAre (jobs_of h) ss
+none_longer : (old : CoreContents) (ss : List JobSlot) (user : List ℕ) (moment : ℤ) (t : List ℕ) (slot : ℕ) → finished_in (slot_in ss slot) ≡ None → (w : World) (h : List Entry) → Refines (world_of (base_of old)) (world_after w h) → JobsAre (jobs_of h) ss
     → Lengthened w h (IsEvent (by_slot user moment t slot)) (Refused (NoJob slot)) (base_of old) ss
 unfolding jobs_of
 none_longer old ss user moment t slot none w h refines are = record {
@@ -304,7 +304,7 @@ finished Free m e = absurd (cc)
 finished (Waiting x) m e = absurd (cc)
 finished (Merged x) m e = let same : x ≡ m = cc in ap Merged same
 
-used_longer : (old new : Held) (ss : List JobSlot) (user : List ℕ) (moment : ℤ) (t : List ℕ) (slot : ℕ) (m : TabletMerge) (r : Reply OpenSession TabletMerge) → slot_in ss slot ≡ Merged m → Steps (base_of old) (installs_at user moment t m) r (base_of new)
+used_longer : (old new : CoreContents) (ss : List JobSlot) (user : List ℕ) (moment : ℤ) (t : List ℕ) (slot : ℕ) (m : TabletMerge) (r : Reply OpenSession TabletMerge) → slot_in ss slot ≡ Merged m → Steps (base_of old) (installs_at user moment t m) r (base_of new)
     → (w : World) (h : List Entry) → Refines (world_of (base_of old)) (world_after w h) → JobsAre (jobs_of h) ss → Lengthened w h (IsEvent (by_slot user moment t slot)) (told_of r) (base_of new) (slice_set ss slot Free)
 unfolding jobs_of
 used_longer old new ss user moment t slot m r is steps w h refines are =
@@ -322,7 +322,7 @@ used_longer old new ss user moment t slot m r is steps w h refines are =
     go f (inr lacks) = inr lacks
 
 -- ---- any other event
-kept_longer : (old new : Held) (ss : List JobSlot) (event : Event) (r : Reply OpenSession TabletMerge) → is_open event.act ≡ false → NamesNoSlot event.act → Steps (base_of old) event r (base_of new) → StepsExactly old None event (told_of r) (job_of r) new
+kept_longer : (old new : CoreContents) (ss : List JobSlot) (event : Event) (r : Reply OpenSession TabletMerge) → is_open event.act ≡ false → NamesNoSlot event.act → Steps (base_of old) event r (base_of new) → StepsExactly old None event (told_of r) (job_of r) new
     → (w : World) (h : List Entry) → Refines (world_of (base_of old)) (world_after w h) → JobsAre (jobs_of h) ss → Lengthened w h (IsEvent event) (told_of r) (base_of new) (kept_job ss (job_of r))
 unfolding jobs_of
 kept_longer old new ss event r shut alone steps exact w h refines are = record {
@@ -334,19 +334,19 @@ kept_longer old new ss event r shut alone steps exact w h refines are = record {
 -- ---- an event of a run
 -- the same of what equals it
 abbrev Three : Type 0
-Three = Told × Held × List JobSlot
+Three = Told × CoreContents × List JobSlot
 
-longer_as : (w : World) (h : List Entry) (step : Step) (r r' : Told) (c c' : Held) (ss ss' : List JobSlot) → r' ≡ r → c' ≡ c → ss' ≡ ss → Lengthened w h step r (base_of c) ss → Lengthened w h step r' (base_of c') ss'
+longer_as : (w : World) (h : List Entry) (step : Step) (r r' : Told) (c c' : CoreContents) (ss ss' : List JobSlot) → r' ≡ r → c' ≡ c → ss' ≡ ss → Lengthened w h step r (base_of c) ss → Lengthened w h step r' (base_of c') ss'
 longer_as w h step r r' c c' ss ss' is core same l =
     let alike : ◌≡◌ {A = Three} (r, c, ss) (r', c', ss') = λ i. (sym is i, sym core i, sym same i) in
     subst (λ (x : Three). Lengthened w h step x.0 (base_of x.1) x.2) alike l
 
-exact_as : (first : Held) (before : List JobSlot) (step : Step) (r r' : Told) (c c' : Held) (ss ss' : List JobSlot) → r' ≡ r → c' ≡ c → ss' ≡ ss → GoesExactly first before (record { step = step; reply = r } ∷ []) c ss → GoesExactly first before (record { step = step; reply = r' } ∷ []) c' ss'
+exact_as : (first : CoreContents) (before : List JobSlot) (step : Step) (r r' : Told) (c c' : CoreContents) (ss ss' : List JobSlot) → r' ≡ r → c' ≡ c → ss' ≡ ss → GoesExactly first before (record { step = step; reply = r } ∷ []) c ss → GoesExactly first before (record { step = step; reply = r' } ∷ []) c' ss'
 exact_as first before step r r' c c' ss ss' is core same g =
     let alike : ◌≡◌ {A = Three} (r, c, ss) (r', c', ss') = λ i. (sym is i, sym core i, sym same i) in
     subst (λ (x : Three). GoesExactly first before (record { step = step; reply = x.0 } ∷ []) x.1 x.2) alike g
 
-module _ (old new : Held) (ss ss' : List JobSlot) (event : Event) (reply : Told) where
+module _ (old new : CoreContents) (ss ss' : List JobSlot) (event : Event) (reply : Told) where
   -- it lengthens each history that core and slots refined
   pub steps_lengthen : is_open event.act ≡ false → StepsIn old ss event reply new ss' → (w : World) (h : List Entry) → Refines (world_of (base_of old)) (world_after w h) → JobsAre (jobs_of h) ss → Lengthened w h (IsEvent event) reply (base_of new) ss'
   steps_lengthen shut (inl x) w h refines are = longer_as w h (IsEvent event) _ reply old new ss ss' x.told x.core x.same (lacks_longer old ss event x.begins w h refines are)
@@ -371,12 +371,12 @@ module _ (old new : Held) (ss ss' : List JobSlot) (event : Event) (reply : Told)
   steps_exact (inr (inr (inr x))) = exact_as old ss (IsEvent event) _ reply new new _ ss' x.told refl x.kept (goes_alone old new ss event (told_of x.answer) (job_of x.answer) x.alone x.exact)
 
 -- an event that names no slot was an exact step
-pub alone_exactly : (old new : Held) (given : Option TabletMerge) (event : Event) (r : Reply OpenSession TabletMerge) → NamesNoSlot event.act → StepsWith old given event r new → StepsExactly old given event (told_of r) (job_of r) new
+pub alone_exactly : (old new : CoreContents) (given : Option TabletMerge) (event : Event) (r : Reply OpenSession TabletMerge) → NamesNoSlot event.act → StepsWith old given event r new → StepsExactly old given event (told_of r) (job_of r) new
 alone_exactly old new given event r alone (inl x) = x.1
 alone_exactly old new given event r alone (inr x) = absurd (subst NamesNoSlot x.1.1 alone)
 
 -- the core answered an event that begins no job
-pub keeps_none : (old new : Held) (ss : List JobSlot) (event : Event) (r : Reply OpenSession TabletMerge) (reply : Told) → is_begin event.act ≡ false → NamesNoSlot event.act → Steps (base_of old) event r (base_of new) → StepsWith old None event r new → reply ≡ told_of r → StepsIn old ss event reply new ss
+pub keeps_none : (old new : CoreContents) (ss : List JobSlot) (event : Event) (r : Reply OpenSession TabletMerge) (reply : Told) → is_begin event.act ≡ false → NamesNoSlot event.act → Steps (base_of old) event r (base_of new) → StepsWith old None event r new → reply ≡ told_of r → StepsIn old ss event reply new ss
 keeps_none old new ss event r reply none alone steps exact told =
     let did : StepsExactly old None event (told_of r) (job_of r) new = alone_exactly old new None event r alone exact in
     inr (inr (inr (record { alone = alone; answer = r; steps = steps; exact = did; told = told; kept = sym (ap (kept_job ss) (no_job old new None event (told_of r) (job_of r) none did)) })))
@@ -413,7 +413,7 @@ merge_lengthens core ss ss' slot reply from w h refines are = record {
   jobs = subst (λ l. JobsAre (merge_job_moves slot reply ++ jobs_of h) l) (sym from.after) (merged_jobs (jobs_of h) ss slot reply (record { answers = from.answers; after = refl }) are);
 }
 
-pub merge_exact : (core : Held) (ss ss' : List JobSlot) (slot : ℕ) (reply : Told) → MergesIn ss slot reply ss' → GoesExactly core ss (record { step = Merge slot; reply = reply } ∷ []) core ss'
+pub merge_exact : (core : CoreContents) (ss ss' : List JobSlot) (slot : ℕ) (reply : Told) → MergesIn ss slot reply ss' → GoesExactly core ss (record { step = Merge slot; reply = reply } ∷ []) core ss'
 merge_exact core ss ss' slot reply from = goes_nowhere core ss ss' (Merge slot) reply tt (λ ms h. subst (λ l. HoldMerges l ms) (sym from.after) (hold_made ss ms slot reply h))
 
 -- ---- steps that aren't a job's
@@ -423,11 +423,11 @@ open_job_moves (Open scan) reply e = refl
 open_job_moves _ reply e = absurd (cc)
 
 -- what is no event, and moves no job, goes on with the slots as they are
-pub stays_exact : (core : Held) (ss : List JobSlot) (step : Step) (reply : Told) → IsNoEvent step reply → GoesExactly core ss (record { step = step; reply = reply } ∷ []) core ss
+pub stays_exact : (core : CoreContents) (ss : List JobSlot) (step : Step) (reply : Told) → IsNoEvent step reply → GoesExactly core ss (record { step = step; reply = reply } ∷ []) core ss
 stays_exact core ss step reply none = goes_nowhere core ss ss step reply none (λ ms h. h)
 
 -- an event that hands out no job
-pub alone_exact : (old new : Held) (ss : List JobSlot) (event : Event) (reply : Told) → NamesNoSlot event.act → StepsExactly old None event reply None new → GoesExactly old ss (record { step = IsEvent event; reply = reply } ∷ []) new ss
+pub alone_exact : (old new : CoreContents) (ss : List JobSlot) (event : Event) (reply : Told) → NamesNoSlot event.act → StepsExactly old None event reply None new → GoesExactly old ss (record { step = IsEvent event; reply = reply } ∷ []) new ss
 alone_exact old new ss event reply alone exact = goes_alone old new ss event reply None alone exact
 
 -- an Open names no slot, and begins no job
@@ -441,7 +441,7 @@ open_begins_none _ e = absurd (cc)
 
 -- ---- many steps
 -- two chains, the later one in front
-pub goes_on_exactly : (a b c : Held) (ss ts us : List JobSlot) (es fs : List Entry) → GoesExactly a ss es b ts → GoesExactly b ts fs c us → GoesExactly a ss (fs ++ es) c us
+pub goes_on_exactly : (a b c : CoreContents) (ss ts us : List JobSlot) (es fs : List Entry) → GoesExactly a ss es b ts → GoesExactly b ts fs c us → GoesExactly a ss (fs ++ es) c us
 goes_on_exactly a b c ss ts us es fs first later ms h =
     let mid = first ms h in
     let last = later mid.0 mid.1 in

@@ -9,7 +9,7 @@ use Rattle.tab_mutation.specs.Mutations.{Update, IsBare}
 use Rattle.tab_cells.specs.Written.{TimedUpdate, timed, records_of}
 use Rattle.tab_history.specs.declared.event.Act.{Act}
 use Rattle.tab_history.specs.declared.event.Act.TheVariants.{Write}
-use Rattle.tab_store.specs.Stores.{Held}
+use Rattle.tab_store.specs.Stores.{CoreContents}
 use Rattle.tab_store.proofs.Staying.{AddedHave}
 use Rattle.tab_store.proofs.WellFormed.{all_reverse}
 use Rattle.tab_core.specs.Bounded.{IsBareRecord, WritesBare}
@@ -27,6 +27,6 @@ bare_records seq row [] a u h = absurd h
 bare_records seq row (p ∷ ps) a u (inl e) = subst IsBareRecord e a.0
 bare_records seq row (p ∷ ps) a u (inr h) = bare_records seq row ps a.1 u h
 
-pub added_bare : (old : Held) (now : ℤ) (act : Act) → WritesBare act → AddedHave IsBareRecord old now act
+pub added_bare : (old : CoreContents) (now : ℤ) (act : Act) → WritesBare act → AddedHave IsBareRecord old now act
 added_bare old now (Write t m) bare = λ s e u i. bare_records old.next m.row (reverse (map (timed now) m.updates)) (all_reverse IsBareTimed (map (timed now) m.updates) (bare_timed now m.updates bare)) u i
 added_bare old now _ bare = tt

@@ -27,7 +27,7 @@ use Rattle.tab_history.proofs.RightsTold.{rights_are_told}
 use Rattle.tab_iter.proofs.ListLaws.{rises_none}
 use Rattle.tab_store.specs.ByRow.{records_of_all, LieApart}
 use Rattle.tab_store.specs.Parts.{TabletMerge}
-use Rattle.tab_store.specs.Stores.{HeldTable, Held, RiseByName, base_of, table_in}
+use Rattle.tab_store.specs.Stores.{TableContents, CoreContents, RiseByName, base_of, table_in}
 use Rattle.tab_store.specs.Stepping.{lays, told_exactly, laid_told}
 use Rattle.tab_store.specs.Tables.{TableState, with_tablets, state_of, table_at, changed_table, settings_at, tablets_of}
 use Rattle.tab_store.specs.Rightness.{IsStore}
@@ -43,7 +43,7 @@ unfolding cells
 cells_of_none n q = refl
 
 -- what a scan shows of a table that may be missing
-pub cells_listed : (ts : List HeldTable) (t : List ℕ) (q : Query)
+pub cells_listed : (ts : List TableContents) (t : List ℕ) (q : Query)
     → cells (sorted (records_of_all (tablets_of (table_at ts t)))) (versions_shown (settings_at (table_at ts t))) q ≡ listed (sorted (records_of_all (tablets_of (table_at ts t)))) q (settings_at (table_at ts t))
 cells_listed ts t q = go (table_at ts t)
   where
@@ -52,19 +52,19 @@ cells_listed ts t q = go (table_at ts t)
     go (Some s) = refl
 
 -- what one tablet of a table holds lies before what the next one holds
-pub tablets_apart : (h : Held) → IsStore h → (q : List ℕ) → LieApart (tablets_of (table_at h.tables q))
+pub tablets_apart : (h : CoreContents) → IsStore h → (q : List ℕ) → LieApart (tablets_of (table_at h.tables q))
 tablets_apart h store q = go (table_in h q) refl
   where
-    go : (o : Option HeldTable) → table_in h q ≡ o → LieApart (tablets_of (option_map state_of o))
+    go : (o : Option TableContents) → table_in h q ≡ o → LieApart (tablets_of (option_map state_of o))
     go None e = rises_none
     go (Some t) e = sound_tablets_lie_apart t.tablets h.next t.settings.versions _ (store.tables q t e)
 
 -- ---- a scan
-own_open : (h : Held) (now : ℤ) (user : List ℕ) (scan : Scan) (auths : List (List ℕ)) → auths_of h.policy user ≡ auths → own_answer (base_of h) now user (act.Open scan) ≡ told (first_some (scan_checks auths scan)) told_opened
+own_open : (h : CoreContents) (now : ℤ) (user : List ℕ) (scan : Scan) (auths : List (List ℕ)) → auths_of h.policy user ≡ auths → own_answer (base_of h) now user (act.Open scan) ≡ told (first_some (scan_checks auths scan)) told_opened
 unfolding standing held_auths
 own_open h now user scan auths held = λ i. told (first_some (scan_checks (held i) scan)) told_opened
 
-open_refused : (h : Held) (now : ℤ) (user : List ℕ) (scan : Scan) (auths : List (List ℕ)) (r : Refusal) → IsCore h → auths_of h.policy user ≡ auths
+open_refused : (h : CoreContents) (now : ℤ) (user : List ℕ) (scan : Scan) (auths : List (List ℕ)) (r : Refusal) → IsCore h → auths_of h.policy user ≡ auths
     → (Some r ≡ first_some (scan_checks auths scan)) ⊎ (Some r ≡ Some NoMemory) → Acts (own_answer (base_of h) now user (act.Open scan)) h now None user (act.Open scan) (Refused r) h
 open_refused h now user scan auths r core held fails = refused (own_answer (base_of h) now user (act.Open scan)) h now user (act.Open scan) r core (go fails)
   where
@@ -73,21 +73,21 @@ open_refused h now user scan auths r core held fails = refused (own_answer (base
     go (inr e) = let is : r ≡ NoMemory = cc in inr (refl, is)
 
 -- the session of a scan of these tables
-abbrev pub session_in : List HeldTable → Scan → OpenSession
+abbrev pub session_in : List TableContents → Scan → OpenSession
 session_in ts scan = opened (listed (sorted (records_of_all (tablets_of (table_at ts scan.table)))) (query_of scan) (settings_at (table_at ts scan.table)))
 
 -- what a scan leaves of these tables
-pub record Froze (t : List ℕ) (ts new : List HeldTable) : Type 0 where
+pub record Froze (t : List ℕ) (ts new : List TableContents) : Type 0 where
   pub names : RiseByName new
   pub count : length new ≡ length ts
   pub changed : (q : List ℕ) → table_at new q ≡ changed_table t (with_tablets (map frozen)) ts q
 
-open_done : (h : Held) (ts : List HeldTable) (now : ℤ) (user : List ℕ) (scan : Scan) (auths : List (List ℕ)) (session : OpenSession) → IsCore h → auths_of h.policy user ≡ auths
+open_done : (h : CoreContents) (ts : List TableContents) (now : ℤ) (user : List ℕ) (scan : Scan) (auths : List (List ℕ)) (session : OpenSession) → IsCore h → auths_of h.policy user ≡ auths
     → (None ≡ first_some (scan_checks auths scan)) ⊎ (None ≡ Some NoMemory) → session ≡ session_in h.tables scan → Froze scan.table h.tables ts
     → Acts (own_answer (base_of h) now user (act.Open scan)) h now None user (act.Open scan) (Opened session) (record h { tables = ts })
 unfolding lays session_list
 open_done h ts now user scan auths session core held passes is after =
-    let new : Held = record h { tables = ts } in
+    let new : CoreContents = record h { tables = ts } in
     let answer : told_opened ≡ own_answer (base_of h) now user (act.Open scan) = go passes ∙ sym (own_open h now user scan auths held) in
     let settings : (q : List ℕ) → settings_of (base_of new) [] q ≡ settings_of (base_of h) [] q = settings_kept h new scan.table (with_tablets (map frozen)) (λ s. refl) after.changed in
     record {
@@ -110,25 +110,25 @@ open_done h ts now user scan auths session core held passes is after =
 
 -- ---- the same of whichever core has these tables
 -- an act that leaves the tables as they were
-pub leaves_tables : (auths : List (List ℕ)) (now : ℤ) (scan : Scan) (ts : List HeldTable) (next : ℕ) (r : Refusal) → (Some r ≡ first_some (scan_checks auths scan)) ⊎ (Some r ≡ Some NoMemory) → ActsOnTables auths now (act.Open scan) ts next (Refused r) ts next
+pub leaves_tables : (auths : List (List ℕ)) (now : ℤ) (scan : Scan) (ts : List TableContents) (next : ℕ) (r : Refusal) → (Some r ≡ first_some (scan_checks auths scan)) ⊎ (Some r ≡ Some NoMemory) → ActsOnTables auths now (act.Open scan) ts next (Refused r) ts next
 leaves_tables auths now scan ts next r fails h user core tables numbered held =
-    subst (λ (x : Held). Acts (own_answer (base_of h) now user (act.Open scan)) h now None user (act.Open scan) (Refused r) x) (λ i. record h { next = numbered i; tables = tables i }) (open_refused h now user scan auths r core held fails)
+    subst (λ (x : CoreContents). Acts (own_answer (base_of h) now user (act.Open scan)) h now None user (act.Open scan) (Refused r) x) (λ i. record h { next = numbered i; tables = tables i }) (open_refused h now user scan auths r core held fails)
 
 -- whether there was memory for it or not
-pub open_either : {E : Type 0} (auths : List (List ℕ)) (now : ℤ) (scan : Scan) (ts new : List HeldTable) (next : ℕ) (made : Result OpenSession E) (reply : Reply OpenSession TabletMerge) → (None ≡ first_some (scan_checks auths scan)) ⊎ (None ≡ Some NoMemory)
+pub open_either : {E : Type 0} (auths : List (List ℕ)) (now : ℤ) (scan : Scan) (ts new : List TableContents) (next : ℕ) (made : Result OpenSession E) (reply : Reply OpenSession TabletMerge) → (None ≡ first_some (scan_checks auths scan)) ⊎ (None ≡ Some NoMemory)
     → IfOk made (λ session. session ≡ session_in ts scan) → OnOk made (Froze scan.table ts new) → OnErr made (new ≡ ts) → IfOk made (λ session. reply ≡ Opened session) → OnErr made (reply ≡ Refused NoMemory)
     → ActsOnTables auths now (act.Open scan) ts next reply new next
 open_either auths now scan ts new next (Ok session) reply passes is after same opened failed h user core tables numbered held =
     subst (λ r. Acts (own_answer (base_of h) now user (act.Open scan)) h now None user (act.Open scan) r (record h { next = next; tables = new })) (sym opened)
     (subst (λ (n : ℕ). Acts (own_answer (base_of h) now user (act.Open scan)) h now None user (act.Open scan) (Opened session) (record h { next = n; tables = new })) numbered
-    (open_done h new now user scan auths session core held passes (is ∙ ap (λ us. session_in us scan) (sym tables)) (subst (λ (us : List HeldTable). Froze scan.table us new) (sym tables) after)))
+    (open_done h new now user scan auths session core held passes (is ∙ ap (λ us. session_in us scan) (sym tables)) (subst (λ (us : List TableContents). Froze scan.table us new) (sym tables) after)))
 open_either auths now scan ts new next (Err e) reply passes is after same opened failed h user core tables numbered held =
     subst (λ r. Acts (own_answer (base_of h) now user (act.Open scan)) h now None user (act.Open scan) r (record h { next = next; tables = new })) (sym failed)
-    (subst (λ (x : Held). Acts (own_answer (base_of h) now user (act.Open scan)) h now None user (act.Open scan) (Refused NoMemory) x) (λ i. record h { next = numbered i; tables = (tables ∙ sym same) i })
+    (subst (λ (x : CoreContents). Acts (own_answer (base_of h) now user (act.Open scan)) h now None user (act.Open scan) (Refused NoMemory) x) (λ i. record h { next = numbered i; tables = (tables ∙ sym same) i })
     (lacked (own_answer (base_of h) now user (act.Open scan)) h now user (act.Open scan) refl core))
 
 -- ---- rights told
-pub rights_told : (h : Held) (now : ℤ) (user t : List ℕ) (system : SystemPermissions) (table : TablePermissions) (auths : List (List ℕ)) → IsCore h
+pub rights_told : (h : CoreContents) (now : ℤ) (user t : List ℕ) (system : SystemPermissions) (table : TablePermissions) (auths : List (List ℕ)) → IsCore h
     → ((p : SystemPermission) → system_contains system p ≡ has_system h.policy user p) → ((p : TablePermission) → table_contains table p ≡ table_granted h.policy user p t) → auths ≡ auths_of h.policy user
     → Acts (own_answer (base_of h) now user (act.Rights t)) h now None user (act.Rights t) (TellsRights (record { system = system; table = table; authorizations = auths })) h
 unfolding held_auths has_system_right has_table_right

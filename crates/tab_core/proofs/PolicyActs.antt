@@ -1,7 +1,7 @@
 -- Acts that change nothing but the policy: authorizations set, users made and dropped, permissions granted and revoked.
 use Rattle.std.proofs.Common.{◌≡◌, inl, ℕ, ◌+◌, ◌-◌, List, [], ◌∷◌, Bool, true, false, cond, not, ◌&&◌, refl, sym, ◌∙◌, ap, Some, None}
 use Rattle.std.specs.Prelude.{ℤ, nat_le, bytes_eq}
-use Rattle.tab_key.specs.declared.part.Part.TheVariants.{Authorizations, Numbers}
+use Rattle.tab_key.specs.declared.limited_part.LimitedPart.TheVariants.{Authorizations, Numbers}
 use Rattle.tab_mutation.specs.Shape.{first_some, when}
 use Rattle.tab_policy.specs.declared.permission.Permission.{Permission}
 use Rattle.tab_policy.specs.declared.permission.Permission.TheVariants.{OfSystem, OfTable}
@@ -18,7 +18,7 @@ use Rattle.tab_history.specs.Changes.{Change, given, taken, changes_of}
 use Rattle.tab_history.specs.Readings.{has_user, user_count, held_auths, has_system_right, has_table_right, table_count, settings_of, next_number}
 use Rattle.tab_history.specs.Checks.{is_grant, right_checks, too_many_auths}
 use Rattle.tab_history.specs.Answers.{told, numbered}
-use Rattle.tab_store.specs.Stores.{Held, base_of}
+use Rattle.tab_store.specs.Stores.{CoreContents, base_of}
 use Rattle.tab_store.specs.Stepping.{Aside, work_of}
 use Rattle.tab_store.proofs.Changed.{count_read}
 use Rattle.tab_core.specs.Stepping.{Acts, own_answer, IsAdmitted, IsCore}
@@ -33,7 +33,7 @@ record IsRuling (b : Base) (j : List Change) : Type 0 where
   settings : (t : List ℕ) → settings_of b j t ≡ settings_of b [] t
 
 -- an act that asks nothing of the tables, passes its checks and leaves a policy which reads as the act's changes say
-ruled : (h : Held) (p : State) (now : ℤ) (user : List ℕ) (a : Act) → IsCore h → work_of None a ≡ Aside → own_answer (base_of h) now user a ≡ Done → readings p ≡ read_after (base_of h) (changes_of now user a) (table_exists h.policy)
+ruled : (h : CoreContents) (p : State) (now : ℤ) (user : List ℕ) (a : Act) → IsCore h → work_of None a ≡ Aside → own_answer (base_of h) now user a ≡ Done → readings p ≡ read_after (base_of h) (changes_of now user a) (table_exists h.policy)
     → IsRuling (base_of h) (changes_of now user a) → Acts (own_answer (base_of h) now user a) h now None user a Done (record h { policy = p })
 unfolding readings settings_of
 ruled h p now user a core aside passes read ruling = record {
@@ -44,19 +44,19 @@ ruled h p now user a core aside passes read ruling = record {
 }
 
 -- ---- authorizations
-pub too_many : (h : Held) (now : ℤ) (user n : List ℕ) (auths : List (List ℕ)) → IsCore h → too_many_auths auths ≡ true
+pub too_many : (h : CoreContents) (now : ℤ) (user n : List ℕ) (auths : List (List ℕ)) → IsCore h → too_many_auths auths ≡ true
     → Acts (own_answer (base_of h) now user (act.SetAuths n auths)) h now None user (act.SetAuths n auths) (Refused (TooLarge Authorizations)) h
 unfolding has_user
 too_many h now user n auths core e = own_refused h now user (act.SetAuths n auths) (TooLarge Authorizations) core
     (ap (λ v. first_some (when v (TooLarge Authorizations) ∷ when (not (user_exists h.policy n)) (NoUser n) ∷ [])) e)
 
-pub no_user : (h : Held) (now : ℤ) (user n : List ℕ) (auths : List (List ℕ)) → IsCore h → too_many_auths auths ≡ false → user_exists h.policy n ≡ false
+pub no_user : (h : CoreContents) (now : ℤ) (user n : List ℕ) (auths : List (List ℕ)) → IsCore h → too_many_auths auths ≡ false → user_exists h.policy n ≡ false
     → Acts (own_answer (base_of h) now user (act.SetAuths n auths)) h now None user (act.SetAuths n auths) (Refused (NoUser n)) h
 unfolding has_user
 no_user h now user n auths core fits absent = own_refused h now user (act.SetAuths n auths) (NoUser n) core
     (λ i. first_some (when (fits i) (TooLarge Authorizations) ∷ when (not (absent i)) (NoUser n) ∷ []))
 
-pub auths_set : (h : Held) (p : State) (now : ℤ) (user n : List ℕ) (auths : List (List ℕ)) → IsCore h → too_many_auths auths ≡ false → user_exists h.policy n ≡ true
+pub auths_set : (h : CoreContents) (p : State) (now : ℤ) (user n : List ℕ) (auths : List (List ℕ)) → IsCore h → too_many_auths auths ≡ false → user_exists h.policy n ≡ true
     → readings p ≡ record (readings h.policy) { auths = λ q. cond (user_exists h.policy n && bytes_eq n q) auths (auths_of h.policy q) }
     → Acts (own_answer (base_of h) now user (act.SetAuths n auths)) h now None user (act.SetAuths n auths) Done (record h { policy = p })
 unfolding readings next_number has_user user_count held_auths has_system_right has_table_right table_count settings_of
@@ -66,17 +66,17 @@ auths_set h p now user n auths core fits there read = ruled h p now user (act.Se
     (record { numbers = refl; tables = refl; settings = λ t. refl })
 
 -- ---- a new user
-pub user_there : (h : Held) (now : ℤ) (user n : List ℕ) → IsCore h → user_exists h.policy n ≡ true → Acts (own_answer (base_of h) now user (act.CreateUser n)) h now None user (act.CreateUser n) (Refused (UserExists n)) h
+pub user_there : (h : CoreContents) (now : ℤ) (user n : List ℕ) → IsCore h → user_exists h.policy n ≡ true → Acts (own_answer (base_of h) now user (act.CreateUser n)) h now None user (act.CreateUser n) (Refused (UserExists n)) h
 unfolding has_user
 user_there h now user n core there = own_refused h now user (act.CreateUser n) (UserExists n) core (ap (λ v. first_some (when v (UserExists n) ∷ [])) there)
 
-pub users_used_up : (h : Held) (now : ℤ) (user n : List ℕ) → IsCore h → user_exists h.policy n ≡ false → nat_le 4294967295 (policy_users h.policy) ≡ true
+pub users_used_up : (h : CoreContents) (now : ℤ) (user n : List ℕ) → IsCore h → user_exists h.policy n ≡ false → nat_le 4294967295 (policy_users h.policy) ≡ true
     → Acts (own_answer (base_of h) now user (act.CreateUser n)) h now None user (act.CreateUser n) (Refused (TooLarge Numbers)) h
 unfolding has_user user_count
 users_used_up h now user n core absent full = refused (own_answer (base_of h) now user (act.CreateUser n)) h now user (act.CreateUser n) (TooLarge Numbers) core
     (inl (sym (λ i. told (first_some (when (absent i) (UserExists n) ∷ [])) (numbered (full i) Done))))
 
-pub user_made : (h : Held) (p : State) (now : ℤ) (user n : List ℕ) → IsCore h → user_exists h.policy n ≡ false → nat_le 4294967295 (policy_users h.policy) ≡ false
+pub user_made : (h : CoreContents) (p : State) (now : ℤ) (user n : List ℕ) → IsCore h → user_exists h.policy n ≡ false → nat_le 4294967295 (policy_users h.policy) ≡ false
     → readings p ≡ record (readings h.policy) {
       users = λ q. cond (bytes_eq n q) true (user_exists h.policy q);
       count = cond (user_exists h.policy n) (policy_users h.policy) (policy_users h.policy + 1);
@@ -97,15 +97,15 @@ user_made h p now user n core absent room read =
     }) absent) (record { numbers = refl; tables = refl; settings = λ t. refl })
 
 -- ---- a user who is dropped
-pub no_user_drops : (h : Held) (now : ℤ) (user n : List ℕ) → IsCore h → user_exists h.policy n ≡ false → Acts (own_answer (base_of h) now user (act.DropUser n)) h now None user (act.DropUser n) (Refused (NoUser n)) h
+pub no_user_drops : (h : CoreContents) (now : ℤ) (user n : List ℕ) → IsCore h → user_exists h.policy n ≡ false → Acts (own_answer (base_of h) now user (act.DropUser n)) h now None user (act.DropUser n) (Refused (NoUser n)) h
 unfolding has_user
 no_user_drops h now user n core absent = own_refused h now user (act.DropUser n) (NoUser n) core (ap (λ v. first_some (when (not v) (NoUser n) ∷ when (bytes_eq n root) RootFixed ∷ [])) absent)
 
-pub root_stays_user : (h : Held) (now : ℤ) (user n : List ℕ) → IsCore h → user_exists h.policy n ≡ true → bytes_eq n root ≡ true → Acts (own_answer (base_of h) now user (act.DropUser n)) h now None user (act.DropUser n) (Refused RootFixed) h
+pub root_stays_user : (h : CoreContents) (now : ℤ) (user n : List ℕ) → IsCore h → user_exists h.policy n ≡ true → bytes_eq n root ≡ true → Acts (own_answer (base_of h) now user (act.DropUser n)) h now None user (act.DropUser n) (Refused RootFixed) h
 unfolding has_user
 root_stays_user h now user n core there is = own_refused h now user (act.DropUser n) RootFixed core (λ i. first_some (when (not (there i)) (NoUser n) ∷ when (is i) RootFixed ∷ []))
 
-pub user_dropped : (h : Held) (p : State) (now : ℤ) (user n : List ℕ) → IsCore h → user_exists h.policy n ≡ true → bytes_eq n root ≡ false
+pub user_dropped : (h : CoreContents) (p : State) (now : ℤ) (user n : List ℕ) → IsCore h → user_exists h.policy n ≡ true → bytes_eq n root ≡ false
     → readings p ≡ record (readings h.policy) {
       users = λ q. cond (bytes_eq n q) false (user_exists h.policy q);
       count = cond (user_exists h.policy n) (policy_users h.policy - 1) (policy_users h.policy);
@@ -126,12 +126,12 @@ user_dropped h p now user n core there other read =
     }) there) (record { numbers = refl; tables = refl; settings = λ t. refl })
 
 -- ---- a grant or a revocation that is refused
-pub grant_refused : (h : Held) (now : ℤ) (user n : List ℕ) (x : Permission) (r : Refusal) → IsCore h → first_some (right_checks (user_exists h.policy n) n x) ≡ Some r
+pub grant_refused : (h : CoreContents) (now : ℤ) (user n : List ℕ) (x : Permission) (r : Refusal) → IsCore h → first_some (right_checks (user_exists h.policy n) n x) ≡ Some r
     → Acts (own_answer (base_of h) now user (act.Grant n x)) h now None user (act.Grant n x) (Refused r) h
 unfolding has_user
 grant_refused h now user n x r core e = own_refused h now user (act.Grant n x) r core e
 
-pub revoke_refused : (h : Held) (now : ℤ) (user n : List ℕ) (x : Permission) (r : Refusal) → IsCore h → first_some (right_checks (user_exists h.policy n) n x) ≡ Some r
+pub revoke_refused : (h : CoreContents) (now : ℤ) (user n : List ℕ) (x : Permission) (r : Refusal) → IsCore h → first_some (right_checks (user_exists h.policy n) n x) ≡ Some r
     → Acts (own_answer (base_of h) now user (act.Revoke n x)) h now None user (act.Revoke n x) (Refused r) h
 unfolding has_user
 revoke_refused h now user n x r core e = own_refused h now user (act.Revoke n x) r core e
@@ -142,7 +142,7 @@ there_is_user true e = refl
 there_is_user false e = absurd (cc)
 
 -- whose user passes the checks, and whose table is there
-can_be_held : (h : Held) (user n : List ℕ) (x : Permission) → IsCore h → IsAdmitted (base_of h) user (act.Grant n x) → first_some (right_checks (user_exists h.policy n) n x) ≡ None → can_hold h.policy n x ≡ true
+can_be_held : (h : CoreContents) (user n : List ℕ) (x : Permission) → IsCore h → IsAdmitted (base_of h) user (act.Grant n x) → first_some (right_checks (user_exists h.policy n) n x) ≡ None → can_hold h.policy n x ≡ true
 can_be_held h user n (OfSystem s) core admitted e =
     let rest = none_right (when (is_grant s) GrantInvalid) (first_some (when (not (user_exists h.policy n)) (NoUser n) ∷ when (bytes_eq n root) RootFixed ∷ [])) e in
     there_is_user (user_exists h.policy n) (unmet _ _ (none_left (when (not (user_exists h.policy n)) (NoUser n)) (first_some (when (bytes_eq n root) RootFixed ∷ [])) rest))
@@ -151,7 +151,7 @@ can_be_held h user n (OfTable s t) core admitted e =
     λ i. there i && (core.knows t ∙ admitted.1) i
 
 -- what is read once a permission was given to the user, or taken from him
-given_reads : (h : Held) (n : List ℕ) (x : Permission) → record (readings h.policy) {
+given_reads : (h : CoreContents) (n : List ℕ) (x : Permission) → record (readings h.policy) {
   system = λ q y. cond (is_system_right n x q y) true (system_granted h.policy q y);
   rights = λ q y t. cond (is_table_right n x q y t) true (table_granted h.policy q y t);
 } ≡ read_after (base_of h) (given n x ∷ []) (table_exists h.policy)
@@ -159,7 +159,7 @@ unfolding readings has_user user_count held_auths has_system_right has_table_rig
 given_reads h n (OfSystem s) = refl
 given_reads h n (OfTable s t) = refl
 
-taken_reads : (h : Held) (n : List ℕ) (x : Permission) → record (readings h.policy) {
+taken_reads : (h : CoreContents) (n : List ℕ) (x : Permission) → record (readings h.policy) {
   system = λ q y. cond (is_system_right n x q y) false (system_granted h.policy q y);
   rights = λ q y t. cond (is_table_right n x q y t) false (table_granted h.policy q y t);
 } ≡ read_after (base_of h) (taken n x ∷ []) (table_exists h.policy)
@@ -167,17 +167,17 @@ unfolding readings has_user user_count held_auths has_system_right has_table_rig
 taken_reads h n (OfSystem s) = refl
 taken_reads h n (OfTable s t) = refl
 
-given_ruling : (h : Held) (n : List ℕ) (x : Permission) → IsRuling (base_of h) (given n x ∷ [])
+given_ruling : (h : CoreContents) (n : List ℕ) (x : Permission) → IsRuling (base_of h) (given n x ∷ [])
 unfolding next_number table_count settings_of
 given_ruling h n (OfSystem s) = record { numbers = refl; tables = refl; settings = λ t. refl }
 given_ruling h n (OfTable s u) = record { numbers = refl; tables = refl; settings = λ t. refl }
 
-taken_ruling : (h : Held) (n : List ℕ) (x : Permission) → IsRuling (base_of h) (taken n x ∷ [])
+taken_ruling : (h : CoreContents) (n : List ℕ) (x : Permission) → IsRuling (base_of h) (taken n x ∷ [])
 unfolding next_number table_count settings_of
 taken_ruling h n (OfSystem s) = record { numbers = refl; tables = refl; settings = λ t. refl }
 taken_ruling h n (OfTable s u) = record { numbers = refl; tables = refl; settings = λ t. refl }
 
-pub right_given : (h : Held) (p : State) (now : ℤ) (user n : List ℕ) (x : Permission) → IsCore h → IsAdmitted (base_of h) user (act.Grant n x) → first_some (right_checks (user_exists h.policy n) n x) ≡ None
+pub right_given : (h : CoreContents) (p : State) (now : ℤ) (user n : List ℕ) (x : Permission) → IsCore h → IsAdmitted (base_of h) user (act.Grant n x) → first_some (right_checks (user_exists h.policy n) n x) ≡ None
     → readings p ≡ record (readings h.policy) {
       system = λ q y. cond (can_hold h.policy n x && is_system_right n x q y) true (system_granted h.policy q y);
       rights = λ q y t. cond (can_hold h.policy n x && is_table_right n x q y t) true (table_granted h.policy q y t);
@@ -192,7 +192,7 @@ right_given h p now user n x core admitted passes read =
     }) (can_be_held h user n x core admitted passes) ∙ given_reads h n x) (given_ruling h n x)
 
 -- ---- a revocation
-pub right_taken : (h : Held) (p : State) (now : ℤ) (user n : List ℕ) (x : Permission) → IsCore h → first_some (right_checks (user_exists h.policy n) n x) ≡ None
+pub right_taken : (h : CoreContents) (p : State) (now : ℤ) (user n : List ℕ) (x : Permission) → IsCore h → first_some (right_checks (user_exists h.policy n) n x) ≡ None
     → readings p ≡ record (readings h.policy) {
       system = λ q y. cond (is_system_right n x q y) false (system_granted h.policy q y);
       rights = λ q y t. cond (is_table_right n x q y t) false (table_granted h.policy q y t);
@@ -202,14 +202,14 @@ unfolding has_user
 right_taken h p now user n x core passes read = ruled h p now user (act.Revoke n x) core refl (ap (λ o. told o Done) passes) (read ∙ taken_reads h n x) (taken_ruling h n x)
 
 -- ---- saves, loads and rotations, which change nothing
-pub saved : (h : Held) (now : ℤ) (user : List ℕ) → IsCore h → Acts (own_answer (base_of h) now user act.Save) h now None user act.Save Done h
+pub saved : (h : CoreContents) (now : ℤ) (user : List ℕ) → IsCore h → Acts (own_answer (base_of h) now user act.Save) h now None user act.Save Done h
 unfolding readings next_number has_user user_count held_auths has_system_right has_table_right table_count settings_of
 saved h now user core = ruled h h.policy now user act.Save core refl refl refl (record { numbers = refl; tables = refl; settings = λ t. refl })
 
-pub loaded : (h : Held) (now : ℤ) (user : List ℕ) → IsCore h → Acts (own_answer (base_of h) now user act.Load) h now None user act.Load Done h
+pub loaded : (h : CoreContents) (now : ℤ) (user : List ℕ) → IsCore h → Acts (own_answer (base_of h) now user act.Load) h now None user act.Load Done h
 unfolding readings next_number has_user user_count held_auths has_system_right has_table_right table_count settings_of
 loaded h now user core = ruled h h.policy now user act.Load core refl refl refl (record { numbers = refl; tables = refl; settings = λ t. refl })
 
-pub rotated : (h : Held) (now : ℤ) (user : List ℕ) → IsCore h → Acts (own_answer (base_of h) now user act.Rotate) h now None user act.Rotate Done h
+pub rotated : (h : CoreContents) (now : ℤ) (user : List ℕ) → IsCore h → Acts (own_answer (base_of h) now user act.Rotate) h now None user act.Rotate Done h
 unfolding readings next_number has_user user_count held_auths has_system_right has_table_right table_count settings_of
 rotated h now user core = ruled h h.policy now user act.Rotate core refl refl refl (record { numbers = refl; tables = refl; settings = λ t. refl })

@@ -5,12 +5,12 @@ use Rattle.std.specs.Int.{int_max}
 use Rattle.tab_history.specs.Readings.{has_user, has_system_right, settings_of}
 use Rattle.tab_history.proofs.GoOn.{max_left}
 use Rattle.tab_history.proofs.Refines.{floor_later}
-use Rattle.tab_store.specs.Stores.{Held}
+use Rattle.tab_store.specs.Stores.{CoreContents}
 use Rattle.tab_store.proofs.Sound.{sound_grown}
 use Rattle.tab_core.specs.Stepping.{IsCore}
 
 -- The floor of a table may rise, and nothing else that a core keeps looks at the clock.
-pub core_raised : (h : Held) (moment : ℤ) → IsCore h → IsCore (record h { clock = int_max h.clock moment })
+pub core_raised : (h : CoreContents) (moment : ℤ) → IsCore h → IsCore (record h { clock = int_max h.clock moment })
 unfolding has_user has_system_right settings_of
 core_raised h moment core = record {
   store = record {

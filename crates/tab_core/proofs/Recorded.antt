@@ -9,7 +9,7 @@ use Rattle.tab_history.specs.declared.event.Event.{Event}
 use Rattle.tab_history.specs.declared.reply.Reply.{Reply}
 use Rattle.tab_history.specs.declared.reply.Reply.TheVariants.{Opened}
 use Rattle.tab_store.specs.Parts.{TabletMerge}
-use Rattle.tab_store.specs.Stores.{Held, base_of}
+use Rattle.tab_store.specs.Stores.{CoreContents, base_of}
 use Rattle.tab_core.specs.Stepping.{HandsOut, Steps, StepsWith, IsCore}
 use Rattle.tab_core.specs.Recording.{RefinesHistory, IsLegalFrom, ShowsAnswer, StepsOn}
 use Rattle.tab_core.proofs.Steps.{itself}
@@ -20,7 +20,7 @@ unfolding IsLegalFrom
 legal_empty base = tt
 
 -- what a core holds is refined by it
-pub begun : (h : Held) → IsCore h → RefinesHistory h (base_of h) []
+pub begun : (h : CoreContents) → IsCore h → RefinesHistory h (base_of h) []
 unfolding RefinesHistory
 begun h core = itself h core
 
@@ -30,7 +30,7 @@ shown base h act (Opened session) hands = hands
 shown base h act reply hands = tt
 
 -- both sides of a step, in those words
-pub steps_on : (old new : Held) (given : Option TabletMerge) (e : Event) (reply : Reply OpenSession TabletMerge) → Steps (base_of old) e reply (base_of new) → StepsWith old given e reply new → StepsOn old given e reply new
+pub steps_on : (old new : CoreContents) (given : Option TabletMerge) (e : Event) (reply : Reply OpenSession TabletMerge) → Steps (base_of old) e reply (base_of new) → StepsWith old given e reply new → StepsOn old given e reply new
 unfolding RefinesHistory IsLegalFrom
 steps_on old new given e reply steps exact = record {
   legal = λ base h refines legal. steps.legal (world_of base) h refines legal;

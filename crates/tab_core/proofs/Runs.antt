@@ -5,7 +5,7 @@ use Rattle.std.proofs.lemmas.List.{reverse-append}
 use Rattle.std.proofs.lemmas.Slice.Eq.{bytes_eq-Decides}
 use Rattle.tab_key.specs.Records.{Cell}
 use Rattle.tab_key.specs.declared.range.Bounds.{Bounds}
-use Rattle.tab_key.specs.declared.part.Part.TheVariants.{Sessions}
+use Rattle.tab_key.specs.declared.limited_part.LimitedPart.TheVariants.{Sessions}
 use Rattle.tab_history.specs.declared.event.Act.{Act}
 use Rattle.tab_history.specs.declared.event.Act.TheVariants.{Open}
 use Rattle.tab_history.specs.declared.event.Event.{Event}
@@ -26,7 +26,7 @@ use Rattle.tab_history.specs.Refinement.{Refines}
 use Rattle.tab_history.specs.Runs.{IsNoEvent}
 use Rattle.tab_history.proofs.Playing.{unmoved}
 use Rattle.tab_store.specs.Parts.{TabletMerge}
-use Rattle.tab_store.specs.Stores.{Held, base_of}
+use Rattle.tab_store.specs.Stores.{CoreContents, base_of}
 use Rattle.tab_store.specs.Stepping.{StepsExactly}
 use Rattle.tab_store.specs.Chains.{EntryGoes, starting}
 use Rattle.tab_store.proofs.Joining.{chain_join}
@@ -35,7 +35,7 @@ use Rattle.tab_core.specs.declared.job_slots.JobSlot.{JobSlot}
 use Rattle.tab_core.specs.JobSlots.{JobsAre, HoldMerges, GoesExactly, MergesIn, StepsIn}
 use Rattle.tab_core.specs.Stepping.{Steps, StepsWith, HandsOut}
 use Rattle.tab_core.specs.Slots.{slot_at, are_full, NextFrom, ManyFrom, CloseFrom, SlotsAre, entries_of, history_of}
-use Rattle.tab_core.specs.declared.sessions.Kept.{Kept}
+use Rattle.tab_core.specs.declared.sessions.UserSessions.{UserSessions}
 use Rattle.tab_core.specs.Sessions.{Keeping, kept_of, KeepsFor, NextIn, ManyIn, CloseIn}
 use Rattle.tab_core.specs.Owners.{slots_of, LeavesOthers, OwnersRefine, Lengthens, RunsOn, kept_with, OpensIn}
 use Rattle.tab_core.proofs.SlotLemmas.{slots_none, slots_opened, slots_taken, slots_closed, full_alike}
@@ -52,16 +52,16 @@ own_more w h step reply os os' own others stand u = go (bytes_eq (user_of step) 
     go false other = subst (λ (ss : List (Option SessionState)). SlotsAre (moves_of w u h) ss) (sym (others u other)) (stand u)
 
 -- what is kept for the user, with these slots
-abbrev with_slots : Keeping → List ℕ → List (Option SessionState) → Kept
+abbrev with_slots : Keeping → List ℕ → List (Option SessionState) → UserSessions
 with_slots os user slots = record (kept_of os user) { numbered = slots }
 
 -- what is kept for him holds his slots
-own_now : (user : List ℕ) (kept : Kept) (old new : Keeping) → KeepsFor user kept old new → slots_of new user ≡ kept.numbered
-own_now user kept old new keeps = ap (λ (k : Kept). k.numbered) (keeps user ∙ ap (λ b. cond b kept (kept_of old user)) ((bytes_eq-Decides user user).1 refl))
+own_now : (user : List ℕ) (kept : UserSessions) (old new : Keeping) → KeepsFor user kept old new → slots_of new user ≡ kept.numbered
+own_now user kept old new keeps = ap (λ (k : UserSessions). k.numbered) (keeps user ∙ ap (λ b. cond b kept (kept_of old user)) ((bytes_eq-Decides user user).1 refl))
 
 -- and the others have theirs
-others_left : (user : List ℕ) (kept : Kept) (old new : Keeping) → KeepsFor user kept old new → LeavesOthers user old new
-others_left user kept old new keeps other away = ap (λ (k : Kept). k.numbered) (keeps other ∙ ap (λ b. cond b kept (kept_of old other)) away)
+others_left : (user : List ℕ) (kept : UserSessions) (old new : Keeping) → KeepsFor user kept old new → LeavesOthers user old new
+others_left user kept old new keeps other away = ap (λ (k : UserSessions). k.numbered) (keeps other ∙ ap (λ b. cond b kept (kept_of old other)) away)
 
 -- all stays where there was no event
 still : (w : World) (h : List Entry) (core : Base) (step : Step) (reply : Told) → IsNoEvent step reply → Refines (world_of core) (world_after w h) → Refines (world_of core) (world_after w (record { step = step; reply = reply } ∷ h))
@@ -89,7 +89,7 @@ next_longer core os os' user slot n reply from others jobs w h refines stand are
   (legal, next_answers w h user slot n reply (slots_of os user) (slots_of os' user) from (stand user)),
 )
 
-pub runs_next : (core : Held) (os os' : Keeping) (jobs : List JobSlot) (user : List ℕ) (slot n : ℕ) (reply : Told) → NextIn os user slot n reply os' → RunsOn core os jobs (Next user slot n) reply core os' jobs
+pub runs_next : (core : CoreContents) (os os' : Keeping) (jobs : List JobSlot) (user : List ℕ) (slot n : ℕ) (reply : Told) → NextIn os user slot n reply os' → RunsOn core os jobs (Next user slot n) reply core os' jobs
 runs_next core os os' jobs user slot n reply (ss, from, keeps) =
     let after : NextFrom (slots_of os user) slot n reply (slots_of os' user) = subst (λ (l : List (Option SessionState)). NextFrom (slots_of os user) slot n reply l) (sym (own_now user (with_slots os user ss) os os' keeps)) from in
     record { histories = next_longer (base_of core) os os' user slot n reply after (others_left user (with_slots os user ss) os os' keeps) jobs; exact = stays_exact core jobs (Next user slot n) reply tt }
@@ -109,7 +109,7 @@ many_longer core os user slot ranges reply from jobs w h refines stand are legal
   (legal, many_answers w h user slot ranges reply (slots_of os user) from (stand user)),
 )
 
-pub runs_many : (core : Held) (os os' : Keeping) (jobs : List JobSlot) (user : List ℕ) (slot : ℕ) (ranges : List Bounds) (reply : Told) → ManyIn os user slot ranges reply → os' ≡ os → RunsOn core os jobs (Many user slot ranges) reply core os' jobs
+pub runs_many : (core : CoreContents) (os os' : Keeping) (jobs : List JobSlot) (user : List ℕ) (slot : ℕ) (ranges : List Bounds) (reply : Told) → ManyIn os user slot ranges reply → os' ≡ os → RunsOn core os jobs (Many user slot ranges) reply core os' jobs
 runs_many core os os' jobs user slot ranges reply from same =
     subst (λ (after : Keeping). RunsOn core os jobs (Many user slot ranges) reply core after jobs) (sym same)
     (record { histories = many_longer (base_of core) os user slot ranges reply from jobs; exact = stays_exact core jobs (Many user slot ranges) reply tt })
@@ -136,7 +136,7 @@ close_longer core os os' user slot reply from others jobs w h refines stand are 
   (legal, close_answers w h user slot reply (slots_of os user) (slots_of os' user) from (stand user)),
 )
 
-pub runs_close : (core : Held) (os os' : Keeping) (jobs : List JobSlot) (user : List ℕ) (slot : ℕ) (reply : Told) → CloseIn os user slot reply os' → RunsOn core os jobs (Close user slot) reply core os' jobs
+pub runs_close : (core : CoreContents) (os os' : Keeping) (jobs : List JobSlot) (user : List ℕ) (slot : ℕ) (reply : Told) → CloseIn os user slot reply os' → RunsOn core os jobs (Close user slot) reply core os' jobs
 runs_close core os os' jobs user slot reply (ss, from, keeps) =
     let after : CloseFrom (slots_of os user) slot reply (slots_of os' user) = subst (λ (l : List (Option SessionState)). CloseFrom (slots_of os user) slot reply l) (sym (own_now user (with_slots os user ss) os os' keeps)) from in
     record { histories = close_longer (base_of core) os os' user slot reply after (others_left user (with_slots os user ss) os os' keeps) jobs; exact = stays_exact core jobs (Close user slot) reply tt }
@@ -151,7 +151,7 @@ merge_longer core os jobs jobs' slot reply from w h refines stand are legal =
       (legal, l.answers),
     )
 
-pub runs_merge : (core : Held) (os : Keeping) (jobs jobs' : List JobSlot) (slot : ℕ) (reply : Told) → MergesIn jobs slot reply jobs' → RunsOn core os jobs (Merge slot) reply core os jobs'
+pub runs_merge : (core : CoreContents) (os : Keeping) (jobs jobs' : List JobSlot) (slot : ℕ) (reply : Told) → MergesIn jobs slot reply jobs' → RunsOn core os jobs (Merge slot) reply core os jobs'
 runs_merge core os jobs jobs' slot reply from = record { histories = merge_longer (base_of core) os jobs jobs' slot reply from; exact = merge_exact core jobs jobs' slot reply from }
 
 -- ---- an event
@@ -173,11 +173,11 @@ nowhere_longer core os os' jobs event opens same w h refines stand are legal = (
   (legal, inr (open_takes event.act opens, refl)),
 )
 
-pub runs_nowhere : (core : Held) (os os' : Keeping) (jobs : List JobSlot) (event : Event) → is_open event.act ≡ true → ((u : List ℕ) → slots_of os' u ≡ slots_of os u) → RunsOn core os jobs (IsEvent event) (Refused NoMemory) core os' jobs
+pub runs_nowhere : (core : CoreContents) (os os' : Keeping) (jobs : List JobSlot) (event : Event) → is_open event.act ≡ true → ((u : List ℕ) → slots_of os' u ≡ slots_of os u) → RunsOn core os jobs (IsEvent event) (Refused NoMemory) core os' jobs
 runs_nowhere core os os' jobs event opens same = record { histories = nowhere_longer (base_of core) os os' jobs event opens same; exact = stays_exact core jobs (IsEvent event) (Refused NoMemory) tt }
 
 -- an Open was an exact step
-pub open_exactly : (old new : Held) (given : Option TabletMerge) (event : Event) (r : Reply OpenSession TabletMerge) → is_open event.act ≡ true → StepsWith old given event r new → StepsExactly old given event (told_of r) (job_of r) new
+pub open_exactly : (old new : CoreContents) (given : Option TabletMerge) (event : Event) (r : Reply OpenSession TabletMerge) → is_open event.act ≡ true → StepsWith old given event r new → StepsExactly old given event (told_of r) (job_of r) new
 open_exactly old new given event r opens (inl x) = x.1
 open_exactly old new given event r opens (inr x) = absurd (cc (sym opens ∙ ap is_open x.1.1))
 
@@ -186,7 +186,7 @@ other_slots : (w : World) (j : List Move) (h : List Entry) (event : Event) (repl
 other_slots w j h event (Opened s) ss none_opens are = subst (λ (b : Bool). SlotsAre (cond b (Opening (session_list w.base (journal w h) event.act) ∷ []) [] ++ j) ss) (sym none_opens) are
 other_slots w j h event reply ss none_opens are = are
 
-event_longer : (old new : Held) (os : Keeping) (jobs jobs' : List JobSlot) (event : Event) (reply : Told) → is_open event.act ≡ false → StepsIn old jobs event reply new jobs' → Lengthens (base_of old) os jobs (IsEvent event) reply (base_of new) os jobs'
+event_longer : (old new : CoreContents) (os : Keeping) (jobs jobs' : List JobSlot) (event : Event) (reply : Told) → is_open event.act ≡ false → StepsIn old jobs event reply new jobs' → Lengthens (base_of old) os jobs (IsEvent event) reply (base_of new) os jobs'
 event_longer old new os jobs jobs' event reply none_opens steps w h refines stand are legal =
     let l : Lengthened w h (IsEvent event) reply (base_of new) jobs' = steps_lengthen old new jobs jobs' event reply none_opens steps w h refines are in (
       l.refines,
@@ -195,7 +195,7 @@ event_longer old new os jobs jobs' event reply none_opens steps w h refines stan
       (legal, l.answers),
     )
 
-pub runs_event : (old new : Held) (os : Keeping) (jobs jobs' : List JobSlot) (event : Event) (reply : Told) → is_open event.act ≡ false → StepsIn old jobs event reply new jobs' → RunsOn old os jobs (IsEvent event) reply new os jobs'
+pub runs_event : (old new : CoreContents) (os : Keeping) (jobs jobs' : List JobSlot) (event : Event) (reply : Told) → is_open event.act ≡ false → StepsIn old jobs event reply new jobs' → RunsOn old os jobs (IsEvent event) reply new os jobs'
 runs_event old new os jobs jobs' event reply none_opens steps = record { histories = event_longer old new os jobs jobs' event reply none_opens steps; exact = steps_exact old new jobs jobs' event reply steps }
 
 -- a session that is handed out is kept
@@ -242,7 +242,7 @@ same_slots os os' user slots now same others u = go (bytes_eq user u) refl
     go false away = others u away
 
 -- an Open in what is kept for the user
-pub runs_open : (old new : Held) (os os' : Keeping) (jobs : List JobSlot) (event : Event) (reply : Told) (slots : List (Option SessionState)) → is_open event.act ≡ true
+pub runs_open : (old new : CoreContents) (os os' : Keeping) (jobs : List JobSlot) (event : Event) (reply : Told) (slots : List (Option SessionState)) → is_open event.act ≡ true
     → OpensIn old (slots_of os event.user) event reply new slots → KeepsFor event.user (with_slots os event.user slots) os os' → RunsOn old os jobs (IsEvent event) reply new os' jobs
 runs_open old new os os' jobs event reply slots opens (inl full) keeps =
     let b : Base = base_of old in
@@ -251,12 +251,12 @@ runs_open old new os os' jobs event reply slots opens (inl full) keeps =
     let longer : Lengthens b os jobs (IsEvent event) r b os' jobs =
     open_stays b os os' jobs event (TooLarge Sessions) opens tt all (λ w h stand. inl (full_answer w h event opens (full_alike (moves_of w event.user h) (slots_of os event.user) (stand event.user) ∙ full.0))) in
     let there : RunsOn old os jobs (IsEvent event) r old os' jobs = record { histories = longer; exact = stays_exact old jobs (IsEvent event) r tt } in
-    subst (λ (core : Held). RunsOn old os jobs (IsEvent event) reply core os' jobs) (sym full.2) (subst (λ (x : Told). RunsOn old os jobs (IsEvent event) x old os' jobs) (sym full.1) there)
+    subst (λ (core : CoreContents). RunsOn old os jobs (IsEvent event) reply core os' jobs) (sym full.2) (subst (λ (x : Told). RunsOn old os jobs (IsEvent event) x old os' jobs) (sym full.1) there)
 runs_open old new os os' jobs event reply slots opens (inr (inl lacks)) keeps =
     let r : Told = Refused NoMemory in
     let all : (u : List ℕ) → slots_of os' u ≡ slots_of os u = same_slots os os' event.user slots (own_now event.user (with_slots os event.user slots) os os' keeps) lacks.2 (others_left event.user (with_slots os event.user slots) os os' keeps) in
     let there : RunsOn old os jobs (IsEvent event) r old os' jobs = runs_nowhere old os os' jobs event opens all in
-    subst (λ (core : Held). RunsOn old os jobs (IsEvent event) reply core os' jobs) (sym lacks.1) (subst (λ (x : Told). RunsOn old os jobs (IsEvent event) x old os' jobs) (sym lacks.0) there)
+    subst (λ (core : CoreContents). RunsOn old os jobs (IsEvent event) reply core os' jobs) (sym lacks.1) (subst (λ (x : Told). RunsOn old os jobs (IsEvent event) x old os' jobs) (sym lacks.0) there)
 runs_open old new os os' jobs event reply slots opens (inr (inr (room, (r, steps, exact, is, kept)))) keeps =
     let did : StepsExactly old None event (told_of r) (job_of r) new = open_exactly old new None event r opens exact in
     let none : job_of r ≡ None = no_job old new None event (told_of r) (job_of r) (open_begins_none event.act opens) did in
@@ -293,7 +293,7 @@ unfolding jobs_of
 none_before jobs none = subst (λ (ss : List JobSlot). JobsAre [] ss) (sym none) jobs_none
 
 -- a chain goes on by one more entry
-pub goes_on_chain : (first : Held) (merges : List TabletMerge) (core new : Held) (jobs jobs' : List JobSlot) (es : List Entry) (e : Entry) → HoldMerges jobs merges → IsChain EntryGoes (starting first) es (record { held = core; begun = merges })
+pub goes_on_chain : (first : CoreContents) (merges : List TabletMerge) (core new : CoreContents) (jobs jobs' : List JobSlot) (es : List Entry) (e : Entry) → HoldMerges jobs merges → IsChain EntryGoes (starting first) es (record { held = core; begun = merges })
     → GoesExactly core jobs (e ∷ []) new jobs' → (merges' : List TabletMerge) × HoldMerges jobs' merges' × IsChain EntryGoes (starting first) (e ∷ es) (record { held = new; begun = merges' })
 goes_on_chain first merges core new jobs jobs' es e hold chain goes =
     let last = goes merges hold in

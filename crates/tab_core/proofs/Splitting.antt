@@ -2,7 +2,7 @@
 use Rattle.std.proofs.Common.{◌≡◌, inl, ℕ, List, [], ◌∷◌, true, false, refl, sym, ◌∙◌, ap, subst, length, Option, None, Result, Ok, Err}
 use Rattle.std.specs.Prelude.{ℤ, IfOk, OnOk, OnErr}
 use Rattle.tab_key.specs.Records.{Cell}
-use Rattle.tab_key.specs.declared.part.Part.TheVariants.{Row}
+use Rattle.tab_key.specs.declared.limited_part.LimitedPart.TheVariants.{Row}
 use Rattle.tab_mutation.specs.Shape.{first_some, when, is_too_long}
 use Rattle.tab_session.specs.OpenSession.{OpenSession}
 use Rattle.tab_store.specs.Tablets.{Tablet, next_number}
@@ -21,7 +21,7 @@ use Rattle.tab_history.specs.Changes.{changes_of}
 use Rattle.tab_history.specs.Readings.{settings_of}
 use Rattle.tab_history.specs.Legal.{takes_memory}
 use Rattle.tab_store.specs.Parts.{TabletMerge}
-use Rattle.tab_store.specs.Stores.{HeldTable, Held, RiseByName, base_of, tablets_in}
+use Rattle.tab_store.specs.Stores.{TableContents, CoreContents, RiseByName, base_of, tablets_in}
 use Rattle.tab_store.specs.Stepping.{TabletWork, TableWork, Splitting, Halving, On, work_of, lays, told_split, told_by, laid_by, told_exactly, laid_exactly, laid_told, job_by, handed, tablets_numbered, tablet_told, job_told}
 use Rattle.tab_store.specs.Tables.{with_tablets, table_at, changed_table, tablets_of}
 use Rattle.tab_store.proofs.Changed.{tablets_read, settings_kept, table_split, table_halved, table_listed}
@@ -76,7 +76,7 @@ none_changed now user a split.OneRow none = refl
 none_changed now user a split.Full none = refl
 
 -- memory didn't lack
-laid_so : (h : Held) (now : ℤ) (a : Act) (s : Split) (q : List ℕ) → laid_exactly h now None a Done q ≡ laid_told (told_split Done s) h now None a Done q
+laid_so : (h : CoreContents) (now : ℤ) (a : Act) (s : Split) (q : List ℕ) → laid_exactly h now None a Done q ≡ laid_told (told_split Done s) h now None a Done q
 laid_so h now a split.Done q = refl
 laid_so h now a split.Present q = refl
 laid_so h now a split.Small q = refl
@@ -85,26 +85,26 @@ laid_so h now a split.Full q = refl
 
 -- ---- splits
 -- what an act that splits so leaves of these tables, and what became of the split
-pub record SplitSo (t : List ℕ) (f : List Tablet → Split × List Tablet) (ts new : List HeldTable) (told : Split) : Type 0 where
+pub record SplitSo (t : List ℕ) (f : List Tablet → Split × List Tablet) (ts new : List TableContents) (told : Split) : Type 0 where
   pub names : RiseByName new
   pub count : length new ≡ length ts
   pub told_so : told ≡ (f (tablets_of (table_at ts t))).0
   pub changed : (q : List ℕ) → table_at new q ≡ changed_table t (with_tablets (λ us. (f us).1)) ts q
 
 -- an act that splits so in this core
-pub record Splits (h : Held) (a : Act) (t : List ℕ) (work : TabletWork) (f : List Tablet → Split × List Tablet) : Type 0 where
+pub record Splits (h : CoreContents) (a : Act) (t : List ℕ) (work : TabletWork) (f : List Tablet → Split × List Tablet) : Type 0 where
   pub takes : takes_memory a ≡ true
   pub works : work_of None a ≡ On t work
   pub changes : (now : ℤ) (user : List ℕ) → changes_of now user a ≡ []
   pub tells : (now : ℤ) → told_by h now (On t work) Done ≡ told_split Done (f (tablets_in h t)).0
-  pub lies : (new : Held) (now : ℤ) → ((q : List ℕ) → table_at new.tables q ≡ changed_table t (with_tablets (λ us. (f us).1)) h.tables q) → (q : List ℕ) → tablets_in new q ≡ laid_by h now (On t work) Done q
+  pub lies : (new : CoreContents) (now : ℤ) → ((q : List ℕ) → table_at new.tables q ≡ changed_table t (with_tablets (λ us. (f us).1)) h.tables q) → (q : List ℕ) → tablets_in new q ≡ laid_by h now (On t work) Done q
   pub numbers : tablets_numbered (On t work) h.tablet ≡ next_number (next_number h.tablet)
 
-pub adds_split : (h : Held) (t row : List ℕ) → Splits h (act.AddSplit t row) t (Splitting row) (splits row h.tablet)
+pub adds_split : (h : CoreContents) (t row : List ℕ) → Splits h (act.AddSplit t row) t (Splitting row) (splits row h.tablet)
 unfolding lays
 adds_split h t row = record { takes = refl; works = refl; changes = λ now user. refl; tells = λ now. refl; lies = λ new now. table_split h new t now Done row; numbers = refl }
 
-pub splits_by_size : (h : Held) (t row : List ℕ) (limit : ℕ) → Splits h (act.SplitBySize t row limit) t (Halving row limit) (halves row limit h.tablet)
+pub splits_by_size : (h : CoreContents) (t row : List ℕ) (limit : ℕ) → Splits h (act.SplitBySize t row limit) t (Halving row limit) (halves row limit h.tablet)
 unfolding lays
 splits_by_size h t row limit = record { takes = refl; works = refl; changes = λ now user. refl; tells = λ now. refl; lies = λ new now. table_halved h new t now Done row limit; numbers = refl }
 
@@ -112,14 +112,14 @@ splits_by_size h t row limit = record { takes = refl; works = refl; changes = λ
 abbrev pub NumbersSplit : Reply OpenSession TabletMerge → ℕ → ℕ → Type 0
 NumbersSplit reply n n' = (t row : List ℕ) → n' ≡ tablet_told (told_of reply) (On t (Splitting row)) n
 
-module _ (h : Held) (now : ℤ) (user t : List ℕ) (a : Act) (work : TabletWork) (f : List Tablet → Split × List Tablet) (core : IsCore h) (is : Splits h a t work f) (passes : Done ≡ own_answer (base_of h) now user a) where
+module _ (h : CoreContents) (now : ℤ) (user t : List ℕ) (a : Act) (work : TabletWork) (f : List Tablet → Split × List Tablet) (core : IsCore h) (is : Splits h a t work f) (passes : Done ≡ own_answer (base_of h) now user a) where
   numbers_done : (reply : Reply OpenSession TabletMerge) (n : ℕ) → NumbersSplit reply h.tablet n → n ≡ tablet_told (told_of reply) (work_of None a) h.tablet
   numbers_done reply n numbered = numbered t [] ∙ numbered_alike (told_of reply) (On t (Splitting [])) (On t work) h.tablet (sym is.numbers) ∙ ap (λ w. tablet_told (told_of reply) w h.tablet) (sym is.works)
 
-  split_done : (ts : List HeldTable) (n : ℕ) (s : Split) (reply : Reply OpenSession TabletMerge) → SplitSo t f h.tables ts s → told_of reply ≡ told_split Done s → NumbersSplit reply h.tablet n
+  split_done : (ts : List TableContents) (n : ℕ) (s : Split) (reply : Reply OpenSession TabletMerge) → SplitSo t f h.tables ts s → told_of reply ≡ told_split Done s → NumbersSplit reply h.tablet n
       → Acts (own_answer (base_of h) now user a) h now None user a reply (record h { tables = ts; tablet = n })
   split_done ts n s reply after told numbered =
-      let new : Held = record h { tables = ts; tablet = n } in
+      let new : CoreContents = record h { tables = ts; tablet = n } in
       let settings : (q : List ℕ) → settings_of (base_of new) [] q ≡ settings_of (base_of h) [] q = settings_kept h new t (with_tablets (λ us. (f us).1)) (λ x. refl) after.changed in
       let none : changes_told now user a (told_of reply) ≡ [] = ap (changes_told now user a) told ∙ none_changed now user a s (is.changes now user) in
       record {
@@ -137,35 +137,35 @@ module _ (h : Held) (now : ℤ) (user t : List ℕ) (a : Act) (work : TabletWork
       }
 
   -- whether there was memory for it or not
-  pub splits_or_lacks : {E : Type 0} (ts : List HeldTable) (n : ℕ) (made : Result Split E) (reply : Reply OpenSession TabletMerge) → IfOk made (SplitSo t f h.tables ts) → OnErr made (ts ≡ h.tables) → IfOk made (λ s. told_of reply ≡ told_split Done s)
+  pub splits_or_lacks : {E : Type 0} (ts : List TableContents) (n : ℕ) (made : Result Split E) (reply : Reply OpenSession TabletMerge) → IfOk made (SplitSo t f h.tables ts) → OnErr made (ts ≡ h.tables) → IfOk made (λ s. told_of reply ≡ told_split Done s)
       → OnErr made (reply ≡ Refused NoMemory) → NumbersSplit reply h.tablet n → Acts (own_answer (base_of h) now user a) h now None user a reply (record h { tables = ts; tablet = n })
   splits_or_lacks ts n (Ok s) reply after same told err numbered = split_done ts n s reply after told numbered
   splits_or_lacks ts n (Err e) reply after same told err numbered =
       let kept : n ≡ h.tablet = numbered t [] ∙ ap (λ r. tablet_told (told_of r) (On t (Splitting [])) h.tablet) err in
       subst (λ r. Acts (own_answer (base_of h) now user a) h now None user a r (record h { tables = ts; tablet = n })) (sym err)
-      (subst (λ (new : Held). Acts (own_answer (base_of h) now user a) h now None user a (Refused NoMemory) new) (λ i. record h { tables = sym same i; tablet = sym kept i }) (lacked (own_answer (base_of h) now user a) h now user a is.takes core))
+      (subst (λ (new : CoreContents). Acts (own_answer (base_of h) now user a) h now None user a (Refused NoMemory) new) (λ i. record h { tables = sym same i; tablet = sym kept i }) (lacked (own_answer (base_of h) now user a) h now user a is.takes core))
 
 -- what a call that splits so ensures
-pub split_so : {E : Type 0} (t : List ℕ) (f : List Tablet → Split × List Tablet) (ts new : List HeldTable) (made : Result Split E) → RiseByName new → length new ≡ length ts → IfOk made (λ s. s ≡ (f (tablets_of (table_at ts t))).0)
+pub split_so : {E : Type 0} (t : List ℕ) (f : List Tablet → Split × List Tablet) (ts new : List TableContents) (made : Result Split E) → RiseByName new → length new ≡ length ts → IfOk made (λ s. s ≡ (f (tablets_of (table_at ts t))).0)
     → OnOk made ((q : List ℕ) → table_at new q ≡ changed_table t (with_tablets (λ us. (f us).1)) ts q) → IfOk made (SplitSo t f ts new)
 split_so t f ts new (Ok s) names count told changed = record { names = names; count = count; told_so = told; changed = changed }
 split_so t f ts new (Err e) names count told changed = tt
 
 -- ---- the row
 -- it is too long
-pub row_refused : (h : Held) (now : ℤ) (user row : List ℕ) (a : Act) → IsCore h → own_checks (standing (base_of h) [] user) (exists_in (base_of h) [] (user_named a)) now a ≡ row_checks row → is_too_long row ≡ true
+pub row_refused : (h : CoreContents) (now : ℤ) (user row : List ℕ) (a : Act) → IsCore h → own_checks (standing (base_of h) [] user) (exists_in (base_of h) [] (user_named a)) now a ≡ row_checks row → is_too_long row ≡ true
     → Acts (own_answer (base_of h) now user a) h now None user a (Refused (TooLarge Row)) h
 row_refused h now user row a core checks long = own_refused h now user a (TooLarge Row) core (ap first_some checks ∙ ap (λ b. first_some (when b (TooLarge Row) ∷ [])) long)
 
 -- or not
-pub add_passes : (h : Held) (now : ℤ) (user t row : List ℕ) → is_too_long row ≡ false → Done ≡ own_answer (base_of h) now user (act.AddSplit t row)
+pub add_passes : (h : CoreContents) (now : ℤ) (user t row : List ℕ) → is_too_long row ≡ false → Done ≡ own_answer (base_of h) now user (act.AddSplit t row)
 add_passes h now user t row short = ap (λ b. told (first_some (when b (TooLarge Row) ∷ [])) Done) (sym short)
 
-pub halve_passes : (h : Held) (now : ℤ) (user t row : List ℕ) (limit : ℕ) → is_too_long row ≡ false → Done ≡ own_answer (base_of h) now user (act.SplitBySize t row limit)
+pub halve_passes : (h : CoreContents) (now : ℤ) (user t row : List ℕ) (limit : ℕ) → is_too_long row ≡ false → Done ≡ own_answer (base_of h) now user (act.SplitBySize t row limit)
 halve_passes h now user t row limit short = ap (λ b. told (first_some (when b (TooLarge Row) ∷ [])) Done) (sym short)
 
 -- ---- end rows
-pub ends_told : (h : Held) (now : ℤ) (user t : List ℕ) (reply : Reply OpenSession TabletMerge) → IsCore h → reply ≡ Rows (ends_of (tablets_of (table_at h.tables t))) → Acts (own_answer (base_of h) now user (act.Splits t)) h now None user (act.Splits t) reply h
+pub ends_told : (h : CoreContents) (now : ℤ) (user t : List ℕ) (reply : Reply OpenSession TabletMerge) → IsCore h → reply ≡ Rows (ends_of (tablets_of (table_at h.tables t))) → Acts (own_answer (base_of h) now user (act.Splits t)) h now None user (act.Splits t) reply h
 unfolding lays
 ends_told h now user t reply core is = subst (λ r. Acts (own_answer (base_of h) now user (act.Splits t)) h now None user (act.Splits t) r h) (sym is) (record {
   exact = record {

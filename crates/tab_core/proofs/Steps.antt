@@ -3,7 +3,7 @@ use Rattle.std.proofs.Common.{◌≡◌, ◌⊎◌, inl, inr, List, [], ◌∷�
 use Rattle.std.specs.Prelude.{ℤ, ℕ, is_some, find, bytes_eq}
 use Rattle.std.specs.Int.{int_max}
 use Rattle.std.proofs.lemmas.List.{append-nil}
-use Rattle.tab_key.specs.declared.part.Part.TheVariants as part
+use Rattle.tab_key.specs.declared.limited_part.LimitedPart.TheVariants as part
 use Rattle.tab_policy.specs.State.{table_exists}
 use Rattle.tab_session.specs.OpenSession.{OpenSession}
 use Rattle.tab_history.specs.declared.event.Act.{Act}
@@ -30,7 +30,7 @@ use Rattle.tab_history.proofs.Chains.{sound_refines_itself}
 use Rattle.tab_history.proofs.Lacking.{alone}
 use Rattle.tab_history.proofs.Playing.{unmoved}
 use Rattle.tab_store.specs.Parts.{TabletMerge}
-use Rattle.tab_store.specs.Stores.{Held, base_of, IsNewStore}
+use Rattle.tab_store.specs.Stores.{CoreContents, base_of, IsNewStore}
 use Rattle.tab_store.specs.Stepping.{LaysExactly, StepsExactly, now_at, plain_answer, entry_of}
 use Rattle.tab_store.specs.Rightness.{LeavesExactly}
 use Rattle.tab_store.proofs.ChainLaws.{new_stores_are_stores, stores_are_sound}
@@ -41,7 +41,7 @@ use Rattle.tab_core.specs.Bounded.{WritesBare}
 use Rattle.tab_core.proofs.Bounded.{limits_stay, new_is_bounded}
 
 -- ---- a new core
-pub new_is_core : (h : Held) → IsNewStore h → ((t : List ℕ) → table_exists h.policy t ≡ false) → IsCore h
+pub new_is_core : (h : CoreContents) → IsNewStore h → ((t : List ℕ) → table_exists h.policy t ≡ false) → IsCore h
 unfolding settings_of
 new_is_core h new unknown = record {
   store = new_stores_are_stores h new;
@@ -79,11 +79,11 @@ no_entry : (v w : World) (h : List Entry) (e : Event) (r : Told) → r ≡ Refus
 no_entry v w h e r is s = no_trace v w h e (subst (λ x. Refines v (world_after w (entry_of e x ∷ h))) is s)
 
 -- the core with its clock set
-abbrev pub set : Event → Told → Held → Held → Held
+abbrev pub set : Event → Told → CoreContents → CoreContents → CoreContents
 set e r old new = record new { clock = cond (moves_clock r) (int_max old.clock e.moment) old.clock }
 
-module _ (old new : Held) (given : Option TabletMerge) (e : Event) (reply : Reply OpenSession TabletMerge) (core : IsCore old) (acts : Acts (plain_answer old e) old (now_at old e) given e.user e.act reply new) (bare : WritesBare e.act) (named : NamesNoSlot e.act) where
-  abbrev after : Held
+module _ (old new : CoreContents) (given : Option TabletMerge) (e : Event) (reply : Reply OpenSession TabletMerge) (core : IsCore old) (acts : Acts (plain_answer old e) old (now_at old e) given e.user e.act reply new) (bare : WritesBare e.act) (named : NamesNoSlot e.act) where
+  abbrev after : CoreContents
   after = set e (told_of reply) old new
 
   laid : LaysExactly old (now_at old e) given e.act (plain_answer old e) (told_of reply) (job_of reply) after
@@ -138,17 +138,17 @@ module _ (old new : Held) (given : Option TabletMerge) (e : Event) (reply : Repl
 
 -- ---- the clock is set, or stays
 -- what the step owes: a core still, and both sides of the step
-pub record StepsWell (old : Held) (given : Option TabletMerge) (e : Event) (reply : Reply OpenSession TabletMerge) (new : Held) : Type 0 where
+pub record StepsWell (old : CoreContents) (given : Option TabletMerge) (e : Event) (reply : Reply OpenSession TabletMerge) (new : CoreContents) : Type 0 where
   pub core : IsCore new
   pub steps : Steps (base_of old) e reply (base_of new)
   pub exact : StepsExactly old given e (told_of reply) (job_of reply) new
 
 -- the act, at a clock that is told so
-abbrev pub ActsAt : Held → Option TabletMerge → Event → ℤ → Reply OpenSession TabletMerge → Held → Type 0
+abbrev pub ActsAt : CoreContents → Option TabletMerge → Event → ℤ → Reply OpenSession TabletMerge → CoreContents → Type 0
 ActsAt old given e now reply new = Acts (event_answer (base_of old) [] now e.user e.act) old now given e.user e.act reply new
 
 -- where the clock is this behind the act
-pub well : (old new : Held) (given : Option TabletMerge) (e : Event) (reply : Reply OpenSession TabletMerge) (now t clock : ℤ) → IsCore old → WritesBare e.act → NamesNoSlot e.act → now ≡ int_max old.clock e.moment → t ≡ now → ActsAt old given e t reply new → clock ≡ cond (moves_clock (told_of reply)) t new.clock
+pub well : (old new : CoreContents) (given : Option TabletMerge) (e : Event) (reply : Reply OpenSession TabletMerge) (now t clock : ℤ) → IsCore old → WritesBare e.act → NamesNoSlot e.act → now ≡ int_max old.clock e.moment → t ≡ now → ActsAt old given e t reply new → clock ≡ cond (moves_clock (told_of reply)) t new.clock
     → StepsWell old given e reply (record new { clock = clock })
 well old new given e reply now t clock core bare named is trip acts set_to =
     let h : Acts (plain_answer old e) old (now_at old e) given e.user e.act reply new = subst (λ c. ActsAt old given e c reply new) (trip ∙ is) acts in
@@ -156,7 +156,7 @@ well old new given e reply now t clock core bare named is trip acts set_to =
     subst (λ (c : ℤ). StepsWell old given e reply (record new { clock = c })) (sym (set_to ∙ (λ i. cond (moves_clock (told_of reply)) ((trip ∙ is) i) (acts.becomes.clock i)))) done
 
 -- an event that names no slot was an exact step
-pub steps_alone : (old new : Held) (given : Option TabletMerge) (e : Event) (reply : Reply OpenSession TabletMerge) → NamesNoSlot e.act → StepsWell old given e reply new → StepsWith old given e reply new
+pub steps_alone : (old new : CoreContents) (given : Option TabletMerge) (e : Event) (reply : Reply OpenSession TabletMerge) → NamesNoSlot e.act → StepsWell old given e reply new → StepsWith old given e reply new
 steps_alone old new given e reply named well = inl (named, well.exact)
 
 -- ---- an Install by a slot, of which a core knows none
@@ -172,11 +172,11 @@ unfolding answer jobs_of job_in
 no_job_there w h user moment t slot = refl
 
 -- a core refines itself
-pub itself : (h : Held) → IsCore h → Refines (world_of (base_of h)) (world_after (world_of (base_of h)) [])
+pub itself : (h : CoreContents) → IsCore h → Refines (world_of (base_of h)) (world_after (world_of (base_of h)) [])
 unfolding journal clock_of
 itself h core = sound_refines_itself (world_of (base_of h)) (stores_are_sound h core.store)
 
-slot_steps : (old : Held) (user : List ℕ) (moment : ℤ) (t : List ℕ) (slot : ℕ) → IsCore old → Steps (base_of old) (by_slot user moment t slot) (Refused (refusal.NoJob slot)) (base_of old)
+slot_steps : (old : CoreContents) (user : List ℕ) (moment : ℤ) (t : List ℕ) (slot : ℕ) → IsCore old → Steps (base_of old) (by_slot user moment t slot) (Refused (refusal.NoJob slot)) (base_of old)
 slot_steps old user moment t slot core = record {
   right = record { legal = (tt, inl (no_job_there (world_of (base_of old)) [] user moment t slot)); refines = still (world_of (base_of old)) [] (itself old core) };
   legal = λ w h s l. (l, inl (no_job_there w h user moment t slot));
@@ -191,11 +191,11 @@ slot_steps old user moment t slot core = record {
     still w h s = subst (λ (v : World). Refines (world_of (base_of old)) v) (sym (unmoved w h (entry_of (by_slot user moment t slot) (no_job slot)) tt)) s
 
 -- both sides of that
-pub record StepsAside (old : Held) (given : Option TabletMerge) (e : Event) (reply : Reply OpenSession TabletMerge) : Type 0 where
+pub record StepsAside (old : CoreContents) (given : Option TabletMerge) (e : Event) (reply : Reply OpenSession TabletMerge) : Type 0 where
   pub steps : Steps (base_of old) e reply (base_of old)
   pub exact : StepsWith old given e reply old
 
-pub aside : (old : Held) (given : Option TabletMerge) (e : Event) (t : List ℕ) (slot : ℕ) → IsCore old → e.act ≡ Install t (InSlot slot) → StepsAside old given e (Refused (refusal.NoJob slot))
+pub aside : (old : CoreContents) (given : Option TabletMerge) (e : Event) (t : List ℕ) (slot : ℕ) → IsCore old → e.act ≡ Install t (InSlot slot) → StepsAside old given e (Refused (refusal.NoJob slot))
 aside old given e t slot core is = record {
   steps = subst (λ (a : Act). Steps (base_of old) (record e { act = a }) (Refused (refusal.NoJob slot)) (base_of old)) (sym is) (slot_steps old e.user e.moment t slot core);
   exact = inr (slot, (t, is), refl, refl);

@@ -1,7 +1,7 @@
 -- A mutation written, or refused.
 use Rattle.std.proofs.Common.{◌≡◌, ◌⊎◌, inl, inr, ℕ, ◌+◌, length, List, [], ◌∷◌, ◌++◌, Bool, true, false, refl, Option, sym, ◌∙◌, ap, subst, Some, None}
 use Rattle.std.specs.Prelude.{ℤ, nat_le, is_some}
-use Rattle.tab_key.specs.declared.part.Part.TheVariants.{Numbers}
+use Rattle.tab_key.specs.declared.limited_part.LimitedPart.TheVariants.{Numbers}
 use Rattle.tab_mutation.specs.Mutations.{Mutation}
 use Rattle.tab_mutation.specs.Shape.{first_some, when}
 use Rattle.tab_policy.specs.State.{readings, auths_of, table_exists}
@@ -16,7 +16,7 @@ use Rattle.tab_history.specs.Readings.{has_user, user_count, held_auths, has_sys
 use Rattle.tab_history.specs.Checks.{standing, mutation_checks}
 use Rattle.tab_history.specs.Answers.{Told, told, numbered}
 use Rattle.tab_store.specs.ByRow.{at_row}
-use Rattle.tab_store.specs.Stores.{HeldTable, Held, RiseByName, base_of}
+use Rattle.tab_store.specs.Stores.{TableContents, CoreContents, RiseByName, base_of}
 use Rattle.tab_store.specs.Stepping.{Writing, On, lays}
 use Rattle.tab_store.specs.Tables.{TableState, with_tablets, table_at, changed_table, settings_at}
 use Rattle.tab_store.proofs.Changed.{settings_read, count_read, settings_kept, table_written}
@@ -31,7 +31,7 @@ last_check (None ∷ os) used_up reply = last_check os used_up reply
 last_check (Some r ∷ os) used_up reply = refl
 
 -- the table that an admitted write names is there
-pub table_there : (h : Held) (user t : List ℕ) (m : Mutation) → IsAdmitted (base_of h) user (act.Write t m) → is_some (table_at h.tables t) ≡ true
+pub table_there : (h : CoreContents) (user t : List ℕ) (m : Mutation) → IsAdmitted (base_of h) user (act.Write t m) → is_some (table_at h.tables t) ≡ true
 table_there h user t m admitted = go (table_at h.tables t) (sym (ap is_some (settings_read h t)) ∙ admitted.1)
   where
     go : (o : Option TableState) → is_some (settings_at o) ≡ true → is_some o ≡ true
@@ -39,17 +39,17 @@ table_there h user t m admitted = go (table_at h.tables t) (sym (ap is_some (set
     go (Some s) e = refl
 
 -- ---- the answer
-own_write : (h : Held) (now : ℤ) (user t : List ℕ) (m : Mutation) (auths : List (List ℕ)) → auths_of h.policy user ≡ auths
+own_write : (h : CoreContents) (now : ℤ) (user t : List ℕ) (m : Mutation) (auths : List (List ℕ)) → auths_of h.policy user ≡ auths
     → own_answer (base_of h) now user (act.Write t m) ≡ told (first_some (write_checks (settings_at (table_at h.tables t)) auths now m h.next)) Done
 unfolding standing held_auths next_number
 own_write h now user t m auths held =
     (λ i. told (first_some (mutation_checks (settings_read h t i) (held i) now m)) (numbered (nat_le 18446744073709551615 h.next) Done)) ∙ last_check (mutation_checks (settings_at (table_at h.tables t)) auths now m) (nat_le 18446744073709551615 h.next) Done
 
 -- the first check that fails, or want of memory
-abbrev pub Checks : List (List ℕ) → ℤ → List ℕ → Mutation → List HeldTable → ℕ → Option Refusal → Type 0
+abbrev pub Checks : List (List ℕ) → ℤ → List ℕ → Mutation → List TableContents → ℕ → Option Refusal → Type 0
 Checks auths now t m ts nx o = (o ≡ first_some (write_checks (settings_at (table_at ts t)) auths now m nx)) ⊎ (o ≡ Some NoMemory)
 
-write_refused : (h : Held) (now : ℤ) (user t : List ℕ) (m : Mutation) (auths : List (List ℕ)) (r : Refusal) → IsCore h → auths_of h.policy user ≡ auths → Checks auths now t m h.tables h.next (Some r)
+write_refused : (h : CoreContents) (now : ℤ) (user t : List ℕ) (m : Mutation) (auths : List (List ℕ)) (r : Refusal) → IsCore h → auths_of h.policy user ≡ auths → Checks auths now t m h.tables h.next (Some r)
     → Acts (own_answer (base_of h) now user (act.Write t m)) h now None user (act.Write t m) (Refused r) h
 write_refused h now user t m auths r core held fails = refused (own_answer (base_of h) now user (act.Write t m)) h now user (act.Write t m) r core (go fails)
   where
@@ -62,16 +62,16 @@ abbrev pub written_at : Mutation → ℤ → ℕ → TableState → TableState
 written_at m now next = with_tablets (at_row m.row (λ x. written (mutation_records next now m) x ∷ []))
 
 -- what a write leaves of these tables
-pub record Wrote (t : List ℕ) (m : Mutation) (now : ℤ) (next : ℕ) (ts new : List HeldTable) : Type 0 where
+pub record Wrote (t : List ℕ) (m : Mutation) (now : ℤ) (next : ℕ) (ts new : List TableContents) : Type 0 where
   pub names : RiseByName new
   pub count : length new ≡ length ts
   pub changed : (q : List ℕ) → table_at new q ≡ changed_table t (written_at m now next) ts q
 
-write_done : (h : Held) (ts : List HeldTable) (now : ℤ) (user t : List ℕ) (m : Mutation) (auths : List (List ℕ)) → IsCore h → auths_of h.policy user ≡ auths → Checks auths now t m h.tables h.next None → Wrote t m now h.next h.tables ts
+write_done : (h : CoreContents) (ts : List TableContents) (now : ℤ) (user t : List ℕ) (m : Mutation) (auths : List (List ℕ)) → IsCore h → auths_of h.policy user ≡ auths → Checks auths now t m h.tables h.next None → Wrote t m now h.next h.tables ts
     → Acts (own_answer (base_of h) now user (act.Write t m)) h now None user (act.Write t m) Done (record h { next = h.next + 1; tables = ts })
 unfolding lays readings next_number has_user user_count held_auths has_system_right has_table_right table_count settings_of
 write_done h ts now user t m auths core held passes after =
-    let new : Held = record h { next = h.next + 1; tables = ts } in
+    let new : CoreContents = record h { next = h.next + 1; tables = ts } in
     let settings : (q : List ℕ) → settings_of (base_of (record h { tables = ts })) [] q ≡ settings_of (base_of h) [] q = settings_kept h (record h { tables = ts }) t (written_at m now h.next) (λ s. refl) after.changed in
     record {
       exact = done_exactly h new now (act.Write t m) (own_answer (base_of h) now user (act.Write t m)) (On t (Writing m)) refl (go passes ∙ sym (own_write h now user t m auths held)) refl (table_written h new t now Done m after.changed) after.names refl refl;
@@ -85,15 +85,15 @@ write_done h ts now user t m auths core held passes after =
     go (inr e) = absurd (cc)
 
 -- ---- the same of whichever core has these tables and this next number
-pub refuses : (auths : List (List ℕ)) (now : ℤ) (t : List ℕ) (m : Mutation) (ts : List HeldTable) (nx : ℕ) (r : Refusal) → Checks auths now t m ts nx (Some r) → ActsOnTables auths now (act.Write t m) ts nx (Refused r) ts nx
+pub refuses : (auths : List (List ℕ)) (now : ℤ) (t : List ℕ) (m : Mutation) (ts : List TableContents) (nx : ℕ) (r : Refusal) → Checks auths now t m ts nx (Some r) → ActsOnTables auths now (act.Write t m) ts nx (Refused r) ts nx
 refuses auths now t m ts nx r fails h user core tables next held =
-    subst (λ (us : List HeldTable). Acts (own_answer (base_of h) now user (act.Write t m)) h now None user (act.Write t m) (Refused r) (record h { next = nx; tables = us })) tables
+    subst (λ (us : List TableContents). Acts (own_answer (base_of h) now user (act.Write t m)) h now None user (act.Write t m) (Refused r) (record h { next = nx; tables = us })) tables
     (subst (λ (n : ℕ). Acts (own_answer (base_of h) now user (act.Write t m)) h now None user (act.Write t m) (Refused r) (record h { next = n })) next
-    (write_refused h now user t m auths r core held (subst (λ (n : ℕ). Checks auths now t m h.tables n (Some r)) (sym next) (subst (λ (us : List HeldTable). Checks auths now t m us nx (Some r)) (sym tables) fails))))
+    (write_refused h now user t m auths r core held (subst (λ (n : ℕ). Checks auths now t m h.tables n (Some r)) (sym next) (subst (λ (us : List TableContents). Checks auths now t m us nx (Some r)) (sym tables) fails))))
 
-pub wrote : (auths : List (List ℕ)) (now : ℤ) (t : List ℕ) (m : Mutation) (ts new : List HeldTable) (nx : ℕ) → Checks auths now t m ts nx None → Wrote t m now nx ts new → ActsOnTables auths now (act.Write t m) ts nx Done new (nx + 1)
+pub wrote : (auths : List (List ℕ)) (now : ℤ) (t : List ℕ) (m : Mutation) (ts new : List TableContents) (nx : ℕ) → Checks auths now t m ts nx None → Wrote t m now nx ts new → ActsOnTables auths now (act.Write t m) ts nx Done new (nx + 1)
 wrote auths now t m ts new nx passes after h user core tables next held =
     subst (λ (n : ℕ). Acts (own_answer (base_of h) now user (act.Write t m)) h now None user (act.Write t m) Done (record h { next = n + 1; tables = new })) next
     (write_done h new now user t m auths core held
-    (subst (λ (n : ℕ). Checks auths now t m h.tables n None) (sym next) (subst (λ (us : List HeldTable). Checks auths now t m us nx None) (sym tables) passes))
-    (subst (λ (n : ℕ). Wrote t m now n h.tables new) (sym next) (subst (λ (us : List HeldTable). Wrote t m now nx us new) (sym tables) after)))
+    (subst (λ (n : ℕ). Checks auths now t m h.tables n None) (sym next) (subst (λ (us : List TableContents). Checks auths now t m us nx None) (sym tables) passes))
+    (subst (λ (n : ℕ). Wrote t m now n h.tables new) (sym next) (subst (λ (us : List TableContents). Wrote t m now nx us new) (sym tables) after)))

@@ -1,4 +1,4 @@
--- Two runs compared by what one user is told in them.
+-- To be believed by whoever relies on it. Two runs compared by what one user is told in them.
 use Rattle.std.specs.Prelude.{◌≡◌, ℕ, List, [], ◌∷◌, Bool, cond, filter, map, reverse}
 use Rattle.tab_history.specs.Bases.{new_core}
 use Rattle.tab_history.specs.Answers.{Told}

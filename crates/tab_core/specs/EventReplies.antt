@@ -1,4 +1,4 @@
--- What an event is told, as it is copied.
+-- For proofs. What an event is told, as it is copied.
 use Rattle.std.specs.Prelude.{Bool, true, false}
 use Rattle.tab_history.specs.Answers.{Told, told_opened, told_begun}
 use Rattle.tab_history.specs.declared.reply.Refusal.{Refusal}

@@ -1,4 +1,4 @@
--- The jobs that a run keeps for all its users, each in the slot that is its number, and what steps do to them.
+-- To be believed by whoever relies on it. The jobs that a run keeps for all its users, each in the slot that is its number, and what steps do to them.
 use Rattle.std.specs.Prelude.{ℕ, ◌≡◌, ◌⊎◌, Bool, true, false, List, [], ◌∷◌, ◌++◌, length, get_or, slice_get, slice_set, Option, Some, None}
 use Rattle.tab_history.specs.declared.event.Act.{Act}
 use Rattle.tab_history.specs.declared.event.Act.TheVariants.{Begin, Install}
@@ -14,7 +14,7 @@ use Rattle.tab_history.specs.Histories.{Entry}
 use Rattle.tab_history.specs.Chains.{IsChain, NamesNoSlot}
 use Rattle.tab_session.specs.OpenSession.{OpenSession}
 use Rattle.tab_store.specs.Parts.{TabletMerge}
-use Rattle.tab_store.specs.Stores.{Held, base_of}
+use Rattle.tab_store.specs.Stores.{CoreContents, base_of}
 use Rattle.tab_store.specs.Stepping.{StepsExactly}
 use Rattle.tab_store.specs.Chains.{Running, EntryGoes}
 use Rattle.tab_core.specs.declared.job_slots.JobSlot.{JobSlot}
@@ -61,7 +61,7 @@ pub record HoldMerges (slots : List JobSlot) (merges : List TabletMerge) : Type 
   pub holds : (k : ℕ) (m : TabletMerge) → merge_in (slot_in slots k) ≡ Some m → slice_get merges k ≡ Some m
 
 -- From whatever merges the slots hold, these entries are a chain of exact steps to some that the new slots hold.
-abbrev pub GoesExactly : Held → List JobSlot → List Entry → Held → List JobSlot → Type 0
+abbrev pub GoesExactly : CoreContents → List JobSlot → List Entry → CoreContents → List JobSlot → Type 0
 GoesExactly old slots es new slots' = (merges : List TabletMerge) → HoldMerges slots merges
     → (merges' : List TabletMerge) × HoldMerges slots' merges' × IsChain EntryGoes (record { held = old; begun = merges }) es (record { held = new; begun = merges' })
 
@@ -98,14 +98,14 @@ kept_job slots None = slots
 kept_job slots (Some m) = slots ++ Waiting m ∷ []
 
 -- Memory lacked for the slot of a job that was to begin: nothing happened.
-pub record LacksRoom (old : Held) (slots : List JobSlot) (event : Event) (reply : Told) (new : Held) (slots' : List JobSlot) : Type 0 where
+pub record LacksRoom (old : CoreContents) (slots : List JobSlot) (event : Event) (reply : Told) (new : CoreContents) (slots' : List JobSlot) : Type 0 where
   pub begins : is_begin event.act ≡ true
   pub told : reply ≡ Refused NoMemory
   pub core : new ≡ old
   pub same : slots' ≡ slots
 
 -- An Install by a slot that holds no finished merge: nothing happened.
-pub record FindsNone (old : Held) (slots : List JobSlot) (event : Event) (reply : Told) (new : Held) (slots' : List JobSlot) : Type 0 where
+pub record FindsNone (old : CoreContents) (slots : List JobSlot) (event : Event) (reply : Told) (new : CoreContents) (slots' : List JobSlot) : Type 0 where
   pub slot : ℕ
   pub names : IsBySlot event.act slot
   pub holds : finished_in (slot_in slots slot) ≡ None
@@ -114,7 +114,7 @@ pub record FindsNone (old : Held) (slots : List JobSlot) (event : Event) (reply 
   pub same : slots' ≡ slots
 
 -- An Install by a slot that holds a finished merge: the core was given that merge, which is used up, whatever was told.
-pub record UsesUp (old : Held) (slots : List JobSlot) (event : Event) (reply : Told) (new : Held) (slots' : List JobSlot) : Type 0 where
+pub record UsesUp (old : CoreContents) (slots : List JobSlot) (event : Event) (reply : Told) (new : CoreContents) (slots' : List JobSlot) : Type 0 where
   pub table : List ℕ
   pub slot : ℕ
   pub merge : TabletMerge
@@ -127,7 +127,7 @@ pub record UsesUp (old : Held) (slots : List JobSlot) (event : Event) (reply : T
   pub used : slots' ≡ slice_set slots slot Free
 
 -- Any other event: the core answered it, and a job that it handed out is kept in the next slot.
-pub record KeepsJob (old : Held) (slots : List JobSlot) (event : Event) (reply : Told) (new : Held) (slots' : List JobSlot) : Type 0 where
+pub record KeepsJob (old : CoreContents) (slots : List JobSlot) (event : Event) (reply : Told) (new : CoreContents) (slots' : List JobSlot) : Type 0 where
   pub alone : NamesNoSlot event.act
   pub answer : Reply OpenSession TabletMerge
   pub steps : Steps (base_of old) event answer (base_of new)
@@ -136,5 +136,5 @@ pub record KeepsJob (old : Held) (slots : List JobSlot) (event : Event) (reply :
   pub kept : slots' ≡ kept_job slots (job_of answer)
 
 -- an event of a run
-abbrev pub StepsIn : Held → List JobSlot → Event → Told → Held → List JobSlot → Type 0
+abbrev pub StepsIn : CoreContents → List JobSlot → Event → Told → CoreContents → List JobSlot → Type 0
 StepsIn old slots event reply new slots' = LacksRoom old slots event reply new slots' ⊎ FindsNone old slots event reply new slots' ⊎ UsesUp old slots event reply new slots' ⊎ KeepsJob old slots event reply new slots'

@@ -1,6 +1,6 @@
--- What each step of a run does to the sessions of its users and to the jobs.
+-- To be believed by whoever relies on it. What each step of a run does to the sessions of its users and to the jobs.
 use Rattle.std.specs.Prelude.{ℕ, ◌≡◌, ◌⊎◌, true, false, List, [], ◌∷◌, ◌++◌, Option, Some, None, bytes_eq}
-use Rattle.tab_key.specs.declared.part.Part.TheVariants.{Sessions}
+use Rattle.tab_key.specs.declared.limited_part.LimitedPart.TheVariants.{Sessions}
 use Rattle.tab_history.specs.declared.event.Event.{Event}
 use Rattle.tab_history.specs.declared.event.Step.{Step}
 use Rattle.tab_history.specs.declared.reply.Refusal.TheVariants.{NoMemory, TooLarge}
@@ -13,7 +13,7 @@ use Rattle.tab_session.specs.OpenSession.{OpenSession}
 use Rattle.tab_history.specs.Histories.{Entry, World, world_of, world_after, moves_of, jobs_of}
 use Rattle.tab_history.specs.Legal.{Legal}
 use Rattle.tab_history.specs.Refinement.{Refines}
-use Rattle.tab_store.specs.Stores.{Held, base_of}
+use Rattle.tab_store.specs.Stores.{CoreContents, base_of}
 use Rattle.tab_store.specs.Parts.{TabletMerge}
 use Rattle.tab_core.specs.Slots.{SlotsAre, are_full}
 use Rattle.tab_core.specs.Sessions.{Keeping, kept_of}
@@ -39,7 +39,7 @@ Lengthens old os jobs step reply new os' jobs' = (w : World) (h : List Entry) �
     → let longer : List Entry = record { step = step; reply = reply } ∷ h in Refines (world_of new) (world_after w longer) × OwnersRefine os' w longer × JobsAre (jobs_of longer) jobs' × Legal w longer
 
 -- A step of a run: histories go on by it, and so does the core, exactly.
-pub record RunsOn (old : Held) (os : Keeping) (jobs : List JobSlot) (step : Step) (reply : Told) (new : Held) (os' : Keeping) (jobs' : List JobSlot) : Type 0 where
+pub record RunsOn (old : CoreContents) (os : Keeping) (jobs : List JobSlot) (step : Step) (reply : Told) (new : CoreContents) (os' : Keeping) (jobs' : List JobSlot) : Type 0 where
   -- each legal history that core, sessions and jobs refined
   pub histories : Lengthens (base_of old) os jobs step reply (base_of new) os' jobs'
   -- an event is an exact step, with the merge of its slot's job if it names one; and what is none leaves the core as it was
@@ -51,11 +51,11 @@ kept_with slots None = slots
 kept_with slots (Some session) = slots ++ Some session.state ∷ []
 
 -- the core answered the event, exactly, and a session that it handed out is kept
-abbrev pub AnswersIn : Held → List (Option SessionState) → Event → Told → Held → List (Option SessionState) → Type 0
+abbrev pub AnswersIn : CoreContents → List (Option SessionState) → Event → Told → CoreContents → List (Option SessionState) → Type 0
 AnswersIn old slots event reply new slots' = (r : Reply OpenSession TabletMerge) × Steps (base_of old) event r (base_of new) × StepsWith old None event r new × (reply ≡ told_of r) × (slots' ≡ kept_with slots (session_of r))
 
 -- an Open of a user with these slots: all stays where they are full or memory lacks, and otherwise the core answers
-abbrev pub OpensIn : Held → List (Option SessionState) → Event → Told → Held → List (Option SessionState) → Type 0
+abbrev pub OpensIn : CoreContents → List (Option SessionState) → Event → Told → CoreContents → List (Option SessionState) → Type 0
 OpensIn old slots event reply new slots' =
     ((are_full slots ≡ true) × (reply ≡ Refused (TooLarge Sessions)) × (new ≡ old) × (slots' ≡ slots))
     ⊎ ((reply ≡ Refused NoMemory) × (new ≡ old) × (slots' ≡ slots))

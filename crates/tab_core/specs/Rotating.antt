@@ -1,4 +1,4 @@
--- The base on which a history begins anew.
+-- For proofs. The base on which a history begins anew.
 use Rattle.std.specs.Prelude.{ℤ}
 use Rattle.std.specs.Int.{int_max}
 use Rattle.tab_history.specs.Bases.{Base}

@@ -1,4 +1,4 @@
--- The sessions that a run keeps for its users.
+-- To be believed by whoever relies on it. The sessions that a run keeps for its users.
 use Rattle.std.specs.Prelude.{ℕ, zero, suc, ◌≡◌, ◌+◌, Bool, List, [], ◌∷◌, Option, None, option_map, ◌⊎◌, length, is_some, count_by, nat_le, ◌||◌, reverse}
 use Rattle.tab_key.specs.declared.range.Bounds.{Bounds}
 use Rattle.tab_history.specs.declared.event.Step.{Step}

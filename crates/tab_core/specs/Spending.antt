@@ -1,4 +1,4 @@
--- What is left of an act that was lent to a core, once it is answered.
+-- For proofs. What is left of an act that was lent to a core, once it is answered.
 use Rattle.std.specs.Prelude.{[]}
 use Rattle.tab_history.specs.declared.event.Act.{Act}
 use Rattle.tab_history.specs.declared.event.Act.TheVariants.{Open, SetConstraints, SetAuths}

@@ -1,7 +1,7 @@
--- What one step of a core does, seen from the core alone and from every history that it refined.
+-- To be believed by whoever relies on it. What one step of a core does, seen from the core alone and from every history that it refined.
 use Rattle.std.specs.Prelude.{ℕ, ℤ, pos, ◌≡◌, ◌⊎◌, Bool, true, false, List, [], ◌∷◌, ◌++◌, nat_le, is_some, IfSome, Option, Some, None}
 use Rattle.tab_key.specs.Records.{Cell}
-use Rattle.tab_key.specs.declared.part.Part.TheVariants.{Sessions, Numbers}
+use Rattle.tab_key.specs.declared.limited_part.LimitedPart.TheVariants.{Sessions, Numbers}
 use Rattle.tab_mutation.specs.Shape.{first_some, when}
 use Rattle.tab_mutation.specs.Mutations.{Mutation}
 use Rattle.tab_policy.specs.Actions.{table_named}
@@ -28,7 +28,7 @@ use Rattle.tab_history.specs.Legal.{IsAnswer, LegalAlone, LacksMemory, takes_mem
 use Rattle.tab_history.specs.Refinement.{ReadsAlike, Refines}
 use Rattle.tab_history.specs.Chains.{GoesRight, HasRoom, NamesNoSlot}
 use Rattle.tab_store.specs.Parts.{TabletMerge}
-use Rattle.tab_store.specs.Stores.{HeldTable, Held, base_of}
+use Rattle.tab_store.specs.Stores.{TableContents, CoreContents, base_of}
 use Rattle.tab_store.specs.Stepping.{entry_of as entry}
 pub use Rattle.tab_store.specs.Stepping.{LaysExactly, StepsExactly, now_at, plain_answer}
 use Rattle.tab_store.specs.Rightness.{IsStore}
@@ -72,7 +72,7 @@ IsBySlot act slot = (t : List ℕ) × (act ≡ Install t (InSlot slot))
 
 -- What an event, with the merge that came with it, did to a core: it was an exact step; or it named a slot, of which a core knows none, and was
 -- no event.
-abbrev pub StepsWith : Held → Option TabletMerge → Event → Reply OpenSession TabletMerge → Held → Type 0
+abbrev pub StepsWith : CoreContents → Option TabletMerge → Event → Reply OpenSession TabletMerge → CoreContents → Type 0
 StepsWith old given event reply new =
     (NamesNoSlot event.act × StepsExactly old given event (told_of reply) (job_of reply) new)
     ⊎ ((slot : ℕ) × IsBySlot event.act slot × (reply ≡ Refused (NoJob slot)) × (new ≡ old))
@@ -96,18 +96,18 @@ abbrev pub Becomes : Base → List Change → Base → Type 0
 Becomes old j new = ReadsAlike (world_of new) (record (world_of old) { changes = j })
 
 -- the policy knows which tables there are
-abbrev pub KnowsTables : Held → Type 0
+abbrev pub KnowsTables : CoreContents → Type 0
 KnowsTables h = (t : List ℕ) → table_exists h.policy t ≡ is_some (settings_of (base_of h) [] t)
 
 -- what a core keeps: it is a store, its policy knows its tables, and it is within its limits
-pub record IsCore (h : Held) : Type 0 where
+pub record IsCore (h : CoreContents) : Type 0 where
   pub store : IsStore h
   pub knows : KnowsTables h
   pub limits : IsBounded h
 
 -- What an act of this user at this clock does, whose answer is this one by what histories see; with an Install came this merge. The core's
 -- own clock is set afterwards.
-pub record Acts (answer : Told) (old : Held) (now : ℤ) (given : Option TabletMerge) (user : List ℕ) (act : Act) (reply : Reply OpenSession TabletMerge) (new : Held) : Type 0 where
+pub record Acts (answer : Told) (old : CoreContents) (now : ℤ) (given : Option TabletMerge) (user : List ℕ) (act : Act) (reply : Reply OpenSession TabletMerge) (new : CoreContents) : Type 0 where
   -- it is told so, hands out its job, and leaves the tablets so
   pub exact : LaysExactly old now given act answer (told_of reply) (job_of reply) new
   -- all but records is then as its changes say
@@ -139,13 +139,13 @@ abbrev pub Installs : Store → ℤ → List ℕ → List ℕ → TabletMerge �
 Installs old now user t m reply new = let act : Act = Install t (ByHand m.merge.number) in Acts (own_answer (base_of (held old)) now user act) (held old) now (Some m) user act reply (held new)
 
 -- What an act of a user with these authorizations does to the tables and to the next number of a core, whatever else the core is.
-abbrev pub ActsOnTables : List (List ℕ) → ℤ → Act → List HeldTable → ℕ → Reply OpenSession TabletMerge → List HeldTable → ℕ → Type 0
-ActsOnTables auths now act tables next reply tables' next' = (h : Held) (user : List ℕ) → IsCore h → h.tables ≡ tables → h.next ≡ next → auths_of h.policy user ≡ auths
+abbrev pub ActsOnTables : List (List ℕ) → ℤ → Act → List TableContents → ℕ → Reply OpenSession TabletMerge → List TableContents → ℕ → Type 0
+ActsOnTables auths now act tables next reply tables' next' = (h : CoreContents) (user : List ℕ) → IsCore h → h.tables ≡ tables → h.next ≡ next → auths_of h.policy user ≡ auths
     → Acts (own_answer (base_of h) now user act) h now None user act reply (record h { next = next'; tables = tables' })
 
 -- A caller is told what he holds and may do, on each table of which this is found of him.
 abbrev pub Tells : Caller → Reply OpenSession TabletMerge → Type 0
-Tells caller reply = (h : Held) (now : ℤ) (user t : List ℕ) → IsCore h → IsCaller caller h.policy user (Some t) → Acts (own_answer (base_of h) now user (OwnRights t)) h now None user (OwnRights t) reply h
+Tells caller reply = (h : CoreContents) (now : ℤ) (user t : List ℕ) → IsCore h → IsCaller caller h.policy user (Some t) → Acts (own_answer (base_of h) now user (OwnRights t)) h now None user (OwnRights t) reply h
 
 -- the checks of a write that gets this number, the last of them that the numbers aren't used up
 abbrev pub write_checks : Option Settings → List (List ℕ) → ℤ → Mutation → ℕ → List (Option Refusal)

@@ -1,20 +1,21 @@
-//! What events on tables do to what a core holds, and authorizations set; those on users and on permissions stand in `users` and `granting`.
+//! What events on tables, users and permissions do to what a core holds, and what is asked of images.
 ghost use Rattle.std.specs.Prelude.{◌≡◌};
 ghost use Rattle.tab_history.specs.Answers.{told_of};
 ghost use Rattle.tab_store.specs.Stores.{base_of};
 ghost use Rattle.tab_core.specs.Holding.{held};
 ghost use Rattle.tab_core.specs.Spending.{left_of};
-ghost use Rattle.tab_core.specs.Stepping.{Does, IsCore, IsAdmitted};
+ghost use Rattle.tab_core.specs.Stepping.{Does, IsCore, IsAdmitted, Tells};
 
-use crate::checking::{horizon_refusal, too_many_auths, versions_refusal};
+use crate::checking::{horizon_refusal, right_refusal, too_many_auths, versions_refusal};
 use crate::numbering::next_number;
 use crate::reply::Answer;
 use crate::store::Store;
 use std::alloc::{AllocError, Global};
 use std::mem;
-use tab_history::{Act, Refusal, Reply, TimeMode, Versions};
-use tab_key::{Name, Part};
+use tab_history::{Act, Refusal, Reply, Rights, TimeMode, Versions};
+use tab_key::{LimitedPart, Name};
 use tab_label::AuthSet;
+use tab_policy::{Caller, Permission, is_root};
 use tab_rules::ConstraintSet;
 use tab_store::Setting;
 
@@ -39,7 +40,7 @@ impl Store {
             return Reply::Refused(Refusal::TableExists(*table));
         }
         if self.tables.len() >= MAX_TABLES {
-            return Reply::Refused(Refusal::TooLarge(Part::Numbers));
+            return Reply::Refused(Refusal::TooLarge(LimitedPart::Numbers));
         }
         match self.tables.insert(*table, time, versions, self.tablet) {
             Ok(()) => {}
@@ -136,13 +137,133 @@ impl Store {
     {
         let known = self.policy.user_exists(name);
         if too_many_auths(auths) {
-            return Reply::Refused(Refusal::TooLarge(Part::Authorizations));
+            return Reply::Refused(Refusal::TooLarge(LimitedPart::Authorizations));
         }
         if !known {
             return Reply::Refused(Refusal::NoUser(*name));
         }
         let given = mem::replace(auths, AuthSet::empty(alloc));
         self.policy.set_auths(name, given);
+        Reply::Done
+    }
+}
+
+// How many users there may be.
+const MAX_USERS: usize = u32::MAX as usize;
+
+impl Store {
+    // A new user, without rights and authorizations.
+    pub(crate) fn create_user(&mut self, now: i64, user: &Name, name: &Name) -> Answer
+        requires { IsCore (held self.old) }
+        ensures { Does self.old now user.now (Act.CreateUser name.now) result self.new }
+    {
+        if self.policy.user_exists(name) {
+            return Reply::Refused(Refusal::UserExists(*name));
+        }
+        if self.policy.user_count() >= MAX_USERS {
+            return Reply::Refused(Refusal::TooLarge(LimitedPart::Numbers));
+        }
+        match self.policy.create_user(name) {
+            Ok(()) => Reply::Done,
+            Err(AllocError) => Reply::Refused(Refusal::NoMemory),
+        }
+    }
+
+    // A user taken away, with his rights and authorizations. It takes no memory.
+    pub(crate) fn drop_user(&mut self, now: i64, user: &Name, name: &Name) -> Answer
+        requires { IsCore (held self.old) }
+        ensures { Does self.old now user.now (Act.DropUser name.now) result self.new }
+    {
+        if !self.policy.user_exists(name) {
+            return Reply::Refused(Refusal::NoUser(*name));
+        }
+        if is_root(name) {
+            return Reply::Refused(Refusal::RootFixed);
+        }
+        self.policy.drop_user(name);
+        Reply::Done
+    }
+}
+
+impl Store {
+    // A permission given to a user.
+    pub(crate) fn grant(
+        &mut self,
+        now: i64,
+        user: &Name,
+        name: &Name,
+        permission: &Permission,
+    ) -> Answer
+        requires core { IsCore (held self.old) }
+        requires admitted { IsAdmitted (base_of (held self.old)) user.now (Act.Grant name.now permission.now) }
+        ensures { Does self.old now user.now (Act.Grant name.now permission.now) result self.new }
+    {
+        let known = self.policy.user_exists(name);
+        if let Some(refusal) = right_refusal(known, *name, permission) {
+            return Reply::Refused(refusal);
+        }
+        match self.policy.grant(name, permission) {
+            Ok(()) => Reply::Done,
+            Err(AllocError) => Reply::Refused(Refusal::NoMemory),
+        }
+    }
+
+    // A permission taken from a user. It takes no memory.
+    pub(crate) fn revoke(
+        &mut self,
+        now: i64,
+        user: &Name,
+        name: &Name,
+        permission: &Permission,
+    ) -> Answer
+        requires { IsCore (held self.old) }
+        ensures { Does self.old now user.now (Act.Revoke name.now permission.now) result self.new }
+    {
+        let known = self.policy.user_exists(name);
+        if let Some(refusal) = right_refusal(known, *name, permission) {
+            return Reply::Refused(refusal);
+        }
+        self.policy.revoke(name, permission);
+        Reply::Done
+    }
+}
+
+/// What the caller may do, on the table that was named too, and holds.
+pub fn rights(caller: Caller<'_>) -> Answer
+    ensures { Tells caller.entry result }
+{
+    match caller.authorizations.clone() {
+        Ok(authorizations) => Reply::Rights(Rights {
+            system: caller.system,
+            table: caller.on_table,
+            authorizations,
+        }),
+        Err(AllocError) => Reply::Refused(Refusal::NoMemory),
+    }
+}
+
+impl Store {
+    // A save. It takes no memory.
+    pub(crate) fn save(&self, now: i64, user: &Name) -> Answer
+        requires { IsCore (held self.now) }
+        ensures { Does self.now now user.now Act.Save result self.now }
+    {
+        Reply::Done
+    }
+
+    // A load. It takes no memory.
+    pub(crate) fn load(&self, now: i64, user: &Name) -> Answer
+        requires { IsCore (held self.now) }
+        ensures { Does self.now now user.now Act.Load result self.now }
+    {
+        Reply::Done
+    }
+
+    // A history to be handed out. It takes no memory.
+    pub(crate) fn rotate(&self, now: i64, user: &Name) -> Answer
+        requires { IsCore (held self.now) }
+        ensures { Does self.now now user.now Act.Rotate result self.now }
+    {
         Reply::Done
     }
 }

@@ -8,8 +8,8 @@ use crate::labels::malformed;
 use std::alloc::{AllocError, Global};
 use tab_history::{Refusal, Scan, TimeMode, Versions};
 use tab_key::{
-    Bounds, ByteString, Items, MAX_AUTHORIZATION_LEN, MAX_AUTHORIZATIONS, MAX_COLUMNS, MAX_RANGES,
-    Name, Part, is_bad_range,
+    Bounds, ByteString, Items, LimitedPart, MAX_AUTHORIZATION_LEN, MAX_AUTHORIZATIONS, MAX_COLUMNS,
+    MAX_RANGES, Name, is_bad_range,
 };
 use tab_label::{AuthSet, KnownLabels};
 use tab_mutation::{Mutation, ShapeError};
@@ -142,10 +142,10 @@ pub fn scan_refusal(alloc: Global, held: &AuthSet, scan: &Scan) -> Option<Refusa
     ensures { (result ≡ first_some (scan_checks held.now scan.now)) ⊎ (result ≡ Some Refusal.NoMemory) }
 {
     if scan.columns.len() > MAX_COLUMNS {
-        return Some(Refusal::TooLarge(Part::Columns));
+        return Some(Refusal::TooLarge(LimitedPart::Columns));
     }
     if too_many_auths(&scan.authorizations) {
-        return Some(Refusal::TooLarge(Part::Authorizations));
+        return Some(Refusal::TooLarge(LimitedPart::Authorizations));
     }
     if is_bad_range(&scan.bounds.low, &scan.bounds.high) {
         return Some(Refusal::BadRange);
@@ -164,7 +164,7 @@ pub fn ranges_refusal(ranges: &[Bounds]) -> Option<Refusal>
     ensures { result ≡ first_some (many_checks ranges.now) }
 {
     if ranges.len() > MAX_RANGES {
-        return Some(Refusal::TooLarge(Part::Ranges));
+        return Some(Refusal::TooLarge(LimitedPart::Ranges));
     }
     if has_bad_range(ranges) {
         return Some(Refusal::BadRange);

@@ -9,7 +9,7 @@
 //! | `state` | the core, and its step |
 //! | `store` | what a core holds, and what an event does to it: the policy decides once, then the act is done |
 //! | `policing` | what the policy is asked, the refusal of whom it doesn't admit, which acts name a slot, and the horizon that one asks for |
-//! | `acts`, `users`, `granting`, `writes`, `scans`, `tablets`, `splits`, `jobs`, `images` | what each act does |
+//! | `acts`, `writes`, `scans`, `tablets` | what each act does |
 //! | `numbering` | the numbers of tablets and jobs |
 //! | `checking` | the checks that are an event's own, and those of a request for ranges |
 //! | `labels` | the labels of a mutation, judged |
@@ -34,10 +34,7 @@ mod base;
 mod checking;
 mod comparing;
 mod event_reply;
-mod granting;
-mod images;
 mod job_slots;
-mod jobs;
 mod labels;
 mod numbering;
 mod policing;
@@ -48,12 +45,10 @@ mod running;
 mod scans;
 mod sessions;
 mod slots;
-mod splits;
 mod state;
 mod store;
 mod tablets;
 mod totals;
-mod users;
 mod writes;
 
 pub use base::Base;
@@ -62,8 +57,10 @@ pub use event_reply::EventReply;
 pub use job_slots::{JobSlot, JobSlots};
 pub use reply::{Answer, told};
 pub use running::run;
-pub use sessions::{Kept, Sessions};
+pub use sessions::{Sessions, UserSessions};
 pub use slots::Slots;
 pub use state::Core;
 pub use tab_session::Session;
-pub use tab_store::{Due, DueKind, FinishedJob, Job, MadeTable, Pending, TabletJob, merge_all};
+pub use tab_store::{
+    Due, DueKind, FinishedJob, Job, MadeTable, Pending, SPLIT_SIZE, TabletJob, merge_all,
+};

@@ -5,7 +5,7 @@ ghost use Rattle.tab_core.specs.Stepping.{moves_clock};
 
 use crate::Session;
 use tab_history::{Refusal, Reply};
-use tab_key::Part;
+use tab_key::LimitedPart;
 use tab_store::TabletJob;
 
 /// What an event is answered, with the session or the job that is handed out.
@@ -47,7 +47,7 @@ fn moves_clock(reply: &Answer) -> bool
     !matches!(
         reply,
         Reply::Refused(Refusal::NoMemory)
-            | Reply::Refused(Refusal::TooLarge(Part::Sessions))
+            | Reply::Refused(Refusal::TooLarge(LimitedPart::Sessions))
             | Reply::Refused(Refusal::NoSession(_))
             | Reply::Refused(Refusal::NoJob(_))
     )

@@ -16,18 +16,18 @@ use tab_policy::NameKey;
 
 /// What is kept for one user: his sessions by their numbers, and how many others were opened, read and closed, which have no number.
 #[derive(Drop)]
-pub struct Kept {
+pub struct UserSessions {
     /// The sessions that have a number.
     pub numbered: Slots,
     scanned: u32,
 }
 
-impl Kept {
+impl UserSessions {
     // Nothing was opened.
-    fn new(alloc: Global) -> Kept
+    fn new(alloc: Global) -> UserSessions
         ensures { result ≡ none_kept }
     {
-        Kept {
+        UserSessions {
             numbered: Slots::new(alloc),
             scanned: 0,
         }
@@ -61,7 +61,7 @@ fn all_given(numbered: usize, scanned: u32) -> bool
 /// What is kept for each user, by his name. For who isn't there nothing was opened.
 #[derive(Drop)]
 pub struct Sessions {
-    by_user: BTreeMap<NameKey, Kept>,
+    by_user: BTreeMap<NameKey, UserSessions>,
 }
 
 impl Model for Sessions {
@@ -84,7 +84,7 @@ impl Sessions {
 
     /// What is kept for the user, who is one of those for whom something is kept from now on. Without memory for that there is none, and
     /// nothing changes for anybody.
-    pub fn kept_for(&mut self, alloc: Global, user: &Name) -> Option<&mut Kept>
+    pub fn kept_for(&mut self, alloc: Global, user: &Name) -> Option<&mut UserSessions>
         ensures* lends { sem 𝓛 (LendsKept self.entry user.now result) }
         ensures value { OnSome result (option_copied_mut result ≡ Some (kept_of self.old user.now)) }
     {
@@ -134,12 +134,12 @@ impl Sessions {
             return Ok(());
         }
         let key = NameKey::new(alloc, user)?;
-        self.by_user.insert(key, Kept::new(alloc))?;
+        self.by_user.insert(key, UserSessions::new(alloc))?;
         Ok(())
     }
 
     // What is kept for the user, if he is there.
-    fn find(&mut self, user: &Name) -> Option<&mut Kept>
+    fn find(&mut self, user: &Name) -> Option<&mut UserSessions>
         ensures* lends { sem 𝓛 (LendsFound self.entry user.now result) }
         ensures value { option_copied_mut result ≡ at_name user.now self.old }
     {

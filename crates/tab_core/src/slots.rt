@@ -1,7 +1,7 @@
 //! The sessions of one user in a run or a script, each in the slot that is its number.
 ghost use Rattle.std.specs.Prelude.{◌≡◌, ◌⊎◌, ◌<◌, List, [], ◌∷◌, ◌++◌, Option, None, IfOk, OnOk, OnErr, length, count_by, is_some, vec_len, vec_capacity};
 ghost use Rattle.tab_cells.specs.SessionState.{SessionState, batch, gave, in_ranges as cells_in};
-ghost use Rattle.tab_key.specs.declared.part.TheConstants.{MAX_SESSIONS};
+ghost use Rattle.tab_key.specs.declared.limited_part.TheConstants.{MAX_SESSIONS};
 ghost use Rattle.tab_history.specs.Answers.{ranges_told, many_answer};
 ghost use Rattle.tab_core.specs.Slots.{are_full, NextFrom, ManyFrom, CloseFrom};
 ghost use Rattle.tab_core.specs.Owners.{kept_with, OpensIn};
@@ -18,7 +18,7 @@ use std::marker::Model;
 use std::mem;
 use std::thread::Threads;
 use tab_history::{Act, Refusal, Reply, Scan};
-use tab_key::{Bounds, Cells, Items, MAX_OPENED, MAX_SESSIONS, Name, Part};
+use tab_key::{Bounds, Cells, Items, LimitedPart, MAX_OPENED, MAX_SESSIONS, Name};
 
 // A session in its slot. A contract sees its list and how many of its cells were given, which is what histories know of it, and not
 // whether it is done.
@@ -136,7 +136,7 @@ impl Slots {
         ensures left { Act.Open scan.new ≡ left_of (Act.Open scan.old) result }
     {
         if self.are_full() {
-            return Reply::Refused(Refusal::TooLarge(Part::Sessions));
+            return Reply::Refused(Refusal::TooLarge(LimitedPart::Sessions));
         }
         if self.slots.reserve(1).is_err() {
             return Reply::Refused(Refusal::NoMemory);

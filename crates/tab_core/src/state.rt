@@ -35,11 +35,11 @@ pub struct Core {
 }
 
 impl Model for Core {
-    ghost use Rattle.tab_store.specs.Stores.{Held};
+    ghost use Rattle.tab_store.specs.Stores.{CoreContents};
     ghost use Rattle.tab_core.specs.Holding.{held};
     ghost use Rattle.tab_core.specs.Stepping.{IsCore};
 
-    ghost Value = { Held };
+    ghost Value = { CoreContents };
 
     ghost view = { λ c. held c.store };
 

@@ -6,7 +6,7 @@ ghost use Rattle.tab_core.specs.Holding.{held};
 ghost use Rattle.tab_core.specs.Spending.{left_of};
 ghost use Rattle.tab_core.specs.Stepping.{Acts, IsCore};
 
-use crate::granting::rights;
+use crate::acts::rights;
 use crate::policing::{action_of, horizon_asked, refusal_of};
 use crate::reply::Answer;
 use crate::scans::open;

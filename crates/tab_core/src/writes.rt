@@ -10,7 +10,7 @@ use crate::checking::mutation_refusal;
 use crate::reply::Answer;
 use std::alloc::{AllocError, Global};
 use tab_history::{Act, Refusal, Reply};
-use tab_key::{Name, Part};
+use tab_key::{LimitedPart, Name};
 use tab_label::{AuthSet, KnownLabels};
 use tab_mutation::Mutation;
 use tab_store::Tables;
@@ -76,7 +76,7 @@ fn write_refusal(
         return Some(refusal);
     }
     if next == u64::MAX {
-        return Some(Refusal::TooLarge(Part::Numbers));
+        return Some(Refusal::TooLarge(LimitedPart::Numbers));
     }
     None
 }

@@ -1,4 +1,4 @@
--- The parts of a text, in the code.
+-- For proofs. The parts of a text, in the code.
 use Rattle.std.specs.Prelude.{ℕ, List}
 use Rattle.std.specs.List.{flat_map}
 use Rattle.tab_history.specs.declared.event.Act.TheVariants.{CreateTable, SetConstraints, SetAuths, Rotate}
@@ -29,7 +29,7 @@ abbrev pub setting_part : SettingPart → List ℕ
 setting_part (setting.Constrained h) = act_text (SetConstraints h.now.name h.now.constraints)
 setting_part (setting.Bounded h) = horizon_text h.now
 setting_part (setting.Unheld h) = unheld_text h.now
-setting_part (setting.Held h) = flat_map (rights_text h.now.name) h.now.rights
+setting_part (setting.HasRecords h) = flat_map (rights_text h.now.name) h.now.rights
 
 -- of a script
 abbrev pub script_part : ScriptPart → List ℕ

@@ -1,4 +1,4 @@
--- The records of the tables that give the timestamps, and the order in which they are written.
+-- For proofs. The records of the tables that give the timestamps, and the order in which they are written.
 use Rattle.std.specs.Prelude.{ℕ, Bool, List, [], map}
 use Rattle.std.specs.Ordering.{nat_cmp, int_cmp, on, then_cmp, is_lt}
 use Rattle.std.specs.declared.cmp.Ordering.{Ordering}

@@ -1,4 +1,4 @@
--- The lines of a script that make what an image says.
+-- To be believed by whoever relies on it. The lines of a script that make what an image says.
 use Rattle.std.specs.Prelude.{ℕ, ℤ, List, [], ◌∷◌, ◌++◌, Option, Some, None, reverse, codes, cond, bytes_eq, int_lt}
 use Rattle.std.specs.List.{flat_map, list_any}
 use Rattle.std.specs.Fmt.{signed_decimal}

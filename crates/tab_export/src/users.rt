@@ -114,16 +114,16 @@ fn put_granted<W: Output>(output: &mut W, user: &ImageUser) -> Result<(), WriteF
 fn put_system<W: Output>(output: &mut W, user: &ImageUser) -> Result<(), WriteFault>
     ensures { Puts W.Output output.old output.new (flat_map (system_text user.now) all_system) result }
 {
-    put_each(output, &SystemPermission::ALL, &Held { user })
+    put_each(output, &SystemPermission::ALL, &SystemRight { user })
 }
 
 // A permission that the user may hold.
 #[derive(Clone, Copy)]
-struct Held<'a> {
+struct SystemRight<'a> {
     user: &'a ImageUser,
 }
 
-impl<'a> PutItem<SystemPermission> for Held<'a> {
+impl<'a> PutItem<SystemPermission> for SystemRight<'a> {
     ghost use Rattle.tab_export.specs.Script.{system_text};
 
     ghost text = { λ held permission. system_text held.user.now permission };

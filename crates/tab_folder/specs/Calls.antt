@@ -1,4 +1,4 @@
--- The calls of a file that are kept for contracts.
+-- For proofs. The calls of a file that are kept for contracts.
 use Rattle.std.specs.Prelude.{ℕ, cond, List, map, reverse, Vec}
 use Rattle.std.specs.declared.alloc.Global.{Global}
 use Rattle.tab_journal.specs.Calls.{Call}

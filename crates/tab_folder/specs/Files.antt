@@ -1,4 +1,4 @@
--- What the file of a journal stands for.
+-- For proofs. What the file of a journal stands for.
 use Rattle.std.specs.Prelude.{List}
 use Rattle.tab_folder.specs.declared.file_device.FileDevice.{FileDevice}
 use Rattle.tab_journal.specs.Calls.{Call}

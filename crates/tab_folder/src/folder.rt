@@ -12,7 +12,7 @@ use std::random::RandomSource;
 use std::{fs, io};
 use tab_core::Core;
 use tab_io::{BlockReader, BlockWriter, Output};
-use tab_journal::{Format, Front};
+use tab_journal::{Format, Header};
 
 // Who may use the folder and read what is in it: whoever runs the program.
 const FOLDER_MODE: u32 = 0o700;
@@ -108,8 +108,8 @@ impl<'a> Folder<'a> {
         let name = journal_path(self.rt.alloc(), self.path, number)?;
         let file = created(self.rt, name.as_str())?;
         let salt = u64::from_be_bytes(salt);
-        let front = Front::new(format, number, core.next(), core.clock(), salt);
-        let journal = Journal::begin(self.rt.alloc(), file, front)?;
+        let header = Header::new(format, number, core.next(), core.clock(), salt);
+        let journal = Journal::begin(self.rt.alloc(), file, header)?;
         sync_folder(self.rt, self.path)?;
         Ok(journal)
     }

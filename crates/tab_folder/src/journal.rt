@@ -1,12 +1,12 @@
 //! A journal that is being written.
 ghost use Rattle.std.specs.Prelude.{◌≡◌};
-ghost use Rattle.tab_journal.specs.Journals.{sum_of, front_summed};
+ghost use Rattle.tab_journal.specs.Journals.{sum_of, header_summed};
 
 use crate::FolderFault;
 use crate::file_device::FileDevice;
 use std::alloc::Global;
 use std::fs::File;
-use tab_journal::{Front, WriteError, Writer};
+use tab_journal::{Header, WriteError, Writer};
 
 /// A journal that is being written: batch after batch, each behind the sum of the one before. After an error nothing more is put into it, and each
 /// call answers with that error.
@@ -17,11 +17,11 @@ pub struct Journal {
 }
 
 impl Journal {
-    /// Begins a journal with this front in an empty file, down to the disk.
-    pub(crate) fn begin(alloc: Global, file: File, front: Front) -> Result<Journal, FolderFault>
-        requires { front.sum ≡ sum_of (front_summed front.format front.generation front.next front.clock front.salt) }
+    /// Begins a journal with this header in an empty file, down to the disk.
+    pub(crate) fn begin(alloc: Global, file: File, header: Header) -> Result<Journal, FolderFault>
+        requires { header.sum ≡ sum_of (header_summed header.format header.generation header.next header.clock header.salt) }
     {
-        match Writer::begin(alloc, FileDevice::new(alloc, file), front) {
+        match Writer::begin(alloc, FileDevice::new(alloc, file), header) {
             Ok(writer) => Ok(Journal {
                 writer,
                 failure: None,

@@ -1,10 +1,10 @@
 //! What a run that didn't end left in its journal.
 use crate::FolderFault;
 use std::alloc::Global;
-use tab_journal::{Format, Front, Kept, read_journal, take_batch};
+use tab_journal::{Format, Header, JournalContents, read_journal, take_batch};
 
-// How many bytes a front has.
-const FRONT: usize = 48;
+// How many bytes a header has.
+const HEADER: usize = 48;
 
 /// What a run that didn't end left in its journal.
 #[derive(Drop)]
@@ -15,8 +15,8 @@ pub struct Left {
     pub text: Vec<u8>,
     /// How many bytes stand behind them that are no whole batch: what the crash cut off.
     pub cut: usize,
-    /// Whether the journal has a front: nothing was kept in it otherwise.
-    pub has_front: bool,
+    /// Whether the journal has a header: nothing was kept in it otherwise.
+    pub has_header: bool,
 }
 
 /// What these bytes of the journal of this number left to a core, of which `base` has the number of the next mutation and the clock: the first
@@ -29,29 +29,29 @@ pub(crate) fn left_in(
     bytes: &[u8],
 ) -> Result<Left, FolderFault> {
     let Some(kept) = read_journal(alloc, bytes)? else {
-        return frontless(alloc, number, bytes);
+        return headless(alloc, number, bytes);
     };
-    if !follows_on(&kept.front, number, is_first, base) {
+    if !follows_on(&kept.header, number, is_first, base) {
         return Err(FolderFault::Strange(number));
     }
     let length = bytes.len().saturating_sub(kept.left);
     if is_damaged(&kept, bytes, length) {
         return Err(FolderFault::Damaged(number, length as u64));
     }
-    let Kept {
-        front,
+    let JournalContents {
+        header,
         mut text,
         left,
         ..
     } = kept;
-    if front.format == Format::Lines {
+    if header.format == Format::Lines {
         end_with_line(&mut text);
     }
     Ok(Left {
-        format: front.format,
+        format: header.format,
         text,
         cut: left,
-        has_front: true,
+        has_header: true,
     })
 }
 
@@ -61,34 +61,34 @@ fn end_with_line(text: &mut Vec<u8>) {
     text.truncate(whole.map_or(0, |last| last.saturating_add(1)));
 }
 
-// A journal that has no front. Nothing is put before its front is on the disk.
-fn frontless(alloc: Global, number: u64, bytes: &[u8]) -> Result<Left, FolderFault> {
-    if bytes.len() > FRONT {
+// A journal that has no header. Nothing is put before its header is on the disk.
+fn headless(alloc: Global, number: u64, bytes: &[u8]) -> Result<Left, FolderFault> {
+    if bytes.len() > HEADER {
         return Err(FolderFault::Damaged(number, 0));
     }
     Ok(Left {
         format: Format::Events,
         text: Vec::new(alloc),
         cut: bytes.len(),
-        has_front: false,
+        has_header: false,
     })
 }
 
 // Whether the journal of this number was begun on a core of which `base` has the number of the next mutation and the clock: the one of the image
 // of its number, or one that did what stands in the journals before, and whose clock may be lower.
-fn follows_on(front: &Front, number: u64, is_first: bool, base: (u64, i64)) -> bool {
+fn follows_on(header: &Header, number: u64, is_first: bool, base: (u64, i64)) -> bool {
     let is_at = if is_first {
-        front.clock == base.1
+        header.clock == base.1
     } else {
-        front.clock >= base.1
+        header.clock >= base.1
     };
-    front.generation == number && front.next == base.0 && is_at
+    header.generation == number && header.next == base.0 && is_at
 }
 
 // Whether some batch stands behind the first ones that were read, and was written when more than these were on the disk.
-fn is_damaged(kept: &Kept, bytes: &[u8], length: usize) -> bool {
+fn is_damaged(kept: &JournalContents, bytes: &[u8], length: usize) -> bool {
     for place in length..bytes.len() {
-        if is_later(kept.front.salt, bytes, place, length) {
+        if is_later(kept.header.salt, bytes, place, length) {
             return true;
         }
     }

@@ -13,7 +13,7 @@ use tab_lines::Words;
 
 /// What was said of a line.
 #[derive(Clone, Copy, Debug, PartialEq, Eq)]
-pub enum Told {
+pub enum Explanation {
     /// Nothing: it is a line.
     Nothing,
     /// Why it is a line fault.
@@ -28,21 +28,21 @@ pub fn explain<W: Output>(
     number: u64,
     line: &[u8],
     output: &mut W,
-) -> Result<Told, WriteFault>
+) -> Result<Explanation, WriteFault>
     ensures { Explains W.Output output.old output.new number line.now result }
 {
     match fault(alloc, line, number == 1) {
         Ok(Some(reason)) => match format!(in alloc; ": {reason}\n") {
             Ok(text) => {
                 match put_numbered(output, b"line ", number, text.as_bytes()) {
-                    Ok(()) => Ok(Told::Reason),
+                    Ok(()) => Ok(Explanation::Reason),
                     Err(fault) => Err(fault),
                 }
             }
-            Err(_) => Ok(Told::NoMemory),
+            Err(_) => Ok(Explanation::NoMemory),
         },
-        Ok(None) => Ok(Told::Nothing),
-        Err(AllocError) => Ok(Told::NoMemory),
+        Ok(None) => Ok(Explanation::Nothing),
+        Err(AllocError) => Ok(Explanation::NoMemory),
     }
 }
 

@@ -1,7 +1,7 @@
 //! Whether a word is of a kind.
 use crate::forms::row_of;
 use std::alloc::{AllocError, Global};
-use tab_lines::{LineError, read_line};
+use tab_lines::{ParseError, read_line};
 
 // For each kind but those of the bytes of a cell a line in which a word of that kind alone fits, with `_` in its place.
 const PLACES: &str = "  U droptable _
@@ -42,7 +42,7 @@ pub fn is_of_kind(alloc: Global, kind: &str, word: &[u8]) -> Result<bool, AllocE
     line.extend_from_slice(rest.as_bytes())?;
     match read_line(alloc, line.as_slice()) {
         Ok(_) => Ok(true),
-        Err(LineError::Fault) => Ok(false),
-        Err(LineError::NoMemory) => Err(AllocError),
+        Err(ParseError::Malformed) => Ok(false),
+        Err(ParseError::NoMemory) => Err(AllocError),
     }
 }

@@ -31,5 +31,5 @@ mod reason;
 mod wording;
 
 pub use asks::Asks;
-pub use explaining::{Explaining, Told, explain};
+pub use explaining::{Explaining, Explanation, explain};
 pub use prompting::Prompting;

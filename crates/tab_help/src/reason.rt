@@ -7,7 +7,7 @@ use crate::fitting::{Misfit, furthest_misfit};
 use crate::forms::{LINES, behind};
 use crate::near::near_command;
 use std::alloc::{AllocError, Global};
-use tab_lines::{LineError, Words, read_line};
+use tab_lines::{ParseError, Words, read_line};
 
 /// Why a line is a fault, with the word that shows it and its place, counted from 1.
 #[derive(Clone, Copy)]
@@ -84,7 +84,7 @@ pub fn fault<'a>(
 {
     match read_line(alloc, line) {
         Ok(_) => Ok(None),
-        Err(LineError::Fault) => Ok(Some(reason_for(alloc, line, is_first)?)),
-        Err(LineError::NoMemory) => Err(AllocError),
+        Err(ParseError::Malformed) => Ok(Some(reason_for(alloc, line, is_first)?)),
+        Err(ParseError::NoMemory) => Err(AllocError),
     }
 }

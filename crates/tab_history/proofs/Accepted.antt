@@ -2,7 +2,7 @@
 use Rattle.std.proofs.Common.{◌≡◌, ◌⊎◌, inl, inr, ℕ, List, [], Bool, true, false, cond, ◌&&◌, refl, sym, subst}
 use Rattle.std.specs.Prelude.{ℤ, Option, Some, None}
 use mathlib.Core.Bool.{true≢false}
-use Rattle.tab_key.specs.declared.part.Part.TheVariants.{Sessions}
+use Rattle.tab_key.specs.declared.limited_part.LimitedPart.TheVariants.{Sessions}
 use Rattle.tab_history.specs.declared.event.Act.{Act}
 use Rattle.tab_history.specs.declared.event.Act.TheVariants.{Open, Status, AddSplit, SplitBySize, Splits, Begin, Install}
 use Rattle.tab_history.specs.declared.event.Event.{Event as TheEvent}

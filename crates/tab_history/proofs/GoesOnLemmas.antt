@@ -3,7 +3,7 @@ use Rattle.std.proofs.lemmas.Bool.{eq-eqb}
 use Rattle.std.proofs.Common.{◌≡◌, ◌⊎◌, inl, inr, ◌==◌, List, [], ◌∷◌, Bool, true, false, cond, ◌&&◌, refl, sym, ◌∙◌, ap, subst}
 use mathlib.Core.Bool.{true≢false}
 use Rattle.std.specs.Prelude.{ℕ, ℤ, Some, None}
-use Rattle.tab_key.specs.declared.part.Part.TheVariants.{Sessions}
+use Rattle.tab_key.specs.declared.limited_part.LimitedPart.TheVariants.{Sessions}
 use Rattle.tab_history.specs.declared.event.Step.{Step}
 use Rattle.tab_history.specs.declared.event.Step.TheVariants.{Event, Next}
 use Rattle.tab_history.specs.declared.event.Act.{Act}

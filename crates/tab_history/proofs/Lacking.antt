@@ -4,7 +4,7 @@ use Rattle.std.specs.Prelude.{ℤ, bytes_eq, nat_lt, int_lt, length, is_some, Op
 use mathlib.Core.Bool.{true≢false}
 use Rattle.tab_key.specs.Ranges.{is_bad_range}
 use Rattle.tab_key.specs.declared.range.Bounds.{Bounds}
-use Rattle.tab_key.specs.declared.part.Part.TheVariants.{Columns, Authorizations, Sessions}
+use Rattle.tab_key.specs.declared.limited_part.LimitedPart.TheVariants.{Columns, Authorizations, Sessions}
 use Rattle.tab_label.specs.Sets.{first_missing}
 use Rattle.tab_label.specs.Reading.{label_of}
 use Rattle.tab_mutation.specs.Mutations.{Update, Mutation}

@@ -1,4 +1,4 @@
--- The answer to each step, which answers are left open, and what the step does.
+-- To be believed. The answer to each step, which answers are left open, and what the step does.
 use Rattle.std.specs.Prelude.{◌≡◌, ◌⊎◌, ℕ, ℤ, List, [], ◌∷◌, Bool, true, false, ◌&&◌, cond, Option, Some, None, length, nat_le}
 use Rattle.tab_key.specs.Records.{Record, Cell}
 use Rattle.tab_history.specs.Settings.{Settings}
@@ -12,7 +12,7 @@ use Rattle.tab_history.specs.OwnRights.{own_rights}
 use Rattle.tab_history.specs.Jobs.{JobMove, Beginning, Merging, Installing, job_in, is_waiting, is_merged}
 use Rattle.tab_history.specs.Sessions.{Move, Opening, Taking, Closing, is_full, session_in}
 use Rattle.tab_cells.specs.SessionState.{SessionState, batch, in_ranges}
-use Rattle.tab_key.specs.declared.part.Part.TheVariants.{Sessions, Numbers}
+use Rattle.tab_key.specs.declared.limited_part.LimitedPart.TheVariants.{Sessions, Numbers}
 use Rattle.tab_key.specs.declared.range.Bounds.{Bounds}
 use Rattle.tab_history.specs.declared.event.Scan.{Scan}
 use Rattle.tab_history.specs.declared.event.Act.{Act}

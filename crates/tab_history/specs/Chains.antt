@@ -1,4 +1,4 @@
--- Chains of cores, and how the step of one core goes on with any history that the core refines.
+-- For proofs. Chains of cores, and how the step of one core goes on with any history that the core refines.
 use Rattle.std.specs.Prelude.{◌≡◌, ◌⊎◌, ◌↔◌, ℕ, ◌==◌, ℤ, List, [], ◌∷◌, true, false, ◌&&◌}
 use Rattle.tab_history.specs.Bases.{Base}
 use Rattle.tab_history.specs.Sessions.{is_full}

@@ -1,4 +1,4 @@
--- The changes that accepted events make. All state is read from a list of them, the newest first.
+-- To be believed. The changes that accepted events make. All state is read from a list of them, the newest first.
 use Rattle.std.specs.Prelude.{ℕ, ℤ, List, [], ◌∷◌, map, reverse}
 use Rattle.tab_cells.specs.Written.{TimedUpdate, timed}
 use Rattle.tab_rules.specs.declared.constraint.Constraint.{Constraint}

@@ -1,4 +1,4 @@
--- Why an event is refused, or a request for ranges: the checks, in their order.
+-- To be believed. Why an event is refused, or a request for ranges: the checks, in their order.
 use Rattle.std.specs.Prelude.{ℕ, ℤ, List, [], ◌∷◌, Bool, true, false, not, ◌||◌, nat_lt, int_lt, bytes_eq, Option, Some, None, Result, Ok, Err, is_some, length, unwrap_or, cond, option_map}
 use Rattle.std.specs.List.{list_any}
 use Rattle.tab_label.specs.Sets.{has_longer, first_missing}
@@ -16,7 +16,7 @@ use Rattle.tab_history.specs.Readings.{has_user, held_auths, may_system, has_tab
 use Rattle.tab_mutation.specs.declared.shape_error.ShapeError.{ShapeError}
 use Rattle.tab_mutation.specs.declared.shape_error.ShapeError.TheVariants as shape
 use Rattle.tab_rules.specs.declared.violation.Violation.{Violation}
-use Rattle.tab_key.specs.declared.part.Part.TheVariants.{Row, Columns, Authorizations, Ranges}
+use Rattle.tab_key.specs.declared.limited_part.LimitedPart.TheVariants.{Row, Columns, Authorizations, Ranges}
 use Rattle.tab_key.specs.declared.range.Bounds.{Bounds}
 use Rattle.tab_policy.specs.declared.permission.SystemPermission.{SystemPermission}
 use Rattle.tab_policy.specs.declared.permission.SystemPermission.TheVariants as system

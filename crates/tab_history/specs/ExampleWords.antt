@@ -1,4 +1,4 @@
--- Names and steps that examples speak of.
+-- For proofs. Names and steps that examples speak of.
 use Rattle.std.specs.Prelude.{ℕ, ℤ, pos, List, codes}
 use Rattle.tab_policy.specs.Roots.{root}
 use Rattle.tab_key.specs.declared.range.Bound.TheVariants.{Unbounded}

@@ -6,7 +6,7 @@ use Rattle.tab_key.specs.Records.{Cell}
 use Rattle.tab_key.specs.Order.{column_cmp, key_cmp, place_cmp, newer_cmp}
 use Rattle.tab_key.specs.Kept.{same_column, hides, is_deleted, outranks, is_kept}
 use Rattle.tab_key.specs.declared.key.Kind.TheVariants.{Put, Delete}
-use Rattle.tab_key.specs.declared.part.Part.TheVariants.{Row, Numbers, Ranges as RangesPart}
+use Rattle.tab_key.specs.declared.limited_part.LimitedPart.TheVariants.{Row, Numbers, Ranges as RangesPart}
 use Rattle.tab_key.specs.declared.range.Bounds.{Bounds}
 use Rattle.tab_key.specs.declared.range.Bound.TheVariants.{Unbounded, Inclusive, Exclusive}
 use Rattle.tab_label.specs.Grammar.{is_term_byte}

@@ -1,4 +1,4 @@
--- Histories: lists of entries, the newest first, and what there is after them.
+-- To be believed. Histories: lists of entries, the newest first, and what there is after them.
 use Rattle.std.specs.Prelude.{ℕ, ℤ, List, [], ◌∷◌, ◌++◌, Bool, cond, bytes_eq, map, reverse}
 use Rattle.std.specs.Int.{int_max}
 use Rattle.tab_history.specs.Bases.{Base}
@@ -6,7 +6,7 @@ use Rattle.tab_history.specs.Changes.{Change}
 use Rattle.tab_history.specs.Sessions.{Move}
 use Rattle.tab_history.specs.Jobs.{JobMove}
 use Rattle.tab_history.specs.Answers.{Told, changes_by, moves_by, job_moves_by}
-use Rattle.tab_key.specs.declared.part.Part.TheVariants.{Sessions}
+use Rattle.tab_key.specs.declared.limited_part.LimitedPart.TheVariants.{Sessions}
 use Rattle.tab_history.specs.declared.event.Step.{Step}
 use Rattle.tab_history.specs.declared.event.Step.TheVariants.{Event, Next, Many, Close, Merge}
 use Rattle.tab_history.specs.declared.reply.Refusal.TheVariants.{NoMemory, TooLarge, NoSession, NoJob}

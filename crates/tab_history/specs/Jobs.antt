@@ -1,4 +1,4 @@
--- The jobs of one run or script, which all its users share: compactions that were begun.
+-- To be believed. The jobs of one run or script, which all its users share: compactions that were begun.
 use Rattle.std.specs.Prelude.{ℕ, List, [], ◌∷◌, ◌+◌, Bool, true, false, ◌==◌, cond}
 
 -- what was done with the jobs, the newest first

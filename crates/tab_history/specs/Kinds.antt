@@ -1,4 +1,4 @@
--- The kinds of acts. What goes by an act's kind is read from this one list, so that each new act has to say which it is of.
+-- To be believed. The kinds of acts. What goes by an act's kind is read from this one list, so that each new act has to say which it is of.
 use Rattle.std.specs.Prelude.{Bool, true, false}
 use Rattle.tab_history.specs.declared.event.Act.{Act}
 use Rattle.tab_history.specs.declared.event.Act.TheVariants.{Open, Write, CreateTable, DropTable, SetConstraints, SetVersions, SetHorizon, CreateUser, DropUser, SetAuths, Grant, Revoke, Rights, Status, Flush, Compact, AddSplit, SplitBySize, Splits, Save, Rotate, Load, Begin, Install}

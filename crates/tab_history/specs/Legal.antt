@@ -1,8 +1,8 @@
--- Which histories are legal: each reply is the answer to its step, unless memory lacked for it.
+-- To be believed. Which histories are legal: each reply is the answer to its step, unless memory lacked for it.
 use Rattle.std.specs.Prelude.{◌≡◌, ◌⊎◌, List, [], ◌∷◌, Bool, true, false}
 use Rattle.tab_history.specs.Answers.{Told, answer, IsReply}
 use Rattle.tab_history.specs.Histories.{Entry, World, clock_of, clock_at, journal, user_of, moves_of, jobs_of}
-use Rattle.tab_key.specs.declared.part.Part.TheVariants.{Numbers}
+use Rattle.tab_key.specs.declared.limited_part.LimitedPart.TheVariants.{Numbers}
 use Rattle.tab_history.specs.declared.event.Act.{Act}
 use Rattle.tab_history.specs.Kinds.{kind_of, is_taking}
 use Rattle.tab_history.specs.declared.event.Step.{Step}

@@ -1,4 +1,4 @@
--- When one world refines another: the same clock, users, rights and tables, and of each table held records that refine its updates.
+-- To be believed. When one world refines another: the same clock, users, rights and tables, and of each table held records that refine its updates.
 use Rattle.std.specs.Prelude.{◌≡◌, ℕ, ◌<◌, ◌↔◌, pos, List, [], false, Some, Contains, bytes_eq}
 use Rattle.tab_policy.specs.Roots.{root}
 use Rattle.tab_policy.specs.State.{user_exists, user_count as policy_users, auths_of, system_granted, table_granted}

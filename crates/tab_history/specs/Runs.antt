@@ -1,9 +1,9 @@
--- Each list of steps has a legal history, and but for open answers and want of memory just one.
+-- To be believed by whoever relies on it. Each list of steps has a legal history, and but for open answers and want of memory just one.
 use Rattle.std.specs.Prelude.{◌≡◌, List, [], ◌∷◌, Bool, false, cond, Option, Some, None, map}
 use Rattle.tab_history.specs.Answers.{Told, told_begun, leaves_open}
 use Rattle.tab_history.specs.Histories.{Entry, World, world_after, steps_of}
 use Rattle.tab_history.specs.Legal.{answer_at, Legal, LegalAlone, HasMemory, LacksWhereItMay}
-use Rattle.tab_key.specs.declared.part.Part.TheVariants.{Sessions}
+use Rattle.tab_key.specs.declared.limited_part.LimitedPart.TheVariants.{Sessions}
 use Rattle.tab_history.specs.declared.event.Act.{Act}
 use Rattle.tab_history.specs.declared.event.Act.TheVariants.{Status, Splits, Begin}
 use Rattle.tab_history.specs.declared.event.Step.{Step}

@@ -3,7 +3,7 @@
 use crate::counts::Counts;
 use crate::rights::Rights;
 use crate::split_fault::SplitFault;
-use tab_key::{ByteString, Cells, Items, Name, Part};
+use tab_key::{ByteString, Cells, Items, LimitedPart, Name};
 use tab_policy::Permission;
 use tab_rules::Violation;
 
@@ -27,9 +27,9 @@ pub enum Refusal {
     TimestampNotAllowed(u32),
     /// The mutation has no update.
     EmptyMutation,
-    /// A part is over its limit, which [`Part`] names; `Part::Sessions` is a full list of sessions. `Part::Numbers` says, last of all
+    /// A part is over its limit, which [`LimitedPart`] names; `LimitedPart::Sessions` is a full list of sessions. `LimitedPart::Numbers` says, last of all
     /// checks, that the numbers of writes, tables, users, end rows or jobs are used up.
-    TooLarge(Part),
+    TooLarge(LimitedPart),
     /// There is a table of this name already.
     TableExists(Name),
     /// There is a user of this name already.

@@ -1,7 +1,7 @@
 //! How many versions of a column a table shows.
 ghost use Rattle.std.specs.Prelude.{◌≡◌, ◌≤◌, Some, None, cond};
 ghost use Rattle.tab_history.specs.Settings.{is_version_count};
-ghost use Rattle.tab_key.specs.declared.part.TheConstants.{MAX_VERSIONS};
+ghost use Rattle.tab_key.specs.declared.limited_part.TheConstants.{MAX_VERSIONS};
 
 use std::marker::Model;
 use tab_key::MAX_VERSIONS;

@@ -1,7 +1,7 @@
 //! Images in files of the system.
 use crate::Noting;
-use crate::parts::{Part, begin};
 use crate::sums::{Sum, Summing, compare, line_of_sum, name_of_sum};
+use crate::unfinished_files::{UnfinishedFile, begin};
 use std::alloc::{AllocError, Global};
 use std::fs;
 use std::fs::File;
@@ -125,7 +125,12 @@ fn may_be_given(rt: &HostRuntime, name: &str) -> bool {
 }
 
 // Writes the image, and gives it the name, with its checksum beside it.
-fn finish(rt: &HostRuntime, name: &str, part: &Part, core: &Core) -> Result<(), NotSaved> {
+fn finish(
+    rt: &HostRuntime,
+    name: &str,
+    part: &UnfinishedFile,
+    core: &Core,
+) -> Result<(), NotSaved> {
     let sum = write(rt.alloc(), &part.file, core)?;
     let line = line_of_sum(rt.alloc(), name, sum)?;
     let beside = name_of_sum(rt.alloc(), name)?;
@@ -141,9 +146,9 @@ fn finish(rt: &HostRuntime, name: &str, part: &Part, core: &Core) -> Result<(), 
 fn place(
     rt: &HostRuntime,
     name: &str,
-    part: &Part,
+    part: &UnfinishedFile,
     beside: &str,
-    small: &Part,
+    small: &UnfinishedFile,
     line: &[u8],
 ) -> Result<(), NotSaved> {
     let mut file = &small.file;

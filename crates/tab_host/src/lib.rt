@@ -3,7 +3,7 @@
 //! | File | What |
 //! |---|---|
 //! | `disk` | images in files: one that is saved gets its name once it is whole |
-//! | `parts` | new files beside old ones, and what dead runs have left of them |
+//! | `unfinished_files` | new files beside old ones, and what dead runs have left of them |
 //! | `sums` | the checksums of images, in files beside them |
 //! | `looking` | what the image in a file says, for who looks into it |
 //! | `progress` | how far a long piece of work has come, on standard error |
@@ -19,13 +19,13 @@ mod first_wait;
 mod looking;
 mod net_fault;
 mod noting;
-mod parts;
 mod progress;
 mod sums;
+mod unfinished_files;
 
 pub use disk::{NotLoaded, NotSaved, load, save};
 pub use first_wait::FirstWait;
 pub use looking::{Looked, look, look_at};
 pub use net_fault::NetFault;
 pub use noting::Noting;
-pub use progress::{Progress, Told};
+pub use progress::{Progress, ProgressStream};

@@ -1,6 +1,6 @@
 //! What the image in a file says, for who looks into it.
 use crate::disk::NotLoaded;
-use crate::progress::{Progress, Told};
+use crate::progress::{Progress, ProgressStream};
 use crate::sums::compare;
 use std::fs::File;
 use tab_image::{Image, read_image};
@@ -38,7 +38,7 @@ pub fn look_at(rt: &HostRuntime, file: File, progress: &Progress<'_>) -> Result<
         return Err(NotLoaded::Io);
     };
     let bytes = metadata.len();
-    let told = Told::new(file, progress, "reading", bytes);
+    let told = ProgressStream::new(file, progress, "reading", bytes);
     let mut input = BlockReader::new(rt.alloc(), told)?;
     if input.fill().is_err() {
         return Err(NotLoaded::Io);

@@ -66,7 +66,7 @@ impl<'a> Progress<'a> {
 
 /// A reader or a writer that tells how much has gone through it.
 #[derive(Drop)]
-pub struct Told<'a, 'b, S> {
+pub struct ProgressStream<'a, 'b, S> {
     stream: S,
     progress: &'a Progress<'b>,
     what: &'a str,
@@ -74,10 +74,15 @@ pub struct Told<'a, 'b, S> {
     all: u64,
 }
 
-impl<'a, 'b, S> Told<'a, 'b, S> {
+impl<'a, 'b, S> ProgressStream<'a, 'b, S> {
     /// Over this stream, of so many bytes, or 0 where it isn't known.
-    pub fn new(stream: S, progress: &'a Progress<'b>, what: &'a str, all: u64) -> Told<'a, 'b, S> {
-        Told {
+    pub fn new(
+        stream: S,
+        progress: &'a Progress<'b>,
+        what: &'a str,
+        all: u64,
+    ) -> ProgressStream<'a, 'b, S> {
+        ProgressStream {
             stream,
             progress,
             what,
@@ -93,7 +98,7 @@ impl<'a, 'b, S> Told<'a, 'b, S> {
     }
 }
 
-impl<R: Read> Read for Told<'_, '_, R> {
+impl<R: Read> Read for ProgressStream<'_, '_, R> {
     fn read(&mut self, buf: &mut [u8]) -> io::Result<usize> {
         let count = self.stream.read(buf)?;
         self.pass(count);
@@ -101,7 +106,7 @@ impl<R: Read> Read for Told<'_, '_, R> {
     }
 }
 
-impl<W: Write> Write for Told<'_, '_, W> {
+impl<W: Write> Write for ProgressStream<'_, '_, W> {
     fn write(&mut self, buf: &[u8]) -> io::Result<usize> {
         let count = self.stream.write(buf)?;
         self.pass(count);

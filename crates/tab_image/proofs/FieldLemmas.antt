@@ -4,7 +4,7 @@ use Rattle.std.specs.Prelude.{nat_lt, ◌==◌, Result, Ok, Err, OnOk}
 use Rattle.tab_image.specs.Takes.{Appends}
 use Rattle.std.proofs.lemmas.Bool.Decides.{nat_tests}
 use Rattle.tab_key.specs.declared.key.Kind.{Kind}
-use Rattle.tab_key.specs.declared.part.TheConstants.{MAX_PART_LEN}
+use Rattle.tab_key.specs.declared.limited_part.TheConstants.{MAX_PART_LEN}
 use Rattle.tab_policy.specs.declared.sets.SystemPermissions.{SystemPermissions}
 use Rattle.tab_rules.specs.declared.constraint.Constraint.{Constraint}
 use Rattle.tab_history.specs.Settings.{is_version_count, least}

@@ -5,7 +5,7 @@ use Rattle.std.proofs.lemmas.Bool.Decides.{nat_tests}
 use Rattle.std.proofs.lemmas.Slice.Eq.{bytes_eq-Decides}
 use Rattle.tab_key.specs.Records.{Record}
 use Rattle.tab_key.specs.declared.key.Kind.{Kind}
-use Rattle.tab_key.specs.declared.part.TheConstants.{MAX_PART_LEN}
+use Rattle.tab_key.specs.declared.limited_part.TheConstants.{MAX_PART_LEN}
 use Rattle.tab_policy.specs.declared.sets.SystemPermissions.{SystemPermissions}
 use Rattle.tab_policy.specs.declared.sets.TablePermissions.{TablePermissions}
 use Rattle.tab_rules.specs.declared.constraint.Constraint.{Constraint}

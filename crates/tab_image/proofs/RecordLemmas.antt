@@ -4,7 +4,7 @@ use Rattle.tab_key.specs.Records.{Record}
 use Rattle.tab_key.specs.RecordSpans.{record_in}
 use Rattle.tab_key.specs.Encoding.{IsShort}
 use Rattle.tab_key.specs.declared.key.Kind.{Kind}
-use Rattle.tab_key.specs.declared.part.TheConstants.{MAX_PART_LEN}
+use Rattle.tab_key.specs.declared.limited_part.TheConstants.{MAX_PART_LEN}
 use Rattle.tab_key.specs.declared.record_span.RecordSpan.{RecordSpan}
 use Rattle.tab_key.proofs.Packed.{LaysOut, laid_within, laid_record}
 use Rattle.tab_io.specs.declared.reading.Input.{Ghosts}

@@ -18,7 +18,7 @@ use Rattle.tab_history.specs.Checks.{too_many_auths}
 use Rattle.tab_history.specs.Settings.{least}
 use Rattle.tab_history.specs.declared.event.TimeMode.{TimeMode}
 use Rattle.tab_history.specs.declared.event.TimeMode.TheVariants.{Any, Server}
-use Rattle.tab_key.specs.declared.part.TheConstants.{MAX_PART_LEN, MAX_UPDATES}
+use Rattle.tab_key.specs.declared.limited_part.TheConstants.{MAX_PART_LEN, MAX_UPDATES}
 use Rattle.tab_key.proofs.Order.{record_cmp_total}
 use Rattle.tab_image.specs.declared.user.ImageUser.{ImageUser}
 use Rattle.tab_image.specs.declared.table.ImageTable.{ImageTable}

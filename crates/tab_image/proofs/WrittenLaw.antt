@@ -7,7 +7,7 @@ use Rattle.std.proofs.lemmas.Bool.Decides.{nat_tests}
 use Rattle.std.proofs.lemmas.Int.{to_z-of_z}
 use Rattle.tab_key.specs.Records.{Record}
 use Rattle.tab_key.specs.Names.{IsName}
-use Rattle.tab_key.specs.declared.part.TheConstants.{MAX_PART_LEN}
+use Rattle.tab_key.specs.declared.limited_part.TheConstants.{MAX_PART_LEN}
 use Rattle.tab_label.specs.Sets.{has_longer}
 use Rattle.tab_rules.specs.Constraints.{is_set, constraint_set_of}
 use Rattle.tab_rules.specs.declared.constraint.Constraint.{Constraint}

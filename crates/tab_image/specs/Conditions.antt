@@ -1,4 +1,4 @@
--- The conditions on an image, as tests.
+-- For proofs. The conditions on an image, as tests.
 use Rattle.std.specs.Prelude.{ℕ, ℤ, nat_le, nat_lt, Bool, true, false, not, ◌&&◌, ◌||◌, List, [], ◌∷◌, length, map, bytes_eq, is_ok}
 use Rattle.std.specs.List.{list_all, list_any}
 use Rattle.std.specs.declared.cmp.Ordering.{Ordering}
@@ -8,7 +8,7 @@ use Rattle.tab_key.specs.Encoding.{is_short as is_short_record}
 use Rattle.tab_key.specs.Records.{Record}
 use Rattle.tab_key.specs.Order.{record_cmp}
 use Rattle.tab_key.specs.Kept.{is_put}
-use Rattle.tab_key.specs.declared.part.TheConstants.{MAX_PART_LEN, MAX_UPDATES}
+use Rattle.tab_key.specs.declared.limited_part.TheConstants.{MAX_PART_LEN, MAX_UPDATES}
 use Rattle.tab_label.specs.Reading.{label_of}
 use Rattle.tab_policy.specs.Holders.{has_any}
 use Rattle.tab_policy.specs.Roots.{root}

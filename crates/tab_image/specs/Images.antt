@@ -1,4 +1,4 @@
--- What an image is: a relation between bytes and what they say. It says nothing of how bytes are read. What an image says is the Rust
+-- To be believed by whoever relies on it. What an image is: a relation between bytes and what they say. It says nothing of how bytes are read. What an image says is the Rust
 -- structs of `user`, `table` and `image` themselves.
 use Rattle.std.specs.Prelude.{ℕ, ℤ, ◌≡◌, ◌⊎◌, ◌≤◌, ◌<◌, ◌^◌, ◌==◌, ◌&&◌, Bool, true, false, List, [], ◌∷◌, ◌++◌, length, map, codes, bytes_eq, IsOk, cond}
 use Rattle.std.specs.List.{AllByRecursion, list_all, list_any}
@@ -8,7 +8,7 @@ use Rattle.tab_key.specs.Encoding.{IsShort}
 use Rattle.tab_key.specs.Records.{Record}
 use Rattle.tab_key.specs.Order.{record_cmp}
 use Rattle.tab_key.specs.declared.key.Kind.TheVariants.{Delete}
-use Rattle.tab_key.specs.declared.part.TheConstants.{MAX_PART_LEN, MAX_UPDATES}
+use Rattle.tab_key.specs.declared.limited_part.TheConstants.{MAX_PART_LEN, MAX_UPDATES}
 use Rattle.tab_label.specs.Sets.{IsRising}
 use Rattle.tab_label.specs.Reading.{label_of}
 use Rattle.tab_policy.specs.Holders.{has_any}

@@ -1,4 +1,4 @@
--- What reading a record from an input does.
+-- For proofs. What reading a record from an input does.
 use Rattle.std.specs.Prelude.{ℕ, ◌≡◌, Bool, true, false, List, [], ◌∷◌, ◌++◌, length, Some, Result, Ok, Err}
 use Rattle.tab_key.specs.Encoding.{IsShort}
 use Rattle.tab_key.specs.KeyOf.{key_of}

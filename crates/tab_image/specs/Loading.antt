@@ -1,4 +1,4 @@
--- What reading a whole image from an input does.
+-- For proofs. What reading a whole image from an input does.
 use Rattle.std.specs.Prelude.{ℕ, ◌≡◌, List, [], ◌∷◌, Option, Some, None, Result, Ok, Err, ⊤}
 use Rattle.tab_io.specs.declared.reading.Input.{Ghosts}
 use Rattle.tab_parts.specs.Reading.{Reader, only_if, bytes_at, u16_at}

@@ -1,4 +1,4 @@
--- Reading an image, from left to right.
+-- For proofs. Reading an image, from left to right.
 use Rattle.std.specs.Prelude.{ℕ, ℤ, ◌≡◌, ◌≢◌, ◌<◌, ◌^◌, ◌↔◌, ◌==◌, nat_lt, Bool, ◌&&◌, ◌||◌, List, ◌++◌, take, drop, codes, bytes_eq, Option, Some, None, Result, Ok, Err, if◌then◌else◌}
 use Rattle.std.specs.Int.{w16, to_be_bytes}
 use Rattle.tab_key.specs.Records.{Record}

@@ -1,4 +1,4 @@
--- The bytes that an image and each of its parts have in a version. Those of `written_version` are written.
+-- For proofs. The bytes that an image and each of its parts have in a version. Those of `written_version` are written.
 use Rattle.std.specs.Prelude.{ℕ, ℤ, ◌≡◌, ◌==◌, List, [], ◌∷◌, ◌++◌, length, codes, if◌then◌else◌}
 use Rattle.std.specs.List.{flat_map}
 use Rattle.std.specs.Int.{w16, w32, w64, to_be_bytes, cast_unsigned}

@@ -1,4 +1,4 @@
--- What reading a part from an input does, said over the ghosts of the input.
+-- For proofs. What reading a part from an input does, said over the ghosts of the input.
 use Rattle.std.specs.Prelude.{ℕ, ◌≡◌, ◌<◌, ◌⊎◌, List, ◌++◌, Option, Some, None, Result, Ok, Err, Vec, ⊤}
 use Rattle.std.specs.declared.alloc.Global.{Global}
 use Rattle.tab_label.specs.Sets.{byte_lists}

@@ -1,4 +1,4 @@
--- What reading bytes and numbers from the front of an input does.
+-- For proofs. What reading bytes and numbers from the front of an input does.
 use Rattle.std.specs.Prelude.{ℕ, ◌≡◌, ◌<◌, ◌≤◌, Bool, true, false, List, length, Result, Ok, Err}
 use Rattle.std.specs.Io.KnownBytes.{Keeps}
 use Rattle.tab_io.specs.Streams.{IsEnd, BeginsWith}

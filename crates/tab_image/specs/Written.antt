@@ -1,11 +1,11 @@
--- What is written for an image is an image: where it fits the types of the code, and the conditions hold.
+-- For proofs. What is written for an image is an image: where it fits the types of the code, and the conditions hold.
 use Rattle.std.specs.Prelude.{◌≡◌, ◌≤◌, ◌<◌, ◌^◌, true, length, FitsSigned}
 use Rattle.std.specs.List.{AllByRecursion}
 use Rattle.std.specs.Int.{w64, cast_unsigned}
 use Rattle.tab_key.specs.Records.{Record}
 use Rattle.tab_key.specs.Names.{IsName}
 use Rattle.tab_key.specs.Encoding.{IsShort, FitsNumbers}
-use Rattle.tab_key.specs.declared.part.TheConstants.{MAX_PART_LEN}
+use Rattle.tab_key.specs.declared.limited_part.TheConstants.{MAX_PART_LEN}
 use Rattle.tab_label.specs.Sets.{IsRising}
 use Rattle.tab_rules.specs.Constraints.{constraint_set_of}
 use Rattle.tab_history.specs.Settings.{is_version_count}

@@ -2,7 +2,7 @@
 #![tactic(auto, using(crate::proofs::Streams::reading, crate::proofs::FieldLemmas::fields))]
 
 ghost use Rattle.std.specs.Prelude.{◌≡◌, ◌≤◌, ◌+◌, Some, None, OnOk, cond, length};
-ghost use Rattle.tab_key.specs.declared.part.TheConstants.{MAX_PART_LEN};
+ghost use Rattle.tab_key.specs.declared.limited_part.TheConstants.{MAX_PART_LEN};
 ghost use Rattle.tab_history.specs.Settings.{is_version_count};
 ghost use Rattle.tab_image.specs.Reading.{part_at, system_at, held_at, held_of, horizon_at};
 ghost use Rattle.tab_image.specs.Takes.{Appends};

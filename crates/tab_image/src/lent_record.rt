@@ -1,7 +1,7 @@
 //! A record, read where it lies whole in bytes that are lent.
 ghost use Rattle.std.specs.Prelude.{◌≡◌, ◌≤◌, Some, IfSome, length};
 ghost use Rattle.tab_key.specs.Encoding.{IsShort};
-ghost use Rattle.tab_key.specs.declared.part.TheConstants.{MAX_PART_LEN};
+ghost use Rattle.tab_key.specs.declared.limited_part.TheConstants.{MAX_PART_LEN};
 ghost use Rattle.tab_image.specs.Laying.{lent_record, Begins};
 ghost use Rattle.tab_image.specs.Reading.{part_at};
 ghost use Rattle.tab_parts.specs.Reading.{u32_at, u64_at, i64_at, kind_at};

@@ -6,15 +6,13 @@
 //! second one each table has a horizon, behind its constraints. Both are read, where the first one says the least horizon for each table,
 //! and the second one is written; the bytes of any other version are no image.
 //!
-//! `write_image` writes the one image of what it is given, and takes no memory. `read_image` reads exactly the images: what it reads is
-//! held once, and memory is taken for bytes that came alone. Whoever has no `Image` at hand puts the same pieces by the functions of
-//! `writing`.
+//! `read_image` reads exactly the images: what it reads is held once, and memory is taken for bytes that came alone. Whoever writes one puts
+//! its pieces by the functions of `writing`, which take no memory.
 //!
 //! | File | What |
 //! |---|---|
 //! | `version` | the versions |
 //! | `image`, `user`, `table` | what an image says, as values: contracts see them as definitions have them |
-//! | `saving` | a whole image, written |
 //! | `writing`, `bits` | its pieces, and sets as bytes of bits |
 //! | `loading` | a whole image, read |
 //! | `reading_users`, `reading_tables`, `record_reading` | its pieces |
@@ -49,7 +47,6 @@ mod reading_tables;
 mod reading_users;
 mod record_reading;
 mod sanity;
-mod saving;
 mod sets;
 mod table;
 mod taking;
@@ -62,7 +59,6 @@ pub use fault::{ImageFault, LoadFault};
 pub use image::Image;
 pub use laws::{images_are_read, one_spelling, versions_are_told, what_fits_is_spelled};
 pub use loading::read_image;
-pub use saving::write_image;
 pub use tab_mem::Records;
 pub use table::{ImageRight, ImageTable, TableHead};
 pub use user::ImageUser;

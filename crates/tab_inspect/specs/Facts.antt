@@ -1,4 +1,4 @@
--- What a person is shown of an image: one fact a line.
+-- To be believed by whoever relies on it. What a person is shown of an image: one fact a line.
 use Rattle.std.specs.Prelude.{ℕ, ◌+◌, ◌-◌, ◌^◌, List, [], ◌∷◌, ◌++◌, length, codes, cond, int_lt, min}
 use Rattle.std.specs.List.{flat_map, fold}
 use Rattle.std.specs.Fmt.{decimal, signed_decimal}

@@ -85,16 +85,16 @@ fn put_name<W: Output>(output: &mut W, name: &Name) -> Result<(), WriteFault>
 fn put_system<W: Output>(output: &mut W, user: &ImageUser) -> Result<(), WriteFault>
     ensures { Puts W.Output output.old output.new (flat_map (system_fact user.now) all_system) result }
 {
-    put_each(output, &SystemPermission::ALL, &Held { user })
+    put_each(output, &SystemPermission::ALL, &SystemRight { user })
 }
 
 // A permission that the user may hold.
 #[derive(Clone, Copy)]
-struct Held<'a> {
+struct SystemRight<'a> {
     user: &'a ImageUser,
 }
 
-impl<'a> PutItem<SystemPermission> for Held<'a> {
+impl<'a> PutItem<SystemPermission> for SystemRight<'a> {
     ghost use Rattle.tab_inspect.specs.Facts.{system_fact};
 
     ghost text = { λ held permission. system_fact held.user.now permission };

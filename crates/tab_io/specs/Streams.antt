@@ -1,4 +1,4 @@
--- What reading and writing do to known bytes.
+-- To be believed by whoever relies on it. What reading and writing do to known bytes.
 use Rattle.std.specs.Prelude.{ℕ, ◌≡◌, ◌≤◌, ◌<◌, ◌⊎◌, Bool, true, false, Result, Ok, Err, Option, Some, None, List, [], ◌++◌, length, take, drop, ⊤, MatchResult}
 use Rattle.std.specs.Io.KnownBytes.{Appends, Keeps}
 

@@ -1,4 +1,4 @@
--- What a function over an output does, said over the ghosts of the output.
+-- To be believed by whoever relies on it. What a function over an output does, said over the ghosts of the output.
 use Rattle.std.specs.Prelude.{ℕ, ◌≡◌, ◌<◌, ◌⊎◌, Result, Ok, Err, List}
 use Rattle.tab_io.specs.Streams.{Gathers, GathersPart}
 use Rattle.tab_io.specs.declared.writing.Output.{Ghosts}

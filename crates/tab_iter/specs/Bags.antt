@@ -1,4 +1,4 @@
--- Several lists of records as one rising list.
+-- For proofs. Several lists of records as one rising list.
 use Rattle.std.specs.Prelude.{◌≡◌, ℕ, ◌<◌, ◌-◌, Option, Some, None, List, [], ◌∷◌, ◌++◌, Bool, true, false, drop, length, slice_index_or, ◌≢◌, ⊤, IsSome, is_some}
 use Rattle.std.specs.List.{AllByRecursion}
 use Rattle.std.specs.Ordering.{is_lt}

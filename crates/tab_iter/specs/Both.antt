@@ -1,4 +1,4 @@
--- Two rules, one behind the other, as one.
+-- For proofs. Two rules, one behind the other, as one.
 use Rattle.std.specs.Prelude.{◌≡◌, Option, Some, None, List, ◌∷◌, Bool, true, false, ◌&&◌, filter}
 use Rattle.tab_key.specs.Records.{Key, Record}
 use Rattle.tab_iter.specs.Lists.{IsEnd}

@@ -1,4 +1,4 @@
--- What a rule remembers of the records passed: one column.
+-- For proofs. What a rule remembers of the records passed: one column.
 use Rattle.std.specs.Prelude.{◌≡◌, ℕ, ◌-◌, Option, Some, None, List, [], ◌∷◌, ◌++◌, Bool, false, cond, not, ◌&&◌, ◌||◌, filter, length}
 use Rattle.std.specs.List.{list_any}
 use Rattle.std.specs.Ordering.{is_gt}

@@ -1,4 +1,4 @@
--- A remembered column in a body of bytes.
+-- For proofs. A remembered column in a body of bytes.
 use Rattle.std.specs.Prelude.{◌≡◌, ℕ, ◌+◌, ◌≤◌, List, [], ◌∷◌, ◌++◌, Option, Some, None, drop, take}
 use Rattle.std.specs.List.{slice_range}
 use Rattle.tab_key.specs.Records.{Key}

@@ -1,4 +1,4 @@
--- What each rule lets through of a whole list.
+-- For proofs. What each rule lets through of a whole list.
 use Rattle.std.specs.Prelude.{ℕ, ℤ, List, Bool, not, ◌&&◌, ◌||◌, nat_lt, int_lt, filter, length, cond}
 use Rattle.tab_key.specs.Order.{stands_before}
 use Rattle.tab_key.specs.Kept.{is_put, same_column, is_deleted}

@@ -1,4 +1,4 @@
--- Lists of records: their ends, and where a seek goes.
+-- For proofs. Lists of records: their ends, and where a seek goes.
 use Rattle.std.specs.Prelude.{◌≡◌, ℤ, pos, Option, Some, None, List, [], ◌∷◌, ◌++◌, Bool, true, cond, int_le}
 use Rattle.std.specs.List.Sorted.{IsStrictlySortedBy}
 use Rattle.std.specs.declared.cmp.Ordering.TheVariants.{Less}

@@ -1,4 +1,4 @@
--- Where the columns that a scan names begin in a row.
+-- For proofs. Where the columns that a scan names begin in a row.
 use Rattle.std.specs.Prelude.{◌≡◌, ℕ, Option, Some, None, List, [], ◌∷◌, ◌++◌, false, Contains}
 use Rattle.std.specs.Borrow.{Bor}
 use Rattle.std.specs.Ordering.{is_lt}

@@ -1,4 +1,4 @@
--- What a source has left that may stand nowhere.
+-- For proofs. What a source has left that may stand nowhere.
 use Rattle.std.specs.Prelude.{List, [], Bool, true, false}
 use Rattle.tab_key.specs.Records.{Record}
 

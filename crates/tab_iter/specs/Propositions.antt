@@ -1,4 +1,4 @@
--- What ghost fields hold are propositions: each fact has one proof.
+-- For proofs. What ghost fields hold are propositions: each fact has one proof.
 use Rattle.std.specs.Prelude.{◌≡◌, ℕ, List, [], ◌∷◌, Bool, false}
 use Rattle.std.specs.List.{AllByRecursion-prop}
 use Rattle.std.specs.Coded.{×_prop, Unit-prop, Coded-set, coded_bool, le_prop}

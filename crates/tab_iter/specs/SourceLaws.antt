@@ -1,4 +1,4 @@
--- What each source shows of its lists: the ghost items of the sources, which can cite no proofs of their own crate, are these.
+-- For proofs. What each source shows of its lists: the ghost items of the sources, which can cite no proofs of their own crate, are these.
 use Rattle.std.proofs.Common.{◌≡◌, ◌⊎◌, inl, inr, ℕ, ◌-◌, List, [], ◌∷◌, ◌++◌, Bool, true, false, refl, sym, ◌∙◌, ap, take, drop, length, map}
 use Rattle.std.specs.Prelude.{filter, int_le}
 use Rattle.std.proofs.lemmas.List.{append-nil, take-append-drop}

@@ -1,4 +1,4 @@
--- What the stack of a scan lists.
+-- For proofs. What the stack of a scan lists.
 use Rattle.std.specs.Prelude.{◌≡◌, ℕ, List, Bool, true, false, filter}
 use Rattle.tab_key.specs.Records.{Key, Record}
 use Rattle.tab_key.specs.Kept.{same_column}

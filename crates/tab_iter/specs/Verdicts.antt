@@ -1,4 +1,4 @@
--- Verdicts on labels that were judged.
+-- For proofs. Verdicts on labels that were judged.
 use Rattle.std.specs.Prelude.{◌≡◌, ◌+◌, ◌*◌, ◌≤◌, ℕ, Bool, cond, List, [], ◌∷◌, ⊤, length}
 use Rattle.std.specs.List.{AllByRecursion, slice_range}
 use Rattle.tab_key.specs.Words.{IsWord}

@@ -1,6 +1,7 @@
 //! Where verdicts on labels were found last.
 
 use std::alloc::Global;
+use tab_label::label_slot;
 
 /// How many places are remembered.
 const PLACES: usize = 256;
@@ -25,7 +26,7 @@ impl Hints {
     /// Where to look first for the verdict on the label of this number.
     #[inline]
     pub(crate) fn place_of(&self, number: u64) -> usize {
-        match self.places.get(slot_of(number)) {
+        match self.places.get(label_slot(number)) {
             Some(place) => usize::from(*place),
             None => 0,
         }
@@ -43,16 +44,10 @@ impl Hints {
                 Err(_) => return,
             };
         }
-        if let Some(noted) = self.places.get_mut(slot_of(number)) {
+        if let Some(noted) = self.places.get_mut(label_slot(number)) {
             *noted = place;
         }
     }
-}
-
-// Eight bits, on which each of the number's has its say.
-#[inline]
-fn slot_of(number: u64) -> usize {
-    (number.wrapping_mul(0xBF58_476D_1CE4_E5B9) >> 56) as usize
 }
 
 /// A number for a label of any length: of its length and of its first byte, the one in its middle and its last.

@@ -6,6 +6,7 @@ ghost use Rattle.tab_iter.specs.Verdicts.{told_number, Tells, AreTold};
 
 use crate::NoMemory;
 use std::alloc::Global;
+use tab_label::label_slot;
 
 /// How many verdicts are remembered at most.
 const PLACES: usize = 128;
@@ -98,5 +99,5 @@ fn told_number(word: u64, holds: bool) -> u64
 // Seven bits, on which each of the number's has its say.
 #[inline]
 fn place_of(word: u64) -> usize {
-    (word.wrapping_mul(0xBF58_476D_1CE4_E5B9) >> 57) as usize
+    label_slot(word) / 2
 }

@@ -1,4 +1,14 @@
-//! Verdicts on labels, kept and found again.
+//! What is kept of labels that were judged, where and why.
+//!
+//! Two things are remembered of labels. That a short byte string is one, whoever asks: `KnownLabels` of `tab_label`, for writes and for images
+//! that are read. And whether a label holds under a scan's authorizations: [`Verdicts`], which has
+//!
+//! - up to 1,024 labels of 65,536 bytes (`kept`), in their order, each with its verdict: so each is judged once a session;
+//! - for 128 slots the last verdict on a short label (`known`), found by its number: no byte is compared;
+//! - for 256 slots where a longer label was found last (`hints`): one comparison in place of a search by halves.
+//!
+//! A `VisibleRule` guesses besides (`Guesses`), by the head of a record, before it has read the label: so what follows needn't wait for it.
+//! Only `kept` and `known` are relied on (`IsSound`); hints and guesses are seen to be right wherever they are used.
 ghost use Rattle.std.specs.Prelude.{◌≡◌, ◌≤◌, ◌<◌, ◌^◌, List, ℕ, IfSome, IsTrue, length};
 ghost use Rattle.tab_key.specs.Words.{IsWord};
 ghost use Rattle.tab_label.specs.Holding.{label_holds};

@@ -2,10 +2,10 @@
 use Rattle.std.proofs.Common.{◌≡◌, ℕ, ◌+◌, ◌<◌, ◌≤◌, ◌^◌, List, [], ◌∷◌, ◌++◌, length, take, drop, refl, sym, ap, subst, ◌∙◌, append-nil, take-append-drop, length-append, arith}
 use Rattle.std.proofs.lemmas.List.{take_all, take-append-le, length-take}
 use Rattle.tab_journal.specs.Device.{Torn, Follows, Only}
-use Rattle.tab_journal.specs.Journals.{sum_of, Front, Batch, batch_summed, IsBatch, IsJournal}
+use Rattle.tab_journal.specs.Journals.{sum_of, Header, Batch, batch_summed, IsBatch, IsJournal}
 use Rattle.tab_journal.specs.Laws.{last_sum, FitsFront}
 use Rattle.tab_journal.specs.Crashes.{HasFirst, IsAsBefore}
-use Rattle.tab_journal.specs.Spelling.{front_bytes, batch_bytes}
+use Rattle.tab_journal.specs.Spelling.{header_bytes, batch_bytes}
 use Rattle.tab_journal.specs.Writing.{IsWritten, KeepFirst}
 use Rattle.tab_journal.proofs.Crashing.{journal_more, last_sum_more}
 use Rattle.tab_journal.proofs.Forms.{front_long, front_written, batch_written}
@@ -59,56 +59,56 @@ torn_short at len most old new le only follows c left =
     omega (arith, le, from.2.no_longer, ap (λ (z : List ℕ). length z) (only from.0 from.1))
 
 -- ---- the journal
-pub begun : (front : Front) → FitsFront front → IsWritten (front_bytes front) front.salt front.sum 48 front [] 0
-begun front fits =
-    let is = front_written front fits in
-    let all : take 48 (front_bytes front) ≡ front_bytes front = take_all 48 (front_bytes front) (omega (arith, front_long (front_bytes front) front is)) in
-    let journal : IsJournal (front_bytes front) front [] = (front_bytes front, [], sym (append-nil (front_bytes front)), is, refl) in
-    record { journal = journal; salted = refl; summed = refl; few = omega arith; first = subst (λ (z : List ℕ). IsJournal z front []) (sym all) journal }
+pub begun : (header : Header) → FitsFront header → IsWritten (header_bytes header) header.salt header.sum 48 header [] 0
+begun header fits =
+    let is = front_written header fits in
+    let all : take 48 (header_bytes header) ≡ header_bytes header = take_all 48 (header_bytes header) (omega (arith, front_long (header_bytes header) header is)) in
+    let journal : IsJournal (header_bytes header) header [] = (header_bytes header, [], sym (append-nil (header_bytes header)), is, refl) in
+    record { journal = journal; salted = refl; summed = refl; few = omega arith; first = subst (λ (z : List ℕ). IsJournal z header []) (sym all) journal }
 
 -- one batch more
-pub put_more : (bytes body : List ℕ) (salt sum n : ℕ) (front : Front) (bs : List Batch) (k : ℕ) → n ≤ length bytes → n < 2 ^ 64 → length body < 2 ^ 32 → sum_of (batch_summed salt sum n body) < 2 ^ 64
-    → IsWritten bytes salt sum n front bs k
-    → IsWritten (bytes ++ batch_bytes salt sum n body) salt (sum_of (batch_summed salt sum n body)) n front (bs ++ record { settled = n; body = body; sum = sum_of (batch_summed salt sum n body) } ∷ []) k
-put_more bytes body salt sum n front bs k low fits short right w =
+pub put_more : (bytes body : List ℕ) (salt sum n : ℕ) (header : Header) (bs : List Batch) (k : ℕ) → n ≤ length bytes → n < 2 ^ 64 → length body < 2 ^ 32 → sum_of (batch_summed salt sum n body) < 2 ^ 64
+    → IsWritten bytes salt sum n header bs k
+    → IsWritten (bytes ++ batch_bytes salt sum n body) salt (sum_of (batch_summed salt sum n body)) n header (bs ++ record { settled = n; body = body; sum = sum_of (batch_summed salt sum n body) } ∷ []) k
+put_more bytes body salt sum n header bs k low fits short right w =
     let b : Batch = record { settled = n; body = body; sum = sum_of (batch_summed salt sum n body) } in
     let text = batch_bytes salt sum n body in
     let is : IsBatch salt sum text b = batch_written salt sum n body fits short right in
-    let here : IsBatch front.salt (last_sum front bs) text b =
-    subst (λ (s : ℕ). IsBatch s (last_sum front bs) text b) w.salted (subst (λ (s : ℕ). IsBatch salt s text b) w.summed is) in
+    let here : IsBatch header.salt (last_sum header bs) text b =
+    subst (λ (s : ℕ). IsBatch s (last_sum header bs) text b) w.salted (subst (λ (s : ℕ). IsBatch salt s text b) w.summed is) in
     record {
-      journal = journal_more bytes text front bs b w.journal here;
+      journal = journal_more bytes text header bs b w.journal here;
       salted = w.salted;
-      summed = sym (last_sum_more front bs b);
+      summed = sym (last_sum_more header bs b);
       few = omega (arith, w.few, length-append bs (b ∷ []));
-      first = subst (λ (z : List ℕ). IsJournal z front (take k (bs ++ b ∷ []))) (sym (take-append-le n bytes text low))
-          (subst (λ (z : List Batch). IsJournal (take n bytes) front z) (sym (take-append-le k bs (b ∷ []) w.few)) w.first);
+      first = subst (λ (z : List ℕ). IsJournal z header (take k (bs ++ b ∷ []))) (sym (take-append-le n bytes text low))
+          (subst (λ (z : List Batch). IsJournal (take n bytes) header z) (sym (take-append-le k bs (b ∷ []) w.few)) w.first);
     }
 
 -- all of it on the disk
-pub all_settled : (bytes : List ℕ) (salt sum n : ℕ) (front : Front) (bs : List Batch) (k : ℕ) → IsWritten bytes salt sum n front bs k → IsWritten bytes salt sum (length bytes) front bs (length bs)
-all_settled bytes salt sum n front bs k w = record {
+pub all_settled : (bytes : List ℕ) (salt sum n : ℕ) (header : Header) (bs : List Batch) (k : ℕ) → IsWritten bytes salt sum n header bs k → IsWritten bytes salt sum (length bytes) header bs (length bs)
+all_settled bytes salt sum n header bs k w = record {
   journal = w.journal;
   salted = w.salted;
   summed = w.summed;
   few = omega arith;
-  first = subst (λ (z : List ℕ). IsJournal z front (take (length bs) bs)) (sym (take_all (length bytes) bytes (omega arith)))
-      (subst (λ (z : List Batch). IsJournal bytes front z) (sym (take_all (length bs) bs (omega arith))) w.journal);
+  first = subst (λ (z : List ℕ). IsJournal z header (take (length bs) bs)) (sym (take_all (length bytes) bytes (omega arith)))
+      (subst (λ (z : List Batch). IsJournal bytes header z) (sym (take_all (length bs) bs (omega arith))) w.journal);
 }
 
 -- the same of the bytes and the sum that are there then
-pub put_as : (bytes now body : List ℕ) (salt sum n next : ℕ) (front : Front) (bs : List Batch) (k : ℕ) → now ≡ bytes ++ batch_bytes salt sum n body → next ≡ sum_of (batch_summed salt sum n body)
-    → n ≤ length bytes → n < 2 ^ 64 → length body < 2 ^ 32 → next < 2 ^ 64 → IsWritten bytes salt sum n front bs k
-    → IsWritten now salt next n front (bs ++ record { settled = n; body = body; sum = next } ∷ []) k
-put_as bytes now body salt sum n next front bs k now_is next_is low fits short right w =
-    let made = put_more bytes body salt sum n front bs k low fits short (subst (λ (s : ℕ). s < 2 ^ 64) next_is right) w in
-    subst (λ (z : List ℕ). IsWritten z salt next n front (bs ++ record { settled = n; body = body; sum = next } ∷ []) k) (sym now_is)
-    (subst (λ (s : ℕ). IsWritten (bytes ++ batch_bytes salt sum n body) salt s n front (bs ++ record { settled = n; body = body; sum = s } ∷ []) k) (sym next_is) made)
+pub put_as : (bytes now body : List ℕ) (salt sum n next : ℕ) (header : Header) (bs : List Batch) (k : ℕ) → now ≡ bytes ++ batch_bytes salt sum n body → next ≡ sum_of (batch_summed salt sum n body)
+    → n ≤ length bytes → n < 2 ^ 64 → length body < 2 ^ 32 → next < 2 ^ 64 → IsWritten bytes salt sum n header bs k
+    → IsWritten now salt next n header (bs ++ record { settled = n; body = body; sum = next } ∷ []) k
+put_as bytes now body salt sum n next header bs k now_is next_is low fits short right w =
+    let made = put_more bytes body salt sum n header bs k low fits short (subst (λ (s : ℕ). s < 2 ^ 64) next_is right) w in
+    subst (λ (z : List ℕ). IsWritten z salt next n header (bs ++ record { settled = n; body = body; sum = next } ∷ []) k) (sym now_is)
+    (subst (λ (s : ℕ). IsWritten (bytes ++ batch_bytes salt sum n body) salt s n header (bs ++ record { settled = n; body = body; sum = s } ∷ []) k) (sym next_is) made)
 
-pub settled_as : (bytes now : List ℕ) (salt sum n all : ℕ) (front : Front) (bs : List Batch) (k : ℕ) → now ≡ bytes → all ≡ length bytes → IsWritten bytes salt sum n front bs k → IsWritten now salt sum all front bs (length bs)
-settled_as bytes now salt sum n all front bs k now_is all_is w =
-    subst (λ (z : List ℕ). IsWritten z salt sum all front bs (length bs)) (sym now_is)
-    (subst (λ (m : ℕ). IsWritten bytes salt sum m front bs (length bs)) (sym all_is) (all_settled bytes salt sum n front bs k w))
+pub settled_as : (bytes now : List ℕ) (salt sum n all : ℕ) (header : Header) (bs : List Batch) (k : ℕ) → now ≡ bytes → all ≡ length bytes → IsWritten bytes salt sum n header bs k → IsWritten now salt sum all header bs (length bs)
+settled_as bytes now salt sum n all header bs k now_is all_is w =
+    subst (λ (z : List ℕ). IsWritten z salt sum all header bs (length bs)) (sym now_is)
+    (subst (λ (m : ℕ). IsWritten bytes salt sum m header bs (length bs)) (sym all_is) (all_settled bytes salt sum n header bs k w))
 
-pub begun_as : (now : List ℕ) (front : Front) → now ≡ front_bytes front → FitsFront front → IsWritten now front.salt front.sum 48 front [] 0
-begun_as now front is fits = subst (λ (z : List ℕ). IsWritten z front.salt front.sum 48 front [] 0) (sym is) (begun front fits)
+pub begun_as : (now : List ℕ) (header : Header) → now ≡ header_bytes header → FitsFront header → IsWritten now header.salt header.sum 48 header [] 0
+begun_as now header is fits = subst (λ (z : List ℕ). IsWritten z header.salt header.sum 48 header [] 0) (sym is) (begun header fits)

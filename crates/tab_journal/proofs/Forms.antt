@@ -1,4 +1,4 @@
--- Fronts, entries and batches are read exactly where they stand.
+-- Headers, entries and batches are read exactly where they stand.
 use Rattle.std.proofs.Common.{◌≡◌, ℕ, ◌^◌, ◌<◌, ◌≤◌, ◌==◌, Bool, true, false, cond, List, ◌++◌, length, take, drop, Option, Some, None, refl, sym, ap, subst, ◌∙◌, append_assoc, arith}
 use Rattle.std.specs.Prelude.{bytes_eq}
 use Rattle.std.specs.Int.{w32, w64, to_be_bytes, cast_unsigned}
@@ -20,10 +20,10 @@ use Rattle.tab_wire.specs.Replies.{u32, u64, i64, field}
 use Rattle.tab_wire.proofs.RequestLaw.{requests_are_forms}
 use Rattle.tab_journal.specs.declared.format.Format.{Format}
 use Rattle.tab_journal.specs.declared.format.Format.TheVariants.{Lines, Events}
-use Rattle.tab_journal.specs.Journals.{sum_of, mark, Front, front_summed, IsFront, IsText, IsEntry, Batch, batch_summed, IsBatch}
+use Rattle.tab_journal.specs.Journals.{sum_of, mark, Header, header_summed, IsHeader, IsText, IsEntry, Batch, batch_summed, IsBatch}
 use Rattle.tab_journal.specs.Laws.{FitsFront, TextsHaveForm}
-use Rattle.tab_journal.specs.Spelling.{front_bytes, batch_bytes}
-use Rattle.tab_journal.specs.Reading.{format_of, front_of, mark_at, front_at, act_of, event_of, entry_at, batch_of, batch_at}
+use Rattle.tab_journal.specs.Spelling.{header_bytes, batch_bytes}
+use Rattle.tab_journal.specs.Reading.{format_of, header_of, mark_at, header_at, act_of, event_of, entry_at, batch_of, batch_at}
 
 equal : (n k : ℕ) → n ≡ k → (n == k) ≡ true
 equal n k e = grind (arith, nat_tests, e)
@@ -44,7 +44,7 @@ exact_text = record {
   complete = λ front rest text is. exact_field.complete front rest text is.0;
 }
 
--- ---- the front
+-- ---- the header
 abbrev IsMark : List ℕ → Format → Type 0
 IsMark bytes f = bytes ≡ mark f
 
@@ -71,11 +71,11 @@ exact_mark : Exact mark_at IsMark
 unfolding mark_at
 exact_mark = exact_as IsMark (exact_picked format_of (bytes_at 8) (λ bs text. (bs ≡ text) × (length text ≡ 8)) (exact_bytes 8)) mark_to mark_back
 
-abbrev FrontParts : List ℕ → Front → Type 0
-FrontParts = Follows IsMark (λ x. Follows IsU64 (λ g. Follows IsU64 (λ n. Follows IsI64 (λ c. Follows IsU64 (λ s. Picks IsU64 (front_of x g n c s))))))
+abbrev FrontParts : List ℕ → Header → Type 0
+FrontParts = Follows IsMark (λ x. Follows IsU64 (λ g. Follows IsU64 (λ n. Follows IsI64 (λ c. Follows IsU64 (λ s. Picks IsU64 (header_of x g n c s))))))
 
-abbrev front_parts_at : Reader Front
-front_parts_at = and_then mark_at (λ x. and_then u64_at (λ g. and_then u64_at (λ n. and_then i64_at (λ c. and_then u64_at (λ s. picked (front_of x g n c s) u64_at)))))
+abbrev front_parts_at : Reader Header
+front_parts_at = and_then mark_at (λ x. and_then u64_at (λ g. and_then u64_at (λ n. and_then i64_at (λ c. and_then u64_at (λ s. picked (header_of x g n c s) u64_at)))))
 
 exact_front_parts : Exact front_parts_at FrontParts
 exact_front_parts =
@@ -84,18 +84,18 @@ exact_front_parts =
     exact_then u64_at IsU64 _ _ exact_u64 (λ n.
     exact_then i64_at IsI64 _ _ exact_i64 (λ c.
     exact_then u64_at IsU64 _ _ exact_u64 (λ s.
-    exact_picked (front_of x g n c s) u64_at IsU64 exact_u64)))))
+    exact_picked (header_of x g n c s) u64_at IsU64 exact_u64)))))
 
-front_to : (bytes : List ℕ) (f : Front) → FrontParts bytes f → IsFront bytes f
+front_to : (bytes : List ℕ) (f : Header) → FrontParts bytes f → IsHeader bytes f
 front_to bytes f a =
     let b = a.next in
     let c = b.next in
     let d = c.next in
     let e = d.next in
     let p = e.next in
-    let made : Front = record { format = a.first; generation = b.first; next = c.first; clock = d.first; salt = e.first; sum = p.first } in
-    let is = only_passed (λ (x : Front). x.sum == sum_of (front_summed x.format x.generation x.next x.clock x.salt)) made f p.picks in
-    subst (λ (x : Front). IsFront bytes x) is.1 (record {
+    let made : Header = record { format = a.first; generation = b.first; next = c.first; clock = d.first; salt = e.first; sum = p.first } in
+    let is = only_passed (λ (x : Header). x.sum == sum_of (header_summed x.format x.generation x.next x.clock x.salt)) made f p.picks in
+    subst (λ (x : Header). IsHeader bytes x) is.1 (record {
       g = b.front;
       n = c.front;
       c = d.front;
@@ -108,10 +108,10 @@ front_to bytes f a =
       clock = d.says;
       salt = e.says;
       sum = p.says;
-      fits = eq_is p.first (sum_of (front_summed a.first b.first c.first d.first e.first)) is.0;
+      fits = eq_is p.first (sum_of (header_summed a.first b.first c.first d.first e.first)) is.0;
     })
 
-front_back : (bytes : List ℕ) (f : Front) → IsFront bytes f → FrontParts bytes f
+front_back : (bytes : List ℕ) (f : Header) → IsHeader bytes f → FrontParts bytes f
 front_back bytes f is = record {
   first = f.format;
   front = mark f.format;
@@ -145,7 +145,7 @@ front_back bytes f is = record {
           next = record {
             first = f.sum;
             says = is.sum;
-            picks = only_passes (λ (x : Front). x.sum == sum_of (front_summed x.format x.generation x.next x.clock x.salt)) f (equal f.sum (sum_of (front_summed f.format f.generation f.next f.clock f.salt)) is.fits);
+            picks = only_passes (λ (x : Header). x.sum == sum_of (header_summed x.format x.generation x.next x.clock x.salt)) f (equal f.sum (sum_of (header_summed f.format f.generation f.next f.clock f.salt)) is.fits);
           };
         };
       };
@@ -153,11 +153,11 @@ front_back bytes f is = record {
   };
 }
 
-pub exact_front : Exact front_at IsFront
-unfolding front_at
-exact_front = exact_as IsFront exact_front_parts front_to front_back
+pub exact_front : Exact header_at IsHeader
+unfolding header_at
+exact_front = exact_as IsHeader exact_front_parts front_to front_back
 
-pub front_long : (bytes : List ℕ) (f : Front) → IsFront bytes f → length bytes ≡ 48
+pub front_long : (bytes : List ℕ) (f : Header) → IsHeader bytes f → length bytes ≡ 48
 front_long bytes f is =
     let len : length bytes ≡ length (mark f.format ++ (is.g ++ (is.n ++ (is.c ++ (is.s ++ is.m))))) = ap (λ (z : List ℕ). length z) is.spelled in
     let g : length is.g ≡ 8 = ap (λ (z : List ℕ). length z) is.generation.0 in
@@ -315,7 +315,7 @@ module _ (salt before : ℕ) where
       omega (arith, len, s, m, length-append is.s (is.f ++ is.m), length-append is.f is.m, field_long is.f b.body is.body)
 
 -- ---- what is written
-pub front_written : (f : Front) → FitsFront f → IsFront (front_bytes f) f
+pub front_written : (f : Header) → FitsFront f → IsHeader (header_bytes f) f
 unfolding u64 i64
 front_written f fits = record {
   g = u64 f.generation;

@@ -10,7 +10,7 @@ use Rattle.tab_history.specs.declared.event.Event.{Event}
 use Rattle.tab_history.specs.declared.event.Step.TheVariants.{Event as IsEvent}
 use Rattle.tab_history.specs.declared.reply.Refusal.TheVariants.{NoMemory, TooLarge, NoSession, NoJob}
 use Rattle.tab_history.specs.declared.reply.Reply.TheVariants.{Refused}
-use Rattle.tab_key.specs.declared.part.Part.TheVariants.{Sessions}
+use Rattle.tab_key.specs.declared.limited_part.LimitedPart.TheVariants.{Sessions}
 use Rattle.tab_lasting.specs.Lasting.{leaves_trace, lasting_of}
 use Rattle.tab_key.specs.Names.{IsName}
 use Rattle.tab_parts.specs.Parts.{IsBytes}

@@ -1,18 +1,18 @@
--- How long fronts and batches are.
+-- How long headers and batches are.
 use Rattle.std.proofs.Common.{◌≡◌, ℕ, ◌+◌, List, ◌++◌, length, refl, length-append, arith}
 use Rattle.tab_wire.specs.Replies.{u32, u64, i64, field}
 use Rattle.tab_journal.specs.declared.format.Format.{Format}
 use Rattle.tab_journal.specs.declared.format.Format.TheVariants.{Lines, Events}
-use Rattle.tab_journal.specs.Journals.{sum_of, mark, Front, batch_summed}
-use Rattle.tab_journal.specs.Spelling.{front_bytes, batch_bytes}
+use Rattle.tab_journal.specs.Journals.{sum_of, mark, Header, batch_summed}
+use Rattle.tab_journal.specs.Spelling.{header_bytes, batch_bytes}
 
 long_mark : (f : Format) → length (mark f) ≡ 8
 long_mark Lines = refl
 long_mark Events = refl
 
-pub length_front : (f : Front) → length (front_bytes f) ≡ 48
+pub length_header : (f : Header) → length (header_bytes f) ≡ 48
 unfolding u64 i64
-length_front f =
+length_header f =
     let g : length (u64 f.generation) ≡ 8 = refl in
     let n : length (u64 f.next) ≡ 8 = refl in
     let c : length (i64 f.clock) ≡ 8 = refl in

@@ -7,7 +7,7 @@ use Rattle.std.proofs.lemmas.Bool.{ltb-false}
 use Rattle.std.proofs.lemmas.List.{length-drop}
 use Rattle.tab_parts.specs.Reading.{◌>>=◌, u32_at, u64_at, bytes_at, field_at}
 use Rattle.tab_parts.proofs.Exact.{some_inj, on_bind}
-use Rattle.tab_journal.specs.Journals.{Front, Batch}
+use Rattle.tab_journal.specs.Journals.{Header, Batch}
 use Rattle.tab_journal.specs.Reading.{batch_of, batch_at, batches_within, journal_from}
 use Rattle.tab_journal.specs.Said.{last_of, kept_of}
 
@@ -91,8 +91,8 @@ reads_more salt before bytes text sum rest b behind after r is now = subst (λ (
           sums = sums ∙ ap (λ (p : List Batch × List ℕ). last_of sum p.0) step;
         }
 
-pub content_is : (front : Front) (bytes text : List ℕ) (sum : ℕ) (rest : List ℕ) (left : ℕ) → Reads front.salt front.sum bytes text sum rest → batch_at front.salt sum rest ≡ None → left ≡ length rest
-    → record { front = front; text = text; left = left; sum = sum } ≡ kept_of (journal_from (front, bytes))
-content_is front bytes text sum rest left r none is =
-    let e = reads_end front.salt front.sum bytes text sum rest r none in
-    λ i. record { front = front; text = sym e.0 i; left = (is ∙ ap (λ (z : List ℕ). length z) (sym e.1)) i; sum = sym e.2 i }
+pub content_is : (header : Header) (bytes text : List ℕ) (sum : ℕ) (rest : List ℕ) (left : ℕ) → Reads header.salt header.sum bytes text sum rest → batch_at header.salt sum rest ≡ None → left ≡ length rest
+    → record { header = header; text = text; left = left; sum = sum } ≡ kept_of (journal_from (header, bytes))
+content_is header bytes text sum rest left r none is =
+    let e = reads_end header.salt header.sum bytes text sum rest r none in
+    λ i. record { header = header; text = sym e.0 i; left = (is ∙ ap (λ (z : List ℕ). length z) (sym e.1)) i; sum = sym e.2 i }

@@ -9,7 +9,7 @@ use Rattle.tab_parts.specs.Reading.{◌>>=◌, Reader, u64_at}
 use Rattle.tab_parts.specs.Exactness.{Exact}
 use Rattle.tab_parts.proofs.Exact.{bytes-drop, bytes-take, some_inj, bind_some, on_bind}
 use Rattle.tab_journal.specs.Journals.{Batch, IsBatch, AreBatches, IsJournal}
-use Rattle.tab_journal.specs.Reading.{front_at, batch_at, batches_within, Journal, journal_from, journal_of}
+use Rattle.tab_journal.specs.Reading.{header_at, batch_at, batches_within, Journal, journal_from, journal_of}
 use Rattle.tab_journal.specs.Laws.{JournalsAreRead, last_sum, IsKept, WholeBatchesAreKept, CutsAreBeginnings}
 use Rattle.tab_journal.proofs.Forms.{exact_front, front_long, exact_batch, batch_long}
 
@@ -130,7 +130,7 @@ module _ (salt : ℕ) where
 
 pub whole_batches_are_kept : WholeBatchesAreKept
 unfolding journal_of
-whole_batches_are_kept bytes j fits is = on_bind (front_at bytes) (λ f. Some (journal_from f)) j (IsKept bytes j) is (λ f read made.
+whole_batches_are_kept bytes j fits is = on_bind (header_at bytes) (λ f. Some (journal_from f)) j (IsKept bytes j) is (λ f read made.
     let t = exact_front.sound bytes f.0 f.1 fits read in
     let r = batches_sound f.0.salt (length f.1) f.0.sum f.1 t.fits (omega arith) in
     subst (λ (x : Journal). IsKept bytes x) (some_inj (journal_from f) j made) (record {
@@ -142,31 +142,31 @@ whole_batches_are_kept bytes j fits is = on_bind (front_at bytes) (λ f. Some (j
 
 pub journals_are_read : JournalsAreRead
 unfolding journal_of
-journals_are_read bytes front bs fits = (forth, back)
+journals_are_read bytes header bs fits = (forth, back)
   where
-    forth : journal_of bytes ≡ Some (record { front = front; batches = bs; left = [] }) → IsJournal bytes front bs
+    forth : journal_of bytes ≡ Some (record { header = header; batches = bs; left = [] }) → IsJournal bytes header bs
     forth is =
-        let k = whole_batches_are_kept bytes (record { front = front; batches = bs; left = [] }) fits is in
-        subst (λ (z : List ℕ). IsJournal z front bs) (sym (k.parts ∙ append-nil k.kept)) k.journal
+        let k = whole_batches_are_kept bytes (record { header = header; batches = bs; left = [] }) fits is in
+        subst (λ (z : List ℕ). IsJournal z header bs) (sym (k.parts ∙ append-nil k.kept)) k.journal
 
-    back : IsJournal bytes front bs → journal_of bytes ≡ Some (record { front = front; batches = bs; left = [] })
+    back : IsJournal bytes header bs → journal_of bytes ≡ Some (record { header = header; batches = bs; left = [] })
     back is =
-        let read : front_at bytes ≡ Some (front, is.1) = ap front_at is.2 ∙ exact_front.complete is.0 is.1 front is.3 in
-        let all : batches_within front.salt front.sum (length is.1) (is.1 ++ []) ≡ (bs, []) = batches_complete front.salt bs (length is.1) front.sum is.1 [] is.4 (omega (arith, length-append is.1 [])) (nothing_there front.salt (last_sum front bs)) in
-        let same : batches_within front.salt front.sum (length is.1) is.1 ≡ (bs, []) = ap (λ (z : List ℕ). batches_within front.salt front.sum (length is.1) z) (sym (append-nil is.1)) ∙ all in
-        bind_some (front_at bytes) (front, is.1) (λ f. Some (journal_from f)) (Some (record { front = front; batches = bs; left = [] })) read
-        (ap (λ (p : List Batch × List ℕ). Some (record { front = front; batches = p.0; left = p.1 })) same)
+        let read : header_at bytes ≡ Some (header, is.1) = ap header_at is.2 ∙ exact_front.complete is.0 is.1 header is.3 in
+        let all : batches_within header.salt header.sum (length is.1) (is.1 ++ []) ≡ (bs, []) = batches_complete header.salt bs (length is.1) header.sum is.1 [] is.4 (omega (arith, length-append is.1 [])) (nothing_there header.salt (last_sum header bs)) in
+        let same : batches_within header.salt header.sum (length is.1) is.1 ≡ (bs, []) = ap (λ (z : List ℕ). batches_within header.salt header.sum (length is.1) z) (sym (append-nil is.1)) ∙ all in
+        bind_some (header_at bytes) (header, is.1) (λ f. Some (journal_from f)) (Some (record { header = header; batches = bs; left = [] })) read
+        (ap (λ (p : List Batch × List ℕ). Some (record { header = header; batches = p.0; left = p.1 })) same)
 
 pub cuts_are_beginnings : CutsAreBeginnings
 unfolding journal_of
-cuts_are_beginnings bytes front bs n fits is le =
-    let long : length is.0 ≡ 48 = front_long is.0 front is.3 in
+cuts_are_beginnings bytes header bs n fits is le =
+    let long : length is.0 ≡ 48 = front_long is.0 header is.3 in
     let part : take n bytes ≡ is.0 ++ take (n - length is.0) is.1 = ap (λ (z : List ℕ). take n z) is.2 ∙ take_beyond n (n - length is.0) is.0 is.1 (omega (arith, long, le)) in
     let rest : IsBytes is.1 = subst IsBytes (ap (λ (z : List ℕ). drop (length is.0) z) is.2 ∙ drop_at is.0 is.1 (length is.0) refl) (bytes-drop (length is.0) bytes fits) in
-    let r = batches_cut front.salt bs (n - length is.0) (length (take (n - length is.0) is.1)) front.sum is.1 rest is.4 (omega arith) in
-    let read : front_at (take n bytes) ≡ Some (front, take (n - length is.0) is.1) = ap front_at part ∙ exact_front.complete is.0 (take (n - length is.0) is.1) front is.3 in (
+    let r = batches_cut header.salt bs (n - length is.0) (length (take (n - length is.0) is.1)) header.sum is.1 rest is.4 (omega arith) in
+    let read : header_at (take n bytes) ≡ Some (header, take (n - length is.0) is.1) = ap header_at part ∙ exact_front.complete is.0 (take (n - length is.0) is.1) header is.3 in (
       r.0,
       r.1,
-      bind_some (front_at (take n bytes)) (front, take (n - length is.0) is.1) (λ f. Some (journal_from f)) (Some (record { front = front; batches = take r.0 bs; left = r.1 })) read
-          (ap (λ (p : List Batch × List ℕ). Some (record { front = front; batches = p.0; left = p.1 })) r.2),
+      bind_some (header_at (take n bytes)) (header, take (n - length is.0) is.1) (λ f. Some (journal_from f)) (Some (record { header = header; batches = take r.0 bs; left = r.1 })) read
+          (ap (λ (p : List Batch × List ℕ). Some (record { header = header; batches = p.0; left = p.1 })) r.2),
     )

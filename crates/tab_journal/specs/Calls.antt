@@ -1,4 +1,4 @@
--- The calls of a device, and what is known of its file behind them. Of a file that is written and read no clause says that it is so.
+-- For proofs. The calls of a device, and what is known of its file behind them. Of a file that is written and read no clause says that it is so.
 use Rattle.std.specs.Prelude.{◌⊎◌, ℕ, zero, suc, ◌+◌, ◌≤◌, Bool, true, ◌&&◌, cond, List, [], ◌∷◌, ◌++◌, length}
 use Rattle.tab_journal.specs.Crashes.{HasFirst}
 

@@ -1,4 +1,4 @@
--- What the calls of a device do to its file, and what a crash may leave of it.
+-- For proofs. What the calls of a device do to its file, and what a crash may leave of it.
 use Rattle.std.specs.Prelude.{◌<◌, ◌≡◌, ◌⊎◌, ℕ, ◌+◌, ◌≤◌, max, List, length, take, drop, Result, IsErrOf}
 use Rattle.std.specs.declared.io.Error.{Error}
 use Rattle.tab_journal.specs.declared.device.DeviceError.{DeviceError}

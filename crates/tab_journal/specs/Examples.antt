@@ -1,9 +1,9 @@
--- Worked examples, computed: the forms of fronts and batches.
+-- Worked examples, computed: the forms of headers and batches.
 use Rattle.std.specs.Prelude.{pos, true, false, ◌≡◌, [], ◌∷◌, ◌++◌, codes, None, refl}
 use Rattle.tab_parts.specs.Reading.{u32_at, u64_at, field_at}
 use Rattle.tab_wire.specs.Replies.{u32, u64, i64}
 use Rattle.tab_journal.specs.declared.format.Format.TheVariants.{Lines, Events}
-use Rattle.tab_journal.specs.Journals.{mark, front_summed, batch_summed}
+use Rattle.tab_journal.specs.Journals.{mark, header_summed, batch_summed}
 use Rattle.tab_journal.specs.Reading.{batch_at}
 use Rattle.tab_journal.specs.Calls.{appended, synced, state_behind}
 
@@ -14,10 +14,10 @@ marked = refl
 marked_otherwise : mark Events ≡ 84 ∷ 65 ∷ 66 ∷ 74 ∷ 82 ∷ 78 ∷ 0 ∷ 2 ∷ []
 marked_otherwise = refl
 
--- what sums are taken of: a front's own bytes, and a batch behind the salt and the sum before it
-front_before_its_sum : front_summed Lines 1 2 (pos 3) 4 ≡ mark Lines ++ (0 ∷ 0 ∷ 0 ∷ 0 ∷ 0 ∷ 0 ∷ 0 ∷ 1 ∷ 0 ∷ 0 ∷ 0 ∷ 0 ∷ 0 ∷ 0 ∷ 0 ∷ 2 ∷ 0 ∷ 0 ∷ 0 ∷ 0 ∷ 0 ∷ 0 ∷ 0 ∷ 3 ∷ 0 ∷ 0 ∷ 0 ∷ 0 ∷ 0 ∷ 0 ∷ 0 ∷ 4 ∷ [])
-unfolding front_summed u64 i64
-front_before_its_sum = refl
+-- what sums are taken of: a header's own bytes, and a batch behind the salt and the sum before it
+header_before_its_sum : header_summed Lines 1 2 (pos 3) 4 ≡ mark Lines ++ (0 ∷ 0 ∷ 0 ∷ 0 ∷ 0 ∷ 0 ∷ 0 ∷ 1 ∷ 0 ∷ 0 ∷ 0 ∷ 0 ∷ 0 ∷ 0 ∷ 0 ∷ 2 ∷ 0 ∷ 0 ∷ 0 ∷ 0 ∷ 0 ∷ 0 ∷ 0 ∷ 3 ∷ 0 ∷ 0 ∷ 0 ∷ 0 ∷ 0 ∷ 0 ∷ 0 ∷ 4 ∷ [])
+unfolding header_summed u64 i64
+header_before_its_sum = refl
 
 batch_behind_salt_and_sum : batch_summed 1 2 48 (codes "a\n") ≡ 0 ∷ 0 ∷ 0 ∷ 0 ∷ 0 ∷ 0 ∷ 0 ∷ 1 ∷ 0 ∷ 0 ∷ 0 ∷ 0 ∷ 0 ∷ 0 ∷ 0 ∷ 2 ∷ 0 ∷ 0 ∷ 0 ∷ 0 ∷ 0 ∷ 0 ∷ 0 ∷ 48 ∷ 0 ∷ 0 ∷ 0 ∷ 2 ∷ 97 ∷ 10 ∷ []
 unfolding batch_summed u32 u64

@@ -1,4 +1,4 @@
--- What events that are kept fit: names are names, numbers have their widths, and sets stand in their one form.
+-- For proofs. What events that are kept fit: names are names, numbers have their widths, and sets stand in their one form.
 use Rattle.std.specs.Prelude.{ℕ, ℤ, ◌≡◌, ◌<◌, ◌≤◌, FitsSigned, Some, length}
 use Rattle.std.specs.Int.{w64}
 use Rattle.std.specs.List.{AllByRecursion, slice_index_or}

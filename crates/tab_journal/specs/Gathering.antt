@@ -1,4 +1,4 @@
--- What was gathered, and what each stretch of it keeps.
+-- For proofs. What was gathered, and what each stretch of it keeps.
 use Rattle.tab_journal.specs.declared.gathered.Gathered.TheInside.{Inside}
 use Rattle.tab_journal.specs.Journals.{AreEntries}
 use Rattle.tab_journal.specs.Reading.{entries_from}

@@ -1,4 +1,4 @@
--- How what is to be kept lies in the bytes of a journal, as relations. They say nothing of how bytes are read.
+-- To be believed by whoever relies on it. How what is to be kept lies in the bytes of a journal, as relations. They say nothing of how bytes are read.
 use Rattle.std.specs.Prelude.{ℕ, ℤ, ◌≡◌, List, [], ◌∷◌, ◌++◌, codes}
 use Rattle.std.specs.Hash.DefaultHasher.{initial, write, finish}
 use Rattle.tab_history.specs.declared.event.Event.{Event}
@@ -14,10 +14,10 @@ use Rattle.tab_journal.specs.declared.format.Format.TheVariants.{Lines, Events}
 unfoldable pub sum_of : List ℕ → ℕ
 sum_of bytes = finish (write initial bytes)
 
--- ---- the front
+-- ---- the header
 -- what its batches keep; which journal it is; the number of the next mutation, and the clock, of the core that it goes on from; a number by which its sums
 -- differ from those of others
-pub record Front : Type 0 where
+pub record Header : Type 0 where
   pub format : Format
   pub generation : ℕ
   pub next : ℕ
@@ -34,12 +34,12 @@ version_of Events = 2
 abbrev pub mark : Format → List ℕ
 mark format = codes "TABJRN" ++ 0 ∷ version_of format ∷ []
 
--- what the sum of a front is taken of
-unfoldable pub front_summed : Format → ℕ → ℕ → ℤ → ℕ → List ℕ
-front_summed format generation next clock salt = mark format ++ (u64 generation ++ (u64 next ++ (i64 clock ++ u64 salt)))
+-- what the sum of a header is taken of
+unfoldable pub header_summed : Format → ℕ → ℕ → ℤ → ℕ → List ℕ
+header_summed format generation next clock salt = mark format ++ (u64 generation ++ (u64 next ++ (i64 clock ++ u64 salt)))
 
 -- 48 bytes: the mark, three numbers, the salt, and the sum
-pub record IsFront (bytes : List ℕ) (f : Front) : Type 0 where
+pub record IsHeader (bytes : List ℕ) (f : Header) : Type 0 where
   pub g : List ℕ
   pub n : List ℕ
   pub c : List ℕ
@@ -51,7 +51,7 @@ pub record IsFront (bytes : List ℕ) (f : Front) : Type 0 where
   pub clock : IsI64 c f.clock
   pub salt : IsU64 s f.salt
   pub sum : IsU64 m f.sum
-  pub fits : f.sum ≡ sum_of (front_summed f.format f.generation f.next f.clock f.salt)
+  pub fits : f.sum ≡ sum_of (header_summed f.format f.generation f.next f.clock f.salt)
 
 -- ---- batches
 -- how many bytes of the journal were on the disk when it was written, the bytes that it keeps, and its sum
@@ -81,9 +81,9 @@ AreBatches salt before bytes [] = bytes ≡ []
 AreBatches salt before bytes (b ∷ bs) = (first : List ℕ) × (others : List ℕ) × (bytes ≡ first ++ others) × IsBatch salt before first b × AreBatches salt b.sum others bs
 
 -- ---- journals
--- a front, and batches behind it, of which the first one has the front's sum before it
-abbrev pub IsJournal : List ℕ → Front → List Batch → Type 0
-IsJournal bytes front bs = (first : List ℕ) × (others : List ℕ) × (bytes ≡ first ++ others) × IsFront first front × AreBatches front.salt front.sum others bs
+-- a header, and batches behind it, of which the first one has the header's sum before it
+abbrev pub IsJournal : List ℕ → Header → List Batch → Type 0
+IsJournal bytes header bs = (first : List ℕ) × (others : List ℕ) × (bytes ≡ first ++ others) × IsHeader first header × AreBatches header.salt header.sum others bs
 
 -- ---- entries, of which the bytes of a batch may be
 -- a field of bytes

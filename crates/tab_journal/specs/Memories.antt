@@ -1,4 +1,4 @@
--- What a device in memory stands for.
+-- For proofs. What a device in memory stands for.
 use Rattle.std.specs.Prelude.{ℕ, List}
 use Rattle.tab_journal.specs.declared.memory_device.MemoryDevice.{MemoryDevice}
 use Rattle.tab_journal.specs.Calls.{Call}

@@ -1,4 +1,4 @@
--- What the bytes of a journal say, as a function.
+-- For proofs. What the bytes of a journal say, as a function.
 use Rattle.std.specs.Prelude.{ℕ, ℤ, zero, suc, ◌==◌, List, [], ◌∷◌, length, bytes_eq, Option, Some, None, unwrap_or, if◌then◌else◌}
 use Rattle.tab_history.specs.declared.event.Act.{Act}
 use Rattle.tab_history.specs.declared.event.Event.{Event}
@@ -8,11 +8,11 @@ use Rattle.tab_wire.specs.declared.request.Request.{Request}
 use Rattle.tab_wire.specs.declared.request.Request.TheVariants as asks
 use Rattle.tab_journal.specs.declared.format.Format.{Format}
 use Rattle.tab_journal.specs.declared.format.Format.TheVariants.{Lines, Events}
-use Rattle.tab_journal.specs.Journals.{sum_of, mark, Front, front_summed, Batch, batch_summed}
+use Rattle.tab_journal.specs.Journals.{sum_of, mark, Header, header_summed, Batch, batch_summed}
 
--- ---- the front
-abbrev pub front_of : Format → ℕ → ℕ → ℤ → ℕ → ℕ → Option Front
-front_of format generation next clock salt sum = only_if (λ (f : Front). f.sum == sum_of (front_summed f.format f.generation f.next f.clock f.salt)) (record { format = format; generation = generation; next = next; clock = clock; salt = salt; sum = sum })
+-- ---- the header
+abbrev pub header_of : Format → ℕ → ℕ → ℤ → ℕ → ℕ → Option Header
+header_of format generation next clock salt sum = only_if (λ (f : Header). f.sum == sum_of (header_summed f.format f.generation f.next f.clock f.salt)) (record { format = format; generation = generation; next = next; clock = clock; salt = salt; sum = sum })
 
 -- the format whose mark this is
 abbrev pub format_of : List ℕ → Option Format
@@ -21,8 +21,8 @@ format_of text = if bytes_eq text (mark Lines) then Some Lines else if bytes_eq 
 unfoldable pub mark_at : Reader Format
 mark_at bytes = picked format_of (bytes_at 8) bytes
 
-unfoldable pub front_at : Reader Front
-front_at bytes = and_then mark_at (λ format. and_then u64_at (λ generation. and_then u64_at (λ next. and_then i64_at (λ clock. and_then u64_at (λ salt. picked (front_of format generation next clock salt) u64_at))))) bytes
+unfoldable pub header_at : Reader Header
+header_at bytes = and_then mark_at (λ format. and_then u64_at (λ generation. and_then u64_at (λ next. and_then i64_at (λ clock. and_then u64_at (λ salt. picked (header_of format generation next clock salt) u64_at))))) bytes
 
 -- ---- batches
 abbrev pub batch_of : ℕ → ℕ → ℕ → List ℕ → ℕ → Option Batch
@@ -37,18 +37,18 @@ batches_within salt before zero bytes = ([], bytes)
 batches_within salt before (suc k) bytes = unwrap_or (batch_at salt before bytes >>= λ b. let behind = batches_within salt b.0.sum k b.1 in Some (b.0 ∷ behind.0, behind.1)) ([], bytes)
 
 -- ---- journals
--- the front, the whole batches behind it, and what is left behind these
+-- the header, the whole batches behind it, and what is left behind these
 pub record Journal : Type 0 where
-  pub front : Front
+  pub header : Header
   pub batches : List Batch
   pub left : List ℕ
 
-abbrev pub journal_from : Front × List ℕ → Journal
-journal_from f = let read = batches_within f.0.salt f.0.sum (length f.1) f.1 in record { front = f.0; batches = read.0; left = read.1 }
+abbrev pub journal_from : Header × List ℕ → Journal
+journal_from f = let read = batches_within f.0.salt f.0.sum (length f.1) f.1 in record { header = f.0; batches = read.0; left = read.1 }
 
--- what these bytes say; nothing, where they don't begin with a front
+-- what these bytes say; nothing, where they don't begin with a header
 unfoldable pub journal_of : List ℕ → Option Journal
-journal_of bytes = front_at bytes >>= λ f. Some (journal_from f)
+journal_of bytes = header_at bytes >>= λ f. Some (journal_from f)
 
 -- ---- entries
 -- the act that is asked, if that is what is asked

@@ -1,4 +1,4 @@
--- Why a journal isn't begun.
+-- For proofs. Why a journal isn't begun.
 use Rattle.std.specs.Prelude.{⊤, ℕ, ◌≡◌, ◌<◌}
 use Rattle.std.specs.declared.io.Error.{Error}
 use Rattle.tab_journal.specs.declared.device.DeviceError.TheVariants.{Failed}

@@ -1,4 +1,4 @@
--- The bytes that are written.
+-- For proofs. The bytes that are written.
 use Rattle.std.specs.Prelude.{ℕ, List, [], ◌++◌, cond}
 use Rattle.std.specs.List.{flat_map}
 use Rattle.tab_history.specs.declared.event.Act.{Act}
@@ -6,15 +6,15 @@ use Rattle.tab_history.specs.declared.event.Event.{Event}
 use Rattle.tab_lasting.specs.Lasting.{leaves_trace}
 use Rattle.tab_wire.specs.Replies.{u64, i64, field}
 use Rattle.tab_wire.specs.Sending.{act_bytes}
-use Rattle.tab_journal.specs.Journals.{sum_of, mark, Front, batch_summed}
+use Rattle.tab_journal.specs.Journals.{sum_of, mark, Header, batch_summed}
 
 -- of a batch that keeps these bytes, behind this sum
 abbrev pub batch_bytes : ℕ → ℕ → ℕ → List ℕ → List ℕ
 batch_bytes salt before settled body = u64 settled ++ (field body ++ u64 (sum_of (batch_summed salt before settled body)))
 
--- of a front
-abbrev pub front_bytes : Front → List ℕ
-front_bytes f = mark f.format ++ (u64 f.generation ++ (u64 f.next ++ (i64 f.clock ++ (u64 f.salt ++ u64 f.sum))))
+-- of a header
+abbrev pub header_bytes : Header → List ℕ
+header_bytes f = mark f.format ++ (u64 f.generation ++ (u64 f.next ++ (i64 f.clock ++ (u64 f.salt ++ u64 f.sum))))
 
 -- of an event that was done, at the clock that it met: that clock, the user, and the body of a frame that asks the act
 abbrev pub entry_bytes : Event → List ℕ

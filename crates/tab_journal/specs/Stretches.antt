@@ -1,6 +1,6 @@
--- The entries of a stretch of a history that are to outlive a crash, gathered one after the other.
+-- To be believed by whoever relies on it. The entries of a stretch of a history that are to outlive a crash, gathered one after the other.
 use Rattle.std.specs.Prelude.{ℤ, ℕ, ◌≡◌, Bool, true, false, List, [], ◌∷◌, ◌++◌, reverse}
-use Rattle.tab_key.specs.declared.part.Part.TheVariants.{Sessions}
+use Rattle.tab_key.specs.declared.limited_part.LimitedPart.TheVariants.{Sessions}
 use Rattle.tab_history.specs.Answers.{Told}
 use Rattle.tab_history.specs.Histories.{Entry, World, clock_of, clock_at, clock_after}
 use Rattle.tab_history.specs.declared.event.Event.{Event as TheEvent}

@@ -1,4 +1,4 @@
--- What a writer stands for.
+-- For proofs. What a writer stands for.
 use Rattle.std.specs.Prelude.{ℕ, ◌≡◌, ◌≤◌, ◌<◌, ◌^◌, ◌+◌, Bool, true, List, length}
 use Rattle.std.specs.declared.io.Error.{Error}
 use Rattle.tab_journal.specs.declared.device.Device.{Ghosts}
@@ -6,7 +6,7 @@ use Rattle.tab_journal.specs.declared.device.DeviceError.TheVariants.{Failed}
 use Rattle.tab_journal.specs.declared.write_error.WriteError.{WriteError}
 use Rattle.tab_journal.specs.declared.write_error.WriteError.TheVariants.{NoMemory, TooLong, Full, Stopped, Device as OfDevice}
 use Rattle.tab_journal.specs.declared.writer.Writer.{Writer}
-use Rattle.tab_journal.specs.Journals.{Front, Batch}
+use Rattle.tab_journal.specs.Journals.{Header, Batch}
 use Rattle.tab_journal.specs.Writing.{IsWritten}
 
 -- the salt and the last sum; how many bytes are written, and how many of them are on the disk; and whether a call has failed
@@ -24,8 +24,8 @@ module _ {D : Type 0} {g : Ghosts D} where
   abbrev pub place_of : Writer D g → Place
   place_of w = record { salt = w.salt; sum = w.sum; written = w.written; settled = w.settled; has_failed = w.has_failed }
 
-  -- what it has written is this front and these batches, of which the first k are on the disk
-  abbrev pub Writes : (D → List ℕ) → Writer D g → Front → List Batch → ℕ → Type 0
+  -- what it has written is this header and these batches, of which the first k are on the disk
+  abbrev pub Writes : (D → List ℕ) → Writer D g → Header → List Batch → ℕ → Type 0
   Writes seen w = IsWritten (seen w.device) w.salt w.sum w.settled
 
   -- why these bytes aren't put, and what stands afterwards

@@ -1,20 +1,20 @@
--- A journal that is being written.
+-- For proofs. A journal that is being written.
 use Rattle.std.specs.Prelude.{ℕ, ◌≡◌, ◌≤◌, List, length, take}
-use Rattle.tab_journal.specs.Journals.{Front, Batch, IsJournal}
+use Rattle.tab_journal.specs.Journals.{Header, Batch, IsJournal}
 use Rattle.tab_journal.specs.Laws.{last_sum}
 use Rattle.tab_journal.specs.Crashes.{HasFirst}
 
--- These bytes are this front and these batches, the last sum is this one, and the first n bytes are the front and the first k batches.
-pub record IsWritten (bytes : List ℕ) (salt sum n : ℕ) (front : Front) (bs : List Batch) (k : ℕ) : Type 0 where
-  pub journal : IsJournal bytes front bs
-  pub salted : salt ≡ front.salt
-  pub summed : sum ≡ last_sum front bs
+-- These bytes are this header and these batches, the last sum is this one, and the first n bytes are the header and the first k batches.
+pub record IsWritten (bytes : List ℕ) (salt sum n : ℕ) (header : Header) (bs : List Batch) (k : ℕ) : Type 0 where
+  pub journal : IsJournal bytes header bs
+  pub salted : salt ≡ header.salt
+  pub summed : sum ≡ last_sum header bs
   pub few : k ≤ length bs
-  pub first : IsJournal (take n bytes) front (take k bs)
+  pub first : IsJournal (take n bytes) header (take k bs)
 
--- they are some front and some batches
+-- they are some header and some batches
 abbrev pub IsSomeJournal : List ℕ → ℕ → ℕ → ℕ → Type 0
-IsSomeJournal bytes salt sum n = (front : Front) × (bs : List Batch) × (k : ℕ) × IsWritten bytes salt sum n front bs k
+IsSomeJournal bytes salt sum n = (header : Header) × (bs : List Batch) × (k : ℕ) × IsWritten bytes salt sum n header bs k
 
 -- each outcome of a crash has the first n bytes of the file, and is no longer than it
 abbrev pub KeepFirst : ℕ → List ℕ → (List ℕ → Type 0) → Type 0

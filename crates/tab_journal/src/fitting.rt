@@ -2,31 +2,31 @@
 ghost use Rattle.std.specs.Prelude.{◌≡◌, ◌≤◌, ◌<◌, ℤ, Option, Some, FitsSigned, length};
 ghost use Rattle.std.specs.Int.{w64};
 ghost use Rattle.tab_key.specs.Names.{IsName};
-ghost use Rattle.tab_note.specs.Acts.{act_in, plain_in, permission_in};
+ghost use Rattle.tab_event_record.specs.Acts.{act_in, plain_in, permission_in};
 ghost use Rattle.tab_journal.specs.Fitting.{FitsMutation, FitsVersions, FitsPermission, FitsAct};
 
+use tab_event_record::{PlainAct, RecordedAct, RecordedName, RecordedPermission, RecordedVersions};
 use tab_mutation::Mutation;
-use tab_note::{KeptAct, KeptName, KeptPermission, KeptVersions, PlainAct};
 
 /// The act fits.
-pub fn act_fits(act: &KeptAct)
+pub fn act_fits(act: &RecordedAct)
     ensures { FitsAct (act_in act.now) }
 {
     match act {
-        KeptAct::Write(table, mutation) => {
+        RecordedAct::Write(table, mutation) => {
             name_fits(table);
             mutation_fits(mutation);
         }
-        KeptAct::SetConstraints(table, set) => {
+        RecordedAct::SetConstraints(table, set) => {
             name_fits(table);
             set.keeps();
         }
-        KeptAct::SetAuths(user, auths) => {
+        RecordedAct::SetAuths(user, auths) => {
             name_fits(user);
             let _ = auths.terms();
         }
-        KeptAct::Plain(plain) => plain_fits(plain),
-        KeptAct::Open(_) => {}
+        RecordedAct::Plain(plain) => plain_fits(plain),
+        RecordedAct::Open(_) => {}
     }
 }
 
@@ -55,22 +55,22 @@ fn plain_fits(act: &PlainAct)
     }
 }
 
-fn name_fits(name: &KeptName)
+fn name_fits(name: &RecordedName)
     ensures { IsName name.now }
 {
     let _ = name.as_bytes();
 }
 
-fn permission_fits(permission: &KeptPermission)
+fn permission_fits(permission: &RecordedPermission)
     ensures { FitsPermission (permission_in permission.now) }
 {
     match permission {
-        KeptPermission::OfSystem(_) => {}
-        KeptPermission::OfTable(_, table) => name_fits(table),
+        RecordedPermission::OfSystem(_) => {}
+        RecordedPermission::OfTable(_, table) => name_fits(table),
     }
 }
 
-fn versions_fit(many: &KeptVersions)
+fn versions_fit(many: &RecordedVersions)
     ensures { FitsVersions many.now }
 {
     let _ = many.versions().get();

@@ -14,8 +14,8 @@ use crate::lasting::{is_refused, leaves_trace, moves_clock};
 use crate::spelling::{put_act, put_entry};
 use std::alloc::{AllocError, Global};
 use std::marker::Model;
+use tab_event_record::EventRecord;
 use tab_history::Reply;
-use tab_note::Note;
 use tab_wire::Gathering;
 
 // The most bytes of an act in an entry.
@@ -61,7 +61,7 @@ impl Gathered {
     /// # Errors
     ///
     /// There is no memory, or the frame that asks the act would have 2^32 bytes or more. Nothing was added then, and the clock stands.
-    pub fn add(&mut self, event: &Note, reply: &Reply) -> Result<(), AllocError>
+    pub fn add(&mut self, event: &EventRecord, reply: &Reply) -> Result<(), AllocError>
         ensures ok { OnOk result (self.new ≡ gathers self.old (IsEvent event.now) reply.now) }
         ensures err { OnErr result (self.new ≡ self.old) }
     {
@@ -72,7 +72,7 @@ impl Gathered {
     }
 
     // What is to be kept of an entry that met this clock.
-    fn keep(&mut self, clock: i64, event: &Note, reply: &Reply) -> Result<(), AllocError>
+    fn keep(&mut self, clock: i64, event: &EventRecord, reply: &Reply) -> Result<(), AllocError>
         ensures ok { OnOk result (self.new ≡ kept_behind self.old self.old.clock (events_of (lasting_of clock (IsEvent event.now) reply.now))) }
         ensures err { OnErr result (self.new ≡ self.old) }
     {
@@ -86,7 +86,7 @@ impl Gathered {
     }
 
     // An event that leaves something, at this clock.
-    fn put(&mut self, clock: i64, event: &Note) -> Result<(), AllocError>
+    fn put(&mut self, clock: i64, event: &EventRecord) -> Result<(), AllocError>
         requires { leaves_trace event.now.act ≡ true }
         ensures ok { OnOk result (self.new ≡ kept_behind self.old self.old.clock (record event.now { moment = clock } ∷ [])) }
         ensures err { OnErr result (self.new ≡ self.old) }
@@ -138,7 +138,7 @@ impl Gathered {
 }
 
 // The body of the frame that asks the event's act, in the place of what was gathered. After an error nothing is said of that.
-fn gather_act(text: &mut Gathering, event: &Note) -> Result<(), AllocError>
+fn gather_act(text: &mut Gathering, event: &EventRecord) -> Result<(), AllocError>
     requires { leaves_trace event.now.act ≡ true }
     ensures bytes { OnOk result (text.new.bytes.items ≡ act_bytes event.now.act) }
     ensures short { OnOk result (length text.new.bytes.items < 2 ^ 32) }

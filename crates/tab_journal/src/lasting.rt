@@ -1,21 +1,22 @@
 //! What of an entry is to be kept.
 ghost use Rattle.std.specs.Prelude.{◌≡◌};
 ghost use Rattle.tab_lasting.specs.Lasting.{leaves_trace};
-ghost use Rattle.tab_note.specs.Acts.{act_in, plain_in};
+ghost use Rattle.tab_event_record.specs.Acts.{act_in, plain_in};
 ghost use Rattle.tab_journal.specs.Stretches.{is_refused, moves_clock};
 
+use tab_event_record::{PlainAct, RecordedAct};
 use tab_history::{Refusal, Reply};
-use tab_key::Part;
-use tab_note::{KeptAct, PlainAct};
+use tab_key::LimitedPart;
 
 /// Whether the act leaves something that outlives a crash, where it is done.
-pub fn leaves_trace(act: &KeptAct) -> bool
+pub fn leaves_trace(act: &RecordedAct) -> bool
     ensures { result ≡ leaves_trace (act_in act.now) }
 {
     match act {
-        KeptAct::Write(..) | KeptAct::SetConstraints(..) | KeptAct::SetAuths(..) => true,
-        KeptAct::Open(_) => false,
-        KeptAct::Plain(plain) => plain_leaves_trace(plain),
+        RecordedAct::Write(..) | RecordedAct::SetConstraints(..) | RecordedAct::SetAuths(..) =>
+            true,
+        RecordedAct::Open(_) => false,
+        RecordedAct::Plain(plain) => plain_leaves_trace(plain),
     }
 }
 
@@ -70,7 +71,7 @@ fn refusal_moves_clock(refusal: &Refusal) -> bool
 {
     match refusal {
         Refusal::NoMemory | Refusal::NoSession(_) | Refusal::NoJob(_) => false,
-        Refusal::TooLarge(part) => !matches!(part, Part::Sessions),
+        Refusal::TooLarge(part) => !matches!(part, LimitedPart::Sessions),
         _ => true,
     }
 }

@@ -13,7 +13,7 @@ pub fn whole_batches_are_kept()
     ensures { WholeBatchesAreKept }
 {}
 
-/// A beginning of a journal, with its front, says the first of its batches, whole ones alone.
+/// A beginning of a journal, with its header, says the first of its batches, whole ones alone.
 pub fn cuts_are_beginnings()
     ensures { CutsAreBeginnings }
 {}

@@ -1,6 +1,6 @@
 //! The bytes of a journal: what is to outlive a crash of a program, put behind one another as it comes.
 //!
-//! A journal is a front of 48 bytes, and batches. A batch is what one write puts: eight bytes that say how long the journal was when all of it
+//! A journal is a header of 48 bytes, and batches. A batch is what one write puts: eight bytes that say how long the journal was when all of it
 //! was on the disk, a length of four bytes and that many bytes, and a sum of eight bytes. The sum is SipHash-1-3 of the journal's salt, the sum
 //! before it, and the batch: so each batch fits behind one other alone, and bytes of an older file don't fit. A write that a crash cuts off
 //! leaves no batch; what stands before it is read.
@@ -11,14 +11,14 @@
 //! | File | What |
 //! |---|---|
 //! | `format` | what the batches keep: lines or entries |
-//! | `front`, `batch` | their texts, and what is read of them |
+//! | `header`, `batch` | their texts, and what is read of them |
 //! | `reading` | a whole journal, read |
 //! | `lasting`, `fitting` | which events leave a trace, and which fit into the field of an entry |
 //! | `spelling`, `gathered` | the bytes of an entry, and those of a stretch of a history |
 //! | `entry` | an entry, read |
 //! | `sums`, `taking` | sums, and numbers and fields at the front of some bytes |
 //! | `device`, `memory_device`, `memory` | a file as a journal sees it, and one in memory with the calls that it keeps |
-//! | `writer`, `beginning`, `write_error` | a journal that is being written into a device, its front, and why nothing is put |
+//! | `writer`, `beginning`, `write_error` | a journal that is being written into a device, its header, and why nothing is put |
 //! | `laws` | reading is exactly the forms, and a beginning of a journal says the first of its batches |
 //!
 //! In `specs`, `Journals` says what the bytes of a journal are, as relations, `Reading` reads them, `Spelling` has the bytes that are written,
@@ -34,8 +34,8 @@ mod device;
 mod entry;
 mod fitting;
 mod format;
-mod front;
 mod gathered;
+mod header;
 mod lasting;
 mod laws;
 mod memory;
@@ -53,14 +53,14 @@ pub use batch::{Batch, batch_text, take_batch};
 pub use device::{Device, DeviceError};
 pub use entry::next_entry;
 pub use format::Format;
-pub use front::{Front, front_text, take_front};
 pub use gathered::Gathered;
+pub use header::{Header, header_text, take_header};
 pub use laws::{
     crashes_leave_beginnings, cuts_are_beginnings, entries_are_read, gathered_is_lasting,
     journals_are_read, texts_have_form, whole_batches_are_kept,
 };
 pub use memory::MemoryCall;
 pub use memory_device::MemoryDevice;
-pub use reading::{Kept, read_journal};
+pub use reading::{JournalContents, read_journal};
 pub use write_error::WriteError;
 pub use writer::Writer;

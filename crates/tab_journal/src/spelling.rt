@@ -3,13 +3,13 @@
 
 ghost use Rattle.std.specs.Prelude.{◌≡◌, ◌∷◌, ◌++◌, []};
 ghost use Rattle.tab_io.specs.Writing.{Puts};
-ghost use Rattle.tab_note.specs.Acts.{act_in, plain_in, permission_in};
+ghost use Rattle.tab_event_record.specs.Acts.{act_in, plain_in, permission_in};
 ghost use Rattle.tab_parts.specs.Parts.{time_byte};
 ghost use Rattle.tab_wire.specs.Replies.{i64, field, permission_bytes};
 ghost use Rattle.tab_journal.specs.Spelling.{trace_bytes};
 
+use tab_event_record::{PlainAct, RecordedAct, RecordedPermission};
 use tab_io::{Output, WriteFault};
-use tab_note::{KeptAct, KeptPermission, PlainAct};
 use tab_wire::{
     Value, constraint_bits, put_auths, put_create, put_horizon, put_marked, put_named, put_row,
     put_system, put_table, put_values, put_versions, put_write,
@@ -31,17 +31,17 @@ pub fn put_entry<'a, W: Output>(
 }
 
 /// Puts the body of the frame that asks the act, where the act leaves something. Nothing is put of any other act.
-pub fn put_act<W: Output>(output: &mut W, act: &KeptAct) -> Result<(), WriteFault>
+pub fn put_act<W: Output>(output: &mut W, act: &RecordedAct) -> Result<(), WriteFault>
     ensures { Puts W.Output output.old output.new (trace_bytes (act_in act.now)) result }
 {
     match act {
-        KeptAct::Write(table, mutation) => put_write(output, table.as_bytes(), mutation),
-        KeptAct::SetConstraints(table, set) => {
+        RecordedAct::Write(table, mutation) => put_write(output, table.as_bytes(), mutation),
+        RecordedAct::SetConstraints(table, set) => {
             put_marked(output, 0x09, table.as_bytes(), constraint_bits(set))
         }
-        KeptAct::SetAuths(user, auths) => put_auths(output, user.as_bytes(), auths),
-        KeptAct::Plain(plain) => put_plain(output, plain),
-        KeptAct::Open(_) => output.put(b""),
+        RecordedAct::SetAuths(user, auths) => put_auths(output, user.as_bytes(), auths),
+        RecordedAct::Plain(plain) => put_plain(output, plain),
+        RecordedAct::Open(_) => output.put(b""),
     }
 }
 
@@ -82,13 +82,13 @@ fn put_right<W: Output>(
     output: &mut W,
     opcode: u8,
     user: &[u8],
-    permission: &KeptPermission,
+    permission: &RecordedPermission,
 ) -> Result<(), WriteFault>
     ensures { Puts W.Output output.old output.new (opcode ∷ (field user.now ++ permission_bytes (permission_in permission.now))) result }
 {
     match permission {
-        KeptPermission::OfSystem(permission) => put_system(output, opcode, user, *permission),
-        KeptPermission::OfTable(permission, table) => {
+        RecordedPermission::OfSystem(permission) => put_system(output, opcode, user, *permission),
+        RecordedPermission::OfTable(permission, table) => {
             put_table(output, opcode, user, *permission, table.as_bytes())
         }
     }

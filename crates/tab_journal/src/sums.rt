@@ -1,14 +1,14 @@
-//! Sums of fronts and batches.
+//! Sums of headers and batches.
 ghost use Rattle.std.specs.Prelude.{◌≡◌, ◌<◌, ◌^◌, length};
-ghost use Rattle.tab_journal.specs.Journals.{sum_of, front_summed, batch_summed};
+ghost use Rattle.tab_journal.specs.Journals.{sum_of, header_summed, batch_summed};
 
 use crate::format::{Format, mark_of};
 use std::hash::{DefaultHasher, Hasher};
 
-/// The sum of a front.
-#[tactic(auto, using(crate::proofs::Hashing::front_sums))]
-pub fn front_sum(format: Format, generation: u64, next: u64, clock: i64, salt: u64) -> u64
-    ensures { result ≡ sum_of (front_summed format generation next clock salt) }
+/// The sum of a header.
+#[tactic(auto, using(crate::proofs::Hashing::header_sums))]
+pub fn header_sum(format: Format, generation: u64, next: u64, clock: i64, salt: u64) -> u64
+    ensures { result ≡ sum_of (header_summed format generation next clock salt) }
 {
     let mut hasher = DefaultHasher::new();
     hasher.write(&mark_of(format));

@@ -2,24 +2,24 @@
 ghost use Rattle.std.specs.Prelude.{◌≡◌, ◌≤◌, ◌++◌, ◌∷◌, [], ℕ, List, true, false, length, IfOk, IfErr, OnOk, IsErrOf, MatchResult};
 ghost use Rattle.tab_journal.specs.Device.{Only, LeavesOnly};
 ghost use Rattle.tab_journal.specs.Crashes.{HasFirst, IsAsBefore};
-ghost use Rattle.tab_journal.specs.Journals.{sum_of, front_summed, batch_summed, Front as TheFront, Batch};
+ghost use Rattle.tab_journal.specs.Journals.{sum_of, header_summed, batch_summed, Header as TheFront, Batch};
 ghost use Rattle.tab_journal.specs.Reasons.{HasReason};
-ghost use Rattle.tab_journal.specs.Said.{front_in};
-ghost use Rattle.tab_journal.specs.Spelling.{front_bytes, batch_bytes};
+ghost use Rattle.tab_journal.specs.Said.{header_in};
+ghost use Rattle.tab_journal.specs.Spelling.{header_bytes, batch_bytes};
 ghost use Rattle.tab_journal.specs.Writing.{KeepFirst, IsSomeJournal};
 ghost use Rattle.tab_journal.specs.declared.write_error.WriteError.TheVariants.{Stopped};
 
 use crate::batch::batch_text;
-use crate::beginning::put_front;
+use crate::beginning::put_header;
 use crate::device::Device;
-use crate::front::Front;
+use crate::header::Header;
 use crate::write_error::WriteError;
 use std::alloc::Global;
 
 // The most bytes in a batch.
 const MOST: usize = 0xffff_ffff;
 
-// How many bytes a front has.
+// How many bytes a header has.
 const FRONT: u64 = 48;
 
 /// A journal that is being written into a device: batch after batch, each behind the sum of the one before.
@@ -47,29 +47,29 @@ pub struct Writer<D: Device> {
 impl<D: Device> Writer<D> {
     ghost use Rattle.tab_journal.specs.Writers.{device_of, place_of, Writes, Refuses, Withholds};
 
-    /// Begins a journal with this front in an empty file, and sees it on the disk. Memory is taken for the front's text. An error hands the device
+    /// Begins a journal with this header in an empty file, and sees it on the disk. Memory is taken for the header's text. An error hands the device
     /// back.
-    pub fn begin(alloc: Global, device: D, front: Front) -> Result<Writer<D>, (WriteError, D)>
+    pub fn begin(alloc: Global, device: D, header: Header) -> Result<Writer<D>, (WriteError, D)>
         requires empty { D.seen device ≡ [] }
         requires settled { Only [] (D.may_leave device) }
         requires usable { D.is_usable device ≡ true }
-        requires right { front.sum ≡ sum_of (front_summed front.format front.generation front.next front.clock front.salt) }
-        ensures begun { IfOk result (λ w. D.seen (device_of w) ≡ front_bytes (front_in front)) }
+        requires right { header.sum ≡ sum_of (header_summed header.format header.generation header.next header.clock header.salt) }
+        ensures begun { IfOk result (λ w. D.seen (device_of w) ≡ header_bytes (header_in header)) }
         ensures durable { IfOk result (λ w. Only (D.seen (device_of w)) (D.may_leave (device_of w))) }
-        ensures place { IfOk result (λ w. place_of w ≡ record { salt = front.salt; sum = front.sum; written = 48; settled = 48; has_failed = false }) }
-        ensures none { IfOk result (λ w. Writes D.seen w (front_in front) [] 0) }
+        ensures place { IfOk result (λ w. place_of w ≡ record { salt = header.salt; sum = header.sum; written = 48; settled = 48; has_failed = false }) }
+        ensures none { IfOk result (λ w. Writes D.seen w (header_in header) [] 0) }
         ensures any_moment { MatchResult result
             (λ w. LeavesOnly D.moment D.left_since device (device_of w) (λ c. length c ≤ 48))
             (λ e. LeavesOnly D.moment D.left_since device e.1 (λ c. length c ≤ 48)) }
         ensures failed { IfErr result (λ e. HasReason (D.faults device) (D.faults e.1) e.0) }
     {
         let mut device = device;
-        match put_front(alloc, &mut device, front) {
+        match put_header(alloc, &mut device, header) {
             Ok(()) => Ok(Writer {
                 alloc,
                 device,
-                salt: front.salt,
-                sum: front.sum,
+                salt: header.salt,
+                sum: header.sum,
                 written: FRONT,
                 settled: FRONT,
                 has_failed: false,
@@ -114,8 +114,8 @@ impl<D: Device> Writer<D> {
           written = length (D.seen (device_of self.new));
         }) }
         // one batch more stands there
-        ensures batch { (front : TheFront) (bs : List Batch) (k : ℕ) → Writes D.seen self.old front bs k
-            → OnOk result (Writes D.seen self.new front (bs ++ record { settled = (place_of self.old).settled; body = body.now; sum = (place_of self.new).sum } ∷ []) k) }
+        ensures batch { (header : TheFront) (bs : List Batch) (k : ℕ) → Writes D.seen self.old header bs k
+            → OnOk result (Writes D.seen self.new header (bs ++ record { settled = (place_of self.old).settled; body = body.now; sum = (place_of self.new).sum } ∷ []) k) }
         // A crash at any moment of the call leaves what was on the disk, and changes nothing of what was written before.
         ensures any_moment { (place_of self.old).has_failed ≡ false → LeavesOnly D.moment D.left_since (device_of self.old) (device_of self.new)
             (λ c. HasFirst (place_of self.old).settled (D.seen (device_of self.old)) c × IsAsBefore (place_of self.old).written (D.may_leave (device_of self.old)) c) }
@@ -145,7 +145,7 @@ impl<D: Device> Writer<D> {
         ensures durable { OnOk result (Only (D.seen (device_of self.new)) (D.may_leave (device_of self.new))) }
         ensures same { OnOk result (D.seen (device_of self.new) ≡ D.seen (device_of self.old)) }
         ensures place { OnOk result (place_of self.new ≡ record (place_of self.old) { settled = (place_of self.old).written }) }
-        ensures batches { (front : TheFront) (bs : List Batch) (k : ℕ) → Writes D.seen self.old front bs k → OnOk result (Writes D.seen self.new front bs (length bs)) }
+        ensures batches { (header : TheFront) (bs : List Batch) (k : ℕ) → Writes D.seen self.old header bs k → OnOk result (Writes D.seen self.new header bs (length bs)) }
         // A crash at any moment of the call leaves what one might have left before it.
         ensures any_moment { LeavesOnly D.moment D.left_since (device_of self.old) (device_of self.new) (D.may_leave (device_of self.old)) }
         ensures stopped { (place_of self.old).has_failed ≡ true → IsErrOf result Stopped }

@@ -1,4 +1,4 @@
-use crate::{Format, Front, MemoryDevice, WriteError, Writer, read_journal};
+use crate::{Format, Header, MemoryDevice, WriteError, Writer, read_journal};
 use std::alloc::Global;
 use std::process::Abort;
 
@@ -7,8 +7,8 @@ const LONG: usize = 40_000;
 
 // A journal in memory, of whose calls so many go well.
 fn begun(rt: &impl Abort, alloc: Global, good: usize) -> Writer<MemoryDevice> {
-    let front = Front::new(Format::Lines, 1, 2, 3, 4);
-    match Writer::begin(alloc, MemoryDevice::new(alloc, good), front) {
+    let header = Header::new(Format::Lines, 1, 2, 3, 4);
+    match Writer::begin(alloc, MemoryDevice::new(alloc, good), header) {
         Ok(writer) => writer,
         Err(_) => panic!(rt; "no journal is begun"),
     }
@@ -17,7 +17,7 @@ fn begun(rt: &impl Abort, alloc: Global, good: usize) -> Writer<MemoryDevice> {
 // The bytes of its batches that are read of this content.
 fn text_of(rt: &impl Abort, alloc: Global, content: &[u8]) -> Vec<u8> {
     let kept = read_journal(alloc, content).expect(rt, "memory");
-    kept.expect(rt, "a front").text
+    kept.expect(rt, "a header").text
 }
 
 #[test]

@@ -1,4 +1,4 @@
--- The order of byte strings.
+-- To be believed. The order of byte strings.
 use Rattle.std.specs.Prelude.{ℕ, List}
 use Rattle.std.specs.Ordering.{nat_cmp}
 use Rattle.std.specs.declared.cmp.Ordering.{Ordering}

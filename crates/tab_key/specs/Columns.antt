@@ -1,4 +1,4 @@
--- The columns that a scan names. (Accumulo user manual: fetching columns)
+-- To be believed. The columns that a scan names. (Accumulo user manual: fetching columns)
 use Rattle.std.specs.Prelude.{List, [], ◌∷◌, Bool, true, ◌&&◌, bytes_eq}
 use Rattle.std.specs.List.{list_any}
 use Rattle.tab_key.specs.Records.{Key}

@@ -1,4 +1,4 @@
--- How a record lies in a body of bytes that holds others too.
+-- For proofs. How a record lies in a body of bytes that holds others too.
 --
 -- A head of 41 bytes, and then row, family, qualifier, label and value in one piece. The head has, the most significant byte first: the
 -- five lengths, 4 bytes each; the timestamp, 8 bytes; the kind, 1 byte, which is 0 for a marker and any other one for a put; the number
@@ -11,7 +11,7 @@ use Rattle.tab_key.specs.Records as view
 use Rattle.tab_key.specs.RecordSpans.{record_in, IsWithin, packed}
 use Rattle.tab_key.specs.declared.key.Kind.{Kind}
 use Rattle.tab_key.specs.declared.key.Kind.TheVariants.{Delete, Put}
-use Rattle.tab_key.specs.declared.part.TheConstants.{MAX_PART_LEN}
+use Rattle.tab_key.specs.declared.limited_part.TheConstants.{MAX_PART_LEN}
 use Rattle.tab_key.specs.declared.record_span.RecordSpan.{RecordSpan}
 
 -- ---- reading

@@ -1,4 +1,4 @@
--- Which records are hidden, and which are kept. (Accumulo user manual: deletes, versioning iterator)
+-- To be believed. Which records are hidden, and which are kept. (Accumulo user manual: deletes, versioning iterator)
 use Rattle.std.specs.Prelude.{ℕ, List, Bool, true, false, not, ◌&&◌, nat_lt, int_le, filter, length, bytes_eq}
 use Rattle.std.specs.List.{list_any}
 use Rattle.tab_key.specs.Order.{stands_before}

@@ -1,4 +1,4 @@
--- A borrowed key as the key that it lends.
+-- For proofs. A borrowed key as the key that it lends.
 use Rattle.tab_key.specs.Records as view
 use Rattle.tab_key.specs.declared.key.Key.{Key}
 

@@ -1,4 +1,4 @@
--- The fields of a name.
+-- For proofs. The fields of a name.
 use Rattle.std.specs.Prelude.{ℕ, ◌≡◌, ◌-◌, ◌≤◌, List, ◌++◌, length, take, drop, replicate}
 use Rattle.std.proofs.Common.{arith, sym, subst, length-append}
 use Rattle.std.proofs.lemmas.List.{length-take-le, take-append-drop, length-replicate}

@@ -1,4 +1,4 @@
--- Which bytes make a name.
+-- To be believed by whoever relies on it. Which bytes make a name.
 use Rattle.std.specs.Prelude.{ℕ, ◌≤◌, ◌<◌, Bool, ◌||◌, ◌==◌, List, length, IsTrue}
 use Rattle.std.specs.Char.{is_ascii_alphanumeric}
 use Rattle.std.specs.List.{list_all}

@@ -1,4 +1,4 @@
--- The order of keys and of records. (Accumulo user manual: sorted keys)
+-- To be believed. The order of keys and of records. (Accumulo user manual: sorted keys)
 use Rattle.std.specs.Prelude.{ℕ, List, Bool, ◌≡◌, ◌<◌, ◌⊎◌, ◌↔◌}
 use Rattle.std.specs.List.{AllByRecursion}
 use Rattle.std.specs.declared.cmp.Ordering.{Ordering}

@@ -1,4 +1,4 @@
--- Ranges of rows. (Accumulo user manual: range)
+-- To be believed. Ranges of rows. (Accumulo user manual: range)
 use Rattle.std.specs.Prelude.{ℕ, List, Bool, true, false, ◌&&◌}
 use Rattle.std.specs.Ordering.{is_lt, is_le, is_gt, is_ge}
 use Rattle.tab_key.specs.Bytes.{bytes_cmp}

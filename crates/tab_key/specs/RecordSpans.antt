@@ -1,4 +1,4 @@
--- Where the parts of records lie in a body of bytes.
+-- For proofs. Where the parts of records lie in a body of bytes.
 use Rattle.std.specs.Prelude.{ℕ, List, ◌++◌, ◌≤◌, length}
 use Rattle.std.specs.List.{slice_range}
 use Rattle.tab_key.specs.Records as view

@@ -1,4 +1,4 @@
--- Keys, records and cells, as contracts see them. (Accumulo user manual: data model)
+-- To be believed. Keys, records and cells, as contracts see them. (Accumulo user manual: data model)
 use Rattle.std.specs.Prelude.{ℕ, ℤ, List}
 use Rattle.tab_key.specs.declared.key.Kind.{Kind}
 

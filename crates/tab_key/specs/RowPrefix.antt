@@ -1,4 +1,4 @@
--- The first 16 bytes of a row, as a number.
+-- For proofs. The first 16 bytes of a row, as a number.
 use Rattle.std.specs.Prelude.{ℕ, zero, suc, ◌<◌, ◌≡◌, List, [], ◌∷◌}
 use Rattle.std.specs.List.{AllByRecursion}
 use Rattle.std.specs.Int.{from_be_bytes, w128}

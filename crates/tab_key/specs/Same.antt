@@ -1,4 +1,4 @@
--- When two records are the same.
+-- For proofs. When two records are the same.
 use Rattle.std.specs.Prelude.{Bool, ◌&&◌, ◌==◌, bytes_eq}
 use Rattle.std.specs.Ordering.{int_eq}
 use Rattle.tab_key.specs.Kept.{same_column}

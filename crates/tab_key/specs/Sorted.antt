@@ -1,4 +1,4 @@
--- Records in their order.
+-- To be believed. Records in their order.
 use Rattle.std.specs.Prelude.{List, [], ◌∷◌, Bool, true, cond, filter, Contains, ◌≡◌, ◌≢◌, ◌⊎◌, ◌↔◌}
 use Rattle.std.specs.List.{AllByRecursion}
 use Rattle.std.specs.List.Sorted.{IsStrictlySortedBy}

@@ -1,4 +1,4 @@
--- Byte strings as numbers.
+-- For proofs. Byte strings as numbers.
 use Rattle.std.specs.Prelude.{ℕ, ◌≡◌, ◌+◌, ◌-◌, ◌*◌, ◌^◌, ◌<◌, List, [], ◌∷◌, length, drop, cond, nat_lt}
 use Rattle.std.specs.Int.{from_be_bytes, w64}
 use Rattle.std.specs.List.{AllByRecursion}

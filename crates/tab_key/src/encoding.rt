@@ -4,7 +4,7 @@ ghost use Rattle.std.specs.Int.{w64, cast_unsigned};
 ghost use Rattle.tab_key.specs.Encoding.{length_at, number_at, kind_of, span_at, record_at, record_size, IsAt, IsShort, FitsNumbers, four_bytes, eight_bytes, head_bytes, encoded};
 ghost use Rattle.tab_key.specs.KeyOf.{key_of};
 ghost use Rattle.tab_key.specs.RecordSpans.{record_in, IsWithin};
-ghost use Rattle.tab_key.specs.declared.part.TheConstants.{MAX_PART_LEN};
+ghost use Rattle.tab_key.specs.declared.limited_part.TheConstants.{MAX_PART_LEN};
 
 use crate::record_span::RecordSpan;
 use crate::{Key, Kind, MAX_PART_LEN, Piece, RecordRef};

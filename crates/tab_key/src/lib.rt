@@ -5,7 +5,7 @@
 //! | `byte_string`, `items` | a string of bytes and a list that contracts see as lists |
 //! | `spelled` | how a byte string is printed for a reader |
 //! | `name` | names of users and tables |
-//! | `part` | parts of an event that have a limit, and the limits |
+//! | `limited_part` | parts of an event that have a limit, and the limits |
 //! | `key` | a key, lent, and the order of keys |
 //! | `encoding`, `record_span` | how a record lies in a body of bytes: how it is put there, and where its parts are |
 //! | `piece` | a byte string that lies in a longer one |
@@ -44,8 +44,8 @@ mod encoding;
 mod items;
 mod key;
 pub mod laws;
+mod limited_part;
 mod name;
-mod part;
 mod piece;
 mod prefix;
 mod range;
@@ -62,11 +62,11 @@ pub use column::{Column, is_selected};
 pub use encoding::{append, append_copy, append_joined, end_of};
 pub use items::Items;
 pub use key::{Key, Kind};
-pub use name::{MAX_NAME_LEN, Name};
-pub use part::{
-    MAX_AUTHORIZATION_LEN, MAX_AUTHORIZATIONS, MAX_COLUMNS, MAX_LABEL_DEPTH, MAX_OPENED,
-    MAX_PART_LEN, MAX_RANGES, MAX_SESSIONS, MAX_UPDATES, MAX_VERSIONS, Part,
+pub use limited_part::{
+    LimitedPart, MAX_AUTHORIZATION_LEN, MAX_AUTHORIZATIONS, MAX_COLUMNS, MAX_LABEL_DEPTH,
+    MAX_OPENED, MAX_PART_LEN, MAX_RANGES, MAX_SESSIONS, MAX_UPDATES, MAX_VERSIONS,
 };
+pub use name::{MAX_NAME_LEN, Name};
 pub use piece::Piece;
 pub use prefix::row_prefix;
 pub use range::{BadRange, Bound, Bounds, Range, is_bad_range};

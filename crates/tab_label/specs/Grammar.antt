@@ -1,7 +1,7 @@
--- The grammar of column visibility labels: which texts read as what.
+-- To be believed. The grammar of column visibility labels: which texts read as what.
 use Rattle.std.specs.Prelude.{◌≡◌, ◌≢◌, ℕ, suc, ◌<◌, ◌≤◌, ◌==◌, ◌||◌, ◌&&◌, Bool, nat_le, List, [], ◌∷◌, ◌++◌, length, take, if◌then◌else◌}
 use Rattle.std.specs.List.{All, flat_map}
-use Rattle.tab_key.specs.declared.part.TheConstants.{MAX_LABEL_DEPTH}
+use Rattle.tab_key.specs.declared.limited_part.TheConstants.{MAX_LABEL_DEPTH}
 use Rattle.tab_label.specs.declared.joiner.Joiner.{Joiner}
 use Rattle.tab_label.specs.declared.joiner.Joiner.TheVariants.{And, Or}
 

@@ -1,4 +1,4 @@
--- When a label holds for one who has some authorizations: as a fact, and as a test with which other definitions compute.
+-- To be believed. When a label holds for one who has some authorizations: as a fact, and as a test with which other definitions compute.
 use Rattle.std.specs.Prelude.{ℕ, Bool, true, false, ◌&&◌, ◌||◌, ◌⊎◌, List, Result, Ok, Err}
 use Rattle.std.specs.List.{Contains}
 use Rattle.tab_label.specs.declared.joiner.Joiner.TheVariants.{And, Or}

@@ -1,4 +1,4 @@
--- What the judge's own types stand for.
+-- For proofs. What the judge's own types stand for.
 use Rattle.std.specs.Prelude.{◌≡◌, ◌≤◌, ℕ, Bool, List, take, reverse, slice_range, Option, Some, None, Result, Ok, Err}
 use Rattle.tab_label.specs.declared.levels.Level.{Level}
 use Rattle.tab_label.specs.declared.levels.Levels.{Levels}

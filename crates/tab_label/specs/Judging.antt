@@ -1,6 +1,6 @@
--- The states of one who judges a text without building anything, as one goes over it byte by byte.
+-- For proofs. The states of one who judges a text without building anything, as one goes over it byte by byte.
 use Rattle.std.specs.Prelude.{ℕ, ◌==◌, ◌||◌, ◌&&◌, Bool, true, false, nat_lt, List, [], ◌∷◌, ◌++◌, length, if◌then◌else◌, Option, Some, None, option_and_then, option_map}
-use Rattle.tab_key.specs.declared.part.TheConstants.{MAX_LABEL_DEPTH}
+use Rattle.tab_key.specs.declared.limited_part.TheConstants.{MAX_LABEL_DEPTH}
 use Rattle.tab_label.specs.declared.joiner.Joiner.{Joiner}
 use Rattle.tab_label.specs.declared.joiner.Joiner.TheVariants.{And, Or}
 use Rattle.tab_label.specs.declared.levels.Level.{Level}

@@ -1,4 +1,4 @@
--- Short labels that are known by their numbers.
+-- For proofs. Short labels that are known by their numbers.
 use Rattle.std.specs.Prelude.{◌≡◌, ℕ, true, List, Option, Some, is_ok}
 use Rattle.std.specs.List.{All}
 use Rattle.tab_key.specs.Words.{IsWord}

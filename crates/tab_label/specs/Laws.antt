@@ -1,4 +1,4 @@
--- Laws that tie the functions to the relations.
+-- For proofs. Laws that tie the functions to the relations.
 use Rattle.std.specs.Prelude.{◌≡◌, ◌↔◌, ℕ, ◌<◌, true, List, Result, Ok, Err}
 use Rattle.std.specs.List.{All}
 use Rattle.tab_label.specs.Grammar.{Label, Reads, IsNoLabel, IsOffset}

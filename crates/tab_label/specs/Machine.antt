@@ -1,6 +1,6 @@
--- The states of one who reads a text as a label, byte by byte.
+-- To be believed. The states of one who reads a text as a label, byte by byte.
 use Rattle.std.specs.Prelude.{ℕ, ◌==◌, ◌||◌, nat_lt, List, [], ◌∷◌, ◌++◌, length, if◌then◌else◌, Option, Some, None, option_and_then}
-use Rattle.tab_key.specs.declared.part.TheConstants.{MAX_LABEL_DEPTH}
+use Rattle.tab_key.specs.declared.limited_part.TheConstants.{MAX_LABEL_DEPTH}
 use Rattle.tab_label.specs.declared.joiner.Joiner.{Joiner}
 use Rattle.tab_label.specs.declared.joiner.Joiner.TheVariants.{And, Or}
 use Rattle.tab_label.specs.Grammar.{Expr, TermOf, JoinOf, Exprs, Start, With, Label, All_see, Only_if, is_term_byte}

@@ -1,4 +1,4 @@
--- What the parser's own types stand for.
+-- For proofs. What the parser's own types stand for.
 use Rattle.std.specs.Prelude.{◌≡◌, ◌==◌, ℕ, Bool, true, false, List, map, reverse, Result, Ok, Err, Option, Some, None}
 use Rattle.tab_label.specs.declared.joiner.Joiner.{Joiner}
 use Rattle.tab_label.specs.declared.joiner.Joiner.TheVariants.{And, Or}

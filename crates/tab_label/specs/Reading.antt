@@ -1,4 +1,4 @@
--- Reading as one function, which other definitions can compute with.
+-- To be believed. Reading as one function, which other definitions can compute with.
 use Rattle.std.specs.Prelude.{ℕ, ◌+◌, List, [], ◌∷◌, Option, Some, None, Result, Ok, Err}
 use Rattle.tab_label.specs.Grammar.{Label}
 use Rattle.tab_label.specs.Machine.{State, start, step, ending}

@@ -1,4 +1,4 @@
--- Sets of byte strings, such as authorizations, as strictly rising lists.
+-- To be believed. Sets of byte strings, such as authorizations, as strictly rising lists.
 use Rattle.std.specs.Prelude.{◌≡◌, ℕ, false, Bool, not, List, [], ◌∷◌, map, Option, find, fold, bytes_eq, Vec, nat_lt, length}
 use Rattle.std.specs.declared.alloc.Global.{Global}
 use Rattle.std.specs.declared.cmp.Ordering.{Ordering}

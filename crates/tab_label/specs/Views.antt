@@ -1,4 +1,4 @@
--- What the tree of the code stands for.
+-- For proofs. What the tree of the code stands for.
 use Rattle.std.specs.Prelude.{◌≡◌, ℕ, Result, Ok, Err, List, [], ◌∷◌}
 use Rattle.tab_label.specs.declared.tree.Tree.{Tree}
 use Rattle.tab_label.specs.declared.tree.Tree.TheOpen.{Tree-F}

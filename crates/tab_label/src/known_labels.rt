@@ -27,7 +27,7 @@ impl KnownLabels {
     pub fn has(&self, word: u64) -> bool
         ensures { IsTrue result → SpellsLabel word }
     {
-        self.words[place_of(word)] == Some(word)
+        self.words[label_slot(word)] == Some(word)
     }
 
     /// Remembers that the byte string of this number is a label.
@@ -36,13 +36,13 @@ impl KnownLabels {
     pub fn note(&mut self, word: u64)
         requires { SpellsLabel word }
     {
-        self.words[place_of(word)] = Some(word);
+        self.words[label_slot(word)] = Some(word);
     }
 }
 
-// Eight bits, on which each of the number's has its say.
+/// Eight bits of a label's number, on which each of the number's has its say: by them what is remembered of labels is found.
 #[inline]
-fn place_of(word: u64) -> usize
+pub fn label_slot(word: u64) -> usize
     ensures { result < 256 }
 {
     (word.wrapping_mul(0xBF58_476D_1CE4_E5B9) >> 56) as usize

@@ -1,5 +1,5 @@
 //! A stack of levels that lies in place.
-ghost use Rattle.tab_key.specs.declared.part.TheConstants.{MAX_LABEL_DEPTH};
+ghost use Rattle.tab_key.specs.declared.limited_part.TheConstants.{MAX_LABEL_DEPTH};
 ghost use Rattle.std.specs.Prelude.{◌≡◌, ◌≤◌, ◌<◌, ◌==◌, ◌∷◌, [], length, nat_lt, MatchOption};
 
 use crate::joiner::Joiner;

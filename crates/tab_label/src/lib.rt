@@ -48,7 +48,7 @@ pub use auths::AuthSet;
 pub use fault::LabelFault;
 pub use joiner::Joiner;
 pub use judgement::{is_visible, judge};
-pub use known_labels::KnownLabels;
+pub use known_labels::{KnownLabels, label_slot};
 pub use laws::{
     holding_is_the_relation, more_authorizations_hold_more, one_meaning, reading_is_the_grammar,
     the_grammar_is_reading,

@@ -1,4 +1,4 @@
--- What of a history is to outlive a crash: the events that were done and left something, each at the clock that it met.
+-- To be believed by whoever relies on it. What of a history is to outlive a crash: the events that were done and left something, each at the clock that it met.
 use Rattle.std.specs.Prelude.{◌≡◌, ℤ, List, [], ◌∷◌, ◌++◌, Bool, true, false, cond, int_le}
 use Rattle.tab_history.specs.Answers.{Told}
 use Rattle.tab_history.specs.Histories.{Entry, World, clock_of, clock_at, journal}

@@ -1,4 +1,4 @@
--- What a core answers that was made of the kept entries, beside the one that was lost.
+-- To be believed by whoever relies on it. What a core answers that was made of the kept entries, beside the one that was lost.
 use Rattle.std.specs.Prelude.{ℤ, ◌≡◌, ◌↔◌, List, [], ◌∷◌, ◌++◌, true, int_le}
 use Rattle.std.specs.Int.{int_max}
 use Rattle.tab_history.specs.Answers.{Told}

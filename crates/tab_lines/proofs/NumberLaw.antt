@@ -11,7 +11,7 @@ use Rattle.std.proofs.lemmas.Bool.Decides.{nat_tests}
 use Rattle.std.proofs.lemmas.Slice.Eq.{bytes_eq-Decides}
 use Rattle.std.specs.Char.{is_ascii_digit}
 use Rattle.tab_history.specs.Settings.{is_version_count}
-use Rattle.tab_key.specs.declared.part.TheConstants.{MAX_VERSIONS}
+use Rattle.tab_key.specs.declared.limited_part.TheConstants.{MAX_VERSIONS}
 use Rattle.tab_lines.specs.Fields.{digits_on, magnitude_of, unsigned_of, small_of, positive, negative, signed_of, given_timestamp, timestamp_or_dash, only_if, version_count, versions_word}
 use Rattle.tab_lines.specs.Forms.{AreDigits, IsNumber, IsUnsigned, IsSmall, IsTimestamp, IsVersionCount, IsVersions}
 use Rattle.tab_lines.proofs.Inverting.{ReadsExactly, some_inj, on_map, on_then}

@@ -6,9 +6,10 @@ use Rattle.std.specs.Str.{bytes_eq}
 use Rattle.tab_mutation.specs.Mutations.{Mutation, Update, with_update}
 use Rattle.tab_lines.specs.declared.updates.TimestampForm.{TimestampForm}
 use Rattle.tab_lines.specs.declared.updates.TimestampForm.TheVariants.{Optional, Dashed}
-use Rattle.tab_lines.specs.declared.line_error.LineError.{LineError}
-use Rattle.tab_lines.specs.declared.line_error.LineError.TheVariants.{Fault, NoMemory}
-use Rattle.tab_lines.specs.Gives.{◌>>=◌, SaysNone, field}
+use Rattle.tab_text.specs.declared.parse_error.ParseError.{ParseError}
+use Rattle.tab_text.specs.declared.parse_error.ParseError.TheVariants.{Malformed, NoMemory}
+use Rattle.tab_text.specs.Gives.{SaysNone}
+use Rattle.tab_lines.specs.Gives.{◌>>=◌, field}
 use Rattle.tab_text.specs.Reading.{bytes_of}
 use Rattle.tab_lines.specs.Fields.{given_timestamp, timestamp_or_dash}
 use Rattle.tab_lines.specs.Updates.{with_updates, updated, timestamp_of, put_of, delete_of, update_of, updates_behind, updates_within, updates_from}
@@ -186,6 +187,6 @@ step_none m words is =
     ] refl is
 
 -- the reading of an update stopped
-pub step_fails : (error : LineError) (m : Mutation) (words : Line) → SaysNone error (updated m (update_of words)) → SaysNone error (all_updates m words)
-step_fails Fault m words is = step_none m words is
+pub step_fails : (error : ParseError) (m : Mutation) (words : Line) → SaysNone error (updated m (update_of words)) → SaysNone error (all_updates m words)
+step_fails Malformed m words is = step_none m words is
 step_fails NoMemory m words is = tt

@@ -1,10 +1,10 @@
--- The lines of a script as a relation between the words of a line and what they say. It says nothing of how a line is read.
+-- To be believed by whoever relies on it. The lines of a script as a relation between the words of a line and what they say. It says nothing of how a line is read.
 use Rattle.std.specs.Prelude.{ℕ, ℤ, pos, negsuc, ◌≡◌, ◌≢◌, ◌+◌, ◌^◌, ◌<◌, ◌≤◌, ◌==◌, ◌⊎◌, ◌↔◌, true, not, List, [], ◌∷◌, ◌++◌, replicate, codes, Option, Some, None}
 use Rattle.std.specs.List.{AllZip, list_all}
 use Rattle.std.specs.Fmt.{decimal}
 use Rattle.std.specs.Str.{IsUtf8}
 use Rattle.tab_key.specs.Names.{IsName}
-use Rattle.tab_key.specs.declared.part.TheConstants.{MAX_VERSIONS}
+use Rattle.tab_key.specs.declared.limited_part.TheConstants.{MAX_VERSIONS}
 use Rattle.tab_key.specs.declared.range.Bound.{Bound}
 use Rattle.tab_key.specs.declared.range.Bound.TheVariants.{Unbounded, Inclusive, Exclusive}
 use Rattle.tab_key.specs.declared.range.Bounds.{Bounds}

@@ -1,4 +1,4 @@
--- The bytes that a word spells, in the code.
+-- For proofs. The bytes that a word spells, in the code.
 use Rattle.std.specs.Prelude.{ℕ, List}
 use Rattle.tab_lines.specs.declared.spelling.Spelled.{Spelled}
 use Rattle.tab_lines.specs.declared.spelling.Spelled.TheVariants.{Plain, Decoded}

@@ -1,4 +1,4 @@
--- The words of a line.
+-- For proofs. The words of a line.
 use Rattle.std.specs.Prelude.{ℕ, ◌==◌, Bool, true, false, List, [], ◌∷◌, filter}
 use Rattle.std.specs.List.{slice_split}
 use Rattle.tab_lines.specs.declared.words.Words.{Words}

@@ -56,7 +56,6 @@
 //! | `fields`, `updates`, `permissions` | one word after another, the updates of a mutation, and what is granted to whom |
 //! | `command`, `line`, `named` | the first word, and the lines; among them those of one name |
 //! | `file_line` | the lines that name a file |
-//! | `line_error` | why a line wasn't read |
 //! | `laws` | reading is exactly the forms of lines |
 //!
 //! `specs/Forms` says what the lines are, with one form for each row of the table above, and nothing of how they are
@@ -73,7 +72,6 @@ mod fields;
 mod file_line;
 mod laws;
 mod line;
-mod line_error;
 mod lists;
 mod named;
 mod names;
@@ -87,7 +85,7 @@ pub use command::Command;
 pub use file_line::{FileKind, FileLine, FileName};
 pub use laws::lines_are_forms;
 pub use line::{Line, read_line};
-pub use line_error::LineError;
 pub use spelling::Spelled;
+pub use tab_text::ParseError;
 pub use updates::TimestampForm;
 pub use words::Words;

@@ -1,11 +1,11 @@
 //! What a line says.
 ghost use Rattle.std.specs.Prelude.{[]};
-ghost use Rattle.tab_lines.specs.Gives.{Gives, optional};
+ghost use Rattle.tab_text.specs.Gives.{Gives};
+ghost use Rattle.tab_lines.specs.Gives.{optional};
 ghost use Rattle.tab_lines.specs.Words.{words_left};
 ghost use Rattle.tab_lines.specs.Fields.{constraints_of, columns_of, versions_word};
 ghost use Rattle.tab_lines.specs.Lines.{settings, createtable_of, setauths_of, constraints_line_of, versions_line_of, horizon_of, insert_of, delete_line_of, mutate_of, bounds_of, scan_words, next_of, ranges_of, many_of, close_of, compact_of, begin_of, merge_of, install_of, addsplit_of, splitsize_of, file_of, rotate_of, at_of, commanded, said, line_of};
 
-use crate::LineError;
 use crate::bounds::bound_of;
 use crate::command::{Command, command_of};
 use crate::fields::{
@@ -26,6 +26,7 @@ use tab_history::{Act, Given, Scan, TimeMode, Versions};
 use tab_key::{Bound, Bounds, Column, Items, Name};
 use tab_label::AuthSet;
 use tab_rules::ConstraintSet;
+use tab_text::ParseError;
 
 /// What a line of a script says.
 #[derive(Drop)]
@@ -55,7 +56,7 @@ pub enum Line {
 }
 
 // Takes the number of versions, 1 where no word is left.
-fn any_versions(words: &mut Words) -> Result<Versions, LineError>
+fn any_versions(words: &mut Words) -> Result<Versions, ParseError>
     ensures { Gives (λ x. (x, words_left words.new)) result (optional 1 versions_word (words_left words.old)) }
 {
     let Some(word) = words.next() else {
@@ -65,7 +66,7 @@ fn any_versions(words: &mut Words) -> Result<Versions, LineError>
 }
 
 // Takes the settings of a new table.
-fn settings(words: &mut Words) -> Result<(TimeMode, Versions), LineError>
+fn settings(words: &mut Words) -> Result<(TimeMode, Versions), ParseError>
     ensures { Gives (λ x. x) result (settings (words_left words.old)) }
 {
     let Some(word) = words.next() else {
@@ -88,7 +89,7 @@ fn settings(words: &mut Words) -> Result<(TimeMode, Versions), LineError>
 // Each of these takes the words behind its command.
 #[inline(never)]
 #[tactic(auto, unfolding(crate::specs::Lines::createtable_of))]
-fn createtable(alloc: Global, words: &mut Words) -> Result<Line, LineError>
+fn createtable(alloc: Global, words: &mut Words) -> Result<Line, ParseError>
     ensures { Gives (λ x. x) result (createtable_of (words_left words.old)) }
 {
     let table = a_name(alloc, words)?;
@@ -98,7 +99,7 @@ fn createtable(alloc: Global, words: &mut Words) -> Result<Line, LineError>
 
 #[inline(never)]
 #[tactic(auto, unfolding(crate::specs::Lines::setauths_of))]
-fn setauths(alloc: Global, words: &mut Words) -> Result<Line, LineError>
+fn setauths(alloc: Global, words: &mut Words) -> Result<Line, ParseError>
     ensures { Gives (λ x. x) result (setauths_of (words_left words.old)) }
 {
     let user = a_name(alloc, words)?;
@@ -110,12 +111,12 @@ fn setauths(alloc: Global, words: &mut Words) -> Result<Line, LineError>
 
 #[inline(never)]
 #[tactic(auto, unfolding(crate::specs::Lines::constraints_line_of))]
-fn constraints(alloc: Global, words: &mut Words) -> Result<Line, LineError>
+fn constraints(alloc: Global, words: &mut Words) -> Result<Line, ParseError>
     ensures { Gives (λ x. x) result (constraints_line_of (words_left words.old)) }
 {
     let table = a_name(alloc, words)?;
     let Some(word) = words.next() else {
-        return Err(LineError::Fault);
+        return Err(ParseError::Malformed);
     };
     let named = constraints_of(alloc, word)?;
     ends(words)?;
@@ -125,7 +126,7 @@ fn constraints(alloc: Global, words: &mut Words) -> Result<Line, LineError>
 
 #[inline(never)]
 #[tactic(auto, unfolding(crate::specs::Lines::versions_line_of))]
-fn versions(alloc: Global, words: &mut Words) -> Result<Line, LineError>
+fn versions(alloc: Global, words: &mut Words) -> Result<Line, ParseError>
     ensures { Gives (λ x. x) result (versions_line_of (words_left words.old)) }
 {
     let table = a_name(alloc, words)?;
@@ -136,7 +137,7 @@ fn versions(alloc: Global, words: &mut Words) -> Result<Line, LineError>
 
 #[inline(never)]
 #[tactic(auto, unfolding(crate::specs::Lines::horizon_of))]
-fn horizon(alloc: Global, words: &mut Words) -> Result<Line, LineError>
+fn horizon(alloc: Global, words: &mut Words) -> Result<Line, ParseError>
     ensures { Gives (λ x. x) result (horizon_of (words_left words.old)) }
 {
     let table = a_name(alloc, words)?;
@@ -147,7 +148,7 @@ fn horizon(alloc: Global, words: &mut Words) -> Result<Line, LineError>
 
 #[inline(never)]
 #[tactic(auto, unfolding(crate::specs::Lines::insert_of))]
-fn insert(alloc: Global, words: &mut Words) -> Result<Line, LineError>
+fn insert(alloc: Global, words: &mut Words) -> Result<Line, ParseError>
     ensures { Gives (λ x. x) result (insert_of (words_left words.old)) }
 {
     let table = a_name(alloc, words)?;
@@ -159,7 +160,7 @@ fn insert(alloc: Global, words: &mut Words) -> Result<Line, LineError>
 
 #[inline(never)]
 #[tactic(auto, unfolding(crate::specs::Lines::delete_line_of))]
-fn delete(alloc: Global, words: &mut Words) -> Result<Line, LineError>
+fn delete(alloc: Global, words: &mut Words) -> Result<Line, ParseError>
     ensures { Gives (λ x. x) result (delete_line_of (words_left words.old)) }
 {
     let table = a_name(alloc, words)?;
@@ -171,7 +172,7 @@ fn delete(alloc: Global, words: &mut Words) -> Result<Line, LineError>
 
 #[inline(never)]
 #[tactic(auto, unfolding(crate::specs::Lines::mutate_of))]
-fn mutate(alloc: Global, words: &mut Words) -> Result<Line, LineError>
+fn mutate(alloc: Global, words: &mut Words) -> Result<Line, ParseError>
     ensures { Gives (λ x. x) result (mutate_of (words_left words.old)) }
 {
     let table = a_name(alloc, words)?;
@@ -181,7 +182,7 @@ fn mutate(alloc: Global, words: &mut Words) -> Result<Line, LineError>
 }
 
 // Takes both bounds, or none where no word is left.
-fn bounds(alloc: Global, words: &mut Words) -> Result<Bounds, LineError>
+fn bounds(alloc: Global, words: &mut Words) -> Result<Bounds, ParseError>
     ensures { Gives (λ x. (x, words_left words.new)) result (bounds_of (words_left words.old)) }
 {
     let Some(word) = words.next() else {
@@ -196,7 +197,7 @@ fn bounds(alloc: Global, words: &mut Words) -> Result<Bounds, LineError>
 }
 
 // Takes the columns, all where no word is left.
-fn any_columns(alloc: Global, words: &mut Words) -> Result<Items<Column>, LineError>
+fn any_columns(alloc: Global, words: &mut Words) -> Result<Items<Column>, ParseError>
     ensures { Gives (λ x. (x, words_left words.new)) result (optional [] columns_of (words_left words.old)) }
 {
     let Some(word) = words.next() else {
@@ -208,7 +209,7 @@ fn any_columns(alloc: Global, words: &mut Words) -> Result<Items<Column>, LineEr
 // Takes all that is left: what a scan asks.
 #[inline(always)]
 #[tactic(auto, unfolding(crate::specs::Lines::scan_words))]
-fn scan(alloc: Global, words: &mut Words) -> Result<Scan, LineError>
+fn scan(alloc: Global, words: &mut Words) -> Result<Scan, ParseError>
     ensures { Gives (λ x. x) result (scan_words (words_left words.old)) }
 {
     let table = a_name(alloc, words)?;
@@ -227,7 +228,7 @@ fn scan(alloc: Global, words: &mut Words) -> Result<Scan, LineError>
 
 #[inline(never)]
 #[tactic(auto, unfolding(crate::specs::Lines::next_of))]
-fn next(words: &mut Words) -> Result<Line, LineError>
+fn next(words: &mut Words) -> Result<Line, ParseError>
     ensures { Gives (λ x. x) result (next_of (words_left words.old)) }
 {
     let session = a_small(words)?;
@@ -237,7 +238,7 @@ fn next(words: &mut Words) -> Result<Line, LineError>
 }
 
 // Takes all that is left: pairs of bounds.
-fn ranges(alloc: Global, words: &mut Words) -> Result<Vec<Bounds>, LineError>
+fn ranges(alloc: Global, words: &mut Words) -> Result<Vec<Bounds>, ParseError>
     ensures { Gives (λ x. x.items) result (ranges_of (words_left words.old)) }
 {
     let mut ranges = Vec::new(alloc);
@@ -251,7 +252,7 @@ fn ranges(alloc: Global, words: &mut Words) -> Result<Vec<Bounds>, LineError>
 
 #[inline(never)]
 #[tactic(auto, unfolding(crate::specs::Lines::many_of))]
-fn many(alloc: Global, words: &mut Words) -> Result<Line, LineError>
+fn many(alloc: Global, words: &mut Words) -> Result<Line, ParseError>
     ensures { Gives (λ x. x) result (many_of (words_left words.old)) }
 {
     let session = a_small(words)?;
@@ -261,7 +262,7 @@ fn many(alloc: Global, words: &mut Words) -> Result<Line, LineError>
 
 #[inline(never)]
 #[tactic(auto, unfolding(crate::specs::Lines::close_of))]
-fn close(words: &mut Words) -> Result<Line, LineError>
+fn close(words: &mut Words) -> Result<Line, ParseError>
     ensures { Gives (λ x. x) result (close_of (words_left words.old)) }
 {
     let session = a_small(words)?;
@@ -271,7 +272,7 @@ fn close(words: &mut Words) -> Result<Line, LineError>
 
 #[inline(never)]
 #[tactic(auto, unfolding(crate::specs::Lines::compact_of))]
-fn compact(alloc: Global, words: &mut Words) -> Result<Line, LineError>
+fn compact(alloc: Global, words: &mut Words) -> Result<Line, ParseError>
     ensures { Gives (λ x. x) result (compact_of (words_left words.old)) }
 {
     let table = a_name(alloc, words)?;
@@ -282,7 +283,7 @@ fn compact(alloc: Global, words: &mut Words) -> Result<Line, LineError>
 
 #[inline(never)]
 #[tactic(auto, unfolding(crate::specs::Lines::begin_of))]
-fn begin(alloc: Global, words: &mut Words) -> Result<Line, LineError>
+fn begin(alloc: Global, words: &mut Words) -> Result<Line, ParseError>
     ensures { Gives (λ x. x) result (begin_of (words_left words.old)) }
 {
     let table = a_name(alloc, words)?;
@@ -294,7 +295,7 @@ fn begin(alloc: Global, words: &mut Words) -> Result<Line, LineError>
 
 #[inline(never)]
 #[tactic(auto, unfolding(crate::specs::Lines::merge_of))]
-fn merge(words: &mut Words) -> Result<Line, LineError>
+fn merge(words: &mut Words) -> Result<Line, ParseError>
     ensures { Gives (λ x. x) result (merge_of (words_left words.old)) }
 {
     let job = an_unsigned(words)?;
@@ -304,7 +305,7 @@ fn merge(words: &mut Words) -> Result<Line, LineError>
 
 #[inline(never)]
 #[tactic(auto, unfolding(crate::specs::Lines::install_of))]
-fn install(alloc: Global, words: &mut Words) -> Result<Line, LineError>
+fn install(alloc: Global, words: &mut Words) -> Result<Line, ParseError>
     ensures { Gives (λ x. x) result (install_of (words_left words.old)) }
 {
     let table = a_name(alloc, words)?;
@@ -315,7 +316,7 @@ fn install(alloc: Global, words: &mut Words) -> Result<Line, LineError>
 
 #[inline(never)]
 #[tactic(auto, unfolding(crate::specs::Lines::addsplit_of))]
-fn addsplit(alloc: Global, words: &mut Words) -> Result<Line, LineError>
+fn addsplit(alloc: Global, words: &mut Words) -> Result<Line, ParseError>
     ensures { Gives (λ x. x) result (addsplit_of (words_left words.old)) }
 {
     let table = a_name(alloc, words)?;
@@ -326,7 +327,7 @@ fn addsplit(alloc: Global, words: &mut Words) -> Result<Line, LineError>
 
 #[inline(never)]
 #[tactic(auto, unfolding(crate::specs::Lines::splitsize_of))]
-fn splitsize(alloc: Global, words: &mut Words) -> Result<Line, LineError>
+fn splitsize(alloc: Global, words: &mut Words) -> Result<Line, ParseError>
     ensures { Gives (λ x. x) result (splitsize_of (words_left words.old)) }
 {
     let table = a_name(alloc, words)?;
@@ -338,7 +339,7 @@ fn splitsize(alloc: Global, words: &mut Words) -> Result<Line, LineError>
 
 #[inline(never)]
 #[tactic(auto, unfolding(crate::specs::Lines::file_of))]
-fn file(alloc: Global, kind: FileKind, words: &mut Words) -> Result<Line, LineError>
+fn file(alloc: Global, kind: FileKind, words: &mut Words) -> Result<Line, ParseError>
     ensures { Gives (λ x. x) result (file_of kind (words_left words.old)) }
 {
     let name = a_file_name(alloc, words)?;
@@ -348,7 +349,7 @@ fn file(alloc: Global, kind: FileKind, words: &mut Words) -> Result<Line, LineEr
 
 #[inline(never)]
 #[tactic(auto, unfolding(crate::specs::Lines::rotate_of))]
-fn rotate(words: &mut Words) -> Result<Line, LineError>
+fn rotate(words: &mut Words) -> Result<Line, ParseError>
     ensures { Gives (λ x. x) result (rotate_of (words_left words.old)) }
 {
     ends(words)?;
@@ -357,7 +358,7 @@ fn rotate(words: &mut Words) -> Result<Line, LineError>
 
 #[inline(never)]
 #[tactic(auto, unfolding(crate::specs::Lines::at_of))]
-fn at(words: &mut Words) -> Result<Line, LineError>
+fn at(words: &mut Words) -> Result<Line, ParseError>
     ensures { Gives (λ x. x) result (at_of (words_left words.old)) }
 {
     let moment = a_number(words)?;
@@ -367,14 +368,14 @@ fn at(words: &mut Words) -> Result<Line, LineError>
 
 // A scan whose session is read to its end, and one whose session is kept.
 #[inline(never)]
-fn whole_scan(alloc: Global, words: &mut Words) -> Result<Line, LineError>
+fn whole_scan(alloc: Global, words: &mut Words) -> Result<Line, ParseError>
     ensures { Gives (λ x. x) result (commanded Command.Scan (words_left words.old)) }
 {
     Ok(Line::Scan(scan(alloc, words)?))
 }
 
 #[inline(never)]
-fn open(alloc: Global, words: &mut Words) -> Result<Line, LineError>
+fn open(alloc: Global, words: &mut Words) -> Result<Line, ParseError>
     ensures { Gives (λ x. x) result (commanded Command.Open (words_left words.old)) }
 {
     Ok(Line::Open(scan(alloc, words)?))
@@ -382,7 +383,7 @@ fn open(alloc: Global, words: &mut Words) -> Result<Line, LineError>
 
 // What the words behind a command say. Each command is a function that isn't inlined: room for what a line says is filled with zeros
 // where a function is entered, so all commands in one would pay for all of them.
-fn commanded(alloc: Global, command: Command, words: &mut Words) -> Result<Line, LineError>
+fn commanded(alloc: Global, command: Command, words: &mut Words) -> Result<Line, ParseError>
     ensures { Gives (λ x. x) result (commanded command (words_left words.old)) }
 {
     match command {
@@ -423,14 +424,14 @@ fn commanded(alloc: Global, command: Command, words: &mut Words) -> Result<Line,
 }
 
 // What the words of a line say.
-fn said(alloc: Global, words: &mut Words) -> Result<Line, LineError>
+fn said(alloc: Global, words: &mut Words) -> Result<Line, ParseError>
     ensures { Gives (λ x. x) result (said (words_left words.old)) }
 {
     let Some(word) = words.next() else {
         return Ok(Line::Blank);
     };
     let Some(command) = command_of(word) else {
-        return Err(LineError::Fault);
+        return Err(ParseError::Malformed);
     };
     commanded(alloc, command, words)
 }
@@ -439,7 +440,7 @@ fn said(alloc: Global, words: &mut Words) -> Result<Line, LineError>
 ///
 /// `Err(Fault)` exactly where the text is none of the lines of this crate. `Err(NoMemory)` where an allocation failed:
 /// then nothing is said of the text, and reading it again may succeed. Nothing is kept after an error.
-pub fn read_line(alloc: Global, text: &[u8]) -> Result<Line, LineError>
+pub fn read_line(alloc: Global, text: &[u8]) -> Result<Line, ParseError>
     ensures { Gives (λ x. x) result (line_of text.now) }
 {
     match text {

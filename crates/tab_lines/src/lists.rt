@@ -1,12 +1,11 @@
 //! The lists that words spell: members parted by commas, or `\0` for the list without members.
 ghost use Rattle.std.specs.Prelude.{◌≡◌, ◌<◌, [], ◌∷◌, MatchOption, length, map};
 ghost use Rattle.tab_label.specs.Sets.{byte_lists};
-ghost use Rattle.tab_lines.specs.Gives.{Gives};
+ghost use Rattle.tab_text.specs.Gives.{Gives};
 ghost use Rattle.tab_lines.specs.Words.{parts_at};
 ghost use Rattle.tab_text.specs.Reading.{bytes_of};
 ghost use Rattle.tab_lines.specs.Fields.{list_of, listed, each_of, constraint_of, constraints_of, column_of, columns_of};
 
-use crate::LineError;
 use crate::columns::column_of;
 use crate::names::constraint_of;
 use crate::spelling::bytes_of;
@@ -14,6 +13,7 @@ use std::alloc::Global;
 use tab_io::length_before;
 use tab_key::Column;
 use tab_rules::Constraint;
+use tab_text::ParseError;
 
 // The part before the first comma, and what stands behind it.
 #[tactic(auto, using(crate::proofs::Cutting::one_part, crate::proofs::Cutting::more_parts))]
@@ -40,7 +40,7 @@ pub trait ListMember: Drop {
     ghost reads: { List ℕ → Option Meaning };
 
     /// The member that the part spells. A part that spells none is a fault.
-    fn read(alloc: Global, part: &[u8]) -> Result<Self, LineError>
+    fn read(alloc: Global, part: &[u8]) -> Result<Self, ParseError>
         ensures { Gives meaning_of result (reads part.now) };
 }
 
@@ -53,7 +53,7 @@ impl ListMember for Vec<u8> {
 
     ghost reads = { bytes_of };
 
-    fn read(alloc: Global, part: &[u8]) -> Result<Vec<u8>, LineError> {
+    fn read(alloc: Global, part: &[u8]) -> Result<Vec<u8>, ParseError> {
         bytes_of(alloc, part)
     }
 }
@@ -67,7 +67,7 @@ impl ListMember for Constraint {
 
     ghost reads = { constraint_of };
 
-    fn read(alloc: Global, part: &[u8]) -> Result<Constraint, LineError> {
+    fn read(alloc: Global, part: &[u8]) -> Result<Constraint, ParseError> {
         constraint_of(alloc, part)
     }
 }
@@ -81,13 +81,13 @@ impl ListMember for Column {
 
     ghost reads = { column_of };
 
-    fn read(alloc: Global, part: &[u8]) -> Result<Column, LineError> {
+    fn read(alloc: Global, part: &[u8]) -> Result<Column, ParseError> {
         column_of(alloc, part)
     }
 }
 
 /// The members that a word lists.
-fn listed<T: ListMember>(alloc: Global, word: &[u8]) -> Result<Vec<T>, LineError>
+fn listed<T: ListMember>(alloc: Global, word: &[u8]) -> Result<Vec<T>, ParseError>
     ensures { Gives (λ x. map T.meaning_of x.items) result (listed T.reads word.now) }
 {
     if word == b"\\0".as_slice() {
@@ -97,7 +97,7 @@ fn listed<T: ListMember>(alloc: Global, word: &[u8]) -> Result<Vec<T>, LineError
 }
 
 // What each part between commas spells.
-fn members<T: ListMember>(alloc: Global, word: &[u8]) -> Result<Vec<T>, LineError>
+fn members<T: ListMember>(alloc: Global, word: &[u8]) -> Result<Vec<T>, ParseError>
     ensures { Gives (λ x. map T.meaning_of x.items) result (each_of T.reads (parts_at 44 word.now)) }
 {
     let mut members = Vec::new(alloc);
@@ -114,7 +114,7 @@ fn members<T: ListMember>(alloc: Global, word: &[u8]) -> Result<Vec<T>, LineErro
 
 /// The byte strings that a word lists.
 #[tactic(auto, unfolding(crate::specs::Fields::list_of))]
-pub fn list_of(alloc: Global, word: &[u8]) -> Result<Vec<Vec<u8>>, LineError>
+pub fn list_of(alloc: Global, word: &[u8]) -> Result<Vec<Vec<u8>>, ParseError>
     ensures { Gives (λ x. byte_lists x.items) result (list_of word.now) }
 {
     listed(alloc, word)
@@ -122,7 +122,7 @@ pub fn list_of(alloc: Global, word: &[u8]) -> Result<Vec<Vec<u8>>, LineError>
 
 /// The constraints whose names a word lists, in its order.
 #[tactic(auto, unfolding(crate::specs::Fields::constraints_of), using(crate::proofs::Listed::seen_whole))]
-pub fn constraints_of(alloc: Global, word: &[u8]) -> Result<Vec<Constraint>, LineError>
+pub fn constraints_of(alloc: Global, word: &[u8]) -> Result<Vec<Constraint>, ParseError>
     ensures { Gives (λ x. x.items) result (constraints_of word.now) }
 {
     listed(alloc, word)
@@ -130,7 +130,7 @@ pub fn constraints_of(alloc: Global, word: &[u8]) -> Result<Vec<Constraint>, Lin
 
 /// The columns that a word lists: a family, or a family and a qualifier parted by the first colon.
 #[tactic(auto, unfolding(crate::specs::Fields::columns_of), using(crate::proofs::Listed::seen_whole))]
-pub fn columns_of(alloc: Global, word: &[u8]) -> Result<Vec<Column>, LineError>
+pub fn columns_of(alloc: Global, word: &[u8]) -> Result<Vec<Column>, ParseError>
     ensures { Gives (λ x. x.items) result (columns_of word.now) }
 {
     listed(alloc, word)

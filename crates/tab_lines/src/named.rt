@@ -1,19 +1,20 @@
 //! Lines that say one name, or a user and a permission. Each takes the words behind its command.
-ghost use Rattle.tab_lines.specs.Gives.{Gives};
+ghost use Rattle.tab_text.specs.Gives.{Gives};
 ghost use Rattle.tab_lines.specs.Words.{words_left};
 ghost use Rattle.tab_lines.specs.Lines.{commanded};
 ghost use Rattle.tab_lines.specs.declared.command.Command.TheVariants as command;
 
+use crate::Line;
 use crate::fields::name_alone;
 use crate::permissions::a_grant;
 use crate::words::Words;
-use crate::{Line, LineError};
 use std::alloc::Global;
 use tab_history::Act;
+use tab_text::ParseError;
 
 /// `as U`
 #[inline(never)]
-pub fn as_user(alloc: Global, words: &mut Words) -> Result<Line, LineError>
+pub fn as_user(alloc: Global, words: &mut Words) -> Result<Line, ParseError>
     ensures { Gives (λ x. x) result (commanded command.As (words_left words.old)) }
 {
     Ok(Line::As(name_alone(alloc, words)?))
@@ -21,7 +22,7 @@ pub fn as_user(alloc: Global, words: &mut Words) -> Result<Line, LineError>
 
 /// `droptable T`
 #[inline(never)]
-pub fn droptable(alloc: Global, words: &mut Words) -> Result<Line, LineError>
+pub fn droptable(alloc: Global, words: &mut Words) -> Result<Line, ParseError>
     ensures { Gives (λ x. x) result (commanded command.DropTable (words_left words.old)) }
 {
     Ok(Line::Act(Act::DropTable(name_alone(alloc, words)?)))
@@ -29,7 +30,7 @@ pub fn droptable(alloc: Global, words: &mut Words) -> Result<Line, LineError>
 
 /// `createuser U`
 #[inline(never)]
-pub fn createuser(alloc: Global, words: &mut Words) -> Result<Line, LineError>
+pub fn createuser(alloc: Global, words: &mut Words) -> Result<Line, ParseError>
     ensures { Gives (λ x. x) result (commanded command.CreateUser (words_left words.old)) }
 {
     Ok(Line::Act(Act::CreateUser(name_alone(alloc, words)?)))
@@ -37,7 +38,7 @@ pub fn createuser(alloc: Global, words: &mut Words) -> Result<Line, LineError>
 
 /// `dropuser U`
 #[inline(never)]
-pub fn dropuser(alloc: Global, words: &mut Words) -> Result<Line, LineError>
+pub fn dropuser(alloc: Global, words: &mut Words) -> Result<Line, ParseError>
     ensures { Gives (λ x. x) result (commanded command.DropUser (words_left words.old)) }
 {
     Ok(Line::Act(Act::DropUser(name_alone(alloc, words)?)))
@@ -45,7 +46,7 @@ pub fn dropuser(alloc: Global, words: &mut Words) -> Result<Line, LineError>
 
 /// `rights T`
 #[inline(never)]
-pub fn rights(alloc: Global, words: &mut Words) -> Result<Line, LineError>
+pub fn rights(alloc: Global, words: &mut Words) -> Result<Line, ParseError>
     ensures { Gives (λ x. x) result (commanded command.Rights (words_left words.old)) }
 {
     Ok(Line::Act(Act::Rights(name_alone(alloc, words)?)))
@@ -53,7 +54,7 @@ pub fn rights(alloc: Global, words: &mut Words) -> Result<Line, LineError>
 
 /// `flush T`
 #[inline(never)]
-pub fn flush(alloc: Global, words: &mut Words) -> Result<Line, LineError>
+pub fn flush(alloc: Global, words: &mut Words) -> Result<Line, ParseError>
     ensures { Gives (λ x. x) result (commanded command.Flush (words_left words.old)) }
 {
     Ok(Line::Act(Act::Flush(name_alone(alloc, words)?)))
@@ -61,7 +62,7 @@ pub fn flush(alloc: Global, words: &mut Words) -> Result<Line, LineError>
 
 /// `status T`
 #[inline(never)]
-pub fn status(alloc: Global, words: &mut Words) -> Result<Line, LineError>
+pub fn status(alloc: Global, words: &mut Words) -> Result<Line, ParseError>
     ensures { Gives (λ x. x) result (commanded command.Status (words_left words.old)) }
 {
     Ok(Line::Act(Act::Status(name_alone(alloc, words)?)))
@@ -69,7 +70,7 @@ pub fn status(alloc: Global, words: &mut Words) -> Result<Line, LineError>
 
 /// `splits T`
 #[inline(never)]
-pub fn splits(alloc: Global, words: &mut Words) -> Result<Line, LineError>
+pub fn splits(alloc: Global, words: &mut Words) -> Result<Line, ParseError>
     ensures { Gives (λ x. x) result (commanded command.Splits (words_left words.old)) }
 {
     Ok(Line::Act(Act::Splits(name_alone(alloc, words)?)))
@@ -77,7 +78,7 @@ pub fn splits(alloc: Global, words: &mut Words) -> Result<Line, LineError>
 
 /// `grant U P [T]`
 #[inline(never)]
-pub fn grant(alloc: Global, words: &mut Words) -> Result<Line, LineError>
+pub fn grant(alloc: Global, words: &mut Words) -> Result<Line, ParseError>
     ensures { Gives (λ x. x) result (commanded command.Grant (words_left words.old)) }
 {
     let (user, permission) = a_grant(alloc, words)?;
@@ -86,7 +87,7 @@ pub fn grant(alloc: Global, words: &mut Words) -> Result<Line, LineError>
 
 /// `revoke U P [T]`
 #[inline(never)]
-pub fn revoke(alloc: Global, words: &mut Words) -> Result<Line, LineError>
+pub fn revoke(alloc: Global, words: &mut Words) -> Result<Line, ParseError>
     ensures { Gives (λ x. x) result (commanded command.Revoke (words_left words.old)) }
 {
     let (user, permission) = a_grant(alloc, words)?;

@@ -1,9 +1,8 @@
 //! The names that words spell.
 ghost use Rattle.std.specs.Prelude.{◌≡◌};
-ghost use Rattle.tab_lines.specs.Gives.{Gives};
+ghost use Rattle.tab_text.specs.Gives.{Gives};
 ghost use Rattle.tab_lines.specs.Fields.{name_of, is_name, only_if, time_word, extent_word, compaction_word, file_name_of, constraint_of};
 
-use crate::LineError;
 use crate::file_line::FileName;
 use crate::spelling::{bytes_of, spelling_of};
 use std::alloc::Global;
@@ -11,15 +10,16 @@ use tab_cells::Compaction;
 use tab_history::{Extent, TimeMode};
 use tab_key::Name;
 use tab_rules::Constraint;
+use tab_text::ParseError;
 
 /// The name of a user or a table that a word spells.
 #[inline(always)]
-pub fn name_of(alloc: Global, word: &[u8]) -> Result<Name, LineError>
+pub fn name_of(alloc: Global, word: &[u8]) -> Result<Name, ParseError>
     ensures { Gives (λ x. x) result (name_of word.now) }
 {
     let bytes = spelling_of(alloc, word)?;
     let Some(name) = checked_name(bytes.as_bytes()) else {
-        return Err(LineError::Fault);
+        return Err(ParseError::Malformed);
     };
     Ok(name)
 }
@@ -75,23 +75,23 @@ pub fn compaction_word(word: &[u8]) -> Option<Compaction>
 }
 
 /// The name of a file that a word spells.
-pub fn file_name_of(alloc: Global, word: &[u8]) -> Result<FileName, LineError>
+pub fn file_name_of(alloc: Global, word: &[u8]) -> Result<FileName, ParseError>
     ensures { Gives (λ x. x) result (file_name_of word.now) }
 {
     let bytes = bytes_of(alloc, word)?;
     let Some(name) = FileName::new(bytes) else {
-        return Err(LineError::Fault);
+        return Err(ParseError::Malformed);
     };
     Ok(name)
 }
 
 /// The constraint whose name a word spells.
-pub fn constraint_of(alloc: Global, word: &[u8]) -> Result<Constraint, LineError>
+pub fn constraint_of(alloc: Global, word: &[u8]) -> Result<Constraint, ParseError>
     ensures { Gives (λ x. x) result (constraint_of word.now) }
 {
     let name = spelling_of(alloc, word)?;
     let Some(constraint) = Constraint::from_name(name.as_bytes()) else {
-        return Err(LineError::Fault);
+        return Err(ParseError::Malformed);
     };
     Ok(constraint)
 }

@@ -1,14 +1,13 @@
 //! The bytes that a word spells.
 ghost use Rattle.std.specs.Prelude.{◌≡◌};
 ghost use Rattle.std.specs.List.{list_all};
-ghost use Rattle.tab_lines.specs.Gives.{Gives};
+ghost use Rattle.tab_text.specs.Gives.{Gives};
 ghost use Rattle.tab_text.specs.Words.{is_plain};
 ghost use Rattle.tab_text.specs.Reading.{bytes_of, unescaped};
 ghost use Rattle.tab_lines.specs.Spelling.{bytes_spelled};
 
-use crate::LineError;
 use std::alloc::Global;
-use tab_text::{Escape, is_plain, step};
+use tab_text::{Escape, ParseError, is_plain, step};
 
 /// The bytes that a word spells: the word itself where nothing in it is escaped, else a string of their own.
 #[derive(Drop)]
@@ -33,11 +32,11 @@ impl Spelled<'_> {
 
 /// The bytes that a word spells. A word without escapes takes no memory.
 #[tactic(auto, unfolding(tab_text::specs::Reading::bytes_of), using(crate::proofs::SpellingLemmas::plain_spells))]
-pub fn spelling_of<'a>(alloc: Global, text: &'a [u8]) -> Result<Spelled<'a>, LineError>
+pub fn spelling_of<'a>(alloc: Global, text: &'a [u8]) -> Result<Spelled<'a>, ParseError>
     ensures { Gives bytes_spelled result (bytes_of text.now) }
 {
     if text.is_empty() {
-        return Err(LineError::Fault);
+        return Err(ParseError::Malformed);
     }
     if text == b"\\e".as_slice() {
         return Ok(Spelled::Decoded(Vec::new(alloc)));
@@ -49,7 +48,7 @@ pub fn spelling_of<'a>(alloc: Global, text: &'a [u8]) -> Result<Spelled<'a>, Lin
 }
 
 /// The bytes that a word spells, in a string of their own.
-pub fn bytes_of(alloc: Global, text: &[u8]) -> Result<Vec<u8>, LineError>
+pub fn bytes_of(alloc: Global, text: &[u8]) -> Result<Vec<u8>, ParseError>
     ensures { Gives (λ x. x.items) result (bytes_of text.now) }
 {
     match spelling_of(alloc, text)? {
@@ -59,14 +58,14 @@ pub fn bytes_of(alloc: Global, text: &[u8]) -> Result<Vec<u8>, LineError>
 }
 
 // The bytes of a word that may have escapes.
-fn unescaped(alloc: Global, text: &[u8]) -> Result<Vec<u8>, LineError>
+fn unescaped(alloc: Global, text: &[u8]) -> Result<Vec<u8>, ParseError>
     ensures { Gives (λ x. x.items) result (unescaped Escape.Outside text.now) }
 {
     let mut bytes = Vec::new(alloc);
     let mut state = Escape::Outside;
     for byte in text {
         let Some((whole, next)) = step(state, *byte) else {
-            return Err(LineError::Fault);
+            return Err(ParseError::Malformed);
         };
         if let Some(whole) = whole {
             bytes.push(whole)?;
@@ -75,7 +74,7 @@ fn unescaped(alloc: Global, text: &[u8]) -> Result<Vec<u8>, LineError>
     }
     match state {
         Escape::Outside => Ok(bytes),
-        _ => Err(LineError::Fault),
+        _ => Err(ParseError::Malformed),
     }
 }
 

@@ -2,16 +2,17 @@
 ghost use Rattle.std.specs.Prelude.{◌≡◌, codes};
 ghost use Rattle.std.specs.Str.{bytes_eq};
 ghost use Rattle.std.specs.Option.{option_map};
-ghost use Rattle.tab_lines.specs.Gives.{Gives, field};
+ghost use Rattle.tab_text.specs.Gives.{Gives};
+ghost use Rattle.tab_lines.specs.Gives.{field};
 ghost use Rattle.tab_lines.specs.Words.{words_left};
 ghost use Rattle.tab_lines.specs.Updates.{row_of, updated, with_updates, timestamp_of, put_of, delete_of, update_of, updates_from, updates_of};
 
-use crate::LineError;
 use crate::fields::a_word;
 use crate::numbers::{given_timestamp, timestamp_or_dash};
 use crate::words::Words;
 use std::alloc::Global;
 use tab_mutation::Mutation;
+use tab_text::ParseError;
 
 /// How an update says its timestamp.
 #[derive(Clone, Copy)]
@@ -23,7 +24,7 @@ pub enum TimestampForm {
 }
 
 /// Takes the word of a row, for a mutation without updates.
-pub fn a_row(alloc: Global, words: &mut Words) -> Result<Mutation, LineError>
+pub fn a_row(alloc: Global, words: &mut Words) -> Result<Mutation, ParseError>
     ensures { Gives (λ x. (x, words_left words.new)) result (field row_of (words_left words.old)) }
 {
     let row = a_word(alloc, words)?;
@@ -31,13 +32,13 @@ pub fn a_row(alloc: Global, words: &mut Words) -> Result<Mutation, LineError>
 }
 
 // Takes the timestamp, in the form in which it is said here.
-fn a_timestamp(form: TimestampForm, words: &mut Words) -> Result<Option<i64>, LineError>
+fn a_timestamp(form: TimestampForm, words: &mut Words) -> Result<Option<i64>, ParseError>
     ensures { Gives (λ x. (x, words_left words.new)) result (timestamp_of form (words_left words.old)) }
 {
     match (form, words.next()) {
         (TimestampForm::Optional, None) => Ok(None),
         (TimestampForm::Optional, Some(word)) => given_timestamp(word),
-        (TimestampForm::Dashed, None) => Err(LineError::Fault),
+        (TimestampForm::Dashed, None) => Err(ParseError::Malformed),
         (TimestampForm::Dashed, Some(word)) => timestamp_or_dash(word),
     }
 }
@@ -49,7 +50,7 @@ pub fn add_put(
     form: TimestampForm,
     words: &mut Words,
     mutation: &mut Mutation,
-) -> Result<(), LineError>
+) -> Result<(), ParseError>
     ensures { Gives (λ x. (mutation.new, words_left words.new)) result (updated mutation.old (put_of form (words_left words.old))) }
 {
     let family = a_word(alloc, words)?;
@@ -74,7 +75,7 @@ pub fn add_delete(
     form: TimestampForm,
     words: &mut Words,
     mutation: &mut Mutation,
-) -> Result<(), LineError>
+) -> Result<(), ParseError>
     ensures { Gives (λ x. (mutation.new, words_left words.new)) result (updated mutation.old (delete_of form (words_left words.old))) }
 {
     let family = a_word(alloc, words)?;
@@ -91,18 +92,18 @@ pub fn add_delete(
 }
 
 // Adds the update whose words come next.
-fn add_update(alloc: Global, words: &mut Words, mutation: &mut Mutation) -> Result<(), LineError>
+fn add_update(alloc: Global, words: &mut Words, mutation: &mut Mutation) -> Result<(), ParseError>
     ensures { Gives (λ x. (mutation.new, words_left words.new)) result (updated mutation.old (update_of (words_left words.old))) }
 {
     let Some(verb) = words.next() else {
-        return Err(LineError::Fault);
+        return Err(ParseError::Malformed);
     };
     if verb == b"put".as_slice() {
         add_put(alloc, TimestampForm::Dashed, words, mutation)
     } else if verb == b"del".as_slice() {
         add_delete(alloc, TimestampForm::Dashed, words, mutation)
     } else {
-        Err(LineError::Fault)
+        Err(ParseError::Malformed)
     }
 }
 
@@ -114,7 +115,7 @@ fn parts(word: &[u8]) -> bool
 }
 
 // Adds at least one update.
-fn add_some(alloc: Global, words: &mut Words, mutation: &mut Mutation) -> Result<(), LineError>
+fn add_some(alloc: Global, words: &mut Words, mutation: &mut Mutation) -> Result<(), ParseError>
     ensures { Gives (λ x. mutation.new) result (option_map (with_updates mutation.old) (updates_from (words_left words.old))) }
 {
     'updates: loop {
@@ -126,7 +127,7 @@ fn add_some(alloc: Global, words: &mut Words, mutation: &mut Mutation) -> Result
             return Ok(());
         };
         if !parts(word) {
-            return Err(LineError::Fault);
+            return Err(ParseError::Malformed);
         }
     }
 }
@@ -136,7 +137,7 @@ pub fn add_updates(
     alloc: Global,
     words: &mut Words,
     mutation: &mut Mutation,
-) -> Result<(), LineError>
+) -> Result<(), ParseError>
     ensures { Gives (λ x. mutation.new) result (option_map (with_updates mutation.old) (updates_of (words_left words.old))) }
 {
     let mut ahead = *words;

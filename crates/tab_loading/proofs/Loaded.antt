@@ -26,7 +26,7 @@ use Rattle.tab_store.specs.Keeping.{AreSound, settings_in}
 use Rattle.tab_store.specs.Limits.{IsWellFormed, AreLimited}
 use Rattle.tab_store.specs.Rightness.{IsStore}
 use Rattle.tab_store.specs.Restored.{restored}
-use Rattle.tab_store.specs.Stores.{HeldTable, Held, base_of, table_in}
+use Rattle.tab_store.specs.Stores.{TableContents, CoreContents, base_of, table_in}
 use Rattle.tab_store.proofs.Reading.{bases_read}
 use Rattle.tab_core.specs.Bounded.{IsBareRecord, IsBounded}
 use Rattle.tab_core.specs.Stepping.{IsCore, KnowsTables}
@@ -56,14 +56,14 @@ both_of P Q R f [] a b = tt
 both_of P Q R f (x ∷ xs) a b = (f x a.0 b.0, both_of P Q R f xs a.1 b.1)
 
 -- tables as they are held, numbered from this number on: what holds of each whatever its number
-abbrev table_held : ℕ → ImageTable → HeldTable
+abbrev table_held : ℕ → ImageTable → TableContents
 table_held number t = held_table_of (record { number = number; table = t })
 
-each_held : (P : HeldTable → Type 0) (number : ℕ) (ts : List ImageTable) → AllByRecursion (λ t. (k : ℕ) → P (table_held k t)) ts → AllByRecursion P (map held_table_of (numbered_from number ts))
+each_held : (P : TableContents → Type 0) (number : ℕ) (ts : List ImageTable) → AllByRecursion (λ t. (k : ℕ) → P (table_held k t)) ts → AllByRecursion P (map held_table_of (numbered_from number ts))
 each_held P number [] a = tt
 each_held P number (t ∷ ts) a = (a.0 number, each_held P (number_behind number t) ts a.1)
 
-held_again : (g : HeldTable → ImageTable) (number : ℕ) (ts : List ImageTable) → AllByRecursion (λ t. (k : ℕ) → g (table_held k t) ≡ t) ts → map g (map held_table_of (numbered_from number ts)) ≡ ts
+held_again : (g : TableContents → ImageTable) (number : ℕ) (ts : List ImageTable) → AllByRecursion (λ t. (k : ℕ) → g (table_held k t) ≡ t) ts → map g (map held_table_of (numbered_from number ts)) ≡ ts
 held_again g number [] a = refl
 held_again g number (t ∷ ts) a = λ i. a.0 number i ∷ held_again g (number_behind number t) ts a.1 i
 
@@ -197,7 +197,7 @@ module _ (image : Image) (sane : IsSane image) where
       records = records_are number t.head.ends t.records is.ends is.records i;
     }
 
-    abbrev pub made : Held
+    abbrev pub made : CoreContents
     made = record { clock = image.clock; next = image.next; policy = policy; tables = map held_table_of (numbered_from 0 ts); tablet = fold number_behind 0 ts; job = 0 }
 
     users_again : map (user_of policy) (map user_name us) ≡ us
@@ -214,7 +214,7 @@ module _ (image : Image) (sane : IsSane image) where
       says = λ i. record { clock = image.clock; next = image.next; users = sym users_again i; tables = sym tables_again i };
     }
 
-    laid : (xs : List NumberedTable) → map (λ (t : HeldTable). t.tablets) (map held_table_of xs) ≡ map (λ (t : NumberedTable). restored t.number t.table.head.ends t.table.records) xs
+    laid : (xs : List NumberedTable) → map (λ (t : TableContents). t.tablets) (map held_table_of xs) ≡ map (λ (t : NumberedTable). restored t.number t.table.head.ends t.table.records) xs
     laid [] = refl
     laid (t ∷ xs) = ap (λ l. restored t.number t.table.head.ends t.table.records ∷ l) (laid xs)
 
@@ -226,7 +226,7 @@ module _ (image : Image) (sane : IsSane image) where
 
     -- ---- what a core keeps
     -- what holds of each table as it was made
-    each_made : (P : HeldTable → Type 0) → ((t : ImageTable) → IsSaneTable us image.next t → (number : ℕ) → P (table_held number t)) → (q : List ℕ) (t : HeldTable) → table_in made q ≡ Some t → P t
+    each_made : (P : TableContents → Type 0) → ((t : ImageTable) → IsSaneTable us image.next t → (number : ℕ) → P (table_held number t)) → (q : List ℕ) (t : TableContents) → table_in made q ≡ Some t → P t
     each_made P f q t e = found_all held_name P (map held_table_of (numbered_from 0 ts)) (each_held P 0 ts (each_of (IsSaneTable us image.next) (λ x. (number : ℕ) → P (table_held number x)) f ts sane.each_table)) q t e
 
     numbers : (t : ImageTable) → IsSaneTable us image.next t → AllByRecursion (λ (u : Record). u.seq < image.next) t.records
@@ -254,7 +254,7 @@ module _ (image : Image) (sane : IsSane image) where
         go number [] = refl
         go number (x ∷ xs) = one (bytes_eq x.head.name t) (go (number_behind number x) xs)
           where
-            later : List HeldTable
+            later : List TableContents
             later = map held_table_of (numbered_from (number_behind number x) xs)
 
             one : (v : Bool) → is_some (settings_in (found held_name t later)) ≡ is_some (found table_name t xs)
@@ -304,7 +304,7 @@ module _ (image : Image) (sane : IsSane image) where
       tables = subst (λ n. n < 2 ^ 32) (sym (held_count 0 ts)) sane.tables_few;
     }
       where
-        go : (q : List ℕ) (s : Settings) (o : Option HeldTable) → table_in made q ≡ o → settings_in o ≡ Some s → s.time ≡ Server → s.horizon ≡ least
+        go : (q : List ℕ) (s : Settings) (o : Option TableContents) → table_in made q ≡ o → settings_in o ≡ Some s → s.time ≡ Server → s.horizon ≡ least
         go q s None e f = absurd (none-some s f)
         go q s (Some t) e f = subst (λ x. x.time ≡ Server → x.horizon ≡ least) (some_inj t.settings s f) (each_made (λ t. t.settings.time ≡ Server → t.settings.horizon ≡ least) (λ t is number. is.server) q t e)
 
@@ -312,20 +312,20 @@ module _ (image : Image) (sane : IsSane image) where
     is_core = record { store = is_store; knows = known_tables; limits = is_bounded }
 
 -- all of it, of what was made
-pub record IsLoaded (image : Image) (h : Held) : Type 0 where
+pub record IsLoaded (image : Image) (h : CoreContents) : Type 0 where
   pub core : IsCore h
   pub of : IsImageOf h image
   pub laid : AreLaid h.tables image.tables
   pub counts : CountsOn h image.tables
 
-is_loaded : (image : Image) → IsSane image → (h : Held) → h.clock ≡ image.clock → h.next ≡ image.next → readings h.policy ≡ fold with_table (fold with_user new_readings image.users) image.tables
+is_loaded : (image : Image) → IsSane image → (h : CoreContents) → h.clock ≡ image.clock → h.next ≡ image.next → readings h.policy ≡ fold with_table (fold with_user new_readings image.users) image.tables
     → h.tables ≡ map held_table_of (numbered_from 0 image.tables) → h.tablet ≡ fold number_behind 0 image.tables → h.job ≡ 0 → IsLoaded image h
 is_loaded image sane h clock next reads tables tablet job =
     let same : made image sane h.policy reads ≡ h = λ i. record { clock = sym clock i; next = sym next i; policy = h.policy; tables = sym tables i; tablet = sym tablet i; job = sym job i } in
     subst (IsLoaded image) same (record { core = is_core image sane h.policy reads; of = is_image_of image sane h.policy reads; laid = is_laid image sane h.policy reads; counts = counts_on image sane h.policy reads })
 
 -- .. by what each of the calls leaves that made it
-pub made_by_calls : (image : Image) → IsSane image → (clock : ℤ) → clock ≡ image.clock → (users : List ImageUser) (begun policy : State) (heads moved : List ImageTable) (tables : List HeldTable) (tablet : ℕ)
+pub made_by_calls : (image : Image) → IsSane image → (clock : ℤ) → clock ≡ image.clock → (users : List ImageUser) (begun policy : State) (heads moved : List ImageTable) (tables : List TableContents) (tablet : ℕ)
     → users ≡ image.users → readings begun ≡ fold with_user new_readings users → heads ≡ image.tables → readings policy ≡ fold with_table (readings begun) heads → moved ≡ image.tables → tables ≡ map held_table_of (numbered_from 0 moved) → tablet ≡ fold number_behind 0 moved
     → IsLoaded image (record { clock = clock; next = image.next; policy = policy; tables = tables; tablet = tablet; job = 0 })
 made_by_calls image sane clock same users begun policy heads moved tables tablet us one hs two ms three four =

@@ -8,7 +8,7 @@ use Rattle.tab_key.specs.Records.{Record}
 use Rattle.tab_cells.proofs.Lists.{by_bool}
 use Rattle.tab_store.specs.Tablets.{Tablet, next_number}
 use Rattle.tab_store.specs.Restored.{tabled_for, restored}
-use Rattle.tab_store.specs.Stores.{HeldTable, tablets_found}
+use Rattle.tab_store.specs.Stores.{TableContents, tablets_found}
 use Rattle.tab_store.specs.Numbers.{has_number, NumbersDiffer, AreNumbered}
 use Rattle.tab_store.proofs.Numbered.{or_true}
 use Rattle.tab_tablets.proofs.Parted.{nat_same}
@@ -67,7 +67,7 @@ few_first t ts n few = let le = grows ts (number_behind n t) few in omega (arith
 
 -- those of the table of this name
 abbrev of_name : ℕ → List ImageTable → List ℕ → List Tablet
-of_name n ts q = tablets_found (find (λ (t : HeldTable). bytes_eq t.name q) (map held_table_of (numbered_from n ts)))
+of_name n ts q = tablets_found (find (λ (t : TableContents). bytes_eq t.name q) (map held_table_of (numbered_from n ts)))
 
 -- a number of a tablet between these two
 record IsBetween (k low high : ℕ) : Type 0 where
@@ -81,7 +81,7 @@ between (t ∷ ts) n few q k h = go (bytes_eq t.head.name q) h (between ts (numb
     first : number_behind n t < 18446744073709551615
     first = few_first t ts n few
 
-    go : (v : Bool) → has_number k (tablets_found (cond v (Some (held_table_of (record { number = n; table = t }))) (find (λ (x : HeldTable). bytes_eq x.name q) (map held_table_of (numbered_from (number_behind n t) ts))))) ≡ true
+    go : (v : Bool) → has_number k (tablets_found (cond v (Some (held_table_of (record { number = n; table = t }))) (find (λ (x : TableContents). bytes_eq x.name q) (map held_table_of (numbered_from (number_behind n t) ts))))) ≡ true
         → (has_number k (of_name (number_behind n t) ts q) ≡ true → IsBetween k (number_behind n t) (behind (number_behind n t) ts)) → IsBetween k n (behind n (t ∷ ts))
     go true e ih =
         let a = its_numbers t n first k e in let low = a.least in let high = a.below in let le = grows ts (number_behind n t) few in
@@ -93,7 +93,7 @@ each_differs [] n few q = tt
 each_differs (t ∷ ts) n few q = go (bytes_eq t.head.name q) (each_differs ts (number_behind n t) few q)
   where
     go : (v : Bool) → NumbersDiffer (of_name (number_behind n t) ts q)
-        → NumbersDiffer (tablets_found (cond v (Some (held_table_of (record { number = n; table = t }))) (find (λ (x : HeldTable). bytes_eq x.name q) (map held_table_of (numbered_from (number_behind n t) ts)))))
+        → NumbersDiffer (tablets_found (cond v (Some (held_table_of (record { number = n; table = t }))) (find (λ (x : TableContents). bytes_eq x.name q) (map held_table_of (numbered_from (number_behind n t) ts)))))
     go true ih = its_differ t n (few_first t ts n few)
     go false ih = ih
 
@@ -109,7 +109,7 @@ apart (t ∷ ts) n few q r k h g = go (bytes_eq t.head.name q) (bytes_eq t.head.
     never x a b = let high = (its_numbers t n first k a).below in let low = (between ts (number_behind n t) few x k b).least in omega (arith, high, low, first)
 
     of : Bool → List ℕ → List Tablet
-    of v x = tablets_found (cond v (Some (held_table_of (record { number = n; table = t }))) (find (λ (y : HeldTable). bytes_eq y.name x) (map held_table_of (numbered_from (number_behind n t) ts))))
+    of v x = tablets_found (cond v (Some (held_table_of (record { number = n; table = t }))) (find (λ (y : TableContents). bytes_eq y.name x) (map held_table_of (numbered_from (number_behind n t) ts))))
 
     go : (v w : Bool) → bytes_eq t.head.name q ≡ v → bytes_eq t.head.name r ≡ w → has_number k (of v q) ≡ true → has_number k (of w r) ≡ true
         → (has_number k (of_name (number_behind n t) ts q) ≡ true → has_number k (of_name (number_behind n t) ts r) ≡ true → q ≡ r) → q ≡ r

@@ -4,7 +4,7 @@ use Rattle.std.specs.Prelude.{Option, Some, None, is_some, bytes_eq}
 use Rattle.std.specs.Option.{option_map}
 use Rattle.std.specs.List.{AllByRecursion, fold}
 use Rattle.tab_label.specs.Sets.{IsRising, has}
-use Rattle.tab_store.specs.Stores.{HeldTable, RiseByName}
+use Rattle.tab_store.specs.Stores.{TableContents, RiseByName}
 use Rattle.tab_store.specs.Tables.{TableState, state_of, table_at}
 use Rattle.tab_image.specs.declared.table.ImageTable.{ImageTable}
 use Rattle.tab_saving.proofs.OneList.{same_names}
@@ -12,7 +12,7 @@ use Rattle.tab_loading.specs.Tables.{NumberedTable, number_behind, numbered_from
 use Rattle.tab_loading.proofs.Found.{found_or, found, each_found, has_found, folds_found}
 use Rattle.tab_loading.proofs.Policies.{table_name}
 
-abbrev pub held_name : HeldTable → List ℕ
+abbrev pub held_name : TableContents → List ℕ
 held_name t = t.name
 
 abbrev pub numbered_name : NumberedTable → List ℕ
@@ -41,8 +41,8 @@ behind : List (List ℕ) → List (List ℕ)
 behind [] = []
 behind (n ∷ ns) = ns
 
-zipped : (f : List ℕ → Option TableState) (xs ys : List HeldTable) → map held_name xs ≡ map held_name ys
-    → AllByRecursion (λ (x : HeldTable). f x.name ≡ Some (state_of x)) xs → AllByRecursion (λ (y : HeldTable). f y.name ≡ Some (state_of y)) ys → xs ≡ ys
+zipped : (f : List ℕ → Option TableState) (xs ys : List TableContents) → map held_name xs ≡ map held_name ys
+    → AllByRecursion (λ (x : TableContents). f x.name ≡ Some (state_of x)) xs → AllByRecursion (λ (y : TableContents). f y.name ≡ Some (state_of y)) ys → xs ≡ ys
 unfolding first_or behind
 zipped f [] [] same a b = refl
 zipped f [] (y ∷ ys) same a b = absurd (cc)
@@ -53,7 +53,7 @@ zipped f (x ∷ xs) (y ∷ ys) same a b =
     let rest : xs ≡ ys = zipped f xs ys (ap behind same) a.1 b.1 in
     λ i. record { name = name i; settings = (state i).settings; tablets = (state i).tablets } ∷ rest i
 
-found_state : (made xs : List HeldTable) → AllByRecursion (λ (x : HeldTable). found held_name x.name made ≡ Some x) xs → AllByRecursion (λ (x : HeldTable). table_at made x.name ≡ Some (state_of x)) xs
+found_state : (made xs : List TableContents) → AllByRecursion (λ (x : TableContents). found held_name x.name made ≡ Some x) xs → AllByRecursion (λ (x : TableContents). table_at made x.name ≡ Some (state_of x)) xs
 found_state made [] a = tt
 found_state made (x ∷ xs) a = (ap (option_map state_of) a.0, found_state made xs a.1)
 
@@ -74,7 +74,7 @@ module _ (all : List NumberedTable) (rise : IsRising (map numbered_name all)) wh
   read_at : (q : List ℕ) → all_placed all q ≡ found_or (λ t. Some (table_state_of t)) None (found numbered_name q all)
   read_at q = folds_found numbered_name placed (λ f. Unit {0}) (λ f t k. tt) q (λ f. f q) (λ t. Some (table_state_of t)) (λ f t k. refl) all nothing tt rise
 
-  each_placed : (ts : List NumberedTable) → AllByRecursion (λ t. found numbered_name (numbered_name t) all ≡ Some t) ts → AllByRecursion (λ (y : HeldTable). all_placed all y.name ≡ Some (state_of y)) (map held_table_of ts)
+  each_placed : (ts : List NumberedTable) → AllByRecursion (λ t. found numbered_name (numbered_name t) all ≡ Some t) ts → AllByRecursion (λ (y : TableContents). all_placed all y.name ≡ Some (state_of y)) (map held_table_of ts)
   each_placed [] a = tt
   each_placed (t ∷ ts) a = (read_at t.table.head.name ∙ ap (found_or (λ x. Some (table_state_of x)) None) a.0, each_placed ts a.1)
 
@@ -82,15 +82,15 @@ module _ (all : List NumberedTable) (rise : IsRising (map numbered_name all)) wh
   some_found None = refl
   some_found (Some t) = refl
 
-  some_mapped : (o : Option HeldTable) → is_some o ≡ is_some (option_map state_of o)
+  some_mapped : (o : Option TableContents) → is_some o ≡ is_some (option_map state_of o)
   some_mapped None = refl
   some_mapped (Some t) = refl
 
   -- what was made by putting all of them
-  all_made : (made : List HeldTable) → RiseByName made → table_at made ≡ all_placed all → made ≡ map held_table_of all
+  all_made : (made : List TableContents) → RiseByName made → table_at made ≡ all_placed all → made ≡ map held_table_of all
   all_made made names same = zipped (table_at made) made (map held_table_of all) (same_names (map held_name made) (map held_name (map held_table_of all)) names (subst IsRising (sym (names_held all)) rise) each)
       (found_state made made (each_found held_name made names))
-      (subst (λ (f : List ℕ → Option TableState). AllByRecursion (λ (y : HeldTable). f y.name ≡ Some (state_of y)) (map held_table_of all)) (sym same) (each_placed all (each_found numbered_name all rise)))
+      (subst (λ (f : List ℕ → Option TableState). AllByRecursion (λ (y : TableContents). f y.name ≡ Some (state_of y)) (map held_table_of all)) (sym same) (each_placed all (each_found numbered_name all rise)))
     where
       each : (q : List ℕ) → has (map held_name made) q ≡ has (map held_name (map held_table_of all)) q
       each q =
@@ -103,5 +103,5 @@ module _ (all : List NumberedTable) (rise : IsRising (map numbered_name all)) wh
           ∙ ap (λ ns. has ns q) (sym (names_held all))
 
 -- what was made by putting those of an image, numbered from 0 on
-pub all_said : (ts : List ImageTable) → IsRising (map table_name ts) → (made : List HeldTable) → RiseByName made → table_at made ≡ all_placed (numbered_from 0 ts) → made ≡ map held_table_of (numbered_from 0 ts)
+pub all_said : (ts : List ImageTable) → IsRising (map table_name ts) → (made : List TableContents) → RiseByName made → table_at made ≡ all_placed (numbered_from 0 ts) → made ≡ map held_table_of (numbered_from 0 ts)
 all_said ts rise = all_made (numbered_from 0 ts) (subst IsRising (sym (numbered_names 0 ts)) rise)

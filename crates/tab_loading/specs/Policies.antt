@@ -1,4 +1,4 @@
--- What is read of a policy once users of an image are put into it, and its tables with the rights on them.
+-- For proofs. What is read of a policy once users of an image are put into it, and its tables with the rights on them.
 use Rattle.std.specs.Prelude.{ℕ, List, [], true, false, ◌&&◌, cond, ◌+◌, bytes_eq}
 use Rattle.std.specs.List.{fold, list_any}
 use Rattle.tab_policy.specs.Permissions.{same_system, same_table}

@@ -1,8 +1,8 @@
--- The tables that an image says, as a core holds them, and the numbers of their tablets.
+-- For proofs. The tables that an image says, as a core holds them, and the numbers of their tablets.
 use Rattle.std.specs.Prelude.{ℕ, ◌+◌, List, [], ◌∷◌, length, min}
 use Rattle.tab_iter.specs.Lists.{IsRising}
 use Rattle.tab_store.specs.Restored.{EndRowsRise}
-use Rattle.tab_store.specs.Stores.{HeldTable}
+use Rattle.tab_store.specs.Stores.{TableContents}
 use Rattle.tab_store.specs.Tables.{TableState, named_table, restored_table}
 use Rattle.tab_image.specs.declared.table.ImageTable.{ImageTable}
 
@@ -32,5 +32,5 @@ abbrev pub table_state_of : NumberedTable → TableState
 table_state_of t = restored_table t.table.head.time t.table.head.versions t.table.head.constraints t.table.head.horizon t.number t.table.head.ends t.table.records
 
 -- under its name
-abbrev pub held_table_of : NumberedTable → HeldTable
+abbrev pub held_table_of : NumberedTable → TableContents
 held_table_of t = named_table (t.table.head.name, table_state_of t)

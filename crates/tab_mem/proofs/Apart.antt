@@ -186,7 +186,7 @@ rows_of seq row [] u h = absurd h
 rows_of seq row (p ∷ ps) u (inl e) = sym (ap (λ (r : Record). r.key.row) e)
 rows_of seq row (p ∷ ps) u (inr h) = rows_of seq row ps u h
 
--- ---- bodies without records
+-- ---- partitions without records
 pub none_in : (wss : List (List Record)) → AllByRecursion (λ us. us ≡ []) wss → flat wss ≡ []
 none_in [] a = refl
 none_in (us ∷ wss) a = λ i. a.0 i ++ none_in wss a.1 i

@@ -10,7 +10,7 @@ pub mod Cursors
 pub mod Filled
 pub mod Searched
 pub mod StartPrefixes
-pub mod Fronted
+pub mod RowIndexing
 pub mod Parted
 pub mod Moved
 pub mod Picking

@@ -16,7 +16,7 @@ ends_rise : (body : List ℕ) (p : ℕ) → (span_at body p).end ≤ length body
 unfolding span_at
 ends_rise body p low = record { row = omega arith; family = omega arith; qualifier = omega arith; label = omega arith; value = omega arith; whole = low }
 
--- ---- bodies that are the same from a place on hold the same records from there on
+-- ---- partitions that are the same from a place on hold the same records from there on
 module _ (old new : List ℕ) (e : ℕ) (behind : drop e new ≡ drop e old) (long : length new ≡ length old) where
   onward : (p : ℕ) → e ≤ p → drop p new ≡ drop p old
   onward p le =

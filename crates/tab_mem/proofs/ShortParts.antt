@@ -6,8 +6,8 @@ use Rattle.std.proofs.lemmas.Bool.Decides.{nat_tests}
 use Rattle.tab_key.specs.Encoding.{IsShort, AreAt, records_at}
 use Rattle.tab_key.specs.Records.{Record}
 use Rattle.tab_key.specs.Sorted.{IsIn}
-use Rattle.tab_key.specs.declared.part.Part.TheVariants as part
-use Rattle.tab_key.specs.declared.part.TheConstants.{MAX_PART_LEN}
+use Rattle.tab_key.specs.declared.limited_part.LimitedPart.TheVariants as part
+use Rattle.tab_key.specs.declared.limited_part.TheConstants.{MAX_PART_LEN}
 use Rattle.tab_mutation.specs.Mutations.{Update, Mutation}
 use Rattle.tab_mutation.specs.declared.shape_error.ShapeError.TheVariants.{TooLarge}
 use Rattle.tab_mutation.specs.Shape.{first_some, when, first_found, is_too_long, long_name, long_value, empty, oversize, shape_error}

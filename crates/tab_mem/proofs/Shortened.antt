@@ -6,12 +6,12 @@ use Rattle.tab_key.specs.Encoding.{record_at, records_at, IsAt}
 use Rattle.tab_key.specs.Records.{Record}
 use Rattle.tab_key.specs.RowPrefix.{IsRowPrefix}
 use Rattle.tab_iter.specs.Lists.{HasI64Timestamps}
-use Rattle.tab_mem.specs.Fronts.{AreFronts}
+use Rattle.tab_mem.specs.RowIndex.{IsRowIndex}
 use Rattle.tab_mem.specs.Lists.{IsIndexed}
 use Rattle.tab_mem.proofs.Parts.{part_timestamps}
 
--- the first n records have the first k numbers for fronts
-module _ (ns : List ℕ) (rs : List Record) (n k : ℕ) (most : n ≤ 16 * k) (least : 16 * k < n + 16) (h : AreFronts ns rs) where
+-- the first n records have the first k numbers for their index
+module _ (ns : List ℕ) (rs : List Record) (n k : ℕ) (most : n ≤ 16 * k) (least : 16 * k < n + 16) (h : IsRowIndex ns rs) where
   few_numbers : length (take k ns) ≡ min k (length ns)
   few_numbers = length-take k ns
 
@@ -26,7 +26,7 @@ module _ (ns : List ℕ) (rs : List Record) (n k : ℕ) (most : n ≤ 16 * k) (l
       subst (λ (m : ℕ). IsRowPrefix m (get_or (take n rs) (16 * j) u).key.row) (sym (get_or-take k ns j d first))
       (subst (λ (v : Record). IsRowPrefix (get_or ns j d) v.key.row) (sym (get_or-take n rs (16 * j) u inside)) (h.each j d u low))
 
-  pub fronts_cut : AreFronts (take k ns) (take n rs)
+  pub fronts_cut : IsRowIndex (take k ns) (take n rs)
   fronts_cut = record {
     all = omega (arith, few_numbers, few_records, most, h.all);
     few = omega (arith, few_numbers, few_records, least, h.few);
@@ -42,12 +42,12 @@ each_take P (suc n) (x ∷ xs) a = (a.0, each_take P n xs a.1)
 pub records_cut : (body places : List ℕ) (n : ℕ) → records_at body (take n places) ≡ take n (records_at body places)
 records_cut body places n = sym (take-map (record_at body) n places)
 
-pub indexed_cut : (body places now before after : List ℕ) (n : ℕ) → now ≡ take n places → IsIndexed body places before → AreFronts after (take n (records_at body places)) → IsIndexed body now after
+pub indexed_cut : (body places now before after : List ℕ) (n : ℕ) → now ≡ take n places → IsIndexed body places before → IsRowIndex after (take n (records_at body places)) → IsIndexed body now after
 indexed_cut body places now before after n is h noted = subst (λ ps. IsIndexed body ps after) (sym is) (record {
   packed = record {
     at = each_take (IsAt body) n places h.packed.at;
     timestamps = subst HasI64Timestamps (sym (records_cut body places n)) (part_timestamps 0 n (records_at body places) h.packed.timestamps);
   };
   room = omega (arith, h.room, length-take n places);
-  fronts = subst (AreFronts after) (sym (records_cut body places n)) noted;
+  row_index = subst (IsRowIndex after) (sym (records_cut body places n)) noted;
 })

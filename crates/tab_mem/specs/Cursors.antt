@@ -1,4 +1,4 @@
--- What a cursor goes over.
+-- For proofs. What a cursor goes over.
 use Rattle.std.specs.Prelude.{List, ◌-◌, drop}
 use Rattle.tab_key.specs.Records.{Record}
 use Rattle.tab_mem.specs.Lists.{part}

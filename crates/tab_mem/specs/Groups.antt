@@ -1,4 +1,4 @@
--- Records that lie together and have one row.
+-- For proofs. Records that lie together and have one row.
 use Rattle.std.specs.Prelude.{ℕ, zero, suc, ◌≡◌, ◌≢◌, ◌-◌, ◌<◌, ◌≤◌, List, [], ◌∷◌, ◌++◌, Bool, length, true, cond, ltb, int_le}
 use Rattle.std.specs.List.{AllByRecursion, slice_range, slice_index_or}
 use Rattle.std.specs.Ordering.{is_lt}

@@ -1,23 +1,23 @@
--- Where records lie.
+-- For proofs. Where records lie.
 use Rattle.std.specs.Prelude.{⊤, List, [], ◌∷◌}
 use Rattle.tab_key.specs.Records.{Record}
 use Rattle.tab_iter.specs.Bags.{flat}
 use Rattle.tab_mem.specs.Partitions.{ArePartitions, ArePartitions-prop}
-use Rattle.tab_mem.specs.declared.kept.Form.{Form}
-use Rattle.tab_mem.specs.declared.kept.Form.TheVariants.{Nothing, Sorted, Made}
-use Rattle.tab_mem.specs.declared.layout.Layout.{Layout}
-use Rattle.tab_mem.specs.declared.layout.Layout.TheVariants.{One, Several}
-use Rattle.tab_mem.specs.declared.spreading.Bodies.{Bodies}
+use Rattle.tab_mem.specs.declared.sorted_records.Form.{Form}
+use Rattle.tab_mem.specs.declared.sorted_records.Form.TheVariants.{Nothing, Sorted, Made}
+use Rattle.tab_mem.specs.declared.partitions.layout.Layout.{Layout}
+use Rattle.tab_mem.specs.declared.partitions.layout.Layout.TheVariants.{One, Several}
+use Rattle.tab_mem.specs.declared.partitions.Partitions.{Partitions}
 
--- what lies in one body, or in several
+-- what lies in one partition, or in several
 abbrev pub written_in : Layout → List Record
 written_in (One us) = us
-written_in (Several bodies) = flat (bodies.value.lowest ∷ bodies.value.higher.items)
+written_in (Several partitions) = flat (partitions.value.lowest ∷ partitions.value.higher.items)
 
 -- .. and the several are parted by their rows
 abbrev pub AreParted : Layout → Type 0
 AreParted (One us) = ⊤
-AreParted (Several bodies) = ArePartitions bodies.value.lows.items bodies.value.lowest bodies.value.higher.items
+AreParted (Several partitions) = ArePartitions partitions.value.lows.items partitions.value.lowest partitions.value.higher.items
 
 -- what a freeze kept
 abbrev pub kept_in : Form → List Record
@@ -28,4 +28,4 @@ kept_in (Made run) = run.value
 -- ---- this fact has one proof each
 pub AreParted-prop : (l : Layout) → IsProp (AreParted l)
 AreParted-prop (One us) a b = λ i. tt
-AreParted-prop (Several bodies) a b = ArePartitions-prop bodies.value.lows.items bodies.value.lowest bodies.value.higher.items a b
+AreParted-prop (Several partitions) a b = ArePartitions-prop partitions.value.lows.items partitions.value.lowest partitions.value.higher.items a b

@@ -2,7 +2,7 @@ pub mod Lists
 pub mod Starts
 pub mod Cursors
 pub mod Numbers
-pub mod Fronts
+pub mod RowIndex
 pub mod Groups
 pub mod Parting
 pub mod Partitions

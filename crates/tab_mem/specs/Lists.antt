@@ -1,11 +1,11 @@
--- Lists of records, as an active part and a run hold them.
+-- For proofs. Lists of records, as an active part and a run hold them.
 use Rattle.std.specs.Prelude.{ℕ, ◌≡◌, ◌≤◌, ◌*◌, List, length, take, drop, true, int_le}
 use Rattle.tab_key.specs.Encoding.{IsAt, IsShort, AreAt, span_at, record_at, records_at, places_from, end_from}
 use Rattle.tab_key.specs.Records.{Record}
 use Rattle.tab_key.specs.RowPrefix.{IsRowPrefix}
 use Rattle.tab_key.specs.Sorted.{IsIn}
 use Rattle.tab_iter.specs.Lists.{IsRising, latest, HasI64Timestamps}
-use Rattle.tab_mem.specs.Fronts.{AreFronts}
+use Rattle.tab_mem.specs.RowIndex.{IsRowIndex}
 
 -- the records from one index up to another, that one excluded
 abbrev pub part : ℕ → ℕ → List Record → List Record
@@ -36,7 +36,7 @@ pub record ArePacked (body places : List ℕ) : Type 0 where
 pub record IsIndexed (body places numbers : List ℕ) : Type 0 where
   pub packed : ArePacked body places
   pub room : 41 * length places ≤ length body
-  pub fronts : AreFronts numbers (records_at body places)
+  pub row_index : IsRowIndex numbers (records_at body places)
 
 -- what holds of the records of a run
 pub record IsRun (xs : List Record) : Type 0 where

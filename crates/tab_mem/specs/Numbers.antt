@@ -1,4 +1,4 @@
--- How far among rising numbers those go that are below another one.
+-- For proofs. How far among rising numbers those go that are below another one.
 use Rattle.std.specs.Prelude.{ℕ, List, nat_lt}
 use Rattle.std.specs.List.{prefix_len}
 

@@ -1,4 +1,4 @@
--- Records that a bound parts, by their rows.
+-- For proofs. Records that a bound parts, by their rows.
 use Rattle.std.specs.Prelude.{ℕ, List, Bool, filter, not}
 use Rattle.std.specs.Ordering.{is_lt}
 use Rattle.tab_key.specs.Bytes.{bytes_cmp}

@@ -1,4 +1,4 @@
--- Records that lie parted by their rows.
+-- For proofs. Records that lie parted by their rows.
 use Rattle.std.specs.Prelude.{ℕ, suc, ◌≡◌, ◌<◌, ⊤, List, [], ◌∷◌, cond, nat_lt, length}
 use Rattle.std.specs.Coded.{Coded-set, coded_ℕ, le_prop}
 use Rattle.std.specs.Int.{from_be_bytes, w128}

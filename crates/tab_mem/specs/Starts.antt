@@ -1,4 +1,4 @@
--- Where a search in a run goes.
+-- For proofs. Where a search in a run goes.
 use Rattle.std.specs.Prelude.{ℕ, ◌≡◌, ◌<◌, ◌^◌, Bool, true, false, List, filter, not}
 use Rattle.std.specs.Ordering.{is_lt}
 use Rattle.tab_key.specs.Order.{key_cmp}

@@ -1,4 +1,4 @@
--- The order in which records were written.
+-- For proofs. The order in which records were written.
 use Rattle.std.specs.Prelude.{List, [], ◌∷◌, cond}
 use Rattle.std.specs.List.{IsDistinct}
 use Rattle.std.specs.Ordering.{nat_cmp, on, flip_args, then_cmp, is_lt, eq_by_cmp}

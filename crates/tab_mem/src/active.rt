@@ -7,9 +7,9 @@ ghost use Rattle.tab_cells.specs.Written.{mutation_records};
 
 use crate::Run;
 use crate::freezing::frozen;
-use crate::kept::Kept;
-use crate::partitions::Partitions;
+use crate::sorted_records::SortedRecords;
 use crate::sorting::{copied, sort_items};
+use crate::write_buffer::WriteBuffer;
 use std::alloc::{AllocError, Global};
 use std::marker::Model;
 use std::mem::size_of;
@@ -24,9 +24,9 @@ const _: () = prove!(size_of::<Active>() <= 56);
 /// No two have one number and one place in its mutation.
 #[derive(Drop)]
 pub struct Active {
-    written: Partitions,
+    written: WriteBuffer,
     // what a freeze made, until this is frozen in its place, or had sorted when memory lacked
-    kept: Kept,
+    kept: SortedRecords,
 }
 
 impl Model for Active {
@@ -47,8 +47,8 @@ impl Active {
         ensures { result ≡ [] }
     {
         Active {
-            written: Partitions::new(alloc),
-            kept: Kept::nothing(),
+            written: WriteBuffer::new(alloc),
+            kept: SortedRecords::nothing(),
         }
     }
 
@@ -69,7 +69,7 @@ impl Active {
 
     /// Adds the updates of a mutation, whose shape was accepted: each with this number, its place in the mutation counted from 0,
     /// and the clock where it gives no timestamp. It takes time linear in the mutation, however much was written before; but the write by
-    /// which the records become many, 4,096 of them in a mebibyte, spreads them by their rows over eight bodies.
+    /// which the records become many, 4,096 of them in a mebibyte, spreads them by their rows over eight partitions.
     ///
     /// `AllocError` leaves all as it was: the mutation goes in whole or not at all.
     pub fn write(&mut self, mutation: &Mutation, seq: u64, clock: i64) -> Result<(), AllocError>
@@ -96,7 +96,7 @@ impl Active {
 
     /// The records as a run, in their order. They are kept here too: a contract sees nothing that changes.
     ///
-    /// The run holds the only copy, and a share of it is kept here. Where the records are many, they lie in eight bodies by their rows, which
+    /// The run holds the only copy, and a share of it is kept here. Where the records are many, they lie in eight partitions by their rows, which
     /// are sorted one after another, and each gives its memory back then: at once the records take about one and an eighth times their bytes,
     /// beside the run's places and 32 bytes for each record of one body. Where more than a quarter of all lies in one body, as it does where
     /// the first mebibyte has other rows than what came later, it is sorted in four parts, none of which cuts a row, and shrinks with each.
@@ -128,8 +128,8 @@ impl Active {
         let _count = self.written.len();
         let run = self.to_run(alloc)?;
         Ok(Active {
-            written: Partitions::new(alloc),
-            kept: Kept::made(run),
+            written: WriteBuffer::new(alloc),
+            kept: SortedRecords::made(run),
         })
     }
 

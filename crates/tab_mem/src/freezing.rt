@@ -6,9 +6,9 @@ ghost use Rattle.tab_iter.specs.Lists.{IsRising};
 ghost use Rattle.tab_mem.specs.Writing.{IsHeld};
 
 use crate::Run;
-use crate::kept::Kept;
-use crate::partitions::Partitions;
 use crate::records::Records;
+use crate::sorted_records::SortedRecords;
+use crate::write_buffer::WriteBuffer;
 use std::alloc::{AllocError, Global};
 use std::mem;
 use std::sync::Arc;
@@ -18,8 +18,8 @@ use std::sync::Arc;
 /// `AllocError` may leave the records in other places than they were: none is lost, and none stands twice.
 pub(crate) fn frozen(
     alloc: Global,
-    written: &mut Partitions,
-    kept: &mut Kept,
+    written: &mut WriteBuffer,
+    kept: &mut SortedRecords,
 ) -> Result<Arc<Run>, AllocError>
     requires { IsHeld (written.old ++ kept.old) }
     ensures ok { IfOk result (λ made. made.value ≡ sorted (written.old ++ kept.old)) }
@@ -31,19 +31,27 @@ pub(crate) fn frozen(
 }
 
 // Moves what was kept behind what was written. `AllocError` leaves all as it was.
-fn gather(alloc: Global, written: &mut Partitions, kept: &mut Kept) -> Result<(), AllocError>
+fn gather(
+    alloc: Global,
+    written: &mut WriteBuffer,
+    kept: &mut SortedRecords,
+) -> Result<(), AllocError>
     ensures ok { OnOk result (written.new ≡ written.old ++ kept.old) }
     ensures empty { OnOk result (kept.new ≡ []) }
     ensures err { OnErr result (written.new ≡ written.old) }
     ensures left { OnErr result (kept.new ≡ kept.old) }
 {
     put_kept(alloc, written, kept)?;
-    *kept = Kept::nothing();
+    *kept = SortedRecords::nothing();
     Ok(())
 }
 
 // Puts copies of what was kept behind what was written. `AllocError` leaves all as it was.
-fn put_kept(alloc: Global, written: &mut Partitions, kept: &Kept) -> Result<(), AllocError>
+fn put_kept(
+    alloc: Global,
+    written: &mut WriteBuffer,
+    kept: &SortedRecords,
+) -> Result<(), AllocError>
     ensures ok { OnOk result (written.new ≡ written.old ++ kept.now) }
     ensures err { OnErr result (written.new ≡ written.old) }
 {
@@ -55,8 +63,8 @@ fn put_kept(alloc: Global, written: &mut Partitions, kept: &Kept) -> Result<(), 
 // All that was written, in its order; none is left there. After an error what was sorted by then is kept, where nothing was.
 fn sort_all(
     alloc: Global,
-    written: &mut Partitions,
-    kept: &mut Kept,
+    written: &mut WriteBuffer,
+    kept: &mut SortedRecords,
 ) -> Result<Box<Records>, AllocError>
     requires distinct { IsDistinct written.old }
     requires none { kept.old ≡ [] }
@@ -69,14 +77,18 @@ fn sort_all(
     match written.drain(&mut parts) {
         Ok(()) => Ok(parts),
         Err(fault) => {
-            *kept = Kept::sorted(parts);
+            *kept = SortedRecords::sorted(parts);
             Err(fault)
         }
     }
 }
 
 // Makes the sorted records a run, which is kept. Where memory lacks for it, they are kept as they are.
-fn finish(alloc: Global, parts: Box<Records>, kept: &mut Kept) -> Result<Arc<Run>, AllocError>
+fn finish(
+    alloc: Global,
+    parts: Box<Records>,
+    kept: &mut SortedRecords,
+) -> Result<Arc<Run>, AllocError>
     requires { IsRising parts.value }
     ensures ok { IfOk result (λ made. made.value ≡ parts.value) }
     ensures kept { kept.new ≡ parts.value }
@@ -86,19 +98,19 @@ fn finish(alloc: Global, parts: Box<Records>, kept: &mut Kept) -> Result<Arc<Run
     match Arc::new(alloc, Run::of(records)) {
         Ok(made) => keep(made, kept),
         Err(refused) => {
-            *kept = Kept::sorted(put_back(refused.value, place));
+            *kept = SortedRecords::sorted(put_back(refused.value, place));
             Err(AllocError)
         }
     }
 }
 
 // Keeps the run, and shares it once more.
-fn keep(made: Arc<Run>, kept: &mut Kept) -> Result<Arc<Run>, AllocError>
+fn keep(made: Arc<Run>, kept: &mut SortedRecords) -> Result<Arc<Run>, AllocError>
     ensures ok { IfOk result (λ share. share.value ≡ made.value) }
     ensures kept { kept.new ≡ made.value }
 {
     let share: Result<Arc<Run>, AllocError> = made.clone();
-    *kept = Kept::made(made);
+    *kept = SortedRecords::made(made);
     share
 }
 

@@ -1,134 +1,132 @@
-//! Records as they were written: at first all in one body, and in several by their rows once they are many.
-ghost use Rattle.std.specs.Prelude.{◌≡◌, ◌<◌, ◌*◌, ◌^◌, ◌++◌, ◌==◌, [], None, IfOk, OnOk, OnErr, length};
+//! Records that lie in one body, spread over several by their rows.
+ghost use Rattle.std.specs.Prelude.{◌≡◌, ◌<◌, ◌≤◌, ◌+◌, ◌++◌, ◌∷◌, [], IfOk, OnOk, length};
+ghost use Rattle.std.specs.List.{AllByRecursion, slice_range};
 ghost use Rattle.std.specs.List.Sorted.{IsPermutation};
-ghost use Rattle.tab_key.specs.Sorted.{IsDistinct, sorted};
-ghost use Rattle.tab_mutation.specs.Shape.{shape_error};
-ghost use Rattle.tab_cells.specs.Written.{mutation_records};
-ghost use Rattle.tab_iter.specs.Lists.{HasI64Timestamps};
+ghost use Rattle.tab_iter.specs.Bags.{flat};
+ghost use Rattle.tab_mem.specs.Partitions.{count_under, ArePartitions};
 
-use crate::draining::Whole;
-use crate::item::Item;
-use crate::layout::Layout;
-use crate::records::Records;
-use crate::unsorted::Unsorted;
+pub(crate) mod appending;
+pub(crate) mod draining;
+pub(crate) mod emptying;
+pub(crate) mod layout;
+pub(crate) mod lending;
+pub(crate) mod moving;
+pub(crate) mod parting;
+pub(crate) mod sampling;
+pub(crate) mod unsorted;
+
+use crate::partitions::unsorted::Unsorted;
+use crate::sorting::item::Item;
 use std::alloc::{AllocError, Global};
-use std::marker::Model;
-use tab_mutation::Mutation;
 
-/// Records as they were written.
-///
-/// Once there are many, they are spread over eight bodies by their rows, between the quantiles of those that there are by then, and what is
-/// written later goes to the body of its row. So a freeze sorts one body after another, and gives each back. A contract sees the list of
-/// all records.
+/// Over so many partitions records are spread.
+const MOST: usize = 8;
+
+/// Records in several partitions by their rows: a row's place is how many of these numbers are below that of its first 16 bytes.
 #[derive(Drop)]
 pub(crate) struct Partitions {
-    alloc: Global,
-    layout: Layout,
+    pub(crate) lows: Vec<u128>,
+    // the records of the place 0
+    pub(crate) lowest: Unsorted,
+    // those of the others
+    pub(crate) higher: Vec<Unsorted>,
 }
 
-impl Model for Partitions {
-    ghost use Rattle.std.specs.Prelude.{List};
-    ghost use Rattle.tab_key.specs.Records.{Record as Fields};
-    ghost use Rattle.tab_mem.specs.Layouts.{written_in, AreParted};
-
-    ghost Value = { List Fields };
-
-    ghost view = { λ p. written_in p.layout };
-
-    ghost invariant = { λ p. AreParted p.layout };
+/// Copies of the records, spread over eight partitions of about one size. It takes memory for the copies, and until it returns for 32 bytes
+/// a record.
+pub(crate) fn spread(alloc: Global, written: &Unsorted) -> Result<Box<Partitions>, AllocError>
+    ensures moved { IfOk result (λ s. IsPermutation written.now (flat (s.value.lowest ∷ s.value.higher.items))) }
+    ensures parted { IfOk result (λ s. ArePartitions s.value.lows.items s.value.lowest s.value.higher.items) }
+{
+    let mut partitions = begun(alloc, written)?;
+    let items = written.items(alloc, 0)?;
+    put_all(&mut partitions, &items)?;
+    Ok(Box::new(alloc, partitions)?)
 }
 
-impl Partitions {
-    /// No records. It takes no memory.
-    pub(crate) fn new(alloc: Global) -> Partitions
-        ensures { result ≡ [] }
-    {
-        Partitions {
-            alloc,
-            layout: Layout::One(Unsorted::new(alloc)),
+// Partitions without records. Their numbers are those of some records at even distances in the order of rows.
+fn begun(alloc: Global, written: &Unsorted) -> Result<Partitions, AllocError>
+    ensures none { IfOk result (λ s. flat (s.lowest ∷ s.higher.items) ≡ []) }
+    ensures parted { IfOk result (λ s. ArePartitions s.lows.items s.lowest s.higher.items) }
+{
+    let bounds = written.bounds(alloc)?;
+    let lent = bounds.items(alloc, 0)?;
+    let lows = numbers_of(alloc, &lent)?;
+    let higher = empty_partitions(alloc, lows.len())?;
+    Ok(Partitions {
+        lows,
+        lowest: Unsorted::new(alloc),
+        higher,
+    })
+}
+
+// The numbers of some of these records at even distances, seven at most.
+fn numbers_of(alloc: Global, bounds: &[Item<'_>]) -> Result<Vec<u128>, AllocError>
+    ensures { IfOk result (λ v. length v.items < 8) }
+{
+    let mut lows = Vec::with_capacity(alloc, MOST)?;
+    let mut at = 1;
+    while at < MOST {
+        if let Some(bound) = bounds.get(bounds.len() / MOST * at) {
+            lows.push(bound.prefix())?;
         }
+        at += 1;
     }
+    Ok(lows)
+}
 
-    /// How many records there are.
-    pub(crate) fn len(&self) -> usize
-        ensures len { result ≡ length self.now }
-        ensures few { 4 * result < 2 ^ 63 }
-    {
-        self.layout.len()
+// So many partitions without records.
+fn empty_partitions(alloc: Global, count: usize) -> Result<Vec<Unsorted>, AllocError>
+    ensures many { IfOk result (λ v. length v.items ≡ count) }
+    ensures none { IfOk result (λ v. AllByRecursion (λ us. us ≡ []) v.items) }
+{
+    let mut partitions = Vec::with_capacity(alloc, count)?;
+    let mut left = count;
+    while left > 0 {
+        partitions.push(Unsorted::new(alloc))?;
+        left -= 1;
     }
+    Ok(partitions)
+}
 
-    /// Whether there is no record.
-    pub(crate) fn is_empty(&self) -> bool
-        ensures { result ≡ (length self.now == 0) }
-    {
-        self.len() == 0
+// Puts copies of the records in their places, one after another. After an error some of them may be there.
+fn put_all(partitions: &mut Partitions, items: &[Item<'_>]) -> Result<(), AllocError>
+    requires { ArePartitions partitions.old.lows.items partitions.old.lowest partitions.old.higher.items }
+    ensures moved { OnOk result (IsPermutation (flat (partitions.old.lowest ∷ partitions.old.higher.items) ++ items.now) (flat (partitions.new.lowest ∷ partitions.new.higher.items))) }
+    ensures parted { ArePartitions partitions.new.lows.items partitions.new.lowest partitions.new.higher.items }
+{
+    let mut index = 0;
+    while index < items.len() {
+        put_one(partitions, items, index)?;
+        index += 1;
     }
+    Ok(())
+}
 
-    /// How many bytes all records take in their bodies.
-    pub(crate) fn byte_len(&self) -> usize {
-        self.layout.byte_len()
+// Puts a copy of the record at an index in its place.
+fn put_one(partitions: &mut Partitions, items: &[Item<'_>], index: usize) -> Result<(), AllocError>
+    requires inside { index < length items.now }
+    requires parted { ArePartitions partitions.old.lows.items partitions.old.lowest partitions.old.higher.items }
+    ensures moved { OnOk result (IsPermutation (flat (partitions.old.lowest ∷ partitions.old.higher.items) ++ slice_range items.now index (index + 1)) (flat (partitions.new.lowest ∷ partitions.new.higher.items))) }
+    ensures parted { ArePartitions partitions.new.lows.items partitions.new.lowest partitions.new.higher.items }
+{
+    let place = place_of(&partitions.lows, items[index].prefix());
+    let one = &items[index..index + 1];
+    if place == 0 {
+        return partitions.lowest.push_all(one);
     }
+    partitions.higher[place - 1].push_all(one)
+}
 
-    /// The records, lent. Memory is asked for once.
-    pub(crate) fn items(&self, alloc: Global) -> Result<Vec<Item<'_>>, AllocError>
-        ensures { IfOk result (λ v. v.items ≡ self.now) }
-    {
-        let mut items = Vec::with_capacity(alloc, self.len())?;
-        self.layout.lend_to(&mut items)?;
-        Ok(items)
+/// How many of the numbers are below this one. No branch depends on what a comparison tells: the processor would foresee half of such
+/// branches wrongly.
+pub(crate) fn place_of(lows: &[u128], number: u128) -> usize
+    ensures place { result ≡ count_under number lows.now }
+    ensures few { result ≤ length lows.now }
+{
+    let mut place = 0;
+    for low in lows {
+        place += (*low < number) as usize;
     }
-
-    /// Adds the records of an accepted mutation. `AllocError` leaves the records as they were.
-    ///
-    /// Where they become many by it, they are spread. Where memory lacks for that they aren't, and what is written later isn't either.
-    pub(crate) fn write(
-        &mut self,
-        mutation: &Mutation,
-        seq: u64,
-        clock: i64,
-    ) -> Result<(), AllocError>
-        requires { shape_error mutation.now ≡ None }
-        ensures ok { OnOk result (IsPermutation (self.old ++ mutation_records seq clock mutation.now) self.new) }
-        ensures timestamps { OnOk result (HasI64Timestamps (mutation_records seq clock mutation.now)) }
-        ensures err { OnErr result (self.new ≡ self.old) }
-    {
-        let have_become_many = self.layout.write(mutation, seq, clock)?;
-        if have_become_many {
-            self.layout.spread(self.alloc);
-        }
-        Ok(())
-    }
-
-    /// Puts copies of the records behind the others, and of these too: all lie in one body then. `AllocError` leaves the records as they
-    /// were.
-    pub(crate) fn push_all(&mut self, items: &[Item<'_>]) -> Result<(), AllocError>
-        ensures ok { OnOk result (self.new ≡ self.old ++ items.now) }
-        ensures err { OnErr result (self.new ≡ self.old) }
-    {
-        if items.is_empty() {
-            return Ok(());
-        }
-        let mut one = Unsorted::new(self.alloc);
-        one.push_all(&self.items(self.alloc)?)?;
-        one.push_all(items)?;
-        self.layout = Layout::One(one);
-        Ok(())
-    }
-
-    /// Puts the records behind the others, sorted, and leaves none: first those of the lowest rows. What they took is given back with each
-    /// partition. `AllocError` may leave the first ones put: none is lost, and none stands twice.
-    pub(crate) fn drain(&mut self, records: &mut Records) -> Result<(), AllocError>
-        requires { IsDistinct self.old }
-        ensures ok { OnOk result (records.new ≡ records.old ++ sorted self.old) }
-        ensures empty { OnOk result (self.new ≡ []) }
-        ensures kept { records.new ++ sorted self.new ≡ records.old ++ sorted self.old }
-    {
-        let whole = Whole {
-            records: self.len(),
-            bytes: self.byte_len(),
-        };
-        self.layout.drain(self.alloc, records, whole)?;
-        self.layout = Layout::One(Unsorted::new(self.alloc));
-        Ok(())
-    }
+    place
 }

@@ -6,9 +6,9 @@ ghost use Rattle.tab_key.specs.KeyOf.{key_of};
 ghost use Rattle.tab_iter.specs.Lists.{HasI64Timestamps};
 ghost use Rattle.tab_mem.specs.Lists.{HasShortParts};
 
-use crate::item::Item;
-use crate::lending::lend_at;
-use crate::{Fronts, Ordered, Start};
+use crate::partitions::lending::lend_at;
+use crate::sorting::item::Item;
+use crate::{Ordered, RowIndex, Start};
 use std::alloc::{AllocError, Global};
 use std::marker::Model;
 use std::ops::Range;
@@ -21,7 +21,7 @@ pub struct Records {
     body: Vec<u8>,
     // where the records' heads begin
     places: Vec<usize>,
-    fronts: Fronts,
+    row_index: RowIndex,
 }
 
 impl Model for Records {
@@ -35,7 +35,7 @@ impl Model for Records {
 
     ghost view = { λ p. records_at p.body.items p.places.items };
 
-    ghost invariant = { λ p. IsIndexed p.body.items p.places.items p.fronts.numbers.items };
+    ghost invariant = { λ p. IsIndexed p.body.items p.places.items p.row_index.numbers.items };
 }
 
 impl Records {
@@ -46,7 +46,7 @@ impl Records {
         Records {
             body: Vec::new(alloc),
             places: Vec::new(alloc),
-            fronts: Fronts::new(alloc),
+            row_index: RowIndex::new(alloc),
         }
     }
 
@@ -61,7 +61,7 @@ impl Records {
         Ok(Records {
             body: Vec::with_capacity(alloc, bytes)?,
             places: Vec::with_capacity(alloc, records)?,
-            fronts: Fronts::with_capacity(alloc, records)?,
+            row_index: RowIndex::with_capacity(alloc, records)?,
         })
     }
 
@@ -129,12 +129,12 @@ impl Records {
         ensures err { OnErr result (self.new ≡ self.old) }
     {
         self.places.reserve(1)?;
-        self.fronts.make_room()?;
+        self.row_index.make_room()?;
         let bytes = self.body.len();
         match append(&mut self.body, key, kind, value, seq, idx) {
             Ok(place) => {
                 let lent = RecordRef::at(&self.body, place);
-                self.fronts.put(self.places.len(), &lent);
+                self.row_index.put(self.places.len(), &lent);
                 self.places.push_reserved(place);
                 Ok(())
             }
@@ -152,11 +152,11 @@ impl Records {
     {
         let _timestamp = source.timestamp();
         self.places.reserve(1)?;
-        self.fronts.make_room()?;
+        self.row_index.make_room()?;
         let bytes = self.body.len();
         match append_copy(&mut self.body, source) {
             Ok(place) => {
-                self.fronts.put(self.places.len(), source);
+                self.row_index.put(self.places.len(), source);
                 self.places.push_reserved(place);
                 Ok(())
             }
@@ -173,11 +173,11 @@ impl Records {
         ensures err { OnErr result (self.new ≡ self.old) }
     {
         self.places.reserve(1)?;
-        self.fronts.make_room()?;
+        self.row_index.make_room()?;
         let bytes = self.body.len();
         match item.append_to(&mut self.body) {
             Ok(place) => {
-                self.fronts.put(self.places.len(), &item.record());
+                self.row_index.put(self.places.len(), &item.record());
                 self.places.push_reserved(place);
                 Ok(())
             }
@@ -220,7 +220,7 @@ impl Records {
         ensures { self.new ≡ take count self.old }
     {
         self.places.truncate(count);
-        self.fronts.truncate(count);
+        self.row_index.truncate(count);
     }
 
     /// Gives back the memory that isn't used.
@@ -229,7 +229,7 @@ impl Records {
     {
         self.body.shrink_to_fit();
         self.places.shrink_to_fit();
-        self.fronts.shrink_to_fit();
+        self.row_index.shrink_to_fit();
     }
 }
 
@@ -241,11 +241,11 @@ impl Ordered for Records {
     }
 
     fn narrowed(&self, low: usize, high: usize, start: Start<'_>) -> Range<usize> {
-        self.fronts.narrow(low, high, start)
+        self.row_index.narrow(low, high, start)
     }
 
     fn is_far(&self, index: usize, start: Start<'_>) -> bool {
-        self.fronts.is_far(index, start)
+        self.row_index.is_far(index, start)
     }
 }
 

@@ -5,9 +5,9 @@ ghost use Rattle.tab_key.specs.Ranges.{is_in_range};
 ghost use Rattle.tab_iter.specs.Lists.{IsRising, HasI64Timestamps};
 ghost use Rattle.tab_mem.specs.Lists.{part, HasShortParts};
 
-use crate::item::Item;
 use crate::records::Records;
 use crate::searching::rows_in;
+use crate::sorting::item::Item;
 use std::alloc::AllocError;
 use std::marker::Model;
 use std::ops::Range;

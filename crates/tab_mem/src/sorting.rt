@@ -2,8 +2,16 @@
 ghost use Rattle.std.specs.Prelude.{◌≡◌, IfOk};
 ghost use Rattle.tab_key.specs.Sorted.{IsDistinct, sorted};
 
-use crate::item::Item;
+pub(crate) mod classes;
+pub(crate) mod column_item;
+pub(crate) mod group;
+pub(crate) mod grouping;
+pub(crate) mod item;
+pub(crate) mod leading;
+pub(crate) mod one_row;
+
 use crate::records::Records;
+use crate::sorting::item::Item;
 use std::alloc::{AllocError, Global};
 
 /// Puts lent records in their order. It takes no memory.

@@ -3,7 +3,7 @@ use Rattle.std.proofs.Common.{◌≡◌, ℕ, zero, suc, ◌+◌, ◌<◌, ◌�
 use Rattle.std.specs.Prelude.{nat_lt}
 use Rattle.std.specs.List.{slice_index_or}
 use Rattle.std.proofs.lemmas.Bool.Decides.{nat_tests}
-use Rattle.tab_key.specs.declared.part.Part.TheVariants as part
+use Rattle.tab_key.specs.declared.limited_part.LimitedPart.TheVariants as part
 use Rattle.tab_mutation.specs.Mutations.{Update, Mutation}
 use Rattle.tab_mutation.specs.declared.shape_error.ShapeError.{ShapeError}
 use Rattle.tab_mutation.specs.declared.shape_error.ShapeError.TheVariants.{TooLarge}

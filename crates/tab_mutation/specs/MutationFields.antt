@@ -1,4 +1,4 @@
--- The row and the updates of a mutation, in its body.
+-- For proofs. The row and the updates of a mutation, in its body.
 use Rattle.std.specs.Prelude.{◌≤◌, map, length}
 use Rattle.std.specs.List.{AllByRecursion, slice_range}
 use Rattle.tab_mutation.specs.Mutations as view

@@ -1,4 +1,4 @@
--- Mutations, as contracts see them. (Accumulo user manual: mutations)
+-- To be believed. Mutations, as contracts see them. (Accumulo user manual: mutations)
 use Rattle.std.specs.Prelude.{ℕ, ℤ, ◌≡◌, List, [], ◌∷◌, ◌++◌, Option}
 use Rattle.tab_key.specs.declared.key.Kind.{Kind}
 use Rattle.tab_key.specs.declared.key.Kind.TheVariants.{Delete, Put}

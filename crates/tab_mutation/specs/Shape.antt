@@ -1,7 +1,7 @@
--- The limits on the shape of a mutation.
+-- To be believed. The limits on the shape of a mutation.
 use Rattle.std.specs.Prelude.{ℕ, List, [], ◌∷◌, ◌+◌, Bool, true, false, nat_lt, cond, Option, Some, None, length}
-use Rattle.tab_key.specs.declared.part.Part.TheVariants.{Updates, Row, Family, Qualifier, Label, Value}
-use Rattle.tab_key.specs.declared.part.TheConstants.{MAX_PART_LEN, MAX_UPDATES}
+use Rattle.tab_key.specs.declared.limited_part.LimitedPart.TheVariants.{Updates, Row, Family, Qualifier, Label, Value}
+use Rattle.tab_key.specs.declared.limited_part.TheConstants.{MAX_PART_LEN, MAX_UPDATES}
 use Rattle.tab_mutation.specs.Mutations.{Update, Mutation}
 use Rattle.tab_mutation.specs.declared.shape_error.ShapeError.{ShapeError}
 use Rattle.tab_mutation.specs.declared.shape_error.ShapeError.TheVariants.{Empty, TooLarge}

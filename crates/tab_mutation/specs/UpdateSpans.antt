@@ -1,4 +1,4 @@
--- Updates in a body of bytes.
+-- For proofs. Updates in a body of bytes.
 use Rattle.std.specs.Prelude.{ℕ, List, ◌≤◌, length}
 use Rattle.std.specs.List.{slice_range}
 use Rattle.tab_mutation.specs.Mutations.{Update}

@@ -10,7 +10,7 @@ use crate::{ShapeError, UpdateRef, Updates};
 use smallvec::SmallVec;
 use std::alloc::{AllocError, Global};
 use std::marker::Model;
-use tab_key::{Kind, MAX_UPDATES, Part};
+use tab_key::{Kind, LimitedPart, MAX_UPDATES};
 
 // Behind the row there is room for so many bytes: most mutations of one cell ask for memory once for all of their bytes.
 const FIRST_ROOM: usize = 64;
@@ -205,10 +205,10 @@ impl Mutation {
             return Some(ShapeError::Empty);
         }
         if self.len() > MAX_UPDATES {
-            return Some(ShapeError::TooLarge(Part::Updates));
+            return Some(ShapeError::TooLarge(LimitedPart::Updates));
         }
         if is_too_long(self.row()) {
-            return Some(ShapeError::TooLarge(Part::Row));
+            return Some(ShapeError::TooLarge(LimitedPart::Row));
         }
         match self.long_name() {
             Some(found) => Some(found),

@@ -2,7 +2,7 @@
 ghost use Rattle.std.specs.Prelude.{◌≡◌};
 ghost use Rattle.tab_mutation.specs.Shape.{is_too_long};
 
-use tab_key::{MAX_PART_LEN, Part};
+use tab_key::{LimitedPart, MAX_PART_LEN};
 
 /// Why a mutation is refused for its shape.
 #[derive(Clone, Copy, Debug, PartialEq, Eq)]
@@ -10,7 +10,7 @@ pub enum ShapeError {
     /// It has no update.
     Empty,
     /// It has over `MAX_UPDATES` updates, or the named part of it has over `MAX_PART_LEN` bytes.
-    TooLarge(Part),
+    TooLarge(LimitedPart),
 }
 
 /// Whether a part of a mutation has over `MAX_PART_LEN` bytes.

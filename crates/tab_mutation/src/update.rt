@@ -8,7 +8,7 @@ use crate::ShapeError;
 use crate::shape_error::is_too_long;
 use crate::update_span::UpdateSpan;
 use std::marker::Model;
-use tab_key::{Kind, Part, word_between};
+use tab_key::{Kind, LimitedPart, word_between};
 
 /// One update of a mutation: a put or a delete of one column of its row.
 ///
@@ -104,11 +104,11 @@ impl<'a> UpdateRef<'a> {
         ensures { result ≡ long_name 0 self.now }
     {
         if is_too_long(self.family()) {
-            Some(ShapeError::TooLarge(Part::Family))
+            Some(ShapeError::TooLarge(LimitedPart::Family))
         } else if is_too_long(self.qualifier()) {
-            Some(ShapeError::TooLarge(Part::Qualifier))
+            Some(ShapeError::TooLarge(LimitedPart::Qualifier))
         } else if is_too_long(self.label()) {
-            Some(ShapeError::TooLarge(Part::Label))
+            Some(ShapeError::TooLarge(LimitedPart::Label))
         } else {
             None
         }
@@ -119,7 +119,7 @@ impl<'a> UpdateRef<'a> {
         ensures { result ≡ long_value 0 self.now }
     {
         if is_too_long(self.value()) {
-            Some(ShapeError::TooLarge(Part::Value))
+            Some(ShapeError::TooLarge(LimitedPart::Value))
         } else {
             None
         }

@@ -3,7 +3,7 @@ use Rattle.std.proofs.Common.{◌≡◌, ℕ, ℤ, List, [], ◌∷◌, ◌++◌
 use Rattle.std.specs.Prelude.{bytes_eq, Option, Some, None, length, option_map, nat_lt}
 use Rattle.std.specs.Cmp.Lexicographic.{bytes_decides}
 use Rattle.tab_key.specs.Ranges.{is_bad_range}
-use Rattle.tab_key.specs.declared.part.Part.TheVariants.{Columns, Authorizations, Sessions}
+use Rattle.tab_key.specs.declared.limited_part.LimitedPart.TheVariants.{Columns, Authorizations, Sessions}
 use Rattle.tab_label.specs.Sets.{first_missing}
 use Rattle.tab_label.specs.Holding.{label_holds}
 use Rattle.tab_label.specs.Laws.{IsSubset}

@@ -2,7 +2,7 @@
 use Rattle.std.proofs.Common.{◌≡◌, ◌⊎◌, ◌&&◌, inl, inr, ℕ, ℤ, pos, List, [], ◌∷◌, ◌++◌, Bool, true, false, cond, refl, sym, ◌∙◌, ap, subst}
 use Rattle.std.specs.Prelude.{Some, None, unwrap_or}
 use Rattle.std.specs.Cmp.Lexicographic.{bytes_decides}
-use Rattle.tab_key.specs.declared.part.Part.TheVariants.{Sessions}
+use Rattle.tab_key.specs.declared.limited_part.LimitedPart.TheVariants.{Sessions}
 use Rattle.tab_label.specs.Laws.{IsSubset}
 use Rattle.tab_history.specs.Bases.{Base, new_core}
 use Rattle.tab_history.specs.Changes.{Change}

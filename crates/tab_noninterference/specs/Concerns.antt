@@ -1,4 +1,4 @@
--- What concerns a user of the changes that events make: tables and their settings, himself and his rights, and updates whose label holds for him.
+-- To be believed. What concerns a user of the changes that events make: tables and their settings, himself and his rights, and updates whose label holds for him.
 use Rattle.std.specs.Prelude.{ℕ, List, [], ◌∷◌, ◌++◌, Bool, cond, filter, bytes_eq}
 use Rattle.tab_label.specs.Holding.{label_holds}
 use Rattle.tab_history.specs.Changes.{Change, UserMade, UserDropped, AuthsSet, SystemGiven, SystemTaken, TableGiven, TableTaken, TableMade, TableDropped, ConstraintsSet, VersionsSet, HorizonSet, Written}

@@ -1,4 +1,4 @@
--- What a user is told in a history.
+-- To be believed. What a user is told in a history.
 use Rattle.std.specs.Prelude.{ℕ, List, [], ◌∷◌, ◌++◌, Bool, true, false, cond}
 use Rattle.tab_key.specs.Records.{Cell}
 use Rattle.tab_history.specs.Bases.{Base}

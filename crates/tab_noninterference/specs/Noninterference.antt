@@ -1,4 +1,4 @@
--- Noninterference: two worlds that look alike to a user answer him alike.
+-- To be believed. Noninterference: two worlds that look alike to a user answer him alike.
 use Rattle.std.specs.Prelude.{◌≡◌, ℕ, List}
 use Rattle.tab_history.specs.Bases.{Base, new_core}
 use Rattle.tab_history.specs.Histories.{Entry, world_of}

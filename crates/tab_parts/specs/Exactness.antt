@@ -1,4 +1,4 @@
--- When a reader takes exactly what a relation says, and the law that the readers of parts do.
+-- For proofs. When a reader takes exactly what a relation says, and the law that the readers of parts do.
 use Rattle.std.specs.Prelude.{ℕ, ◌≡◌, List, ◌++◌, Some}
 use Rattle.tab_parts.specs.Parts.{IsBytes, IsByte, IsU16, IsU32, IsU64, IsI64, IsField, IsNameField, IsList, IsBound, IsBounds, IsKind, IsTime, IsVersions, IsConstraints}
 use Rattle.tab_parts.specs.Reading.{Reader, u8_at, u16_at, u32_at, u64_at, i64_at, field_at, name_at, list_at, bound_at, bounds_at, kind_at, time_at, versions_at, constraints_at}

@@ -1,4 +1,4 @@
--- How the parts of frames and images lie in bytes, as relations between bytes and values. They say nothing of how bytes are read.
+-- To be believed by whoever relies on it. How the parts of frames and images lie in bytes, as relations between bytes and values. They say nothing of how bytes are read.
 use Rattle.std.specs.Prelude.{ℕ, ℤ, ◌≡◌, ◌≤◌, ◌<◌, ◌^◌, ◌+◌, ◌-◌, ◌*◌, ◌/◌, ◌%◌, ◌==◌, Bool, cond, List, [], ◌∷◌, ◌++◌, length, get_or, map, filter, Option, Some, None}
 use Rattle.std.specs.Int.{w16, w32, w64, to_be_bytes, cast_signed}
 use Rattle.tab_key.specs.Names.{IsName}

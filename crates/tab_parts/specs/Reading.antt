@@ -1,4 +1,4 @@
--- Reading from left to right: a reader gives the value at the front and the bytes behind it, or nothing.
+-- For proofs. Reading from left to right: a reader gives the value at the front and the bytes behind it, or nothing.
 use Rattle.std.specs.Prelude.{ℕ, ℤ, zero, suc, ◌*◌, ◌==◌, nat_le, nat_lt, Bool, ◌&&◌, List, [], ◌∷◌, length, take, drop, Option, Some, None, if◌then◌else◌}
 use Rattle.std.specs.List.{list_all}
 use Rattle.std.specs.Int.{Width, w16, w32, w64, byte_len, from_be_bytes, cast_signed}

@@ -1,4 +1,4 @@
--- Changes of what is kept of a user.
+-- For proofs. Changes of what is kept of a user.
 use Rattle.std.specs.Prelude.{ℕ, List, Bool}
 use Rattle.tab_policy.specs.declared.permission.SystemPermission.{SystemPermission}
 use Rattle.tab_policy.specs.declared.permission.SystemPermission.TheVariants as system

@@ -1,4 +1,4 @@
--- Which permissions admit which action. (This server's own profile of Accumulo's rules)
+-- To be believed. Which permissions admit which action. (This server's own profile of Accumulo's rules)
 use Rattle.std.specs.Prelude.{ℕ, List, [], ◌∷◌, Option, Some, None}
 use Rattle.tab_policy.specs.declared.permission.SystemPermission.{SystemPermission}
 use Rattle.tab_policy.specs.declared.permission.SystemPermission.TheVariants as system

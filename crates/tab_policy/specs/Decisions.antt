@@ -1,4 +1,4 @@
--- Whether an action is admitted, and what stops it.
+-- To be believed. Whether an action is admitted, and what stops it.
 use Rattle.std.specs.Prelude.{ℕ, List, [], ◌∷◌, Bool, true, false, Option, Some, None, if◌then◌else◌}
 use Rattle.std.specs.List.{list_any}
 use Rattle.tab_policy.specs.declared.permission.SystemPermission.{SystemPermission}

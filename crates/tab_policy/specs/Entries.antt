@@ -1,4 +1,4 @@
--- Lists of what stands under a name, or under the life of a user.
+-- To be believed. Lists of what stands under a name, or under the life of a user.
 use Rattle.std.specs.Prelude.{ℕ, List, Bool, Option, bytes_eq, if◌then◌else◌}
 use Rattle.std.specs.Option.{option_map}
 use Rattle.std.specs.Map.{lookup}

@@ -1,4 +1,4 @@
--- Which right a grant gives and a revocation takes.
+-- For proofs. Which right a grant gives and a revocation takes.
 use Rattle.std.specs.Prelude.{ℕ, List, Bool, false, ◌&&◌, bytes_eq}
 use Rattle.tab_policy.specs.declared.permission.SystemPermission.{SystemPermission}
 use Rattle.tab_policy.specs.declared.permission.TablePermission.{TablePermission}

@@ -1,4 +1,4 @@
--- All users, listed, and all who hold something on a table.
+-- To be believed by whoever relies on it. All users, listed, and all who hold something on a table.
 use Rattle.std.specs.Prelude.{ℕ, ◌≡◌, List, Bool, true, ◌&&◌, Option, None, map, filter_map, length, bytes_eq, if◌then◌else◌}
 use Rattle.std.specs.Option.{option_map}
 use Rattle.std.specs.List.{All, list_any}

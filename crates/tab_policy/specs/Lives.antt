@@ -1,4 +1,4 @@
--- Lives of users: numbers that are given once.
+-- For proofs. Lives of users: numbers that are given once.
 use Rattle.std.specs.Prelude.{ℕ, ◌≡◌, ◌<◌, ◌≤◌, List, Bool, true, false, Option, Some, None, is_some}
 use Rattle.tab_policy.specs.declared.permission.TablePermission.{TablePermission}
 use Rattle.tab_policy.specs.declared.sets.TablePermissions.{TablePermissions}

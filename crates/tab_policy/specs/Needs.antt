@@ -1,4 +1,4 @@
--- The permissions that admit an action, as one for the whole server and some for one table.
+-- For proofs. The permissions that admit an action, as one for the whole server and some for one table.
 use Rattle.std.specs.Prelude.{ℕ, List, [], ◌∷◌, ◌||◌, Bool, false, Option, Some, None}
 use Rattle.std.specs.List.{list_any}
 use Rattle.std.specs.Option.{option_map_or}

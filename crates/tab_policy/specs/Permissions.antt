@@ -1,4 +1,4 @@
--- The permissions, their order and their names. (Accumulo user manual: permissions)
+-- To be believed. The permissions, their order and their names. (Accumulo user manual: permissions)
 use Rattle.std.specs.Prelude.{ℕ, List, [], ◌∷◌, Bool, ◌==◌, Option, find, bytes_eq, codes}
 use Rattle.tab_policy.specs.declared.permission.SystemPermission.{SystemPermission}
 use Rattle.tab_policy.specs.declared.permission.SystemPermission.TheVariants as system

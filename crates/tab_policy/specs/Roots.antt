@@ -1,4 +1,4 @@
--- The user that is there from the first.
+-- To be believed. The user that is there from the first.
 use Rattle.std.specs.Prelude.{ℕ, List, codes}
 
 -- `root`

@@ -1,4 +1,4 @@
--- Sets of permissions, read by their members.
+-- To be believed. Sets of permissions, read by their members.
 use Rattle.std.specs.Prelude.{List, Bool, filter}
 use Rattle.tab_policy.specs.declared.permission.SystemPermission.{SystemPermission}
 use Rattle.tab_policy.specs.declared.permission.SystemPermission.TheVariants as system

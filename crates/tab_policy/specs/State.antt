@@ -1,4 +1,4 @@
--- What a policy holds, and how it is read.
+-- To be believed. What a policy holds, and how it is read.
 use Rattle.std.specs.Prelude.{ℕ, ◌≡◌, List, [], Bool, false, ◌||◌, Option, Some, None, IfSome, is_some, length, bytes_eq}
 use Rattle.tab_policy.specs.declared.permission.SystemPermission.{SystemPermission}
 use Rattle.tab_policy.specs.declared.permission.TablePermission.{TablePermission}

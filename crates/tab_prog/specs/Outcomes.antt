@@ -1,7 +1,7 @@
--- What came of a file line, and its text.
+-- To be believed by whoever relies on it. What came of a file line, and its text.
 use Rattle.std.specs.Prelude.{ℕ, List, [], ◌∷◌, codes, Ok, Err}
 use Rattle.std.specs.Fmt.{decimal}
-use Rattle.tab_core.specs.Stores.{Held}
+use Rattle.tab_core.specs.Stores.{CoreContents}
 use Rattle.tab_lines.specs.declared.file_line.FileKind.{FileKind}
 use Rattle.tab_lines.specs.declared.file_line.FileKind.TheVariants.{Save, Load}
 use Rattle.tab_prog.specs.declared.files.Files.{Ghosts}
@@ -16,11 +16,11 @@ use Rattle.tab_text.specs.Lines.{line_text}
 pub data Outcome : Type 0 where
   Saved : Outcome
   NotSaved : SaveFault → Outcome
-  Loaded : Held → Outcome
+  Loaded : CoreContents → Outcome
   NotLoaded : LoadFault → Outcome
 
 -- asked for this by a line with this name, where the script has this core, the files gave this, and are left so
-abbrev pub GivesOutcome : {F : Type 0} → Ghosts F → FileKind → List ℕ → Held → F → Outcome → F → Type 0
+abbrev pub GivesOutcome : {F : Type 0} → Ghosts F → FileKind → List ℕ → CoreContents → F → Outcome → F → Type 0
 GivesOutcome f Save name core files Saved files' = f.saves files name core (Ok tt) files'
 GivesOutcome f Save name core files (NotSaved fault) files' = f.saves files name core (Err fault) files'
 GivesOutcome f Save name core files (Loaded loaded) files' = ⊥

@@ -1,9 +1,9 @@
--- What a subcommand does, from its input to its output.
+-- To be believed by whoever relies on it. What a subcommand does, from its input to its output.
 use Rattle.std.specs.Prelude.{ℕ, ◌≡◌, ◌⊎◌, List, [], ◌∷◌, Result, Ok, Err}
 use Rattle.tab_history.specs.Bases.{new_core}
 use Rattle.tab_history.specs.Histories.{world_of}
 use Rattle.tab_history.specs.Refinement.{Refines}
-use Rattle.tab_core.specs.Stores.{Held, base_of, IsNewStore}
+use Rattle.tab_core.specs.Stores.{CoreContents, base_of, IsNewStore}
 use Rattle.tab_io.specs.Writing.{HasPut, HasPutPart, Puts}
 use Rattle.tab_io.specs.declared.reading.Input.{Ghosts as InputGhosts}
 use Rattle.tab_io.specs.declared.writing.Output.{Ghosts}
@@ -53,7 +53,7 @@ program_fault side.Write = fault.Write
 
 -- a script over a new core
 abbrev pub IsFresh : ScriptState → Type 0
-IsFresh script = (core : Held) × IsNewStore core × Refines (world_of (base_of core)) (world_of new_core) × (script ≡ new_script core)
+IsFresh script = (core : CoreContents) × IsNewStore core × Refines (world_of (base_of core)) (world_of new_core) × (script ≡ new_script core)
 
 -- a script over a new core runs over the input
 abbrev pub RunsFresh : {F R W : Type 0} → FilesGhosts F → InputGhosts R → Ghosts W → F → R → W → F → R → W → Result (Unit {0}) ScriptFault → Type 0

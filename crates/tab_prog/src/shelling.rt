@@ -6,7 +6,7 @@ use tab_history::{Act, Refusal, Reply, Scan};
 use tab_io::{Input, Output, ReadFault, WriteFault};
 use tab_key::{Bounds, Cells, Items, Name};
 use tab_shell::{
-    Line, LineError, Pending, put_cells, put_next, put_opened, take_line, write_reply,
+    Line, ParseError, Pending, put_cells, put_next, put_opened, take_line, write_reply,
 };
 use tab_text::{Word, put_line};
 use tab_wire::{Answer, Reason, Request};
@@ -123,14 +123,14 @@ fn has_more<L: Input>(lines: &mut L) -> Result<bool, ReadFault> {
 
 // Answers one line.
 fn answer<O: Output, R: Input, W: Output>(
-    said: Result<Line, LineError>,
+    said: Result<Line, ParseError>,
     out: &mut O,
     asking: &mut Asking<'_, R, W>,
 ) -> Result<(), ShellFault> {
     match said {
         Ok(line) => answer_line(line, out, asking),
-        Err(LineError::Fault) => put_fault(out),
-        Err(LineError::NoMemory) => Ok(write_reply(out, &Reply::Refused(Refusal::NoMemory))?),
+        Err(ParseError::Malformed) => put_fault(out),
+        Err(ParseError::NoMemory) => Ok(write_reply(out, &Reply::Refused(Refusal::NoMemory))?),
     }
 }
 

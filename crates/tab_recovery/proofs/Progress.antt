@@ -5,7 +5,7 @@ use Rattle.std.proofs.lemmas.List.{reverse-append, take_at, length-append}
 use Rattle.tab_history.specs.Histories.{Entry}
 use Rattle.tab_history.specs.declared.event.Event.{Event}
 use Rattle.tab_history.specs.declared.reply.Reply.TheVariants.{Done}
-use Rattle.tab_core.specs.Stores.{Held}
+use Rattle.tab_core.specs.Stores.{CoreContents}
 use Rattle.tab_core.specs.Recording.{entry_of}
 use Rattle.tab_parts.specs.Parts.{IsBytes}
 use Rattle.tab_journal.specs.Reading.{entries_from}
@@ -17,7 +17,7 @@ use Rattle.tab_recovery.specs.Redoing.{TakesNext}
 use Rattle.tab_recovery.proofs.Going.{goes_nowhere, goes_further}
 
 -- of these bytes some entries are done, and the rest isn't read yet
-pub record Progress (old : Held) (body rest : List ℕ) (count : ℕ) (new : Held) : Type 0 where
+pub record Progress (old : CoreContents) (body rest : List ℕ) (count : ℕ) (new : CoreContents) : Type 0 where
   pub es : List Event
   pub many : count ≡ length es
   pub few : length es + length rest ≤ length body
@@ -26,13 +26,13 @@ pub record Progress (old : Held) (body rest : List ℕ) (count : ℕ) (new : Hel
   pub front : (entries_from body).0 ≡ es ++ (entries_from rest).0
   pub left : (entries_from body).1 ≡ (entries_from rest).1
 
-pub begins : (core : Held) (body : List ℕ) → IsBytes body → Progress core body body 0 core
+pub begins : (core : CoreContents) (body : List ℕ) → IsBytes body → Progress core body body 0 core
 begins core body fits = record { es = []; many = refl; few = omega arith; fits = fits; goes = goes_nowhere core; front = refl; left = refl }
 
 one_more : (es : List Event) (e : Event) → all_done (es ++ e ∷ []) ≡ entry_of e Done ∷ all_done es
 one_more es e = ap (map (λ x. entry_of x Done)) (reverse-append es (e ∷ []))
 
-pub goes_on : (old mid new : Held) (body rest behind : List ℕ) (count : ℕ) → Progress old body rest count mid → TakesNext mid rest new (Ok behind) → Progress old body behind (count + 1) new
+pub goes_on : (old mid new : CoreContents) (body rest behind : List ℕ) (count : ℕ) → Progress old body rest count mid → TakesNext mid rest new (Ok behind) → Progress old body behind (count + 1) new
 goes_on old mid new body rest behind count p t =
     let more = from_more rest t.event behind p.fits t.read in
     let long : length (p.es ++ t.event ∷ []) ≡ length p.es + 1 = length-append p.es (t.event ∷ []) in
@@ -46,20 +46,20 @@ goes_on old mid new body rest behind count p t =
       left = p.left ∙ more.left;
     }
 
-pub shorter : (old mid new : Held) (body rest behind : List ℕ) (count : ℕ) → Progress old body rest count mid → TakesNext mid rest new (Ok behind) → length behind < length rest
+pub shorter : (old mid new : CoreContents) (body rest behind : List ℕ) (count : ℕ) → Progress old body rest count mid → TakesNext mid rest new (Ok behind) → length behind < length rest
 shorter old mid new body rest behind count p t = (from_more rest t.event behind p.fits t.read).shorter
 
-pub counts : (old new : Held) (body rest : List ℕ) (count : ℕ) → Progress old body rest count new → count + length rest ≤ length body
+pub counts : (old new : CoreContents) (body rest : List ℕ) (count : ℕ) → Progress old body rest count new → count + length rest ≤ length body
 counts old new body rest count p = omega (arith, p.many, p.few)
 
-pub ends : (old new : Held) (body rest : List ℕ) (count : ℕ) → Progress old body rest count new → rest ≡ [] → Recovers old body (Ok count) new
+pub ends : (old new : CoreContents) (body rest : List ℕ) (count : ℕ) → Progress old body rest count new → rest ≡ [] → Recovers old body (Ok count) new
 ends old new body rest count p none =
     let nothing = from_none [] nothing_there in
     let all : (entries_from body).0 ≡ p.es = p.front ∙ ap (λ (z : List ℕ). p.es ++ (entries_from z).0) none ∙ ap (λ (z : List Event). p.es ++ z) nothing.0 ∙ append-nil p.es in
     let over : (entries_from body).1 ≡ [] = p.left ∙ ap (λ (z : List ℕ). (entries_from z).1) none ∙ nothing.1 in
     (p.es, in_whole body p.es all over, p.many, p.goes)
 
-pub fails : (old mid new : Held) (body rest : List ℕ) (count : ℕ) (fault : ReplayFault) → Progress old body rest count mid → 0 < length rest → TakesNext mid rest new (Err fault) → Recovers old body (Err fault) new
+pub fails : (old mid new : CoreContents) (body rest : List ℕ) (count : ℕ) (fault : ReplayFault) → Progress old body rest count mid → 0 < length rest → TakesNext mid rest new (Err fault) → Recovers old body (Err fault) new
 fails old mid new body rest count Bad p some t =
     let nothing = from_none rest t.0 in
     let all : (entries_from body).0 ≡ p.es = p.front ∙ ap (λ (z : List Event). p.es ++ z) nothing.0 ∙ append-nil p.es in

@@ -9,7 +9,7 @@ ghost use Rattle.tab_replies.specs.Texts.{part_name, split_word, permission_word
 
 use tab_history::{Refusal, SplitFault};
 use tab_io::{Output, WriteFault, put_byte, put_decimal};
-use tab_key::{Name, Part};
+use tab_key::{LimitedPart, Name};
 use tab_policy::Permission;
 use tab_rules::Violation;
 use tab_text::{PutItem, Word, put_each, put_line};
@@ -242,20 +242,20 @@ fn split_word(fault: SplitFault) -> &'static [u8]
     }
 }
 
-fn part_name(part: Part) -> &'static [u8]
+fn part_name(part: LimitedPart) -> &'static [u8]
     ensures { result.now ≡ part_name part }
 {
     match part {
-        Part::Updates => b"updates",
-        Part::Row => b"row",
-        Part::Family => b"family",
-        Part::Qualifier => b"qualifier",
-        Part::Label => b"label",
-        Part::Value => b"value",
-        Part::Columns => b"columns",
-        Part::Authorizations => b"authorizations",
-        Part::Ranges => b"ranges",
-        Part::Sessions => b"sessions",
-        Part::Numbers => b"numbers",
+        LimitedPart::Updates => b"updates",
+        LimitedPart::Row => b"row",
+        LimitedPart::Family => b"family",
+        LimitedPart::Qualifier => b"qualifier",
+        LimitedPart::Label => b"label",
+        LimitedPart::Value => b"value",
+        LimitedPart::Columns => b"columns",
+        LimitedPart::Authorizations => b"authorizations",
+        LimitedPart::Ranges => b"ranges",
+        LimitedPart::Sessions => b"sessions",
+        LimitedPart::Numbers => b"numbers",
     }
 }

@@ -1,4 +1,4 @@
--- A set of constraints as it is kept: one flag for each.
+-- For proofs. A set of constraints as it is kept: one flag for each.
 use Rattle.std.specs.Prelude.{List, Bool, filter}
 use Rattle.tab_rules.specs.Constraints.{all_constraints}
 use Rattle.tab_rules.specs.declared.constraint.Constraint.{Constraint}

@@ -1,4 +1,4 @@
--- The constraints that a table can have: their numbers, names and texts. (Accumulo user manual: constraints)
+-- To be believed. The constraints that a table can have: their numbers, names and texts. (Accumulo user manual: constraints)
 use Rattle.std.specs.Prelude.{ℕ, ◌≡◌, refl, List, [], ◌∷◌, Bool, ◌&&◌, ◌==◌, cond, Option, Some, None, bytes_eq, codes, filter}
 use Rattle.std.specs.List.{list_any}
 use Rattle.tab_rules.specs.declared.constraint.Constraint.{Constraint}

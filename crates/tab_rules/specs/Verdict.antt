@@ -1,9 +1,9 @@
--- What a mutation fails of a table's constraints. (Accumulo user manual: constraints)
+-- To be believed. What a mutation fails of a table's constraints. (Accumulo user manual: constraints)
 use Rattle.std.specs.Prelude.{ℕ, List, [], ◌∷◌, ◌+◌, Bool, false, not, ◌&&◌, ◌==◌, nat_lt, cond, Option, Some, None, length}
 use Rattle.std.specs.Char.{is_ascii_digit, is_ascii_alphanumeric}
 use Rattle.std.specs.List.{list_all, filter_map}
 use Rattle.tab_key.specs.Kept.{is_put}
-use Rattle.tab_key.specs.declared.part.TheConstants.{MAX_PART_LEN}
+use Rattle.tab_key.specs.declared.limited_part.TheConstants.{MAX_PART_LEN}
 use Rattle.tab_label.specs.Holding.{label_holds}
 use Rattle.tab_mutation.specs.Mutations.{Update, Mutation}
 use Rattle.tab_mutation.specs.Shape.{first_index}

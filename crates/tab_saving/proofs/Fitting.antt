@@ -16,7 +16,7 @@ use Rattle.tab_policy.specs.declared.sets.TablePermissions.{TablePermissions}
 use Rattle.tab_parts.specs.Parts.{bits_number, table_bits}
 use Rattle.tab_store.specs.ByRow.{records_of_all}
 use Rattle.tab_store.specs.Limits.{IsWellFormed, AreLimited}
-use Rattle.tab_store.specs.Stores.{HeldTable, Held}
+use Rattle.tab_store.specs.Stores.{TableContents, CoreContents}
 use Rattle.tab_core.specs.Stepping.{IsCore}
 use Rattle.tab_image.specs.Images.{IsImage, written_version}
 use Rattle.tab_image.specs.Spelling.{image_bytes}
@@ -50,7 +50,7 @@ both P Q R f [] a b = tt
 both P Q R f (x ∷ xs) a b = (f x a.0 b.0, both P Q R f xs a.1 b.1)
 
 -- ---- a core
-module _ (h : Held) (names : List (List ℕ)) (users : AreUsers h.policy names) (core : IsCore h) (typed : AllByRecursion (IsTypedUser h.policy) names) (tables : AllByRecursion IsTypedTable h.tables) where
+module _ (h : CoreContents) (names : List (List ℕ)) (users : AreUsers h.policy names) (core : IsCore h) (typed : AllByRecursion (IsTypedUser h.policy) names) (tables : AllByRecursion IsTypedTable h.tables) where
   fits_rights : (t : List ℕ) → AllByRecursion FitsRight (rights_of h.policy names t)
   fits_rights t = both (λ (r : ImageRight). IsName r.user) (λ (r : ImageRight). has_any r.held ≡ true) FitsRight (λ r n e. record { user = n; some = some_bits r.held e }) (rights_of h.policy names t)
       (of_map IsName (λ (r : ImageRight). r.user) (rights_of h.policy names t) (all_users h.policy t IsName names (named names typed)))
@@ -66,7 +66,7 @@ module _ (h : Held) (names : List (List ℕ)) (users : AreUsers h.policy names) 
       let all : length (map (right_of h.policy t) names) ≡ length names = length-map names (right_of h.policy t) in
       let few = few_names h names users core in omega (arith, kept, all, few)
 
-  fits_table : (t : HeldTable) → IsTypedTable t → AreLimited t.tablets → FitsTable (table_of h.policy names t)
+  fits_table : (t : TableContents) → IsTypedTable t → AreLimited t.tablets → FitsTable (table_of h.policy names t)
   fits_table t is limits = record {
     head = record {
       name = is.head.name;

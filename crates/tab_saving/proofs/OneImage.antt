@@ -14,7 +14,7 @@ use Rattle.tab_history.specs.Histories.{world_of}
 use Rattle.tab_history.specs.Refinement.{ReadsAlike, Refines}
 use Rattle.tab_history.proofs.Chains.{sound_refines_itself, alike_refines}
 use Rattle.tab_history.proofs.GoOn.{histories_down, histories_up}
-use Rattle.tab_store.specs.Stores.{HeldTable, Held, base_table_of, base_of}
+use Rattle.tab_store.specs.Stores.{TableContents, CoreContents, base_table_of, base_of}
 use Rattle.tab_store.proofs.ChainLaws.{stores_are_sound}
 use Rattle.tab_core.specs.Stepping.{IsCore}
 use Rattle.tab_image.specs.declared.image.Image.{Image}
@@ -49,7 +49,7 @@ same_user s r (m ∷ ns) e n h = go (same_user s r ns (same_rest (user_of s m) (
 abbrev read_of : ImageTable → BaseTable
 read_of t = record { name = t.head.name; settings = record { time = t.head.time; versions = t.head.versions; constraints = t.head.constraints; horizon = t.head.horizon }; records = t.records }
 
-tables_read : (s : State) (ns : List (List ℕ)) (ts : List HeldTable) → map base_table_of ts ≡ map read_of (map (table_of s ns) ts)
+tables_read : (s : State) (ns : List (List ℕ)) (ts : List TableContents) → map base_table_of ts ≡ map read_of (map (table_of s ns) ts)
 tables_read s ns [] = refl
 tables_read s ns (t ∷ ts) = ap (λ bs. base_table_of t ∷ bs) (tables_read s ns ts)
 
@@ -59,7 +59,7 @@ is_there ts q = is_some (base_settings (find (λ (u : BaseTable). bytes_eq u.nam
 
 -- rights on a table of one image are the same
 module _ (s r : State) (ns ms : List (List ℕ)) (q n : List ℕ) (p : TablePermission) (sees : (t : List ℕ) → among (rights_of s ns t) n p ≡ table_granted s n p t) (reads : (t : List ℕ) → among (rights_of r ms t) n p ≡ table_granted r n p t) where
-  same_right : (ts us : List HeldTable) → map (table_of s ns) ts ≡ map (table_of r ms) us → is_there (map (table_of s ns) ts) q ≡ true → table_granted s n p q ≡ table_granted r n p q
+  same_right : (ts us : List TableContents) → map (table_of s ns) ts ≡ map (table_of r ms) us → is_there (map (table_of s ns) ts) q ≡ true → table_granted s n p q ≡ table_granted r n p q
   same_right [] us e h = absurd (true≢false (sym h))
   same_right (t ∷ ts) [] e h = absurd (cc)
   same_right (t ∷ ts) (u ∷ us) e h = go (same_right ts us (same_rest (table_of s ns t) (table_of r ms u) (map (table_of s ns) ts) (map (table_of r ms) us) e)) (bytes_eq t.name q) refl h
@@ -76,7 +76,7 @@ module _ (s r : State) (ns ms : List (List ℕ)) (q n : List ℕ) (p : TablePerm
       go rest false is h = rest h
 
 -- ---- two cores
-module _ (h k : Held) (image : Image) (core : IsCore h) (other : IsCore k) (of : IsImageOf h image) (also : IsImageOf k image) where
+module _ (h k : CoreContents) (image : Image) (core : IsCore h) (other : IsCore k) (of : IsImageOf h image) (also : IsImageOf k image) where
   one : image_with h of.names ≡ image_with k also.names
   one = sym of.says ∙ also.says
 

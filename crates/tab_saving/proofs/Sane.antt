@@ -25,7 +25,7 @@ use Rattle.tab_history.specs.declared.event.TimeMode.TheVariants.{Server}
 use Rattle.tab_store.specs.ByRow.{records_of_all}
 use Rattle.tab_store.specs.Keeping.{AreSound, settings_in}
 use Rattle.tab_store.specs.Limits.{IsWellFormed, AreLimited}
-use Rattle.tab_store.specs.Stores.{HeldTable, Held, RiseByName}
+use Rattle.tab_store.specs.Stores.{TableContents, CoreContents, RiseByName}
 use Rattle.tab_store.proofs.Reading.{bases_read}
 use Rattle.tab_tablets.proofs.Restored.{ends_of_rise}
 use Rattle.tab_core.specs.Bounded.{IsBareRecord}
@@ -69,11 +69,11 @@ other_name a b lt = go (bytes_eq a b) refl
     go false e = refl
     go true e = absurd (not_below_itself a (subst (λ c. bytes_cmp a c ≡ Less) (sym ((bytes_eq-Decides a b).0 e)) lt))
 
-abbrev found : List ℕ → List HeldTable → Option HeldTable
-found q ts = find (λ (t : HeldTable). bytes_eq t.name q) ts
+abbrev found : List ℕ → List TableContents → Option TableContents
+found q ts = find (λ (t : TableContents). bytes_eq t.name q) ts
 
 -- a table that is found among those of greater names has another name
-found_other : (n q : List ℕ) (u : HeldTable) (ts : List HeldTable) → AllByRecursion (λ m. bytes_cmp n m ≡ Less) (map (λ (t : HeldTable). t.name) ts) → found q ts ≡ Some u → bytes_eq n q ≡ false
+found_other : (n q : List ℕ) (u : TableContents) (ts : List TableContents) → AllByRecursion (λ m. bytes_cmp n m ≡ Less) (map (λ (t : TableContents). t.name) ts) → found q ts ≡ Some u → bytes_eq n q ≡ false
 found_other n q u [] a e = absurd (cc)
 found_other n q u (t ∷ ts) a e = go (found_other n q u ts a.1) (bytes_eq t.name q) refl e
   where
@@ -82,7 +82,7 @@ found_other n q u (t ∷ ts) a e = go (found_other n q u ts a.1) (bytes_eq t.nam
     go rest false is e = rest e
 
 -- what holds of each table that is found holds of all
-pub all_found : (P : HeldTable → Type 0) (ts : List HeldTable) → RiseByName ts → ((q : List ℕ) (t : HeldTable) → found q ts ≡ Some t → P t) → AllByRecursion P ts
+pub all_found : (P : TableContents → Type 0) (ts : List TableContents) → RiseByName ts → ((q : List ℕ) (t : TableContents) → found q ts ≡ Some t → P t) → AllByRecursion P ts
 unfolding IsStrictlySortedBy
 all_found P [] r f = tt
 all_found P (t ∷ ts) r f = (
@@ -128,7 +128,7 @@ module _ (s : State) where
       later : (n : List ℕ) → has xs n ≡ true → has (x ∷ xs) n ≡ true
       later n h = ap (λ v. bytes_eq n x || v) h ∙ either (bytes_eq n x)
 
-tables_named : (s : State) (ns : List (List ℕ)) (ts : List HeldTable) → map (λ (t : ImageTable). t.head.name) (map (table_of s ns) ts) ≡ map (λ (t : HeldTable). t.name) ts
+tables_named : (s : State) (ns : List (List ℕ)) (ts : List TableContents) → map (λ (t : ImageTable). t.head.name) (map (table_of s ns) ts) ≡ map (λ (t : TableContents). t.name) ts
 tables_named s ns [] = refl
 tables_named s ns (t ∷ ts) = ap (λ xs. t.name ∷ xs) (tables_named s ns ts)
 
@@ -141,7 +141,7 @@ root_alone n granted e g = go (bytes_eq n root) refl
     go false is = absurd (true≢false (sym (ap (λ v. v || granted) is ∙ g) ∙ e ∙ is))
 
 -- ---- a core
-module _ (h : Held) (names : List (List ℕ)) (users : AreUsers h.policy names) (core : IsCore h) where
+module _ (h : CoreContents) (names : List (List ℕ)) (users : AreUsers h.policy names) (core : IsCore h) where
   abbrev us : List ImageUser
   us = map (user_of h.policy) names
 
@@ -158,7 +158,7 @@ module _ (h : Held) (names : List (List ℕ)) (users : AreUsers h.policy names) 
   sane_record : (next : ℕ) (u : Record) → IsWellFormed u → IsBareRecord u → u.seq < next → IsSaneRecord next u
   sane_record next u well bare lt = record { short = well.short; seq = lt; idx = well.place; marker = bare; label = well.label }
 
-  sane_table : (t : HeldTable) (n : ℕ) (floor : ℤ) → AreSound t.tablets h.next n floor → AreLimited t.tablets → (t.settings.time ≡ Server → t.settings.horizon ≡ least) → ((u : Record) → Contains (records_of_all t.tablets) u → IsBareRecord u) → IsSaneTable us h.next (table_of h.policy names t)
+  sane_table : (t : TableContents) (n : ℕ) (floor : ℤ) → AreSound t.tablets h.next n floor → AreLimited t.tablets → (t.settings.time ≡ Server → t.settings.horizon ≡ least) → ((u : Record) → Contains (records_of_all t.tablets) u → IsBareRecord u) → IsSaneTable us h.next (table_of h.policy names t)
   sane_table t n floor sound limits server bare = record {
     rights = rights_rise h.policy t.name names users.rising;
     known = of_map (λ m. has_user us m ≡ true) (λ (r : ImageRight). r.user) (rights_of h.policy names t.name) (all_users h.policy t.name (λ m. has_user us m ≡ true) names (all_known h.policy names names (λ m h. h)));
@@ -187,5 +187,5 @@ module _ (h : Held) (names : List (List ℕ)) (users : AreUsers h.policy names) 
   }
 
 -- the image of a core is sane
-pub images_are_sane : (h : Held) (image : Image) → IsCore h → IsImageOf h image → IsSane image
+pub images_are_sane : (h : CoreContents) (image : Image) → IsCore h → IsImageOf h image → IsSane image
 images_are_sane h image core of = subst IsSane (sym of.says) (sane_with h of.names of.users core)

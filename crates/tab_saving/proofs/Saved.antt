@@ -11,7 +11,7 @@ use Rattle.tab_tablets.proofs.EndRows.{ends_count}
 use Rattle.tab_store.specs.ByRow.{ends_of}
 use Rattle.tab_store.specs.Keeping.{AreSound}
 use Rattle.tab_store.specs.Limits.{AreLimited}
-use Rattle.tab_store.specs.Stores.{HeldTable, Held}
+use Rattle.tab_store.specs.Stores.{TableContents, CoreContents}
 use Rattle.tab_store.specs.Tablets.{Tablet}
 use Rattle.tab_store.proofs.Apart.{sound_tablets_lie_apart}
 use Rattle.tab_core.specs.Stepping.{IsCore}
@@ -36,7 +36,7 @@ tablets_listed ts next n floor sound limits =
     let few : length (ends_of ts) < 2 ^ 32 = limits.ends.few in
     record { apart = sound_tablets_lie_apart ts next n floor sound; few = omega (arith, count, few) }
 
-pub all_listed : (h : Held) → IsCore h → AllByRecursion (λ (t : HeldTable). AreListed t.tablets) h.tables
+pub all_listed : (h : CoreContents) → IsCore h → AllByRecursion (λ (t : TableContents). AreListed t.tablets) h.tables
 all_listed h core = all_found (λ t. AreListed t.tablets) h.tables core.store.names
     (λ q t e. tablets_listed t.tablets h.next t.settings.versions (floor_of t.settings.time h.clock t.settings.horizon) (core.store.tables q t e) (core.store.limits q t e))
 
@@ -48,17 +48,17 @@ cores_have_images h core own typed = record {
 }
 
 -- the image with this list of all users is the one of the core
-the_one : (h : Held) (names : List (List ℕ)) → AreUsers h.policy names → image_with h names ≡ core_image h
+the_one : (h : CoreContents) (names : List (List ℕ)) → AreUsers h.policy names → image_with h names ≡ core_image h
 the_one h names users = ap (image_with h) (names_are h.policy names users)
 
-has_image : (h : Held) (names : List (List ℕ)) → AreUsers h.policy names → IsImage written_version (image_bytes written_version (image_with h names)) (image_with h names) → HasImage h
+has_image : (h : CoreContents) (names : List (List ℕ)) → AreUsers h.policy names → IsImage written_version (image_bytes written_version (image_with h names)) (image_with h names) → HasImage h
 has_image h names users spelled = record {
   of = subst (IsImageOf h) (the_one h names users) (record { names = names; users = users; says = refl });
   spelled = subst (λ i. IsImage written_version (image_bytes written_version i) i) (the_one h names users) spelled;
 }
 
 module _ {W : Type 0} (g : Ghosts W) where
-  pub saves_image : (old new : W) (h : Held) (names : List (List ℕ)) (r : Result (Unit {0}) SaveFault) → AreUsers h.policy names
+  pub saves_image : (old new : W) (h : CoreContents) (names : List (List ℕ)) (r : Result (Unit {0}) SaveFault) → AreUsers h.policy names
       → OnOk r (IsImage written_version (image_bytes written_version (image_with h names)) (image_with h names)) → Saves g old new (image_bytes written_version (image_with h names)) r → SavesImage g old new h r
   saves_image old new h names r users spelled s = record {
     put = subst (λ i. Saves g old new (image_bytes written_version i) r) (the_one h names users) s;
@@ -66,16 +66,16 @@ module _ {W : Type 0} (g : Ghosts W) where
   }
 
   -- memory lacked before anything was put
-  pub lacks_image : (a : W) (h : Held) (r : Result (Unit {0}) SaveFault) → IsErr r × IsErrAnd r (λ e. e ≡ fault.NoMemory) → SavesImage g a a h r
+  pub lacks_image : (a : W) (h : CoreContents) (r : Result (Unit {0}) SaveFault) → IsErr r × IsErrAnd r (λ e. e ≡ fault.NoMemory) → SavesImage g a a h r
   lacks_image a h (Ok u) lacks = absurd lacks.1
   lacks_image a h (Err e) lacks = record { put = lacks_first g a (core_bytes h) (Err e) lacks; image = tt }
 
 -- ---- what is written of it
 -- the users, the tables and the mark of the end
-abbrev pub held_bytes : Held → List (List ℕ) → List ℕ
+abbrev pub held_bytes : CoreContents → List (List ℕ) → List ℕ
 held_bytes h names = list_bytes (λ n. user_bytes (user_of h.policy n)) names ++ (list_bytes (λ t. table_bytes written_version (table_of h.policy names t)) h.tables ++ end_bytes)
 
-pub image_written : (h : Held) (names : List (List ℕ)) → front_bytes written_version h.clock h.next ++ held_bytes h names ≡ image_bytes written_version (image_with h names)
+pub image_written : (h : CoreContents) (names : List (List ℕ)) → front_bytes written_version h.clock h.next ++ held_bytes h names ≡ image_bytes written_version (image_with h names)
 unfolding image_bytes
 image_written h names = λ i. front_bytes written_version h.clock h.next ++ (sym (list_of_map user_bytes (user_of h.policy) names) i ++ (sym (list_of_map (table_bytes written_version) (table_of h.policy names) h.tables) i ++ end_bytes))
 

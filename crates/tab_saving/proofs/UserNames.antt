@@ -10,7 +10,7 @@ use Rattle.tab_label.proofs.SetLemmas.{rising_set, has_set_of}
 use Rattle.tab_policy.specs.Holders.{AreUsers}
 use Rattle.tab_policy.specs.State.{State, user_exists}
 use Rattle.tab_policy.proofs.NameLemmas.{same_name}
-use Rattle.tab_store.specs.Stores.{Held}
+use Rattle.tab_store.specs.Stores.{CoreContents}
 use Rattle.tab_saving.specs.ImageOf.{user_names, HaveOwnNames, image_with, core_image, IsImageOf}
 use Rattle.tab_saving.specs.OneImage.{ImagesAreThis}
 use Rattle.tab_saving.proofs.OneList.{same_names}
@@ -37,7 +37,7 @@ pub own_names : (s : State) → HaveOwnNames s → AreUsers s (user_names s)
 own_names s own = record { rising = names_rise s; all = named s; count = own }
 
 -- ---- the image
-pub own_image : (h : Held) → HaveOwnNames h.policy → IsImageOf h (core_image h)
+pub own_image : (h : CoreContents) → HaveOwnNames h.policy → IsImageOf h (core_image h)
 own_image h own = record { names = user_names h.policy; users = own_names h.policy own; says = refl }
 
 pub images_are_this : ImagesAreThis

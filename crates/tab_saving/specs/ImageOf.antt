@@ -1,4 +1,4 @@
--- Which image is the image of what a core holds.
+-- To be believed by whoever relies on it. Which image is the image of what a core holds.
 use Rattle.std.specs.Prelude.{ℕ, ◌≡◌, List, filter, length, map}
 use Rattle.std.specs.Map.{keys_of}
 use Rattle.tab_key.specs.Sorted.{sorted}
@@ -15,7 +15,7 @@ use Rattle.tab_image.specs.declared.table.ImageTable.{ImageTable}
 use Rattle.tab_image.specs.declared.table.TableHead.{TableHead}
 use Rattle.tab_image.specs.declared.user.ImageUser.{ImageUser}
 use Rattle.tab_store.specs.ByRow.{records_of_all, ends_of}
-use Rattle.tab_store.specs.Stores.{HeldTable, Held}
+use Rattle.tab_store.specs.Stores.{TableContents, CoreContents}
 
 -- ---- users
 -- the system permissions that were granted to the user and not revoked since
@@ -55,7 +55,7 @@ rights_of s names t = filter (λ (r : ImageRight). has_any r.held) (map (right_o
 
 -- ---- tables
 -- its name, its settings, the rights of these users on it, and its end rows
-abbrev pub head_of : State → List (List ℕ) → HeldTable → TableHead
+abbrev pub head_of : State → List (List ℕ) → TableContents → TableHead
 head_of s names t = record {
   name = t.name;
   time = t.settings.time;
@@ -67,12 +67,12 @@ head_of s names t = record {
 }
 
 -- with all records of its tablets, in their order
-abbrev pub table_of : State → List (List ℕ) → HeldTable → ImageTable
+abbrev pub table_of : State → List (List ℕ) → TableContents → ImageTable
 table_of s names t = record { head = head_of s names t; records = sorted (records_of_all t.tablets) }
 
 -- ---- the whole
 -- all that a core with these users holds
-abbrev pub image_with : Held → List (List ℕ) → Image
+abbrev pub image_with : CoreContents → List (List ℕ) → Image
 image_with h names = record { clock = h.clock; next = h.next; users = map (user_of h.policy) names; tables = map (table_of h.policy names) h.tables }
 
 -- the names of all users, as a set
@@ -84,11 +84,11 @@ abbrev pub HaveOwnNames : State → Type 0
 HaveOwnNames s = length (user_names s) ≡ user_count s
 
 -- all that a core with its users holds
-abbrev pub core_image : Held → Image
+abbrev pub core_image : CoreContents → Image
 core_image h = image_with h (user_names h.policy)
 
 -- the image says all that the core holds: its users are all that there are, by name
-pub record IsImageOf (h : Held) (image : Image) : Type 0 where
+pub record IsImageOf (h : CoreContents) (image : Image) : Type 0 where
   pub names : List (List ℕ)
   pub users : AreUsers h.policy names
   pub says : image ≡ image_with h names

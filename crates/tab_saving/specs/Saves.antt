@@ -1,4 +1,4 @@
--- What writing parts of an image does, where memory may lack.
+-- To be believed by whoever relies on it. What writing parts of an image does, where memory may lack.
 use Rattle.std.specs.Prelude.{ℕ, ◌≡◌, ◌<◌, ◌^◌, List, length, Result, Ok, Err, true}
 use Rattle.tab_io.specs.Streams.{GathersPart}
 use Rattle.tab_io.specs.Writing.{HasPut, HasPutPart}

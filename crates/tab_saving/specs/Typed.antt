@@ -1,4 +1,4 @@
--- What the types of a core's parts say of them, and what is counted as they are written: what an image asks for beyond what a core keeps.
+-- For proofs. What the types of a core's parts say of them, and what is counted as they are written: what an image asks for beyond what a core keeps.
 use Rattle.std.specs.Prelude.{ℕ, ◌≡◌, ◌<◌, ◌^◌, List, length, true, FitsSigned}
 use Rattle.std.specs.Int.{w64, cast_unsigned}
 use Rattle.std.specs.List.{AllByRecursion}
@@ -11,7 +11,7 @@ use Rattle.tab_policy.specs.State.{State, auths_of}
 use Rattle.tab_rules.specs.Constraints.{constraint_set_of}
 use Rattle.tab_history.specs.Settings.{Settings, is_version_count}
 use Rattle.tab_store.specs.ByRow.{records_of_all}
-use Rattle.tab_store.specs.Stores.{HeldTable, Held}
+use Rattle.tab_store.specs.Stores.{TableContents, CoreContents}
 use Rattle.tab_saving.specs.ImageOf.{user_names}
 
 -- a user's name is one, and his authorizations are a set
@@ -36,18 +36,18 @@ pub record AreTypedRecords (us : List Record) : Type 0 where
   pub numbers : AllByRecursion IsTypedRecord us
   pub few : length us < 2 ^ 64
 
-pub record IsTypedTable (t : HeldTable) : Type 0 where
+pub record IsTypedTable (t : TableContents) : Type 0 where
   pub head : IsTypedHead t.name t.settings
   pub records : AreTypedRecords (sorted (records_of_all t.tablets))
 
 -- the clock and the next number of a core are of their widths
-pub record AreTypedClocks (h : Held) : Type 0 where
+pub record AreTypedClocks (h : CoreContents) : Type 0 where
   pub clock : FitsSigned w64 h.clock
   pub clock_bits : cast_unsigned w64 h.clock < 2 ^ 64
   pub next : h.next < 2 ^ 64
 
 -- a core's clocks, users and tables are of their types, and no table has too many records
-pub record IsTyped (h : Held) : Type 0 where
+pub record IsTyped (h : CoreContents) : Type 0 where
   pub clocks : AreTypedClocks h
   pub users : AllByRecursion (IsTypedUser h.policy) (user_names h.policy)
   pub tables : AllByRecursion IsTypedTable h.tables

@@ -3,7 +3,7 @@ use Rattle.std.proofs.Common.{◌≡◌, ◌⊎◌, inl, inr, ℕ, ℤ, pos, Boo
 use mathlib.Core.Bool.{true≢false}
 use Rattle.tab_key.specs.Records.{Cell}
 use Rattle.tab_key.specs.declared.range.Bounds.{Bounds}
-use Rattle.tab_key.specs.declared.part.Part.TheVariants.{Sessions}
+use Rattle.tab_key.specs.declared.limited_part.LimitedPart.TheVariants.{Sessions}
 use Rattle.tab_history.specs.declared.event.Act.{Act}
 use Rattle.tab_history.specs.declared.event.Event.{Event}
 use Rattle.tab_history.specs.declared.event.Step.{Step}
@@ -21,7 +21,7 @@ use Rattle.tab_history.specs.Runs.{IsNoEvent}
 use Rattle.tab_history.proofs.GoOn.{list_same}
 use Rattle.tab_core.specs.SessionState.{SessionState}
 use Rattle.tab_core.specs.OpenSession.{OpenSession}
-use Rattle.tab_core.specs.Stores.{Held, base_of}
+use Rattle.tab_core.specs.Stores.{CoreContents, base_of}
 use Rattle.tab_core.specs.Parts.{TabletMerge}
 use Rattle.tab_core.specs.Chains.{ServedGoes}
 use Rattle.tab_core.specs.Stepping.{StepsExactly, Steps, StepsWith}
@@ -70,7 +70,7 @@ shut_slots moves e (Opened s) all ss shut are = subst (λ (b : Bool). SlotsAre (
 shut_slots moves e _ all ss shut are = are
 
 -- an Open that the core answered, and the list that its session has
-kept_slots : (moves : List Move) (old new : Held) (e : Event) (r : Reply OpenSession TabletMerge) (ss : List (Option SessionState)) → is_open e.act ≡ true → Steps (base_of old) e r (base_of new) → SlotsAre moves ss
+kept_slots : (moves : List Move) (old new : CoreContents) (e : Event) (r : Reply OpenSession TabletMerge) (ss : List (Option SessionState)) → is_open e.act ≡ true → Steps (base_of old) e r (base_of new) → SlotsAre moves ss
     → SlotsAre (moves_told (step.Event e) (told_of r) (session_list (base_of old) [] e.act) ++ moves) (kept_with ss (session_of r))
 kept_slots moves old new e (Opened s) ss opens steps are =
     let all : List Cell = session_list (base_of old) [] e.act in
@@ -101,7 +101,7 @@ is_right w h x e r one all fits moment e' r' ms es =
     (subst (λ (t : Told). IsAnswer w h h (step.Event e) t ⊎ LacksMemory (step.Event e) t) also fits, all)
 
 -- an event that names no slot of a job is an exact step
-exactly : (old new : Held) (e : Event) (r : Reply OpenSession TabletMerge) → NamesNoSlot e.act → StepsWith old None e r new → StepsExactly old None e (told_of r) (job_of r) new
+exactly : (old new : CoreContents) (e : Event) (r : Reply OpenSession TabletMerge) → NamesNoSlot e.act → StepsWith old None e r new → StepsExactly old None e (told_of r) (job_of r) new
 exactly old new e r names (inl did) = did.1
 exactly old new e r names (inr (slot, by, told, same)) = let never : ⊥ = subst NamesNoSlot by.1 names in absurd never
 

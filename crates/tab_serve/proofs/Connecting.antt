@@ -9,7 +9,7 @@ use Rattle.tab_history.specs.Legal.{Legal}
 use Rattle.tab_history.specs.Refinement.{Refines}
 use Rattle.tab_history.specs.Chains.{IsChain}
 use Rattle.tab_core.specs.SessionState.{SessionState}
-use Rattle.tab_core.specs.Stores.{Held, base_of}
+use Rattle.tab_core.specs.Stores.{CoreContents, base_of}
 use Rattle.tab_core.specs.Chains.{ServedGoes}
 use Rattle.tab_core.specs.Slots.{SlotsAre}
 use Rattle.tab_core.proofs.SlotLemmas.{slots_none}
@@ -36,8 +36,8 @@ use Rattle.tab_serve.specs.Serving.{Gave, ServesPieces, ServesAll}
 use Rattle.tab_serve.proofs.Carrying.{Comes, quiet, request_comes}
 
 -- ---- a chain of exact steps goes on with each history that its first core refined
-chain_further : (w : World) (h : List Entry) (first last : Held) (es : List Entry) → IsChain ServedGoes first es last → Refines (world_of (base_of first)) (world_after w h) → Refines (world_of (base_of last)) (world_after w (es ++ h))
-chain_further w h first last [] same refines = subst (λ (c : Held). Refines (world_of (base_of c)) (world_after w h)) same refines
+chain_further : (w : World) (h : List Entry) (first last : CoreContents) (es : List Entry) → IsChain ServedGoes first es last → Refines (world_of (base_of first)) (world_after w h) → Refines (world_of (base_of last)) (world_after w (es ++ h))
+chain_further w h first last [] same refines = subst (λ (c : CoreContents). Refines (world_of (base_of c)) (world_after w h)) same refines
 chain_further w h first last (e ∷ es) chain refines = served_refines w (es ++ h) chain.0 last e chain.2 (chain_further w h first chain.0 es chain.1 refines)
 
 -- ---- moments, one after another
@@ -143,12 +143,12 @@ module _ {S M : Type 0} (s : Ghosts S) (gives : M → ℤ → M → Type 0) (vie
       all = carried pieces (first_side old) (record { user = user; service = new }) new_talk text refl (subst (λ (ss : List (Option SessionState)). SlotsAre [] ss) (sym none) slots_none) turns
 
   -- ---- with the core and the moments as they are once nothing is lent any more
-  module _ {R W : Type 0} (i : InputGhosts R) (o : OutputGhosts W) (old new : S) (input input' : R) (output output' : W) (core : Held) (moments : M) (none : (view old).slots ≡ []) (back : Lent old new → (core ≡ (view new).core) × (moments ≡ (view new).moments)) where
+  module _ {R W : Type 0} (i : InputGhosts R) (o : OutputGhosts W) (old new : S) (input input' : R) (output output' : W) (core : CoreContents) (moments : M) (none : (view old).slots ≡ []) (back : Lent old new → (core ≡ (view new).core) × (moments ≡ (view new).moments)) where
     given_back : (user : Option (List ℕ)) (pieces : List Piece) (text : List ℕ) → Turns s (first_side old) pieces text (record { user = user; service = new }) → ServesPieces gives (view old).core (view old).moments pieces text core moments
     given_back user pieces text turns =
         let served = serves_pieces old new user pieces text none turns in
         let ends = back served.1 in
-        subst (λ (c : Held). ServesPieces gives (view old).core (view old).moments pieces text c moments) (sym ends.0) (subst (λ (m : M). ServesPieces gives (view old).core (view old).moments pieces text (view new).core m) (sym ends.1) served.0)
+        subst (λ (c : CoreContents). ServesPieces gives (view old).core (view old).moments pieces text c moments) (sym ends.0) (subst (λ (m : M). ServesPieces gives (view old).core (view old).moments pieces text (view new).core m) (sym ends.1) served.0)
 
     all_served : (user : Option (List ℕ)) (ahead : Option (List ℕ)) (Holds : List ℕ → Type 0) → AnswersAll s (first_side old) ahead (record { user = user; service = new }) Holds
         → IfSome ahead (λ bytes. (text : List ℕ) × ServesPieces gives (view old).core (view old).moments (pieces_of bytes) text core moments × Holds text)

@@ -1,4 +1,4 @@
--- A core that answers the requests of one connection: what it is seen to hold, and what one request does.
+-- For proofs. A core that answers the requests of one connection: what it is seen to hold, and what one request does.
 use Rattle.std.specs.Prelude.{ℕ, ℤ, ◌≡◌, List}
 use Rattle.tab_history.specs.Answers.{Told}
 use Rattle.tab_wire.specs.declared.request.Request.{Request}

@@ -1,4 +1,4 @@
--- Moments out of a list.
+-- To be believed by whoever relies on it. Moments out of a list.
 use Rattle.std.specs.Prelude.{ℤ, pos, ◌≡◌, ◌+◌, nat_lt, length, slice_get, unwrap_or, if◌then◌else◌}
 use Rattle.tab_serve.specs.declared.listed.Listed.{Listed}
 

@@ -1,4 +1,4 @@
--- How far a connection has come with its stream, and what was put of the replies.
+-- To be believed by whoever relies on it. How far a connection has come with its stream, and what was put of the replies.
 use Rattle.std.specs.Prelude.{ℕ, ◌≡◌, ◌<◌, ◌⊎◌, nat_le, nat_lt, List, [], ◌++◌, length, take, drop, Bool, true, false, Option, Some, None, IfSome, Result, Ok, Err, if◌then◌else◌}
 use Rattle.std.specs.Int.{w32, from_be_bytes}
 use Rattle.tab_io.specs.declared.reading.Input.{Ghosts as InputGhosts}

@@ -1,6 +1,6 @@
--- One request of a connection over a core: what it is told, and what it leaves.
+-- To be believed by whoever relies on it. One request of a connection over a core: what it is told, and what it leaves.
 use Rattle.std.specs.Prelude.{ℕ, ℤ, ◌≡◌, ◌⊎◌, true, false, List, Option, None}
-use Rattle.tab_key.specs.declared.part.Part.TheVariants.{Sessions}
+use Rattle.tab_key.specs.declared.limited_part.LimitedPart.TheVariants.{Sessions}
 use Rattle.tab_history.specs.declared.event.Act.{Act}
 use Rattle.tab_history.specs.declared.event.Event.{Event}
 use Rattle.tab_history.specs.declared.reply.Refusal.TheVariants.{TooLarge}
@@ -9,7 +9,7 @@ use Rattle.tab_history.specs.declared.reply.Reply.TheVariants.{Done, Refused}
 use Rattle.tab_history.specs.Answers.{Told, told_of, is_open}
 use Rattle.tab_core.specs.SessionState.{SessionState}
 use Rattle.tab_core.specs.OpenSession.{OpenSession}
-use Rattle.tab_core.specs.Stores.{Held, base_of}
+use Rattle.tab_core.specs.Stores.{CoreContents, base_of}
 use Rattle.tab_core.specs.Parts.{TabletMerge}
 use Rattle.tab_core.specs.Stepping.{Steps, StepsWith}
 use Rattle.tab_core.specs.Slots.{are_full, NextFrom, ManyFrom, CloseFrom}
@@ -19,7 +19,7 @@ use Rattle.tab_wire.specs.declared.request.Request.TheVariants as asks
 
 -- a core, the sessions of the connection by their numbers, and where moments come from
 pub record Served (M : Type 0) : Type 0 where
-  pub core : Held
+  pub core : CoreContents
   pub slots : List (Option SessionState)
   pub moments : M
 

@@ -1,4 +1,4 @@
--- Whole connections over a core: what becomes of the core, of the moments, and of what is read and written.
+-- To be believed by whoever relies on it. Whole connections over a core: what becomes of the core, of the moments, and of what is read and written.
 use Rattle.std.specs.Prelude.{ℕ, ℤ, ◌≡◌, List, [], ◌∷◌, ◌++◌, IfSome, Result, Ok, Err}
 use Rattle.tab_io.specs.declared.reading.Input.{Ghosts as InputGhosts}
 use Rattle.tab_io.specs.declared.writing.Output.{Ghosts as OutputGhosts}
@@ -6,7 +6,7 @@ use Rattle.tab_history.specs.Histories.{Entry, World, world_of, world_after}
 use Rattle.tab_history.specs.Legal.{Legal}
 use Rattle.tab_history.specs.Refinement.{Refines}
 use Rattle.tab_history.specs.Chains.{IsChain}
-use Rattle.tab_core.specs.Stores.{Held, base_of}
+use Rattle.tab_core.specs.Stores.{CoreContents, base_of}
 use Rattle.tab_core.specs.Chains.{ServedGoes}
 use Rattle.tab_wire.specs.Stream.{Piece, pieces_of, AtFront}
 use Rattle.tab_wire.specs.Talking.{Talk, new_talk, Exchange, Talks, entries_of, moments_of, replied}
@@ -23,13 +23,13 @@ Gave {M} gives old (moment ∷ moments) new = (mid : M) × gives old moment mid 
 
 -- ---- what some pieces of a stream came to
 -- From this world on the entries are a legal history. The core left refines what they leave, and the sessions of the connection are those of its user.
-pub record IsHistoryFrom (w : World) (es : List Entry) (new : Held) (last : Talk) : Type 0 where
+pub record IsHistoryFrom (w : World) (es : List Entry) (new : CoreContents) (last : Talk) : Type 0 where
   pub legal : Legal w es
   pub refines : Refines (world_of (base_of new)) (world_after w es)
   pub sessions : KnowsSessions w es last
 
 -- These pieces were answered, and their replies are this text.
-pub record ServesPieces {M : Type 0} (gives : M → ℤ → M → Type 0) (old : Held) (m : M) (pieces : List Piece) (text : List ℕ) (new : Held) (m' : M) : Type 0 where
+pub record ServesPieces {M : Type 0} (gives : M → ℤ → M → Type 0) (old : CoreContents) (m : M) (pieces : List Piece) (text : List ℕ) (new : CoreContents) (m' : M) : Type 0 where
   -- what each of them asked, which step that was, and what was told; a connection begins without a user and without sessions
   pub exchanges : List Exchange
   pub last : Talk
@@ -46,7 +46,7 @@ pub record ServesPieces {M : Type 0} (gives : M → ℤ → M → Type 0) (old :
 -- All pieces of the stream were answered, and all replies written, with nothing held. Where reading failed, all pieces in front of what is left
 -- were answered, but for a part of one that is dropped, and all their replies are written, with nothing held. Where writing failed, the first
 -- pieces were, and a beginning of their replies is written.
-abbrev pub ServesAll : {R W M : Type 0} → InputGhosts R → OutputGhosts W → (M → ℤ → M → Type 0) → Held → M → R → W → Held → M → R → W → Result (Unit {0}) ServeFault → Type 0
+abbrev pub ServesAll : {R W M : Type 0} → InputGhosts R → OutputGhosts W → (M → ℤ → M → Type 0) → CoreContents → M → R → W → CoreContents → M → R → W → Result (Unit {0}) ServeFault → Type 0
 ServesAll i o gives old m input output new m' input' output' (Ok u) =
     IfSome (i.remaining input) (λ bytes. (text : List ℕ) × ServesPieces gives old m (pieces_of bytes) text new m' × IsWritten o output output' text) × (o.held output' ≡ [])
 ServesAll i o gives old m input output new m' input' output' (Err Read) =

@@ -1,4 +1,4 @@
--- A connection whose requests a service answers: what comes of the pieces of its stream.
+-- For proofs. A connection whose requests a service answers: what comes of the pieces of its stream.
 use Rattle.std.specs.Prelude.{ℕ, ◌≡◌, List, [], ◌∷◌, ◌++◌, Option, is_some}
 use Rattle.tab_history.specs.Answers.{Told}
 use Rattle.tab_history.specs.declared.reply.Refusal.TheVariants.{NoMemory}

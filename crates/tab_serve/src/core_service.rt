@@ -9,7 +9,7 @@ use std::alloc::Global;
 use std::mem;
 use tab_core::{Core, Slots, told};
 use tab_history::{Act, Refusal, Reply, Scan};
-use tab_key::{Name, Part};
+use tab_key::{LimitedPart, Name};
 use tab_wire::Request;
 
 // A core, the sessions that it opened for the connection, and where its moments come from. All of it is lent.
@@ -77,7 +77,7 @@ impl<'a, M: Moments> CoreService<'a, M> {
         ensures { CoreAnswers M.gives self.old user.now (Request.Act (Act.Open scan.old)) result self.new }
     {
         if self.slots.are_full() {
-            Reply::Refused(Refusal::TooLarge(Part::Sessions))
+            Reply::Refused(Refusal::TooLarge(LimitedPart::Sessions))
         } else {
             self.open_next(user, scan)
         }

@@ -11,7 +11,7 @@
 //! | `connections` | all connections, which can be ended at once |
 //! | `tally`, `counters`, `refused`, `watch` | what is counted of connections as they are served |
 //! | `connection`, `figures`, `reporting` | a connection in a line, what a server tells of itself, and who reports it |
-//! | `accepting`, `crew`, `workers`, `server` | who accepts, who is at work, the threads, and how a server begins and ends |
+//! | `accepting`, `threads`, `workers`, `server` | who accepts, who is at work, the threads, and how a server begins and ends |
 #![tactic(auto)]
 
 mod accepting;
@@ -19,7 +19,6 @@ mod clock;
 mod connection;
 mod connections;
 mod counters;
-mod crew;
 mod crowded;
 mod figures;
 mod history;
@@ -36,6 +35,7 @@ mod server;
 mod settled;
 mod store;
 mod tally;
+mod threads;
 mod watch;
 mod workers;
 

@@ -2,8 +2,8 @@
 ghost use Rattle.std.specs.Prelude.{◌≡◌, ◌^◌, ◌≤◌};
 
 use crate::connections::Connections;
-use crate::crew::crew_of;
 use crate::log::Log;
+use crate::threads::threads_of;
 use crate::workers::serve_all;
 use crate::{History, Store};
 use std::alloc::{AllocError, Global};
@@ -115,14 +115,14 @@ fn serve_book<
         return Err(ServerFault::NoMemory);
     };
     let shared = Shared::recorded(book);
-    let crew = crew_of(rt, alloc, &shared, options)?;
+    let threads = threads_of(rt, alloc, &shared, options)?;
     let connections = Connections::new(alloc, listener, options.workers)?;
     let log = Log::new(alloc, &shared, store, &connections, clock);
     let seats = serve_all(
         rt,
         alloc,
         &shared,
-        crew,
+        threads,
         listener,
         options,
         history,

@@ -5,7 +5,6 @@ use crate::clock::WallClock;
 use crate::connection::Peer;
 use crate::connections::Connections;
 use crate::counters::Counters;
-use crate::crew::{Crew, Member, Role};
 use crate::idle::Idler;
 use crate::inbox::{Inbox, Woken};
 use crate::keeper::keep_images;
@@ -13,6 +12,7 @@ use crate::log::Log;
 use crate::recorder::Recorder;
 use crate::settled::{Marking, Settled};
 use crate::tally::Tally;
+use crate::threads::{ServerThread, ServerThreads, ThreadRole};
 use crate::watch::Watch;
 use crate::{History, Options, ServerFault, Store};
 use crossbeam_channel::Receiver;
@@ -30,7 +30,7 @@ use tab_serve::ServeFault;
 use tab_socket::{Connection, End, Listener, Stream};
 use tab_work::{Claims, Compactor, Gate, Requests, Shared, serve_forgetting};
 
-/// Has a thread for each of the crew: the workers serve the connections that are accepted, the compactors compact beside them, and the recorder
+/// Runs all threads: the workers serve the connections that are accepted, the compactors compact beside them, and the recorder
 /// hands the history on. Gives the seats back.
 pub(crate) fn serve_all<
     'a,
@@ -43,7 +43,7 @@ pub(crate) fn serve_all<
     rt: &'a R,
     alloc: Global,
     shared: &'a Shared<L>,
-    crew: Crew<'a, L, R>,
+    threads: ServerThreads<'a, L, R>,
     listener: &'a N,
     options: Options,
     history: &'a H,
@@ -53,7 +53,7 @@ pub(crate) fn serve_all<
     let (to, from) = crossbeam_channel::bounded(alloc, options.workers as usize)?;
     let claims = Claims::new(alloc);
     let counters = Counters::new(alloc, options.workers)?;
-    let Crew { members, inbox } = crew;
+    let ServerThreads { members, inbox } = threads;
     let (from, inbox, claims, counters) = (&from, &inbox, &claims, &counters);
     let many = options.rotate_at.max(1);
     thread::scope(thread::scope_env(), rt, |scope| {
@@ -97,12 +97,12 @@ fn seats_of<L: Ledger>(
     Ok(seats)
 }
 
-// What one of the crew does, to its end.
+// What one of the threads does, to its end.
 fn work<L: Ledger, R: Threads + Wait + Clock + Sync, H: History, D: Store>(
     rt: &R,
     alloc: Global,
     shared: &Shared<L>,
-    member: Member<'_, L, R>,
+    member: ServerThread<'_, L, R>,
     from: &Receiver<Connection>,
     inbox: &Inbox,
     claims: &Claims,
@@ -112,21 +112,21 @@ fn work<L: Ledger, R: Threads + Wait + Clock + Sync, H: History, D: Store>(
     connections: &Connections,
     many: u64,
 ) -> Seat<L> {
-    let Member { role, seat, life } = member;
+    let ServerThread { role, seat, life } = member;
     let seat = match role {
-        Role::Worker(number, requests) => {
+        ThreadRole::Worker(number, requests) => {
             let tally = counters.take();
             let place = (connections, number);
             serve(
                 rt, alloc, shared, seat, from, requests, tally, history, log, place,
             )
         }
-        Role::Compactor => compact(rt, alloc, shared, seat, inbox, claims, counters),
-        Role::Keeper(others) => {
+        ThreadRole::Compactor => compact(rt, alloc, shared, seat, inbox, claims, counters),
+        ThreadRole::Keeper(others) => {
             keep_images(rt, log, &others);
             seat
         }
-        Role::Recorder(others) => {
+        ThreadRole::Recorder(others) => {
             record(
                 rt, alloc, shared, history, log, counters, seat, many, others,
             )

@@ -1,4 +1,4 @@
--- Where a session goes on.
+-- For proofs. Where a session goes on.
 use Rattle.std.specs.Prelude.{ℕ, ◌-◌, List, [], ◌∷◌, Option, Some, None, cond, length}
 use Rattle.tab_key.specs.Order.{stands_before}
 use Rattle.tab_key.specs.Records.{Record}

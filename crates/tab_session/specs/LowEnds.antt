@@ -1,4 +1,4 @@
--- Where the rows of a range begin.
+-- For proofs. Where the rows of a range begin.
 use Rattle.std.specs.Prelude.{List, [], ◌∷◌, ◌++◌}
 use Rattle.tab_key.specs.Records.{Record}
 use Rattle.tab_key.specs.declared.range.Bound.{Bound}

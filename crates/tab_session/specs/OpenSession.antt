@@ -1,4 +1,4 @@
--- An open session: how far it has come, and whether it is done.
+-- To be believed by whoever relies on it. An open session: how far it has come, and whether it is done.
 use Rattle.std.specs.Prelude.{ℕ, Bool, false, List, nat_lt, length}
 use Rattle.tab_key.specs.Records.{Cell}
 use Rattle.tab_cells.specs.SessionState.{SessionState, batch}

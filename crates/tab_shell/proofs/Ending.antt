@@ -10,7 +10,7 @@ use Rattle.tab_io.specs.declared.writing.Output.{Ghosts}
 use Rattle.tab_io.proofs.Putting.{put_more, put_part_more, all_written, part_written}
 use Rattle.tab_lines.specs.declared.file_line.FileLine.{FileLine}
 use Rattle.tab_lines.specs.declared.line.Line.{Line}
-use Rattle.tab_lines.specs.declared.line_error.LineError.{LineError}
+use Rattle.tab_text.specs.declared.parse_error.ParseError.{ParseError}
 use Rattle.tab_shell.specs.declared.pending.Pending.{Pending}
 use Rattle.tab_shell.specs.declared.script.Ended.TheVariants.{Input, File}
 use Rattle.tab_shell.specs.declared.script.ScriptFault.{ScriptFault}
@@ -80,7 +80,7 @@ module _ {W : Type 0} (g : Ghosts W) where
           (x.2, subst (λ (t : List ℕ). ScriptAnswersLines a (lines_of t) x.2 d) (sym all) x.6, x.5.0, all_written x.2 x.7 none)
 
   -- the last line lacks its line feed: all lines were answered with it
-  last_line : (a b d : ScriptState) (said : Result Line LineError) (r r1 : Option (List ℕ)) (p p1 : Pending) (o o1 : W) (H K : List ℕ → Type 0) → HasEnded g a r p o b r1 p1 o1 → ((gone : List ℕ) → Pends p1 gone → 0 < length gone)
+  last_line : (a b d : ScriptState) (said : Result Line ParseError) (r r1 : Option (List ℕ)) (p p1 : Pending) (o o1 : W) (H K : List ℕ → Type 0) → HasEnded g a r p o b r1 p1 o1 → ((gone : List ℕ) → Pends p1 gone → 0 < length gone)
       → ((gone : List ℕ) → Pends p1 gone → ReadsLine said (gone ++ [])) → (text : List ℕ) × ScriptAnswersLine b said text d × H text → ((t u : List ℕ) → HasPut g o o1 t → H u → K (t ++ u)) → (todo : List ℕ) → Ahead r p todo → AnswersAll a todo d r1 K
   last_line a b d said r r1 p p1 o o1 H K f some says prints join todo ahead =
       let x = f todo ahead in
@@ -95,7 +95,7 @@ module _ {W : Type 0} (g : Ghosts W) where
       )
 
   -- it is answered, and a flush leaves nothing held
-  pub ends_open : (a b d : ScriptState) (said : Result Line LineError) (r r1 : Option (List ℕ)) (p p1 : Pending) (o o1 o2 o3 : W)
+  pub ends_open : (a b d : ScriptState) (said : Result Line ParseError) (r r1 : Option (List ℕ)) (p p1 : Pending) (o o1 o2 o3 : W)
       → Pends p [] → HasEnded g a r p o b r1 p1 o1 → ((gone : List ℕ) → Pends p1 gone → 0 < length gone) → ((gone : List ℕ) → Pends p1 gone → ReadsLine said (gone ++ []))
       → (text : List ℕ) × ScriptAnswersLine b said text d × HasPut g o1 o2 text → HasPut g o2 o3 [] → g.held o3 ≡ [] → IfSome r (λ bytes. AnswersAll a bytes d r1 (IsWritten g o o3))
   ends_open a b d said r r1 p p1 o o1 o2 o3 fresh f some says prints flush none =
@@ -104,28 +104,28 @@ module _ {W : Type 0} (g : Ghosts W) where
       from_start r p (λ bytes. AnswersAll a bytes d r1 (IsWritten g o o3)) fresh (last_line a b d said r r1 p p1 o o1 (HasPut g o1 o2) (IsWritten g o o3) f some says prints joined)
 
   -- it is a file line, which is accepted
-  last_file : (a b d : ScriptState) (said : Result Line LineError) (file : FileLine) (r r1 : Option (List ℕ)) (p p1 : Pending) (o o1 : W) (H K : List ℕ → Type 0) → HasEnded g a r p o b r1 p1 o1
+  last_file : (a b d : ScriptState) (said : Result Line ParseError) (file : FileLine) (r r1 : Option (List ℕ)) (p p1 : Pending) (o o1 : W) (H K : List ℕ → Type 0) → HasEnded g a r p o b r1 p1 o1
       → ((gone : List ℕ) → Pends p1 gone → ReadsLine said (gone ++ [])) → IsAccepted b said file d → ((t : List ℕ) → HasPut g o o1 t → K t) → (todo : List ℕ) → Ahead r p todo → AnswersToFile a todo file d r1 K
   last_file a b d said file r r1 p p1 o o1 H K f says accepted holds todo ahead = (b, whole_as a b todo (AtEnd r1 p1) (BeginsWithFile file r1) (HasPut g o o1) K (f todo ahead) begins holds, accepted.1)
     where
       begins : (gone : List ℕ) → AtEnd r1 p1 gone → BeginsWithFile file r1 gone
       begins gone end =
           let spelled : ReadsLine said gone = subst (λ (l : List ℕ). ReadsLine said l) (append-nil gone) (says gone end.1) in
-          (gone, [], end.1.inside, subst (λ (s : Result Line LineError). ReadsLine s gone) accepted.0 spelled, end.0, inr (refl, refl))
+          (gone, [], end.1.inside, subst (λ (s : Result Line ParseError). ReadsLine s gone) accepted.0 spelled, end.0, inr (refl, refl))
 
   -- up to a file line, and nothing is held
   pub ends_at_file : (a d : ScriptState) (file : FileLine) (r r1 : Option (List ℕ)) (p : Pending) (o o1 : W) → Pends p [] → HasAccepted g a r p o file d r1 o1 → g.held o1 ≡ [] → IfSome r (λ bytes. AnswersToFile a bytes file d r1 (IsWritten g o o1))
   ends_at_file a d file r r1 p o o1 fresh f none =
       from_start r p (λ bytes. AnswersToFile a bytes file d r1 (IsWritten g o o1)) fresh (λ todo ahead. to_file a d file todo r1 (HasPut g o o1) (IsWritten g o o1) (f todo ahead) (λ t h. all_written t h none))
 
-  pub ends_in_file : (a b d : ScriptState) (said : Result Line LineError) (file : FileLine) (r r1 : Option (List ℕ)) (p p1 : Pending) (o o1 o2 : W) → Pends p [] → HasEnded g a r p o b r1 p1 o1 → ((gone : List ℕ) → Pends p1 gone → ReadsLine said (gone ++ []))
+  pub ends_in_file : (a b d : ScriptState) (said : Result Line ParseError) (file : FileLine) (r r1 : Option (List ℕ)) (p p1 : Pending) (o o1 o2 : W) → Pends p [] → HasEnded g a r p o b r1 p1 o1 → ((gone : List ℕ) → Pends p1 gone → ReadsLine said (gone ++ []))
       → IsAccepted b said file d → HasPut g o1 o2 [] → g.held o2 ≡ [] → IfSome r (λ bytes. AnswersToFile a bytes file d r1 (IsWritten g o o2))
   ends_in_file a b d said file r r1 p p1 o o1 o2 fresh f says accepted put none =
       let written : (t : List ℕ) → HasPut g o o1 t → IsWritten g o o2 t = λ t h. all_written t (subst (λ (u : List ℕ). HasPut g o o2 u) (append-nil t) (put_more h put)) none in
       from_start r p (λ bytes. AnswersToFile a bytes file d r1 (IsWritten g o o2)) fresh (last_file a b d said file r r1 p p1 o o1 (HasPut g o o1) (IsWritten g o o2) f says accepted written)
 
   -- it fails, or the flush after it
-  pub stops_open : (a b d : ScriptState) (said : Result Line LineError) (r r1 : Option (List ℕ)) (p p1 : Pending) (o o1 o2 : W)
+  pub stops_open : (a b d : ScriptState) (said : Result Line ParseError) (r r1 : Option (List ℕ)) (p p1 : Pending) (o o1 o2 : W)
       → Pends p [] → HasEnded g a r p o b r1 p1 o1 → ((gone : List ℕ) → Pends p1 gone → 0 < length gone) → ((gone : List ℕ) → Pends p1 gone → ReadsLine said (gone ++ []))
       → ((text : List ℕ) × ScriptAnswersLine b said text d × HasPutPart g o1 o2 text) ⊎ ((file : FileLine) × IsAccepted b said file d × HasPutPart g o1 o2 []) → IfSome r (Stops g a d r1 o o2)
   stops_open a b d said r r1 p p1 o o1 o2 fresh f some says (inl prints) =
@@ -137,7 +137,7 @@ module _ {W : Type 0} (g : Ghosts W) where
       from_start r p (Stops g a d r1 o o2) fresh (λ todo ahead. inr (inr (file, all todo ahead)))
 
   -- a flush that fails behind a text
-  pub flush_behind : (b d : ScriptState) (said : Result Line LineError) (o o1 o2 : W) → (text : List ℕ) × ScriptAnswersLine b said text d × HasPut g o o1 text → HasPutPart g o1 o2 [] → (text : List ℕ) × ScriptAnswersLine b said text d × HasPutPart g o o2 text
+  pub flush_behind : (b d : ScriptState) (said : Result Line ParseError) (o o1 o2 : W) → (text : List ℕ) × ScriptAnswersLine b said text d × HasPut g o o1 text → HasPutPart g o1 o2 [] → (text : List ℕ) × ScriptAnswersLine b said text d × HasPutPart g o o2 text
   flush_behind b d said o o1 o2 prints flush =
       (prints.0, prints.1, subst (λ (t : List ℕ). HasPutPart g o o2 t) (append-nil prints.0) (put_part_more prints.2 flush))
 

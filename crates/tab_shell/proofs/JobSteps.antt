@@ -9,7 +9,7 @@ use Rattle.tab_history.specs.Jobs.{JobMove}
 use Rattle.tab_history.specs.Answers.{Told, told_of, job_of, job_moves_by}
 use Rattle.tab_history.specs.Histories.{Entry, jobs_of}
 use Rattle.tab_core.specs.Parts.{TabletMerge}
-use Rattle.tab_core.specs.Stores.{Held}
+use Rattle.tab_core.specs.Stores.{CoreContents}
 use Rattle.tab_core.specs.Stepping.{StepsExactly, StepsWith}
 use Rattle.tab_core.specs.Chains.{Running}
 use Rattle.tab_core.specs.JobSlots.{JobsAre, GoesExactly}
@@ -20,19 +20,19 @@ use Rattle.tab_shell.specs.Scripts.{ScriptState, event_by, entry}
 
 -- ---- chains
 -- a core, and the merges that were begun
-abbrev pub run_of : Held → List TabletMerge → Running
+abbrev pub run_of : CoreContents → List TabletMerge → Running
 run_of core merges = record { held = core; begun = merges }
 
 -- nothing was done
-pub goes_nowhere : (core : Held) (jobs : List JobSlot) → GoesExactly core jobs [] core jobs
+pub goes_nowhere : (core : CoreContents) (jobs : List JobSlot) → GoesExactly core jobs [] core jobs
 goes_nowhere core jobs merges holds = (merges, holds, refl)
 
 -- the core went on by an Open of the script, which was told this
-abbrev pub OpensExactly : ScriptState → Held → Scan → Told → Type 0
+abbrev pub OpensExactly : ScriptState → CoreContents → Scan → Told → Type 0
 OpensExactly s core scan told = GoesExactly s.core s.jobs (entry (event_by s.asker (Open scan)) told ∷ []) core s.jobs
 
 -- it begins no job
-pub opens_exactly : (s : ScriptState) (core : Held) (scan : Scan) (r : Reply OpenSession TabletMerge) → StepsWith s.core None (event_by s.asker (Open scan)) r core → OpensExactly s core scan (told_of r)
+pub opens_exactly : (s : ScriptState) (core : CoreContents) (scan : Scan) (r : Reply OpenSession TabletMerge) → StepsWith s.core None (event_by s.asker (Open scan)) r core → OpensExactly s core scan (told_of r)
 opens_exactly s core scan r steps =
     let event : Event = event_by s.asker (Open scan) in
     let exact : StepsExactly s.core None event (told_of r) (job_of r) core = open_exactly s.core core None event r refl steps in

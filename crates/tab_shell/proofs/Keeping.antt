@@ -12,7 +12,7 @@ use Rattle.tab_history.specs.Sessions.{Move, Opening, Taking, Closing, opened, c
 use Rattle.tab_core.specs.Slots.{slot_at, changed_at}
 use Rattle.tab_core.proofs.SlotLemmas.{slot_appended, slot_changed, length_changed, count_same, count_closed, count_appended}
 use Rattle.tab_core.proofs.PlaceLemmas.{slot_past}
-use Rattle.tab_core.specs.declared.sessions.Kept.{Kept}
+use Rattle.tab_core.specs.declared.sessions.UserSessions.{UserSessions}
 use Rattle.tab_core.specs.Sessions.{is_spent}
 use Rattle.tab_shell.specs.Numbers.{slot_named, KeptAre}
 
@@ -69,7 +69,7 @@ differ a b apart = go (a == b) refl
     go false away = refl
 
 -- a session that is kept has a number that was given
-kept_given : (moves : List Move) (slots : List ℕ) (kept : Kept) (number : ℕ) (held : SessionState) → KeptAre moves slots kept → slot_at kept.numbered number ≡ Some held → number < length slots
+kept_given : (moves : List Move) (slots : List ℕ) (kept : UserSessions) (number : ℕ) (held : SessionState) → KeptAre moves slots kept → slot_at kept.numbered number ≡ Some held → number < length slots
 kept_given moves slots kept number held h is = go (given_or_not slots number)
   where
     or_one : Option SessionState → ℕ
@@ -84,7 +84,7 @@ kept_given moves slots kept number held h is = go (given_or_not slots number)
         absurd (omega (arith, no))
 
 -- numbers are as equal as their slots, where one of them was given
-alike : (moves : List Move) (slots : List ℕ) (kept : Kept) (i j : ℕ) → KeptAre moves slots kept → i < length slots → (slot_named moves slots i == slot_named moves slots j) ≡ (i == j)
+alike : (moves : List Move) (slots : List ℕ) (kept : UserSessions) (i j : ℕ) → KeptAre moves slots kept → i < length slots → (slot_named moves slots i == slot_named moves slots j) ≡ (i == j)
 alike moves slots kept i j h lt = go (slot_named moves slots i == slot_named moves slots j) (i == j) refl refl
   where
     go : (a b : Bool) → (slot_named moves slots i == slot_named moves slots j) ≡ a → (i == j) ≡ b → a ≡ b
@@ -98,7 +98,7 @@ same_some : (n : ℕ) (s : Option SessionState) → is_some (option_map (gave n)
 same_some n None = refl
 same_some n (Some s) = refl
 
-pub kept_taken : (moves : List Move) (slots : List ℕ) (kept : Kept) (number n : ℕ) (held : SessionState) → KeptAre moves slots kept → slot_at kept.numbered number ≡ Some held
+pub kept_taken : (moves : List Move) (slots : List ℕ) (kept : UserSessions) (number n : ℕ) (held : SessionState) → KeptAre moves slots kept → slot_at kept.numbered number ≡ Some held
     → KeptAre (Taking (slot_named moves slots number) n ∷ moves) slots (record kept { numbered = changed_at kept.numbered number (option_map (gave n)) })
 unfolding opened closed session_in
 kept_taken moves slots kept number n held h is =
@@ -115,7 +115,7 @@ kept_taken moves slots kept number n held h is =
           ∙ ap (λ s. cond (number == j) (f s) s) (h.sessions j) ∙ sym (slot_changed kept.numbered number f refl j);
     }
 
-pub kept_closed : (moves : List Move) (slots : List ℕ) (kept : Kept) (number : ℕ) (held : SessionState) → KeptAre moves slots kept → slot_at kept.numbered number ≡ Some held
+pub kept_closed : (moves : List Move) (slots : List ℕ) (kept : UserSessions) (number : ℕ) (held : SessionState) → KeptAre moves slots kept → slot_at kept.numbered number ≡ Some held
     → KeptAre (Closing (slot_named moves slots number) ∷ moves) slots (record kept { numbered = changed_at kept.numbered number (λ s. None) })
 unfolding opened closed session_in
 kept_closed moves slots kept number held h is =
@@ -140,7 +140,7 @@ new_slot : (slots : List ℕ) (slot d : ℕ) → get_or (slots ++ slot ∷ []) (
 new_slot slots slot d = get_or-append_seam slots slot [] d
 
 -- a session is opened and kept
-pub kept_opened : (moves : List Move) (slots : List ℕ) (kept : Kept) (all : List Cell) → KeptAre moves slots kept
+pub kept_opened : (moves : List Move) (slots : List ℕ) (kept : UserSessions) (all : List Cell) → KeptAre moves slots kept
     → KeptAre (Opening all ∷ moves) (slots ++ opened moves ∷ []) (record kept { numbered = kept.numbered ++ Some (record { all = all; given = 0 }) ∷ [] })
 unfolding opened closed session_in
 kept_opened moves slots kept all h =
@@ -238,7 +238,7 @@ kept_opened moves slots kept all h =
                 ∙ slot_past kept.numbered k (omega (arith, lt, h.given)))
 
 -- a scan's session was opened and closed, and no other one was touched
-pub kept_scanned : (moves after : List Move) (slots : List ℕ) (kept : Kept) → KeptAre moves slots kept → opened after ≡ opened moves + 1 → closed after ≡ closed moves + 1
+pub kept_scanned : (moves after : List Move) (slots : List ℕ) (kept : UserSessions) → KeptAre moves slots kept → opened after ≡ opened moves + 1 → closed after ≡ closed moves + 1
     → ((slot : ℕ) → (slot ≡ opened moves → ⊥) → session_in after slot ≡ session_in moves slot) → KeptAre after slots (record kept { scanned = kept.scanned + 1 })
 kept_scanned moves after slots kept h o c others = record {
   count = let a = h.count in omega (arith, o, a);
@@ -266,7 +266,7 @@ kept_scanned moves after slots kept h o c others = record {
 
 -- ---- the limits
 -- the script finds a full list of sessions as histories do
-pub spent_alike : (moves : List Move) (slots : List ℕ) (kept : Kept) → KeptAre moves slots kept → is_full moves ≡ is_spent kept
+pub spent_alike : (moves : List Move) (slots : List ℕ) (kept : UserSessions) → KeptAre moves slots kept → is_full moves ≡ is_spent kept
 spent_alike moves slots kept h =
     let c = h.count in
     let l = h.left in

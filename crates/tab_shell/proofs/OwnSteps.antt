@@ -4,7 +4,7 @@ use Rattle.std.specs.Prelude.{bytes_eq, option_map, nat_lt}
 use Rattle.std.proofs.lemmas.Slice.Eq.{bytes_eq-Decides}
 use Rattle.tab_key.specs.Records.{Cell}
 use Rattle.tab_key.specs.declared.range.Bounds.{Bounds}
-use Rattle.tab_key.specs.declared.part.Part.TheVariants.{Ranges as Bands}
+use Rattle.tab_key.specs.declared.limited_part.LimitedPart.TheVariants.{Ranges as Bands}
 use Rattle.tab_cells.specs.SessionState.{SessionState, batch, gave, in_ranges}
 use Rattle.tab_history.specs.declared.event.Step.{Step}
 use Rattle.tab_history.specs.declared.event.Step.TheVariants.{Next, Many, Close}
@@ -23,7 +23,7 @@ use Rattle.tab_core.specs.Shape.{first_some, when}
 use Rattle.tab_core.specs.Stores.{base_of}
 use Rattle.tab_core.specs.Slots.{slot_at, changed_at, after_next, after_close}
 use Rattle.tab_lines.specs.declared.line.Line.TheVariants as line
-use Rattle.tab_core.specs.declared.sessions.Kept.{Kept}
+use Rattle.tab_core.specs.declared.sessions.UserSessions.{UserSessions}
 use Rattle.tab_core.specs.Sessions.{Keeping, kept_of, KeepsFor, NextIn, ManyIn, CloseIn}
 use Rattle.tab_shell.specs.Numbers.{Numbers, KeptAre}
 use Rattle.tab_replies.specs.Texts.{reply_text, next_text, renumbered}
@@ -35,7 +35,7 @@ use Rattle.tab_shell.proofs.Keeping.{kept_taken, kept_closed}
 use Rattle.tab_shell.proofs.Scanning.{own_kept, with_kept, bytes_self, other_moves, kept_by_user}
 
 -- ---- one step, which is no event
-one_more : (s : ScriptState) (kept : Keeping) (own : Kept) (w : World) (h : List Entry) (numbers : Numbers) (step : Step) (reply : Told) → ((n : List ℕ) → is_by n step ≡ bytes_eq s.asker.user n) → ScriptRefines s numbers w h → Legal w h
+one_more : (s : ScriptState) (kept : Keeping) (own : UserSessions) (w : World) (h : List Entry) (numbers : Numbers) (step : Step) (reply : Told) → ((n : List ℕ) → is_by n step ≡ bytes_eq s.asker.user n) → ScriptRefines s numbers w h → Legal w h
     → IsAnswer w h h step reply ⊎ LacksMemory step reply → IsNoEvent step reply → job_moves_by step reply ≡ [] → KeepsFor s.asker.user own s.kept kept → KeptAre (moves_of w s.asker.user (own_entry step reply ∷ h)) (numbers s.asker.user) own
     → ScriptGoes s w h (own_entry step reply ∷ []) numbers (with_kept s kept)
 one_more s kept own w h numbers step reply by refines legal right still none keeps are =
@@ -51,13 +51,13 @@ one_more s kept own w h numbers step reply by refines legal right still none kee
     }
 
 -- where it moves no session, what is kept for the asker is what it was
-same_moves : (s : ScriptState) (w : World) (h : List Entry) (numbers : Numbers) (e : Entry) (own : Kept) → moves_of w s.asker.user (e ∷ h) ≡ moves_of w s.asker.user h → own ≡ own_kept s → ScriptRefines s numbers w h
+same_moves : (s : ScriptState) (w : World) (h : List Entry) (numbers : Numbers) (e : Entry) (own : UserSessions) → moves_of w s.asker.user (e ∷ h) ≡ moves_of w s.asker.user h → own ≡ own_kept s → ScriptRefines s numbers w h
     → KeptAre (moves_of w s.asker.user (e ∷ h)) (numbers s.asker.user) own
 same_moves s w h numbers e own moves same refines =
-    subst (λ (k : Kept). KeptAre (moves_of w s.asker.user (e ∷ h)) (numbers s.asker.user) k) (sym same) (subst (λ (ms : List Move). KeptAre ms (numbers s.asker.user) (own_kept s)) (sym moves) (refines.sessions s.asker.user))
+    subst (λ (k : UserSessions). KeptAre (moves_of w s.asker.user (e ∷ h)) (numbers s.asker.user) k) (sym same) (subst (λ (ms : List Move). KeptAre ms (numbers s.asker.user) (own_kept s)) (sym moves) (refines.sessions s.asker.user))
 
 -- the slots with others in their place
-abbrev with_slots : Kept → List (Option SessionState) → Kept
+abbrev with_slots : UserSessions → List (Option SessionState) → UserSessions
 with_slots kept slots = record kept { numbered = slots }
 
 -- a refused step moves none
@@ -108,7 +108,7 @@ next_answered s kept number count reply (slots, from, keeps) = record {
   asker = refl;
   extends = λ w h numbers refines legal.
       let user : List ℕ = s.asker.user in
-      let own : Kept = own_kept s in
+      let own : UserSessions = own_kept s in
       let k : ℕ = slot_of s.asker numbers w h number in
       let step : Step = Next user k count in
       elim from.answers as (λ x. (es : List Entry) × ((r : Told) × (es ≡ own_entry step r ∷ []) × (next_text count reply ≡ next_text count (renumbered number r))) × ScriptGoes s w h es numbers (with_kept s kept)) [
@@ -124,7 +124,7 @@ next_answered s kept number count reply (slots, from, keeps) = record {
         → (es : List Entry) × ((r : Told) × (es ≡ own_entry (Next s.asker.user (slot_of s.asker numbers w h number) count) r ∷ []) × (next_text count reply ≡ next_text count (renumbered number r))) × ScriptGoes s w h es numbers (with_kept s kept)
     by_slot w h numbers refines legal None found is =
         let user : List ℕ = s.asker.user in
-        let own : Kept = own_kept s in
+        let own : UserSessions = own_kept s in
         let k : ℕ = slot_of s.asker numbers w h number in
         let step : Step = Next user k count in
         let same : slots ≡ own.numbered = from.after ∙ ap (after_next own.numbered number) is in
@@ -133,7 +133,7 @@ next_answered s kept number count reply (slots, from, keeps) = record {
         (own_entry step (Refused (NoSession k)) ∷ [], (Refused (NoSession k), refl, ap (next_text count) is), one_more s kept (with_slots own slots) w h numbers step (Refused (NoSession k)) (λ n. refl) refines legal (inl right) tt refl keeps are)
     by_slot w h numbers refines legal (Some held) found is =
         let user : List ℕ = s.asker.user in
-        let own : Kept = own_kept s in
+        let own : UserSessions = own_kept s in
         let k : ℕ = slot_of s.asker numbers w h number in
         let step : Step = Next user k count in
         let cells : List Cell = batch held count in
@@ -155,7 +155,7 @@ close_answered s kept number reply (slots, from, keeps) = record {
         → (es : List Entry) × ((r : Told) × (es ≡ own_entry (Close s.asker.user (slot_of s.asker numbers w h number)) r ∷ []) × (reply_text reply ≡ reply_text (renumbered number r))) × ScriptGoes s w h es numbers (with_kept s kept)
     by_slot w h numbers refines legal None found is =
         let user : List ℕ = s.asker.user in
-        let own : Kept = own_kept s in
+        let own : UserSessions = own_kept s in
         let k : ℕ = slot_of s.asker numbers w h number in
         let step : Step = Close user k in
         let same : slots ≡ own.numbered = from.after ∙ ap (after_close own.numbered number) is in
@@ -164,7 +164,7 @@ close_answered s kept number reply (slots, from, keeps) = record {
         (own_entry step (Refused (NoSession k)) ∷ [], (Refused (NoSession k), refl, ap reply_text is), one_more s kept (with_slots own slots) w h numbers step (Refused (NoSession k)) (λ n. refl) refines legal (inl right) tt refl keeps are)
     by_slot w h numbers refines legal (Some held) found is =
         let user : List ℕ = s.asker.user in
-        let own : Kept = own_kept s in
+        let own : UserSessions = own_kept s in
         let k : ℕ = slot_of s.asker numbers w h number in
         let step : Step = Close user k in
         let after : slots ≡ changed_at own.numbered number (λ x. None) = from.after ∙ ap (after_close own.numbered number) is in

@@ -13,7 +13,7 @@ use Rattle.tab_io.proofs.Putting.{put_none, put_more, put_part_more}
 use Rattle.tab_lines.specs.declared.file_line.FileLine.{FileLine}
 use Rattle.tab_lines.specs.declared.line.Line.{Line}
 use Rattle.tab_lines.specs.declared.line.Line.TheVariants as line
-use Rattle.tab_lines.specs.declared.line_error.LineError.{LineError}
+use Rattle.tab_text.specs.declared.parse_error.ParseError.{ParseError}
 use Rattle.tab_shell.specs.declared.pending.Pending.{Pending}
 use Rattle.tab_replies.specs.Texts.{lines_of}
 use Rattle.tab_shell.specs.Numbers.{Numbers}
@@ -35,7 +35,7 @@ lines_both who mid last n m after w h [] ms es fs t u a b =
     let texts : t ++ u ≡ u = ap (λ (x : List ℕ). x ++ u) a.1 in
     subst (λ (x : List ℕ). LinesAnswered who n w h ms (fs ++ es) x last after) (sym texts) (subst (λ (e : List Entry). LinesAnswered who n w h ms e u last after) (sym ends) one)
 lines_both who mid last n m after w h (l ∷ ls) ms es fs t u a b =
-    let said : Result Line LineError = a.0 in
+    let said : Result Line ParseError = a.0 in
     let first : List Entry = a.1 in
     let more : List Entry = a.2 in
     let rest : LinesAnswered mid m w (more ++ (first ++ h)) ms fs u last after = subst (λ (e : List Entry). LinesAnswered mid m w e ms fs u last after) (ap (λ (e : List Entry). e ++ h) a.8 ∙ append_assoc more first h) b in (
@@ -70,7 +70,7 @@ ran_both a b c ls ms t u f g w h numbers refines legal =
     )
 
 -- one line
-pub ran_line : (a b : ScriptState) (said : Result Line LineError) (line : List ℕ) (text : List ℕ) → ReadsLine said line → ScriptAnswersLine a said text b → ScriptAnswersLines a (line ∷ []) text b
+pub ran_line : (a b : ScriptState) (said : Result Line ParseError) (line : List ℕ) (text : List ℕ) → ReadsLine said line → ScriptAnswersLine a said text b → ScriptAnswersLines a (line ∷ []) text b
 ran_line a b said line text says answered w h numbers refines legal =
     let x = answered.extends w h numbers refines legal in
     (x.0, numbers_after a.asker numbers w h said x.0, (said, x.0, [], text, [], says, x.1, (refl, refl, answered.asker, refl), refl, sym (append-nil text)), x.2)
@@ -81,7 +81,7 @@ whole_none : (s : ScriptState) (todo : List ℕ) (B H : List ℕ → Type 0) →
 whole_none s todo B H behind holds = ([], todo, [], refl, inl refl, behind, subst (λ (ls : List (List ℕ)). ScriptAnswersLines s ls [] s) (sym lines_none) (ran_none s), holds)
 
 -- one line with its line feed
-whole_line : (a b : ScriptState) (said : Result Line LineError) (line after todo text : List ℕ) (B H : List ℕ → Type 0)
+whole_line : (a b : ScriptState) (said : Result Line ParseError) (line after todo text : List ℕ) (B H : List ℕ → Type 0)
     → ReadsLine said line → IsInside line → todo ≡ line ++ 10 ∷ after → B after → ScriptAnswersLine a said text b → H text → AnswersWhole a todo b B H
 whole_line a b said line after todo text B H says inside is behind answered holds =
     let one : lines_of (line ++ 10 ∷ []) ≡ line ∷ [] = lines_cut line [] inside ∙ ap (λ (ls : List (List ℕ)). line ∷ ls) lines_none in (
@@ -137,28 +137,28 @@ module _ {W : Type 0} (g : Ghosts W) where
   next_ahead r p todo next = subst (λ (x : Option (List ℕ)). Ahead x p todo) (sym next.0) ([], next.1, refl)
 
   -- one line is taken and answered
-  line_goes : (a b : ScriptState) (said : Result Line LineError) (r r1 : Option (List ℕ)) (p p1 : Pending) (H : List ℕ → Type 0)
+  line_goes : (a b : ScriptState) (said : Result Line ParseError) (r r1 : Option (List ℕ)) (p p1 : Pending) (H : List ℕ → Type 0)
       → TakesLine r p said r1 p1 → (text : List ℕ) × ScriptAnswersLine a said text b × H text → (todo : List ℕ) → Ahead r p todo → AnswersWhole a todo b (Ahead r1 p1) H
   line_goes a b said r r1 p p1 H takes prints todo ahead =
       let x = takes todo ahead in
       whole_line a b said x.0 x.1 todo prints.0 (Ahead r1 p1) H x.2 x.3 x.4 (next_ahead r1 p1 x.1 x.5) prints.1 prints.2
 
-  pub goes_line : (a b d : ScriptState) (said : Result Line LineError) (r r1 r2 : Option (List ℕ)) (p p1 p2 : Pending) (o o1 o2 : W)
+  pub goes_line : (a b d : ScriptState) (said : Result Line ParseError) (r r1 r2 : Option (List ℕ)) (p p1 p2 : Pending) (o o1 o2 : W)
       → HasAnswered g a r p o b r1 p1 o1 → TakesLine r1 p1 said r2 p2 → (text : List ℕ) × ScriptAnswersLine b said text d × HasPut g o1 o2 text → HasAnswered g a r p o d r2 p2 o2
   goes_line a b d said r r1 r2 p p1 p2 o o1 o2 f takes prints = goes_both a b d r r1 r2 p p1 p2 o o1 o2 f (line_goes b d said r1 r2 p1 p2 (HasPut g o1 o2) takes prints)
 
-  pub part_line : (a b d : ScriptState) (said : Result Line LineError) (r r1 r2 : Option (List ℕ)) (p p1 p2 : Pending) (o o1 o2 : W)
+  pub part_line : (a b d : ScriptState) (said : Result Line ParseError) (r r1 r2 : Option (List ℕ)) (p p1 p2 : Pending) (o o1 o2 : W)
       → HasAnswered g a r p o b r1 p1 o1 → TakesLine r1 p1 said r2 p2 → (text : List ℕ) × ScriptAnswersLine b said text d × HasPutPart g o1 o2 text → HasAnsweredPart g a r p o d r2 p2 o2
   part_line a b d said r r1 r2 p p1 p2 o o1 o2 f takes prints = part_both a b d r r1 r2 p p1 p2 o o1 o2 f (line_goes b d said r1 r2 p1 p2 (HasPutPart g o1 o2) takes prints)
 
   -- one line is taken, and it is this file line
-  takes_file : (said : Result Line LineError) (file : FileLine) (r r1 : Option (List ℕ)) (p p1 : Pending) → said ≡ Ok (line.File file) → TakesLine r p said r1 p1 → (todo : List ℕ) → Ahead r p todo → BeginsWithFile file r1 todo
+  takes_file : (said : Result Line ParseError) (file : FileLine) (r r1 : Option (List ℕ)) (p p1 : Pending) → said ≡ Ok (line.File file) → TakesLine r p said r1 p1 → (todo : List ℕ) → Ahead r p todo → BeginsWithFile file r1 todo
   takes_file said file r r1 p p1 is takes todo ahead =
       let x = takes todo ahead in
-      (x.0, x.1, x.3, subst (λ (s : Result Line LineError). ReadsLine s x.0) is x.2, x.5.0, inl x.4)
+      (x.0, x.1, x.3, subst (λ (s : Result Line ParseError). ReadsLine s x.0) is x.2, x.5.0, inl x.4)
 
   -- it was accepted, behind lines that were answered
-  pub goes_file : (a b d : ScriptState) (said : Result Line LineError) (file : FileLine) (r r1 r2 : Option (List ℕ)) (p p1 p2 : Pending) (o o1 o2 : W)
+  pub goes_file : (a b d : ScriptState) (said : Result Line ParseError) (file : FileLine) (r r1 r2 : Option (List ℕ)) (p p1 p2 : Pending) (o o1 o2 : W)
       → HasAnswered g a r p o b r1 p1 o1 → TakesLine r1 p1 said r2 p2 → IsAccepted b said file d → HasPut g o1 o2 [] → HasAccepted g a r p o file d r2 o2
   goes_file a b d said file r r1 r2 p p1 p2 o o1 o2 f takes accepted put todo ahead = (
     b,
@@ -166,7 +166,7 @@ module _ {W : Type 0} (g : Ghosts W) where
     accepted.1,
   )
 
-  pub part_file : (a b d : ScriptState) (said : Result Line LineError) (file : FileLine) (r r1 r2 : Option (List ℕ)) (p p1 p2 : Pending) (o o1 o2 : W)
+  pub part_file : (a b d : ScriptState) (said : Result Line ParseError) (file : FileLine) (r r1 r2 : Option (List ℕ)) (p p1 p2 : Pending) (o o1 o2 : W)
       → HasAnswered g a r p o b r1 p1 o1 → TakesLine r1 p1 said r2 p2 → IsAccepted b said file d → HasPutPart g o1 o2 [] → HasAcceptedPart g a r p o file d r2 o2
   part_file a b d said file r r1 r2 p p1 p2 o o1 o2 f takes accepted put todo ahead = (
     b,
@@ -175,7 +175,7 @@ module _ {W : Type 0} (g : Ghosts W) where
   )
 
   -- a write failed at one line that was taken
-  pub fails_line : (a b d : ScriptState) (said : Result Line LineError) (r r1 r2 : Option (List ℕ)) (p p1 p2 : Pending) (o o1 o2 : W) → HasAnswered g a r p o b r1 p1 o1 → TakesLine r1 p1 said r2 p2
+  pub fails_line : (a b d : ScriptState) (said : Result Line ParseError) (r r1 r2 : Option (List ℕ)) (p p1 p2 : Pending) (o o1 o2 : W) → HasAnswered g a r p o b r1 p1 o1 → TakesLine r1 p1 said r2 p2
       → ((text : List ℕ) × ScriptAnswersLine b said text d × HasPutPart g o1 o2 text) ⊎ ((file : FileLine) × IsAccepted b said file d × HasPutPart g o1 o2 []) → HasFailed g a r p o d r2 p2 o2
   fails_line a b d said r r1 r2 p p1 p2 o o1 o2 f takes (inl prints) = inl (part_line a b d said r r1 r2 p p1 p2 o o1 o2 f takes prints)
   fails_line a b d said r r1 r2 p p1 p2 o o1 o2 f takes (inr (file, accepted, put)) = inr (file, part_file a b d said file r r1 r2 p p1 p2 o o1 o2 f takes accepted put)
@@ -234,7 +234,7 @@ later_fault g a b c same (inl spent) = inl spent
 later_fault g a b c same (inr counted) = inr (subst (λ (n : ℕ). n < g.faults c) same counted)
 
 -- a write failed at a line, answered or accepted
-pub fault_at : {W : Type 0} (g : Ghosts W) (b d : ScriptState) (said : Result Line LineError) (o o1 : W)
+pub fault_at : {W : Type 0} (g : Ghosts W) (b d : ScriptState) (said : Result Line ParseError) (o o1 : W)
     → ((text : List ℕ) × ScriptAnswersLine b said text d × HasPutPart g o o1 text) ⊎ ((file : FileLine) × IsAccepted b said file d × HasPutPart g o o1 []) → WriteFailed g o o1
 fault_at g b d said o o1 (inl (text, answered, part)) = part.failed
 fault_at g b d said o o1 (inr (file, accepted, part)) = part.failed

@@ -3,13 +3,14 @@ use Rattle.std.proofs.Common.{ℕ, true, false, cond, List, [], ◌∷◌, refl,
 use Rattle.std.specs.Prelude.{Result, option_map}
 use Rattle.tab_lines.specs.declared.line.Line.{Line}
 use Rattle.tab_lines.specs.declared.line.Line.TheVariants as line
-use Rattle.tab_lines.specs.declared.line_error.LineError.{LineError}
+use Rattle.tab_text.specs.declared.parse_error.ParseError.{ParseError}
 use Rattle.tab_lines.specs.declared.command.Command.{Command}
 use Rattle.tab_lines.specs.declared.command.Command.TheVariants as command
 use Rattle.tab_lines.specs.declared.file_line.FileKind.{FileKind}
 use Rattle.tab_lines.specs.declared.file_line.FileKind.TheVariants.{Save, Load}
 use Rattle.tab_lines.specs.declared.updates.TimestampForm.TheVariants.{Optional}
-use Rattle.tab_lines.specs.Gives.{◌>>=◌, Gives, field, ends}
+use Rattle.tab_text.specs.Gives.{Gives}
+use Rattle.tab_lines.specs.Gives.{◌>>=◌, field, ends}
 use Rattle.tab_lines.specs.Words.{words_of}
 use Rattle.tab_lines.specs.Fields.{name_of, unsigned_of, small_of, signed_of, version_count, extent_word, compaction_word, file_name_of, list_of, constraints_of}
 use Rattle.tab_lines.specs.Updates.{row_of, put_of, delete_of, updates_of}
@@ -152,10 +153,10 @@ said_shut (word ∷ words) = after (command_of word) (λ c. commanded c words) (
 line_shut : (text : List ℕ) → IsShut (line_of text)
 line_shut text = elim (is_comment text) as (λ b. IsShut (cond b (Some line.Blank) (said (words_of text)))) [ true ↦ tt | false ↦ said_shut (words_of text) ]
 
-shut : (said : Result Line LineError) (o : Option Line) → IsShut o → Gives (λ x. x) said o → OpensNoSession said
+shut : (said : Result Line ParseError) (o : Option Line) → IsShut o → Gives (λ x. x) said o → OpensNoSession said
 shut (Ok l) o h is = subst IsShut is h
 shut (Err e) o h is = tt
 
 -- what a line says is no bare act that opens a session
-pub line_opens_none : (said : Result Line LineError) (text : List ℕ) → Gives (λ x. x) said (line_of text) → OpensNoSession said
+pub line_opens_none : (said : Result Line ParseError) (text : List ℕ) → Gives (λ x. x) said (line_of text) → OpensNoSession said
 line_opens_none said text is = shut said (line_of text) (line_shut text) is

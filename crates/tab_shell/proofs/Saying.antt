@@ -12,7 +12,7 @@ use Rattle.tab_history.specs.Answers.{Told, told, is_open, answer, IsEventReply,
 use Rattle.tab_history.specs.Sessions.{Move, Opening}
 use Rattle.tab_history.specs.Histories.{Entry, World, is_by, journal, moves_of}
 use Rattle.tab_history.specs.Legal.{Legal, IsAnswer, LacksMemory}
-use Rattle.tab_core.specs.Stores.{Held, base_of}
+use Rattle.tab_core.specs.Stores.{CoreContents, base_of}
 use Rattle.tab_core.specs.JobSlots.{StepsIn, MergesIn}
 use Rattle.tab_core.specs.declared.job_slots.JobSlot.{JobSlot}
 use Rattle.tab_core.proofs.JobLemmas.{Lengthened, steps_lengthen, steps_exact, merge_lengthens, merge_exact}
@@ -24,8 +24,8 @@ use Rattle.tab_lines.specs.declared.file_line.FileKind.TheVariants as kind
 use Rattle.tab_lines.specs.declared.file_line.FileLine.{FileLine}
 use Rattle.tab_lines.specs.declared.line.Line.{Line}
 use Rattle.tab_lines.specs.declared.line.Line.TheVariants as line
-use Rattle.tab_lines.specs.declared.line_error.LineError.{LineError}
-use Rattle.tab_lines.specs.declared.line_error.LineError.TheVariants as stop
+use Rattle.tab_text.specs.declared.parse_error.ParseError.{ParseError}
+use Rattle.tab_text.specs.declared.parse_error.ParseError.TheVariants as stop
 use Rattle.tab_replies.specs.Texts.{reply_text, begun_text, refusal_text, fault_text}
 use Rattle.tab_core.specs.Sessions.{kept_of}
 use Rattle.tab_shell.specs.Numbers.{Numbers, KeptAre}
@@ -34,7 +34,7 @@ use Rattle.tab_shell.specs.Progress.{PrintsAnswer, IsAccepted, AnswersOrAccepts,
 use Rattle.tab_shell.proofs.JobSteps.{goes_nowhere}
 
 -- ---- lines without a step
-silent : (s : ScriptState) (said : Result Line LineError) (text : List ℕ) → s.asker ≡ asker_after s.asker said → ((w : World) (h : List Entry) (numbers : Numbers) → LineAnswered s.asker numbers w h said [] text)
+silent : (s : ScriptState) (said : Result Line ParseError) (text : List ℕ) → s.asker ≡ asker_after s.asker said → ((w : World) (h : List Entry) (numbers : Numbers) → LineAnswered s.asker numbers w h said [] text)
     → ((w : World) (h : List Entry) (numbers : Numbers) → numbers_after s.asker numbers w h said [] ≡ numbers) → ScriptAnswersLine s said text s
 silent s said text same says kept = record {
   asker = same;
@@ -75,10 +75,10 @@ moment_answered s moment = record {
 pub moment_prints : {W : Type 0} (g : Ghosts W) (s : ScriptState) (moment : ℤ) (o : W) → (text : List ℕ) × ScriptAnswersLine s (Ok (line.At moment)) text (at_moment s moment) × HasPut g o o text
 moment_prints g s moment o = ([], moment_answered s moment, put_none g o)
 
-fault_answered : (s : ScriptState) → ScriptAnswersLine s (Err stop.Fault) fault_text s
-fault_answered s = silent s (Err stop.Fault) fault_text refl (λ w h numbers. (refl, refl)) (λ w h numbers. refl)
+fault_answered : (s : ScriptState) → ScriptAnswersLine s (Err stop.Malformed) fault_text s
+fault_answered s = silent s (Err stop.Malformed) fault_text refl (λ w h numbers. (refl, refl)) (λ w h numbers. refl)
 
-pub fault_prints : {W E : Type 0} (g : Ghosts W) (s : ScriptState) (o o1 : W) (r : Result (Unit {0}) E) → Puts g o o1 fault_text r → PrintsAnswer g s (Err stop.Fault) s o o1 r
+pub fault_prints : {W E : Type 0} (g : Ghosts W) (s : ScriptState) (o o1 : W) (r : Result (Unit {0}) E) → Puts g o o1 fault_text r → PrintsAnswer g s (Err stop.Malformed) s o o1 r
 fault_prints g s o o1 r put = (fault_text, fault_answered s, put)
 
 no_memory_text : codes "refused 17 NoMemory\n" ≡ refusal_text refusal.NoMemory
@@ -103,11 +103,11 @@ act_moves w user h event (Opened u) shut =
 act_moves w user h event reply shut = same_cond (is_by user (IsEvent event)) (moves_of w user h)
 
 -- the script with another core, and these jobs
-abbrev pub with_core : ScriptState → Held → List JobSlot → ScriptState
+abbrev pub with_core : ScriptState → CoreContents → List JobSlot → ScriptState
 with_core s core jobs = record s { core = core; jobs = jobs }
 
 -- an act that opens no session makes the history longer by its entry
-pub act_goes : (s : ScriptState) (core : Held) (jobs : List JobSlot) (act : Act) (reply : Told) → is_open act ≡ false → StepsIn s.core s.jobs (event_by s.asker act) reply core jobs
+pub act_goes : (s : ScriptState) (core : CoreContents) (jobs : List JobSlot) (act : Act) (reply : Told) → is_open act ≡ false → StepsIn s.core s.jobs (event_by s.asker act) reply core jobs
     → (w : World) (h : List Entry) (numbers : Numbers) → ScriptRefines s numbers w h → Legal w h → ScriptGoes s w h (entry (event_by s.asker act) reply ∷ []) numbers (with_core s core jobs)
 act_goes s core jobs act reply shut steps w h numbers refines legal =
     let event : Event = event_by s.asker act in
@@ -122,7 +122,7 @@ act_goes s core jobs act reply shut steps w h numbers refines legal =
       };
     }
 
-pub act_answered : (s : ScriptState) (core : Held) (jobs : List JobSlot) (act : Act) (reply : Told) → is_open act ≡ false → StepsIn s.core s.jobs (event_by s.asker act) reply core jobs
+pub act_answered : (s : ScriptState) (core : CoreContents) (jobs : List JobSlot) (act : Act) (reply : Told) → is_open act ≡ false → StepsIn s.core s.jobs (event_by s.asker act) reply core jobs
     → ScriptAnswersLine s (Ok (line.Act act)) (begun_text (length s.jobs) reply) (with_core s core jobs)
 act_answered s core jobs act reply shut steps = record {
   asker = refl;
@@ -180,7 +180,7 @@ file_told w h who kind.Save reply (inr lacks) = absurd (true≢false (sym lacks.
 file_told w h who kind.Load reply (inr lacks) = absurd (true≢false (sym lacks.0))
 
 -- one that is done is accepted
-pub file_accepted : (s : ScriptState) (core : Held) (jobs : List JobSlot) (file : FileLine) (reply : Told) → reply ≡ Done → StepsIn s.core s.jobs (event_by s.asker (file_act file.kind)) reply core jobs → ScriptAcceptsFile s file (with_core s core jobs)
+pub file_accepted : (s : ScriptState) (core : CoreContents) (jobs : List JobSlot) (file : FileLine) (reply : Told) → reply ≡ Done → StepsIn s.core s.jobs (event_by s.asker (file_act file.kind)) reply core jobs → ScriptAcceptsFile s file (with_core s core jobs)
 file_accepted s core jobs file reply done steps = record {
   asker = refl;
   extends = λ w h numbers refines legal.
@@ -188,7 +188,7 @@ file_accepted s core jobs file reply done steps = record {
 }
 
 -- any other is refused
-pub file_refused : (s : ScriptState) (core : Held) (jobs : List JobSlot) (file : FileLine) (reply : Told) → (reply ≡ Done → ⊥) → StepsIn s.core s.jobs (event_by s.asker (file_act file.kind)) reply core jobs
+pub file_refused : (s : ScriptState) (core : CoreContents) (jobs : List JobSlot) (file : FileLine) (reply : Told) → (reply ≡ Done → ⊥) → StepsIn s.core s.jobs (event_by s.asker (file_act file.kind)) reply core jobs
     → ScriptAnswersLine s (Ok (line.File file)) (reply_text reply) (with_core s core jobs)
 file_refused s core jobs file reply not steps = record {
   asker = refl;
@@ -203,7 +203,7 @@ file_refused s core jobs file reply not steps = record {
     says (inr (r, is)) = (r, ap (λ (t : Told). entry (event_by s.asker (file_act file.kind)) t ∷ []) is, ap reply_text is)
 
 -- ---- what was printed of a line that isn't handed back
-pub printed_answers : {W E : Type 0} (g : Ghosts W) (s d : ScriptState) (said : Result Line LineError) (o o1 : W) (r : Result (Unit {0}) E) (r' : Result (Option FileLine) E)
+pub printed_answers : {W E : Type 0} (g : Ghosts W) (s d : ScriptState) (said : Result Line ParseError) (o o1 : W) (r : Result (Unit {0}) E) (r' : Result (Option FileLine) E)
     → MatchResult r (λ u. r' ≡ Ok None) (λ e. r' ≡ Err e) → PrintsAnswer g s said d o o1 r → AnswersOrAccepts g s said d o o1 r'
 printed_answers g s d said o o1 (Ok u) r' is prints = subst (AnswersOrAccepts g s said d o o1) (sym is) prints
 printed_answers g s d said o o1 (Err e) r' is prints = subst (AnswersOrAccepts g s said d o o1) (sym is) (inl prints)

@@ -4,7 +4,7 @@ use Rattle.std.specs.Prelude.{bytes_eq, option_map}
 use Rattle.std.proofs.lemmas.Slice.Eq.{bytes_eq-Decides}
 use Rattle.std.proofs.lemmas.Bool.{eq-eqb}
 use Rattle.tab_key.specs.Records.{Cell}
-use Rattle.tab_key.specs.declared.part.Part.TheVariants.{Sessions}
+use Rattle.tab_key.specs.declared.limited_part.LimitedPart.TheVariants.{Sessions}
 use Rattle.tab_history.specs.declared.event.Scan.{Scan}
 use Rattle.tab_history.specs.declared.event.Act.TheVariants.{Open}
 use Rattle.tab_history.specs.declared.event.Event.{Event}
@@ -26,7 +26,7 @@ use Rattle.tab_history.specs.Chains.{IsChain}
 use Rattle.tab_history.proofs.LeftOpen.{closed_reply}
 use Rattle.tab_history.proofs.Playing.{unmoved}
 use Rattle.tab_core.specs.Parts.{TabletMerge}
-use Rattle.tab_core.specs.Stores.{Held, base_of}
+use Rattle.tab_core.specs.Stores.{CoreContents, base_of}
 use Rattle.tab_core.specs.Chains.{Running, EntryGoes}
 use Rattle.tab_core.specs.JobSlots.{JobsAre}
 use Rattle.tab_core.specs.Stepping.{Steps}
@@ -34,7 +34,7 @@ use Rattle.tab_lines.specs.declared.line.Line.TheVariants as line
 use Rattle.tab_replies.specs.Texts.{reply_text, refusal_text}
 use Rattle.tab_shell.specs.Batches.{left_of}
 use Rattle.tab_shell.specs.Readings.{ReadingEnd, AllRead, Lacking, CanEnd, IsReadingText, reading_text, reading_steps, batch_at, batches}
-use Rattle.tab_core.specs.declared.sessions.Kept.{Kept}
+use Rattle.tab_core.specs.declared.sessions.UserSessions.{UserSessions}
 use Rattle.tab_core.specs.Sessions.{Keeping, kept_of, is_spent, KeepsFor}
 use Rattle.tab_shell.specs.Numbers.{Numbers, KeptAre}
 use Rattle.tab_shell.proofs.Keeping.{kept_scanned, spent_alike, differ}
@@ -42,7 +42,7 @@ use Rattle.tab_shell.proofs.Saying.{same_cond}
 use Rattle.tab_core.proofs.JobLemmas.{stays_exact}
 use Rattle.tab_shell.proofs.JobSteps.{run_of, OpensExactly, jobs_stay}
 use Rattle.tab_lines.specs.declared.line.Line.{Line}
-use Rattle.tab_lines.specs.declared.line_error.LineError.{LineError}
+use Rattle.tab_text.specs.declared.parse_error.ParseError.{ParseError}
 use Rattle.tab_shell.specs.Scripts.{Asker, ScriptState, ScriptRefines, ScanSteps, ScriptAnswersLine, numbers_after, event_by, entry}
 
 pub bytes_self : (x : List ℕ) → bytes_eq x x ≡ true
@@ -304,18 +304,18 @@ module _ (w : World) (user : List ℕ) (slot : ℕ) (all : List Cell) where
 
 -- ---- the Open
 -- the script with another core, and this kept for its users
-abbrev pub with_sessions : ScriptState → Held → Keeping → ScriptState
+abbrev pub with_sessions : ScriptState → CoreContents → Keeping → ScriptState
 with_sessions s core kept = record { core = core; asker = s.asker; kept = kept; jobs = s.jobs }
 
 -- what is kept for the asker
-abbrev pub own_kept : ScriptState → Kept
+abbrev pub own_kept : ScriptState → UserSessions
 own_kept s = kept_of s.kept s.asker.user
 
 -- the script has room for a session as histories have
 room_alike : (s : ScriptState) (w : World) (h : List Entry) (numbers : Numbers) → ScriptRefines s numbers w h → is_full (moves_of w s.asker.user h) ≡ is_spent (own_kept s)
 room_alike s w h numbers refines = spent_alike (moves_of w s.asker.user h) (numbers s.asker.user) (own_kept s) (refines.sessions s.asker.user)
 
-pub legal_open : (s : ScriptState) (core : Held) (scan : Scan) (reply : Reply OpenSession TabletMerge) (w : World) (h : List Entry) (numbers : Numbers) → is_spent (own_kept s) ≡ false → Steps (base_of s.core) (event_by s.asker (Open scan)) reply (base_of core)
+pub legal_open : (s : ScriptState) (core : CoreContents) (scan : Scan) (reply : Reply OpenSession TabletMerge) (w : World) (h : List Entry) (numbers : Numbers) → is_spent (own_kept s) ≡ false → Steps (base_of s.core) (event_by s.asker (Open scan)) reply (base_of core)
     → ScriptRefines s numbers w h → IsAnswer w h h (IsEvent (event_by s.asker (Open scan))) (told_of reply) ⊎ LacksMemory (IsEvent (event_by s.asker (Open scan))) (told_of reply)
 legal_open s core scan reply w h numbers room steps refines = steps.answers w h refines.core h (λ yes. room_alike s w h numbers refines ∙ room, tt)
 
@@ -334,7 +334,7 @@ opened_scans who w h scan all end text is fits t = (
 )
 
 -- ---- what is kept for all users, where one of them moved
-pub kept_by_user : (w : World) (user : List ℕ) (h later : List Entry) (numbers after : Numbers) (old new : Keeping) (kept : Kept) → KeepsFor user kept old new
+pub kept_by_user : (w : World) (user : List ℕ) (h later : List Entry) (numbers after : Numbers) (old new : Keeping) (kept : UserSessions) → KeepsFor user kept old new
     → ((n : List ℕ) → bytes_eq user n ≡ false → moves_of w n later ≡ moves_of w n h) → ((n : List ℕ) → bytes_eq user n ≡ false → after n ≡ numbers n)
     → KeptAre (moves_of w user later) (after user) kept → ((n : List ℕ) → KeptAre (moves_of w n h) (numbers n) (kept_of old n)) → (n : List ℕ) → KeptAre (moves_of w n later) (after n) (kept_of new n)
 kept_by_user w user h later numbers after old new kept keeps others same own all n = go (bytes_eq user n) refl
@@ -343,10 +343,10 @@ kept_by_user w user h later numbers after old new kept keeps others same own all
     mine = keeps user ∙ ap (λ (b : Bool). cond b kept (kept_of old user)) (bytes_self user)
 
     go : (b : Bool) → bytes_eq user n ≡ b → KeptAre (moves_of w n later) (after n) (kept_of new n)
-    go true is = subst (λ (m : List ℕ). KeptAre (moves_of w m later) (after m) (kept_of new m)) ((bytes_eq-Decides user n).0 is) (subst (λ (k : Kept). KeptAre (moves_of w user later) (after user) k) (sym mine) own)
+    go true is = subst (λ (m : List ℕ). KeptAre (moves_of w m later) (after m) (kept_of new m)) ((bytes_eq-Decides user n).0 is) (subst (λ (k : UserSessions). KeptAre (moves_of w user later) (after user) k) (sym mine) own)
     go false away =
         let k : kept_of new n ≡ kept_of old n = keeps n ∙ ap (λ (b : Bool). cond b kept (kept_of old n)) away in
-        subst (λ (x : Kept). KeptAre (moves_of w n later) (after n) x) (sym k)
+        subst (λ (x : UserSessions). KeptAre (moves_of w n later) (after n) x) (sym k)
         (subst (λ (x : List ℕ). KeptAre (moves_of w n later) x (kept_of old n)) (sym (same n away)) (subst (λ (ms : List Move). KeptAre ms (numbers n) (kept_of old n)) (sym (others n away)) (all n)))
 
 -- the moves of an opened session that was read out
@@ -366,7 +366,7 @@ module _ (w : World) (who : Asker) (h : List Entry) (scan : Scan) (out : List En
   others_unmoved : ReadsIt → (other : List ℕ) → bytes_eq who.user other ≡ false → moves_of w other scanned ≡ moves_of w other h
   others_unmoved reads other not = reads.others other begins not ∙ other_moves w other (entry (event_by who (Open scan)) (Opened tt)) h not
 
-  scan_kept : ReadsIt → (slots : List ℕ) (kept : Kept) → KeptAre (moves_of w who.user h) slots kept → KeptAre (moves_of w who.user scanned) slots (record kept { scanned = kept.scanned + 1 })
+  scan_kept : ReadsIt → (slots : List ℕ) (kept : UserSessions) → KeptAre (moves_of w who.user h) slots kept → KeptAre (moves_of w who.user scanned) slots (record kept { scanned = kept.scanned + 1 })
   scan_kept reads slots kept are =
       let before : List Move = moves_of w who.user h in
       let moved : moves_of w who.user begins ≡ Opening all_cells ∷ before = open_moves w who h scan tt in
@@ -377,7 +377,7 @@ module _ (w : World) (who : Asker) (h : List Entry) (scan : Scan) (out : List En
       let away : (opened before == s) ≡ false = differ (opened before) s (λ is. other (sym is)) in
       reads.apart s away begins ∙ ap (λ ms. session_in ms s) moved ∙ opening_apart before all_cells s away)
 
-pub scan_answered : (s : ScriptState) (core : Held) (kept : Keeping) (scan : Scan) (session : OpenSession) (text : List ℕ) → is_spent (own_kept s) ≡ false → Steps (base_of s.core) (event_by s.asker (Open scan)) (Opened session) (base_of core)
+pub scan_answered : (s : ScriptState) (core : CoreContents) (kept : Keeping) (scan : Scan) (session : OpenSession) (text : List ℕ) → is_spent (own_kept s) ≡ false → Steps (base_of s.core) (event_by s.asker (Open scan)) (Opened session) (base_of core)
     → OpensExactly s core scan (Opened tt)
     → KeepsFor s.asker.user (record (own_kept s) { scanned = (own_kept s).scanned + 1 }) s.kept kept
     → IsReadingText (left_of session.state) text → ScriptAnswersLine s (Ok (line.Scan scan)) text (with_sessions s core kept)
@@ -434,10 +434,10 @@ not_done w h who scan reply (inl is) =
     go true o = inr (TooLarge Sessions, refl)
     go false o = open_told o scan
 
-abbrev with_new_core : ScriptState → Held → ScriptState
+abbrev with_new_core : ScriptState → CoreContents → ScriptState
 with_new_core s core = record s { core = core }
 
-pub refused_stands : (s : ScriptState) (core : Held) (scan : Scan) (r : Refusal) (w : World) (h : List Entry) (numbers : Numbers) → Refines (world_of (base_of core)) (world_after w (entry (event_by s.asker (Open scan)) (Refused r) ∷ h)) → ScriptRefines s numbers w h
+pub refused_stands : (s : ScriptState) (core : CoreContents) (scan : Scan) (r : Refusal) (w : World) (h : List Entry) (numbers : Numbers) → Refines (world_of (base_of core)) (world_after w (entry (event_by s.asker (Open scan)) (Refused r) ∷ h)) → ScriptRefines s numbers w h
     → ScriptRefines (with_new_core s core) numbers w (entry (event_by s.asker (Open scan)) (Refused r) ∷ h)
 refused_stands s core scan r w h numbers after refines =
     let moves = λ (n : List ℕ). refused_moves w n s.asker h scan r in
@@ -447,7 +447,7 @@ refused_stands s core scan r w h numbers after refines =
       jobs = jobs_stay s.jobs (entry (event_by s.asker (Open scan)) (Refused r)) h refl refines.jobs;
     }
 
-refused_answered : (s : ScriptState) (core : Held) (scan : Scan) (r : Refusal) → is_spent (own_kept s) ≡ false → Steps (base_of s.core) (event_by s.asker (Open scan)) (Refused r) (base_of core) → OpensExactly s core scan (Refused r)
+refused_answered : (s : ScriptState) (core : CoreContents) (scan : Scan) (r : Refusal) → is_spent (own_kept s) ≡ false → Steps (base_of s.core) (event_by s.asker (Open scan)) (Refused r) (base_of core) → OpensExactly s core scan (Refused r)
     → ScriptAnswersLine s (Ok (line.Scan scan)) (refusal_text r) (with_new_core s core)
 refused_answered s core scan r room steps exact = record {
   asker = refl;
@@ -473,11 +473,11 @@ opens reply (inl e) = subst Opens (sym e) tt
 opens reply (inr e) = subst Opens (sym e.1) tt
 
 -- what refines no history answers each line
-never : (s : ScriptState) (core : Held) (scan : Scan) (text : List ℕ) → ((w : World) (h : List Entry) (numbers : Numbers) → ScriptRefines s numbers w h → ⊥) → ScriptAnswersLine s (Ok (line.Scan scan)) text (with_new_core s core)
+never : (s : ScriptState) (core : CoreContents) (scan : Scan) (text : List ℕ) → ((w : World) (h : List Entry) (numbers : Numbers) → ScriptRefines s numbers w h → ⊥) → ScriptAnswersLine s (Ok (line.Scan scan)) text (with_new_core s core)
 never s core scan text nowhere = record { asker = refl; extends = λ w h numbers refines legal. absurd (nowhere w h numbers refines) }
 
 -- each reply but an opened session
-pub kept_answered : (s : ScriptState) (core : Held) (scan : Scan) (reply : Reply OpenSession TabletMerge) → is_spent (own_kept s) ≡ false → Steps (base_of s.core) (event_by s.asker (Open scan)) reply (base_of core) → OpensExactly s core scan (told_of reply) → ((session : OpenSession) → reply ≡ Opened session → ⊥)
+pub kept_answered : (s : ScriptState) (core : CoreContents) (scan : Scan) (reply : Reply OpenSession TabletMerge) → is_spent (own_kept s) ≡ false → Steps (base_of s.core) (event_by s.asker (Open scan)) reply (base_of core) → OpensExactly s core scan (told_of reply) → ((session : OpenSession) → reply ≡ Opened session → ⊥)
     → ScriptAnswersLine s (Ok (line.Scan scan)) (reply_text (told_of reply)) (with_new_core s core)
 kept_answered s core scan (Refused r) lt steps exact other = refused_answered s core scan r lt steps exact
 kept_answered s core scan (Opened session) lt steps exact other = absurd (other session refl)
@@ -563,10 +563,10 @@ with_kept s kept = record s { kept = kept }
 
 -- a script that reads the same refines the same
 rekept : (s : ScriptState) (kept : Keeping) (numbers : Numbers) (w : World) (h : List Entry) → ((n : List ℕ) → kept_of kept n ≡ kept_of s.kept n) → ScriptRefines s numbers w h → ScriptRefines (with_kept s kept) numbers w h
-rekept s kept numbers w h same refines = record { core = refines.core; sessions = λ n. subst (λ (k : Kept). KeptAre (moves_of w n h) (numbers n) k) (sym (same n)) (refines.sessions n); jobs = refines.jobs }
+rekept s kept numbers w h same refines = record { core = refines.core; sessions = λ n. subst (λ (k : UserSessions). KeptAre (moves_of w n h) (numbers n) k) (sym (same n)) (refines.sessions n); jobs = refines.jobs }
 
 -- what it was answered stays so where the script that it left reads the same
-pub recounted : (s new : ScriptState) (kept : Keeping) (said : Result Line LineError) (text : List ℕ) → ((n : List ℕ) → kept_of kept n ≡ kept_of new.kept n)
+pub recounted : (s new : ScriptState) (kept : Keeping) (said : Result Line ParseError) (text : List ℕ) → ((n : List ℕ) → kept_of kept n ≡ kept_of new.kept n)
     → ScriptAnswersLine s said text new → ScriptAnswersLine s said text (with_kept new kept)
 recounted s new kept said text same answered = record {
   asker = answered.asker;
@@ -576,7 +576,7 @@ recounted s new kept said text same answered = record {
 }
 
 -- all is kept as it was, where this is what was kept for the user
-pub kept_same : (user : List ℕ) (own : Kept) (old new : Keeping) → KeepsFor user own old new → kept_of old user ≡ own → (n : List ℕ) → kept_of new n ≡ kept_of old n
+pub kept_same : (user : List ℕ) (own : UserSessions) (old new : Keeping) → KeepsFor user own old new → kept_of old user ≡ own → (n : List ℕ) → kept_of new n ≡ kept_of old n
 kept_same user own old new keeps is n = go (bytes_eq user n) refl
   where
     go : (b : Bool) → bytes_eq user n ≡ b → kept_of new n ≡ kept_of old n

@@ -7,7 +7,7 @@ use Rattle.std.specs.Io.KnownBytes.{Consumes}
 use Rattle.std.proofs.lemmas.Bool.{eqb-true}
 use Rattle.std.proofs.lemmas.List.{append-nil}
 use Rattle.tab_lines.specs.declared.line.Line.{Line}
-use Rattle.tab_lines.specs.declared.line_error.LineError.{LineError}
+use Rattle.tab_text.specs.declared.parse_error.ParseError.{ParseError}
 use Rattle.tab_lines.specs.Words.{parts_at}
 use Rattle.tab_shell.specs.declared.pending.Pending.{Pending}
 use Rattle.tab_replies.specs.Texts.{lines_of, without_last_empty, EndsLine}
@@ -113,7 +113,7 @@ inside_before front at is lt =
     let small : prefix_len is_inside front < length front = omega (arith, is, lt) in
     subst (λ n. IsInside (take n front)) (sym is) (front_line front small).0
 
-pub takes_line : (r r' : Option (List ℕ)) (p p' : Pending) (said : Result Line LineError) (front : List ℕ) (at : ℕ) → at ≡ prefix_len is_inside front → at < length front → Consumes r r' (take (at + 1) front)
+pub takes_line : (r r' : Option (List ℕ)) (p p' : Pending) (said : Result Line ParseError) (front : List ℕ) (at : ℕ) → at ≡ prefix_len is_inside front → at < length front → Consumes r r' (take (at + 1) front)
     → ((gone : List ℕ) → Pends p gone → ReadsLine said (gone ++ take at front)) → Pends p' [] → TakesLine r p said r' p'
 takes_line None r' p p' said front at is lt eats says none = λ (todo : List ℕ) (ahead : Ahead None p todo). absurd ahead
 takes_line (Some rest) None p p' said front at is lt eats says none = absurd eats

@@ -1,11 +1,11 @@
--- What is ahead of a reader, with the line that has begun.
+-- For proofs. What is ahead of a reader, with the line that has begun.
 use Rattle.std.specs.Prelude.{ℕ, ◌≡◌, ◌<◌, Bool, true, false, List, [], ◌∷◌, ◌++◌, length, Result, Ok, Err, Option, Some, None}
 use Rattle.std.specs.List.{prefix_len}
 use Rattle.tab_history.specs.Answers.{is_open}
 use Rattle.tab_lines.specs.declared.line.Line.{Line}
 use Rattle.tab_lines.specs.declared.line.Line.TheVariants as line
-use Rattle.tab_lines.specs.declared.line_error.LineError.{LineError}
-use Rattle.tab_lines.specs.Gives.{Gives}
+use Rattle.tab_text.specs.declared.parse_error.ParseError.{ParseError}
+use Rattle.tab_text.specs.Gives.{Gives}
 use Rattle.tab_lines.specs.Lines.{line_of}
 use Rattle.tab_shell.specs.declared.pending.Pending.{Pending}
 use Rattle.tab_shell.specs.Scripts.{is_inside, IsInside}
@@ -25,7 +25,7 @@ abbrev pub AddsOn : Pending → Pending → List ℕ → Type 0
 AddsOn old new part = (gone : List ℕ) → Pends old gone → Pends new (gone ++ part)
 
 -- what the line says, or memory lacked
-abbrev pub ReadsLine : Result Line LineError → List ℕ → Type 0
+abbrev pub ReadsLine : Result Line ParseError → List ℕ → Type 0
 ReadsLine said line = Gives (λ x. x) said (line_of line)
 
 -- todo is what has gone by of a line, and what is to come
@@ -42,7 +42,7 @@ abbrev pub AtEnd : Option (List ℕ) → Pending → List ℕ → Type 0
 AtEnd r p gone = (r ≡ Some []) × Pends p gone
 
 -- a line was taken, with its line feed
-abbrev pub TakesLine : Option (List ℕ) → Pending → Result Line LineError → Option (List ℕ) → Pending → Type 0
+abbrev pub TakesLine : Option (List ℕ) → Pending → Result Line ParseError → Option (List ℕ) → Pending → Type 0
 TakesLine r p said r' p' = (todo : List ℕ) → Ahead r p todo
     → (line : List ℕ) × (after : List ℕ) × ReadsLine said line × IsInside line × (todo ≡ line ++ 10 ∷ after) × IsNext r' p' after
 
@@ -55,7 +55,7 @@ abbrev pub TakesOn : Option (List ℕ) → Pending → Option (List ℕ) → Pen
 TakesOn r p r' p' = (todo : List ℕ) → Ahead r p todo → Ahead r' p' todo
 
 -- what was read isn't a bare act that opens a session
-abbrev pub OpensNoSession : Result Line LineError → Type 0
+abbrev pub OpensNoSession : Result Line ParseError → Type 0
 OpensNoSession (Ok line.Blank) = Unit {0}
 OpensNoSession (Ok (line.As user)) = Unit {0}
 OpensNoSession (Ok (line.At moment)) = Unit {0}

@@ -1,4 +1,4 @@
--- What reading an open session puts, a batch at a time.
+-- To be believed by whoever relies on it. What reading an open session puts, a batch at a time.
 use Rattle.std.specs.Prelude.{ℕ, ◌≡◌, ◌≢◌, ◌⊎◌, Bool, true, false, List, length, drop, Result, Ok, Err}
 use Rattle.std.specs.List.{flat_map}
 use Rattle.tab_key.specs.Records.{Cell}

@@ -1,8 +1,8 @@
--- The slots that the numbers of users' sessions stand for.
+-- To be believed by whoever relies on it. The slots that the numbers of users' sessions stand for.
 use Rattle.std.specs.Prelude.{ℕ, ◌≡◌, ◌+◌, ◌<◌, List, [], ◌∷◌, ◌++◌, length, get_or, count_by, is_some, cond, bytes_eq}
 use Rattle.tab_history.specs.Sessions.{Move, opened, closed, session_in}
 use Rattle.tab_core.specs.Slots.{slot_at}
-use Rattle.tab_core.specs.declared.sessions.Kept.{Kept}
+use Rattle.tab_core.specs.declared.sessions.UserSessions.{UserSessions}
 use Rattle.tab_core.specs.Sessions.{opened_in}
 
 -- the slots that the numbers of each user stand for, in the order of the numbers
@@ -22,7 +22,7 @@ abbrev pub slot_named : List Move → List ℕ → ℕ → ℕ
 slot_named moves slots number = get_or slots number (opened moves)
 
 -- What is kept for a user, and the slots of his numbers, are what these moves made of his sessions.
-pub record KeptAre (moves : List Move) (slots : List ℕ) (kept : Kept) : Type 0 where
+pub record KeptAre (moves : List Move) (slots : List ℕ) (kept : UserSessions) : Type 0 where
   -- as many were opened, and as many are left
   pub count : opened moves ≡ opened_in kept
   pub left : closed moves + count_by is_some kept.numbered ≡ opened_in kept

@@ -1,18 +1,18 @@
--- How far a script has come with its input, and what was put of its answers.
+-- To be believed by whoever relies on it. How far a script has come with its input, and what was put of its answers.
 use Rattle.std.specs.Prelude.{ℕ, ℤ, ◌≡◌, ◌+◌, ◌<◌, ◌^◌, ◌⊎◌, List, [], ◌∷◌, ◌++◌, length, Result, Ok, Err, Option, Some, None, IfSome}
 use Rattle.std.specs.Io.KnownBytes.{Appends}
 use Rattle.tab_io.specs.Streams.{AppendsPart}
 use Rattle.tab_io.specs.Writing.{HasPut, HasPutPart, Puts, WriteFailed}
 use Rattle.tab_io.specs.declared.reading.Input.{Ghosts as InputGhosts}
 use Rattle.tab_io.specs.declared.writing.Output.{Ghosts}
-use Rattle.tab_core.specs.Stores.{Held}
+use Rattle.tab_core.specs.Stores.{CoreContents}
 use Rattle.tab_core.specs.Sessions.{Keeping, kept_of, KeepsFor}
 use Rattle.tab_core.specs.declared.job_slots.JobSlot.{JobSlot}
-use Rattle.tab_core.specs.declared.sessions.Kept.{Kept}
+use Rattle.tab_core.specs.declared.sessions.UserSessions.{UserSessions}
 use Rattle.tab_lines.specs.declared.file_line.FileLine.{FileLine}
 use Rattle.tab_lines.specs.declared.line.Line.{Line}
 use Rattle.tab_lines.specs.declared.line.Line.TheVariants as line
-use Rattle.tab_lines.specs.declared.line_error.LineError.{LineError}
+use Rattle.tab_text.specs.declared.parse_error.ParseError.{ParseError}
 use Rattle.tab_lines.specs.Lines.{line_of}
 use Rattle.tab_shell.specs.declared.pending.Pending.{Pending}
 use Rattle.tab_shell.specs.declared.script.Ended.{Ended}
@@ -45,28 +45,28 @@ AnswersToFile old bytes file new left Holds = (mid : ScriptState) × AnswersWhol
 
 -- ---- on the way
 -- the line was answered, and its text put, or a beginning of it
-abbrev pub PrintsAnswer : {W E : Type 0} → Ghosts W → ScriptState → Result Line LineError → ScriptState → W → W → Result (Unit {0}) E → Type 0
+abbrev pub PrintsAnswer : {W E : Type 0} → Ghosts W → ScriptState → Result Line ParseError → ScriptState → W → W → Result (Unit {0}) E → Type 0
 PrintsAnswer g old said new o o' r = (text : List ℕ) × ScriptAnswersLine old said text new × Puts g o o' text r
 
 -- The same in parts, for whatever script has this core, is asked so, and keeps this for the asker: now the core is the new one, and this is kept for him.
-abbrev pub PrintsFor : {W E : Type 0} → Ghosts W → Held → Kept → List ℕ → ℤ → Result Line LineError → Held → Kept → W → W → Result (Unit {0}) E → Type 0
+abbrev pub PrintsFor : {W E : Type 0} → Ghosts W → CoreContents → UserSessions → List ℕ → ℤ → Result Line ParseError → CoreContents → UserSessions → W → W → Result (Unit {0}) E → Type 0
 PrintsFor g core kept user moment said core' kept' o o' r = (keeping keeping' : Keeping) (jobs : List JobSlot) → kept_of keeping user ≡ kept → KeepsFor user kept' keeping keeping'
     → PrintsAnswer g (record { core = core; asker = record { user = user; moment = moment }; kept = keeping; jobs = jobs }) said (record { core = core'; asker = record { user = user; moment = moment }; kept = keeping'; jobs = jobs }) o o' r
 
 -- the line is this file line, which was accepted
-abbrev pub IsAccepted : ScriptState → Result Line LineError → FileLine → ScriptState → Type 0
+abbrev pub IsAccepted : ScriptState → Result Line ParseError → FileLine → ScriptState → Type 0
 IsAccepted old said file new = (said ≡ Ok (line.File file)) × ScriptAcceptsFile old file new
 
 -- the line was answered, and its text put; or it is the file line that is handed back, which was accepted, and nothing is held; or a write failed at the one or the other
-abbrev pub AnswersOrAccepts : {W E : Type 0} → Ghosts W → ScriptState → Result Line LineError → ScriptState → W → W → Result (Option FileLine) E → Type 0
+abbrev pub AnswersOrAccepts : {W E : Type 0} → Ghosts W → ScriptState → Result Line ParseError → ScriptState → W → W → Result (Option FileLine) E → Type 0
 AnswersOrAccepts g old said new o o' (Ok None) = (text : List ℕ) × ScriptAnswersLine old said text new × HasPut g o o' text
 AnswersOrAccepts g old said new o o' (Ok (Some file)) = IsAccepted old said file new × HasPut g o o' [] × (g.held o' ≡ [])
 AnswersOrAccepts g old said new o o' (Err e) =
     ((text : List ℕ) × ScriptAnswersLine old said text new × HasPutPart g o o' text) ⊎ ((file : FileLine) × IsAccepted old said file new × HasPutPart g o o' [])
 
 -- the same of a line that was read so
-abbrev pub AnswersRead : {W E : Type 0} → Ghosts W → ScriptState → (Result Line LineError → Type 0) → ScriptState → W → W → Result (Option FileLine) E → Type 0
-AnswersRead g old Reads new o o' r = (said : Result Line LineError) × Reads said × AnswersOrAccepts g old said new o o' r
+abbrev pub AnswersRead : {W E : Type 0} → Ghosts W → ScriptState → (Result Line ParseError → Type 0) → ScriptState → W → W → Result (Option FileLine) E → Type 0
+AnswersRead g old Reads new o o' r = (said : Result Line ParseError) × Reads said × AnswersOrAccepts g old said new o o' r
 
 -- the file line is handed back, and nothing is held; or the flush failed
 abbrev pub HandsBack : {W E : Type 0} → Ghosts W → FileLine → W → W → Result (Option FileLine) E → Type 0

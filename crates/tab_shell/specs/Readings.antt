@@ -1,4 +1,4 @@
--- How a scan reads the session that it opened: the steps, and what they print.
+-- For proofs. How a scan reads the session that it opened: the steps, and what they print.
 use Rattle.std.specs.Prelude.{ℕ, zero, suc, ◌≡◌, ◌≤◌, ◌*◌, ◌/◌, List, [], ◌∷◌, length, take, drop}
 use Rattle.tab_key.specs.Records.{Cell}
 use Rattle.tab_history.specs.declared.event.Step.TheVariants.{Next, Close}

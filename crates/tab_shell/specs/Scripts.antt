@@ -1,4 +1,4 @@
--- Which histories a script refines, and what answering its lines adds to them and prints.
+-- To be believed by whoever relies on it. Which histories a script refines, and what answering its lines adds to them and prints.
 use Rattle.std.specs.Prelude.{ℕ, ℤ, pos, ◌≡◌, ◌==◌, Bool, not, List, [], ◌∷◌, ◌++◌, length, Result, Ok, Err}
 use Rattle.std.specs.List.{prefix_len}
 use Rattle.tab_key.specs.Records.{Cell}
@@ -17,7 +17,7 @@ use Rattle.tab_history.specs.Jobs.{begun}
 use Rattle.tab_history.specs.Histories.{Entry, World, world_of, world_after, journal, moves_of, jobs_of}
 use Rattle.tab_history.specs.Legal.{Legal}
 use Rattle.tab_history.specs.Refinement.{Refines}
-use Rattle.tab_core.specs.Stores.{Held, base_of}
+use Rattle.tab_core.specs.Stores.{CoreContents, base_of}
 use Rattle.tab_core.specs.JobSlots.{JobsAre, GoesExactly}
 use Rattle.tab_core.specs.declared.job_slots.JobSlot.{JobSlot}
 use Rattle.tab_lines.specs.declared.file_line.FileKind.{FileKind}
@@ -25,9 +25,9 @@ use Rattle.tab_lines.specs.declared.file_line.FileKind.TheVariants as kind
 use Rattle.tab_lines.specs.declared.file_line.FileLine.{FileLine}
 use Rattle.tab_lines.specs.declared.line.Line.{Line}
 use Rattle.tab_lines.specs.declared.line.Line.TheVariants as line
-use Rattle.tab_lines.specs.declared.line_error.LineError.{LineError}
-use Rattle.tab_lines.specs.declared.line_error.LineError.TheVariants as line_error
-use Rattle.tab_lines.specs.Gives.{Gives}
+use Rattle.tab_text.specs.declared.parse_error.ParseError.{ParseError}
+use Rattle.tab_text.specs.declared.parse_error.ParseError.TheVariants as line_error
+use Rattle.tab_text.specs.Gives.{Gives}
 use Rattle.tab_lines.specs.Lines.{line_of}
 use Rattle.tab_core.specs.Sessions.{Keeping, kept_of}
 use Rattle.tab_shell.specs.Numbers.{Numbers, with_number, slot_named, KeptAre}
@@ -42,17 +42,17 @@ pub record Asker : Type 0 where
 
 -- the core, who asks, the sessions that are kept for each user, and the jobs that all users share, by their numbers
 pub record ScriptState : Type 0 where
-  pub core : Held
+  pub core : CoreContents
   pub asker : Asker
   pub kept : Keeping
   pub jobs : List JobSlot
 
 -- a script over this core: root asks at moment 0, no session was opened, and no job begun
-abbrev pub new_script : Held → ScriptState
+abbrev pub new_script : CoreContents → ScriptState
 new_script core = record { core = core; asker = record { user = root; moment = pos 0 }; kept = []; jobs = [] }
 
 -- the script over another core: no session or job is kept, and none was opened or begun; who asks, and when, stays
-abbrev pub replaced : ScriptState → Held → ScriptState
+abbrev pub replaced : ScriptState → CoreContents → ScriptState
 replaced s core = record { core = core; asker = s.asker; kept = []; jobs = [] }
 
 -- The script refines the history h of w: its core does, for each user it keeps the sessions of h, under numbers that stand for these slots,
@@ -123,9 +123,9 @@ LineSteps who numbers w h (line.Merge job) es text = (reply : Told) × (es ≡ o
 LineSteps who numbers w h (line.File file) es text = (r : Refusal) × (es ≡ entry (event_by who (file_act file.kind)) (Refused r) ∷ []) × (text ≡ refusal_text r)
 
 -- the same for what was read of a line: a fault is no step, nor is a line for which memory lacked
-abbrev pub LineAnswered : Asker → Numbers → World → List Entry → Result Line LineError → List Entry → List ℕ → Type 0
+abbrev pub LineAnswered : Asker → Numbers → World → List Entry → Result Line ParseError → List Entry → List ℕ → Type 0
 LineAnswered who numbers w h (Ok line) es text = LineSteps who numbers w h line es text
-LineAnswered who numbers w h (Err line_error.Fault) es text = (es ≡ []) × (text ≡ fault_text)
+LineAnswered who numbers w h (Err line_error.Malformed) es text = (es ≡ []) × (text ≡ fault_text)
 LineAnswered who numbers w h (Err line_error.NoMemory) es text = (es ≡ []) × (text ≡ refusal_text refusal.NoMemory)
 
 -- the slot of a session that was opened is that of the user's next number
@@ -134,12 +134,12 @@ numbers_told numbers user slot (Opened session) = with_number numbers user slot
 numbers_told numbers user slot reply = numbers
 
 -- what numbers stand for after the line: an open line gives one, where its session was opened
-abbrev pub numbers_after : Asker → Numbers → World → List Entry → Result Line LineError → List Entry → Numbers
+abbrev pub numbers_after : Asker → Numbers → World → List Entry → Result Line ParseError → List Entry → Numbers
 numbers_after who numbers w h (Ok (line.Open scan)) (e ∷ es) = numbers_told numbers who.user (opened (moves_of w who.user h)) e.reply
 numbers_after who numbers w h said es = numbers
 
 -- who asks after the line
-abbrev pub asker_after : Asker → Result Line LineError → Asker
+abbrev pub asker_after : Asker → Result Line ParseError → Asker
 asker_after who (Ok (line.As user)) = record who { user = user }
 asker_after who (Ok (line.At moment)) = record who { moment = moment }
 asker_after who (Ok line.Blank) = who
@@ -154,7 +154,7 @@ asker_after who (Ok (line.File file)) = who
 asker_after who (Err error) = who
 
 -- from each legal history that the script refined it went on by the entries of this line
-pub record ScriptAnswersLine (old : ScriptState) (said : Result Line LineError) (text : List ℕ) (new : ScriptState) : Type 0 where
+pub record ScriptAnswersLine (old : ScriptState) (said : Result Line ParseError) (text : List ℕ) (new : ScriptState) : Type 0 where
   pub asker : new.asker ≡ asker_after old.asker said
   pub extends : (w : World) (h : List Entry) (numbers : Numbers) → ScriptRefines old numbers w h → Legal w h
       → (es : List Entry) × LineAnswered old.asker numbers w h said es text × ScriptGoes old w h es (numbers_after old.asker numbers w h said es) new
@@ -169,7 +169,7 @@ pub record ScriptAcceptsFile (old : ScriptState) (file : FileLine) (new : Script
 abbrev pub LinesAnswered : Asker → Numbers → World → List Entry → List (List ℕ) → List Entry → List ℕ → Asker → Numbers → Type 0
 LinesAnswered who numbers w h [] es text last after = (es ≡ []) × (text ≡ []) × (last ≡ who) × (after ≡ numbers)
 LinesAnswered who numbers w h (line ∷ lines) es text last after =
-    (said : Result Line LineError) × (first : List Entry) × (more : List Entry) × (t : List ℕ) × (u : List ℕ)
+    (said : Result Line ParseError) × (first : List Entry) × (more : List Entry) × (t : List ℕ) × (u : List ℕ)
     × Gives (λ x. x) said (line_of line) × LineAnswered who numbers w h said first t
     × LinesAnswered (asker_after who said) (numbers_after who numbers w h said first) w (first ++ h) lines more u last after × (es ≡ more ++ first) × (text ≡ t ++ u)
 

@@ -26,5 +26,5 @@ mod script;
 pub use laws::runs_are_one;
 pub use pending::{Pending, take_line};
 pub use script::{Ended, Script, ScriptFault};
-pub use tab_lines::{FileKind, FileLine, FileName, Line, LineError, read_line};
+pub use tab_lines::{FileKind, FileLine, FileName, Line, ParseError, read_line};
 pub use tab_replies::{put_begun, put_cells, put_next, put_opened, write_reply};

@@ -5,7 +5,7 @@ ghost use Rattle.tab_shell.specs.Ahead.{Pends, AddsOn, ReadsLine, TakesLine, Tak
 
 use std::alloc::Global;
 use tab_io::{Input, length_before};
-use tab_lines::{Line, LineError, read_line};
+use tab_lines::{Line, ParseError, read_line};
 
 /// The bytes of a line that has begun. Where memory for them lacked, only that there are some.
 #[derive(Drop)]
@@ -65,18 +65,18 @@ impl Pending {
     }
 
     /// What the line says, which ends in this part.
-    pub fn said(&mut self, alloc: Global, part: &[u8]) -> Result<Line, LineError>
+    pub fn said(&mut self, alloc: Global, part: &[u8]) -> Result<Line, ParseError>
         ensures line { (gone : List ℕ) → Pends self.old gone → ReadsLine result (gone ++ part.now) }
         ensures none { OpensNoSession result }
     {
         if self.lost {
-            return Err(LineError::NoMemory);
+            return Err(ParseError::NoMemory);
         }
         if self.bytes.is_empty() {
             return read_line(alloc, part);
         }
         if self.bytes.extend_from_slice(part).is_err() {
-            return Err(LineError::NoMemory);
+            return Err(ParseError::NoMemory);
         }
         read_line(alloc, &self.bytes)
     }
@@ -109,7 +109,7 @@ pub fn take_line<R: Input>(
     alloc: Global,
     input: &mut R,
     pending: &mut Pending,
-) -> Option<Result<Line, LineError>>
+) -> Option<Result<Line, ParseError>>
     ensures taken { MatchOption result
         ((R.front input.new ≡ []) × TakesOn (R.remaining input.old) pending.old (R.remaining input.new) pending.new)
         (λ said. (length (R.front input.new) < length (R.front input.old)) × TakesLine (R.remaining input.old) pending.old said (R.remaining input.new) pending.new) }

@@ -6,10 +6,10 @@ ghost use Rattle.tab_shell.specs.Progress.{PrintsFor};
 
 use crate::batches::put_session;
 use std::alloc::Global;
-use tab_core::{Answer, Core, Kept, told};
+use tab_core::{Answer, Core, UserSessions, told};
 use tab_history::{Refusal, Reply, Scan};
 use tab_io::{Output, WriteFault};
-use tab_key::{Name, Part};
+use tab_key::{LimitedPart, Name};
 use tab_lines::Line;
 use tab_replies::{put_opened, put_refusal, write_reply};
 
@@ -18,7 +18,7 @@ use tab_replies::{put_opened, put_refusal, write_reply};
 pub fn scan_now<W: Output>(
     alloc: Global,
     core: &mut Core,
-    kept: &mut Kept,
+    kept: &mut UserSessions,
     user: &Name,
     moment: i64,
     scan: &mut Scan,
@@ -27,7 +27,7 @@ pub fn scan_now<W: Output>(
     ensures { PrintsFor W.Output core.old kept.old user.now moment (Ok (Line.Scan scan.old)) core.new kept.new output.old output.new result }
 {
     if kept.is_spent() {
-        return write_refused(output, Refusal::TooLarge(Part::Sessions));
+        return write_refused(output, Refusal::TooLarge(LimitedPart::Sessions));
     }
     match core.open_lent(alloc, user, moment, scan) {
         Reply::Opened(session) => {
@@ -42,7 +42,7 @@ pub fn scan_now<W: Output>(
 pub fn open_numbered<W: Output>(
     alloc: Global,
     core: &mut Core,
-    kept: &mut Kept,
+    kept: &mut UserSessions,
     user: &Name,
     moment: i64,
     scan: &mut Scan,
@@ -51,7 +51,7 @@ pub fn open_numbered<W: Output>(
     ensures { PrintsFor W.Output core.old kept.old user.now moment (Ok (Line.Open scan.old)) core.new kept.new output.old output.new result }
 {
     if kept.is_spent() {
-        return write_refused(output, Refusal::TooLarge(Part::Sessions));
+        return write_refused(output, Refusal::TooLarge(LimitedPart::Sessions));
     }
     let number = kept.numbered.numbers_given() as u64;
     let reply = kept.numbered.open(alloc, core, user, moment, scan);

@@ -16,7 +16,7 @@ use tab_core::{Core, JobSlots, Sessions};
 use tab_history::{Act, Refusal, Scan};
 use tab_io::{Input, Output, WriteFault};
 use tab_key::{Bounds, Items, Name};
-use tab_lines::{FileLine, Line, LineError, read_line};
+use tab_lines::{FileLine, Line, ParseError, read_line};
 use tab_replies::{put_begun, put_next, write_reply};
 
 /// How a run of a script ended.
@@ -148,7 +148,7 @@ impl Script {
     // The same for what was read of it.
     fn answer_read<W: Output>(
         &mut self,
-        said: &mut Result<Line, LineError>,
+        said: &mut Result<Line, ParseError>,
         output: &mut W,
     ) -> Result<Option<FileLine>, WriteFault>
         requires { OpensNoSession said.old }
@@ -156,8 +156,8 @@ impl Script {
     {
         match said {
             Ok(line) => self.does(line, output),
-            Err(LineError::Fault) => printed(self.faults(output)),
-            Err(LineError::NoMemory) => printed(self.lacks_memory(output)),
+            Err(ParseError::Malformed) => printed(self.faults(output)),
+            Err(ParseError::NoMemory) => printed(self.lacks_memory(output)),
         }
     }
 
@@ -231,14 +231,14 @@ impl Script {
 
     #[tactic(auto, using(tab_io::proofs::Putting::puts, crate::proofs::Saying::fault_prints))]
     fn faults<W: Output>(&mut self, output: &mut W) -> Result<(), WriteFault>
-        ensures { PrintsAnswer W.Output self.old (Err LineError.Fault) self.new output.old output.new result }
+        ensures { PrintsAnswer W.Output self.old (Err ParseError.Malformed) self.new output.old output.new result }
     {
         output.put(b"line fault\n")
     }
 
     #[tactic(auto, using(tab_io::proofs::Putting::puts, crate::proofs::Saying::memory_prints))]
     fn lacks_memory<W: Output>(&mut self, output: &mut W) -> Result<(), WriteFault>
-        ensures { PrintsAnswer W.Output self.old (Err LineError.NoMemory) self.new output.old output.new result }
+        ensures { PrintsAnswer W.Output self.old (Err ParseError.NoMemory) self.new output.old output.new result }
     {
         output.put(b"refused 17 NoMemory\n")
     }

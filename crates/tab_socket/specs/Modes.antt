@@ -1,4 +1,4 @@
--- What a text says of a file's mode.
+-- To be believed by whoever relies on it. What a text says of a file's mode.
 use Rattle.std.specs.Prelude.{ℕ, ◌≤◌, List, Option, SomeIff}
 use Rattle.std.specs.Str.Parse.{IsNumeral, digits_value}
 

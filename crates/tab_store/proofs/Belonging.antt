@@ -17,8 +17,8 @@ use Rattle.tab_tablets.specs.ByRow.{at_row, tablet_of, is_end}
 use Rattle.tab_tablets.specs.Parts.{TabletMerge, capture_in, found_for}
 use Rattle.tab_tablets.specs.Splits.{is_full, split_in, splits, split_found, halved, halves}
 use Rattle.tab_tablets.specs.declared.Installed.{Installed}
-use Rattle.tab_tablets.specs.declared.split.Split.{Split}
-use Rattle.tab_tablets.specs.declared.split.Split.TheVariants as split
+use Rattle.tab_tablets.specs.declared.splitting.Split.{Split}
+use Rattle.tab_tablets.specs.declared.splitting.Split.TheVariants as split
 use Rattle.tab_tablets.proofs.Merged.{compacted_end}
 use Rattle.tab_tablets.proofs.Parted.{nat_same, some_is}
 use Rattle.tab_tablets.proofs.Rows.{beyond}
@@ -30,7 +30,7 @@ use Rattle.tab_history.specs.declared.event.Step.{Step}
 use Rattle.tab_history.specs.declared.event.Step.TheVariants.{Event as IsEvent, Next}
 use Rattle.tab_history.specs.declared.reply.Refusal.TheVariants.{NoMemory, Stale}
 use Rattle.tab_history.specs.declared.reply.Reply.TheVariants.{Done, Refused, Begun}
-use Rattle.tab_store.specs.Stores.{Held, table_in, tablets_in}
+use Rattle.tab_store.specs.Stores.{CoreContents, table_in, tablets_in}
 use Rattle.tab_store.specs.Stepping.{TabletWork, Freezing, Writing, Compacting, Counting, Splitting, Halving, Listing, Beginning, Installing, TableWork, Aside, Making, Dropping, On, Place, floor_at, told_install, lays, work_of, place_of, lays_in, told_by, laid_by, job_by, handed, tablet_told, told_exactly, laid_exactly, laid_told}
 use Rattle.tab_store.specs.Chains.{Running, given_in, by_hand, RunsExactly, EntryGoes}
 use Rattle.tab_store.specs.Numbers.{has_number, NumbersDiffer, AreNumbered, IsNumbered}
@@ -205,7 +205,7 @@ module _ (k : ℕ) (row : List ℕ) (p : Place) (few : p.tablet < 18446744073709
   work_stays (Installing given) plain = after_install (λ after. Stays k row ts after) ts unchanged (λ m. put m.row (with_merge m.merge) (with_merge_number m.merge) (with_merge_end m.merge)) plain given
 
 -- ---- all tables
-module _ (k : ℕ) (row : List ℕ) (old : Held) (few : old.tablet < 18446744073709551615) (lt : k < old.tablet) (now : ℤ) (q : List ℕ) where
+module _ (k : ℕ) (row : List ℕ) (old : CoreContents) (few : old.tablet < 18446744073709551615) (lt : k < old.tablet) (now : ℤ) (q : List ℕ) where
   abbrev Goes : List Tablet → Type 0
   Goes after = Stays k row (tablets_in old q) after
 
@@ -318,7 +318,7 @@ row_alone row (t ∷ ts) x d e = go (is_up_to t.end row) (row_alone row ts x d.1
     go true ih q = let is : t ≡ x = some_is t x q in ap (λ (y : Tablet). has_number y.number ts) (sym is) ∙ d.0
     go false ih q = or_none (t.number == x.number) (has_number x.number (beside_row row ts)) (other (row_has row ts x q)) (ih q)
 
-module _ (old : Held) (now : ℤ) (given : Option TabletMerge) (t row : List ℕ) (kind : Compaction) where
+module _ (old : CoreContents) (now : ℤ) (given : Option TabletMerge) (t row : List ℕ) (kind : Compaction) where
   abbrev p : Place
   p = place_of old now (table_in old t)
 
@@ -366,7 +366,7 @@ begun_belong old new now given t row kind plain told m was exact =
     )
 
 -- ---- an install into another table
-module _ (old : Held) (now : ℤ) (q r : List ℕ) (m : TabletMerge) (b : BelongsTo q m (tablets_in old) old.tablet) (ne : r ≢ q) where
+module _ (old : CoreContents) (now : ℤ) (q r : List ℕ) (m : TabletMerge) (b : BelongsTo q m (tablets_in old) old.tablet) (ne : r ≢ q) where
   none_there : has_number m.merge.tablet (tablets_in old r) ≡ false
   none_there = by_bool (has_number m.merge.tablet (tablets_in old r)) (λ h. absurd (ne (b.table r h))) (λ f. f)
 

@@ -8,7 +8,7 @@ use Rattle.tab_key.specs.Sorted.{sorted, IsDistinct}
 use Rattle.tab_key.proofs.Rising.{in_from}
 use Rattle.tab_tablets.specs.ByRow.{records_of_all}
 use Rattle.tab_tablets.specs.Parts.{TabletMerge}
-use Rattle.tab_key.specs.declared.part.Part.TheVariants.{Sessions}
+use Rattle.tab_key.specs.declared.limited_part.LimitedPart.TheVariants.{Sessions}
 use Rattle.tab_history.specs.Bases.{Base}
 use Rattle.tab_history.specs.Runs.{IsNoEvent}
 use Rattle.tab_history.specs.declared.reply.Refusal.TheVariants.{NoMemory, TooLarge, NoSession, NoJob}
@@ -27,7 +27,7 @@ use Rattle.tab_history.specs.declared.event.Step.TheVariants.{Event as IsEvent, 
 use Rattle.tab_history.proofs.Chains.{sound_refines_itself, chains_refine}
 use Rattle.tab_history.proofs.GoesOnLemmas.{goes_on}
 use Rattle.tab_history.proofs.Playing.{unmoved}
-use Rattle.tab_store.specs.Stores.{HeldTable, Held, base_table_of, base_of, table_in, tablets_found, tablets_in}
+use Rattle.tab_store.specs.Stores.{TableContents, CoreContents, base_table_of, base_of, table_in, tablets_found, tablets_in}
 use Rattle.tab_store.specs.Rightness.{IsStore, NewStoresAreStores, StoresAreSound}
 use Rattle.tab_store.specs.Numbers.{AreNumbered, NewStoresAreNumbered}
 use Rattle.tab_store.specs.Stepping.{entry_of}
@@ -37,7 +37,7 @@ use Rattle.tab_store.proofs.Reading.{bases_read}
 use Rattle.tab_store.proofs.Staying.{stores_stay}
 
 -- ---- a new core
-no_tables : (ts : List HeldTable) → map base_table_of ts ≡ [] → ts ≡ []
+no_tables : (ts : List TableContents) → map base_table_of ts ≡ [] → ts ≡ []
 no_tables [] e = refl
 no_tables (t ∷ ts) e = absurd (cc)
 
@@ -56,7 +56,7 @@ pub stores_are_sound : StoresAreSound
 unfolding next_number
 stores_are_sound h store q = subst (λ us. IsDistinct us × ((u : Record) → Contains us u → u.seq < h.next)) (sym (bases_read h q).1) (go (table_in h q) refl)
   where
-    go : (o : Option HeldTable) → table_in h q ≡ o → IsDistinct (sorted (records_of_all (tablets_found o))) × ((u : Record) → Contains (sorted (records_of_all (tablets_found o))) u → u.seq < h.next)
+    go : (o : Option TableContents) → table_in h q ≡ o → IsDistinct (sorted (records_of_all (tablets_found o))) × ((u : Record) → Contains (sorted (records_of_all (tablets_found o))) u → u.seq < h.next)
     go None e = (tt, λ u c. absurd (in_from [] u c))
     go (Some t) e = let r = self_refines t.tablets h.next t.settings.versions _ (store.tables q t e) in (r.updates_once, r.numbered)
 
@@ -108,22 +108,22 @@ chains_stay first last (e ∷ es) store chain =
     entry_stays (world_of (base_of first.held)) es chain.0 last e chain.2 so_far.0 so_far.1
 
 -- ---- a core behind a connection
-served_exactly : (w : World) (es : List Entry) (before last : Held) (step : Step) (r : Told) → DoesAlone before step r last → Refines (world_of (base_of before)) (world_after w es) → Refines (world_of (base_of last)) (world_after w (record { step = step; reply = r } ∷ es))
+served_exactly : (w : World) (es : List Entry) (before last : CoreContents) (step : Step) (r : Told) → DoesAlone before step r last → Refines (world_of (base_of before)) (world_after w es) → Refines (world_of (base_of last)) (world_after w (record { step = step; reply = r } ∷ es))
 served_exactly w es before last (IsEvent event) r x refines = (goes_on w es (base_of before) (entry_of event r) (base_of last) refines x.1.right).refines
 served_exactly w es before last step r x refines = absurd x
 
 -- an entry leaves a core that refines what the entry leaves
-pub served_refines : (w : World) (es : List Entry) (before last : Held) (e : Entry) → ServedGoes before e last → Refines (world_of (base_of before)) (world_after w es) → Refines (world_of (base_of last)) (world_after w (e ∷ es))
+pub served_refines : (w : World) (es : List Entry) (before last : CoreContents) (e : Entry) → ServedGoes before e last → Refines (world_of (base_of before)) (world_after w es) → Refines (world_of (base_of last)) (world_after w (e ∷ es))
 served_refines w es before last e (inl x) refines = served_exactly w es before last e.step e.reply x refines
-served_refines w es before last e (inr x) refines = subst (λ (h : Held). Refines (world_of (base_of h)) (world_after w (e ∷ es))) (sym x.1) (stays_refines w es e (base_of before) x.0 refines)
+served_refines w es before last e (inr x) refines = subst (λ (h : CoreContents). Refines (world_of (base_of h)) (world_after w (e ∷ es))) (sym x.1) (stays_refines w es e (base_of before) x.0 refines)
 
 -- ---- events alone
 -- each exact step is a right one
-right_step : (before last : Held) (step : Step) (r : Told) → DoesExactly before step r last → GoesRight (base_of before) (record { step = step; reply = r }) (base_of last)
+right_step : (before last : CoreContents) (step : Step) (r : Told) → DoesExactly before step r last → GoesRight (base_of before) (record { step = step; reply = r }) (base_of last)
 right_step before last (IsEvent event) r x = x.3.right
 right_step before last step r x = absurd x
 
-right_chain : (first last : Held) (es : List Entry) → IsChain EventGoes first es last → IsChain GoesRight (base_of first) es (base_of last)
+right_chain : (first last : CoreContents) (es : List Entry) → IsChain EventGoes first es last → IsChain GoesRight (base_of first) es (base_of last)
 right_chain first last [] same = ap base_of same
 right_chain first last (e ∷ es) chain = (base_of chain.0, right_chain first chain.0 es chain.1, right_step chain.0 last e.step e.reply chain.2)
 

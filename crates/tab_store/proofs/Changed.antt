@@ -21,7 +21,7 @@ use Rattle.tab_history.specs.Answers.{Told}
 use Rattle.tab_history.specs.declared.event.TimeMode.{TimeMode}
 use Rattle.tab_store.specs.declared.setting.Setting.{Setting}
 use Rattle.tab_store.specs.declared.setting.Setting.TheVariants.{Constraints, Versions, Horizon}
-use Rattle.tab_store.specs.Stores.{HeldTable, Held, base_of, base_table_of, table_in, tablets_found, tablets_in}
+use Rattle.tab_store.specs.Stores.{TableContents, CoreContents, base_of, base_table_of, table_in, tablets_found, tablets_in}
 use Rattle.tab_store.specs.Stepping.{TabletWork, Freezing, Writing, Compacting, Counting, Splitting, Halving, Listing, Beginning, Installing, Making, Dropping, On, place_of, told_job, told_install, begun_by, lays, lays_in, told_by, laid_by, job_by}
 use Rattle.tab_store.specs.Keeping.{settings_in}
 use Rattle.tab_store.specs.Rightness.{IsStore}
@@ -29,36 +29,36 @@ use Rattle.tab_store.specs.Tables.{TableState, made_table, with_tablets, with_se
 use Rattle.tab_store.proofs.Reading.{bases_read}
 
 -- ---- what is read of a table
-found_tablets : (o : Option HeldTable) → tablets_found o ≡ tablets_of (option_map state_of o)
+found_tablets : (o : Option TableContents) → tablets_found o ≡ tablets_of (option_map state_of o)
 found_tablets None = refl
 found_tablets (Some t) = refl
 
-found_settings : (o : Option HeldTable) → settings_in o ≡ settings_at (option_map state_of o)
+found_settings : (o : Option TableContents) → settings_in o ≡ settings_at (option_map state_of o)
 found_settings None = refl
 found_settings (Some t) = refl
 
 -- its tablets
-pub tablets_read : (h : Held) (q : List ℕ) → tablets_in h q ≡ tablets_of (table_at h.tables q)
+pub tablets_read : (h : CoreContents) (q : List ℕ) → tablets_in h q ≡ tablets_of (table_at h.tables q)
 tablets_read h q = found_tablets (table_in h q)
 
 -- what it is set to
-pub settings_read : (h : Held) (q : List ℕ) → settings_of (base_of h) [] q ≡ settings_at (table_at h.tables q)
+pub settings_read : (h : CoreContents) (q : List ℕ) → settings_of (base_of h) [] q ≡ settings_at (table_at h.tables q)
 settings_read h q = (bases_read h q).0 ∙ found_settings (table_in h q)
 
 -- the records that histories read of it
-pub records_read : (h : Held) (q : List ℕ) → updates_of (base_of h) [] q ≡ sorted (records_of_all (tablets_of (table_at h.tables q)))
+pub records_read : (h : CoreContents) (q : List ℕ) → updates_of (base_of h) [] q ≡ sorted (records_of_all (tablets_of (table_at h.tables q)))
 records_read h q = (bases_read h q).1 ∙ ap (λ ts. sorted (records_of_all ts)) (tablets_read h q)
 
 -- and how many there are
-pub count_read : (h : Held) → table_count (base_of h) [] ≡ length h.tables
+pub count_read : (h : CoreContents) → table_count (base_of h) [] ≡ length h.tables
 unfolding table_count
 count_read h = length-map h.tables base_table_of
 
 -- the number of the next write is above those of all records of a store
-pub next_unused : (h : Held) → IsStore h → (q : List ℕ) (u : Record) → Contains (records_of_all (tablets_of (table_at h.tables q))) u → u.seq < h.next
+pub next_unused : (h : CoreContents) → IsStore h → (q : List ℕ) (u : Record) → Contains (records_of_all (tablets_of (table_at h.tables q))) u → u.seq < h.next
 next_unused h store q u c = go (table_in h q) refl c
   where
-    go : (o : Option HeldTable) → table_in h q ≡ o → Contains (records_of_all (tablets_of (option_map state_of o))) u → u.seq < h.next
+    go : (o : Option TableContents) → table_in h q ≡ o → Contains (records_of_all (tablets_of (option_map state_of o))) u → u.seq < h.next
     go None e k = absurd (in_from [] u k)
     go (Some t) e k = (store.tables q t e).numbered u k
 
@@ -73,7 +73,7 @@ same_either : {X : Type 0} (v : Bool) (x : X) → x ≡ cond v x x
 same_either true x = refl
 same_either false x = refl
 
-module _ (old new : Held) (t : List ℕ) where
+module _ (old new : CoreContents) (t : List ℕ) where
   -- the table t is put in its place or taken away, and all others stay
   abbrev pub Renews : Option TableState → Type 0
   Renews o = (q : List ℕ) → table_at new.tables q ≡ cond (bytes_eq t q) o (table_at old.tables q)
@@ -101,7 +101,7 @@ module _ (old new : Held) (t : List ℕ) where
 
   module _ (now : ℤ) (plain : Told) where
     -- the tablets of each table are those that the work leaves
-    abbrev worked_on : TabletWork → Option HeldTable → List Tablet
+    abbrev worked_on : TabletWork → Option TableContents → List Tablet
     worked_on work o = (lays_in old now work plain o).1
 
     pub table_made : (time : TimeMode) (n : ℕ) → Renews (Some (made_table time n old.tablet)) → (q : List ℕ) → tablets_in new q ≡ laid_by old now (Making t) plain q
@@ -110,11 +110,11 @@ module _ (old new : Held) (t : List ℕ) where
     pub table_dropped : Renews None → (q : List ℕ) → tablets_in new q ≡ laid_by old now (Dropping t) plain q
     table_dropped f = renewed None f
 
-    worked : (work : TabletWork) (f : TableState → TableState) → ((x : HeldTable) → (f (state_of x)).tablets ≡ worked_on work (Some x)) → [] ≡ worked_on work None → Changes f
+    worked : (work : TabletWork) (f : TableState → TableState) → ((x : TableContents) → (f (state_of x)).tablets ≡ worked_on work (Some x)) → [] ≡ worked_on work None → Changes f
         → (q : List ℕ) → tablets_in new q ≡ laid_by old now (On t work) plain q
     worked work f some none g q = tablets_read new q ∙ ap tablets_of (g q) ∙ go (bytes_eq t q) (table_in old q)
       where
-        go : (v : Bool) (o : Option HeldTable) → tablets_of (cond v (option_map f (option_map state_of o)) (option_map state_of o)) ≡ cond v (worked_on work o) (tablets_found o)
+        go : (v : Bool) (o : Option TableContents) → tablets_of (cond v (option_map f (option_map state_of o)) (option_map state_of o)) ≡ cond v (worked_on work o) (tablets_found o)
         go true None = none
         go true (Some x) = some x
         go false None = refl
@@ -202,12 +202,12 @@ module _ (old new : Held) (t : List ℕ) where
       go false o = refl
 
 -- ---- merges that begin and are installed
-module _ (old : Held) (now : ℤ) (t : List ℕ) (plain : Told) where
+module _ (old : CoreContents) (now : ℤ) (t : List ℕ) (plain : Told) where
   -- the one that begins
   pub begun_read : (row : List ℕ) (kind : Compaction) → begun_in row old.job kind now (table_at old.tables t) ≡ job_by old now (On t (Beginning row kind))
   begun_read row kind = go (table_in old t)
     where
-      go : (o : Option HeldTable) → begun_in row old.job kind now (option_map state_of o) ≡ begun_by (place_of old now o) (Beginning row kind) (tablets_found o)
+      go : (o : Option TableContents) → begun_in row old.job kind now (option_map state_of o) ≡ begun_by (place_of old now o) (Beginning row kind) (tablets_found o)
       go None = refl
       go (Some x) = refl
 
@@ -222,7 +222,7 @@ module _ (old : Held) (now : ℤ) (t : List ℕ) (plain : Told) where
   installed_told m = ap (λ ts. told_install plain (installs_in m ts).0) (sym (tablets_read old t))
 
 -- ---- where tables read as before
-module _ (old new : Held) (same : (q : List ℕ) → table_at new.tables q ≡ table_at old.tables q) where
+module _ (old new : CoreContents) (same : (q : List ℕ) → table_at new.tables q ≡ table_at old.tables q) where
   pub tablets_same : (q : List ℕ) → tablets_in new q ≡ tablets_in old q
   tablets_same q = tablets_read new q ∙ ap tablets_of (same q) ∙ sym (tablets_read old q)
 
@@ -230,7 +230,7 @@ module _ (old new : Held) (same : (q : List ℕ) → table_at new.tables q ≡ t
   settings_same q = settings_read new q ∙ ap settings_at (same q) ∙ sym (settings_read old q)
 
 -- ---- a table put in and taken away again
-module _ (old mid after : List HeldTable) (t : List ℕ) (s : TableState) (absent : is_some (table_at old t) ≡ false)
+module _ (old mid after : List TableContents) (t : List ℕ) (s : TableState) (absent : is_some (table_at old t) ≡ false)
     (put : (q : List ℕ) → table_at mid q ≡ cond (bytes_eq t q) (Some s) (table_at old q)) (taken : (q : List ℕ) → table_at after q ≡ cond (bytes_eq t q) None (table_at mid q)) where
   pub tables_back : (q : List ℕ) → table_at after q ≡ table_at old q
   tables_back q = taken q ∙ ap (λ o. cond (bytes_eq t q) None o) (put q) ∙ go (bytes_eq t q) refl

@@ -13,7 +13,7 @@ use Rattle.tab_tablets.specs.Due.{number_due}
 use Rattle.tab_tablets.specs.Places.{tablet_at}
 use Rattle.tab_tablets.specs.declared.DueKind.{DueKind}
 use Rattle.tab_tablets.specs.declared.DueKind.TheVariants.{Minor, Partial, Split}
-use Rattle.tab_store.specs.Stores.{HeldTable}
+use Rattle.tab_store.specs.Stores.{TableContents}
 use Rattle.tab_store.specs.Due.{due_among, all_due, due_as, due_in, due_in_order, are_apart, each_once, is_new, listed_on, due_listed, first_work, DueIsFirst}
 use Rattle.tab_store.specs.declared.due.Due.{Due}
 
@@ -38,8 +38,8 @@ first_among kind (t ∷ ts) = go (is_due kind t) (first_among kind ts)
     go true ih = refl
     go false ih = ih
 
-first_as : (kind : DueKind) (ts : List HeldTable) → first_work (all_due kind ts) ≡ due_as kind ts
-first_as kind ts = first_among kind (flat_map (λ (t : HeldTable). t.tablets) ts)
+first_as : (kind : DueKind) (ts : List TableContents) → first_work (all_due kind ts) ≡ due_as kind ts
+first_as kind ts = first_among kind (flat_map (λ (t : TableContents). t.tablets) ts)
 
 pub due_is_first : DueIsFirst
 unfolding due_in due_listed
@@ -163,5 +163,5 @@ is_at_work kind t number e = go (is_due kind t) e
     go false e = absurd (cc)
 
 -- ---- table by table
-pub all_from : (kind : DueKind) (t : HeldTable) (ts : List HeldTable) → all_due kind (t ∷ ts) ≡ due_among kind t.tablets ++ all_due kind ts
-all_from kind t ts = among_more kind t.tablets (flat_map (λ (u : HeldTable). u.tablets) ts)
+pub all_from : (kind : DueKind) (t : TableContents) (ts : List TableContents) → all_due kind (t ∷ ts) ≡ due_among kind t.tablets ++ all_due kind ts
+all_from kind t ts = among_more kind t.tablets (flat_map (λ (u : TableContents). u.tablets) ts)

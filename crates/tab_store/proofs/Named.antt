@@ -10,7 +10,7 @@ use Rattle.std.proofs.lemmas.Slice.Eq.{bytes_eq-Decides}
 use Rattle.tab_key.specs.Bytes.{bytes_cmp}
 use Rattle.tab_policy.specs.Entries.{at_name, changed_at}
 use Rattle.tab_policy.proofs.NameLemmas.{same_name}
-use Rattle.tab_store.specs.Stores.{HeldTable, RiseByName}
+use Rattle.tab_store.specs.Stores.{TableContents, RiseByName}
 use Rattle.tab_store.specs.Tables.{TableState, named_table, state_of, table_at, changed_table}
 
 bytes_sym : (a b : List ℕ) → bytes_eq a b ≡ bytes_eq b a
@@ -32,9 +32,9 @@ Entries = List (List ℕ × TableState)
 
 pub table_found : (es : Entries) (q : List ℕ) → table_at (map named_table es) q ≡ at_name q es
 table_found [] q = refl
-table_found (e ∷ es) q = ap (λ b. option_map state_of (cond b (Some (named_table e)) (find (λ (t : HeldTable). bytes_eq t.name q) (map named_table es)))) (name_is e.0 q) ∙ go (is_eq (bytes_cmp q e.0)) (table_found es q)
+table_found (e ∷ es) q = ap (λ b. option_map state_of (cond b (Some (named_table e)) (find (λ (t : TableContents). bytes_eq t.name q) (map named_table es)))) (name_is e.0 q) ∙ go (is_eq (bytes_cmp q e.0)) (table_found es q)
   where
-    go : (b : Bool) → table_at (map named_table es) q ≡ at_name q es → option_map state_of (cond b (Some (named_table e)) (find (λ (t : HeldTable). bytes_eq t.name q) (map named_table es))) ≡ cond b (Some e.1) (at_name q es)
+    go : (b : Bool) → table_at (map named_table es) q ≡ at_name q es → option_map state_of (cond b (Some (named_table e)) (find (λ (t : TableContents). bytes_eq t.name q) (map named_table es))) ≡ cond b (Some e.1) (at_name q es)
     go true ih = refl
     go false ih = ih
 
@@ -75,7 +75,7 @@ one_fewer true left had e = omega (arith, e)
 one_fewer false left had e = omega (arith, e)
 
 -- ---- their names
-names_read : (es : Entries) → map (λ (t : HeldTable). t.name) (map named_table es) ≡ keys_of es
+names_read : (es : Entries) → map (λ (t : TableContents). t.name) (map named_table es) ≡ keys_of es
 names_read [] = refl
 names_read (e ∷ es) = ap (λ ns. e.0 ∷ ns) (names_read es)
 

@@ -12,8 +12,8 @@ use Rattle.tab_tablets.specs.Tablets.{Tablet, next_number, is_up_to, written, fr
 use Rattle.tab_tablets.specs.Splitting.{split_at, middle_row, rows_in}
 use Rattle.tab_tablets.specs.ByRow.{at_row, tablet_of, is_end}
 use Rattle.tab_tablets.specs.Splits.{is_full, split_in, splits, split_found, halved, halves}
-use Rattle.tab_tablets.specs.declared.split.Split.{Split}
-use Rattle.tab_tablets.specs.declared.split.Split.TheVariants as split
+use Rattle.tab_tablets.specs.declared.splitting.Split.{Split}
+use Rattle.tab_tablets.specs.declared.splitting.Split.TheVariants as split
 use Rattle.tab_tablets.proofs.Parted.{nat_same}
 use Rattle.tab_history.specs.Answers.{Told}
 use Rattle.tab_history.specs.declared.reply.Reply.TheVariants.{Done}

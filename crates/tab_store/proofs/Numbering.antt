@@ -15,8 +15,8 @@ use Rattle.tab_history.specs.declared.event.Event.{Event}
 use Rattle.tab_history.specs.declared.reply.Refusal.{Refusal}
 use Rattle.tab_history.specs.declared.reply.Refusal.TheVariants.{NoMemory, TooLarge}
 use Rattle.tab_history.specs.declared.reply.Reply.TheVariants.{Done, Refused}
-use Rattle.tab_key.specs.declared.part.Part.TheVariants.{Numbers}
-use Rattle.tab_store.specs.Stores.{Held, table_in, tablets_in}
+use Rattle.tab_key.specs.declared.limited_part.LimitedPart.TheVariants.{Numbers}
+use Rattle.tab_store.specs.Stores.{CoreContents, table_in, tablets_in}
 use Rattle.tab_store.specs.Stepping.{TabletWork, Freezing, Writing, Compacting, Counting, Splitting, Halving, Listing, Beginning, Installing, TableWork, Aside, Making, Dropping, On, work_of, place_of, lays_in, told_by, laid_by, tablets_numbered, tablet_told, told_exactly, laid_exactly, laid_told, LaysExactly, now_at, plain_answer}
 use Rattle.tab_store.specs.Numbers.{has_number, NumbersDiffer, AreNumbered, NumbersStay}
 use Rattle.tab_store.proofs.Passed.{caller, refusal, spent}
@@ -72,7 +72,7 @@ done_plain (Dropping t) = tt
 done_plain (On t work) = work_plain work
 
 -- ---- all tables
-module _ (old : Held) (a : AreNumbered (tablets_in old) old.tablet) where
+module _ (old : CoreContents) (a : AreNumbered (tablets_in old) old.tablet) where
   as_they_were : (next : ℕ) → old.tablet ≤ next → AreNumbered (tablets_in old) next
   as_they_were next le = record { once = a.once; apart = a.apart; below = λ q k h. on_to k old.tablet next (a.below q k h) le }
 
@@ -166,13 +166,13 @@ module _ (old : Held) (a : AreNumbered (tablets_in old) old.tablet) where
       answer_left c act None true r e = told_left act r (Refused (TooLarge Numbers)) (untouched act r)
       answer_left c act (Some k) used_up r e = told_left act r (Refused k) (untouched act r)
 
-step_left : (old : Held) (a : AreNumbered (tablets_in old) old.tablet) (event : Event) (given : Option TabletMerge) (r : Told)
+step_left : (old : CoreContents) (a : AreNumbered (tablets_in old) old.tablet) (event : Event) (given : Option TabletMerge) (r : Told)
     → ((r ≡ told_exactly old (now_at old event) given event.act (plain_answer old event)) ⊎ ((takes_memory event.act ≡ true) × (r ≡ Refused NoMemory))) → Answered old a (now_at old event) given event.act (plain_answer old event) r
 step_left old a event given r (inl e) = answer_left old a (now_at old event) given (caller old event) event.act (refusal old event) (spent old event) r e
 step_left old a event given r (inr e) = subst (Answered old a (now_at old event) given event.act (plain_answer old event)) (sym e.1) (untouched old a (now_at old event) given event.act (Refused NoMemory))
 
 -- the next number doesn't fall
-pub next_grows : (old new : Held) (now : ℤ) (given job : Option TabletMerge) (act : Act) (plain r : Told) → LaysExactly old now given act plain r job new → new.tablet < 18446744073709551615 → old.tablet ≤ new.tablet
+pub next_grows : (old new : CoreContents) (now : ℤ) (given job : Option TabletMerge) (act : Act) (plain r : Told) → LaysExactly old now given act plain r job new → new.tablet < 18446744073709551615 → old.tablet ≤ new.tablet
 next_grows old new now given job act plain r exact lt =
     subst (λ n. old.tablet ≤ n) (sym exact.tablet) (grows r (work_of given act) old.tablet (subst (λ n. n < 18446744073709551615) exact.tablet lt))
 

@@ -11,7 +11,7 @@ use Rattle.tab_history.specs.Readings.{settings_of, updates_of}
 use Rattle.tab_history.specs.Held.{floor_of, RefinesTable}
 use Rattle.tab_history.specs.Answers.{Told}
 use Rattle.tab_history.proofs.Refines.{floor_later}
-use Rattle.tab_store.specs.Stores.{HeldTable, Held, base_of, table_in, tablets_found, tablets_in}
+use Rattle.tab_store.specs.Stores.{TableContents, CoreContents, base_of, table_in, tablets_found, tablets_in}
 use Rattle.tab_store.specs.Stepping.{TabletWork, Place, lays, lays_in}
 use Rattle.tab_store.specs.Keeping.{settings_in, AreSound, updates_after, next_after, IsRecent, GoesOnWell}
 use Rattle.tab_store.specs.Rightness.{IsStore}
@@ -19,22 +19,22 @@ use Rattle.tab_store.proofs.Sound.{work_stays_sound, self_refines, sound_grown}
 use Rattle.tab_store.proofs.Reading.{bases_read}
 
 -- what holds of each held table's settings holds of the settings that histories read
-pub at_table : (h : Held) (q : List ℕ) (P : Settings → Type 0) → ((t : HeldTable) → table_in h q ≡ Some t → P t.settings) → (s : Settings) → settings_of (base_of h) [] q ≡ Some s → P s
+pub at_table : (h : CoreContents) (q : List ℕ) (P : Settings → Type 0) → ((t : TableContents) → table_in h q ≡ Some t → P t.settings) → (s : Settings) → settings_of (base_of h) [] q ≡ Some s → P s
 at_table h q P f s e = go (table_in h q) refl (sym (bases_read h q).0 ∙ e)
   where
-    go : (o : Option HeldTable) → table_in h q ≡ o → settings_in o ≡ Some s → P s
+    go : (o : Option TableContents) → table_in h q ≡ o → settings_in o ≡ Some s → P s
     go None p k = absurd (cc)
     go (Some t) p k = subst P (some_is t.settings s k) (f t p)
 
 -- a table's records refine these updates, and its tablets are sound
-pub record Both (new : Held) (q : List ℕ) (us : List Record) (next n : ℕ) (floor : ℤ) : Type 0 where
+pub record Both (new : CoreContents) (q : List ℕ) (us : List Record) (next n : ℕ) (floor : ℤ) : Type 0 where
   pub refines : RefinesTable (updates_of (base_of new) [] q) us next n floor
   pub sound : AreSound (tablets_in new q) next n floor
 
 le_itself : (n : ℕ) → n ≤ n
 le_itself n = omega arith
 
-module _ (old new : Held) (store : IsStore old) (now : ℤ) (later : int_le old.clock now ≡ true) (q : List ℕ) (t : HeldTable) (there : table_in old q ≡ Some t) where
+module _ (old new : CoreContents) (store : IsStore old) (now : ℤ) (later : int_le old.clock now ≡ true) (q : List ℕ) (t : TableContents) (there : table_in old q ≡ Some t) where
   abbrev was : List Record
   was = updates_of (base_of old) [] q
 

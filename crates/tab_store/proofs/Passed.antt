@@ -11,10 +11,10 @@ use Rattle.tab_history.specs.declared.reply.Refusal.{Refusal}
 use Rattle.tab_history.specs.declared.reply.Refusal.TheVariants.{NoMemory}
 use Rattle.tab_history.specs.declared.reply.Reply.TheVariants.{Refused}
 use Rattle.tab_tablets.specs.Parts.{TabletMerge}
-use Rattle.tab_store.specs.Stores.{Held, base_of}
+use Rattle.tab_store.specs.Stores.{CoreContents, base_of}
 use Rattle.tab_store.specs.Stepping.{now_at, plain_answer, told_exactly}
 
-module _ (old : Held) (event : Event) where
+module _ (old : CoreContents) (event : Event) where
   abbrev pub caller : Caller
   caller = standing (base_of old) [] event.user
 

@@ -6,7 +6,7 @@ use Rattle.std.specs.Cmp.Lexicographic.{bytes_decides}
 use mathlib.Core.Bool.{true≢false}
 use Rattle.tab_key.specs.Records.{Record}
 use Rattle.tab_key.specs.Sorted.{sorted}
-use Rattle.tab_key.specs.declared.part.Part.TheVariants.{Sessions, Numbers}
+use Rattle.tab_key.specs.declared.limited_part.LimitedPart.TheVariants.{Sessions, Numbers}
 use Rattle.tab_key.proofs.Rising.{in_from}
 use Rattle.tab_cells.specs.Written.{mutation_records}
 use Rattle.tab_cells.specs.declared.compaction.Compaction.{Compaction}
@@ -44,7 +44,7 @@ use Rattle.tab_history.proofs.Fitting.{fits_legal}
 use Rattle.tab_history.proofs.Holds.{holds_nothing, holds_higher, holds_fewer}
 use Rattle.tab_history.proofs.LeftOpen.{of_told}
 use Rattle.tab_history.proofs.Refines.{FitAll, floor_raised}
-use Rattle.tab_store.specs.Stores.{HeldTable, Held, base_of, table_in, tablets_found, tablets_in}
+use Rattle.tab_store.specs.Stores.{TableContents, CoreContents, base_of, table_in, tablets_found, tablets_in}
 use Rattle.tab_store.specs.Stepping.{Freezing, Writing, Compacting, Counting, Splitting, Halving, Listing, Beginning, Installing, Making, Dropping, On, kind_of, work_of, lays_in, told_by, laid_by, told_exactly, laid_told}
 use Rattle.tab_store.specs.Keeping.{settings_in, AreSound}
 use Rattle.tab_store.specs.Rightness.{IsStore, LeavesExactly, StepsAreRight}
@@ -54,7 +54,7 @@ use Rattle.tab_store.proofs.Reading.{bases_read}
 use Rattle.tab_store.proofs.Telling.{tells_legally}
 use Rattle.tab_store.proofs.OneTable.{at_table, Both, stays, happens}
 
-module _ (old new : Held) (store : IsStore old) (given : Option TabletMerge) (user : List ℕ) (moment : ℤ) (q : List ℕ) where
+module _ (old new : CoreContents) (store : IsStore old) (given : Option TabletMerge) (user : List ℕ) (moment : ℤ) (q : List ℕ) where
   abbrev b : Base
   b = base_of old
 
@@ -326,7 +326,7 @@ no_slot (Install t (InSlot slot)) none = absurd none
 no_slot (Install t (ByHand job)) none = refl
 no_slot act none = refl
 
-plainly : (old : Held) (user : List ℕ) (moment : ℤ) (act : Act) → NamesNoSlot act → event_answer (base_of old) [] (int_max old.clock moment) user act ≡ answer_at (world_of (base_of old)) [] [] (IsEvent (record { user = user; moment = moment; act = act }))
+plainly : (old : CoreContents) (user : List ℕ) (moment : ℤ) (act : Act) → NamesNoSlot act → event_answer (base_of old) [] (int_max old.clock moment) user act ≡ answer_at (world_of (base_of old)) [] [] (IsEvent (record { user = user; moment = moment; act = act }))
 unfolding answer opened closed clock_of journal moves_of jobs_of
 plainly old user moment act none = go (is_open act)
   where
@@ -337,7 +337,7 @@ plainly old user moment act none = go (is_open act)
     go true = ap (λ o. slotted o plain) (no_slot act none)
     go false = ap (λ o. slotted o plain) (no_slot act none)
 
-module _ (old : Held) (event : Event) where
+module _ (old : CoreContents) (event : Event) where
   abbrev at : ℤ
   at = int_max old.clock event.moment
 
@@ -358,7 +358,7 @@ module _ (old : Held) (event : Event) where
   legal_at none r (inl h) = inl (subst (λ x. IsReply (IsEvent event) x r) (plainly old event.user event.moment event.act none) h)
   legal_at none r (inr x) = inr x
 
-module _ (old new : Held) (given job : Option TabletMerge) (event : Event) (r : Told) (store : IsStore old) (none : NamesNoSlot event.act) (leaves : LeavesExactly old given event r job new) where
+module _ (old new : CoreContents) (given job : Option TabletMerge) (event : Event) (r : Told) (store : IsStore old) (none : NamesNoSlot event.act) (leaves : LeavesExactly old given event r job new) where
   legal : IsAnswer (world_of (base_of old)) [] [] (IsEvent event) r ⊎ LacksMemory (IsEvent event) r
   legal = legal_at old event none r (replied old new store given event.user event.moment [] (who old event) event.act (refusal old event) (spent old event) r leaves.exact.answers)
 
@@ -377,7 +377,7 @@ steps_are_right old new given job event r store none leaves = record {
 }
 
 -- the tablets of each table are sound still
-pub soundness_stays : (old new : Held) (given job : Option TabletMerge) (event : Event) (r : Told) → IsStore old → NamesNoSlot event.act → LeavesExactly old given event r job new → (q : List ℕ) (t : HeldTable) → table_in new q ≡ Some t
+pub soundness_stays : (old new : CoreContents) (given job : Option TabletMerge) (event : Event) (r : Told) → IsStore old → NamesNoSlot event.act → LeavesExactly old given event r job new → (q : List ℕ) (t : TableContents) → table_in new q ≡ Some t
     → AreSound t.tablets new.next t.settings.versions (floor_of t.settings.time new.clock t.settings.horizon)
 unfolding journal clock_of next_number
 soundness_stays old new given job event r store none leaves q t e =

@@ -1,14 +1,14 @@
 -- How a split may end: what holds of the tablets, and of them split at any row that is no end row, holds after it.
 use Rattle.std.proofs.Common.{◌≡◌, ◌⊎◌, inl, inr, ℕ, List, Bool, true, false, cond, refl}
 use Rattle.std.specs.Prelude.{Option, Some, None, nat_lt}
-use Rattle.tab_key.specs.declared.part.Part.TheVariants.{Numbers}
+use Rattle.tab_key.specs.declared.limited_part.LimitedPart.TheVariants.{Numbers}
 use Rattle.tab_tablets.specs.Sources.{size_of}
 use Rattle.tab_tablets.specs.Tablets.{Tablet}
 use Rattle.tab_tablets.specs.Splitting.{split_at, middle_row, rows_in}
 use Rattle.tab_tablets.specs.ByRow.{at_row, tablet_of, is_end}
 use Rattle.tab_tablets.specs.Splits.{is_full, split_in, splits, split_found, halved, halves}
-use Rattle.tab_tablets.specs.declared.split.Split.{Split}
-use Rattle.tab_tablets.specs.declared.split.Split.TheVariants.{Done, Present, Small, Full}
+use Rattle.tab_tablets.specs.declared.splitting.Split.{Split}
+use Rattle.tab_tablets.specs.declared.splitting.Split.TheVariants.{Done, Present, Small, Full}
 use Rattle.tab_history.specs.Answers.{Told}
 use Rattle.tab_history.specs.declared.split_fault.SplitFault.TheVariants as fault
 use Rattle.tab_history.specs.declared.reply.Refusal.TheVariants.{TooLarge, BadSplit}

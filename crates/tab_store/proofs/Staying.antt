@@ -5,7 +5,7 @@ use Rattle.std.specs.Int.{int_max}
 use Rattle.std.specs.Cmp.Lexicographic.{bytes_decides}
 use Rattle.tab_key.specs.Records.{Record}
 use Rattle.tab_key.specs.Sorted.{sorted, IsIn}
-use Rattle.tab_key.specs.declared.part.Part.TheVariants.{Row}
+use Rattle.tab_key.specs.declared.limited_part.LimitedPart.TheVariants.{Row}
 use Rattle.tab_key.proofs.Rising.{in_from, in_to, in_sorted, sorted_in}
 use Rattle.tab_mutation.specs.Mutations.{Mutation}
 use Rattle.tab_mutation.specs.Shape.{first_some, is_too_long, shape_error}
@@ -33,7 +33,7 @@ use Rattle.tab_history.specs.declared.reply.Refusal.TheVariants.{NoMemory, TooLa
 use Rattle.tab_history.specs.declared.reply.Reply.TheVariants.{Refused}
 use Rattle.tab_history.proofs.Options.{unmapped}
 use Rattle.tab_history.proofs.Accepted.{own_pass}
-use Rattle.tab_store.specs.Stores.{HeldTable, Held, base_of, table_in, tablets_found, tablets_in}
+use Rattle.tab_store.specs.Stores.{TableContents, CoreContents, base_of, table_in, tablets_found, tablets_in}
 use Rattle.tab_store.specs.Stepping.{TableWork, Aside, Making, Dropping, On, now_at, work_of, place_of, lays_in, laid_by, laid_exactly, laid_told}
 use Rattle.tab_store.specs.Keeping.{settings_in}
 use Rattle.tab_store.specs.Limits.{IsWellFormed, AreEndRows}
@@ -48,15 +48,15 @@ use Rattle.tab_store.proofs.Numbering.{numbers_stay}
 
 -- ---- records
 -- each record of each table has the property
-abbrev pub EachHas : (Record → Type 0) → Held → Type 0
-EachHas P h = (q : List ℕ) (t : HeldTable) → table_in h q ≡ Some t → (u : Record) → Contains (records_of_all t.tablets) u → P u
+abbrev pub EachHas : (Record → Type 0) → CoreContents → Type 0
+EachHas P h = (q : List ℕ) (t : TableContents) → table_in h q ≡ Some t → (u : Record) → Contains (records_of_all t.tablets) u → P u
 
 -- so has each record that the act adds to a table, once it has passed
-abbrev pub AddedHave : (Record → Type 0) → Held → ℤ → Act → Type 0
+abbrev pub AddedHave : (Record → Type 0) → CoreContents → ℤ → Act → Type 0
 AddedHave P h now (Write t m) = (s : Settings) → settings_of (base_of h) [] t ≡ Some s → (u : Record) → IsIn (mutation_records h.next now m) u → P u
 AddedHave P h now _ = Unit {0}
 
-module _ (P : Record → Type 0) (old : Held) (has : EachHas P old) where
+module _ (P : Record → Type 0) (old : CoreContents) (has : EachHas P old) where
   abbrev b : Base
   b = base_of old
 
@@ -67,7 +67,7 @@ module _ (P : Record → Type 0) (old : Held) (has : EachHas P old) where
   had : (q : List ℕ) (u : Record) → IsIn (updates_of b [] q) u → P u
   had q u i = go (table_in old q) refl (in_sorted (records_of_all (tablets_in old q)) u (subst (λ us. IsIn us u) (bases_read old q).1 i))
     where
-      go : (o : Option HeldTable) → table_in old q ≡ o → IsIn (records_of_all (tablets_found o)) u → P u
+      go : (o : Option TableContents) → table_in old q ≡ o → IsIn (records_of_all (tablets_found o)) u → P u
       go None e k = absurd k
       go (Some t) e k = has q t e u (in_to (records_of_all t.tablets) u k)
 
@@ -97,7 +97,7 @@ module _ (P : Record → Type 0) (old : Held) (has : EachHas P old) where
     act_has act a q s e u i = had q u i
 
 -- What each record of a store has, and each that an event adds, each has afterwards.
-pub each_stays : (P : Record → Type 0) (old new : Held) (given job : Option TabletMerge) (event : Event) (r : Told) → IsStore old → NamesNoSlot event.act → LeavesExactly old given event r job new → EachHas P old → (refusal old event ≡ None → AddedHave P old (now_at old event) event.act) → EachHas P new
+pub each_stays : (P : Record → Type 0) (old new : CoreContents) (given job : Option TabletMerge) (event : Event) (r : Told) → IsStore old → NamesNoSlot event.act → LeavesExactly old given event r job new → EachHas P old → (refusal old event ≡ None → AddedHave P old (now_at old event) event.act) → EachHas P new
 unfolding journal clock_of
 each_stays P old new given job event r store none leaves has added q t e u c =
     let settings : settings_of (base_of old) (changes_by (now_at old event) (IsEvent event) r ++ []) q ≡ Some t.settings = sym (leaves.reads.settings q) ∙ ((bases_read new q).0 ∙ ap settings_in e) in
@@ -107,7 +107,7 @@ each_stays P old new given job event r store none leaves has added q t e u c =
     of_passed old event (HaveAfter P old has) (λ s w f v i. had P old has s v i) given r (λ passed left. act_has P old has (now_at old event) event.user event.act (added passed)) leaves.exact.answers q t.settings settings u (in_from _ u accepted)
 
 -- ---- an event that has passed its checks
-module _ (old : Held) (user : List ℕ) (moment : ℤ) where
+module _ (old : CoreContents) (user : List ℕ) (moment : ℤ) where
   abbrev event_of : Act → Event
   event_of act = record { user = user; moment = moment; act = act }
 
@@ -133,12 +133,12 @@ module _ (old : Held) (user : List ℕ) (moment : ℤ) where
 no_ends : AreEndRows []
 no_ends = record { short = tt; few = omega arith }
 
-module _ (old : Held) (store : IsStore old) (q : List ℕ) where
+module _ (old : CoreContents) (store : IsStore old) (q : List ℕ) where
   -- the tablets of the table q
   ends_had : EndsFit (tablets_in old q)
   ends_had = go (table_in old q) refl
     where
-      go : (o : Option HeldTable) → table_in old q ≡ o → EndsFit (tablets_found o)
+      go : (o : Option TableContents) → table_in old q ≡ o → EndsFit (tablets_found o)
       go None e = no_ends
       go (Some t) e = (store.limits q t e).ends
 
@@ -146,7 +146,7 @@ module _ (old : Held) (store : IsStore old) (q : List ℕ) where
   middles_had : MiddlesFit (tablets_in old q)
   middles_had = go (table_in old q) refl
     where
-      go : (o : Option HeldTable) → table_in old q ≡ o → MiddlesFit (tablets_found o)
+      go : (o : Option TableContents) → table_in old q ≡ o → MiddlesFit (tablets_found o)
       go None e row middle x found halved = absurd (cc)
       go (Some t) e row middle x found halved =
           let s = store.tables q t e in
@@ -181,7 +181,7 @@ module _ (old : Held) (store : IsStore old) (q : List ℕ) where
       answer_fits c act None true f = ends_had
       answer_fits c act (Some k) used_up f = ends_had
 
-ends_stay : (old new : Held) (given job : Option TabletMerge) (event : Event) (r : Told) → IsStore old → LeavesExactly old given event r job new → (q : List ℕ) → EndsFit (tablets_in new q)
+ends_stay : (old new : CoreContents) (given job : Option TabletMerge) (event : Event) (r : Told) → IsStore old → LeavesExactly old given event r job new → (q : List ℕ) → EndsFit (tablets_in new q)
 ends_stay old new given job event r store leaves q = subst EndsFit (sym (leaves.exact.tablets q))
     (told_fits old store q (now_at old event) given event.act r _ (answer_fits old store q (now_at old event) given (caller old event) event.act (refusal old event) (spent old event) (split_passed old event.user event.moment given event.act)))
 

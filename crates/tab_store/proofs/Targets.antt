@@ -21,7 +21,7 @@ use Rattle.tab_tablets.specs.declared.DueKind.{DueKind}
 use Rattle.tab_tablets.specs.declared.DueKind.TheVariants.{Minor, Partial, Split}
 use Rattle.tab_tablets.proofs.Orders.{above, not_above, below_other, below_up_to, up_to_below}
 use Rattle.tab_tablets.proofs.Parted.{nat_same, some_is}
-use Rattle.tab_store.specs.Stores.{HeldTable, Held, table_in, tablets_found, tablets_in}
+use Rattle.tab_store.specs.Stores.{TableContents, CoreContents, table_in, tablets_found, tablets_in}
 use Rattle.tab_store.specs.Due.{due_as, due_in, target_of}
 use Rattle.tab_store.specs.Numbers.{has_number, NumbersDiffer, AreNumbered}
 use Rattle.tab_store.specs.Rightness.{IsStore}
@@ -157,35 +157,35 @@ one_alone x y (t ∷ ts) d (inr a) (inr b) e = one_alone x y ts d.1 a b e
 
 -- ---- tables
 -- a table is one of these
-abbrev IsTableOf : HeldTable → List HeldTable → Type 0
+abbrev IsTableOf : TableContents → List TableContents → Type 0
 IsTableOf t [] = ⊥
 IsTableOf t (u ∷ us) = (u ≡ t) ⊎ IsTableOf t us
 
 -- each is found by its name
-later_found : (u : HeldTable) (us : List HeldTable) (t : HeldTable) → AllByRecursion (λ m. bytes_cmp u.name m ≡ Less) (map (λ (x : HeldTable). x.name) us) → IsTableOf t us → bytes_eq u.name t.name ≡ false
+later_found : (u : TableContents) (us : List TableContents) (t : TableContents) → AllByRecursion (λ m. bytes_cmp u.name m ≡ Less) (map (λ (x : TableContents). x.name) us) → IsTableOf t us → bytes_eq u.name t.name ≡ false
 later_found u [] t a h = absurd h
-later_found u (v ∷ us) t a (inl e) = subst (λ (x : HeldTable). bytes_eq u.name x.name ≡ false) e (below_other u.name v.name a.0)
+later_found u (v ∷ us) t a (inl e) = subst (λ (x : TableContents). bytes_eq u.name x.name ≡ false) e (below_other u.name v.name a.0)
 later_found u (v ∷ us) t a (inr h) = later_found u us t a.1 h
 
-each_named : (ts : List HeldTable) (t : HeldTable) → IsStrictlySortedBy bytes_cmp (map (λ (x : HeldTable). x.name) ts) → IsTableOf t ts → find (λ (x : HeldTable). bytes_eq x.name t.name) ts ≡ Some t
+each_named : (ts : List TableContents) (t : TableContents) → IsStrictlySortedBy bytes_cmp (map (λ (x : TableContents). x.name) ts) → IsTableOf t ts → find (λ (x : TableContents). bytes_eq x.name t.name) ts ≡ Some t
 unfolding IsStrictlySortedBy
 each_named [] t r h = absurd h
-each_named (u ∷ us) t r (inl e) = ap (λ v. cond v (Some u) (find (λ (x : HeldTable). bytes_eq x.name t.name) us)) (ap (λ (x : HeldTable). bytes_eq x.name t.name) e ∙ (bytes_decides t.name t.name).1 refl) ∙ ap Some e
-each_named (u ∷ us) t r (inr h) = ap (λ v. cond v (Some u) (find (λ (x : HeldTable). bytes_eq x.name t.name) us)) (later_found u us t r.0 h) ∙ each_named us t r.1 h
+each_named (u ∷ us) t r (inl e) = ap (λ v. cond v (Some u) (find (λ (x : TableContents). bytes_eq x.name t.name) us)) (ap (λ (x : TableContents). bytes_eq x.name t.name) e ∙ (bytes_decides t.name t.name).1 refl) ∙ ap Some e
+each_named (u ∷ us) t r (inr h) = ap (λ v. cond v (Some u) (find (λ (x : TableContents). bytes_eq x.name t.name) us)) (later_found u us t r.0 h) ∙ each_named us t r.1 h
 
 -- the tablet that is due is one of a table's
 module _ (p : Tablet → Bool) where
-  abbrev all_of : List HeldTable → List Tablet
-  all_of ts = flat_map (λ (t : HeldTable). t.tablets) ts
+  abbrev all_of : List TableContents → List Tablet
+  all_of ts = flat_map (λ (t : TableContents). t.tablets) ts
 
   -- a table, one of whose tablets this is
-  record Owner (ts : List HeldTable) (x : Tablet) : Type 0 where
-    table : HeldTable
+  record Owner (ts : List TableContents) (x : Tablet) : Type 0 where
+    table : TableContents
     here : IsTableOf table ts
     holds : IsOneOf x table.tablets
     passes : p x ≡ true
 
-  owner : (ts : List HeldTable) (x : Tablet) → find p (all_of ts) ≡ Some x → Owner ts x
+  owner : (ts : List TableContents) (x : Tablet) → find p (all_of ts) ≡ Some x → Owner ts x
   owner [] x e = absurd (none-some x e)
   owner (t ∷ ts) x e = go (find p t.tablets) refl (owner ts x) (sym (find-append p t.tablets (all_of ts)) ∙ e)
     where
@@ -195,15 +195,15 @@ module _ (p : Tablet → Bool) where
 
 -- ---- targets
 -- the table of a target, and the least row of the tablet with the number in it
-record Aims (k : ℕ) (ts : List HeldTable) (o : Option (List ℕ × List ℕ)) : Type 0 where
-  table : HeldTable
+record Aims (k : ℕ) (ts : List TableContents) (o : Option (List ℕ × List ℕ)) : Type 0 where
+  table : TableContents
   here : IsTableOf table ts
   has : has_number k table.tablets ≡ true
   row : List ℕ
   starts : start_of k None table.tablets ≡ Some row
   told : o ≡ Some (table.name, row)
 
-aims : (due : Due) (ts : List HeldTable) (t : HeldTable) → IsTableOf t ts → has_number due.tablet t.tablets ≡ true → Aims due.tablet ts (target_of due ts)
+aims : (due : Due) (ts : List TableContents) (t : TableContents) → IsTableOf t ts → has_number due.tablet t.tablets ≡ true → Aims due.tablet ts (target_of due ts)
 aims due [] t h n = absurd h
 aims due (u ∷ us) t h n = by_bool (has_number due.tablet u.tablets) here (λ g. passed g (other g h (λ i. aims due us t i n)))
   where
@@ -223,17 +223,17 @@ aims due (u ∷ us) t h n = by_bool (has_number due.tablet u.tablets) here (λ g
     }
 
     other : has_number due.tablet u.tablets ≡ false → (u ≡ t) ⊎ IsTableOf t us → (IsTableOf t us → Aims due.tablet us (target_of due us)) → Aims due.tablet us (target_of due us)
-    other g (inl e) ih = absurd (true≢false (sym n ∙ ap (λ (x : HeldTable). has_number due.tablet x.tablets) (sym e) ∙ g))
+    other g (inl e) ih = absurd (true≢false (sym n ∙ ap (λ (x : TableContents). has_number due.tablet x.tablets) (sym e) ∙ g))
     other g (inr i) ih = ih i
 
 -- ---- work that is due
 -- the kind of what is due, and that it is
-record IsDueAs (due : Due) (ts : List HeldTable) : Type 0 where
+record IsDueAs (due : Due) (ts : List TableContents) : Type 0 where
   tablet : Tablet
   number : tablet.number ≡ due.tablet
   owner : Owner (is_due due.kind) ts tablet
 
-due_of_kind : (kind : DueKind) (ts : List HeldTable) (due : Due) → due_as kind ts ≡ Some due → IsDueAs due ts
+due_of_kind : (kind : DueKind) (ts : List TableContents) (due : Due) → due_as kind ts ≡ Some due → IsDueAs due ts
 due_of_kind kind ts due e = go (find (is_due kind) (all_of (is_due kind) ts)) refl e
   where
     go : (o : Option Tablet) → find (is_due kind) (all_of (is_due kind) ts) ≡ o → option_map (λ number. record { kind = kind; tablet = number }) (option_map (λ (x : Tablet). x.number) o) ≡ Some due → IsDueAs due ts
@@ -246,7 +246,7 @@ first_of : (a b : Option Due) (due : Due) → option_or a b ≡ Some due → (a 
 first_of None b due e = inr e
 first_of (Some x) b due e = inl e
 
-due_somewhere : (ts : List HeldTable) (due : Due) → due_in ts ≡ Some due → IsDueAs due ts
+due_somewhere : (ts : List TableContents) (due : Due) → due_in ts ≡ Some due → IsDueAs due ts
 unfolding due_in
 due_somewhere ts due e = go (first_of (due_as Minor ts) (option_or (due_as Partial ts) (due_as Split ts)) due e)
   where
@@ -267,22 +267,22 @@ number_found row ts k e = go (tablet_of row ts) refl e
     go (Some y) q f = (y, refl, some_is y.number k f)
 
 -- ---- a store, as long as there are numbers
-module _ (h : Held) (store : IsStore h) (numbers : AreNumbered (tablets_in h) h.tablet) where
-  named : (t : HeldTable) → IsTableOf t h.tables → table_in h t.name ≡ Some t
+module _ (h : CoreContents) (store : IsStore h) (numbers : AreNumbered (tablets_in h) h.tablet) where
+  named : (t : TableContents) → IsTableOf t h.tables → table_in h t.name ≡ Some t
   named t i = each_named h.tables t store.names i
 
-  its_tablets : (t : HeldTable) → IsTableOf t h.tables → tablets_in h t.name ≡ t.tablets
+  its_tablets : (t : TableContents) → IsTableOf t h.tables → tablets_in h t.name ≡ t.tablets
   its_tablets t i = ap tablets_found (named t i)
 
   -- the number of a tablet tells its table
-  one_table : (k : ℕ) (t u : HeldTable) → IsTableOf t h.tables → IsTableOf u h.tables → has_number k t.tablets ≡ true → has_number k u.tablets ≡ true → t ≡ u
+  one_table : (k : ℕ) (t u : TableContents) → IsTableOf t h.tables → IsTableOf u h.tables → has_number k t.tablets ≡ true → has_number k u.tablets ≡ true → t ≡ u
   one_table k t u i j e f =
       let names : t.name ≡ u.name = numbers.apart t.name u.name k (ap (has_number k) (its_tablets t i) ∙ e) (ap (has_number k) (its_tablets u j) ∙ f) in
       let found : Some t ≡ Some u = sym (named t i) ∙ ap (table_in h) names ∙ named u j in
       some_is t u found
 
   -- and the tablet of the row where it starts is the one with the number
-  there : (k : ℕ) (t : HeldTable) (row : List ℕ) (x : Tablet) → IsTableOf t h.tables → start_of k None t.tablets ≡ Some row → IsOneOf x t.tablets → x.number ≡ k → tablet_of row t.tablets ≡ Some x
+  there : (k : ℕ) (t : TableContents) (row : List ℕ) (x : Tablet) → IsTableOf t h.tables → start_of k None t.tablets ≡ Some row → IsOneOf x t.tablets → x.number ≡ k → tablet_of row t.tablets ≡ Some x
   there k t row x i s one n =
       let whole : AreWhole t.tablets = (store.tables t.name t (named t i)).whole in
       let inside = number_found row t.tablets k (starts_lie_inside k t.tablets row whole s) in
@@ -301,7 +301,7 @@ module _ (h : Held) (store : IsStore h) (numbers : AreNumbered (tablets_in h) h.
     aimed : Aims due.tablet h.tables (target_of due h.tables) → (name : List ℕ) × (row : List ℕ) × IsTarget h due name row
     aimed a =
         let same : o.table ≡ a.table = one_table due.tablet o.table a.table o.here a.here has a.has in
-        let holds : IsOneOf d.tablet a.table.tablets = subst (λ (t : HeldTable). IsOneOf d.tablet t.tablets) same o.holds in (
+        let holds : IsOneOf d.tablet a.table.tablets = subst (λ (t : TableContents). IsOneOf d.tablet t.tablets) same o.holds in (
           a.table.name,
           a.row,
           record {

@@ -7,8 +7,8 @@ use Rattle.std.proofs.lemmas.Grind.{reverse_onto}
 use Rattle.std.proofs.lemmas.Bool.Decides.{nat_tests}
 use Rattle.tab_key.specs.Records.{Record}
 use Rattle.tab_key.specs.Sorted.{IsIn}
-use Rattle.tab_key.specs.declared.part.Part.TheVariants as part
-use Rattle.tab_key.specs.declared.part.TheConstants.{MAX_PART_LEN, MAX_UPDATES}
+use Rattle.tab_key.specs.declared.limited_part.LimitedPart.TheVariants as part
+use Rattle.tab_key.specs.declared.limited_part.TheConstants.{MAX_PART_LEN, MAX_UPDATES}
 use Rattle.tab_label.specs.Grammar.{Label}
 use Rattle.tab_label.specs.Reading.{label_of}
 use Rattle.tab_mutation.specs.Mutations.{Update, Mutation}

@@ -1,4 +1,4 @@
--- To which table a merge belongs, as long as there are numbers: an install finds its tablet as by the number alone, and in no other table.
+-- To be believed by whoever relies on it. To which table a merge belongs, as long as there are numbers: an install finds its tablet as by the number alone, and in no other table.
 use Rattle.std.specs.Prelude.{◌≡◌, ◌≢◌, ◌⊎◌, ◌<◌, ℕ, ℤ, List, [], true, false, ◌==◌, Option, Some, None, find, map}
 use Rattle.std.specs.Option.{option_map}
 use Rattle.tab_cells.specs.declared.compaction.Compaction.{Compaction}
@@ -15,7 +15,7 @@ use Rattle.tab_history.specs.declared.event.Act.TheVariants.{Begin, Install}
 use Rattle.tab_history.specs.declared.event.Given.{Given}
 use Rattle.tab_history.specs.declared.reply.Refusal.TheVariants.{NoMemory, Stale}
 use Rattle.tab_history.specs.declared.reply.Reply.TheVariants.{Done, Refused}
-use Rattle.tab_store.specs.Stores.{Held, tablets_in}
+use Rattle.tab_store.specs.Stores.{CoreContents, tablets_in}
 use Rattle.tab_store.specs.Stepping.{LaysExactly}
 use Rattle.tab_store.specs.Chains.{Running, EntryGoes}
 use Rattle.tab_store.specs.Numbers.{has_number, IsNumbered}
@@ -55,17 +55,17 @@ pub record BelongsTo (q : List ℕ) (m : TabletMerge) (tables : List ℕ → Lis
   pub given : m.merge.tablet < next
 
 -- the merge belongs to this table of a core, as long as there are numbers
-abbrev pub Belongs : List ℕ → TabletMerge → Held → Type 0
+abbrev pub Belongs : List ℕ → TabletMerge → CoreContents → Type 0
 Belongs q m h = h.tablet < 18446744073709551615 → BelongsTo q m (tablets_in h) h.tablet
 
 -- The law: a merge that a Begin hands out has the number of the tablet of its row, in the table that was named, and belongs to that table.
 abbrev pub BegunBelong : Type 0
-BegunBelong = (old new : Held) (now : ℤ) (given : Option TabletMerge) (t row : List ℕ) (kind : Compaction) (plain told : Told) (m : TabletMerge) → IsNumbered old → LaysExactly old now given (Begin t row kind) plain told (Some m) new
+BegunBelong = (old new : CoreContents) (now : ℤ) (given : Option TabletMerge) (t row : List ℕ) (kind : Compaction) (plain told : Told) (m : TabletMerge) → IsNumbered old → LaysExactly old now given (Begin t row kind) plain told (Some m) new
     → (option_map (λ (x : Tablet). x.number) (tablet_of m.row (tablets_in new t)) ≡ Some m.merge.tablet) × Belongs t m new
 
 -- The laws: it belongs to it still after each exact step, and after each chain of exact steps.
 abbrev pub BelongingStays : Type 0
-BelongingStays = (old new : Held) (now : ℤ) (given job : Option TabletMerge) (act : Act) (plain told : Told) (q : List ℕ) (m : TabletMerge) → LaysExactly old now given act plain told job new → Belongs q m old → Belongs q m new
+BelongingStays = (old new : CoreContents) (now : ℤ) (given job : Option TabletMerge) (act : Act) (plain told : Told) (q : List ℕ) (m : TabletMerge) → LaysExactly old now given act plain told job new → Belongs q m old → Belongs q m new
 
 abbrev pub BegunBelongOn : Type 0
 BegunBelongOn = (first last : Running) (es : List Entry) (q : List ℕ) (m : TabletMerge) → IsChain EntryGoes first es last → Belongs q m first.held → Belongs q m last.held
@@ -73,5 +73,5 @@ BegunBelongOn = (first last : Running) (es : List Entry) (q : List ℕ) (m : Tab
 -- The law: an Install that names another table, where no check refuses it, is told that it is stale, with no source, unless memory lacked;
 -- and no tablet changes, nor any merge under way.
 abbrev pub ElsewhereIsStale : Type 0
-ElsewhereIsStale = (old new : Held) (now : ℤ) (job : Option TabletMerge) (q r : List ℕ) (by : Given) (m : TabletMerge) (told : Told) → old.tablet < 18446744073709551615 → Belongs q m old → r ≢ q
+ElsewhereIsStale = (old new : CoreContents) (now : ℤ) (job : Option TabletMerge) (q r : List ℕ) (by : Given) (m : TabletMerge) (told : Told) → old.tablet < 18446744073709551615 → Belongs q m old → r ≢ q
     → LaysExactly old now (Some m) (Install r by) Done told job new → ((told ≡ Refused (Stale 0)) ⊎ (told ≡ Refused NoMemory)) × ((s : List ℕ) → tablets_in new s ≡ tablets_in old s)

@@ -1,4 +1,4 @@
--- Chains of exact steps: what a run did to the tablets of its core.
+-- To be believed by whoever relies on it. Chains of exact steps: what a run did to the tablets of its core.
 use Rattle.std.specs.Prelude.{◌≡◌, ◌⊎◌, ℕ, List, [], ◌++◌, Option, Some, None, IfSome, slice_get, option_to_list}
 use Rattle.tab_tablets.specs.Parts.{TabletMerge}
 use Rattle.tab_history.specs.Answers.{Told}
@@ -13,7 +13,7 @@ use Rattle.tab_history.specs.declared.event.Event.{Event}
 use Rattle.tab_history.specs.declared.event.Given.TheVariants.{InSlot, ByHand}
 use Rattle.tab_history.specs.declared.event.Step.{Step}
 use Rattle.tab_history.specs.declared.event.Step.TheVariants.{Event as IsEvent}
-use Rattle.tab_store.specs.Stores.{Held, base_of, IsNewStore}
+use Rattle.tab_store.specs.Stores.{CoreContents, base_of, IsNewStore}
 use Rattle.tab_store.specs.Stepping.{StepsExactly}
 use Rattle.tab_store.specs.Rightness.{IsStore}
 
@@ -24,12 +24,12 @@ CameWith (Install t (ByHand number)) given = IfSome given (λ m. m.merge.number 
 CameWith act given = given ≡ None
 
 -- the step is an event, and was done exactly
-abbrev pub DoesExactly : Held → Step → Told → Held → Type 0
+abbrev pub DoesExactly : CoreContents → Step → Told → CoreContents → Type 0
 DoesExactly before (IsEvent event) told after = (given job : Option TabletMerge) × CameWith event.act given × StepsExactly before given event told job after
 DoesExactly before step told after = ⊥
 
 -- the same of an entry
-abbrev pub EventGoes : Held → Entry → Held → Type 0
+abbrev pub EventGoes : CoreContents → Entry → CoreContents → Type 0
 EventGoes before e after = DoesExactly before e.step e.reply after
 
 -- What is no event leaves all as it was: a step of a session, a merge, and what memory or the lists of sessions and jobs refused.
@@ -37,22 +37,22 @@ abbrev pub StaysAt : {Core : Type 0} → Core → Entry → Core → Type 0
 StaysAt before e after = IsNoEvent e.step e.reply × (after ≡ before)
 
 -- ---- a core behind a connection, with whose events no merge comes
-abbrev pub DoesAlone : Held → Step → Told → Held → Type 0
+abbrev pub DoesAlone : CoreContents → Step → Told → CoreContents → Type 0
 DoesAlone before (IsEvent event) told after = (job : Option TabletMerge) × StepsExactly before None event told job after
 DoesAlone before step told after = ⊥
 
 -- an event that was done exactly, or what is none
-abbrev pub ServedGoes : Held → Entry → Held → Type 0
+abbrev pub ServedGoes : CoreContents → Entry → CoreContents → Type 0
 ServedGoes before e after = DoesAlone before e.step e.reply after ⊎ StaysAt before e after
 
 -- ---- a core in a run, where merges have slots
 -- what it holds, and the merges that were begun in the run, in their order
 pub record Running : Type 0 where
-  pub held : Held
+  pub held : CoreContents
   pub begun : List TabletMerge
 
 -- as a run begins
-abbrev pub starting : Held → Running
+abbrev pub starting : CoreContents → Running
 starting h = record { held = h; begun = [] }
 
 -- the merge that comes with an act, of those begun: with an Install by a slot the one of that slot
@@ -84,7 +84,7 @@ EntryGoes before e after = RunsExactly before e.step e.reply after ⊎ StaysAt b
 
 -- the events of these entries are a chain of exact steps of a core that was new
 abbrev pub IsExactRun : List Entry → Type 0
-IsExactRun es = (first : Held) × (last : Running) × IsNewStore first × IsChain EntryGoes (starting first) es last
+IsExactRun es = (first : CoreContents) × (last : Running) × IsNewStore first × IsChain EntryGoes (starting first) es last
 
 -- ---- The law: a chain of a store ends in one, which refines what its entries leave.
 abbrev pub ChainsStay : Type 0
@@ -92,4 +92,4 @@ ChainsStay = (first last : Running) (es : List Entry) → IsStore first.held →
 
 -- ---- The law: a chain of events alone is a legal history.
 abbrev pub ChainsAreLegal : Type 0
-ChainsAreLegal = (first last : Held) (es : List Entry) → IsStore first → IsChain EventGoes first es last → LegalAlone (world_of (base_of first)) es
+ChainsAreLegal = (first last : CoreContents) (es : List Entry) → IsStore first → IsChain EventGoes first es last → LegalAlone (world_of (base_of first)) es

@@ -36,7 +36,7 @@ use Rattle.tab_history.specs.declared.reply.Reply.TheVariants.{Done, Refused, Ba
 use Rattle.tab_history.specs.ExampleWords.{t, f, q, everywhere}
 use Rattle.tab_tablets.specs.ByRow.{records_of_all}
 use Rattle.tab_tablets.specs.Parts.{TabletMerge}
-use Rattle.tab_store.specs.Stores.{HeldTable, Held, tablets_in}
+use Rattle.tab_store.specs.Stores.{TableContents, CoreContents, tablets_in}
 use Rattle.tab_store.specs.Stepping.{TableWork, work_of, lays, job_by, told_exactly, laid_exactly, laid_told, tablet_told, job_told, handed}
 use Rattle.tab_store.specs.Chains.{given_in}
 use Rattle.tab_store.specs.Due.{due_in, target_of}
@@ -61,7 +61,7 @@ record Shop : Type 0 where
   said : List Told
 
 -- as a core that has no other table
-abbrev core_of : Shop → Held
+abbrev core_of : Shop → CoreContents
 core_of s = record { clock = s.now; next = s.next; policy = new_policy; tables = record { name = t; settings = s.settings; tablets = s.tablets } ∷ []; tablet = s.tablet; job = s.job }
 
 -- what was told, but for what went well without more
@@ -378,7 +378,7 @@ stranger_is_stale = refl
 abbrev u : List ℕ
 u = codes "u"
 
-abbrev two_tables : Held
+abbrev two_tables : CoreContents
 two_tables = record (core_of under_way) { tables = record { name = t; settings = made_with Any 1; tablets = under_way.tablets } ∷ record { name = u; settings = made_with Any 1; tablets = new_tablet 1 None ∷ [] } ∷ [] }
 
 -- an install into the other table is stale, with no source, and changes no tablet of either
@@ -395,7 +395,7 @@ unfolding everything
 first_table_stays = refl
 
 -- ---- work that is due
-abbrev tables_after : List Deed → List HeldTable
+abbrev tables_after : List Deed → List TableContents
 tables_after ds = (core_of (doing_all ds (shop (made_with Any 1)))).tables
 
 -- three tables of one size are to be merged, in the lower tablet first; a table keeps its whole size in both
@@ -411,7 +411,7 @@ nothing_is_due = refl
 abbrev sized : ℕ → List ℕ → Tablet
 sized number sizes = record (new_tablet number None) { sources = record { runs = []; tables = map (λ n. record { records = []; size = n }) sizes } }
 
-abbrev table_of : List ℕ → List Tablet → HeldTable
+abbrev table_of : List ℕ → List Tablet → TableContents
 table_of name ts = record { name = name; settings = made_with Any 1; tablets = ts }
 
 -- tables of so many bytes are to be split

@@ -1,4 +1,4 @@
--- When tablets refine the updates of their table, and that whatever is done to them leaves them so.
+-- For proofs. When tablets refine the updates of their table, and that whatever is done to them leaves them so.
 use Rattle.std.specs.Prelude.{◌≡◌, ◌⊎◌, ℕ, ℤ, ◌+◌, ◌≤◌, ◌<◌, List, [], ◌∷◌, ◌++◌, Bool, true, false, not, int_le, filter, Contains, Option, Some, None}
 use Rattle.tab_key.specs.Records.{Record}
 use Rattle.tab_key.specs.Sorted.{sorted, IsDistinct}
@@ -14,7 +14,7 @@ use Rattle.tab_history.specs.Settings.{Settings}
 use Rattle.tab_history.specs.Readings.{settings_of, updates_of}
 use Rattle.tab_history.specs.Held.{RefinesTable}
 use Rattle.tab_history.specs.Answers.{Told}
-use Rattle.tab_store.specs.Stores.{HeldTable, Held, base_of, table_in, tablets_in}
+use Rattle.tab_store.specs.Stores.{TableContents, CoreContents, base_of, table_in, tablets_in}
 use Rattle.tab_store.specs.Stepping.{TabletWork, Freezing, Writing, Compacting, Counting, Splitting, Halving, Listing, Beginning, Installing, Place, floor_at, lays}
 
 -- ---- one tablet
@@ -174,10 +174,10 @@ SoundWithFewer = (ts : List Tablet) (next n fewer : ℕ) (floor : ℤ) → fewer
 
 -- ---- The law: what histories read of a core is what its tablets hold.
 -- a table's settings, if it exists
-abbrev pub settings_in : Option HeldTable → Option Settings
+abbrev pub settings_in : Option TableContents → Option Settings
 settings_in None = None
 settings_in (Some t) = Some t.settings
 
 -- the settings, and one rising list of all records of the tablets
 abbrev pub BasesRead : Type 0
-BasesRead = (h : Held) (q : List ℕ) → (settings_of (base_of h) [] q ≡ settings_in (table_in h q)) × (updates_of (base_of h) [] q ≡ sorted (records_of_all (tablets_in h q)))
+BasesRead = (h : CoreContents) (q : List ℕ) → (settings_of (base_of h) [] q ≡ settings_in (table_in h q)) × (updates_of (base_of h) [] q ≡ sorted (records_of_all (tablets_in h q)))

@@ -21,5 +21,5 @@ pub use Rattle.tab_tablets.specs.declared.DueKind as DueKindType
 pub use Rattle.tab_tablets.specs.declared.DueKind.TheVariants as DueKindVariants
 pub use Rattle.tab_tablets.specs.declared.Installed as InstalledType
 pub use Rattle.tab_tablets.specs.declared.Installed.TheVariants as InstalledVariants
-pub use Rattle.tab_tablets.specs.declared.split.Split as SplitType
-pub use Rattle.tab_tablets.specs.declared.split.Split.TheVariants as SplitVariants
+pub use Rattle.tab_tablets.specs.declared.splitting.Split as SplitType
+pub use Rattle.tab_tablets.specs.declared.splitting.Split.TheVariants as SplitVariants

@@ -1,9 +1,9 @@
--- The limits that a table's tablets keep to, which an image of the core asks for.
+-- For proofs. The limits that a table's tablets keep to, which an image of the core asks for.
 use Rattle.std.specs.Prelude.{ℕ, ◌≤◌, ◌<◌, ◌^◌, List, length, Contains, IsOk}
 use Rattle.std.specs.List.{AllByRecursion}
 use Rattle.tab_key.specs.Records.{Record}
 use Rattle.tab_key.specs.Encoding.{IsShort}
-use Rattle.tab_key.specs.declared.part.TheConstants.{MAX_PART_LEN, MAX_UPDATES}
+use Rattle.tab_key.specs.declared.limited_part.TheConstants.{MAX_PART_LEN, MAX_UPDATES}
 use Rattle.tab_label.specs.Reading.{label_of}
 use Rattle.tab_tablets.specs.Tablets.{Tablet}
 use Rattle.tab_tablets.specs.ByRow.{records_of_all, ends_of}

@@ -1,7 +1,7 @@
--- What an event does to the tablets of a core, exactly, and what it is told where histories leave that open.
+-- To be believed by whoever relies on it. What an event does to the tablets of a core, exactly, and what it is told where histories leave that open.
 use Rattle.std.specs.Prelude.{◌≡◌, ◌⊎◌, ℕ, ℤ, List, [], ◌∷◌, true, cond, Option, Some, None, map, bytes_eq}
 use Rattle.std.specs.Int.{int_max}
-use Rattle.tab_key.specs.declared.part.Part.TheVariants.{Numbers}
+use Rattle.tab_key.specs.declared.limited_part.LimitedPart.TheVariants.{Numbers}
 use Rattle.tab_mutation.specs.Mutations.{Mutation}
 use Rattle.tab_cells.specs.Written.{mutation_records}
 use Rattle.tab_cells.specs.declared.compaction.Compaction.{Compaction}
@@ -15,8 +15,8 @@ use Rattle.tab_tablets.specs.Splits.{splits, halves}
 use Rattle.tab_tablets.specs.Parts.{TabletMerge, begun_at, begins_at, installs_in}
 use Rattle.tab_tablets.specs.declared.Installed.{Installed}
 use Rattle.tab_tablets.specs.declared.Installed.TheVariants as installed
-use Rattle.tab_tablets.specs.declared.split.Split.{Split}
-use Rattle.tab_tablets.specs.declared.split.Split.TheVariants as split
+use Rattle.tab_tablets.specs.declared.splitting.Split.{Split}
+use Rattle.tab_tablets.specs.declared.splitting.Split.TheVariants as split
 use Rattle.tab_history.specs.Settings.{Settings, made_with}
 use Rattle.tab_history.specs.Held.{floor_of}
 use Rattle.tab_history.specs.Answers.{Told, told_begun, MayTell, event_answer}
@@ -33,7 +33,7 @@ use Rattle.tab_history.specs.declared.event.Step.TheVariants.{Event as IsEvent}
 use Rattle.tab_history.specs.declared.split_fault.SplitFault.TheVariants as fault
 use Rattle.tab_history.specs.declared.reply.Refusal.TheVariants.{NoMemory, TooLarge, Stale, BadSplit}
 use Rattle.tab_history.specs.declared.reply.Reply.TheVariants.{Done, Refused, Counted, Rows, Begun, Nothing}
-use Rattle.tab_store.specs.Stores.{HeldTable, Held, base_of, NamesRise, table_in, tablets_found, tablets_in, counts_of}
+use Rattle.tab_store.specs.Stores.{TableContents, CoreContents, base_of, NamesRise, table_in, tablets_found, tablets_in, counts_of}
 
 -- ---- what an act asks of the tables
 -- what is done with the tablets of a table that is there
@@ -156,34 +156,34 @@ lays p (Installing given) plain ts = laid_install plain given ts
 
 -- ---- and to all tables
 -- what a table is set to; where there is none, no one looks at this
-abbrev pub settings_found : Option HeldTable → Settings
+abbrev pub settings_found : Option TableContents → Settings
 settings_found None = made_with Any 1
 settings_found (Some t) = t.settings
 
 -- the place of a table
-abbrev pub place_of : Held → ℤ → Option HeldTable → Place
+abbrev pub place_of : CoreContents → ℤ → Option TableContents → Place
 place_of h now t = record { settings = settings_found t; now = now; next = h.next; tablet = h.tablet; job = h.job }
 
 -- what is told of the work on a table, and its tablets afterwards
-abbrev pub lays_in : Held → ℤ → TabletWork → Told → Option HeldTable → Told × List Tablet
+abbrev pub lays_in : CoreContents → ℤ → TabletWork → Told → Option TableContents → Told × List Tablet
 lays_in h now work plain t = lays (place_of h now t) work plain (tablets_found t)
 
 -- what is told of the work
-abbrev pub told_by : Held → ℤ → TableWork → Told → Told
+abbrev pub told_by : CoreContents → ℤ → TableWork → Told → Told
 told_by h now Aside plain = plain
 told_by h now (Making t) plain = plain
 told_by h now (Dropping t) plain = plain
 told_by h now (On t work) plain = (lays_in h now work plain (table_in h t)).0
 
 -- the tablets of the table q afterwards: a table that is made has one, that of all rows
-abbrev pub laid_by : Held → ℤ → TableWork → Told → List ℕ → List Tablet
+abbrev pub laid_by : CoreContents → ℤ → TableWork → Told → List ℕ → List Tablet
 laid_by h now Aside plain q = tablets_in h q
 laid_by h now (Making t) plain q = cond (bytes_eq t q) (new_tablet h.tablet None ∷ []) (tablets_in h q)
 laid_by h now (Dropping t) plain q = cond (bytes_eq t q) [] (tablets_in h q)
 laid_by h now (On t work) plain q = cond (bytes_eq t q) (lays_in h now work plain (table_in h q)).1 (tablets_in h q)
 
 -- the merge that the work begins, if any
-abbrev pub job_by : Held → ℤ → TableWork → Option TabletMerge
+abbrev pub job_by : CoreContents → ℤ → TableWork → Option TabletMerge
 job_by h now Aside = None
 job_by h now (Making t) = None
 job_by h now (Dropping t) = None
@@ -221,22 +221,22 @@ handed told begun = None
 
 -- ---- the exact step
 -- what an event is told whose answer is this one: a refusal, or what the tablets give
-abbrev pub told_exactly : Held → ℤ → Option TabletMerge → Act → Told → Told
+abbrev pub told_exactly : CoreContents → ℤ → Option TabletMerge → Act → Told → Told
 told_exactly h now given act (Refused r) = Refused r
 told_exactly h now given act plain = told_by h now (work_of given act) plain
 
 -- the tablets of the table q after an event whose answer is this one: where a check refuses it they are as they were
-abbrev pub laid_exactly : Held → ℤ → Option TabletMerge → Act → Told → List ℕ → List Tablet
+abbrev pub laid_exactly : CoreContents → ℤ → Option TabletMerge → Act → Told → List ℕ → List Tablet
 laid_exactly h now given act (Refused r) q = tablets_in h q
 laid_exactly h now given act plain q = laid_by h now (work_of given act) plain q
 
 -- the same once it was told this: where memory lacked they are wholly as they were, and not frozen either
-abbrev pub laid_told : Told → Held → ℤ → Option TabletMerge → Act → Told → List ℕ → List Tablet
+abbrev pub laid_told : Told → CoreContents → ℤ → Option TabletMerge → Act → Told → List ℕ → List Tablet
 laid_told (Refused NoMemory) h now given act plain q = tablets_in h q
 laid_told told h now given act plain q = laid_exactly h now given act plain q
 
 -- At this clock, an act whose answer is plain is told so, hands out this job, and leaves the tablets so; with an Install came this merge.
-pub record LaysExactly (old : Held) (now : ℤ) (given : Option TabletMerge) (act : Act) (plain told : Told) (job : Option TabletMerge) (new : Held) : Type 0 where
+pub record LaysExactly (old : CoreContents) (now : ℤ) (given : Option TabletMerge) (act : Act) (plain told : Told) (job : Option TabletMerge) (new : CoreContents) : Type 0 where
   -- it is told what the tablets give, unless memory lacked and it takes some
   pub answers : (told ≡ told_exactly old now given act plain) ⊎ ((takes_memory act ≡ true) × (told ≡ Refused NoMemory))
   -- the job that is handed out is the merge that was begun
@@ -250,11 +250,11 @@ pub record LaysExactly (old : Held) (now : ℤ) (given : Option TabletMerge) (ac
   pub number : new.job ≡ job_told told old.job
 
 -- the clock, with an event's moment in it
-abbrev pub now_at : Held → Event → ℤ
+abbrev pub now_at : CoreContents → Event → ℤ
 now_at h e = int_max h.clock e.moment
 
 -- the answer to an event by what histories see of the core
-abbrev pub plain_answer : Held → Event → Told
+abbrev pub plain_answer : CoreContents → Event → Told
 plain_answer h e = event_answer (base_of h) [] (now_at h e) e.user e.act
 
 -- the entry of an event
@@ -262,13 +262,13 @@ abbrev pub entry_of : Event → Told → Entry
 entry_of event told = record { step = IsEvent event; reply = told }
 
 -- An event, with the merge that came with it, is told, and does, what the tablets give; and as histories see it, it is a right step.
-pub record StepsExactly (old : Held) (given : Option TabletMerge) (event : Event) (told : Told) (job : Option TabletMerge) (new : Held) : Type 0 where
+pub record StepsExactly (old : CoreContents) (given : Option TabletMerge) (event : Event) (told : Told) (job : Option TabletMerge) (new : CoreContents) : Type 0 where
   pub right : GoesRight (base_of old) (entry_of event told) (base_of new)
   pub exact : LaysExactly old (now_at old event) given event.act (plain_answer old event) told job new
 
 -- ---- The law: what an event is told exactly is one of the answers that histories allow.
 abbrev pub TellsLegally : Type 0
-TellsLegally = (h : Held) (now : ℤ) (given : Option TabletMerge) (act : Act) (plain : Told) → MayTell act plain (told_by h now (work_of given act) plain)
+TellsLegally = (h : CoreContents) (now : ℤ) (given : Option TabletMerge) (act : Act) (plain : Told) → MayTell act plain (told_by h now (work_of given act) plain)
 
 -- ---- The law: a merge that a compaction makes finds its inputs among the sources, so where there is anything to merge it is merged.
 -- and what is left are the sources that the compaction spares

@@ -1,4 +1,4 @@
--- Tables by name, and what calls change of them.
+-- To be believed by whoever relies on it. Tables by name, and what calls change of them.
 use Rattle.std.specs.Prelude.{ℕ, ℤ, List, [], ◌∷◌, Option, Some, None, cond, find, bytes_eq}
 use Rattle.std.specs.Option.{option_map}
 use Rattle.tab_key.specs.Records.{Record}
@@ -12,7 +12,7 @@ use Rattle.tab_history.specs.Held.{floor_of}
 use Rattle.tab_history.specs.declared.event.TimeMode.{TimeMode}
 use Rattle.tab_store.specs.declared.setting.Setting.{Setting}
 use Rattle.tab_store.specs.declared.setting.Setting.TheVariants.{Constraints, Versions, Horizon}
-use Rattle.tab_store.specs.Stores.{HeldTable}
+use Rattle.tab_store.specs.Stores.{TableContents}
 
 -- a table without its name
 pub record TableState : Type 0 where
@@ -20,7 +20,7 @@ pub record TableState : Type 0 where
   pub tablets : List Tablet
 
 -- a table under its name
-abbrev pub named_table : List ℕ × TableState → HeldTable
+abbrev pub named_table : List ℕ × TableState → TableContents
 named_table e = record { name = e.0; settings = e.1.settings; tablets = e.1.tablets }
 
 -- a table as it is made: one tablet with this number, that of all rows
@@ -46,14 +46,14 @@ abbrev pub with_setting : Setting → TableState → TableState
 with_setting setting t = record t { settings = set_so setting t.settings }
 
 -- the table of this name, without the name
-abbrev pub state_of : HeldTable → TableState
+abbrev pub state_of : TableContents → TableState
 state_of t = record { settings = t.settings; tablets = t.tablets }
 
-abbrev pub table_at : List HeldTable → List ℕ → Option TableState
-table_at ts q = option_map state_of (find (λ (t : HeldTable). bytes_eq t.name q) ts)
+abbrev pub table_at : List TableContents → List ℕ → Option TableState
+table_at ts q = option_map state_of (find (λ (t : TableContents). bytes_eq t.name q) ts)
 
 -- the table of the name q once f has changed the one of the name n, if there is one
-abbrev pub changed_table : List ℕ → (TableState → TableState) → List HeldTable → List ℕ → Option TableState
+abbrev pub changed_table : List ℕ → (TableState → TableState) → List TableContents → List ℕ → Option TableState
 changed_table n f ts q = cond (bytes_eq n q) (option_map f (table_at ts q)) (table_at ts q)
 
 -- what a table that may be missing is set to

@@ -61,7 +61,8 @@ pub use laws::{
 };
 pub use setting::Setting;
 pub use tab_tablets::{
-    DueKind, FinishedJob, Installed, Job, MadeTable, Pending, Split, TabletJob, merge_all,
+    DueKind, FinishedJob, Installed, Job, MadeTable, Pending, SPLIT_SIZE, Split, TabletJob,
+    merge_all,
 };
 pub use table::Table;
 pub use tables::Tables;

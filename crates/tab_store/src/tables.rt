@@ -42,10 +42,10 @@ impl Model for Tables {
     ghost use Rattle.std.specs.BTreeMap.{IsOrdered};
     ghost use Rattle.tab_key.specs.Bytes.{bytes_cmp};
     ghost use Rattle.tab_tablets.specs.ByRow.{};
-    ghost use Rattle.tab_store.specs.Stores.{HeldTable};
+    ghost use Rattle.tab_store.specs.Stores.{TableContents};
     ghost use Rattle.tab_store.specs.Tables.{named_table};
 
-    ghost Value = { List HeldTable };
+    ghost Value = { List TableContents };
 
     ghost view = { λ t. map named_table t.by_name.entries };
 

@@ -5,7 +5,7 @@ use Rattle.std.specs.List.{slice_index}
 use Rattle.std.proofs.lemmas.Bool.Decides.{nat_tests}
 use Rattle.tab_key.specs.Encoding.{record_at, record_size, records_at, AreAt}
 use Rattle.tab_key.specs.Records.{Key, Record}
-use Rattle.tab_mem.specs.Fronts.{AreFronts}
+use Rattle.tab_mem.specs.RowIndex.{IsRowIndex}
 use Rattle.tab_table.specs.Sizes.{encoded_size, size_behind, sizes_from, no_key, base_of, key_behind}
 
 -- what holds of some bytes and places holds of equal ones
@@ -55,8 +55,8 @@ unfolding encoded_size
 nothing_sized body places e = sym (ap (λ ps. encoded_size (records_at body ps)) e)
 
 -- .. and nothing is in its index
-nothing_noted : AreFronts [] []
+nothing_noted : IsRowIndex [] []
 nothing_noted = record { all = omega arith; few = omega arith; each = λ k d u lt. absurd (omega (arith, lt)) }
 
-pub nothing_indexed : (numbers body places : List ℕ) → numbers ≡ [] → places ≡ [] → AreFronts numbers (records_at body places)
-nothing_indexed numbers body places e f = subst (λ ns. AreFronts ns (records_at body places)) (sym e) (subst (λ ps. AreFronts [] (records_at body ps)) (sym f) nothing_noted)
+pub nothing_indexed : (numbers body places : List ℕ) → numbers ≡ [] → places ≡ [] → IsRowIndex numbers (records_at body places)
+nothing_indexed numbers body places e f = subst (λ ns. IsRowIndex ns (records_at body places)) (sym e) (subst (λ ps. IsRowIndex [] (records_at body ps)) (sym f) nothing_noted)

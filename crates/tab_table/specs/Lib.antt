@@ -1,3 +1,3 @@
 pub mod Sizes
 pub mod SizeExamples
-pub mod Tables
+pub mod SortedTables

@@ -1,4 +1,4 @@
--- How many bytes records take in a sorted table.
+-- To be believed by whoever relies on it. How many bytes records take in a sorted table.
 --
 -- They stand in blocks of 64, the last of which may have fewer. In its block a record leaves out the first bytes of row, family, qualifier
 -- and label that the same part of the record before it has; a block's first record leaves out none.

@@ -2,7 +2,7 @@
 ghost use Rattle.std.specs.Prelude.{◌≡◌, ◌≤◌, ◌-◌, ◌+◌, length};
 ghost use Rattle.tab_key.specs.Encoding.{records_at, AreAt, IsShort};
 ghost use Rattle.tab_key.specs.KeyOf.{key_of};
-ghost use Rattle.tab_key.specs.declared.part.TheConstants.{MAX_PART_LEN};
+ghost use Rattle.tab_key.specs.declared.limited_part.TheConstants.{MAX_PART_LEN};
 ghost use Rattle.tab_table.specs.Sizes.{shared, size_behind, no_key, base_of, key_behind};
 
 use crate::sharing::shared;

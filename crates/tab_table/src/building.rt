@@ -1,23 +1,23 @@
 //! Tables built of what a source has left.
 ghost use Rattle.std.specs.Prelude.{◌≡◌, true, IfOk, OnOk, IsErr};
 ghost use Rattle.tab_key.specs.Encoding.{records_at, AreAt};
-ghost use Rattle.tab_mem.specs.Fronts.{AreFronts};
+ghost use Rattle.tab_mem.specs.RowIndex.{IsRowIndex};
 ghost use Rattle.tab_table.specs.Sizes.{encoded_size};
 
-use crate::Table;
+use crate::SortedTable;
 use crate::block::{base_of, size_behind};
 use bytes::Bytes;
 use std::alloc::{AllocError, Global};
 use tab_iter::{NoMemory, Source};
 use tab_key::{RecordRef, append_copy};
-use tab_mem::Fronts;
+use tab_mem::RowIndex;
 
 // Records, one after another, where their heads begin, the sparse index of their rows, and what they take in blocks.
 #[derive(Drop)]
-struct Gathered {
+struct TableBuilder {
     body: Vec<u8>,
     places: Vec<usize>,
-    fronts: Fronts,
+    row_index: RowIndex,
     size: u64,
 }
 
@@ -27,29 +27,29 @@ fn gather<S: Source>(
     source: &mut S,
     count: usize,
     bytes: usize,
-) -> Result<Gathered, NoMemory>
+) -> Result<TableBuilder, NoMemory>
     ensures records { IfOk result (λ g. records_at g.body.items g.places.items ≡ S.rest source.old) }
     ensures within { IfOk result (λ g. AreAt g.body.items g.places.items) }
     ensures size { IfOk result (λ g. g.size ≡ encoded_size (records_at g.body.items g.places.items)) }
-    ensures indexed { IfOk result (λ g. AreFronts g.fronts.numbers.items (records_at g.body.items g.places.items)) }
+    ensures indexed { IfOk result (λ g. IsRowIndex g.row_index.numbers.items (records_at g.body.items g.places.items)) }
 {
     let mut body = Vec::with_capacity(alloc, bytes)?;
     let mut places = Vec::with_capacity(alloc, count)?;
-    let mut fronts = Fronts::with_capacity(alloc, count)?;
+    let mut row_index = RowIndex::with_capacity(alloc, count)?;
     let mut size = 0;
     while let Some(next) = source.top() {
-        fronts.make_room()?;
-        fronts.put(places.len(), &next);
+        row_index.make_room()?;
+        row_index.put(places.len(), &next);
         let place = append_copy(&mut body, &next)?;
         let more = size_behind(base_of(&body, &places), &RecordRef::at(&body, place));
         size += more as u64;
         places.push(place)?;
         source.advance()?;
     }
-    Ok(Gathered {
+    Ok(TableBuilder {
         body,
         places,
-        fronts,
+        row_index,
         size,
     })
 }
@@ -65,8 +65,8 @@ fn see_positioned<S: Source>(source: &mut S) -> Result<(), NoMemory>
     Ok(())
 }
 
-impl Table {
-    ghost use Rattle.tab_table.specs.Tables.{records};
+impl SortedTable {
+    ghost use Rattle.tab_table.specs.SortedTables.{records};
 
     /// A table of the records that the source has left, which it reads to its end. Each is copied once.
     ///
@@ -78,25 +78,25 @@ impl Table {
         source: &mut S,
         count: usize,
         bytes: usize,
-    ) -> Result<Table, NoMemory>
+    ) -> Result<SortedTable, NoMemory>
         ensures records { IfOk result (λ t. records t ≡ S.rest source.old) }
         ensures unpositioned { S.is_unpositioned source.old ≡ true → IsErr result }
     {
         see_positioned(source)?;
-        let Gathered {
+        let TableBuilder {
             mut body,
             mut places,
-            mut fronts,
+            mut row_index,
             size,
         } = gather(alloc, source, count, bytes)?;
         body.shrink_to_fit();
         places.shrink_to_fit();
-        fronts.shrink_to_fit();
+        row_index.shrink_to_fit();
         match Bytes::from_vec(body) {
-            Ok(body) => Ok(Table {
+            Ok(body) => Ok(SortedTable {
                 body,
                 places,
-                fronts,
+                row_index,
                 size,
             }),
             Err(_) => Err(AllocError),

@@ -3,35 +3,35 @@ ghost use Rattle.std.specs.Prelude.{◌≡◌, ◌≤◌, List, [], Bool, true, 
 ghost use Rattle.tab_mem.specs.Lists.{part};
 ghost use Rattle.tab_key.specs.Encoding.{records_at};
 
-use crate::Table;
+use crate::SortedTable;
 use std::sync::Arc;
 use tab_iter::{NoMemory, Source};
 use tab_key::{Key, RecordRef};
 use tab_mem::{Start, first_near};
 
 /// Whoever has a table: who borrows it, or who shares it.
-pub trait Tabled {
-    ghost use Rattle.tab_table.specs.declared.table.Table.{Table as Fields};
+pub trait HasSortedTable {
+    ghost use Rattle.tab_table.specs.declared.sorted_table.SortedTable.{SortedTable as Fields};
 
     ghost table: { Self → Fields };
 
     /// The table.
-    fn table(&self) -> &Table
+    fn table(&self) -> &SortedTable
         ensures { result.now ≡ table self.now };
 }
 
-impl<'a> Tabled for &'a Table {
+impl<'a> HasSortedTable for &'a SortedTable {
     ghost table = { λ t. t.now };
 
-    fn table(&self) -> &Table {
+    fn table(&self) -> &SortedTable {
         *self
     }
 }
 
-impl Tabled for Arc<Table> {
+impl HasSortedTable for Arc<SortedTable> {
     ghost table = { λ t. t.value };
 
-    fn table(&self) -> &Table {
+    fn table(&self) -> &SortedTable {
         &**self
     }
 }
@@ -39,7 +39,7 @@ impl Tabled for Arc<Table> {
 /// The records of a table from one index up to another, and a place among them: a source of `tab_iter`. A contract sees all of
 /// these records, and those that are left.
 #[derive(Drop)]
-pub struct TableCursor<T: Tabled> {
+pub struct TableCursor<T: HasSortedTable> {
     table: T,
     from: usize,
     at: usize,
@@ -50,13 +50,13 @@ pub struct TableCursor<T: Tabled> {
 }
 
 /// A cursor that borrows its table.
-pub type Cursor<'a> = TableCursor<&'a Table>;
+pub type Cursor<'a> = TableCursor<&'a SortedTable>;
 
 /// A cursor that shares its table, and so outlives whoever made it.
-pub type OwnedCursor = TableCursor<Arc<Table>>;
+pub type OwnedCursor = TableCursor<Arc<SortedTable>>;
 
-impl<T: Tabled + Drop> TableCursor<T> {
-    ghost use Rattle.tab_table.specs.Tables.{records};
+impl<T: HasSortedTable + Drop> TableCursor<T> {
+    ghost use Rattle.tab_table.specs.SortedTables.{records};
 
     /// A cursor over the whole table, at its first record.
     pub fn new(table: T) -> TableCursor<T>
@@ -84,10 +84,10 @@ impl<T: Tabled + Drop> TableCursor<T> {
 }
 
 /// No call takes memory. A seek takes time logarithmic in how far it goes on where it stays near, and else in the part.
-impl<T: Tabled> Source for TableCursor<T> {
+impl<T: HasSortedTable> Source for TableCursor<T> {
     ghost use Rattle.tab_iter.specs.SourceLaws.{ends_drop, always_positioned};
     ghost use Rattle.tab_mem.proofs.Parts.{part_rises, part_timestamps};
-    ghost use Rattle.tab_table.specs.Tables.{records};
+    ghost use Rattle.tab_table.specs.SortedTables.{records};
 
     ghost whole = { λ c. part c.from c.end (records (T.table c.table)) };
 

@@ -2,7 +2,7 @@
 //!
 //! | File | What |
 //! |---|---|
-//! | `table` | a sorted table |
+//! | `sorted_table` | a sorted table |
 //! | `building` | a table built of what a source has left |
 //! | `block` | how many bytes a record takes in its block |
 //! | `sharing` | how many first bytes two byte strings share |
@@ -13,7 +13,7 @@ mod block;
 mod building;
 mod cursor;
 mod sharing;
-mod table;
+mod sorted_table;
 
-pub use cursor::{Cursor, OwnedCursor, TableCursor, Tabled};
-pub use table::Table;
+pub use cursor::{Cursor, HasSortedTable, OwnedCursor, TableCursor};
+pub use sorted_table::SortedTable;

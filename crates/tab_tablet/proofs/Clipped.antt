@@ -8,8 +8,8 @@ use Rattle.tab_key.proofs.Rising.{in_from, in_to, in_sorted}
 use Rattle.tab_cells.proofs.Lists.{filter_append}
 use Rattle.tab_iter.specs.Bags.{flat}
 use Rattle.tab_version.specs.Sources.{Sorted}
-use Rattle.tab_tablet.specs.BodyLists.{Bodies, held_by}
-pub use Rattle.tab_tablet.specs.Bodies.{held_in}
+use Rattle.tab_tablet.specs.MergedRunLists.{MergedRuns, held_by}
+pub use Rattle.tab_tablet.specs.MergedRuns.{held_in}
 use Rattle.tab_tablet.proofs.Gathered.{flat_more}
 
 -- those of the first runs, and of the next
@@ -37,7 +37,7 @@ tables_more p tables clips more i table part lt is of before after =
 pub below_sorted : (seq : ℕ) (us : List Record) → ((u : Record) → Contains us u → u.seq < seq) → (u : Record) → Contains (sorted us) u → u.seq < seq
 below_sorted seq us below u k = below u (in_to us u (in_sorted us u (in_from (sorted us) u k)))
 
--- ---- the parts of bodies and of tables
+-- ---- the parts of merged runs and of tables
 -- the parts of the first runs, and that of the next, behind other records
 pub parts_beside : (p : Record → Bool) (first : List Record) (runs clips more : List (List Record)) (i : ℕ) (run part : List Record) → i < length runs → run ≡ get_or runs i run → part ≡ filter p run
     → flat clips ≡ first ++ filter p (flat (take i runs)) → flat more ≡ flat clips ++ part → flat more ≡ first ++ filter p (flat (take (i + 1) runs))
@@ -46,18 +46,18 @@ parts_beside p first runs clips more i run part lt is of before after =
     ∙ append_assoc first (filter p (flat (take i runs))) (filter p run)
     ∙ ap (λ l. first ++ l) (sym (filter_append p (flat (take i runs)) run) ∙ ap (filter p) (sym (flat_next runs i run lt is)))
 
--- of both kinds of bodies, one behind the other
-pub bodies_read : (p : Record → Bool) (b : Bodies) (none some clips : List (List Record)) → flat none ≡ [] → flat some ≡ flat none ++ filter p (flat b.shared) → flat clips ≡ flat some ++ filter p (flat b.merged) → flat clips ≡ filter p (held_by b)
-bodies_read p b none some clips empty first second =
+-- of both kinds of merged runs, one behind the other
+pub merged_runs_read : (p : Record → Bool) (b : MergedRuns) (none some clips : List (List Record)) → flat none ≡ [] → flat some ≡ flat none ++ filter p (flat b.shared) → flat clips ≡ flat some ++ filter p (flat b.merged) → flat clips ≡ filter p (held_by b)
+merged_runs_read p b none some clips empty first second =
     second ∙ ap (λ l. l ++ filter p (flat b.merged)) (first ∙ ap (λ l. l ++ filter p (flat b.shared)) empty) ∙ sym (filter_append p (flat b.shared) (flat b.merged))
 
--- of bodies and of tables
-pub parts_read : (p : Record → Bool) (b : Bodies) (ts : List Sorted) (runs : List (List Record)) (clips : List Sorted) → flat runs ≡ filter p (held_by b) → held_in clips ≡ filter p (held_in ts) → flat runs ++ held_in clips ≡ filter p (held_by b ++ held_in ts)
-parts_read p b ts runs clips of_bodies of_tables = (λ i. of_bodies i ++ of_tables i) ∙ sym (filter_append p (held_by b) (held_in ts))
+-- of merged runs and of tables
+pub parts_read : (p : Record → Bool) (b : MergedRuns) (ts : List Sorted) (runs : List (List Record)) (clips : List Sorted) → flat runs ≡ filter p (held_by b) → held_in clips ≡ filter p (held_in ts) → flat runs ++ held_in clips ≡ filter p (held_by b ++ held_in ts)
+parts_read p b ts runs clips of_merged_runs of_tables = (λ i. of_merged_runs i ++ of_tables i) ∙ sym (filter_append p (held_by b) (held_in ts))
 
--- of bodies that are cut, each kind by itself
-pub bodies_parts : (p : Record → Bool) (b : Bodies) (none shared none_yet merged : List (List Record)) → flat none ≡ [] → flat shared ≡ flat none ++ filter p (flat b.shared) → flat none_yet ≡ [] → flat merged ≡ flat none_yet ++ filter p (flat b.merged)
+-- of merged runs that are cut, each kind by itself
+pub merged_runs_parts : (p : Record → Bool) (b : MergedRuns) (none shared none_yet merged : List (List Record)) → flat none ≡ [] → flat shared ≡ flat none ++ filter p (flat b.shared) → flat none_yet ≡ [] → flat merged ≡ flat none_yet ++ filter p (flat b.merged)
     → flat shared ++ flat merged ≡ filter p (held_by b)
-bodies_parts p b none shared none_yet merged empty first empty_yet second =
+merged_runs_parts p b none shared none_yet merged empty first empty_yet second =
     (λ i. (first ∙ ap (λ l. l ++ filter p (flat b.shared)) empty) i ++ (second ∙ ap (λ l. l ++ filter p (flat b.merged)) empty_yet) i)
     ∙ sym (filter_append p (flat b.shared) (flat b.merged))

@@ -9,8 +9,8 @@ pub mod Compacted
 pub mod Larger
 pub mod Counted
 pub mod Cut
-pub mod BodyLaws
-pub mod BodiesLeft
+pub mod MergedRunLaws
+pub mod MergedRunsLeft
 pub mod InParts
 pub mod Tabled
 pub mod Listings

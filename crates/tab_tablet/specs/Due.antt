@@ -1,4 +1,4 @@
--- Work that is due on a tablet. (Accumulo user manual: minor and major compactions, splitting)
+-- To be believed by whoever relies on it. Work that is due on a tablet. (Accumulo user manual: minor and major compactions, splitting)
 use Rattle.std.specs.Prelude.{ℕ, List, Bool, ◌++◌, ◌*◌, ◌&&◌, cond, is_some, length, nat_le}
 use Rattle.std.specs.List.{sum_by}
 use Rattle.tab_iter.specs.Bags.{flat}

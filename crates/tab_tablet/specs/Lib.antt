@@ -1,5 +1,5 @@
-pub mod BodyLists
-pub mod Bodies
+pub mod MergedRunLists
+pub mod MergedRuns
 pub mod Opened
 pub mod Tablets
 pub mod Splitting

@@ -1,4 +1,4 @@
--- What an opened scan reads.
+-- For proofs. What an opened scan reads.
 use Rattle.std.specs.Prelude.{◌≡◌, ℕ, List}
 use Rattle.tab_key.specs.Records.{Record}
 use Rattle.tab_key.specs.declared.column.Column.{Column}

@@ -1,4 +1,4 @@
--- Selection: the row at a place of the rows of records, in their order.
+-- For proofs. Selection: the row at a place of the rows of records, in their order.
 use Rattle.std.specs.Prelude.{◌≡◌, ◌<◌, ℕ, List, [], All, length, filter, map, slice_get}
 use Rattle.std.specs.Ordering.{is_lt, is_le}
 use Rattle.tab_key.specs.Bytes.{bytes_cmp}

@@ -1,4 +1,4 @@
--- What a whole compaction leaves of a tablet's sources, said without comparing contents.
+-- For proofs. What a whole compaction leaves of a tablet's sources, said without comparing contents.
 use Rattle.std.specs.Prelude.{◌≡◌, ℕ, List, [], not, nat_le, Option, Some, None, filter, take}
 use Rattle.tab_cells.specs.declared.compaction.Compaction.{Compaction}
 use Rattle.tab_cells.specs.declared.compaction.Compaction.TheVariants.{Minor, Partial, Full}

@@ -1,4 +1,4 @@
--- Splits of a tablet, and the row at which one by size is made. (Accumulo user manual: tablets, splitting)
+-- To be believed by whoever relies on it. Splits of a tablet, and the row at which one by size is made. (Accumulo user manual: tablets, splitting)
 use Rattle.std.specs.Prelude.{ℕ, List, [], ◌∷◌, ◌/◌, Bool, cond, Option, Some, None, length, filter, map, bytes_eq, slice_get}
 use Rattle.std.specs.Ordering.{is_lt, is_le, is_gt}
 use Rattle.tab_key.specs.Bytes.{bytes_cmp}

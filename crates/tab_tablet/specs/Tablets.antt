@@ -1,4 +1,4 @@
--- Tablets, and what writes, freezes and compactions do to one. (Accumulo user manual: tablets, minor and major compactions)
+-- To be believed by whoever relies on it. Tablets, and what writes, freezes and compactions do to one. (Accumulo user manual: tablets, minor and major compactions)
 use Rattle.std.specs.Prelude.{ℕ, ℤ, List, [], ◌∷◌, ◌++◌, ◌+◌, ◌==◌, Bool, true, cond, min, Option, Some, None}
 use Rattle.std.specs.Ordering.{is_le}
 use Rattle.tab_key.specs.Bytes.{bytes_cmp}

@@ -2,27 +2,27 @@
 ghost use Rattle.std.specs.Prelude.{◌≡◌, ◌++◌, filter, map, IfOk, OnOk};
 ghost use Rattle.tab_key.specs.Ranges.{is_in_range};
 ghost use Rattle.tab_iter.specs.Bags.{flat};
-ghost use Rattle.tab_tablet.specs.Bodies.{held_in};
-ghost use Rattle.tab_tablet.specs.BodyLists.{held_by};
+ghost use Rattle.tab_tablet.specs.MergedRuns.{held_in};
+ghost use Rattle.tab_tablet.specs.MergedRunLists.{held_by};
 ghost use Rattle.tab_version.specs.Sources.{records_of};
 
-use crate::bodies::Bodies;
+use crate::merged_runs::MergedRuns;
 use std::alloc::{AllocError, Global};
 use tab_key::Bounds;
 use tab_version::{Clip, Clips, TableClip};
 
-/// The part of each body and of each table whose rows are in range, without those that have none. No record is copied.
+/// The part of each merged run and of each table whose rows are in range, without those that have none. No record is copied.
 pub(crate) fn clips_in(
     alloc: Global,
-    bodies: &Bodies,
+    merged_runs: &MergedRuns,
     tables: &[TableClip],
     bounds: &Bounds,
 ) -> Result<Clips, AllocError>
-    ensures { IfOk result (λ c. records_of c ≡ filter (λ u. is_in_range bounds.now u.key.row) (held_by bodies.now ++ held_in tables.now)) }
+    ensures { IfOk result (λ c. records_of c ≡ filter (λ u. is_in_range bounds.now u.key.row) (held_by merged_runs.now ++ held_in tables.now)) }
 {
     let mut runs = Vec::new(alloc);
-    add_parts(&mut runs, bodies.shared(), bounds)?;
-    add_parts(&mut runs, bodies.merged(), bounds)?;
+    add_parts(&mut runs, merged_runs.shared(), bounds)?;
+    add_parts(&mut runs, merged_runs.merged(), bounds)?;
     let tables = tables_in(alloc, tables, bounds)?;
     Ok(Clips::of(runs, tables))
 }

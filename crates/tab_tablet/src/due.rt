@@ -7,6 +7,9 @@ ghost use Rattle.tab_tablet.specs.Due.{fit_within};
 
 use tab_version::TableClip;
 
+/// The bytes that a tablet's sorted tables have together from which on it is split.
+pub const SPLIT_SIZE: u64 = 16_777_216;
+
 /// What work a tablet may be due for.
 #[derive(Clone, Copy, Debug, PartialEq, Eq)]
 pub enum DueKind {

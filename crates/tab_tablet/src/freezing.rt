@@ -24,7 +24,7 @@ pub(crate) fn add_frozen(
     sources.add_run(Clip::whole(run))
 }
 
-/// The sources with what was written as one more run, if there is any, which the bodies hold too. These stay as they are.
+/// The sources with what was written as one more run, if there is any, which the merged runs hold too. These stay as they are.
 pub(crate) fn frozen_sources(
     alloc: Global,
     active: &Active,
@@ -38,7 +38,7 @@ pub(crate) fn frozen_sources(
     Ok(frozen)
 }
 
-// Puts what was written behind the runs, if there is any, so that the bodies hold it too.
+// Puts what was written behind the runs, if there is any, so that the merged runs hold it too.
 fn add_prepared(alloc: Global, active: &Active, sources: &mut Sources) -> Result<(), AllocError>
     requires { IsDistinct (active.now ++ records_of sources.old) }
     ensures { OnOk result (sources.new ≡ record (sources.old) { runs = sources.old.runs ++ run_of active.now }) }

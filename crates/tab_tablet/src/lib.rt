@@ -8,19 +8,18 @@
 //! |---|---|
 //! | `tablet` | the tablet: writes, freezes, compactions, splits, and what a scan reads |
 //! | `sources` | its sources, if there are any, and the place where they lie |
-//! | `layers` | the sources, and the bodies that scans read in the place of runs |
-//! | `bodies` | these |
+//! | `source_lists` | the sources, and the merged runs that scans read in the place of runs |
+//! | `merged_runs` | these |
 //! | `growing` | these, with one more run |
 //! | `merging` | sources merged into one run |
 //! | `freezing` | what was written, made a run |
 //! | `freeze` | what is made before a tablet is frozen in its place |
-//! | `clipping` | the records of bodies and tables in range |
+//! | `clipping` | the records of merged runs and tables in range |
 //! | `listing` | all that sources hold, to be listed |
 //! | `restoring` | records, made a sorted table |
 //! | `compacting` | the sources after a compaction |
 //! | `sparing` | the sources that a compaction doesn't read |
-//! | `entry`, `entries` | a merge that is under way, and one of each kind |
-//! | `jobs` | those of a tablet, if there are any, and the place where they lie |
+//! | `ongoing_merges` | the merges that are under way, one of each kind, and the place where they lie |
 //! | `installed` | what an install tells |
 //! | `counting` | how many records there are, and the sizes of tables |
 //! | `due` | work that is due |
@@ -32,33 +31,31 @@
 //! | `specs/Splitting`, `SplitExamples` | splits, and worked examples |
 #![tactic(auto)]
 
-mod bodies;
 mod bounding;
 mod clipping;
 mod compacting;
 mod counting;
 mod due;
-mod entries;
-mod entry;
 mod freeze;
 mod freezing;
 mod growing;
 mod installed;
-mod jobs;
-mod layers;
 mod listing;
+mod merged_runs;
 mod merging;
 mod middle;
+mod ongoing_merges;
 mod probing;
 mod restoring;
 mod row_counting;
 mod selecting;
+mod source_lists;
 mod sources;
 mod sparing;
 mod tablet;
 
 pub use bounding::{rows_above, rows_up_to};
-pub use due::DueKind;
+pub use due::{DueKind, SPLIT_SIZE};
 pub use freeze::Freeze;
 pub use installed::Installed;
 pub use tab_compact::{Finished, Job, MadeTable, Pending, merge_all};

@@ -4,11 +4,11 @@ ghost use Rattle.tab_key.specs.Ranges.{is_in_range};
 ghost use Rattle.tab_key.specs.Sorted.{sorted, IsDistinct};
 ghost use Rattle.tab_version.specs.Sources.{clipped, no_sources, records_of, left_by, with_table};
 ghost use Rattle.tab_compact.specs.Merges.{output, captured};
-ghost use Rattle.tab_tablet.specs.Bodies.{AreBodies, Freezes};
+ghost use Rattle.tab_tablet.specs.MergedRuns.{AreMergedRuns, Freezes};
 ghost use Rattle.tab_tablet.specs.Spared.{sources_after};
 
 use crate::freeze::Freeze;
-use crate::layers::Layers;
+use crate::source_lists::SourceLists;
 use std::alloc::{AllocError, Global};
 use std::marker::Model;
 use tab_cells::Compaction;
@@ -18,19 +18,19 @@ use tab_key::Bounds;
 use tab_mem::Active;
 use tab_version::{Clip, Clips, TableClip};
 
-/// Layers, if there is a run or a table: memory for them is taken with the first. A contract sees the runs and the tables.
+/// The lists, if there is a run or a table: memory for them is taken with the first. A contract sees the runs and the tables.
 #[derive(Drop)]
 pub(crate) struct Sources {
-    layers: Option<Box<Layers>>,
+    source_lists: Option<Box<SourceLists>>,
 }
 
 impl Model for Sources {
     ghost use Rattle.std.specs.Prelude.{option_map, unwrap_or};
-    ghost use Rattle.tab_version.specs.Sources.{Sources as Held, no_sources};
+    ghost use Rattle.tab_version.specs.Sources.{Sources as Contents, no_sources};
 
-    ghost Value = { Held };
+    ghost Value = { Contents };
 
-    ghost view = { λ s. unwrap_or (option_map (λ l. l.value) s.layers) no_sources };
+    ghost view = { λ s. unwrap_or (option_map (λ l. l.value) s.source_lists) no_sources };
 }
 
 impl Sources {
@@ -38,19 +38,19 @@ impl Sources {
     pub(crate) fn new() -> Sources
         ensures { result ≡ no_sources }
     {
-        Sources { layers: None }
+        Sources { source_lists: None }
     }
 
     /// These. It takes no memory where there are none. `AllocError` says that it lacked.
-    pub(crate) fn of(alloc: Global, layers: Layers) -> Result<Sources, AllocError>
-        ensures { IfOk result (λ s. s ≡ layers) }
+    pub(crate) fn of(alloc: Global, source_lists: SourceLists) -> Result<Sources, AllocError>
+        ensures { IfOk result (λ s. s ≡ source_lists) }
     {
-        if layers.is_empty() {
+        if source_lists.is_empty() {
             return Ok(Sources::new());
         }
-        let layers = Box::new(alloc, layers)?;
+        let source_lists = Box::new(alloc, source_lists)?;
         Ok(Sources {
-            layers: Some(layers),
+            source_lists: Some(source_lists),
         })
     }
 
@@ -58,8 +58,8 @@ impl Sources {
     pub(crate) fn runs(&self) -> &[Clip]
         ensures { result.now ≡ self.now.runs }
     {
-        match &self.layers {
-            Some(layers) => layers.sources().runs(),
+        match &self.source_lists {
+            Some(source_lists) => source_lists.sources().runs(),
             None => &[],
         }
     }
@@ -68,8 +68,8 @@ impl Sources {
     pub(crate) fn tables(&self) -> &[TableClip]
         ensures { result.now ≡ self.now.tables }
     {
-        match &self.layers {
-            Some(layers) => layers.sources().tables(),
+        match &self.source_lists {
+            Some(source_lists) => source_lists.sources().tables(),
             None => &[],
         }
     }
@@ -79,68 +79,68 @@ impl Sources {
         requires { none.now ≡ no_sources }
         ensures { result.now ≡ self.now }
     {
-        match &self.layers {
-            Some(layers) => layers.sources(),
+        match &self.source_lists {
+            Some(source_lists) => source_lists.sources(),
             None => none,
         }
     }
 
-    // The layers. Where there are none, it lends the ones it is handed, which are none either.
-    fn layers_or<'a>(&'a self, none: &'a Layers) -> &'a Layers
+    // The lists. Where there are none, it lends the ones it is handed, which are none either.
+    fn layers_or<'a>(&'a self, none: &'a SourceLists) -> &'a SourceLists
         requires { none.now ≡ no_sources }
         ensures { result.now ≡ self.now }
     {
-        match &self.layers {
-            Some(layers) => layers,
+        match &self.source_lists {
+            Some(source_lists) => source_lists,
             None => none,
         }
     }
 
-    // The layers, out of their place.
-    fn into_layers(self, alloc: Global) -> Layers
+    // The lists, out of their place.
+    fn into_layers(self, alloc: Global) -> SourceLists
         ensures { result ≡ self }
     {
-        match self.layers {
-            Some(layers) => Box::into_inner(layers),
-            None => Layers::new(alloc),
+        match self.source_lists {
+            Some(source_lists) => Box::into_inner(source_lists),
+            None => SourceLists::new(alloc),
         }
     }
 
-    /// The same sources, each shared once more, and so is each body.
+    /// The same sources, each shared once more, and so is each merged run.
     pub(crate) fn share(&self, alloc: Global) -> Result<Sources, AllocError>
         ensures { IfOk result (λ s. s ≡ self.now) }
     {
-        let none = Layers::new(alloc);
-        let layers = self.layers_or(&none).share(alloc)?;
-        Sources::of(alloc, layers)
+        let none = SourceLists::new(alloc);
+        let source_lists = self.layers_or(&none).share(alloc)?;
+        Sources::of(alloc, source_lists)
     }
 
-    /// The same sources, each cut to the rows in bounds, and so is each body.
+    /// The same sources, each cut to the rows in bounds, and so is each merged run.
     pub(crate) fn in_rows(&self, alloc: Global, bounds: &Bounds) -> Result<Sources, AllocError>
         requires { IsDistinct (records_of self.now) }
         ensures { IfOk result (λ s. s ≡ clipped (is_in_range bounds.now) self.now) }
     {
-        let none = Layers::new(alloc);
-        let layers = self.layers_or(&none).in_rows(alloc, bounds)?;
-        Sources::of(alloc, layers)
+        let none = SourceLists::new(alloc);
+        let source_lists = self.layers_or(&none).in_rows(alloc, bounds)?;
+        Sources::of(alloc, source_lists)
     }
 
-    /// What a scan of these rows reads: the parts of the bodies and of the tables.
+    /// What a scan of these rows reads: the parts of the merged runs and of the tables.
     pub(crate) fn clips(&self, alloc: Global, bounds: &Bounds) -> Result<Clips, AllocError>
         requires { IsDistinct (records_of self.now) }
         ensures { IfOk result (λ c. sorted (records_of c) ≡ sorted (filter (λ u. is_in_range bounds.now u.key.row) (records_of self.now))) }
     {
-        let none = Layers::new(alloc);
+        let none = SourceLists::new(alloc);
         self.layers_or(&none).clips(alloc, bounds)
     }
 
-    /// A run of these records, of which there are some, and the bodies with it.
+    /// A run of these records, of which there are some, and the merged runs with it.
     pub(crate) fn prepare(&self, alloc: Global, active: &Active) -> Result<Freeze, AllocError>
         requires some { (length active.now == 0) ≡ false }
         requires distinct { IsDistinct (active.now ++ records_of self.now) }
         ensures { IfOk result (λ f. Freezes active.now self.now f) }
     {
-        let none = Layers::new(alloc);
+        let none = SourceLists::new(alloc);
         self.layers_or(&none).prepare(alloc, active)
     }
 
@@ -151,26 +151,26 @@ impl Sources {
         freeze: &Freeze,
         bounds: &Bounds,
     ) -> Result<Clips, AllocError>
-        requires bodies { AreBodies (self.now.runs ++ freeze.now.run ∷ []) freeze.now.bodies }
+        requires merged_runs { AreMergedRuns (self.now.runs ++ freeze.now.run ∷ []) freeze.now.merged_runs }
         requires distinct { IsDistinct (records_of (record (self.now) { runs = self.now.runs ++ freeze.now.run ∷ [] })) }
         ensures { IfOk result (λ c. sorted (records_of c) ≡ sorted (filter (λ u. is_in_range bounds.now u.key.row) (records_of (record (self.now) { runs = self.now.runs ++ freeze.now.run ∷ [] })))) }
     {
-        let none = Layers::new(alloc);
+        let none = SourceLists::new(alloc);
         self.layers_or(&none).clips_after(alloc, freeze, bounds)
     }
 
     /// Puts the run behind the others. `AllocError` leaves all as it was.
     pub(crate) fn put(&mut self, alloc: Global, freeze: Freeze) -> Result<(), AllocError>
-        requires { AreBodies (self.old.runs ++ freeze.run ∷ []) freeze.bodies }
+        requires { AreMergedRuns (self.old.runs ++ freeze.run ∷ []) freeze.merged_runs }
         ensures ok { OnOk result (self.new ≡ record (self.old) { runs = self.old.runs ++ freeze.run ∷ [] }) }
         ensures err { OnErr result (self.new ≡ self.old) }
     {
-        match &mut self.layers {
-            Some(layers) => layers.put(freeze),
+        match &mut self.source_lists {
+            Some(source_lists) => source_lists.put(freeze),
             None => {
-                let mut layers = Layers::new(alloc);
-                layers.put(freeze)?;
-                self.layers = Some(Box::new(alloc, layers)?);
+                let mut source_lists = SourceLists::new(alloc);
+                source_lists.put(freeze)?;
+                self.source_lists = Some(Box::new(alloc, source_lists)?);
                 Ok(())
             }
         }
@@ -190,14 +190,16 @@ impl Sources {
         ensures sources { IfOk result (λ p. p.0 ≡ sources_after kind (captured tablet 0 kind floor versions self) self) }
         ensures is_merged { IfOk result (λ p. p.1 ≡ is_some (captured tablet 0 kind floor versions self)) }
     {
-        let layers = self.into_layers(alloc);
-        let (layers, is_merged) = layers.compacted(alloc, tablet, kind, floor, versions)?;
-        let sources = Sources::of(alloc, layers)?;
+        let source_lists = self.into_layers(alloc);
+        let (source_lists, is_merged) = source_lists.compacted(
+            alloc, tablet, kind, floor, versions,
+        )?;
+        let sources = Sources::of(alloc, source_lists)?;
         Ok((sources, is_merged))
     }
 
     /// The sources that are left where the merge's inputs are taken out, with what it made behind them. These stay as they are. It takes
-    /// memory for a share of each run or body.
+    /// memory for a share of each run or merged run.
     pub(crate) fn installed(
         &self,
         alloc: Global,
@@ -207,8 +209,8 @@ impl Sources {
         requires { left_by finished.inputs self.now ≡ Some left }
         ensures { IfOk result (λ s. s ≡ with_table (output finished) left) }
     {
-        let none = Layers::new(alloc);
-        let layers = self.layers_or(&none).installed(alloc, left, finished)?;
-        Sources::of(alloc, layers)
+        let none = SourceLists::new(alloc);
+        let source_lists = self.layers_or(&none).installed(alloc, left, finished)?;
+        Sources::of(alloc, source_lists)
     }
 }

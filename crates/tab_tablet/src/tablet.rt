@@ -10,7 +10,7 @@ ghost use Rattle.tab_mutation.specs.Shape.{shape_error};
 ghost use Rattle.tab_cells.specs.Written.{mutation_records};
 ghost use Rattle.tab_version.specs.Sources.{clipped, count_of, left_by, records_of, size_of};
 ghost use Rattle.tab_compact.specs.Merges.{captured};
-ghost use Rattle.tab_tablet.specs.Bodies.{IsFreezeOf};
+ghost use Rattle.tab_tablet.specs.MergedRuns.{IsFreezeOf};
 ghost use Rattle.tab_tablet.specs.Due.{is_due};
 ghost use Rattle.tab_tablet.specs.Spared.{sources_after, jobs_after};
 ghost use Rattle.tab_tablet.specs.Splitting.{cut_to, middle_row, rows_in};
@@ -19,15 +19,15 @@ ghost use Rattle.tab_tablet.specs.declared.installed.Installed.TheVariants.{Done
 
 use crate::bounding::{rows_above, rows_up_to};
 use crate::counting::{count_in_runs, count_records, total_size};
-use crate::due::{DueKind, has_plan};
+use crate::due::{DueKind, SPLIT_SIZE, has_plan};
 use crate::freeze::Freeze;
 use crate::freezing::{add_frozen, frozen_sources};
 use crate::installed::Installed;
-use crate::jobs::Jobs;
-use crate::layers::Layers;
 use crate::listing::version_of;
 use crate::middle::middle_row;
+use crate::ongoing_merges::Jobs;
 use crate::restoring::table_of;
+use crate::source_lists::SourceLists;
 use crate::sources::Sources;
 use std::alloc::{AllocError, Global};
 use std::marker::Model;
@@ -42,9 +42,6 @@ use tab_version::{Clip, Clips, Version};
 
 /// So many records that were written or lie in runs are to be flushed.
 const MANY_RECORDS: u64 = 4096;
-
-/// Sorted tables of so many bytes are to be split.
-const MANY_BYTES: u64 = 16_777_216;
 
 // Each table has a tablet from the beginning: what that may hold later lies apart, and takes memory then.
 const _: () = prove!(mem::size_of::<Tablet>() <= 96);
@@ -64,9 +61,9 @@ impl Model for Tablet {
     ghost use Rattle.std.specs.Prelude.{None, ◌++◌};
     ghost use Rattle.tab_key.specs.Sorted.{IsDistinct};
     ghost use Rattle.tab_version.specs.Sources.{records_of};
-    ghost use Rattle.tab_tablet.specs.Tablets.{Tablet as Held};
+    ghost use Rattle.tab_tablet.specs.Tablets.{Tablet as Contents};
 
-    ghost Value = { Held };
+    ghost Value = { Contents };
 
     ghost view = { λ t. record { number = t.number; end = None; active = t.active; sources = t.sources; jobs = t.jobs } };
 
@@ -101,8 +98,8 @@ impl Tablet {
     {
         let _count = records.len();
         let tables = table_of(alloc, records)?;
-        let layers = Layers::of_tables(alloc, tables);
-        let sources = Sources::of(alloc, layers)?;
+        let source_lists = SourceLists::of_tables(alloc, tables);
+        let sources = Sources::of(alloc, source_lists)?;
         Ok(Tablet {
             number,
             active: Active::new(alloc),
@@ -135,7 +132,7 @@ impl Tablet {
     /// Makes the run of what was written ahead: `prepare` and `frozen` then share it, until more is written. A contract sees nothing that
     /// changes.
     ///
-    /// Of many records the body in which they were written shrinks as the run grows, so that all of them lie in memory about once; where
+    /// Of many records the partition in which they were written shrinks as the run grows, so that all of them lie in memory about once; where
     /// `frozen` makes the run itself they lie there twice. `AllocError` says that memory lacked.
     pub fn make_run(&mut self, alloc: Global) -> Result<(), AllocError>
         ensures { self.new ≡ self.old }
@@ -403,7 +400,7 @@ impl Tablet {
 
     /// What is made before it is frozen in its place: a run of what was written, and what scans then read. It stays as it is.
     ///
-    /// Where scans read small bodies, these are merged with the run: over many freezes each record is copied as often as the
+    /// Where scans read small merged runs, these are merged with the run: over many freezes each record is copied as often as the
     /// logarithm of 65,536, at most. `AllocError` says that memory lacked.
     pub fn prepare(&self, alloc: Global) -> Result<Freeze, AllocError>
         requires { (length self.now.active == 0) ≡ false }
@@ -427,7 +424,7 @@ impl Tablet {
 
     /// What a scan of these rows reads. What was written must be frozen. A contract sees the records, in their order.
     ///
-    /// Runs are not looked at: it takes time and memory for one clip a sorted table and a body, of which there are few however many
+    /// Runs are not looked at: it takes time and memory for one clip a sorted table and a merged run, of which there are few however many
     /// runs there are. The records are shared. `AllocError` says that memory lacked.
     pub fn clips(&self, alloc: Global, bounds: &Bounds) -> Result<Clips, AllocError>
         requires { self.now.active ≡ [] }
@@ -508,7 +505,7 @@ impl Tablet {
         match kind {
             DueKind::Minor => self.count_unflushed() >= MANY_RECORDS,
             DueKind::Partial => has_plan(self.sources.tables()),
-            DueKind::Split => self.size() >= MANY_BYTES,
+            DueKind::Split => self.size() >= SPLIT_SIZE,
         }
     }
 

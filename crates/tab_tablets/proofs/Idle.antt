@@ -10,10 +10,10 @@ use Rattle.tab_tablet.proofs.Compacted.{none_waits, frozen_itself}
 use Rattle.tab_tablets.specs.Places.{ended, tablet_at, at_place, IsMadeOf, IsSettled, part_in}
 use Rattle.tab_key.specs.Sorted.{sorted}
 use Rattle.tab_version.specs.Sources.{Sources, records_of}
-use Rattle.tab_tablet.specs.Bodies.{IsFreezeOf}
+use Rattle.tab_tablet.specs.MergedRuns.{IsFreezeOf}
 use Rattle.tab_tablet.specs.declared.freeze.Freeze.{Freeze}
 use Rattle.tab_tablets.proofs.At.{one}
-use Rattle.tab_tablets.specs.declared.made.Made.{Made}
+use Rattle.tab_tablets.specs.declared.bounded_tablet.MadeTablet.{MadeTablet}
 
 module _ (t bare : Tablet) (is : ended t.end bare ≡ t) where
   -- nothing waits in it
@@ -36,23 +36,23 @@ module _ (t bare : Tablet) (is : ended t.end bare ≡ t) where
   pub frozen_ended : (new : Tablet) → new ≡ frozen bare → ended t.end new ≡ frozen t
   frozen_ended new e = ap (ended t.end) e ∙ ap frozen is
 
-pub frozen_made : (ts : List Tablet) (m : Made) (bare : Tablet) → m.place < length ts → ended (tablet_at ts m.place).end bare ≡ tablet_at ts m.place → m.tablet ≡ frozen bare → IsMadeOf frozen ts m
+pub frozen_made : (ts : List Tablet) (m : MadeTablet) (bare : Tablet) → m.place < length ts → ended (tablet_at ts m.place).end bare ≡ tablet_at ts m.place → m.tablet ≡ frozen bare → IsMadeOf frozen ts m
 frozen_made ts m bare lt is e = record { inside = lt; is = frozen_ended (tablet_at ts m.place) bare is m.tablet e }
 
-pub idle_settled : (ts : List Tablet) (ms : List Made) (place : ℕ) (bare : Tablet) → ended (tablet_at ts place).end bare ≡ tablet_at ts place → (length bare.active == 0) ≡ true → IsSettled frozen ts ms place
+pub idle_settled : (ts : List Tablet) (ms : List MadeTablet) (place : ℕ) (bare : Tablet) → ended (tablet_at ts place).end bare ≡ tablet_at ts place → (length bare.active == 0) ≡ true → IsSettled frozen ts ms place
 idle_settled ts ms place bare is e = inr (idle_itself (tablet_at ts place) bare is e)
 
 -- where nothing waits there a freeze changes nothing
-pub waits_settled : (ts : List Tablet) (ms : List Made) (place : ℕ) → (tablet_at ts place).active ≡ [] → IsSettled frozen ts ms place
+pub waits_settled : (ts : List Tablet) (ms : List MadeTablet) (place : ℕ) → (tablet_at ts place).active ≡ [] → IsSettled frozen ts ms place
 waits_settled ts ms place e = inr (frozen_itself (tablet_at ts place) e)
 
 -- ---- one that is frozen in its place
 module _ (t bare : Tablet) (f : Freeze) (is : ended t.end bare ≡ t) where
   pub freeze_there : IsFreezeOf bare f → IsFreezeOf t f
-  freeze_there h = subst (λ (x : Tablet). IsFreezeOf x f) is (record { run = h.run; bodies = h.bodies })
+  freeze_there h = subst (λ (x : Tablet). IsFreezeOf x f) is (record { run = h.run; merged_runs = h.merged_runs })
 
   pub freeze_bare : IsFreezeOf t f → IsFreezeOf bare f
-  freeze_bare h = let k = subst (λ (x : Tablet). IsFreezeOf x f) (sym is) h in record { run = k.run; bodies = k.bodies }
+  freeze_bare h = let k = subst (λ (x : Tablet). IsFreezeOf x f) (sym is) h in record { run = k.run; merged_runs = k.merged_runs }
 
 -- what is read of a tablet is its part
 module _ {E : Type 0} (bounds : Bounds) (t bare : Tablet) (is : ended t.end bare ≡ t) (r : Result Sources E) where

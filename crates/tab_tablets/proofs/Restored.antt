@@ -287,8 +287,8 @@ goes_on_end first next done ends us lower left same s g =
     ∙ ap (λ es. restored first es us) (append-nil done ∙ same)
 
 -- the last tablet holds what is left then
-pub restored_line : (first next : ℕ) (ends : List (List ℕ)) (us : List Record) (lower line : List Tablet) (last : Tablet) (left : List Record) → line ≡ lower ++ ended None last ∷ [] → last ≡ tabled next None left → lower ++ tabled next None left ∷ [] ≡ restored first ends us → line ≡ restored first ends us
-restored_line first next ends us lower line last left l t g = l ∙ (λ i. lower ++ ended None (t i) ∷ []) ∙ g
+pub restored_line : (first next : ℕ) (ends : List (List ℕ)) (us : List Record) (lower tablet_list : List Tablet) (last : Tablet) (left : List Record) → tablet_list ≡ lower ++ ended None last ∷ [] → last ≡ tabled next None left → lower ++ tabled next None left ∷ [] ≡ restored first ends us → tablet_list ≡ restored first ends us
+restored_line first next ends us lower tablet_list last left l t g = l ∙ (λ i. lower ++ ended None (t i) ∷ []) ∙ g
 
 -- what holds either way
 pub either_way : {A E P : Type 0} (r : Result A E) → P → OnOk r P

@@ -11,8 +11,8 @@ use Rattle.tab_tablets.specs.Places.{ended, tablet_at, IsPlaceOf}
 use Rattle.tab_tablets.specs.ByRow.{at_row, tablet_of, is_end}
 use Rattle.tab_tablets.specs.Splits.{is_full, split_in, splits, split_found, halved, halves}
 use Rattle.tab_tablets.proofs.EndRows.{tablet_at_place}
-use Rattle.tab_tablets.specs.declared.split.Split.{Split}
-use Rattle.tab_tablets.specs.declared.split.Split.TheVariants.{Done, Present, Small, Full}
+use Rattle.tab_tablets.specs.declared.splitting.Split.{Split}
+use Rattle.tab_tablets.specs.declared.splitting.Split.TheVariants.{Done, Present, Small, Full}
 
 abbrev Told : Type 0
 Told = Split × List Tablet
@@ -47,18 +47,18 @@ pub is_large : (size limit : ℕ) → limit < 2 ^ 64 → limit ≤ min size 1844
 is_large size limit fits ge = let h : limit ≤ size = omega arith in grind (arith, nat_tests)
 
 -- ---- by what is asked of the tablet of the row
-module _ (row : List ℕ) (limit number size : ℕ) (line now : List Tablet) (p : ℕ) (bare : Tablet) (same : line ≡ now) (place : IsPlaceOf row line p) (is : ended (tablet_at line p).end bare ≡ tablet_at line p) (cut : size ≡ min (size_of bare.sources) 18446744073709551615) (fits : limit < 2 ^ 64) where
-  there : tablet_of row now ≡ Some (tablet_at line p)
-  there = ap (tablet_of row) (sym same) ∙ tablet_at_place row line p place
+module _ (row : List ℕ) (limit number size : ℕ) (tablet_list now : List Tablet) (p : ℕ) (bare : Tablet) (same : tablet_list ≡ now) (place : IsPlaceOf row tablet_list p) (is : ended (tablet_at tablet_list p).end bare ≡ tablet_at tablet_list p) (cut : size ≡ min (size_of bare.sources) 18446744073709551615) (fits : limit < 2 ^ 64) where
+  there : tablet_of row now ≡ Some (tablet_at tablet_list p)
+  there = ap (tablet_of row) (sym same) ∙ tablet_at_place row tablet_list p place
 
-  size_is : size ≡ min (size_of (tablet_at line p).sources) 18446744073709551615
+  size_is : size ≡ min (size_of (tablet_at tablet_list p).sources) 18446744073709551615
   size_is = cut ∙ ap (λ (t : Tablet). min (size_of t.sources) 18446744073709551615) is
 
   pub small_told : size < limit → halves row limit number now ≡ told Small now
-  small_told lt = small row limit number now (tablet_at line p) there (is_small (size_of (tablet_at line p).sources) limit fits (subst (λ n. n < limit) size_is lt))
+  small_told lt = small row limit number now (tablet_at tablet_list p) there (is_small (size_of (tablet_at tablet_list p).sources) limit fits (subst (λ n. n < limit) size_is lt))
 
   pub large_told : limit ≤ size → halves row limit number now ≡ split_found (middle_row (rows_in (tablet_at now p))) number now
-  large_told ge = large row limit number now (tablet_at line p) there (is_large (size_of (tablet_at line p).sources) limit fits (subst (λ n. limit ≤ n) size_is ge))
+  large_told ge = large row limit number now (tablet_at tablet_list p) there (is_large (size_of (tablet_at tablet_list p).sources) limit fits (subst (λ n. limit ≤ n) size_is ge))
       ∙ ap (λ (ts : List Tablet). split_found (middle_row (rows_in (tablet_at ts p))) number now) same
 
 -- ---- the two tablets

@@ -1,4 +1,4 @@
--- The tablets of a table, by their end rows, and what is read of them. (Accumulo user manual: tablets)
+-- To be believed by whoever relies on it. The tablets of a table, by their end rows, and what is read of them. (Accumulo user manual: tablets)
 use Rattle.std.specs.Prelude.{◌≡◌, ℕ, List, [], ◌∷◌, ◌++◌, Bool, Option, Some, None, cond, find, map, bytes_eq}
 use Rattle.std.specs.List.{list_any, filter_map}
 use Rattle.std.specs.declared.cmp.Ordering.TheVariants.{Less}

@@ -1,4 +1,4 @@
--- Which tablet of a table is due for work, and at which row it begins.
+-- To be believed by whoever relies on it. Which tablet of a table is due for work, and at which row it begins.
 use Rattle.std.specs.Prelude.{◌≡◌, ◌<◌, ℕ, zero, suc, List, [], ◌∷◌, ◌++◌, true, false, ◌==◌, cond, Option, Some, None, find, length}
 use Rattle.std.specs.Option.{option_map}
 use Rattle.tab_tablet.specs.Due.{is_due}

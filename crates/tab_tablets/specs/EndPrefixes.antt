@@ -1,4 +1,4 @@
--- The prefixes of the end rows of tablets.
+-- For proofs. The prefixes of the end rows of tablets.
 use Rattle.std.specs.Prelude.{ℕ, List, [], ◌∷◌, Option, Some, None}
 use Rattle.tab_key.specs.RowPrefix.{IsRowPrefix}
 use Rattle.tab_tablet.specs.Tablets.{Tablet}

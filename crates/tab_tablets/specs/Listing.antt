@@ -1,4 +1,4 @@
--- What the tablets of a table hold, listed one tablet behind the other.
+-- For proofs. What the tablets of a table hold, listed one tablet behind the other.
 use Rattle.std.specs.Prelude.{◌≡◌, ℕ, ◌+◌, ◌<◌, List, ◌++◌, length, map, take}
 use Rattle.tab_key.specs.Records.{Record}
 use Rattle.tab_key.specs.Sorted.{sorted}

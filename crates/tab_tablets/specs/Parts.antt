@@ -1,4 +1,4 @@
--- Compactions in parts: a merge begins in one of the tablets of a table, and is installed there. (Accumulo user manual: minor and major
+-- To be believed by whoever relies on it. Compactions in parts: a merge begins in one of the tablets of a table, and is installed there. (Accumulo user manual: minor and major
 -- compactions)
 use Rattle.std.specs.Prelude.{ℕ, ℤ, List, [], ◌∷◌, ◌==◌, cond, Option, Some, None}
 use Rattle.std.specs.Option.{option_map}

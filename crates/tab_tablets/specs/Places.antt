@@ -1,4 +1,4 @@
--- Places of tablets in the order of rows, counted from 0, and what is put there.
+-- For proofs. Places of tablets in the order of rows, counted from 0, and what is put there.
 use Rattle.std.specs.Prelude.{◌≡◌, ◌≢◌, ◌⊎◌, ℕ, zero, suc, ◌+◌, ◌<◌, List, [], ◌∷◌, ◌++◌, Bool, true, false, ◌==◌, nat_eq, nat_lt, cond, Option, Some, None, length, bytes_eq, filter}
 use Rattle.std.specs.List.{AllByRecursion, IsDistinct, list_any, slice_index_or}
 use Rattle.tab_key.specs.Records.{Record}
@@ -7,7 +7,7 @@ use Rattle.tab_key.specs.Ranges.{is_in_range}
 use Rattle.tab_key.specs.declared.range.Bounds.{Bounds}
 use Rattle.tab_tablet.specs.Tablets.{Tablet, is_up_to, new_tablet, records_in, frozen}
 use Rattle.tab_tablets.specs.ByRow.{AreWhole, records_of_all}
-use Rattle.tab_tablets.specs.declared.made.Made.{Made}
+use Rattle.tab_tablets.specs.declared.bounded_tablet.MadeTablet.{MadeTablet}
 
 -- a tablet with this end row in the place of its own
 abbrev pub ended : Option (List ℕ) → Tablet → Tablet
@@ -40,28 +40,28 @@ put_at place new ts = at_place place (λ (t : Tablet). ended t.end new ∷ []) t
 
 -- ---- tablets that are made before any is put in
 -- it is what f makes of the tablet at its place
-pub record IsMadeOf (f : Tablet → Tablet) (ts : List Tablet) (m : Made) : Type 0 where
+pub record IsMadeOf (f : Tablet → Tablet) (ts : List Tablet) (m : MadeTablet) : Type 0 where
   pub inside : m.place < length ts
   pub is : ended (tablet_at ts m.place).end m.tablet ≡ f (tablet_at ts m.place)
 
-abbrev pub AreMade : (Tablet → Tablet) → List Tablet → List Made → Type 0
+abbrev pub AreMade : (Tablet → Tablet) → List Tablet → List MadeTablet → Type 0
 AreMade f ts ms = AllByRecursion (IsMadeOf f ts) ms
 
 -- whether one is for this place
-abbrev pub is_made : List Made → ℕ → Bool
-is_made ms place = list_any (λ (m : Made). m.place == place) ms
+abbrev pub is_made : List MadeTablet → ℕ → Bool
+is_made ms place = list_any (λ (m : MadeTablet). m.place == place) ms
 
 -- one is for this place, or f would change nothing there
-abbrev pub IsSettled : (Tablet → Tablet) → List Tablet → List Made → ℕ → Type 0
+abbrev pub IsSettled : (Tablet → Tablet) → List Tablet → List MadeTablet → ℕ → Type 0
 IsSettled f ts ms place = (is_made ms place ≡ true) ⊎ (f (tablet_at ts place) ≡ tablet_at ts place)
 
 -- more were made, rightly
-pub record MakesMore (f : Tablet → Tablet) (ts : List Tablet) (old new : List Made) : Type 0 where
+pub record MakesMore (f : Tablet → Tablet) (ts : List Tablet) (old new : List MadeTablet) : Type 0 where
   pub made : AreMade f ts old → AreMade f ts new
   pub more : (k : ℕ) → is_made old k ≡ true → is_made new k ≡ true
 
 -- they are put in
-abbrev pub installed : List Made → List Tablet → List Tablet
+abbrev pub installed : List MadeTablet → List Tablet → List Tablet
 installed [] ts = ts
 installed (m ∷ ms) ts = put_at m.place m.tablet (installed ms ts)
 

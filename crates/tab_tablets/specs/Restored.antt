@@ -1,4 +1,4 @@
--- Tablets that are made of end rows and of a table's records.
+-- For proofs. Tablets that are made of end rows and of a table's records.
 use Rattle.std.specs.Prelude.{◌≡◌, ℕ, List, [], ◌∷◌, ◌++◌, Bool, true, false, Option, Some, None, filter, find, map, bytes_eq}
 use Rattle.std.specs.List.Sorted.{IsStrictlySortedBy}
 use Rattle.std.specs.Ordering.{is_le}

@@ -1,11 +1,11 @@
--- What becomes of the tablets of a table that is to be split.
+-- To be believed by whoever relies on it. What becomes of the tablets of a table that is to be split.
 use Rattle.std.specs.Prelude.{ℕ, List, Bool, Option, Some, None, cond, length, nat_le, nat_lt}
 use Rattle.tab_version.specs.Sources.{size_of}
 use Rattle.tab_tablet.specs.Tablets.{Tablet}
 use Rattle.tab_tablet.specs.Splitting.{split_at, middle_row, rows_in}
 use Rattle.tab_tablets.specs.ByRow.{at_row, tablet_of, ends_of, is_end}
-use Rattle.tab_tablets.specs.declared.split.Split.{Split}
-use Rattle.tab_tablets.specs.declared.split.Split.TheVariants.{Done, Present, Small, OneRow, Full}
+use Rattle.tab_tablets.specs.declared.splitting.Split.{Split}
+use Rattle.tab_tablets.specs.declared.splitting.Split.TheVariants.{Done, Present, Small, OneRow, Full}
 
 -- whether a table has as many end rows as it can have
 abbrev pub is_full : List Tablet → Bool

@@ -5,53 +5,29 @@
 //!
 //! | File | What |
 //! |---|---|
-//! | `lower` | a tablet with an end row |
-//! | `prefixes` | the prefixes of end rows |
-//! | `line` | tablets in the order of their rows, and the search among them |
-//! | `counting` | how many sources and records lower tablets have |
-//! | `ends` | the end rows of lower tablets |
+//! | `bounded_tablet` | a tablet with an end row, and of several of them the end rows, their prefixes, and the counts; one that is made before it is put in its place |
+//! | `tablet_list` | tablets in the order of their rows, and the search among them |
 //! | `bounds` | which tablets a range of rows meets |
-//! | `made` | tablets that are made before any is put in its place |
-//! | `tablets` | the tablets of a table: writes, end rows and counts |
-//! | `freezing` | runs that are made ahead, and tablets that are frozen for an Open |
-//! | `opening` | what a scan reads of them |
-//! | `listing` | all that each of them holds |
-//! | `compacting` | compactions of all of them |
-//! | `copying` | copies of all of them, which share what they hold |
-//! | `parts` | compactions of one of them in parts |
+//! | `tablets` | the tablets of a table: writes, end rows and counts, copies, what is due, compactions of all of them, and of one in parts |
+//! | `opening` | runs that are made ahead, tablets that are frozen for an Open, and what a scan reads of them |
 //! | `tablet_job` | a merge of one of them that is to be made, and one that is made |
-//! | `due` | which of them is due for work, and where it begins |
-//! | `splitting` | splits of one of them |
-//! | `restoring` | tablets made of end rows and of records |
-//! | `split` | what became of a split |
+//! | `splitting` | splits of one of them, what became of one, and tablets made of end rows and of records |
 //! | `laws` | what holds of listings, and of tablets that are restored |
 #![tactic(auto)]
 
+mod bounded_tablet;
 mod bounds;
-mod compacting;
-mod copying;
-mod counting;
-mod due;
-mod ends;
-mod freezing;
 mod laws;
-mod line;
-mod listing;
-mod lower;
-mod made;
 mod opening;
-mod parts;
-mod prefixes;
-mod restoring;
-mod split;
 mod splitting;
 mod tablet_job;
+mod tablet_list;
 mod tablets;
 
 pub use laws::{lists_in_order, lists_on, restored_are_whole, restored_hold_all};
-pub use split::Split;
+pub use splitting::Split;
 pub use tab_mem::Records;
-pub use tab_tablet::{DueKind, Installed, Job, MadeTable, Pending, merge_all};
+pub use tab_tablet::{DueKind, Installed, Job, MadeTable, Pending, SPLIT_SIZE, merge_all};
 pub use tab_version::Version;
 pub use tablet_job::{FinishedJob, TabletJob};
 pub use tablets::Tablets;

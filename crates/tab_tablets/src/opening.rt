@@ -1,17 +1,17 @@
-//! What a scan reads of a table's tablets.
-ghost use Rattle.std.specs.Prelude.{◌≡◌, ◌≢◌, ℕ, ◌≤◌, ◌<◌, [], length, map, slice_range, IfOk, OnOk, OnErr};
+//! What a scan reads of tablets, which are frozen for it.
+ghost use Rattle.std.specs.Prelude.{◌≡◌, ◌≢◌, ℕ, ◌≤◌, ◌<◌, [], length, map, slice_range, IfOk, OnOk, OnErr, true};
 ghost use Rattle.tab_key.specs.Sorted.{sorted};
 ghost use Rattle.tab_version.specs.Sources.{records_of};
-ghost use Rattle.tab_tablet.specs.Bodies.{IsFreezeOf};
+ghost use Rattle.tab_tablet.specs.MergedRuns.{IsFreezeOf};
 ghost use Rattle.tab_tablet.specs.Opened.{ShowsRowsOf};
 ghost use Rattle.tab_tablet.specs.Tablets.{frozen};
 ghost use Rattle.tab_tablets.specs.ByRow.{LieApart, records_of_all};
-ghost use Rattle.tab_tablets.specs.Places.{tablet_at, IsSettled, AreMade, part_in};
+ghost use Rattle.tab_tablets.specs.Places.{tablet_at, IsSettled, AreMade, part_in, MakesMore, is_among};
+ghost use Rattle.std.specs.List.{AllByRecursion};
 
+use crate::bounded_tablet::MadeTablet;
 use crate::bounds::{end_met, first_met};
-use crate::freezing::{clips_at, freeze_others};
-use crate::line::Line;
-use crate::made::Made;
+use crate::tablet_list::TabletList;
 use crate::tablets::Tablets;
 use std::alloc::{AllocError, Global};
 use tab_key::Bounds;
@@ -22,7 +22,7 @@ impl Tablets {
     /// What a scan of these rows reads, as the tablets are now. Each of them is frozen; those that the range doesn't meet are looked at
     /// only where they were written to.
     ///
-    /// It takes memory for one clip of each sorted table, and of the few bodies that stand for the runs, of the tablets that the range
+    /// It takes memory for one clip of each sorted table, and of the few merged runs that stand for the runs, of the tablets that the range
     /// meets, and for a run of what was written to a tablet. Where more than one was written to, each of these takes a share of each of
     /// its sources too; one alone is frozen in its place, in time that doesn't grow with its runs. `AllocError` leaves all as it was: no
     /// tablet is frozen either.
@@ -57,12 +57,19 @@ impl Tablets {
         ensures answers { IfOk result (λ v. ShowsRowsOf bounds.now (sorted (records_of_all self.old)) v) }
         ensures err { OnErr result (self.new ≡ self.old) }
     {
-        let from = first_met(&self.line, &bounds.low);
-        let end = end_met(&self.line, &bounds.high).max(from);
+        let from = first_met(&self.tablet_list, &bounds.low);
+        let end = end_met(&self.tablet_list, &bounds.high).max(from);
         let mut made = Vec::new(alloc);
-        let clips = clips_in(alloc, &self.line, bounds, from, end, &mut made)?;
-        freeze_others(alloc, &self.line, &self.written, from, end, &mut made)?;
-        self.line.install(made);
+        let clips = clips_in(alloc, &self.tablet_list, bounds, from, end, &mut made)?;
+        freeze_others(
+            alloc,
+            &self.tablet_list,
+            &self.written,
+            from,
+            end,
+            &mut made,
+        )?;
+        self.tablet_list.install(made);
         self.written.clear();
         Ok(Version::of(clips))
     }
@@ -82,11 +89,19 @@ impl Tablets {
         ensures answers { IfOk result (λ v. ShowsRowsOf bounds.now (sorted (records_of_all self.old)) v) }
         ensures err { OnErr result (self.new ≡ self.old) }
     {
-        let from = first_met(&self.line, &bounds.low);
-        let end = end_met(&self.line, &bounds.high).max(from);
-        let prepared = self.line.tablet(place).prepare(alloc)?;
-        let clips = clips_with(alloc, &self.line, bounds, from, end, place, &prepared)?;
-        self.line.freeze(alloc, place, prepared)?;
+        let from = first_met(&self.tablet_list, &bounds.low);
+        let end = end_met(&self.tablet_list, &bounds.high).max(from);
+        let prepared = self.tablet_list.tablet(place).prepare(alloc)?;
+        let clips = clips_with(
+            alloc,
+            &self.tablet_list,
+            bounds,
+            from,
+            end,
+            place,
+            &prepared,
+        )?;
+        self.tablet_list.freeze(alloc, place, prepared)?;
         self.written.clear();
         Ok(Version::of(clips))
     }
@@ -95,22 +110,22 @@ impl Tablets {
 // What a scan reads of the tablets from one place up to another. Where anything was written to one, a frozen one is made.
 fn clips_in(
     alloc: Global,
-    line: &Line,
+    tablet_list: &TabletList,
     bounds: &Bounds,
     from: usize,
     end: usize,
-    made: &mut Vec<Made>,
+    made: &mut Vec<MadeTablet>,
 ) -> Result<Vec<Clips>, AllocError>
     requires order { from ≤ end }
-    requires inside { end ≤ length line.now }
+    requires inside { end ≤ length tablet_list.now }
     requires none { made.old.items ≡ [] }
-    ensures clips { IfOk result (λ v. map (λ c. sorted (records_of c)) v.items ≡ map (λ t. sorted (part_in bounds.now t)) (slice_range line.now from end)) }
-    ensures made { OnOk result (AreMade frozen line.now made.new.items) }
-    ensures settled { OnOk result ((k : ℕ) → from ≤ k → k < end → IsSettled frozen line.now made.new.items k) }
+    ensures clips { IfOk result (λ v. map (λ c. sorted (records_of c)) v.items ≡ map (λ t. sorted (part_in bounds.now t)) (slice_range tablet_list.now from end)) }
+    ensures made { OnOk result (AreMade frozen tablet_list.now made.new.items) }
+    ensures settled { OnOk result ((k : ℕ) → from ≤ k → k < end → IsSettled frozen tablet_list.now made.new.items k) }
 {
     let mut clips = Vec::new(alloc);
     for place in from..end {
-        clips.push(clips_at(alloc, line, bounds, place, made)?)?;
+        clips.push(clips_at(alloc, tablet_list, bounds, place, made)?)?;
     }
     Ok(clips)
 }
@@ -118,7 +133,7 @@ fn clips_in(
 // What a scan reads of them once the one at a place is frozen, for which that was prepared. Nothing was written to another one.
 fn clips_with(
     alloc: Global,
-    line: &Line,
+    tablet_list: &TabletList,
     bounds: &Bounds,
     from: usize,
     end: usize,
@@ -126,14 +141,14 @@ fn clips_with(
     freeze: &Freeze,
 ) -> Result<Vec<Clips>, AllocError>
     requires order { from ≤ end }
-    requires inside { end ≤ length line.now }
-    requires idle { (k : ℕ) → k ≢ written → (tablet_at line.now k).active ≡ [] }
-    requires freeze { IsFreezeOf (tablet_at line.now written) freeze.now }
-    ensures { IfOk result (λ v. map (λ c. sorted (records_of c)) v.items ≡ map (λ t. sorted (part_in bounds.now t)) (slice_range line.now from end)) }
+    requires inside { end ≤ length tablet_list.now }
+    requires idle { (k : ℕ) → k ≢ written → (tablet_at tablet_list.now k).active ≡ [] }
+    requires freeze { IsFreezeOf (tablet_at tablet_list.now written) freeze.now }
+    ensures { IfOk result (λ v. map (λ c. sorted (records_of c)) v.items ≡ map (λ t. sorted (part_in bounds.now t)) (slice_range tablet_list.now from end)) }
 {
     let mut clips = Vec::new(alloc);
     for place in from..end {
-        clips.push(clips_beside(alloc, line, bounds, place, written, freeze)?)?;
+        clips.push(clips_beside(alloc, tablet_list, bounds, place, written, freeze)?)?;
     }
     Ok(clips)
 }
@@ -141,20 +156,141 @@ fn clips_with(
 // What a scan reads of the tablet at a place.
 fn clips_beside(
     alloc: Global,
-    line: &Line,
+    tablet_list: &TabletList,
     bounds: &Bounds,
     place: usize,
     written: usize,
     freeze: &Freeze,
 ) -> Result<Clips, AllocError>
-    requires inside { place < length line.now }
-    requires idle { (k : ℕ) → k ≢ written → (tablet_at line.now k).active ≡ [] }
-    requires freeze { IsFreezeOf (tablet_at line.now written) freeze.now }
-    ensures { IfOk result (λ c. sorted (records_of c) ≡ sorted (part_in bounds.now (tablet_at line.now place))) }
+    requires inside { place < length tablet_list.now }
+    requires idle { (k : ℕ) → k ≢ written → (tablet_at tablet_list.now k).active ≡ [] }
+    requires freeze { IsFreezeOf (tablet_at tablet_list.now written) freeze.now }
+    ensures { IfOk result (λ c. sorted (records_of c) ≡ sorted (part_in bounds.now (tablet_at tablet_list.now place))) }
 {
-    let tablet = line.tablet(place);
+    let tablet = tablet_list.tablet(place);
     if place == written {
         return tablet.clips_after(alloc, freeze, bounds);
     }
     tablet.clips(alloc, bounds)
+}
+
+impl Tablets {
+    /// Makes the run of what was written to each tablet ahead, as `Tablet::make_run` does, one after another: so only one of them at a time
+    /// takes memory beside what was written. A contract sees nothing that changes.
+    pub(crate) fn make_runs(&mut self, alloc: Global) -> Result<(), AllocError>
+        ensures { self.new ≡ self.old }
+    {
+        make_runs(alloc, &mut self.tablet_list, &self.written)
+    }
+
+    /// The same, of the tablet at a place alone.
+    pub(crate) fn make_run(&mut self, alloc: Global, place: usize) -> Result<(), AllocError>
+        requires { place < length self.old }
+        ensures { self.new ≡ self.old }
+    {
+        self.tablet_list.make_run(alloc, place)
+    }
+}
+
+// Makes the runs of what was written to the tablets at these places ahead.
+fn make_runs(
+    alloc: Global,
+    tablet_list: &mut TabletList,
+    places: &[usize],
+) -> Result<(), AllocError>
+    requires { AllByRecursion (λ w. w < length tablet_list.old) places.now }
+    ensures { tablet_list.new ≡ tablet_list.old }
+{
+    for place in places {
+        tablet_list.make_run(alloc, *place)?;
+    }
+    Ok(())
+}
+
+/// What a scan of these rows reads of the tablet at a place. Where anything was written to it, a frozen one is made.
+pub(crate) fn clips_at(
+    alloc: Global,
+    tablet_list: &TabletList,
+    bounds: &Bounds,
+    place: usize,
+    made: &mut Vec<MadeTablet>,
+) -> Result<Clips, AllocError>
+    requires { place < length tablet_list.now }
+    ensures clips { IfOk result (λ c. sorted (records_of c) ≡ sorted (part_in bounds.now (tablet_at tablet_list.now place))) }
+    ensures more { OnOk result (MakesMore frozen tablet_list.now made.old.items made.new.items) }
+    ensures settled { OnOk result (IsSettled frozen tablet_list.now made.new.items place) }
+{
+    let tablet = tablet_list.tablet(place);
+    if tablet.is_frozen() {
+        return tablet.clips(alloc, bounds);
+    }
+    let frozen = tablet.frozen(alloc)?;
+    let clips = frozen.clips(alloc, bounds)?;
+    made.push(MadeTablet {
+        place,
+        tablet: frozen,
+    })?;
+    Ok(clips)
+}
+
+// Makes a frozen tablet for this place.
+fn freeze_at(
+    alloc: Global,
+    tablet_list: &TabletList,
+    place: usize,
+    made: &mut Vec<MadeTablet>,
+) -> Result<(), AllocError>
+    requires { place < length tablet_list.now }
+    ensures more { OnOk result (MakesMore frozen tablet_list.now made.old.items made.new.items) }
+    ensures settled { OnOk result (IsSettled frozen tablet_list.now made.new.items place) }
+{
+    let frozen = tablet_list.tablet(place).frozen(alloc)?;
+    made.push(MadeTablet {
+        place,
+        tablet: frozen,
+    })?;
+    Ok(())
+}
+
+// The same, unless the place is from the one up to the other, where that was done before.
+fn freeze_outside(
+    alloc: Global,
+    tablet_list: &TabletList,
+    place: usize,
+    from: usize,
+    end: usize,
+    made: &mut Vec<MadeTablet>,
+) -> Result<(), AllocError>
+    requires inside { place < length tablet_list.now }
+    requires settled { (k : ℕ) → from ≤ k → k < end → IsSettled frozen tablet_list.now made.old.items k }
+    ensures more { OnOk result (MakesMore frozen tablet_list.now made.old.items made.new.items) }
+    ensures settled { OnOk result (IsSettled frozen tablet_list.now made.new.items place) }
+{
+    if place < from {
+        return freeze_at(alloc, tablet_list, place, made);
+    }
+    if end <= place {
+        return freeze_at(alloc, tablet_list, place, made);
+    }
+    Ok(())
+}
+
+/// Makes a frozen tablet for each of these places, but for those from the one up to the other, where that was done before.
+pub(crate) fn freeze_others(
+    alloc: Global,
+    tablet_list: &TabletList,
+    places: &[usize],
+    from: usize,
+    end: usize,
+    made: &mut Vec<MadeTablet>,
+) -> Result<(), AllocError>
+    requires inside { AllByRecursion (λ w. w < length tablet_list.now) places.now }
+    requires settled { (k : ℕ) → from ≤ k → k < end → IsSettled frozen tablet_list.now made.old.items k }
+    ensures more { OnOk result (MakesMore frozen tablet_list.now made.old.items made.new.items) }
+    ensures settled { OnOk result ((k : ℕ) → is_among places.now k ≡ true → IsSettled frozen tablet_list.now made.new.items k) }
+{
+    for place in places {
+        freeze_outside(alloc, tablet_list, *place, from, end, made)?;
+    }
+    Ok(())
 }

@@ -1,4 +1,4 @@
--- What is shown of a word.
+-- To be believed by whoever relies on it. What is shown of a word.
 use Rattle.std.specs.Prelude.{ℕ, ◌≡◌, ◌↔◌, ◌==◌, nat_le, Bool, true, false, ◌&&◌, ◌||◌, List, [], ◌∷◌, ◌++◌, Option, Some, None, Result, Ok, Err, IsUtf8, chars, if◌then◌else◌}
 use Rattle.std.specs.List.{list_any, list_all}
 use Rattle.ucd_category.specs.GeneralCategory.{general_category}

@@ -1,4 +1,4 @@
--- Which line is sent for a typed one.
+-- To be believed by whoever relies on it. Which line is sent for a typed one.
 use Rattle.std.specs.Prelude.{ℕ, ◌≡◌, ◌==◌, nat_lt, Bool, ◌||◌, List, [], ◌∷◌, ◌++◌, Result, Ok, Err, if◌then◌else◌}
 use Rattle.tab_text.specs.Words.{is_plain, hex_form, escaped_byte, empty_word}
 use Rattle.tab_terminal.specs.declared.place.Place.{Place}

@@ -8,7 +8,7 @@ use tab_cells::Compaction;
 
 /// The updates of a run or of a table.
 #[derive(Drop)]
-struct Held {
+struct SourceUpdates {
     is_table: bool,
     updates: Vec<Update>,
 }
@@ -16,7 +16,7 @@ struct Held {
 /// Runs and tables in the order in which they came.
 #[derive(Drop)]
 pub struct Holding {
-    sources: Vec<Held>,
+    sources: Vec<SourceUpdates>,
 }
 
 /// How many records a block of a table has.
@@ -77,7 +77,7 @@ pub fn table_len(updates: &[Update]) -> u64 {
 
 /// How many tables stand before a table of this place and of so many bytes: the smaller ones, and those of its size that came
 /// earlier.
-fn rank(sources: &[Held], place: usize, len: u64) -> usize {
+fn rank(sources: &[SourceUpdates], place: usize, len: u64) -> usize {
     let mut rank = 0usize;
     for (other, held) in sources.iter().enumerate() {
         let there = table_len(&held.updates);
@@ -89,7 +89,7 @@ fn rank(sources: &[Held], place: usize, len: u64) -> usize {
 }
 
 /// The source at this place is one of so many smallest tables.
-fn is_among(sources: &[Held], place: usize, count: usize) -> bool {
+fn is_among(sources: &[SourceUpdates], place: usize, count: usize) -> bool {
     match sources.get(place) {
         None => false,
         Some(held) => held.is_table && rank(sources, place, table_len(&held.updates)) < count,
@@ -97,7 +97,7 @@ fn is_among(sources: &[Held], place: usize, count: usize) -> bool {
 }
 
 /// Three times the largest of so many smallest tables is at most the sum of all of these.
-fn fit(sources: &[Held], count: usize) -> bool {
+fn fit(sources: &[SourceUpdates], count: usize) -> bool {
     let mut largest = 0u64;
     let mut sum = 0u64;
     for (place, held) in sources.iter().enumerate() {
@@ -110,12 +110,12 @@ fn fit(sources: &[Held], count: usize) -> bool {
     largest.saturating_mul(3) <= sum
 }
 
-fn count_tables(sources: &[Held]) -> usize {
+fn count_tables(sources: &[SourceUpdates]) -> usize {
     sources.iter().filter(|held| held.is_table).count()
 }
 
 /// How many of the smallest tables a partial compaction merges: as many as fit, and none where no two do.
-fn plan(sources: &[Held]) -> usize {
+fn plan(sources: &[SourceUpdates]) -> usize {
     let mut taken = 0;
     for count in 2..count_tables(sources).saturating_add(1) {
         if fit(sources, count) {
@@ -135,7 +135,7 @@ impl Holding {
 
     /// A run more.
     pub fn add_run(&mut self, updates: Vec<Update>) -> Result<(), AllocError> {
-        let held = Held {
+        let held = SourceUpdates {
             is_table: false,
             updates,
         };
@@ -146,7 +146,7 @@ impl Holding {
     /// A table more.
     pub fn add_table(&mut self, mut updates: Vec<Update>) -> Result<(), AllocError> {
         sort(&mut updates);
-        let held = Held {
+        let held = SourceUpdates {
             is_table: true,
             updates,
         };

@@ -1,3 +1,4 @@
+pub mod Gives
 pub mod Lines
 pub mod Parts
 pub mod Reading

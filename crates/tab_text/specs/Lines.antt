@@ -1,4 +1,4 @@
--- The texts of lines.
+-- To be believed by whoever relies on it. The texts of lines.
 use Rattle.std.specs.Prelude.{ℕ, List, [], ◌∷◌, ◌++◌}
 use Rattle.std.specs.Fmt.{decimal, signed_decimal}
 use Rattle.tab_key.specs.Records.{Cell}

@@ -1,4 +1,4 @@
--- What is put of bytes, a part at a time.
+-- For proofs. What is put of bytes, a part at a time.
 use Rattle.std.specs.Prelude.{ℕ, ◌<◌, ◌≤◌, Result, Ok, Err, List, length, take}
 use Rattle.tab_io.specs.Writing.{HasPut, HasPutPart}
 use Rattle.tab_io.specs.declared.writing.Output.{Ghosts}

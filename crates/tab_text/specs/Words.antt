@@ -1,4 +1,4 @@
--- What a byte word is, and which one is written.
+-- To be believed by whoever relies on it. What a byte word is, and which one is written.
 use Rattle.std.specs.Prelude.{ℕ, ◌≡◌, ◌≢◌, ◌+◌, ◌/◌, ◌%◌, ◌<◌, ◌==◌, nat_le, nat_lt, Bool, true, not, ◌&&◌, ◌⊎◌, List, [], ◌∷◌, ◌++◌, if◌then◌else◌}
 
 -- the bytes that stand for themselves: 0x21 to 0x7e but the backslash

@@ -11,11 +11,12 @@
 //! | `items` | many items, one after another |
 //! | `cell` | the line of a cell |
 //! | `cells` | many cells, one after another |
+//! | `parse_error` | why a text wasn't read |
 //! | `escape` | what is read of an escape so far: the steps by which a word is read |
 //! | `laws` | what is written reads back, and reading is exactly the spelling |
 //!
 //! `specs/Words` says what a word is and which one is written, `specs/Reading` what a word says, `specs/Lines` the texts
-//! of lines, `specs/Parts` what one step of writing a word puts.
+//! of lines, `specs/Parts` what one step of writing a word puts, `specs/Gives` what a reading function gives.
 #![tactic(auto)]
 
 mod cell;
@@ -24,6 +25,7 @@ mod escape;
 mod items;
 pub mod laws;
 mod line;
+mod parse_error;
 mod word;
 
 pub use cell::put_cell;
@@ -31,4 +33,5 @@ pub use cells::{PutCell, put_each_cell};
 pub use escape::{Escape, hex_value, step};
 pub use items::{PutItem, put_each};
 pub use line::{Word, put_line};
+pub use parse_error::ParseError;
 pub use word::{is_plain, put_word};

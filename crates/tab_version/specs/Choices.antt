@@ -1,4 +1,4 @@
--- Inputs that each choose an equal source of their own, and the sources that none of them chose.
+-- For proofs. Inputs that each choose an equal source of their own, and the sources that none of them chose.
 use Rattle.std.specs.Prelude.{◌≡◌, ℕ, zero, suc, List, [], ◌∷◌, Bool, false, ◌||◌, ◌==◌, cond, MatchOption}
 use Rattle.tab_version.specs.Sources.{Sorted, Sources, left_by}
 

@@ -1,4 +1,4 @@
--- Parts of runs and of tables.
+-- For proofs. Parts of runs and of tables.
 use Rattle.std.specs.Prelude.{ℕ, ◌≤◌, List, ◌++◌, length, map}
 use Rattle.tab_key.specs.Records.{Record}
 use Rattle.tab_iter.specs.Lists.{IsRising, HasI64Timestamps}

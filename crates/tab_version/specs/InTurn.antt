@@ -1,4 +1,4 @@
--- Lists of records one behind the other, of which one is read at a time.
+-- For proofs. Lists of records one behind the other, of which one is read at a time.
 use Rattle.std.specs.Prelude.{◌≡◌, ◌≢◌, ℕ, zero, suc, List, [], ◌++◌, Bool, Option, Some, None, not, map, drop, slice_index_or}
 use Rattle.std.specs.List.{AllByRecursion, AllByRecursion-prop, list_any}
 use Rattle.std.specs.List.Sorted.{IsStrictlySortedBy-prop}

@@ -1,4 +1,4 @@
--- What is read of a source that is of one of two kinds.
+-- For proofs. What is read of a source that is of one of two kinds.
 use Rattle.tab_version.specs.declared.one_of.OneOf.{OneOf}
 use Rattle.tab_version.specs.declared.one_of.OneOf.TheVariants.{First, Second}
 

@@ -1,4 +1,4 @@
--- What a scan of all rows shows.
+-- For proofs. What a scan of all rows shows.
 use Rattle.std.specs.Prelude.{ℕ, List, filter}
 use Rattle.tab_key.specs.Records.{Record}
 use Rattle.tab_key.specs.Sorted.{sorted}

@@ -1,4 +1,4 @@
--- What a tablet reads beside its active part: frozen runs and sorted tables, each cut to the tablet's rows.
+-- To be believed by whoever relies on it. What a tablet reads beside its active part: frozen runs and sorted tables, each cut to the tablet's rows.
 use Rattle.std.specs.Prelude.{ℕ, List, [], ◌∷◌, ◌++◌, ◌+◌, Bool, true, false, ◌&&◌, ◌==◌, cond, Option, Some, None, option_map, option_and_then, length, filter, map, sum}
 use Rattle.tab_key.specs.Records.{Record}
 pub use Rattle.tab_key.specs.Same.{same_record}

@@ -1,4 +1,4 @@
--- The tablets of a version.
+-- For proofs. The tablets of a version.
 use Rattle.std.specs.Prelude.{List, map}
 use Rattle.tab_key.specs.Records.{Record}
 use Rattle.tab_iter.specs.Bags.{flat}

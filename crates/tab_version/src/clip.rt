@@ -8,29 +8,29 @@ ghost use Rattle.tab_mem.specs.Lists.{HasShortParts};
 ghost use Rattle.tab_version.specs.InTurn.{reaches};
 ghost use Rattle.tab_version.specs.Sources.{same_record, same_contents};
 
-use crate::Whole;
+use crate::FrozenRecords;
 use std::alloc::{AllocError, Global};
 use std::marker::Model;
 use std::sync::Arc;
 use tab_iter::Source;
 use tab_key::{Bounds, ByteString, Key};
 use tab_mem::{Run, RunCursor};
-use tab_table::{Cursor, Table};
+use tab_table::{Cursor, SortedTable};
 
 /// The records of a shared run or table whose rows lie in bounds. A contract sees the list of these records.
 ///
 /// It holds a share of the whole and two indexes, and no copy of a record.
 #[derive(Drop)]
-pub struct Part<W: Whole> {
+pub struct ClipOf<W: FrozenRecords> {
     whole: Arc<W>,
     from: usize,
     end: usize,
 }
 
 /// A part of a frozen run.
-pub type Clip = Part<Run>;
+pub type Clip = ClipOf<Run>;
 
-impl<W: Whole> Model for Part<W> {
+impl<W: FrozenRecords> Model for ClipOf<W> {
     ghost use Rattle.std.specs.Prelude.{List};
     ghost use Rattle.tab_key.specs.Records.{Record as Fields};
     ghost use Rattle.tab_mem.specs.Lists.{part};
@@ -43,13 +43,13 @@ impl<W: Whole> Model for Part<W> {
     ghost invariant = { λ c. IsPart c.from c.end (W.listed c.whole.value) };
 }
 
-impl<W: Whole + Drop> Part<W> {
+impl<W: FrozenRecords + Drop> ClipOf<W> {
     /// All records.
-    pub fn whole(whole: Arc<W>) -> Part<W>
+    pub fn whole(whole: Arc<W>) -> ClipOf<W>
         ensures { result ≡ W.listed whole.value }
     {
         let end = whole.len();
-        Part {
+        ClipOf {
             whole,
             from: 0,
             end,
@@ -60,12 +60,12 @@ impl<W: Whole + Drop> Part<W> {
     /// logarithmic in the clip.
     ///
     /// `AllocError` says that it couldn't be shared once more.
-    pub fn in_rows(&self, bounds: &Bounds) -> Result<Part<W>, AllocError>
+    pub fn in_rows(&self, bounds: &Bounds) -> Result<ClipOf<W>, AllocError>
         ensures { IfOk result (λ c. c ≡ filter (λ u. is_in_range bounds.now u.key.row) self.now) }
     {
         let whole = self.whole.clone()?;
         let rows = self.whole.rows_in(self.from, self.end, bounds);
-        Ok(Part {
+        Ok(ClipOf {
             whole,
             from: rows.start,
             end: rows.end,
@@ -104,7 +104,7 @@ impl<W: Whole + Drop> Part<W> {
     }
 
     // Whether the records at an index are the same.
-    fn same_at(&self, other: &Part<W>, index: usize) -> bool
+    fn same_at(&self, other: &ClipOf<W>, index: usize) -> bool
         requires here { index < length self.now }
         requires there { index < length other.now }
         ensures { (u : Fields) → result ≡ same_record (slice_index_or self.now index u) (slice_index_or other.now index u) }
@@ -117,7 +117,7 @@ impl<W: Whole + Drop> Part<W> {
     }
 
     // Whether each record is the same as the other's at its index, of as many.
-    fn same_records(&self, other: &Part<W>) -> bool
+    fn same_records(&self, other: &ClipOf<W>) -> bool
         ensures { result ≡ same_contents self.now other.now }
     {
         let count = self.len();
@@ -132,8 +132,8 @@ impl<W: Whole + Drop> Part<W> {
         true
     }
 
-    // Whether it is a large part of a whole, and the other one the same part of a whole that lies alike: then they have the same records.
-    fn is_cut_like(&self, other: &Part<W>) -> bool
+    // Whether it is a large part of its list, and the other one the same part of a list that lies alike: then they have the same records.
+    fn is_cut_like(&self, other: &ClipOf<W>) -> bool
         ensures { IsTrue result → self.now ≡ other.now }
     {
         if self.from != other.from || self.end != other.end {
@@ -145,12 +145,12 @@ impl<W: Whole + Drop> Part<W> {
         self.whole.lies_like(&other.whole)
     }
 
-    /// Whether the other clip has the same records, in order. Where both are the same large part of wholes that lie alike, as they are where
+    /// Whether the other clip has the same records, in order. Where both are the same large part of lists that lie alike, as they are where
     /// one is a share of the other, one comparison of bytes finds it; else each record is compared.
     ///
     /// It takes no memory, and time linear in the records that are the same; where there are not as many, none is read.
     #[tactic(auto, using(crate::proofs::Alike::contents_alike))]
-    pub fn same_contents(&self, other: &Part<W>) -> bool
+    pub fn same_contents(&self, other: &ClipOf<W>) -> bool
         ensures { result ≡ same_contents self.now other.now }
     {
         if self.is_cut_like(other) {
@@ -177,10 +177,10 @@ impl<W: Whole + Drop> Part<W> {
     /// The same records, shared once more.
     ///
     /// `AllocError` says that they couldn't be.
-    pub fn share(&self) -> Result<Part<W>, AllocError>
+    pub fn share(&self) -> Result<ClipOf<W>, AllocError>
         ensures { IfOk result (λ c. c ≡ self.now) }
     {
-        Ok(Part {
+        Ok(ClipOf {
             whole: self.whole.clone()?,
             from: self.from,
             end: self.end,
@@ -205,7 +205,7 @@ impl<W: Whole + Drop> Part<W> {
     }
 }
 
-impl Part<Run> {
+impl ClipOf<Run> {
     /// The records as a source, at its first record.
     pub fn cursor<'a>(&'a self) -> RunCursor<'a>
         ensures whole { ⟦<RunCursor<'a> as Source>⟧.whole result ≡ self.now }
@@ -216,14 +216,14 @@ impl Part<Run> {
     }
 }
 
-impl Part<Table> {
+impl ClipOf<SortedTable> {
     /// The records as a source, at its first record.
     pub(crate) fn table_cursor<'a>(&'a self) -> Cursor<'a>
         ensures whole { ⟦<Cursor<'a> as Source>⟧.whole result ≡ self.now }
         ensures at_start { ⟦<Cursor<'a> as Source>⟧.rest result ≡ ⟦<Cursor<'a> as Source>⟧.whole result }
         ensures short { HasShortParts self.now }
     {
-        let table: &'a Table = &self.whole;
+        let table: &'a SortedTable = &self.whole;
         Cursor::over(table, self.from, self.end)
     }
 }

@@ -4,12 +4,12 @@ ghost use Rattle.tab_key.specs.Ranges.{is_in_range};
 ghost use Rattle.tab_key.specs.Sorted.{sorted};
 ghost use Rattle.tab_iter.specs.Bags.{flat};
 ghost use Rattle.tab_mem.specs.Lists.{HasShortParts};
-ghost use Rattle.tab_table.specs.Tables.{records};
+ghost use Rattle.tab_table.specs.SortedTables.{records};
 ghost use Rattle.tab_version.specs.Clips.{lists_of};
 ghost use Rattle.tab_version.specs.Sources.{no_sources, records_of, clipped, same_sources, left_by};
 
 use crate::cutting::{runs_in, tables_in};
-use crate::held::Held;
+use crate::has_records::HasRecords;
 use crate::sought::pair_up;
 use crate::taking::{take_runs, take_tables};
 use crate::{Clip, OneOf, TableClip};
@@ -19,7 +19,7 @@ use std::sync::Arc;
 use tab_iter::{NoMemory, Source};
 use tab_key::Bounds;
 use tab_mem::{Run, RunCursor};
-use tab_table::{Cursor, Table};
+use tab_table::{Cursor, SortedTable};
 
 /// A cursor over a clip of a run or of a table.
 pub type ClipCursor<'a> = OneOf<RunCursor<'a>, Cursor<'a>>;
@@ -172,10 +172,14 @@ impl Clips {
     /// isn't needed of it is given back: so building takes no more memory than they hold.
     ///
     /// NoMemory says that it lacked; some of the records may be passed then.
-    pub fn table_of<S: Source>(&self, alloc: Global, source: &mut S) -> Result<Table, NoMemory>
+    pub fn table_of<S: Source>(
+        &self,
+        alloc: Global,
+        source: &mut S,
+    ) -> Result<SortedTable, NoMemory>
         ensures { IfOk result (λ t. records t ≡ S.rest source.old) }
     {
-        Table::build(alloc, source, self.count(), self.room())
+        SortedTable::build(alloc, source, self.count(), self.room())
     }
 
     /// A run of the records that a source has left which reads these clips, as a clip. Room for all that they hold is asked for at once,

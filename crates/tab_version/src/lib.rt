@@ -2,14 +2,14 @@
 //!
 //! | File | What |
 //! |---|---|
-//! | `whole` | what clips are cut of |
+//! | `frozen_records` | what clips are cut of |
 //! | `clip` | the records of a shared run or table whose rows lie in bounds |
 //! | `table_clip` | the same of a table, with the table's size |
 //! | `one_of` | a source that is of one of two kinds |
 //! | `clips` | clips of runs and of tables: what a tablet reads |
 //! | `cutting` | clips cut to rows |
 //! | `sought`, `taking` | sources that are found by their contents, and taken out |
-//! | `held` | what is asked of the records that clips hold |
+//! | `has_records` | what is asked of the records that clips hold |
 //! | `lists` | lists of records, one behind the other |
 //! | `in_turn` | the records of such lists, of which one is read at a time |
 //! | `tablets` | tablets as such lists |
@@ -20,7 +20,8 @@
 mod clip;
 mod clips;
 mod cutting;
-mod held;
+mod frozen_records;
+mod has_records;
 mod in_turn;
 mod laws;
 mod lists;
@@ -30,10 +31,10 @@ mod table_clip;
 mod tablets;
 mod taking;
 mod version;
-mod whole;
 
-pub use clip::{Clip, Part};
+pub use clip::{Clip, ClipOf};
 pub use clips::{ClipCursor, Clips};
+pub use frozen_records::FrozenRecords;
 pub use in_turn::InTurn;
 pub use laws::left_by_choice;
 pub use lists::Lists;
@@ -41,4 +42,3 @@ pub use one_of::OneOf;
 pub use table_clip::TableClip;
 pub use tablets::TabletSource;
 pub use version::{Raw, Stack, Version};
-pub use whole::Whole;

@@ -3,7 +3,7 @@ ghost use Rattle.std.specs.Prelude.{◌≡◌, ◌<◌, ◌&&◌, ◌==◌, leng
 ghost use Rattle.std.specs.List.{remove, slice_index_or};
 ghost use Rattle.tab_version.specs.Sources.{same_lists, same_contents, same_table, without};
 
-use crate::{Clip, Part, TableClip};
+use crate::{Clip, ClipOf, TableClip};
 
 /// Something that seeks its like among several.
 pub(crate) trait Sought<T> {
@@ -21,7 +21,7 @@ impl Sought<Clip> for Clip {
     ghost passes = { λ x y. same_contents x y };
 
     fn passes(&self, one: &Clip) -> bool {
-        Part::same_contents(self, one)
+        ClipOf::same_contents(self, one)
     }
 }
 

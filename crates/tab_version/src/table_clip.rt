@@ -5,22 +5,22 @@ ghost use Rattle.tab_key.specs.Records.{Record as Fields};
 ghost use Rattle.tab_key.specs.KeyOf.{key_of};
 ghost use Rattle.tab_iter.specs.Lists.{IsRising, HasI64Timestamps};
 ghost use Rattle.tab_mem.specs.Lists.{HasShortParts};
-ghost use Rattle.tab_table.specs.Tables.{records};
+ghost use Rattle.tab_table.specs.SortedTables.{records};
 ghost use Rattle.tab_version.specs.InTurn.{reaches};
 ghost use Rattle.tab_version.specs.Sources.{built, same_table};
 
-use crate::{Clip, Part};
+use crate::{Clip, ClipOf};
 use std::alloc::{AllocError, Global};
 use std::marker::Model;
 use std::sync::Arc;
 use tab_iter::{NoMemory, Source};
 use tab_key::{Bounds, ByteString, Key};
-use tab_table::{Cursor, Table};
+use tab_table::{Cursor, SortedTable};
 
 /// The records of a shared table whose rows lie in bounds, and the size of the whole table, in bytes.
 #[derive(Drop)]
 pub struct TableClip {
-    part: Part<Table>,
+    part: ClipOf<SortedTable>,
     size: u64,
 }
 
@@ -34,12 +34,12 @@ impl Model for TableClip {
 
 impl TableClip {
     /// All records of the table.
-    pub fn whole(table: Arc<Table>) -> TableClip
+    pub fn whole(table: Arc<SortedTable>) -> TableClip
         ensures { result ≡ built (records table.value) }
     {
         let size = table.size();
         TableClip {
-            part: Part::whole(table),
+            part: ClipOf::whole(table),
             size,
         }
     }
@@ -51,7 +51,7 @@ impl TableClip {
         ensures { IfOk result (λ c. c ≡ built run.now) }
     {
         let mut records = run.cursor();
-        let table = Table::build(alloc, &mut records, run.len(), run.room())?;
+        let table = SortedTable::build(alloc, &mut records, run.len(), run.room())?;
         let shared = Arc::new(alloc, table)?;
         Ok(TableClip::whole(shared))
     }
@@ -135,7 +135,7 @@ impl TableClip {
         self.part.table_cursor()
     }
 
-    /// The size of the whole table, in bytes, as `Table::size` of `tab_table` counts them.
+    /// The size of the whole table, in bytes, as `SortedTable::size` of `tab_table` counts them.
     pub fn size(&self) -> u64
         ensures { result ≡ self.now.size }
     {

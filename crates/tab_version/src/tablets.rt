@@ -5,7 +5,7 @@ ghost use Rattle.tab_key.specs.KeyOf.{key_of};
 ghost use Rattle.tab_version.specs.InTurn.{reaches};
 ghost use Rattle.tab_version.specs.Sources.{records_of};
 
-use crate::held::Held;
+use crate::has_records::HasRecords;
 use crate::{ClipCursor, Clips, Lists, OneOf};
 use std::alloc::Global;
 use tab_iter::{Merging, NoMemory};

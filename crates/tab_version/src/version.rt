@@ -11,7 +11,7 @@ ghost use Rattle.tab_mem.specs.Lists.{HasShortParts};
 ghost use Rattle.tab_version.specs.Shown.{shown};
 ghost use Rattle.tab_version.specs.Sources.{records_of};
 
-use crate::held::read_all;
+use crate::has_records::read_all;
 use crate::tablets::drop_empty;
 use crate::{Clips, InTurn, TabletSource};
 use std::alloc::Global;

@@ -4,12 +4,12 @@ use Rattle.std.specs.Prelude.{Result}
 use Rattle.tab_key.specs.Records.{Record}
 use Rattle.tab_wire.specs.declared.answer.Answer.{Answer}
 use Rattle.tab_wire.specs.declared.client.ReceiveFault.{ReceiveFault}
-use Rattle.tab_wire.specs.declared.told.Told.{Told}
-use Rattle.tab_wire.specs.declared.told.Told.TheVariants as told
+use Rattle.tab_wire.specs.declared.reply_frame.ReplyFrame.{ReplyFrame}
+use Rattle.tab_wire.specs.declared.reply_frame.ReplyFrame.TheVariants as told
 use Rattle.tab_wire.specs.Answering.{SoFar, Wrong, is_empty, alone, comes, Says}
 
 -- where nothing is listed yet, it is what it comes to
-pub alone_comes : (s : SoFar) (what : Told) (r : Result (Option Answer) ReceiveFault) (new : SoFar) → ((shown : Record) → what ≡ told.Cell shown → ⊥) → (what ≢ told.End) → ((row : List ℕ) → what ≡ told.Row row → ⊥) → (what ≢ told.RangeEnd)
+pub alone_comes : (s : SoFar) (what : ReplyFrame) (r : Result (Option Answer) ReceiveFault) (new : SoFar) → ((shown : Record) → what ≡ told.Cell shown → ⊥) → (what ≢ told.End) → ((row : List ℕ) → what ≡ told.Row row → ⊥) → (what ≢ told.RangeEnd)
     → (is_empty s.cells && (is_empty s.ranges && is_empty s.rows)) ≡ true → Says (alone what) r new → Says (comes s what) r new
 alone_comes s (told.Cell shown) r new cell end row range none says = absurd (cell shown refl)
 alone_comes s told.End r new cell end row range none says = absurd (end refl)

@@ -1,9 +1,9 @@
 -- Reading parts one after another, as a loop does.
 use Rattle.std.proofs.Common.{◌≡◌, ℕ, suc, ◌-◌, ◌+◌, ◌≤◌, ◌<◌, List, [], ◌∷◌, ◌++◌, Option, Some, None, refl, sym, ap, ◌∙◌, append_assoc, arith}
 use Rattle.std.proofs.lemmas.List.{append-nil}
-use Rattle.tab_wire.specs.declared.unread.Unread.{Unread}
-use Rattle.tab_wire.specs.declared.unread.Unread.TheVariants as unread
-use Rattle.tab_wire.specs.Gives.{SaysNone}
+use Rattle.tab_text.specs.declared.parse_error.ParseError.{ParseError}
+use Rattle.tab_text.specs.declared.parse_error.ParseError.TheVariants as unread
+use Rattle.tab_text.specs.Gives.{SaysNone}
 use Rattle.tab_parts.specs.Reading.{◌>>=◌, Reader, parts_at}
 
 module _ {A : Type 0} where
@@ -23,10 +23,10 @@ module _ {A : Type 0} where
       ap (λ (j : ℕ). with_front front (parts_at reads j bytes)) k ∙ ap (λ r. with_front front (r >>= λ x. parts_at reads (count - (i + 1)) x.1 >>= λ ys. Some (x.0 ∷ ys.0, ys.1))) h ∙ regroup front n (parts_at reads (count - (i + 1)) after) in
       sym one ∙ so_far
 
-  pub ends : (reads : Reader A) (e : Unread) (front : List A) (count i : ℕ) (bytes : List ℕ) (total : Option (List A × List ℕ)) → i < count → SaysNone e (reads bytes)
+  pub ends : (reads : Reader A) (e : ParseError) (front : List A) (count i : ℕ) (bytes : List ℕ) (total : Option (List A × List ℕ)) → i < count → SaysNone e (reads bytes)
       → with_front front (parts_at reads (count - i) bytes) ≡ total → SaysNone e total
   ends reads unread.NoMemory front count i bytes total lt h so_far = tt
-  ends reads unread.Field front count i bytes total lt h so_far =
+  ends reads unread.Malformed front count i bytes total lt h so_far =
       let k : count - i ≡ suc (count - (i + 1)) = omega arith in
       let one : with_front front (parts_at reads (count - i) bytes) ≡ None =
       ap (λ (j : ℕ). with_front front (parts_at reads j bytes)) k ∙ ap (λ r. with_front front (r >>= λ x. parts_at reads (count - (i + 1)) x.1 >>= λ ys. Some (x.0 ∷ ys.0, ys.1))) h in

@@ -2,14 +2,14 @@
 use Rattle.std.proofs.Common.{◌≡◌, ℕ, List, [], ◌∷◌, refl, ap, ◌∙◌, Option, Some}
 use Rattle.std.specs.Prelude.{map, Vec, Result, Ok, Err}
 use Rattle.std.specs.declared.alloc.Global.{Global}
-use Rattle.tab_wire.specs.declared.unread.Unread.{Unread}
-use Rattle.tab_wire.specs.Gives.{Gives}
+use Rattle.tab_text.specs.declared.parse_error.ParseError.{ParseError}
+use Rattle.tab_text.specs.Gives.{Gives}
 
 map_whole : {A : Type 0} (xs : List A) → map (λ x. x) xs ≡ xs
 map_whole [] = refl
 map_whole (x ∷ xs) = ap (λ ys. x ∷ ys) (map_whole xs)
 
 -- a list of parts that are seen as they are
-pub seen_whole : {A : Type 0} (r : Result (Vec A Global) Unread) (left : List ℕ) (read : Option (List A × List ℕ)) → Gives (λ v. (map (λ x. x) v.items, left)) r read → Gives (λ v. (v.items, left)) r read
+pub seen_whole : {A : Type 0} (r : Result (Vec A Global) ParseError) (left : List ℕ) (read : Option (List A × List ℕ)) → Gives (λ v. (map (λ x. x) v.items, left)) r read → Gives (λ v. (v.items, left)) r read
 seen_whole (Ok v) left read is = is ∙ ap (λ (xs : List _). Some (xs, left)) (map_whole v.items)
 seen_whole (Err e) left read is = is

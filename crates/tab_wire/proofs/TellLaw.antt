@@ -5,8 +5,8 @@ use Rattle.std.specs.Int.{w32, w64, to_be_bytes, cast_signed, cast_unsigned}
 use Rattle.std.proofs.lemmas.Int.{of_z-to_z, to_z-of_z}
 use Rattle.std.specs.List.{flat_map}
 use Rattle.tab_key.specs.Names.{IsName}
-use Rattle.tab_key.specs.declared.part.Part.{Part}
-use Rattle.tab_key.specs.declared.part.Part.TheVariants as part
+use Rattle.tab_key.specs.declared.limited_part.LimitedPart.{LimitedPart}
+use Rattle.tab_key.specs.declared.limited_part.LimitedPart.TheVariants as part
 use Rattle.tab_rules.specs.Constraints.{constraint_number}
 use Rattle.tab_rules.specs.declared.constraint.Constraint.{Constraint}
 use Rattle.tab_rules.specs.declared.constraint.Constraint.TheVariants.{KeySize, Alphanumeric, Numeric, Visibility}
@@ -26,8 +26,8 @@ use Rattle.tab_parts.proofs.PartLaw.{exact_i64, exact_field, exact_name, exact_c
 use Rattle.tab_parts.proofs.TagLaw.{begins, Given, Nothing}
 use Rattle.tab_wire.specs.declared.reason.Reason.{Reason}
 use Rattle.tab_wire.specs.declared.reason.Reason.TheVariants as reason
-use Rattle.tab_wire.specs.declared.told.Told.{Told}
-use Rattle.tab_wire.specs.declared.told.Told.TheVariants as told
+use Rattle.tab_wire.specs.declared.reply_frame.ReplyFrame.{ReplyFrame}
+use Rattle.tab_wire.specs.declared.reply_frame.ReplyFrame.TheVariants as told
 use Rattle.tab_wire.specs.FrameParts.{IsPermission}
 use Rattle.tab_wire.specs.FrameReading.{permission_at}
 use Rattle.tab_wire.specs.Replies.{u32, u64, i64, field, part_number, reason_number, split_number, permission_bytes, violation_bytes, refusal_bytes}
@@ -46,7 +46,7 @@ or_next n k x rest y number is says then =
       | false ↦ λ e h. then h
     ] refl says
 
-part_again : (p : Part) → part_of (part_number p) ≡ Some p
+part_again : (p : LimitedPart) → part_of (part_number p) ≡ Some p
 part_again part.Updates = refl
 part_again part.Row = refl
 part_again part.Family = refl
@@ -59,7 +59,7 @@ part_again part.Ranges = refl
 part_again part.Sessions = refl
 part_again part.Numbers = refl
 
-part_picks : (n : ℕ) (p : Part) → part_of n ≡ Some p → n ≡ part_number p
+part_picks : (n : ℕ) (p : LimitedPart) → part_of n ≡ Some p → n ≡ part_number p
 part_picks n p is =
     or_next n 1 part.Updates _ p part_number refl is (λ is.
     or_next n 2 part.Row _ p part_number refl is (λ is.
@@ -222,7 +222,7 @@ exact_by_horizon : Exact (tagged horizon_by) (Tagged ByHorizon)
 exact_by_horizon = exact_tagged horizon_by ByHorizon by_horizon
 
 -- ---- forwards: what is written is read
-abbrev refusing : Reader Refusal → Reader Told
+abbrev refusing : Reader Refusal → Reader ReplyFrame
 refusing reads = mapped (λ r. told.Refused r) reads
 
 reads_back : (reads : Reader Refusal) (Says : List ℕ → Refusal → Type 0) → Exact reads Says → (fields : List ℕ) (r : Refusal) → Says fields r → whole (refusing reads fields) ≡ Some (told.Refused r)
@@ -269,7 +269,7 @@ forwards refusal is = refl
 abbrev Written : ℕ → List ℕ → Refusal → Type 0
 Written n fields r = (n ∷ fields ≡ refusal_bytes r) × IsTold r
 
-abbrev refusal_in : Refusal → Told → Refusal
+abbrev refusal_in : Refusal → ReplyFrame → Refusal
 refusal_in other (told.Refused r) = r
 refusal_in other _ = other
 
@@ -321,7 +321,7 @@ change_of {A} {B} f reads bytes y is = go (reads bytes) is
     go (Some x) e = some (length x.1 == 0) x.0 e
 
 -- why a frame asked nothing is no refusal
-abbrev blaming : Reader Told
+abbrev blaming : Reader ReplyFrame
 blaming = mapped (λ why. told.BadFrame why) (picked reason_of u8_at)
 
 no_refusal : (fields : List ℕ) (r : Refusal) → whole (blaming fields) ≡ Some (told.Refused r) → ⊥
@@ -381,7 +381,7 @@ blame_complete why =
     whole_complete blaming (Becomes (IsNumber reason_number) (λ x. told.BadFrame x)) (exact_mapped (λ x. told.BadFrame x) (picked reason_of u8_at) (IsNumber reason_number) (exact_number reason_number reason_of reason_again reason_picks))
     (reason_number why ∷ []) (told.BadFrame why) (record { first = why; says = refl; becomes = refl })
 
-abbrev reason_in : Reason → Told → Reason
+abbrev reason_in : Reason → ReplyFrame → Reason
 reason_in other (told.BadFrame why) = why
 reason_in other _ = other
 

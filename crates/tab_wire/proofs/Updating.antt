@@ -4,9 +4,9 @@ use Rattle.std.proofs.lemmas.List.{append-nil}
 use Rattle.tab_mutation.specs.Mutations.{Mutation, Update, with_update}
 use Rattle.tab_parts.specs.Reading.{◌>>=◌, parts_at}
 use Rattle.tab_parts.proofs.Exact.{some_inj}
-use Rattle.tab_wire.specs.declared.unread.Unread.{Unread}
-use Rattle.tab_wire.specs.declared.unread.Unread.TheVariants as unread
-use Rattle.tab_wire.specs.Gives.{SaysNone}
+use Rattle.tab_text.specs.declared.parse_error.ParseError.{ParseError}
+use Rattle.tab_text.specs.declared.parse_error.ParseError.TheVariants as unread
+use Rattle.tab_text.specs.Gives.{SaysNone}
 use Rattle.tab_wire.specs.FrameReading.{update_at}
 use Rattle.tab_wire.specs.Updating.{updated, grown}
 
@@ -24,10 +24,10 @@ one_more m n after k (Some u) is =
     let e = some_inj (with_update m u.0, u.1) (n, after) is in
     regroup m u.0 (parts_at update_at k u.1) ∙ ap (λ (p : Mutation × List ℕ). grown p.0 (parts_at update_at k p.1)) e
 
-none_more : (e : Unread) (m : Mutation) (k : ℕ) (read : Option (Update × List ℕ)) → SaysNone e (updated m read) → SaysNone e (grown m (behind k read))
+none_more : (e : ParseError) (m : Mutation) (k : ℕ) (read : Option (Update × List ℕ)) → SaysNone e (updated m read) → SaysNone e (grown m (behind k read))
 none_more unread.NoMemory m k read is = tt
-none_more unread.Field m k None is = refl
-none_more unread.Field m k (Some u) is = absurd cc
+none_more unread.Malformed m k None is = refl
+none_more unread.Malformed m k (Some u) is = absurd cc
 
 -- one update was added
 pub goes_on : (m n : Mutation) (count i : ℕ) (bytes after : List ℕ) (total : Option (Mutation × List ℕ)) → i < count → updated m (update_at bytes) ≡ Some (n, after)
@@ -37,7 +37,7 @@ goes_on m n count i bytes after total lt read so_far =
     sym (one_more m n after (count - (i + 1)) (update_at bytes) read) ∙ sym (ap (λ (j : ℕ). grown m (parts_at update_at j bytes)) k) ∙ so_far
 
 -- an update wasn't read
-pub stops : (e : Unread) (m : Mutation) (count i : ℕ) (bytes : List ℕ) (total : Option (Mutation × List ℕ)) → i < count → SaysNone e (updated m (update_at bytes))
+pub stops : (e : ParseError) (m : Mutation) (count i : ℕ) (bytes : List ℕ) (total : Option (Mutation × List ℕ)) → i < count → SaysNone e (updated m (update_at bytes))
     → grown m (parts_at update_at (count - i) bytes) ≡ total → SaysNone e total
 stops e m count i bytes total lt read so_far =
     let k : count - i ≡ suc (count - (i + 1)) = omega arith in

@@ -1,4 +1,4 @@
--- What the frames of one reply come to, one after another.
+-- For proofs. What the frames of one reply come to, one after another.
 use Rattle.std.specs.Prelude.{ℕ, ◌≡◌, ◌==◌, Bool, ◌&&◌, List, [], ◌∷◌, ◌++◌, length, Option, Some, None, Result, Ok, Err, if◌then◌else◌}
 use Rattle.tab_key.specs.Records.{Cell, cell_of}
 use Rattle.tab_history.specs.declared.reply.Reply.TheVariants as reply
@@ -7,8 +7,8 @@ use Rattle.tab_wire.specs.declared.answer.Answer.TheVariants as answer
 use Rattle.tab_wire.specs.declared.answer.Listed.{Listed}
 use Rattle.tab_wire.specs.declared.client.ReceiveFault.{ReceiveFault}
 use Rattle.tab_wire.specs.declared.client.ReceiveFault.TheVariants as fault
-use Rattle.tab_wire.specs.declared.told.Told.{Told}
-use Rattle.tab_wire.specs.declared.told.Told.TheVariants as told
+use Rattle.tab_wire.specs.declared.reply_frame.ReplyFrame.{ReplyFrame}
+use Rattle.tab_wire.specs.declared.reply_frame.ReplyFrame.TheVariants as told
 
 -- what they told so far: the cells behind the last range, the ranges, and end rows
 pub record SoFar : Type 0 where
@@ -39,7 +39,7 @@ ended s =
     else Ends (answer.Reply (reply.Rows s.rows))
 
 -- a frame that is a reply by itself
-abbrev pub alone : Told → Comes
+abbrev pub alone : ReplyFrame → Comes
 alone told.Done = Ends (answer.Reply reply.Done)
 alone (told.Refused refusal) = Ends (answer.Reply (reply.Refused refusal))
 alone (told.BadFrame reason) = Ends (answer.BadFrame reason)
@@ -52,7 +52,7 @@ alone (told.Row row) = Wrong
 alone told.RangeEnd = Wrong
 
 -- what the next frame comes to
-abbrev pub comes : SoFar → Told → Comes
+abbrev pub comes : SoFar → ReplyFrame → Comes
 comes s (told.Cell shown) = if is_empty s.rows then On (record s { cells = s.cells ++ cell_of shown ∷ [] }) else Wrong
 comes s told.RangeEnd = if is_empty s.rows then On (record s { cells = []; ranges = s.ranges ++ s.cells ∷ [] }) else Wrong
 comes s (told.Row row) = if is_empty s.cells && is_empty s.ranges then On (record s { rows = s.rows ++ row ∷ [] }) else Wrong

@@ -1,4 +1,4 @@
--- What a connection knows between two frames, and what comes next on it.
+-- For proofs. What a connection knows between two frames, and what comes next on it.
 use Rattle.std.specs.Prelude.{ℕ, ◌≡◌, ◌+◌, Bool, true, false, List, [], ◌∷◌, Option, Some, None, is_some, Ok, Err}
 use Rattle.tab_history.specs.Answers.{Told}
 use Rattle.tab_history.specs.declared.reply.Reply.TheVariants as reply

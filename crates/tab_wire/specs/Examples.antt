@@ -7,7 +7,7 @@ use Rattle.tab_rules.specs.declared.constraint.Constraint.TheVariants.{Alphanume
 use Rattle.tab_policy.specs.declared.permission.Permission.TheVariants.{OfSystem, OfTable}
 use Rattle.tab_policy.specs.declared.permission.SystemPermission.TheVariants as system
 use Rattle.tab_policy.specs.declared.permission.TablePermission.TheVariants as table
-use Rattle.tab_key.specs.declared.part.Part.TheVariants as part
+use Rattle.tab_key.specs.declared.limited_part.LimitedPart.TheVariants as part
 use Rattle.tab_history.specs.declared.event.Extent.TheVariants.{Full}
 use Rattle.tab_history.specs.declared.event.TimeMode.TheVariants.{Any}
 use Rattle.tab_history.specs.declared.reply.Refusal.TheVariants as refusal
@@ -21,7 +21,7 @@ use Rattle.tab_wire.specs.declared.request.Request.TheVariants as asks
 use Rattle.tab_wire.specs.declared.reason.Reason.TheVariants as reason
 use Rattle.tab_wire.specs.FrameReading.{column_at, permission_at, extent_at, timestamp_at, update_at, updates_at, columns_at, ranges_at, mutation_at}
 use Rattle.tab_wire.specs.Requests.{create_table_at, set_auths_at, grant_at, revoke_at, set_constraints_at, write_at, open_at, next_at, many_at, close_at, compact_at, add_split_at, set_versions_at, set_horizon_at, request_in, request_of}
-use Rattle.tab_wire.specs.declared.told.Told.TheVariants as told
+use Rattle.tab_wire.specs.declared.reply_frame.ReplyFrame.TheVariants as told
 use Rattle.tab_wire.specs.Tells.{refused_at, told_in}
 use Rattle.tab_wire.specs.Stream.{Frame, Broken, piece_at, pieces_of}
 use Rattle.tab_wire.specs.Replies as sent

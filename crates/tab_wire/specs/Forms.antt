@@ -1,4 +1,4 @@
--- What the bytes of a frame ask, form by form, as a relation. It says nothing of how they are read.
+-- To be believed by whoever relies on it. What the bytes of a frame ask, form by form, as a relation. It says nothing of how they are read.
 use Rattle.std.specs.Prelude.{ℕ, ℤ, ◌≡◌, ◌≢◌, ◌↔◌, ◌≤◌, Bool, true, false, List, [], ◌∷◌, ◌++◌, Some, Ok, Err}
 use Rattle.tab_key.specs.declared.range.Bounds.{Bounds}
 use Rattle.tab_key.specs.declared.column.Column.{Column}

@@ -1,4 +1,4 @@
--- How the parts that frames alone have lie in bytes, as relations: columns, permissions, updates, extents of compactions.
+-- To be believed by whoever relies on it. How the parts that frames alone have lie in bytes, as relations: columns, permissions, updates, extents of compactions.
 use Rattle.std.specs.Prelude.{ℕ, ◌≡◌, List, [], ◌∷◌, ◌++◌}
 use Rattle.tab_key.specs.declared.key.Kind.{Kind}
 use Rattle.tab_key.specs.declared.key.Kind.TheVariants.{Delete, Put}

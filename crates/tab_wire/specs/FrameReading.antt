@@ -1,4 +1,4 @@
--- Reading the parts that frames alone have.
+-- For proofs. Reading the parts that frames alone have.
 use Rattle.std.specs.Prelude.{ℕ, ℤ, ◌==◌, List, [], slice_get, Option, Some, None, if◌then◌else◌}
 use Rattle.std.specs.Option.{option_map}
 use Rattle.tab_key.specs.declared.key.Kind.{Kind}

@@ -1,4 +1,4 @@
--- What is heard on a connection: what is asked, and by whom.
+-- For proofs. What is heard on a connection: what is asked, and by whom.
 use Rattle.std.specs.Prelude.{ℕ, ◌≡◌, true, List, [], Option, Some, None, is_some, unwrap_or}
 use Rattle.tab_wire.specs.declared.request.Request.{Request as Asks}
 use Rattle.tab_wire.specs.declared.reason.Reason.{Reason}

@@ -1,10 +1,10 @@
--- The bytes of each reply.
+-- To be believed by whoever relies on it. The bytes of each reply.
 use Rattle.std.specs.Prelude.{ℕ, ℤ, ◌%◌, ◌^◌, ◌==◌, Bool, false, cond, List, [], ◌∷◌, ◌++◌, length}
 use Rattle.std.specs.List.{flat_map}
 use Rattle.std.specs.Int.{w32, w64, to_be_bytes, cast_unsigned}
 use Rattle.tab_key.specs.Records.{Cell}
-use Rattle.tab_key.specs.declared.part.Part.{Part}
-use Rattle.tab_key.specs.declared.part.Part.TheVariants as part
+use Rattle.tab_key.specs.declared.limited_part.LimitedPart.{LimitedPart}
+use Rattle.tab_key.specs.declared.limited_part.LimitedPart.TheVariants as part
 use Rattle.tab_policy.specs.Permissions.{system_place, table_place}
 use Rattle.tab_policy.specs.declared.permission.Permission.{Permission}
 use Rattle.tab_policy.specs.declared.permission.Permission.TheVariants.{OfSystem, OfTable}
@@ -47,7 +47,7 @@ permission_bytes (OfSystem p) = 0 ∷ system_place p ∷ []
 permission_bytes (OfTable p t) = 1 ∷ table_place p ∷ field t
 
 -- ---- refusals
-abbrev pub part_number : Part → ℕ
+abbrev pub part_number : LimitedPart → ℕ
 part_number part.Updates = 1
 part_number part.Row = 2
 part_number part.Family = 3

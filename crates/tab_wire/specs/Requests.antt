@@ -1,4 +1,4 @@
--- What the bytes of a frame ask, as a function.
+-- For proofs. What the bytes of a frame ask, as a function.
 use Rattle.std.specs.Prelude.{ℕ, zero, suc, Bool, true, false, List, [], ◌∷◌, slice_get, Option, Some, None, Result, Ok, Err, if◌then◌else◌}
 use Rattle.tab_label.specs.Sets.{set_of}
 use Rattle.tab_history.specs.declared.event.Act.TheVariants as act

@@ -1,4 +1,4 @@
--- The bytes of each request, as a client sends them: of all spellings of a request the one that it uses.
+-- To be believed by whoever relies on it. The bytes of each request, as a client sends them: of all spellings of a request the one that it uses.
 use Rattle.std.specs.Prelude.{ℕ, ℤ, ◌≡◌, ◌≤◌, ◌<◌, Bool, true, false, List, [], ◌∷◌, ◌++◌, length, Option, Some, None, Result, Ok, Err}
 use Rattle.std.specs.List.{flat_map}
 use Rattle.tab_key.specs.declared.key.Kind.{Kind}

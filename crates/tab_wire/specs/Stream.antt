@@ -1,4 +1,4 @@
--- How a stream of bytes is split into frames.
+-- To be believed by whoever relies on it. How a stream of bytes is split into frames.
 use Rattle.std.specs.Prelude.{ℕ, zero, suc, ◌≡◌, ◌↔◌, ◌≤◌, ◌<◌, ◌^◌, ◌==◌, nat_lt, List, [], ◌∷◌, ◌++◌, length, take, drop, if◌then◌else◌}
 use Rattle.std.specs.Int.{w32, from_be_bytes, to_be_bytes}
 use Rattle.tab_wire.specs.declared.reason.Reason.{Reason}

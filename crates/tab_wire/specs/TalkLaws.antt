@@ -1,4 +1,4 @@
--- What holds of connections whose events are answered as histories say.
+-- For proofs. What holds of connections whose events are answered as histories say.
 use Rattle.std.specs.Prelude.{ℕ, ℤ, ◌≡◌, ◌⊎◌, List, [], ◌∷◌, ◌++◌, Some, None}
 use Rattle.tab_history.specs.declared.event.Event.{Event}
 use Rattle.tab_history.specs.declared.event.Step.TheVariants as step

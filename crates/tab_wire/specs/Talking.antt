@@ -1,8 +1,8 @@
--- A whole connection: which steps its bytes spell, each event with the next moment, and what is replied to each frame.
+-- To be believed by whoever relies on it. A whole connection: which steps its bytes spell, each event with the next moment, and what is replied to each frame.
 use Rattle.std.specs.Prelude.{ℕ, ℤ, pos, ◌≡◌, ◌⊎◌, true, false, cond, ◌&&◌, List, [], ◌∷◌, ◌++◌, length, Option, None, is_some}
 use Rattle.std.specs.List.{flat_map}
 use Rattle.tab_key.specs.Records.{Cell}
-use Rattle.tab_key.specs.declared.part.Part.TheVariants.{Sessions}
+use Rattle.tab_key.specs.declared.limited_part.LimitedPart.TheVariants.{Sessions}
 use Rattle.tab_history.specs.declared.event.Act.{Act}
 use Rattle.tab_history.specs.declared.event.Step.{Step}
 use Rattle.tab_history.specs.declared.event.Step.TheVariants as step

@@ -1,4 +1,4 @@
--- What holds of reading what frames of replies tell.
+-- For proofs. What holds of reading what frames of replies tell.
 use Rattle.std.specs.Prelude.{ℕ, ◌≡◌, ◌<◌, ◌^◌, ◌↔◌, List, [], ◌∷◌, length, Some, FitsSigned}
 use Rattle.std.specs.Int.{w64}
 use Rattle.tab_key.specs.Names.{IsName}
@@ -9,7 +9,7 @@ use Rattle.tab_history.specs.declared.reply.Refusal.{Refusal}
 use Rattle.tab_history.specs.declared.reply.Refusal.TheVariants as refusal
 use Rattle.tab_parts.specs.Parts.{IsBytes}
 use Rattle.tab_wire.specs.declared.reason.Reason.{Reason}
-use Rattle.tab_wire.specs.declared.told.Told.TheVariants as told
+use Rattle.tab_wire.specs.declared.reply_frame.ReplyFrame.TheVariants as told
 use Rattle.tab_wire.specs.Replies.{reason_number, refusal_bytes}
 use Rattle.tab_wire.specs.Tells.{told_in}
 

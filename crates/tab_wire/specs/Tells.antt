@@ -1,10 +1,10 @@
--- What the frames of replies tell, as a function.
+-- For proofs. What the frames of replies tell, as a function.
 use Rattle.std.specs.Prelude.{ℕ, ◌==◌, nat_lt, List, [], ◌∷◌, slice_get, Option, Some, None, if◌then◌else◌}
 use Rattle.tab_key.specs.Records.{Record, Key}
 use Rattle.tab_key.specs.Encoding.{is_short}
 use Rattle.tab_key.specs.declared.key.Kind.TheVariants.{Put}
-use Rattle.tab_key.specs.declared.part.Part.{Part}
-use Rattle.tab_key.specs.declared.part.Part.TheVariants as part
+use Rattle.tab_key.specs.declared.limited_part.LimitedPart.{LimitedPart}
+use Rattle.tab_key.specs.declared.limited_part.LimitedPart.TheVariants as part
 use Rattle.tab_label.specs.Sets.{set_of}
 use Rattle.tab_rules.specs.declared.constraint.Constraint.{Constraint}
 use Rattle.tab_rules.specs.declared.constraint.Constraint.TheVariants.{KeySize, Alphanumeric, Numeric, Visibility}
@@ -20,12 +20,12 @@ use Rattle.tab_parts.specs.Parts.{system_in, table_in}
 use Rattle.tab_parts.specs.Reading.{◌>>=◌, Reader, mapped, picked, nothing_at, given, whole, only_if, u8_at, u32_at, u64_at, i64_at, field_at, name_at, list_at, counted_at, tagged}
 use Rattle.tab_wire.specs.declared.reason.Reason.{Reason}
 use Rattle.tab_wire.specs.declared.reason.Reason.TheVariants as reason
-use Rattle.tab_wire.specs.declared.told.Told.{Told}
-use Rattle.tab_wire.specs.declared.told.Told.TheVariants as told
+use Rattle.tab_wire.specs.declared.reply_frame.ReplyFrame.{ReplyFrame}
+use Rattle.tab_wire.specs.declared.reply_frame.ReplyFrame.TheVariants as told
 use Rattle.tab_wire.specs.FrameReading.{permission_at}
 
 -- ---- what one byte says
-abbrev pub part_of : ℕ → Option Part
+abbrev pub part_of : ℕ → Option LimitedPart
 part_of n =
     if n == 1 then Some part.Updates
     else if n == 2 then Some part.Row
@@ -108,10 +108,10 @@ refusal_by n =
     else nothing_at
 
 -- 16 is a frame that asked nothing, all else a refusal
-abbrev pub refused_by : ℕ → Reader Told
+abbrev pub refused_by : ℕ → Reader ReplyFrame
 refused_by n = if n == 16 then mapped (λ why. told.BadFrame why) (picked reason_of u8_at) else mapped (λ r. told.Refused r) (refusal_by n)
 
-unfoldable pub refused_at : Reader Told
+unfoldable pub refused_at : Reader ReplyFrame
 refused_at bytes = tagged refused_by bytes
 
 -- ---- other replies
@@ -127,7 +127,7 @@ cell_at bytes = do
   shown ← only_if is_short (record { key = record { row = row.0; family = family.0; qualifier = qualifier.0; label = label.0; timestamp = timestamp.0 }; kind = Put; value = value.0; seq = 0; idx = 0 })
   Some (shown, value.1)
 
-abbrev pub end_of : ℕ → Option Told
+abbrev pub end_of : ℕ → Option ReplyFrame
 end_of n = if n == 0 then Some told.End else if n == 1 then Some told.End else None
 
 unfoldable pub counts_at : Reader Counts
@@ -150,7 +150,7 @@ rights_at bytes = do
 
 -- ---- all frames
 -- what goes with the opcode of a reply
-abbrev pub told_by : ℕ → Reader Told
+abbrev pub told_by : ℕ → Reader ReplyFrame
 told_by op =
     if op == 128 then given told.Done
     else if op == 129 then refused_at
@@ -164,5 +164,5 @@ told_by op =
     else nothing_at
 
 -- what all bytes of a frame tell
-unfoldable pub told_in : List ℕ → Option Told
+unfoldable pub told_in : List ℕ → Option ReplyFrame
 told_in bytes = whole (tagged told_by bytes)

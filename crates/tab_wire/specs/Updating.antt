@@ -1,4 +1,4 @@
--- A mutation to which the updates of a frame are added.
+-- For proofs. A mutation to which the updates of a frame are added.
 use Rattle.std.specs.Prelude.{ℕ, List, ◌++◌, Option, Some}
 use Rattle.tab_mutation.specs.Mutations.{Mutation, Update, with_update}
 use Rattle.tab_parts.specs.Reading.{◌>>=◌}

@@ -1,4 +1,4 @@
--- The values that a frame is put of.
+-- For proofs. The values that a frame is put of.
 use Rattle.std.specs.Prelude.{ℕ, List, [], ◌∷◌, ◌++◌, length}
 use Rattle.std.specs.List.{flat_map}
 use Rattle.tab_label.specs.Sets.{byte_lists}

@@ -4,7 +4,7 @@ ghost use Rattle.tab_wire.specs.Answering.{SoFar, listed, none_so_far, is_empty,
 
 use crate::client::ReceiveFault;
 use crate::reason::Reason;
-use crate::told::Told;
+use crate::reply_frame::ReplyFrame;
 use std::alloc::Global;
 use std::mem;
 use tab_history::Reply;
@@ -43,14 +43,14 @@ impl Listed {
     }
 
     /// Goes on by the next frame. The answer, where that ends it.
-    pub fn add(&mut self, told: Told) -> Result<Option<Answer>, ReceiveFault>
+    pub fn add(&mut self, told: ReplyFrame) -> Result<Option<Answer>, ReceiveFault>
         ensures { Says (comes (listed self.old) told) result (listed self.new) }
     {
         match told {
-            Told::Cell(record) => self.add_cell(record),
-            Told::RangeEnd => self.end_range(),
-            Told::Row(row) => self.add_row(row),
-            Told::End => self.end(),
+            ReplyFrame::Cell(record) => self.add_cell(record),
+            ReplyFrame::RangeEnd => self.end_range(),
+            ReplyFrame::Row(row) => self.add_row(row),
+            ReplyFrame::End => self.end(),
             _ if self.is_empty() => alone(told),
             _ => Err(ReceiveFault::Bad),
         }
@@ -63,7 +63,7 @@ impl Listed {
     }
 
     fn add_cell(&mut self, shown: Record) -> Result<Option<Answer>, ReceiveFault>
-        ensures { Says (comes (listed self.old) (Told.Cell shown)) result (listed self.new) }
+        ensures { Says (comes (listed self.old) (ReplyFrame.Cell shown)) result (listed self.new) }
     {
         if !self.rows.is_empty() {
             return Err(ReceiveFault::Bad);
@@ -73,7 +73,7 @@ impl Listed {
     }
 
     fn end_range(&mut self) -> Result<Option<Answer>, ReceiveFault>
-        ensures { Says (comes (listed self.old) Told.RangeEnd) result (listed self.new) }
+        ensures { Says (comes (listed self.old) ReplyFrame.RangeEnd) result (listed self.new) }
     {
         if !self.rows.is_empty() {
             return Err(ReceiveFault::Bad);
@@ -85,7 +85,7 @@ impl Listed {
     }
 
     fn add_row(&mut self, row: ByteString) -> Result<Option<Answer>, ReceiveFault>
-        ensures { Says (comes (listed self.old) (Told.Row row)) result (listed self.new) }
+        ensures { Says (comes (listed self.old) (ReplyFrame.Row row)) result (listed self.new) }
     {
         if !self.cells.is_empty() || !self.ranges.is_empty() {
             return Err(ReceiveFault::Bad);
@@ -115,16 +115,16 @@ impl Listed {
 }
 
 // The answer of one frame.
-fn alone(told: Told) -> Result<Option<Answer>, ReceiveFault>
+fn alone(told: ReplyFrame) -> Result<Option<Answer>, ReceiveFault>
     ensures { (s : SoFar) → Says (alone told) result s }
 {
     match told {
-        Told::Done => Ok(Some(Answer::Reply(Reply::Done))),
-        Told::Refused(refusal) => Ok(Some(Answer::Reply(Reply::Refused(refusal)))),
-        Told::BadFrame(reason) => Ok(Some(Answer::BadFrame(reason))),
-        Told::Opened(number) => Ok(Some(Answer::Reply(Reply::Opened(number)))),
-        Told::Counted(counts) => Ok(Some(Answer::Reply(Reply::Counted(counts)))),
-        Told::Rights(rights) => Ok(Some(Answer::Reply(Reply::Rights(rights)))),
+        ReplyFrame::Done => Ok(Some(Answer::Reply(Reply::Done))),
+        ReplyFrame::Refused(refusal) => Ok(Some(Answer::Reply(Reply::Refused(refusal)))),
+        ReplyFrame::BadFrame(reason) => Ok(Some(Answer::BadFrame(reason))),
+        ReplyFrame::Opened(number) => Ok(Some(Answer::Reply(Reply::Opened(number)))),
+        ReplyFrame::Counted(counts) => Ok(Some(Answer::Reply(Reply::Counted(counts)))),
+        ReplyFrame::Rights(rights) => Ok(Some(Answer::Reply(Reply::Rights(rights)))),
         _ => Err(ReceiveFault::Bad),
     }
 }

@@ -9,14 +9,14 @@ use crate::answer::{Answer, Listed};
 use crate::frame::{FrameBuffer, MAX_FRAME, Taken};
 use crate::gathering::Gathering;
 use crate::numbers::put_field;
+use crate::reply_frame::{ReplyFrame, read_told};
 use crate::sending::put_request;
-use crate::told::{Told, read_told};
-use crate::unread::Unread;
 use crate::value::{Value, put_frame};
 use std::alloc::{AllocError, AllocFailed, Global};
 use tab_history::Reply;
 use tab_io::{Input, Output, ReadFault, WriteFault};
 use tab_key::Name;
+use tab_text::ParseError;
 
 /// Why a request wasn't sent.
 #[derive(Clone, Copy, Debug, PartialEq, Eq, thiserror::Error)]
@@ -85,15 +85,15 @@ impl<T: Drop> From<AllocFailed<T>> for ReceiveFault {
     }
 }
 
-impl From<Unread> for ReceiveFault {
+impl From<ParseError> for ReceiveFault {
     ghost use Rattle.std.specs.Prelude.{⊤};
 
     ghost from_gives = { λ _ _. ⊤ };
 
-    fn from(why: Unread) -> ReceiveFault {
+    fn from(why: ParseError) -> ReceiveFault {
         match why {
-            Unread::Field => ReceiveFault::Bad,
-            Unread::NoMemory => ReceiveFault::NoMemory,
+            ParseError::Malformed => ReceiveFault::Bad,
+            ParseError::NoMemory => ReceiveFault::NoMemory,
         }
     }
 }
@@ -190,7 +190,7 @@ impl Client {
     // Receives the reply to Hello, which is never refused.
     fn hear<R: Input>(&mut self, alloc: Global, reader: &mut R) -> Result<(), ReceiveFault> {
         match self.next_told(alloc, reader)? {
-            Told::Done => {
+            ReplyFrame::Done => {
                 self.heard = true;
                 Ok(())
             }
@@ -211,7 +211,11 @@ impl Client {
     }
 
     // Receives one frame.
-    fn next_told<R: Input>(&mut self, alloc: Global, reader: &mut R) -> Result<Told, ReceiveFault> {
+    fn next_told<R: Input>(
+        &mut self,
+        alloc: Global,
+        reader: &mut R,
+    ) -> Result<ReplyFrame, ReceiveFault> {
         match self.frame.take(reader)? {
             Taken::Frame => Ok(read_told(alloc, self.frame.bytes())?),
             Taken::End => Err(ReceiveFault::Ended),

@@ -2,20 +2,21 @@
 ghost use Rattle.std.specs.Prelude.{◌≡◌, map};
 ghost use Rattle.tab_label.specs.Sets.{byte_lists, set_of};
 ghost use Rattle.tab_parts.specs.Reading.{u32_at, parts_at, counted_at, list_at};
-ghost use Rattle.tab_wire.specs.Gives.{Gives, bytes_left};
+ghost use Rattle.tab_text.specs.Gives.{Gives};
+ghost use Rattle.tab_wire.specs.Gives.{bytes_left};
 ghost use Rattle.tab_wire.specs.FrameReading.{columns_at, ranges_at};
 ghost use Rattle.tab_wire.specs.Tells.{violations_at};
 
 use crate::fields::{Fields, a_field, a_number};
 use crate::parts::{a_column, a_range};
-use crate::told::a_violation;
-use crate::unread::Unread;
+use crate::reply_frame::a_violation;
 use std::alloc::Global;
 use tab_key::{Bounds, Column, Items};
 use tab_rules::Violation;
+use tab_text::ParseError;
 
 /// What can stand behind a count.
-pub trait Part: Drop {
+pub trait Countable: Drop {
     ghost use Rattle.std.specs.Prelude.{ℕ, List, Option};
     ghost use Rattle.tab_parts.specs.Reading.{Reader};
 
@@ -28,11 +29,11 @@ pub trait Part: Drop {
     ghost reads: { Reader Meaning };
 
     /// Takes one part.
-    fn take(alloc: Global, fields: &mut Fields) -> Result<Self, Unread>
+    fn take(alloc: Global, fields: &mut Fields) -> Result<Self, ParseError>
         ensures { Gives (λ x. (meaning_of x, bytes_left fields.new)) result (reads (bytes_left fields.old)) };
 }
 
-impl Part for Vec<u8> {
+impl Countable for Vec<u8> {
     ghost use Rattle.std.specs.Prelude.{ℕ, List};
     ghost use Rattle.tab_parts.specs.Reading.{field_at};
 
@@ -42,13 +43,13 @@ impl Part for Vec<u8> {
 
     ghost reads = { field_at };
 
-    fn take(alloc: Global, fields: &mut Fields) -> Result<Vec<u8>, Unread> {
+    fn take(alloc: Global, fields: &mut Fields) -> Result<Vec<u8>, ParseError> {
         let text = a_field(fields)?;
         Ok(Vec::from_slice(alloc, text)?)
     }
 }
 
-impl Part for Column {
+impl Countable for Column {
     ghost use Rattle.tab_key.specs.declared.column.Column.{Column as Named};
     ghost use Rattle.tab_wire.specs.FrameReading.{column_at};
 
@@ -58,12 +59,12 @@ impl Part for Column {
 
     ghost reads = { column_at };
 
-    fn take(alloc: Global, fields: &mut Fields) -> Result<Column, Unread> {
+    fn take(alloc: Global, fields: &mut Fields) -> Result<Column, ParseError> {
         a_column(alloc, fields)
     }
 }
 
-impl Part for Bounds {
+impl Countable for Bounds {
     ghost use Rattle.tab_key.specs.declared.range.Bounds.{Bounds as Ends};
     ghost use Rattle.tab_parts.specs.Reading.{bounds_at};
 
@@ -73,12 +74,12 @@ impl Part for Bounds {
 
     ghost reads = { bounds_at };
 
-    fn take(alloc: Global, fields: &mut Fields) -> Result<Bounds, Unread> {
+    fn take(alloc: Global, fields: &mut Fields) -> Result<Bounds, ParseError> {
         a_range(alloc, fields)
     }
 }
 
-impl Part for Violation {
+impl Countable for Violation {
     ghost use Rattle.tab_rules.specs.declared.violation.Violation.{Violation as Failing};
     ghost use Rattle.tab_wire.specs.Tells.{violation_at};
 
@@ -88,13 +89,13 @@ impl Part for Violation {
 
     ghost reads = { violation_at };
 
-    fn take(_alloc: Global, fields: &mut Fields) -> Result<Violation, Unread> {
+    fn take(_alloc: Global, fields: &mut Fields) -> Result<Violation, ParseError> {
         a_violation(fields)
     }
 }
 
 // Takes that many parts.
-fn parts<T: Part>(alloc: Global, count: u32, fields: &mut Fields) -> Result<Vec<T>, Unread>
+fn parts<T: Countable>(alloc: Global, count: u32, fields: &mut Fields) -> Result<Vec<T>, ParseError>
     ensures { Gives (λ x. (map T.meaning_of x.items, bytes_left fields.new)) result (parts_at T.reads count (bytes_left fields.old)) }
 {
     let mut parts = Vec::new(alloc);
@@ -105,19 +106,23 @@ fn parts<T: Part>(alloc: Global, count: u32, fields: &mut Fields) -> Result<Vec<
 }
 
 // Takes a count, and that many parts of at least so many bytes each. A count that the rest can't hold takes no memory.
-fn counted<T: Part>(alloc: Global, least: u8, fields: &mut Fields) -> Result<Vec<T>, Unread>
+fn counted<T: Countable>(
+    alloc: Global,
+    least: u8,
+    fields: &mut Fields,
+) -> Result<Vec<T>, ParseError>
     ensures { Gives (λ x. (map T.meaning_of x.items, bytes_left fields.new)) result (counted_at u32_at least T.reads (bytes_left fields.old)) }
 {
     let count = a_number(fields)?;
     if fields.rest.len() < count as usize * least as usize {
-        return Err(Unread::Field);
+        return Err(ParseError::Malformed);
     }
     parts(alloc, count, fields)
 }
 
 /// Takes a list of byte strings.
 #[tactic(auto, unfolding(tab_parts::specs::Reading::list_at))]
-pub fn a_list(alloc: Global, fields: &mut Fields) -> Result<Vec<Vec<u8>>, Unread>
+pub fn a_list(alloc: Global, fields: &mut Fields) -> Result<Vec<Vec<u8>>, ParseError>
     ensures { Gives (λ x. (byte_lists x.items, bytes_left fields.new)) result (list_at (bytes_left fields.old)) }
 {
     counted(alloc, 4, fields)
@@ -125,7 +130,7 @@ pub fn a_list(alloc: Global, fields: &mut Fields) -> Result<Vec<Vec<u8>>, Unread
 
 // Takes a count of columns, and that many of them.
 #[tactic(auto, unfolding(crate::specs::FrameReading::columns_at), using(crate::proofs::Seen::seen_whole))]
-fn columns(alloc: Global, fields: &mut Fields) -> Result<Vec<Column>, Unread>
+fn columns(alloc: Global, fields: &mut Fields) -> Result<Vec<Column>, ParseError>
     ensures { Gives (λ x. (x.items, bytes_left fields.new)) result (columns_at (bytes_left fields.old)) }
 {
     counted(alloc, 5, fields)
@@ -133,7 +138,7 @@ fn columns(alloc: Global, fields: &mut Fields) -> Result<Vec<Column>, Unread>
 
 // Takes a count of ranges, and that many of them.
 #[tactic(auto, unfolding(crate::specs::FrameReading::ranges_at), using(crate::proofs::Seen::seen_whole))]
-fn ranges(alloc: Global, fields: &mut Fields) -> Result<Vec<Bounds>, Unread>
+fn ranges(alloc: Global, fields: &mut Fields) -> Result<Vec<Bounds>, ParseError>
     ensures { Gives (λ x. (x.items, bytes_left fields.new)) result (ranges_at (bytes_left fields.old)) }
 {
     counted(alloc, 2, fields)
@@ -141,28 +146,28 @@ fn ranges(alloc: Global, fields: &mut Fields) -> Result<Vec<Bounds>, Unread>
 
 // Takes a count of what fails, and that much of it.
 #[tactic(auto, unfolding(crate::specs::Tells::violations_at), using(crate::proofs::Seen::seen_whole))]
-fn violations(alloc: Global, fields: &mut Fields) -> Result<Vec<Violation>, Unread>
+fn violations(alloc: Global, fields: &mut Fields) -> Result<Vec<Violation>, ParseError>
     ensures { Gives (λ x. (x.items, bytes_left fields.new)) result (violations_at (bytes_left fields.old)) }
 {
     counted(alloc, 6, fields)
 }
 
 /// Takes a list of columns.
-pub fn some_columns(alloc: Global, fields: &mut Fields) -> Result<Items<Column>, Unread>
+pub fn some_columns(alloc: Global, fields: &mut Fields) -> Result<Items<Column>, ParseError>
     ensures { Gives (λ x. (x, bytes_left fields.new)) result (columns_at (bytes_left fields.old)) }
 {
     Ok(Items::from_vec(columns(alloc, fields)?))
 }
 
 /// Takes a list of ranges.
-pub fn some_ranges(alloc: Global, fields: &mut Fields) -> Result<Items<Bounds>, Unread>
+pub fn some_ranges(alloc: Global, fields: &mut Fields) -> Result<Items<Bounds>, ParseError>
     ensures { Gives (λ x. (x, bytes_left fields.new)) result (ranges_at (bytes_left fields.old)) }
 {
     Ok(Items::from_vec(ranges(alloc, fields)?))
 }
 
 /// Takes a list of what fails.
-pub fn some_violations(alloc: Global, fields: &mut Fields) -> Result<Items<Violation>, Unread>
+pub fn some_violations(alloc: Global, fields: &mut Fields) -> Result<Items<Violation>, ParseError>
     ensures { Gives (λ x. (x, bytes_left fields.new)) result (violations_at (bytes_left fields.old)) }
 {
     Ok(Items::from_vec(violations(alloc, fields)?))

@@ -1,11 +1,12 @@
 //! The fields of a frame, one after another: numbers, byte strings and names.
 ghost use Rattle.std.specs.Prelude.{◌≡◌};
-ghost use Rattle.tab_wire.specs.Gives.{Gives, bytes_left};
+ghost use Rattle.tab_text.specs.Gives.{Gives};
+ghost use Rattle.tab_wire.specs.Gives.{bytes_left};
 ghost use Rattle.tab_parts.specs.Reading.{u8_at, u32_at, u64_at, i64_at, field_at, name_at, only_if, is_name};
 
-use crate::unread::Unread;
 use std::alloc::Global;
 use tab_key::{ByteString, Name};
+use tab_text::ParseError;
 
 /// The bytes of a frame that are left.
 #[derive(Drop)]
@@ -23,11 +24,11 @@ impl<'a> Fields<'a> {
 }
 
 /// Takes one byte.
-pub fn a_byte(fields: &mut Fields) -> Result<u8, Unread>
+pub fn a_byte(fields: &mut Fields) -> Result<u8, ParseError>
     ensures { Gives (λ x. (x, bytes_left fields.new)) result (u8_at (bytes_left fields.old)) }
 {
     match fields.rest {
-        [] => Err(Unread::Field),
+        [] => Err(ParseError::Malformed),
         [first, rest @ ..] => {
             fields.rest = rest;
             Ok(*first)
@@ -37,12 +38,12 @@ pub fn a_byte(fields: &mut Fields) -> Result<u8, Unread>
 
 /// Takes a number of four bytes.
 #[tactic(auto, unfolding(tab_parts::specs::Reading::u32_at))]
-pub fn a_number(fields: &mut Fields) -> Result<u32, Unread>
+pub fn a_number(fields: &mut Fields) -> Result<u32, ParseError>
     ensures { Gives (λ x. (x, bytes_left fields.new)) result (u32_at (bytes_left fields.old)) }
 {
     let bytes = fields.rest;
     if bytes.len() < 4 {
-        return Err(Unread::Field);
+        return Err(ParseError::Malformed);
     }
     let (front, rest) = bytes.split_at(4);
     fields.rest = rest;
@@ -51,12 +52,12 @@ pub fn a_number(fields: &mut Fields) -> Result<u32, Unread>
 
 /// Takes eight bytes as a number without a sign.
 #[tactic(auto, unfolding(tab_parts::specs::Reading::u64_at))]
-pub fn a_long_number(fields: &mut Fields) -> Result<u64, Unread>
+pub fn a_long_number(fields: &mut Fields) -> Result<u64, ParseError>
     ensures { Gives (λ x. (x, bytes_left fields.new)) result (u64_at (bytes_left fields.old)) }
 {
     let bytes = fields.rest;
     if bytes.len() < 8 {
-        return Err(Unread::Field);
+        return Err(ParseError::Malformed);
     }
     let (front, rest) = bytes.split_at(8);
     fields.rest = rest;
@@ -67,7 +68,7 @@ pub fn a_long_number(fields: &mut Fields) -> Result<u64, Unread>
 
 /// Takes a signed number of eight bytes.
 #[tactic(auto, unfolding(tab_parts::specs::Reading::i64_at))]
-pub fn a_signed_number(fields: &mut Fields) -> Result<i64, Unread>
+pub fn a_signed_number(fields: &mut Fields) -> Result<i64, ParseError>
     ensures { Gives (λ x. (x, bytes_left fields.new)) result (i64_at (bytes_left fields.old)) }
 {
     let number = a_long_number(fields)?;
@@ -76,13 +77,13 @@ pub fn a_signed_number(fields: &mut Fields) -> Result<i64, Unread>
 
 /// Takes a field, and copies nothing.
 #[tactic(auto, unfolding(tab_parts::specs::Reading::field_at))]
-pub fn a_field<'a>(fields: &mut Fields<'a>) -> Result<&'a [u8], Unread>
+pub fn a_field<'a>(fields: &mut Fields<'a>) -> Result<&'a [u8], ParseError>
     ensures { Gives (λ x. (x.now, bytes_left fields.new)) result (field_at (bytes_left fields.old)) }
 {
     let len = a_number(fields)? as usize;
     let bytes = fields.rest;
     if bytes.len() < len {
-        return Err(Unread::Field);
+        return Err(ParseError::Malformed);
     }
     let (text, rest) = bytes.split_at(len);
     fields.rest = rest;
@@ -90,7 +91,7 @@ pub fn a_field<'a>(fields: &mut Fields<'a>) -> Result<&'a [u8], Unread>
 }
 
 /// Takes a field, as a string of its own.
-pub fn a_byte_string(alloc: Global, fields: &mut Fields) -> Result<ByteString, Unread>
+pub fn a_byte_string(alloc: Global, fields: &mut Fields) -> Result<ByteString, ParseError>
     ensures { Gives (λ x. (x, bytes_left fields.new)) result (field_at (bytes_left fields.old)) }
 {
     let text = a_field(fields)?;
@@ -107,12 +108,12 @@ fn checked_name(bytes: &[u8]) -> Option<Name>
 
 /// Takes a name.
 #[tactic(auto, unfolding(tab_parts::specs::Reading::name_at))]
-pub fn a_name(fields: &mut Fields) -> Result<Name, Unread>
+pub fn a_name(fields: &mut Fields) -> Result<Name, ParseError>
     ensures { Gives (λ x. (x, bytes_left fields.new)) result (name_at (bytes_left fields.old)) }
 {
     let text = a_field(fields)?;
     let Some(name) = checked_name(text) else {
-        return Err(Unread::Field);
+        return Err(ParseError::Malformed);
     };
     Ok(name)
 }

@@ -44,14 +44,14 @@
 //! | File | What |
 //! |---|---|
 //! | `request`, `reason`, `opcode` | what a frame asks, why one asks nothing, and its first byte |
-//! | `fields`, `parts`, `counted`, `updates`, `unread` | one field after another, and why one wasn't read |
+//! | `fields`, `parts`, `counted`, `updates` | one field after another, and why one wasn't read |
 //! | `read` | what a frame asks: `read_request` |
 //! | `numbers`, `value`, `bits` | what a frame is put of |
 //! | `refusal`, `reply`, `cell_frame` | the frames of refusals and replies, and of a cell: `write_reply` |
 //! | `head`, `frame` | one frame after another, taken of a stream into memory that is used again |
 //! | `conn`, `asked` | the server's side of a connection: what is asked next, and what it is told |
 //! | `asking`, `sending`, `gathering` | the bytes of requests, of parts that are lent, gathered as a client sends them |
-//! | `told`, `answer` | what one frame of a reply tells, and what all frames of one do |
+//! | `reply_frame`, `answer` | what one frame of a reply tells, and what all frames of one do |
 //! | `client` | the client's side of a connection: `Client` |
 //! | `laws` | reading is exactly the forms, the first reason is told, refusals are read as they are written, a stream is split in one way, a connection makes a legal history |
 //!
@@ -84,10 +84,9 @@ mod read;
 mod reason;
 mod refusal;
 mod reply;
+mod reply_frame;
 mod request;
 mod sending;
-mod told;
-mod unread;
 mod updates;
 mod value;
 

@@ -4,20 +4,21 @@ ghost use Rattle.tab_rules.specs.Constraints.{constraint_number};
 ghost use Rattle.tab_history.specs.Settings.{is_version_count};
 ghost use Rattle.tab_parts.specs.Parts.{has_bit, constraints_in};
 ghost use Rattle.tab_parts.specs.Reading.{bound_at, bounds_at, time_at, versions_at, constraints_at, picked, only_if, u8_at, and_then, name_at};
-ghost use Rattle.tab_wire.specs.Gives.{Gives, bytes_left};
+ghost use Rattle.tab_text.specs.Gives.{Gives};
+ghost use Rattle.tab_wire.specs.Gives.{bytes_left};
 ghost use Rattle.tab_wire.specs.FrameReading.{column_at, permission_at, system_permission, table_permission, extent_at};
 
 use crate::fields::{Fields, a_byte, a_byte_string, a_name, a_number};
-use crate::unread::Unread;
 use std::alloc::{AllocError, Global};
 use tab_history::{Extent, TimeMode, Versions};
 use tab_key::{Bound, Bounds, Column};
 use tab_policy::{Permission, SystemPermission, TablePermission};
 use tab_rules::{Constraint, ConstraintSet};
+use tab_text::ParseError;
 
 /// Takes an end of a range.
 #[tactic(auto, unfolding(tab_parts::specs::Reading::bound_at))]
-pub fn a_bound(alloc: Global, fields: &mut Fields) -> Result<Bound, Unread>
+pub fn a_bound(alloc: Global, fields: &mut Fields) -> Result<Bound, ParseError>
     ensures { Gives (λ x. (x, bytes_left fields.new)) result (bound_at (bytes_left fields.old)) }
 {
     let flag = a_byte(fields)?;
@@ -28,13 +29,13 @@ pub fn a_bound(alloc: Global, fields: &mut Fields) -> Result<Bound, Unread>
     } else if flag == 2 {
         Ok(Bound::Exclusive(a_byte_string(alloc, fields)?))
     } else {
-        Err(Unread::Field)
+        Err(ParseError::Malformed)
     }
 }
 
 /// Takes the two ends of a range.
 #[tactic(auto, unfolding(tab_parts::specs::Reading::bounds_at))]
-pub fn a_range(alloc: Global, fields: &mut Fields) -> Result<Bounds, Unread>
+pub fn a_range(alloc: Global, fields: &mut Fields) -> Result<Bounds, ParseError>
     ensures { Gives (λ x. (x, bytes_left fields.new)) result (bounds_at (bytes_left fields.old)) }
 {
     let low = a_bound(alloc, fields)?;
@@ -44,7 +45,7 @@ pub fn a_range(alloc: Global, fields: &mut Fields) -> Result<Bounds, Unread>
 
 /// Takes a column.
 #[tactic(auto, unfolding(crate::specs::FrameReading::column_at))]
-pub fn a_column(alloc: Global, fields: &mut Fields) -> Result<Column, Unread>
+pub fn a_column(alloc: Global, fields: &mut Fields) -> Result<Column, ParseError>
     ensures { Gives (λ x. (x, bytes_left fields.new)) result (column_at (bytes_left fields.old)) }
 {
     let family = a_byte_string(alloc, fields)?;
@@ -54,36 +55,36 @@ pub fn a_column(alloc: Global, fields: &mut Fields) -> Result<Column, Unread>
     } else if flag == 1 {
         Ok(Column::Qualified(family, a_byte_string(alloc, fields)?))
     } else {
-        Err(Unread::Field)
+        Err(ParseError::Malformed)
     }
 }
 
 // Takes the place of a system permission.
-fn a_system_permission(fields: &mut Fields) -> Result<Permission, Unread>
+fn a_system_permission(fields: &mut Fields) -> Result<Permission, ParseError>
     ensures { Gives (λ x. (x, bytes_left fields.new)) result (picked system_permission u8_at (bytes_left fields.old)) }
 {
     let place = a_byte(fields)?;
     match SystemPermission::ALL.get(place as usize).copied() {
         Some(permission) => Ok(Permission::OfSystem(permission)),
-        None => Err(Unread::Field),
+        None => Err(ParseError::Malformed),
     }
 }
 
 // Takes the place of a table permission, and the table.
-fn a_table_permission(fields: &mut Fields) -> Result<Permission, Unread>
+fn a_table_permission(fields: &mut Fields) -> Result<Permission, ParseError>
     ensures { Gives (λ x. (x, bytes_left fields.new)) result (and_then u8_at (λ place. picked (table_permission place) name_at) (bytes_left fields.old)) }
 {
     let place = a_byte(fields)?;
     let table = a_name(fields)?;
     match TablePermission::ALL.get(place as usize).copied() {
         Some(permission) => Ok(Permission::OfTable(permission, table)),
-        None => Err(Unread::Field),
+        None => Err(ParseError::Malformed),
     }
 }
 
 /// Takes a permission.
 #[tactic(auto, unfolding(crate::specs::FrameReading::permission_at))]
-pub fn a_permission(fields: &mut Fields) -> Result<Permission, Unread>
+pub fn a_permission(fields: &mut Fields) -> Result<Permission, ParseError>
     ensures { Gives (λ x. (x, bytes_left fields.new)) result (permission_at (bytes_left fields.old)) }
 {
     let flag = a_byte(fields)?;
@@ -92,13 +93,13 @@ pub fn a_permission(fields: &mut Fields) -> Result<Permission, Unread>
     } else if flag == 1 {
         a_table_permission(fields)
     } else {
-        Err(Unread::Field)
+        Err(ParseError::Malformed)
     }
 }
 
 /// Takes the byte that says who gives the timestamps.
 #[tactic(auto, unfolding(tab_parts::specs::Reading::time_at))]
-pub fn a_time(fields: &mut Fields) -> Result<TimeMode, Unread>
+pub fn a_time(fields: &mut Fields) -> Result<TimeMode, ParseError>
     ensures { Gives (λ x. (x, bytes_left fields.new)) result (time_at (bytes_left fields.old)) }
 {
     let flag = a_byte(fields)?;
@@ -107,7 +108,7 @@ pub fn a_time(fields: &mut Fields) -> Result<TimeMode, Unread>
     } else if flag == 1 {
         Ok(TimeMode::Server)
     } else {
-        Err(Unread::Field)
+        Err(ParseError::Malformed)
     }
 }
 
@@ -120,12 +121,12 @@ fn checked_versions(count: u32) -> Option<Versions>
 
 /// Takes a number of versions.
 #[tactic(auto, unfolding(tab_parts::specs::Reading::versions_at))]
-pub fn a_version_count(fields: &mut Fields) -> Result<Versions, Unread>
+pub fn a_version_count(fields: &mut Fields) -> Result<Versions, ParseError>
     ensures { Gives (λ x. (x, bytes_left fields.new)) result (versions_at (bytes_left fields.old)) }
 {
     let count = a_number(fields)?;
     let Some(versions) = checked_versions(count) else {
-        return Err(Unread::Field);
+        return Err(ParseError::Malformed);
     };
     Ok(versions)
 }
@@ -165,20 +166,20 @@ fn constraint_set(alloc: Global, bits: u8) -> Result<ConstraintSet, AllocError>
 
 /// Takes a byte of constraints.
 #[tactic(auto, unfolding(tab_parts::specs::Reading::constraints_at))]
-pub fn a_constraint_set(alloc: Global, fields: &mut Fields) -> Result<ConstraintSet, Unread>
+pub fn a_constraint_set(alloc: Global, fields: &mut Fields) -> Result<ConstraintSet, ParseError>
     ensures { Gives (λ x. (x, bytes_left fields.new)) result (constraints_at (bytes_left fields.old)) }
 {
     let bits = a_byte(fields)?;
     if bits < 16 {
         Ok(constraint_set(alloc, bits)?)
     } else {
-        Err(Unread::Field)
+        Err(ParseError::Malformed)
     }
 }
 
 /// Takes the byte that says what a compaction merges.
 #[tactic(auto, unfolding(crate::specs::FrameReading::extent_at))]
-pub fn an_extent(fields: &mut Fields) -> Result<Extent, Unread>
+pub fn an_extent(fields: &mut Fields) -> Result<Extent, ParseError>
     ensures { Gives (λ x. (x, bytes_left fields.new)) result (extent_at (bytes_left fields.old)) }
 {
     let flag = a_byte(fields)?;
@@ -187,6 +188,6 @@ pub fn an_extent(fields: &mut Fields) -> Result<Extent, Unread>
     } else if flag == 1 {
         Ok(Extent::Full)
     } else {
-        Err(Unread::Field)
+        Err(ParseError::Malformed)
     }
 }

@@ -1,18 +1,19 @@
 //! What a frame asks.
 ghost use Rattle.std.specs.Prelude.{Some};
 ghost use Rattle.tab_parts.specs.Reading.{whole};
-ghost use Rattle.tab_wire.specs.Gives.{Gives, Asks, bytes_left};
+ghost use Rattle.tab_text.specs.Gives.{Gives};
+ghost use Rattle.tab_wire.specs.Gives.{Asks, bytes_left};
 ghost use Rattle.tab_wire.specs.Requests.{create_table_at, set_auths_at, grant_at, revoke_at, set_constraints_at, write_at, open_at, next_at, many_at, close_at, compact_at, add_split_at, set_versions_at, set_horizon_at, fields_at, or_field, request_of};
 
 use crate::counted::{a_list, some_columns, some_ranges};
 use crate::fields::{Fields, a_byte_string, a_name, a_number, a_signed_number};
 use crate::parts::{a_constraint_set, a_permission, a_range, a_time, a_version_count, an_extent};
-use crate::unread::Unread;
 use crate::updates::a_mutation;
 use crate::{Opcode, Reason, Request};
 use std::alloc::Global;
 use tab_history::{Act, Scan};
 use tab_label::AuthSet;
+use tab_text::ParseError;
 
 /// Why no request was read of a frame.
 #[derive(Clone, Copy, Debug, PartialEq, Eq)]
@@ -25,7 +26,7 @@ pub enum Stop {
 
 // Each of these takes the fields of one opcode.
 #[tactic(auto, unfolding(crate::specs::Requests::create_table_at))]
-fn create_table(fields: &mut Fields) -> Result<Request, Unread>
+fn create_table(fields: &mut Fields) -> Result<Request, ParseError>
     ensures { Gives (λ x. (x, bytes_left fields.new)) result (create_table_at (bytes_left fields.old)) }
 {
     let table = a_name(fields)?;
@@ -35,7 +36,7 @@ fn create_table(fields: &mut Fields) -> Result<Request, Unread>
 }
 
 #[tactic(auto, unfolding(crate::specs::Requests::set_auths_at))]
-fn set_auths(alloc: Global, fields: &mut Fields) -> Result<Request, Unread>
+fn set_auths(alloc: Global, fields: &mut Fields) -> Result<Request, ParseError>
     ensures { Gives (λ x. (x, bytes_left fields.new)) result (set_auths_at (bytes_left fields.old)) }
 {
     let user = a_name(fields)?;
@@ -44,7 +45,7 @@ fn set_auths(alloc: Global, fields: &mut Fields) -> Result<Request, Unread>
 }
 
 #[tactic(auto, unfolding(crate::specs::Requests::grant_at))]
-fn grant(fields: &mut Fields) -> Result<Request, Unread>
+fn grant(fields: &mut Fields) -> Result<Request, ParseError>
     ensures { Gives (λ x. (x, bytes_left fields.new)) result (grant_at (bytes_left fields.old)) }
 {
     let user = a_name(fields)?;
@@ -53,7 +54,7 @@ fn grant(fields: &mut Fields) -> Result<Request, Unread>
 }
 
 #[tactic(auto, unfolding(crate::specs::Requests::revoke_at))]
-fn revoke(fields: &mut Fields) -> Result<Request, Unread>
+fn revoke(fields: &mut Fields) -> Result<Request, ParseError>
     ensures { Gives (λ x. (x, bytes_left fields.new)) result (revoke_at (bytes_left fields.old)) }
 {
     let user = a_name(fields)?;
@@ -62,7 +63,7 @@ fn revoke(fields: &mut Fields) -> Result<Request, Unread>
 }
 
 #[tactic(auto, unfolding(crate::specs::Requests::set_constraints_at))]
-fn set_constraints(alloc: Global, fields: &mut Fields) -> Result<Request, Unread>
+fn set_constraints(alloc: Global, fields: &mut Fields) -> Result<Request, ParseError>
     ensures { Gives (λ x. (x, bytes_left fields.new)) result (set_constraints_at (bytes_left fields.old)) }
 {
     let table = a_name(fields)?;
@@ -71,7 +72,7 @@ fn set_constraints(alloc: Global, fields: &mut Fields) -> Result<Request, Unread
 }
 
 #[tactic(auto, unfolding(crate::specs::Requests::write_at))]
-fn write(alloc: Global, fields: &mut Fields) -> Result<Request, Unread>
+fn write(alloc: Global, fields: &mut Fields) -> Result<Request, ParseError>
     ensures { Gives (λ x. (x, bytes_left fields.new)) result (write_at (bytes_left fields.old)) }
 {
     let table = a_name(fields)?;
@@ -80,7 +81,7 @@ fn write(alloc: Global, fields: &mut Fields) -> Result<Request, Unread>
 }
 
 #[tactic(auto, unfolding(crate::specs::Requests::open_at))]
-fn open_scan(alloc: Global, fields: &mut Fields) -> Result<Request, Unread>
+fn open_scan(alloc: Global, fields: &mut Fields) -> Result<Request, ParseError>
     ensures { Gives (λ x. (x, bytes_left fields.new)) result (open_at (bytes_left fields.old)) }
 {
     let table = a_name(fields)?;
@@ -97,7 +98,7 @@ fn open_scan(alloc: Global, fields: &mut Fields) -> Result<Request, Unread>
 }
 
 #[tactic(auto, unfolding(crate::specs::Requests::next_at))]
-fn next(fields: &mut Fields) -> Result<Request, Unread>
+fn next(fields: &mut Fields) -> Result<Request, ParseError>
     ensures { Gives (λ x. (x, bytes_left fields.new)) result (next_at (bytes_left fields.old)) }
 {
     let slot = a_number(fields)?;
@@ -106,7 +107,7 @@ fn next(fields: &mut Fields) -> Result<Request, Unread>
 }
 
 #[tactic(auto, unfolding(crate::specs::Requests::many_at))]
-fn many(alloc: Global, fields: &mut Fields) -> Result<Request, Unread>
+fn many(alloc: Global, fields: &mut Fields) -> Result<Request, ParseError>
     ensures { Gives (λ x. (x, bytes_left fields.new)) result (many_at (bytes_left fields.old)) }
 {
     let slot = a_number(fields)?;
@@ -115,7 +116,7 @@ fn many(alloc: Global, fields: &mut Fields) -> Result<Request, Unread>
 }
 
 #[tactic(auto, unfolding(crate::specs::Requests::close_at))]
-fn close(fields: &mut Fields) -> Result<Request, Unread>
+fn close(fields: &mut Fields) -> Result<Request, ParseError>
     ensures { Gives (λ x. (x, bytes_left fields.new)) result (close_at (bytes_left fields.old)) }
 {
     let slot = a_number(fields)?;
@@ -123,7 +124,7 @@ fn close(fields: &mut Fields) -> Result<Request, Unread>
 }
 
 #[tactic(auto, unfolding(crate::specs::Requests::compact_at))]
-fn compact(fields: &mut Fields) -> Result<Request, Unread>
+fn compact(fields: &mut Fields) -> Result<Request, ParseError>
     ensures { Gives (λ x. (x, bytes_left fields.new)) result (compact_at (bytes_left fields.old)) }
 {
     let table = a_name(fields)?;
@@ -132,7 +133,7 @@ fn compact(fields: &mut Fields) -> Result<Request, Unread>
 }
 
 #[tactic(auto, unfolding(crate::specs::Requests::add_split_at))]
-fn add_split(alloc: Global, fields: &mut Fields) -> Result<Request, Unread>
+fn add_split(alloc: Global, fields: &mut Fields) -> Result<Request, ParseError>
     ensures { Gives (λ x. (x, bytes_left fields.new)) result (add_split_at (bytes_left fields.old)) }
 {
     let table = a_name(fields)?;
@@ -141,7 +142,7 @@ fn add_split(alloc: Global, fields: &mut Fields) -> Result<Request, Unread>
 }
 
 #[tactic(auto, unfolding(crate::specs::Requests::set_versions_at))]
-fn set_versions(fields: &mut Fields) -> Result<Request, Unread>
+fn set_versions(fields: &mut Fields) -> Result<Request, ParseError>
     ensures { Gives (λ x. (x, bytes_left fields.new)) result (set_versions_at (bytes_left fields.old)) }
 {
     let table = a_name(fields)?;
@@ -150,7 +151,7 @@ fn set_versions(fields: &mut Fields) -> Result<Request, Unread>
 }
 
 #[tactic(auto, unfolding(crate::specs::Requests::set_horizon_at))]
-fn set_horizon(fields: &mut Fields) -> Result<Request, Unread>
+fn set_horizon(fields: &mut Fields) -> Result<Request, ParseError>
     ensures { Gives (λ x. (x, bytes_left fields.new)) result (set_horizon_at (bytes_left fields.old)) }
 {
     let table = a_name(fields)?;
@@ -159,7 +160,7 @@ fn set_horizon(fields: &mut Fields) -> Result<Request, Unread>
 }
 
 // Takes the fields of the opcode.
-fn request(alloc: Global, opcode: Opcode, fields: &mut Fields) -> Result<Request, Unread>
+fn request(alloc: Global, opcode: Opcode, fields: &mut Fields) -> Result<Request, ParseError>
     ensures { Gives (λ x. (x, bytes_left fields.new)) result (fields_at opcode (bytes_left fields.old)) }
 {
     match opcode {
@@ -207,8 +208,8 @@ fn whole_request(alloc: Global, opcode: Opcode, bytes: &[u8]) -> Result<Request,
     let mut fields = Fields::of(bytes);
     match request(alloc, opcode, &mut fields) {
         Ok(request) => with_nothing_left(request, &fields),
-        Err(Unread::Field) => Err(Stop::Bad(Reason::Field)),
-        Err(Unread::NoMemory) => Err(Stop::NoMemory),
+        Err(ParseError::Malformed) => Err(Stop::Bad(Reason::Field)),
+        Err(ParseError::NoMemory) => Err(Stop::NoMemory),
     }
 }
 

@@ -13,7 +13,7 @@ use crate::numbers::low;
 use crate::value::{Value, put_frame};
 use tab_history::{Refusal, SplitFault};
 use tab_io::{Output, WriteFault};
-use tab_key::Part;
+use tab_key::LimitedPart;
 use tab_policy::{Permission, SystemPermission, TablePermission};
 use tab_rules::Violation;
 
@@ -249,21 +249,21 @@ pub fn table_place(permission: TablePermission) -> u8
     }
 }
 
-fn part_number(part: Part) -> u8
+fn part_number(part: LimitedPart) -> u8
     ensures { result ≡ part_number part }
 {
     match part {
-        Part::Updates => 1,
-        Part::Row => 2,
-        Part::Family => 3,
-        Part::Qualifier => 4,
-        Part::Label => 5,
-        Part::Value => 6,
-        Part::Columns => 7,
-        Part::Authorizations => 8,
-        Part::Ranges => 9,
-        Part::Sessions => 10,
-        Part::Numbers => 11,
+        LimitedPart::Updates => 1,
+        LimitedPart::Row => 2,
+        LimitedPart::Family => 3,
+        LimitedPart::Qualifier => 4,
+        LimitedPart::Label => 5,
+        LimitedPart::Value => 6,
+        LimitedPart::Columns => 7,
+        LimitedPart::Authorizations => 8,
+        LimitedPart::Ranges => 9,
+        LimitedPart::Sessions => 10,
+        LimitedPart::Numbers => 11,
     }
 }
 

@@ -1,19 +1,20 @@
 //! The updates of a mutation, read from a frame.
 ghost use Rattle.std.specs.Prelude.{◌≡◌};
 ghost use Rattle.tab_parts.specs.Reading.{kind_at, parts_at};
-ghost use Rattle.tab_wire.specs.Gives.{Gives, bytes_left};
+ghost use Rattle.tab_text.specs.Gives.{Gives};
+ghost use Rattle.tab_wire.specs.Gives.{bytes_left};
 ghost use Rattle.tab_wire.specs.FrameReading.{timestamp_at, update_at, updates_at, mutation_at};
 ghost use Rattle.tab_wire.specs.Updating.{updated, grown};
 
 use crate::fields::{Fields, a_byte, a_field, a_number, a_signed_number};
-use crate::unread::Unread;
 use std::alloc::Global;
 use tab_key::Kind;
 use tab_mutation::Mutation;
+use tab_text::ParseError;
 
 // Takes the byte of a kind.
 #[tactic(auto, unfolding(tab_parts::specs::Reading::kind_at))]
-fn a_kind(fields: &mut Fields) -> Result<Kind, Unread>
+fn a_kind(fields: &mut Fields) -> Result<Kind, ParseError>
     ensures { Gives (λ x. (x, bytes_left fields.new)) result (kind_at (bytes_left fields.old)) }
 {
     let flag = a_byte(fields)?;
@@ -22,13 +23,13 @@ fn a_kind(fields: &mut Fields) -> Result<Kind, Unread>
     } else if flag == 1 {
         Ok(Kind::Put)
     } else {
-        Err(Unread::Field)
+        Err(ParseError::Malformed)
     }
 }
 
 // Takes a timestamp that may be missing.
 #[tactic(auto, unfolding(crate::specs::FrameReading::timestamp_at))]
-fn a_timestamp(fields: &mut Fields) -> Result<Option<i64>, Unread>
+fn a_timestamp(fields: &mut Fields) -> Result<Option<i64>, ParseError>
     ensures { Gives (λ x. (x, bytes_left fields.new)) result (timestamp_at (bytes_left fields.old)) }
 {
     let flag = a_byte(fields)?;
@@ -37,13 +38,13 @@ fn a_timestamp(fields: &mut Fields) -> Result<Option<i64>, Unread>
     } else if flag == 1 {
         Ok(Some(a_signed_number(fields)?))
     } else {
-        Err(Unread::Field)
+        Err(ParseError::Malformed)
     }
 }
 
 // Takes an update, and adds it to the mutation.
 #[tactic(auto, unfolding(crate::specs::FrameReading::update_at))]
-fn add_update(fields: &mut Fields, mutation: &mut Mutation) -> Result<(), Unread>
+fn add_update(fields: &mut Fields, mutation: &mut Mutation) -> Result<(), ParseError>
     ensures { Gives (λ x. (mutation.new, bytes_left fields.new)) result (updated mutation.old (update_at (bytes_left fields.old))) }
 {
     let kind = a_kind(fields)?;
@@ -62,7 +63,7 @@ fn add_update(fields: &mut Fields, mutation: &mut Mutation) -> Result<(), Unread
 }
 
 // Takes that many updates, and adds them to the mutation.
-fn add_each(count: u32, fields: &mut Fields, mutation: &mut Mutation) -> Result<(), Unread>
+fn add_each(count: u32, fields: &mut Fields, mutation: &mut Mutation) -> Result<(), ParseError>
     ensures { Gives (λ x. (mutation.new, bytes_left fields.new)) result (grown mutation.old (parts_at update_at count (bytes_left fields.old))) }
 {
     for _ in 0..count {
@@ -76,19 +77,19 @@ fn add_each(count: u32, fields: &mut Fields, mutation: &mut Mutation) -> Result<
 
 // Takes a count, and that many updates. A count that the rest can't hold takes no memory.
 #[tactic(auto, unfolding(crate::specs::FrameReading::updates_at))]
-fn add_updates(fields: &mut Fields, mutation: &mut Mutation) -> Result<(), Unread>
+fn add_updates(fields: &mut Fields, mutation: &mut Mutation) -> Result<(), ParseError>
     ensures { Gives (λ x. (mutation.new, bytes_left fields.new)) result (grown mutation.old (updates_at (bytes_left fields.old))) }
 {
     let count = a_number(fields)?;
     if fields.rest.len() < count as usize * 14 {
-        return Err(Unread::Field);
+        return Err(ParseError::Malformed);
     }
     add_each(count, fields, mutation)
 }
 
 /// Takes a row and its updates.
 #[tactic(auto, unfolding(crate::specs::FrameReading::mutation_at))]
-pub fn a_mutation(alloc: Global, fields: &mut Fields) -> Result<Mutation, Unread>
+pub fn a_mutation(alloc: Global, fields: &mut Fields) -> Result<Mutation, ParseError>
     ensures { Gives (λ x. (x, bytes_left fields.new)) result (mutation_at (bytes_left fields.old)) }
 {
     let row = a_field(fields)?;

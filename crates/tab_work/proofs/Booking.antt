@@ -1,7 +1,7 @@
 -- What one request comes to over a shared book: an exchange of the connection, with the receipts that there are for it.
 use Rattle.std.proofs.Common.{◌≡◌, inl, inr, ℕ, ℤ, pos, Bool, true, false, cond, ◌&&◌, List, [], ◌∷◌, ◌++◌, map, length, Option, Some, None, refl, sym, ap, ◌∙◌, subst, append-nil}
 use Rattle.tab_key.specs.Records.{Cell}
-use Rattle.tab_key.specs.declared.part.Part.TheVariants.{Sessions}
+use Rattle.tab_key.specs.declared.limited_part.LimitedPart.TheVariants.{Sessions}
 use Rattle.tab_history.specs.declared.event.Act.{Act}
 use Rattle.tab_history.specs.declared.event.Event.{Event}
 use Rattle.tab_history.specs.declared.event.Step.TheVariants as step
@@ -14,7 +14,7 @@ use Rattle.tab_history.specs.Bases.{new_core}
 use Rattle.tab_core.specs.SessionState.{SessionState}
 use Rattle.tab_core.specs.OpenSession.{OpenSession}
 use Rattle.tab_core.specs.Parts.{TabletMerge}
-use Rattle.tab_core.specs.Stores.{Held}
+use Rattle.tab_core.specs.Stores.{CoreContents}
 use Rattle.tab_core.specs.Slots.{are_full, SlotsAre}
 use Rattle.tab_core.specs.Owners.{kept_with}
 use Rattle.tab_core.specs.Recording.{entry_of}
@@ -77,7 +77,7 @@ no_moment moves (heard.Broken reason) x after none_acts does = does.0.moments
 no_moment moves heard.NoMemory x after none_acts does = does.0.moments
 
 -- any core will do where none is asked
-pub bare : Held
+pub bare : CoreContents
 bare = record { clock = pos 0; next = 0; policy = new_core.policy; tables = []; tablet = 0; job = 0 }
 
 module _ {M : Type 0} (gives : M → ℤ → M → Type 0) (old new : Seated M) (slots slots' : List (Option SessionState)) (talk : Talk) (are : SlotsAre talk.moves slots) where

@@ -10,7 +10,7 @@ use Rattle.tab_history.specs.Bases.{Base}
 use Rattle.tab_history.specs.Histories.{Entry, world_of}
 use Rattle.tab_core.specs.OpenSession.{OpenSession}
 use Rattle.tab_core.specs.Parts.{TabletMerge}
-use Rattle.tab_core.specs.Stores.{Held}
+use Rattle.tab_core.specs.Stores.{CoreContents}
 use Rattle.tab_core.specs.Recording.{RefinesHistory, IsLegalFrom, ShowsAnswer, StepsOn, entry_of}
 use Rattle.tab_serve.proofs.Shut.{event_shut}
 use Rattle.tab_book.specs.Entries.{past, Place, Record}
@@ -21,7 +21,7 @@ use Rattle.tab_book.proofs.Handing.{session_held}
 use Rattle.tab_work.specs.Receiving.{HandsOut}
 
 -- a step from a core that refines a legal history
-stepped : (core core' : Held) (base : Base) (h : List Entry) (given : Option TabletMerge) (event : Event) (reply : Reply OpenSession TabletMerge) → RefinesHistory core base h → IsLegalFrom base h → StepsOn core given event reply core' → HandsOut event.act (session_of reply)
+stepped : (core core' : CoreContents) (base : Base) (h : List Entry) (given : Option TabletMerge) (event : Event) (reply : Reply OpenSession TabletMerge) → RefinesHistory core base h → IsLegalFrom base h → StepsOn core given event reply core' → HandsOut event.act (session_of reply)
 unfolding IsLegalFrom ShowsAnswer
 stepped core core' base h given event (Opened session) refines legal steps = go (is_open event.act) refl
   where
@@ -33,7 +33,7 @@ stepped core core' base h given event (Opened session) refines legal steps = go 
 stepped core core' base h given event _ refines legal steps = tt
 
 -- the receipt of a step of a book whose history is legal, and which its core refines
-handed : (core core' : Held) (base : Base) (h : List Entry) (given : Option TabletMerge) (event : Event) (slip : Slip) → IsLegalFrom base h → RefinesHistory core base h
+handed : (core core' : CoreContents) (base : Base) (h : List Entry) (given : Option TabletMerge) (event : Event) (slip : Slip) → IsLegalFrom base h → RefinesHistory core base h
     → ((reply : Reply OpenSession TabletMerge) × (slip.entry.reply ≡ told_of reply) × (slip.held ≡ held_of reply) × StepsOn core given event reply core') → HandsOut event.act (session_in slip.held)
 handed core core' base h given event slip legal refines steps =
     let reply : Reply OpenSession TabletMerge = steps.0 in

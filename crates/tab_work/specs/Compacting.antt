@@ -1,11 +1,11 @@
--- What a compactor asks, and what becomes of its seat.
+-- To be believed by whoever relies on it. What a compactor asks, and what becomes of its seat.
 use Rattle.std.specs.Prelude.{ℕ, ◌≡◌, Bool, true, false, List, [], ◌∷◌, ◌++◌, map, All}
 use Rattle.tab_history.specs.declared.event.Act.{Act}
 use Rattle.tab_history.specs.declared.event.Act.TheVariants.{SplitBySize, Splits, Begin, Install}
 use Rattle.tab_history.specs.declared.event.Event.{Event}
 use Rattle.tab_book.specs.Entries.{Place}
 use Rattle.tab_book.specs.Receipts.{Slip, Receives}
-use Rattle.tab_work.specs.declared.asker.Asker.{Asker}
+use Rattle.tab_work.specs.declared.compactor_seat.CompactorSeat.{CompactorSeat}
 use Rattle.tab_work.specs.declared.compactor.Compactor.{Compactor}
 use Rattle.tab_work.specs.Receiving.{spent, Follows}
 
@@ -15,11 +15,11 @@ pub record Asking : Type 0 where
   pub seat : Place
   pub receipts : List Slip
 
-abbrev pub asking : {L R M : Type 0} → Asker L R M → Asking
+abbrev pub asking : {L R M : Type 0} → CompactorSeat L R M → Asking
 asking a = record { user = a.user; seat = a.seat; receipts = a.receipts.items }
 
 abbrev pub compacting : {L R M G : Type 0} → Compactor L R M G → Asking
-compacting c = asking c.asker
+compacting c = asking c.compactor_seat
 
 -- the acts that compact tablets, split them, or tell where they end: none of them changes what a scan is answered
 abbrev pub compacts : Act → Bool

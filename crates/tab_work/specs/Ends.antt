@@ -1,4 +1,4 @@
--- Which of a table's end rows is that of a row's tablet.
+-- For proofs. Which of a table's end rows is that of a row's tablet.
 use Rattle.std.specs.Prelude.{ℕ, List, [], Option, find}
 use Rattle.std.specs.Ordering.{is_le}
 use Rattle.tab_key.specs.Bytes.{bytes_cmp}

@@ -1,7 +1,7 @@
--- What a book that threads share holds, counted.
+-- To be believed by whoever relies on it. What a book that threads share holds, counted.
 use Rattle.std.specs.Prelude.{ℕ, ◌≡◌, ◌+◌, List, length}
 use Rattle.tab_history.specs.Bases.{Base}
-use Rattle.tab_core.specs.Stores.{Held}
+use Rattle.tab_core.specs.Stores.{CoreContents}
 use Rattle.tab_core.specs.Totals.{totals_of}
 use Rattle.tab_core.specs.Recording.{RefinesHistory, IsLegalFrom}
 use Rattle.tab_book.specs.Entries.{Posted, past}
@@ -10,7 +10,7 @@ use Rattle.tab_work.specs.declared.holdings.Holdings.{Holdings}
 -- It is what a core holds that refines a history, legal from a base, and how many entries that has, and with those before it: those of the
 -- book, as long as it is locked.
 pub record AreHeld (found : Holdings) : Type 0 where
-  pub core : Held
+  pub core : CoreContents
   pub base : Base
   pub history : List Posted
   pub before : ℕ

@@ -1,4 +1,4 @@
--- What a seat of a shared book receives.
+-- To be believed by whoever relies on it. What a seat of a shared book receives.
 use Rattle.std.specs.Prelude.{◌≡◌, true, List, [], ◌∷◌, Option, Some, None}
 use Rattle.tab_history.specs.declared.event.Act.{Act}
 use Rattle.tab_history.specs.declared.event.Event.{Event}

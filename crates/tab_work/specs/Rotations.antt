@@ -1,4 +1,4 @@
--- What a rotation of a shared book hands out.
+-- To be believed by whoever relies on it. What a rotation of a shared book hands out.
 use Rattle.std.specs.Prelude.{◌≡◌, ◌+◌, Option, Some, None, length}
 use Rattle.tab_history.specs.declared.reply.Refusal.{Refusal}
 use Rattle.tab_history.specs.declared.reply.Reply.TheVariants.{Done, Refused}

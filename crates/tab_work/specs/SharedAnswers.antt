@@ -1,4 +1,4 @@
--- A seat of a shared book that answers the requests of one connection: what it is seen to hold, what it told last, and what one request does.
+-- For proofs. A seat of a shared book that answers the requests of one connection: what it is seen to hold, what it told last, and what one request does.
 use Rattle.std.specs.Prelude.{ℕ, ℤ, ◌≡◌, ◌⊎◌, ◌-◌, cond, List, [], ◌∷◌, ◌++◌, length, Option, Some, None, slice_get}
 use Rattle.tab_history.specs.declared.event.Event.{Event}
 use Rattle.tab_history.specs.declared.reply.Refusal.TheVariants.{NoMemory}

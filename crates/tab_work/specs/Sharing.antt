@@ -1,4 +1,4 @@
--- Whole connections over a shared book: what becomes of the seat, its receipts and the moments, and of what is read and written.
+-- To be believed by whoever relies on it. Whole connections over a shared book: what becomes of the seat, its receipts and the moments, and of what is read and written.
 use Rattle.std.specs.Prelude.{ℕ, ℤ, ◌≡◌, ◌⊎◌, List, [], ◌∷◌, ◌++◌, map, Option, Some, None, IfSome, Result, Ok, Err}
 use Rattle.tab_io.specs.declared.reading.Input.{Ghosts as InputGhosts}
 use Rattle.tab_io.specs.declared.writing.Output.{Ghosts as OutputGhosts}

@@ -1,4 +1,4 @@
--- Entries of a book that threads share.
+-- To be believed by whoever relies on it. Entries of a book that threads share.
 use Rattle.std.specs.Prelude.{ℕ, ◌≡◌, List}
 use Rattle.tab_history.specs.Bases.{Base}
 use Rattle.tab_core.specs.Recording.{IsLegalFrom}

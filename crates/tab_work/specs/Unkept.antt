@@ -1,4 +1,4 @@
--- A connection over a shared book whose receipts aren't kept.
+-- To be believed by whoever relies on it. A connection over a shared book whose receipts aren't kept.
 use Rattle.std.specs.Prelude.{ℕ, ℤ, List, [], Result}
 use Rattle.tab_io.specs.declared.reading.Input.{Ghosts as InputGhosts}
 use Rattle.tab_io.specs.declared.writing.Output.{Ghosts as OutputGhosts}

@@ -1,4 +1,4 @@
--- Which entries are writes.
+-- To be believed by whoever relies on it. Which entries are writes.
 use Rattle.std.specs.Prelude.{Bool, true, false, ◌&&◌}
 use Rattle.tab_history.specs.Answers.{Told}
 use Rattle.tab_history.specs.declared.reply.Reply.TheVariants.{Done}

@@ -6,7 +6,7 @@ use tab_key::Name;
 
 /// A merge that was begun in a tablet of the table. What was due there is claimed.
 #[derive(Drop)]
-pub(crate) struct Begun {
+pub(crate) struct BegunMerge {
     pub(crate) due: Due,
     pub(crate) table: Name,
     pub(crate) job: TabletJob,
@@ -14,14 +14,14 @@ pub(crate) struct Begun {
 
 /// The same, made.
 #[derive(Drop)]
-pub(crate) struct Made {
+pub(crate) struct DoneMerge {
     pub(crate) due: Due,
     pub(crate) table: Name,
     pub(crate) finished: FinishedJob,
 }
 
-impl Pending for Begun {
-    type Done = Made;
+impl Pending for BegunMerge {
+    type Done = DoneMerge;
 
     ghost merge = { λ begun. begun.job.merge };
 
@@ -31,10 +31,10 @@ impl Pending for Begun {
         self.job.job()
     }
 
-    fn finish(self, made: MadeTable) -> Made {
-        let Begun { due, table, job } = self;
+    fn finish(self, made: MadeTable) -> DoneMerge {
+        let BegunMerge { due, table, job } = self;
         let finished = job.finish(made);
-        Made {
+        DoneMerge {
             due,
             table,
             finished,

@@ -2,9 +2,9 @@
 ghost use Rattle.std.specs.Prelude.{◌≡◌, []};
 ghost use Rattle.tab_work.specs.Compacting.{asking, compacting, Compacts};
 
-use crate::asker::Asker;
-use crate::begun::{Begun, Made};
+use crate::begun::{BegunMerge, DoneMerge};
 use crate::claims::Claims;
+use crate::compactor_seat::CompactorSeat;
 use crate::ends::row_above;
 use crate::{Gate, Shared};
 use std::alloc::Global;
@@ -24,7 +24,7 @@ const MOST_WORKS: usize = 8;
 /// outside of the book's lock. (Accumulo user manual: minor and major compactions, splitting)
 #[derive(Drop)]
 pub struct Compactor<'a, L: Ledger, R, M, G> {
-    asker: Asker<'a, L, R, M>,
+    compactor_seat: CompactorSeat<'a, L, R, M>,
     claims: &'a Claims,
     gate: &'a G,
 }
@@ -52,7 +52,7 @@ impl<'a, L: Ledger, R: Threads + Wait + Sync, M: Moments + Drop, G: Gate> Compac
     {
         let receipts = Vec::new(alloc);
         Compactor {
-            asker: Asker {
+            compactor_seat: CompactorSeat {
                 rt,
                 alloc,
                 shared,
@@ -71,8 +71,8 @@ impl<'a, L: Ledger, R: Threads + Wait + Sync, M: Moments + Drop, G: Gate> Compac
         ensures seat { result.0 ≡ (compacting self.entry).seat }
         ensures receipts { result.1.items ≡ (compacting self.entry).receipts }
     {
-        let Compactor { asker, .. } = self;
-        let Asker { seat, receipts, .. } = asker;
+        let Compactor { compactor_seat, .. } = self;
+        let CompactorSeat { seat, receipts, .. } = compactor_seat;
         (seat, receipts)
     }
 
@@ -80,7 +80,7 @@ impl<'a, L: Ledger, R: Threads + Wait + Sync, M: Moments + Drop, G: Gate> Compac
     pub fn forget_receipts(&mut self)
         ensures { compacting self.new ≡ record (compacting self.old) { receipts = [] } }
     {
-        self.asker.receipts.clear();
+        self.compactor_seat.receipts.clear();
     }
 
     /// Does what is due, until nothing is. It ends before that where other compactors are at work on what is due, where there is nothing to
@@ -92,7 +92,7 @@ impl<'a, L: Ledger, R: Threads + Wait + Sync, M: Moments + Drop, G: Gate> Compac
     pub fn compact(&mut self)
         ensures { Compacts (compacting self.old) (compacting self.new) }
     {
-        for _ in self.asker.rt.forever() {
+        for _ in self.compactor_seat.rt.forever() {
             if !self.compact_first() {
                 return;
             }
@@ -103,8 +103,11 @@ impl<'a, L: Ledger, R: Threads + Wait + Sync, M: Moments + Drop, G: Gate> Compac
     fn compact_first(&mut self) -> bool
         ensures { Compacts (compacting self.old) (compacting self.new) }
     {
-        let asker = &self.asker;
-        match asker.shared.due_list(asker.rt, asker.alloc, MOST_WORKS) {
+        let compactor_seat = &self.compactor_seat;
+        match compactor_seat
+            .shared
+            .due_list(compactor_seat.rt, compactor_seat.alloc, MOST_WORKS)
+        {
             Ok(works) => self.compact_listed(works),
             Err(_) => false,
         }
@@ -138,19 +141,19 @@ impl<'a, L: Ledger, R: Threads + Wait + Sync, M: Moments + Drop, G: Gate> Compac
     fn split_claimed(&mut self, due: Due, table: Name, row: ByteString) -> bool
         ensures { Compacts (compacting self.old) (compacting self.new) }
     {
-        if !self.claims.take(self.asker.rt, due) {
+        if !self.claims.take(self.compactor_seat.rt, due) {
             return false;
         }
         let is_done = self.split(table, row);
-        self.claims.give_back(self.asker.rt, due);
+        self.claims.give_back(self.compactor_seat.rt, due);
         is_done
     }
 
     // Begins those of these works that are merges, and that no other compactor is at work on. What was begun is claimed.
-    fn begin_all(&mut self, works: Vec<(Due, Name, ByteString)>) -> Vec<Begun>
+    fn begin_all(&mut self, works: Vec<(Due, Name, ByteString)>) -> Vec<BegunMerge>
         ensures { Compacts (compacting self.old) (compacting self.new) }
     {
-        let mut begun = Vec::new(self.asker.alloc);
+        let mut begun = Vec::new(self.compactor_seat.alloc);
         for (due, table, row) in works {
             self.begin_claimed(&mut begun, due, table, row);
         }
@@ -158,37 +161,37 @@ impl<'a, L: Ledger, R: Threads + Wait + Sync, M: Moments + Drop, G: Gate> Compac
     }
 
     // Begins this work, if it's a merge and no other compactor is at work on it, and adds it to what was begun.
-    fn begin_claimed(&mut self, begun: &mut Vec<Begun>, due: Due, table: Name, row: ByteString)
+    fn begin_claimed(&mut self, begun: &mut Vec<BegunMerge>, due: Due, table: Name, row: ByteString)
         ensures { Compacts (compacting self.old) (compacting self.new) }
     {
         let Some(kind) = merge_of(due.kind) else {
             return;
         };
-        if begun.reserve(1).is_err() || !self.claims.take(self.asker.rt, due) {
+        if begun.reserve(1).is_err() || !self.claims.take(self.compactor_seat.rt, due) {
             return;
         }
-        match self.asker.begin(table, row, kind) {
-            Some(job) => begun.push_reserved(Begun { due, table, job }),
-            None => self.claims.give_back(self.asker.rt, due),
+        match self.compactor_seat.begin(table, row, kind) {
+            Some(job) => begun.push_reserved(BegunMerge { due, table, job }),
+            None => self.claims.give_back(self.compactor_seat.rt, due),
         }
     }
 
     // Merges all that was begun at once, and installs it. Whether something was installed.
-    fn merge_all(&mut self, begun: Vec<Begun>) -> bool
+    fn merge_all(&mut self, begun: Vec<BegunMerge>) -> bool
         ensures { Compacts (compacting self.old) (compacting self.new) }
     {
         if begun.is_empty() {
             return false;
         }
         self.gate.before_merge();
-        match merge_all(self.asker.rt, self.asker.alloc, begun) {
+        match merge_all(self.compactor_seat.rt, self.compactor_seat.alloc, begun) {
             Ok(made) => self.install_each(made),
             Err((begun, _)) => self.merge_each(begun),
         }
     }
 
     // Installs one merge after another. Whether one was installed.
-    fn install_each(&mut self, made: Vec<Made>) -> bool
+    fn install_each(&mut self, made: Vec<DoneMerge>) -> bool
         ensures { Compacts (compacting self.old) (compacting self.new) }
     {
         let mut is_done = false;
@@ -199,7 +202,7 @@ impl<'a, L: Ledger, R: Threads + Wait + Sync, M: Moments + Drop, G: Gate> Compac
     }
 
     // Merges and installs one after another. Whether one was installed.
-    fn merge_each(&mut self, begun: Vec<Begun>) -> bool
+    fn merge_each(&mut self, begun: Vec<BegunMerge>) -> bool
         ensures { Compacts (compacting self.old) (compacting self.new) }
     {
         let mut is_done = false;
@@ -210,12 +213,12 @@ impl<'a, L: Ledger, R: Threads + Wait + Sync, M: Moments + Drop, G: Gate> Compac
     }
 
     // Makes and installs this merge. Whether it was installed.
-    fn merge_alone(&mut self, begun: Begun) -> bool
+    fn merge_alone(&mut self, begun: BegunMerge) -> bool
         ensures { Compacts (compacting self.old) (compacting self.new) }
     {
-        let Begun { due, table, job } = begun;
-        match job.merge(self.asker.alloc) {
-            Ok(finished) => self.install(Made {
+        let BegunMerge { due, table, job } = begun;
+        match job.merge(self.compactor_seat.alloc) {
+            Ok(finished) => self.install(DoneMerge {
                 due,
                 table,
                 finished,
@@ -225,22 +228,22 @@ impl<'a, L: Ledger, R: Threads + Wait + Sync, M: Moments + Drop, G: Gate> Compac
     }
 
     // Installs the merge, on which nobody is at work any more. Whether it was done.
-    fn install(&mut self, made: Made) -> bool
+    fn install(&mut self, made: DoneMerge) -> bool
         ensures { Compacts (compacting self.old) (compacting self.new) }
     {
-        let Made {
+        let DoneMerge {
             due,
             table,
             finished,
         } = made;
-        let is_done = self.asker.install(table, finished);
-        self.claims.give_back(self.asker.rt, due);
+        let is_done = self.compactor_seat.install(table, finished);
+        self.claims.give_back(self.compactor_seat.rt, due);
         self.tell_installed(is_done)
     }
 
     // Nobody is at work on it any more, and it wasn't done.
     fn give_back(&self, due: Due) -> bool {
-        self.claims.give_back(self.asker.rt, due);
+        self.claims.give_back(self.compactor_seat.rt, due);
         false
     }
 
@@ -248,13 +251,13 @@ impl<'a, L: Ledger, R: Threads + Wait + Sync, M: Moments + Drop, G: Gate> Compac
     fn merge(&mut self, table: Name, row: ByteString, kind: Compaction) -> bool
         ensures { Compacts (compacting self.old) (compacting self.new) }
     {
-        let Some(job) = self.asker.begin(table, row, kind) else {
+        let Some(job) = self.compactor_seat.begin(table, row, kind) else {
             return false;
         };
         self.gate.before_merge();
-        match job.merge(self.asker.alloc) {
+        match job.merge(self.compactor_seat.alloc) {
             Ok(finished) => {
-                let is_installed = self.asker.install(table, finished);
+                let is_installed = self.compactor_seat.install(table, finished);
                 self.tell_installed(is_installed)
             }
             Err(_) => false,
@@ -276,14 +279,14 @@ impl<'a, L: Ledger, R: Threads + Wait + Sync, M: Moments + Drop, G: Gate> Compac
         let Ok(copy) = row.clone() else {
             return false;
         };
-        self.asker.split(table, copy) && self.merge_halves(table, row)
+        self.compactor_seat.split(table, copy) && self.merge_halves(table, row)
     }
 
     // Merges the tablet that holds the row, and the one behind it. Whether both were.
     fn merge_halves(&mut self, table: Name, row: ByteString) -> bool
         ensures { Compacts (compacting self.old) (compacting self.new) }
     {
-        let end = self.asker.end_of(table, &row);
+        let end = self.compactor_seat.end_of(table, &row);
         let is_merged = self.merge(table, row, Compaction::Full);
         self.merge_above(table, end) && is_merged
     }

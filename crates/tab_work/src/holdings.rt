@@ -28,8 +28,8 @@ impl<L: Ledger> Shared<L> {
     pub fn holdings(&self, rt: &impl Wait) -> Holdings
         ensures { AreHeld result }
     {
-        let desk = self.desk.lock(rt);
-        held_in(&desk.book)
+        let locked = self.locked.lock(rt);
+        held_in(&locked.book)
     }
 }
 

@@ -5,9 +5,8 @@
 //!
 //! | File | What |
 //! |---|---|
-//! | `shared` | the book under its lock |
+//! | `shared` | the book under its lock, its entries, shared, and what its core holds |
 //! | `rotating` | its history, handed out part by part |
-//! | `slicing`, `basing` | its entries, shared, and what its core holds |
 //! | `dues`, `holdings` | what is due in a book, and what it holds, counted |
 //! | `gate` | where work that takes long may be held up, and what follows a write |
 //! | `shared_service` | a seat that answers the requests of one connection |
@@ -15,7 +14,7 @@
 //! | `serving` | a whole connection over a shared book: `serve_shared` |
 //! | `forgetting` | the same for the server: its receipts aren't kept |
 //! | `ends` | end rows of tablets, as a reply tells them |
-//! | `asker`, `claims`, `begun`, `compactor` | a seat that asks by itself, what compactors are at work on, what they began, and what they do |
+//! | `compactor_seat`, `claims`, `begun`, `compactor` | a seat that asks by itself, what compactors are at work on, what they began, and what they do |
 //! | `requests` | requests to the compactors |
 //!
 //! In `specs`, `Receiving` says what a seat receives, `Rotations` what a rotation hands out, `Shares` what one request does, `SharedAnswers` the same of the service over a seat, and
@@ -24,11 +23,10 @@
 //! to, and `Joining` puts all exchanges of a connection together; `Following` does so for what a compactor asks.
 #![tactic(auto)]
 
-mod asker;
-mod basing;
 mod begun;
 mod claims;
 mod compactor;
+mod compactor_seat;
 mod dues;
 mod ends;
 mod forgetting;
@@ -40,7 +38,6 @@ mod rotating;
 mod serving;
 mod shared;
 mod shared_service;
-mod slicing;
 
 pub use claims::Claims;
 pub use compactor::Compactor;

@@ -57,22 +57,22 @@ impl<L: Ledger> Shared<L> {
         ensures err { OnErr result (seat.new ≡ seat.old) }
     {
         let memory = Reservation::of_lent(alloc, user, moment, &Act::Rotate)?;
-        let mut desk = self.ready(rt, seat);
-        let rotated = rotate_in(alloc, &mut desk.book, seat, user, moment, memory)?;
+        let mut locked = self.ready(rt, seat);
+        let rotated = rotate_in(alloc, &mut locked.book, seat, user, moment, memory)?;
         if rotated.1.is_some() {
-            desk.events = 0;
+            locked.events = 0;
         }
         Ok(rotated)
     }
 
     /// Lets the history count as long, so that whoever asks hands it on.
     pub(crate) fn call_long(&self, rt: &impl Wait) {
-        self.desk.lock(rt).events = u64::MAX;
+        self.locked.lock(rt).events = u64::MAX;
     }
 
     /// Whether so many events, or more, were asked of the book since its history was handed out last, or since it was shared: as many entries
     /// the history has, but that an event for which memory lacked has none.
     pub fn is_long(&self, rt: &impl Wait, many: u64) -> bool {
-        self.desk.lock(rt).events >= many
+        self.locked.lock(rt).events >= many
     }
 }

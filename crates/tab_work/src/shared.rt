@@ -8,6 +8,8 @@ ghost use Rattle.tab_book.specs.Receipts.{Receives};
 ghost use Rattle.tab_serve.specs.Serves.{asked_at};
 ghost use Rattle.tab_work.specs.Dues.{AreDue, IsDue};
 ghost use Rattle.tab_work.specs.Receiving.{HandsOut};
+ghost use Rattle.tab_work.specs.Slicing.{IsShared};
+ghost use Rattle.tab_work.specs.Basing.{IsTaken};
 
 use crate::dues::{due_in, due_list_in};
 use std::alloc::{AllocError, Global};
@@ -15,14 +17,14 @@ use std::sync::atomic::{AtomicUsize, Ordering};
 use std::sync::ledger::Ledger;
 use std::sync::{Mutex, MutexGuard, Wait};
 use std::thread;
-use tab_book::{Book, Installation, Receipt, Reservation, Seat, SeatsOut, book_is_legal};
-use tab_core::Due;
+use tab_book::{Book, Installation, Receipt, Reservation, Seat, SeatsOut, Slice, book_is_legal};
+use tab_core::{Base, Due};
 use tab_history::{Act, Event};
 use tab_key::{ByteString, Name};
 
 // What lies under the lock: a book to which no seat came back yet.
 #[derive(Drop)]
-pub(crate) struct Desk<L: Ledger> {
+pub(crate) struct LockedBook<L: Ledger> {
     pub(crate) book: Book<L>,
     // how often it was locked for an event since its history was handed out
     pub(crate) events: u64,
@@ -74,7 +76,7 @@ fn install_to<L: Ledger>(
 /// it has given, and what its core holds. What isn't said for that reason is said by the calls of the book that are made there.
 #[derive(Drop)]
 pub struct Shared<L: Ledger> {
-    pub(crate) desk: Mutex<Desk<L>>,
+    pub(crate) locked: Mutex<LockedBook<L>>,
     // how many of those who share it read ranges of a session at the moment
     readers: AtomicUsize,
     // whether one of those who share it hands its history on
@@ -102,7 +104,7 @@ impl<L: Ledger> Shared<L> {
         requires { book.back ≡ 0 }
     {
         Shared {
-            desk: Mutex::new(Desk { book, events: 0 }),
+            locked: Mutex::new(LockedBook { book, events: 0 }),
             readers: AtomicUsize::new(0),
             recorded,
         }
@@ -128,21 +130,25 @@ impl<L: Ledger> Shared<L> {
     pub fn join(&self, rt: &impl Wait) -> Option<Seat<L>>
         ensures { IfSome result (λ s. (s.seen ≡ 0) × (s.count ≡ 0)) }
     {
-        let mut desk = self.desk.lock(rt);
-        desk.book.join()
+        let mut locked = self.locked.lock(rt);
+        locked.book.join()
     }
 
     // The book, locked, once its next entry's number is above all that the seat has seen. So it always is.
-    pub(crate) fn ready<'a, R: Wait>(&'a self, rt: &R, seat: &Seat<L>) -> MutexGuard<'a, Desk<L>>
+    pub(crate) fn ready<'a, R: Wait>(
+        &'a self,
+        rt: &R,
+        seat: &Seat<L>,
+    ) -> MutexGuard<'a, LockedBook<L>>
         ensures { seat.now.seen ≤ next_of (mutex_guard_value result).book }
     {
         for _ in rt.forever() {
-            let mut desk = self.desk.lock(rt);
-            if desk.book.ready(seat) {
-                desk.events = desk.events.saturating_add(1);
-                return desk;
+            let mut locked = self.locked.lock(rt);
+            if locked.book.ready(seat) {
+                locked.events = locked.events.saturating_add(1);
+                return locked;
             }
-            drop(desk);
+            drop(locked);
             thread::yield_now();
         }
         unreachable!()
@@ -186,8 +192,8 @@ impl<L: Ledger> Shared<L> {
         ensures err { OnErr result ((seat.new ≡ seat.old) × (act.new ≡ act.old)) }
     {
         let memory = Reservation::of_lent(alloc, user, moment, act)?;
-        let mut desk = self.ready(rt, seat);
-        apply_to(alloc, &mut desk.book, seat, user, moment, act, memory)
+        let mut locked = self.ready(rt, seat);
+        apply_to(alloc, &mut locked.book, seat, user, moment, act, memory)
     }
 
     /// Installs a finished merge, as [`Shared::apply`] does an event. Where the book's history can't grow the Install is handed back with
@@ -205,8 +211,8 @@ impl<L: Ledger> Shared<L> {
         let Ok(memory) = Reservation::of(alloc, &asked.event()) else {
             return Err((asked, AllocError));
         };
-        let mut desk = self.ready(rt, seat);
-        install_to(alloc, &mut desk.book, seat, asked, memory)
+        let mut locked = self.ready(rt, seat);
+        install_to(alloc, &mut locked.book, seat, asked, memory)
     }
 
     /// What is due first, with the table and the least row of its tablet: none where nothing is. It takes time linear in the tablets, and
@@ -221,8 +227,8 @@ impl<L: Ledger> Shared<L> {
     ) -> Result<Option<(Due, Name, ByteString)>, AllocError>
         ensures { IfOk result (λ found. IsDue found) }
     {
-        let desk = self.desk.lock(rt);
-        due_in(alloc, &desk.book)
+        let locked = self.locked.lock(rt);
+        due_in(alloc, &locked.book)
     }
 
     /// What is due first, so many works at most and at most one for each tablet, each with the table and the least row of its tablet: the
@@ -238,8 +244,8 @@ impl<L: Ledger> Shared<L> {
     ) -> Result<Vec<(Due, Name, ByteString)>, AllocError>
         ensures { IfOk result (λ found. AreDue max found.items) }
     {
-        let desk = self.desk.lock(rt);
-        due_list_in(alloc, &desk.book, max)
+        let locked = self.locked.lock(rt);
+        due_list_in(alloc, &locked.book, max)
     }
 
     /// Ends it, where all seats are back. The book has as many entries as they counted. Else all comes back, with the number of seats that
@@ -248,11 +254,68 @@ impl<L: Ledger> Shared<L> {
         ensures ok { IfOk result (λ b. next_of b ≡ sum_by (λ s. s.count) seats.items) }
         ensures err { IfErr result (λ r. (r.1 ≡ seats) × (0 < r.2.0)) }
     {
-        let Shared { desk, recorded, .. } = self;
-        let Desk { book, .. } = desk.into_inner();
+        let Shared {
+            locked,
+            recorded,
+            ..
+        } = self;
+        let LockedBook { book, .. } = locked.into_inner();
         match book.end(seats) {
             Ok(book) => Ok(book),
             Err((book, seats, out)) => Err((Shared::over(book, recorded), seats, out)),
         }
+    }
+}
+
+// The entries of the book.
+fn slice_in<L: Ledger>(
+    alloc: Global,
+    book: &Book<L>,
+    from: u64,
+    most: u64,
+) -> Result<Slice<L>, AllocError>
+    ensures { IfOk result (λ slice. IsShared from most slice) }
+{
+    book_is_legal(book);
+    book.slice(alloc, from, most)
+}
+
+impl<L: Ledger> Shared<L> {
+    /// The entries from this number on that are in the book's history at some moment of the call, at most so many, as [`Book::slice`] gives
+    /// them. Each is shared with the book: nothing is copied while it is locked but where they lie, 16 bytes an entry.
+    ///
+    /// Here they are said to be of some legal history: that this is the book's isn't.
+    pub fn slice(
+        &self,
+        rt: &impl Wait,
+        alloc: Global,
+        from: u64,
+        most: u64,
+    ) -> Result<Slice<L>, AllocError>
+        ensures { IfOk result (λ slice. IsShared from most slice) }
+    {
+        let locked = self.locked.lock(rt);
+        slice_in(alloc, &locked.book, from, most)
+    }
+}
+
+// What the book's core holds, and the number of its next entry.
+fn base_in<L: Ledger>(alloc: Global, book: &Book<L>) -> Result<(Base, u64), AllocError>
+    ensures { IfOk result (λ taken. IsTaken taken.0 taken.1) }
+{
+    book_is_legal(book);
+    Ok((book.core().base(alloc)?, book.next()))
+}
+
+impl<L: Ledger> Shared<L> {
+    /// What the book's core holds at some moment of the call, and the number of the entry that is next then: all entries below it were done, and
+    /// none from it on. The book is locked while the base is taken ([`tab_core::Core::base`] says what that copies).
+    ///
+    /// Here it is said of a core that refines a legal history: that this is the book's isn't.
+    pub fn base(&self, rt: &impl Wait, alloc: Global) -> Result<(Base, u64), AllocError>
+        ensures { IfOk result (λ taken. IsTaken taken.0 taken.1) }
+    {
+        let locked = self.locked.lock(rt);
+        base_in(alloc, &locked.book)
     }
 }

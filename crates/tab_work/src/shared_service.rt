@@ -20,7 +20,7 @@ use std::thread::Threads;
 use tab_book::{Held, Receipt, Seat};
 use tab_core::{Session, Slots};
 use tab_history::{Act, Refusal, Reply};
-use tab_key::{Bounds, Items, Name, Part};
+use tab_key::{Bounds, Items, LimitedPart, Name};
 use tab_serve::{Moments, Service};
 use tab_wire::{Asked, Request};
 
@@ -142,7 +142,7 @@ impl<'a, L: Ledger, R: Threads + Wait + Sync, M: Moments, G: Gate> SharedService
         ensures { SharedAnswers M.gives self.old user.now (Request.Act act.old) (told_by self.new) self.new }
     {
         if self.slots.are_full() {
-            self.tell(Reply::Refused(Refusal::TooLarge(Part::Sessions)))
+            self.tell(Reply::Refused(Refusal::TooLarge(LimitedPart::Sessions)))
         } else {
             self.open_next(user, act)
         }

@@ -5,7 +5,7 @@ use std::fs::{File, OpenOptions};
 use std::os::unix::fs::OpenOptionsExt;
 use std::sync::ledger::Ledger;
 use tab_audit::{clock_behind, put_entry};
-use tab_book::{KeptEntry, KeptReply, Part};
+use tab_book::{Part, RecordedEntry, RecordedReply};
 use tab_core::EventReply;
 use tab_io::{BlockWriter, Output, WriteFault};
 use tab_server::History;
@@ -118,14 +118,14 @@ fn put_kept<W: Output>(
     alloc: Global,
     output: &mut W,
     clock: i64,
-    entry: &KeptEntry,
+    entry: &RecordedEntry,
 ) -> Result<i64, LogFault> {
     let event = entry.event().to_event(alloc)?;
     let (done, opened) = (EventReply::Done, EventReply::Opened);
     let told = match entry.reply() {
-        KeptReply::Done => &done,
-        KeptReply::Opened => &opened,
-        KeptReply::Other(told) => &**told,
+        RecordedReply::Done => &done,
+        RecordedReply::Opened => &opened,
+        RecordedReply::Other(told) => &**told,
     };
     put_entry(output, clock, &event, told)?;
     Ok(clock_behind(clock, &event, told))

@@ -12,7 +12,7 @@ use tab_shell::Script;
 
 // Why a script isn't begun over a folder.
 #[derive(Clone, Copy, Debug, thiserror::Error)]
-enum KeptFault {
+enum TakeUpFault {
     #[error("it keeps something already, so no image is loaded into it")]
     Image,
 }
@@ -48,7 +48,7 @@ impl<'a> Keeping<'a> {
         let Ok(mut output) = BlockWriter::new(rt.alloc(), Settled::new(writer, self.log)) else {
             return Err(ProgramFault::NoMemory);
         };
-        let mut files = KeptFiles::new(rt, self.folder, false);
+        let mut files = FolderFiles::new(rt, self.folder, false);
         Ok(script_on(self.script, &mut files, &mut input, &mut output)?)
     }
 }
@@ -66,7 +66,7 @@ pub fn taken_up(
         return Ok(core);
     }
     if image.is_some() {
-        return Err(KeptFault::Image).with_context(|| path);
+        return Err(TakeUpFault::Image).with_context(|| path);
     }
     let core = folder.load().with_context(|| path)?;
     let journals = folder.journals().with_context(|| path)?;
@@ -110,7 +110,7 @@ fn replay(
 ) -> Result<(), FolderFault> {
     let mut input = BlockReader::new(rt.alloc(), left.text.as_slice())?;
     let mut output = BlockWriter::new(rt.alloc(), Unheard::new())?;
-    let mut files = KeptFiles::new(rt, folder, true);
+    let mut files = FolderFiles::new(rt, folder, true);
     let outcome = script_on(script, &mut files, &mut input, &mut output);
     if let Some(fault) = files.failure {
         return Err(fault);
@@ -124,7 +124,7 @@ fn replay(
 // The files that the lines of such a script name. What is loaded is kept in the folder, since the file may be another one when the line is
 // done again; then nothing is saved.
 #[derive(Drop)]
-struct KeptFiles<'a> {
+struct FolderFiles<'a> {
     disk: Disk<'a>,
     folder: &'a Folder<'a>,
     again: bool,
@@ -133,9 +133,9 @@ struct KeptFiles<'a> {
     failure: Option<FolderFault>,
 }
 
-impl<'a> KeptFiles<'a> {
-    fn new(rt: &'a HostRuntime, folder: &'a Folder<'a>, again: bool) -> KeptFiles<'a> {
-        KeptFiles {
+impl<'a> FolderFiles<'a> {
+    fn new(rt: &'a HostRuntime, folder: &'a Folder<'a>, again: bool) -> FolderFiles<'a> {
+        FolderFiles {
             disk: Disk::new(rt),
             folder,
             again,
@@ -166,7 +166,7 @@ fn is_missing(fault: &FolderFault) -> bool {
     }
 }
 
-impl Files for KeptFiles<'_> {
+impl Files for FolderFiles<'_> {
     ghost saves = { λ _ _ _ _ _. Unit {0} };
 
     ghost loads = { λ _ _ _ _. Unit {0} };

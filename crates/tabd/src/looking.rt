@@ -6,7 +6,7 @@ use std::io::{IsTerminal, Write};
 use tab_accumulo::put_shell_lines;
 use tab_export::{put_script, server_records};
 use tab_folder::{FolderFault, Left, Look};
-use tab_host::{Looked, Noting, Progress, Told, look, look_at};
+use tab_host::{Looked, Noting, Progress, ProgressStream, look, look_at};
 use tab_image::Image;
 use tab_inspect::put_facts;
 use tab_io::{BlockWriter, Output};
@@ -47,7 +47,7 @@ pub fn run_look(rt: &HostRuntime, path: &str, form: Form, asked: bool) -> anyhow
     let writing = Progress::new(rt, asked && !rt.stdout().is_terminal());
     let outcome = write(
         rt,
-        Told::new(&mut stream, &writing, "writing", 0),
+        ProgressStream::new(&mut stream, &writing, "writing", 0),
         &seen,
         form,
     );
@@ -155,9 +155,9 @@ fn put_file<W: Output>(rt: &HostRuntime, output: &mut W, seen: &Seen) -> Result<
         return Ok(());
     };
     let (bytes, cut, later) = (left.text.len(), left.cut, seen.later);
-    // A journal without a front keeps nothing, whoever began it.
+    // A journal without a header keeps nothing, whoever began it.
     let beyond = match left.format {
-        Format::Events if left.has_front => format!(in rt.alloc();
+        Format::Events if left.has_header => format!(in rt.alloc();
             "journal events bytes {bytes} cut {cut} later {later}\n"
         ),
         _ => {

@@ -5,7 +5,7 @@
 //! | `scripting`, `serving`, `shell` | `tabd script`, `tabd serve` and `tabd shell` |
 //! | `watching` | how a run of lines ends that is watched |
 //! | `keeping`, `unheard` | a script over a folder, which keeps what it does, and the answers to lines that are done again |
-//! | `kept`, `replaying` | what a server keeps in a folder, and what one left there, done again |
+//! | `folder_store`, `replaying` | what a server keeps in a folder, and what one left there, done again |
 //! | `history` | the history of a server, in a file |
 //! | `telling`, `metrics`, `counts` | what a server tells beside its answers, what it tells of itself, in a file, and what it asks of the disk |
 //! | `looking` | `tabd inspect` and `tabd export` |
@@ -14,9 +14,9 @@
 
 mod counts;
 mod files;
+mod folder_store;
 mod history;
 mod keeping;
-mod kept;
 mod looking;
 mod metrics;
 mod replaying;

@@ -50,7 +50,7 @@ fn done(
     found: Found,
     left: &Left,
 ) -> anyhow::Result<Found> {
-    if found.cut > 0 && left.has_front {
+    if found.cut > 0 && left.has_header {
         return Err(FolderFault::Torn(number.saturating_sub(1))).with_context(|| path);
     }
     let count = replay(rt.alloc(), core, left.text.as_slice()).with_context(|| path)?;

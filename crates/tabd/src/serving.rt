@@ -1,8 +1,8 @@
 //! `tabd serve`.
 use crate::counts::DiskCounts;
 use crate::files::core_of;
+use crate::folder_store::FolderStore;
 use crate::history::LogFile;
-use crate::kept::Kept;
 use crate::telling::Telling;
 use anyhow::Context;
 use std::fmt::Display;
@@ -41,7 +41,7 @@ pub fn run_serve<R: Threads + Wait + Clock + Sync>(
             Ok(ExitCode::SUCCESS)
         }
         Some(path) => {
-            let (core, kept) = Kept::take_up(rt, path, serve)?;
+            let (core, kept) = FolderStore::take_up(rt, path, serve)?;
             answer(
                 rt,
                 threads,

@@ -1,4 +1,4 @@
--- Sources whose records are told apart by their numbers.
+-- For proofs. Sources whose records are told apart by their numbers.
 use Rattle.std.specs.Prelude.{ℕ, ◌<◌}
 use Rattle.tab_key.specs.Records.{Record}
 use Rattle.tab_key.specs.Sorted.{IsDistinct, IsIn}

@@ -5,11 +5,11 @@ use std::alloc::Global;
 use std::process::Abort;
 use tab_cells::Compaction;
 use tab_compact::{Job, merge_many};
-use tab_table::Table;
+use tab_table::SortedTable;
 use tab_testing::{Holding, Random, Update, table_len};
 
 // The table has the records of these updates, in their order, and their size.
-fn expect_table(rt: &impl Abort, table: &Table, want: &[Update]) {
+fn expect_table(rt: &impl Abort, table: &SortedTable, want: &[Update]) {
     assert!(rt; table.len() == want.len());
     assert!(rt; table.size() == table_len(want));
     for index in 0..table.len() {

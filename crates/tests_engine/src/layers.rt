@@ -18,7 +18,7 @@ mod failing;
 mod system_iterators;
 
 #[derive(Clone, Copy)]
-struct Line {
+struct RecordLine {
     key: Key<'static>,
     kind: Kind,
     seq: u64,
@@ -30,7 +30,7 @@ fn line_of(
     timestamp: i64,
     kind: Kind,
     seq: u64,
-) -> Line {
+) -> RecordLine {
     let (family, qualifier, label) = column;
     let key = Key {
         row,
@@ -39,11 +39,11 @@ fn line_of(
         label,
         timestamp,
     };
-    Line { key, kind, seq }
+    RecordLine { key, kind, seq }
 }
 
 // A table in its order: versions, puts of one key, markers over and between puts, and labels.
-fn lines() -> [Line; 15] {
+fn lines() -> [RecordLine; 15] {
     [
         line_of(b"a", (b"f", b"p", b""), 9, Kind::Put, 7),
         line_of(b"a", (b"f", b"p", b""), 5, Kind::Delete, 6),

@@ -11,7 +11,7 @@ use tab_compact::{Job, capture};
 use tab_iter::NoMemory;
 use tab_mem::{Active, Run, RunCursor};
 use tab_mutation::Mutation;
-use tab_table::Table;
+use tab_table::SortedTable;
 use tab_testing::{Holding, Random, Update, mutation_of};
 use tab_version::{Clip, Clips, TableClip};
 
@@ -118,7 +118,7 @@ fn tabled(alloc: Global, run: &Run) -> Result<TableClip, AllocError>
     ensures { IfOk result (λ t. t.records ≡ run.now) }
 {
     let _count = run.len();
-    let table = Table::build(alloc, &mut RunCursor::new(run), 0, 0)?;
+    let table = SortedTable::build(alloc, &mut RunCursor::new(run), 0, 0)?;
     Ok(TableClip::whole(Arc::new(alloc, table)?))
 }
 

@@ -9,7 +9,7 @@ use tab_tablet::Tablet;
 use tab_testing::{Query, Random, Update, mutation_of, scanned};
 use tab_version::Version;
 
-mod bodies;
+mod merged_runs;
 mod parts;
 
 const ROWS: [&[u8]; 2] = [b"k", b"l"];

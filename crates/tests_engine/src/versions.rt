@@ -13,7 +13,7 @@ use crate::writing::CLOCK;
 use std::alloc::{AllocError, Global};
 use std::process::Abort;
 use std::sync::Arc;
-use tab_table::Table;
+use tab_table::SortedTable;
 use tab_testing::{End, Query, Random, Update, scanned};
 use tab_version::{Clip, Clips, TableClip, Version};
 
@@ -21,7 +21,7 @@ use tab_version::{Clip, Clips, TableClip, Version};
 fn tabled(alloc: Global, clip: Clip) -> Result<TableClip, AllocError>
     ensures { IfOk result (λ t. t.records ≡ clip) }
 {
-    let table = Table::build(alloc, &mut clip.cursor(), 0, 0)?;
+    let table = SortedTable::build(alloc, &mut clip.cursor(), 0, 0)?;
     Ok(TableClip::whole(Arc::new(alloc, table)?))
 }
 

@@ -1,26 +1,19 @@
-//! Images read, and written again.
+//! Images read, and saved again.
 use crate::images::{
     FIRST_ONE_PUT, FIRST_SMALLEST, FIRST_TWO_TABLES, HORIZON_OF_S, HORIZON_OF_T, ONE_PUT, SMALLEST,
     TWO_TABLES,
 };
+use crate::rounds::becomes;
 use std::alloc::Global;
 use std::process::Abort;
-use tab_image::{Image, LoadFault, read_image, write_image};
-use tab_io::memory::{PieceReader, PieceWriter};
-use tab_io::{BlockReader, BlockWriter, Output};
+use tab_image::{Image, LoadFault, read_image};
+use tab_io::BlockReader;
+use tab_io::memory::PieceReader;
 
 // What these bytes are read as, where the input gives so many at a time.
 fn read(rt: &impl Abort, alloc: Global, bytes: &[u8], piece: usize) -> Result<Image, LoadFault> {
     let mut input = BlockReader::new(alloc, PieceReader::new(bytes, piece)).expect(rt, "memory");
     read_image(alloc, &mut input)
-}
-
-// Whether these are the image's bytes.
-fn is_written_as(rt: &impl Abort, alloc: Global, image: &Image, bytes: &[u8]) -> bool {
-    let mut output = BlockWriter::new(alloc, PieceWriter::new(alloc, 7)).expect(rt, "memory");
-    write_image(&mut output, image).expect(rt, "writing");
-    output.flush().expect(rt, "writing");
-    output.get_ref().bytes() == bytes
 }
 
 // Why no image was read.
@@ -56,12 +49,12 @@ fn changed(rt: &impl Abort, alloc: Global, bytes: &[u8], place: usize, byte: u8)
     other
 }
 
-// What is told of bytes: `i` for an image that is written so again, `o` for one that isn't, as in the first version, `v` for a version,
+// What is told of bytes: `i` for an image whose core is saved so again, `o` for one whose isn't, as in the first version, `v` for a version,
 // `-` for none of these.
 fn told(rt: &impl Abort, alloc: Global, bytes: &[u8]) -> u8 {
     match read(rt, alloc, bytes, 1000) {
-        Ok(image) => {
-            if is_written_as(rt, alloc, &image, bytes) {
+        Ok(_) => {
+            if becomes(rt, alloc, bytes, bytes, 1000) {
                 b'i'
             } else {
                 b'o'
@@ -134,22 +127,14 @@ fn a_table_that_gives_timestamps_has_no_horizon(rt: HostRuntime) {
     assert!(rt; of_t.as_slice() == b"iiiiiiii".as_slice());
 }
 
-// Whether bytes of the first version are read, and then written as these of the second one.
-fn is_written_anew(rt: &impl Abort, alloc: Global, first: &[u8], bytes: &[u8]) -> bool {
-    match read(rt, alloc, first, 7) {
-        Ok(image) => is_written_as(rt, alloc, &image, bytes),
-        Err(_) => false,
-    }
-}
-
 #[test]
 fn the_first_version_is_written_as_the_second(rt: HostRuntime) {
     let alloc = rt.alloc();
-    assert!(rt; is_written_anew(&rt, alloc, FIRST_SMALLEST, SMALLEST));
-    assert!(rt; is_written_anew(&rt, alloc, FIRST_ONE_PUT, ONE_PUT));
+    assert!(rt; becomes(&rt, alloc, FIRST_SMALLEST, SMALLEST, 7));
+    assert!(rt; becomes(&rt, alloc, FIRST_ONE_PUT, ONE_PUT, 7));
     let without = changed(&rt, alloc, TWO_TABLES, HORIZON_OF_T, 0x80);
     let without = changed(&rt, alloc, &without, HORIZON_OF_T + 7, 0);
-    assert!(rt; is_written_anew(&rt, alloc, FIRST_TWO_TABLES, &without));
+    assert!(rt; becomes(&rt, alloc, FIRST_TWO_TABLES, &without, 7));
 }
 
 #[test]
@@ -167,7 +152,7 @@ fn a_version_has_its_own_tables(rt: HostRuntime) {
     }
 }
 
-// Whether each byte behind the version, where it is this one, gives an image that is written so again, or none.
+// Whether each byte behind the version, where it is this one, gives an image whose core is saved so again, or none.
 fn each_place_is_right(rt: &impl Abort, alloc: Global, bytes: &[u8], value: u8) -> bool {
     for place in 8..bytes.len() {
         let other = changed(rt, alloc, bytes, place, value);

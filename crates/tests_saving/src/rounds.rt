@@ -5,7 +5,7 @@ use std::alloc::Global;
 use std::process::Abort;
 
 // Whether the bytes are loaded, and the core is saved as these ones.
-fn becomes(rt: &impl Abort, alloc: Global, from: &[u8], to: &[u8], piece: usize) -> bool {
+pub fn becomes(rt: &impl Abort, alloc: Global, from: &[u8], to: &[u8], piece: usize) -> bool {
     match loaded(rt, alloc, from, piece) {
         Ok(core) => saved(rt, alloc, &core).as_slice() == to,
         Err(_) => false,

@@ -1,4 +1,4 @@
-//! Tests of shared books, and of connections over them, by public calls.
+//! Tests of connections over a core and over shared books, and of these, by public calls.
 //!
 //! What a connection is told frame by frame is tested by `tests/frames.sh`, with the built program.
 //!
@@ -6,6 +6,8 @@
 //! |---|---|
 //! | `talks` | the frames of some connections, and what they are told |
 //! | `serving` | these served over a shared book, cut anywhere, and where reading or writing fails; the receipts settle afterwards |
+//! | `core_serving` | these served over a core by one connection, in pieces, cut anywhere, and where reading or writing fails |
+//! | `moments` | moments that are listed before |
 //! | `settling` | threads that use one book by seats of their own, a thousand seats, and how many are out at its end |
 //! | `own_writes` | a connection that writes and then reads, and the numbers of its receipts |
 //! | `overlapping` | a batch that is held up until another connection's write was answered |
@@ -23,9 +25,13 @@ mod asking;
 #[cfg(test)]
 mod books;
 #[cfg(test)]
+mod core_serving;
+#[cfg(test)]
 mod gates;
 #[cfg(test)]
 mod merging;
+#[cfg(test)]
+mod moments;
 #[cfg(test)]
 mod overlapping;
 #[cfg(test)]

@@ -23,12 +23,12 @@ use tab_work::{Claims, Compactor, Gate, OpenGate, Shared};
 
 // It holds a merge up until the other connection was answered.
 #[derive(Drop)]
-struct Held<'a, R> {
+struct HoldingGate<'a, R> {
     rt: &'a R,
     signs: &'a Signs,
 }
 
-impl<R: Clock> Gate for Held<'_, R> {
+impl<R: Clock> Gate for HoldingGate<'_, R> {
     fn before_merge(&self) {
         self.signs.hold(self.rt);
     }
@@ -79,7 +79,7 @@ fn compacts_held_up<L: Ledger, R: Threads + Wait + Abort + Clock + Sync>(
     seat: Seat<L>,
     signs: &Signs,
 ) -> Worked<L> {
-    let gate = Held { rt, signs };
+    let gate = HoldingGate { rt, signs };
     let claims = Claims::new(alloc);
     let moments = Listed::new(Vec::new(alloc));
     let root = named(rt, b"root");

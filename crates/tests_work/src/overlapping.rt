@@ -20,12 +20,12 @@ use tab_work::{Gate, OpenGate, Shared};
 
 // It holds a batch up until the other connection was answered.
 #[derive(Drop)]
-struct Held<'a, R> {
+struct HoldingGate<'a, R> {
     rt: &'a R,
     signs: &'a Signs,
 }
 
-impl<R: Clock> Gate for Held<'_, R> {
+impl<R: Clock> Gate for HoldingGate<'_, R> {
     fn before_merge(&self) {}
 
     fn before_batch(&self) {
@@ -47,7 +47,7 @@ fn reads_held_up<L: Ledger, R: Threads + Wait + Abort + Clock + Sync>(
     let mut receipts = Vec::new(alloc);
     let reader = PieceReader::new(asked(1), 64);
     let writer = PieceWriter::new(alloc, 64);
-    let gate = Held { rt, signs };
+    let gate = HoldingGate { rt, signs };
     served_by(
         rt,
         alloc,

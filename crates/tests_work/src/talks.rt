@@ -1,7 +1,7 @@
 //! The frames of some connections with a new core, and the replies to them.
 
 // How many connections there are.
-pub const TALKS: u32 = 7;
+pub const TALKS: u32 = 8;
 
 // The end of the input inside a frame.
 const CUT: &[u8] = b"\0\0\0\x03\x81\x10\x03";
@@ -60,6 +60,23 @@ const UNKNOWN: &[u8] = b"\0\0\0\x09\x01\0\0\0\x04root\
 const UNKNOWN_TOLD: &[u8] = b"\0\0\0\x01\x80\
 \0\0\0\x03\x81\x10\x04\
 \0\0\0\x01\x80";
+
+// Sessions on a new table are numbered in one row, whatever stands between; the connection ends at a frame of length 0.
+const TWO_SESSIONS: &[u8] = b"\0\0\0\x09\x01\0\0\0\x04root\
+\0\0\0\x0b\x02\0\0\0\x01t\0\0\0\0\x01\
+\0\0\0\x10\x0b\0\0\0\x01t\0\0\0\0\0\0\0\0\0\0\
+\0\0\0\x01\x18\
+\0\0\0\x10\x0b\0\0\0\x01t\0\0\0\0\0\0\0\0\0\0\
+\0\0\0\x09\x0c\0\0\0\0\0\0\0\x01\
+\0\0\0\0";
+
+const TWO_SESSIONS_TOLD: &[u8] = b"\0\0\0\x01\x80\
+\0\0\0\x01\x80\
+\0\0\0\x05\x84\0\0\0\0\
+\0\0\0\x03\x81\x10\x04\
+\0\0\0\x05\x84\0\0\0\x01\
+\0\0\0\x02\x83\x01\
+\0\0\0\x03\x81\x10\x01";
 
 // A write and then a scan shows the cell, and once more after a second write.
 const OWN_WRITES: &[u8] = b"\0\0\0\x09\x01\0\0\0\x04root\
@@ -140,7 +157,8 @@ pub fn asked(talk: u32) -> &'static [u8] {
         3 => TOO_LONG,
         4 => CUT_LENGTH,
         5 => OWN_WRITES,
-        _ => UNKNOWN,
+        6 => UNKNOWN,
+        _ => TWO_SESSIONS,
     }
 }
 
@@ -153,7 +171,8 @@ pub fn told(talk: u32) -> &'static [u8] {
         3 => TOO_LONG_TOLD,
         4 => CUT_LENGTH_TOLD,
         5 => OWN_WRITES_TOLD,
-        _ => UNKNOWN_TOLD,
+        6 => UNKNOWN_TOLD,
+        _ => TWO_SESSIONS_TOLD,
     }
 }
 

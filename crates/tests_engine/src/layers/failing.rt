@@ -12,7 +12,7 @@ use tab_iter::{
     VersioningRule, VisibleRule, stack_of, stack_unread,
 };
 use tab_key::{Key, RecordRef};
-use tab_table::Table;
+use tab_table::SortedTable;
 use tab_testing::{auths_of, family};
 
 // A source that answers NoMemory once, at the call behind so many others.
@@ -263,8 +263,8 @@ fn builds_no_table_unpositioned(rt: HostRuntime) {
     let alloc = rt.alloc();
     let mut source = failing_table(&rt, alloc, 0).expect(&rt, "memory");
     assert!(rt; source.advance().is_err());
-    assert!(rt; Table::build(alloc, &mut source, 0, 0).is_err());
+    assert!(rt; SortedTable::build(alloc, &mut source, 0, 0).is_err());
     source.seek(start()).expect(&rt, "memory");
-    let table = Table::build(alloc, &mut source, 0, 0).expect(&rt, "memory");
+    let table = SortedTable::build(alloc, &mut source, 0, 0).expect(&rt, "memory");
     assert!(rt; table.len() == 15);
 }

@@ -10,7 +10,7 @@ use Rattle.tab_history.specs.Refinement.{Refines}
 use Rattle.tab_history.specs.Chains.{IsChain}
 use Rattle.tab_history.proofs.Lacking.{legal}
 use Rattle.tab_store.specs.Parts.{TabletMerge}
-use Rattle.tab_store.specs.Stores.{Held, base_of}
+use Rattle.tab_store.specs.Stores.{CoreContents, base_of}
 use Rattle.tab_store.specs.Chains.{EntryGoes, IsExactRun, starting}
 use Rattle.tab_core.specs.Slots.{history_of}
 use Rattle.tab_core.specs.declared.job_slots.JobSlot.{JobSlot}

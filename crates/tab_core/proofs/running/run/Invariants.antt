@@ -5,7 +5,7 @@ use Rattle.tab_history.specs.Legal.{Legal}
 use Rattle.tab_history.specs.Refinement.{Refines}
 use Rattle.tab_history.specs.Chains.{IsChain}
 use Rattle.tab_store.specs.Parts.{TabletMerge}
-use Rattle.tab_store.specs.Stores.{Held, base_of, IsNewStore}
+use Rattle.tab_store.specs.Stores.{CoreContents, base_of, IsNewStore}
 use Rattle.tab_store.specs.Chains.{EntryGoes, starting}
 use Rattle.tab_core.specs.JobSlots.{JobsAre, HoldMerges}
 use Rattle.tab_core.specs.Slots.{history_of}
@@ -20,5 +20,5 @@ invariant-loop-step l = record {
   owners : OwnersRefine l.sessions (world_of new_core) (history_of l.yielded l.replies.items);
   jobs : JobsAre (jobs_of (history_of l.yielded l.replies.items)) l.jobs;
   legal : Legal (world_of new_core) (history_of l.yielded l.replies.items);
-  exact : (first : Held) × (merges : List TabletMerge) × IsNewStore first × HoldMerges l.jobs merges × IsChain EntryGoes (starting first) (history_of l.yielded l.replies.items) (record { held = l.core; begun = merges });
+  exact : (first : CoreContents) × (merges : List TabletMerge) × IsNewStore first × HoldMerges l.jobs merges × IsChain EntryGoes (starting first) (history_of l.yielded l.replies.items) (record { held = l.core; begun = merges });
 }

@@ -1,6 +1,6 @@
 use Rattle.std.proofs.Common.{◌≡◌, ◌∙◌, ◌≤◌, List, ◌∷◌, [], map, ap, arith, rules}
 use Rattle.tab_history.specs.declared.counts.Counts.{Counts}
-use Rattle.tab_store.specs.Stores.{HeldTable, counts_of}
+use Rattle.tab_store.specs.Stores.{TableContents, counts_of}
 use Rattle.tab_store.specs.Tables.{named_table}
 use Rattle.tab_core.specs.Totals.{added}
 use Rattle.tab_core.proofs.Summed.{none_summed, one_more, stays_told, all_summed}
@@ -21,8 +21,8 @@ loop-table-init c =
 pub loop-table-preserved : goal.loop-table-preserved
 loop-table-preserved c =
     let at = c.loop-table in
-    let rest : List HeldTable = map named_table c.next.new.self in
-    let one : HeldTable = named_table (c.in-Some.field-0-0.now, c.in-Some.table.now) in
+    let rest : List TableContents = map named_table c.next.new.self in
+    let one : TableContents = named_table (c.in-Some.field-0-0.now, c.in-Some.table.now) in
     let front : map named_table at.table-iterator ≡ one ∷ rest = ap (map named_table) c.in-Some.ensures.steps in
     let sums : c.added-sums.result ≡ added at.sums (counts_of one.tablets) = c.added-sums.ensures ∙ ap (added at.sums) c.counts.ensures in
     let tablets = ap (λ (k : Counts). k.tablets) sums in
@@ -40,7 +40,7 @@ loop-table-preserved c =
 pub returns : goal.returns
 returns c =
     let at = c.loop-table in
-    let left : List HeldTable = map named_table at.table-iterator in
+    let left : List TableContents = map named_table at.table-iterator in
     let none : left ≡ [] = ap (map named_table) c.in-None.ensures.steps.0 in
     let tablets = all_summed (λ k. k.tablets) at.sums.tablets left at.invariant.few_tablets none ∙ at.invariant.tablets in
     let sources = all_summed (λ k. k.sources) at.sums.sources left at.invariant.few_sources none ∙ at.invariant.sources in

@@ -1,5 +1,5 @@
 use Rattle.std.proofs.Common.{rules, ◌≤◌}
-use Rattle.tab_key.specs.declared.part.TheConstants.{MAX_PART_LEN}
+use Rattle.tab_key.specs.declared.limited_part.TheConstants.{MAX_PART_LEN}
 use Rattle.tab_image.proofs.FieldLemmas.{part_reads}
 use Rattle.tab_image.proofs.fields.read_part.Goals as goal
 

@@ -1,7 +1,7 @@
 use Rattle.std.proofs.Common.{rules, ◌≡◌, ◌∷◌, [], sym, subst, ◌∙◌, Some, true, false}
 use Rattle.std.specs.Prelude.{codes}
 use Rattle.std.specs.Str.{bytes_eq}
-use Rattle.tab_lines.specs.Gives.{SaysNone}
+use Rattle.tab_text.specs.Gives.{SaysNone}
 use Rattle.tab_lines.specs.Words.{words_left}
 use Rattle.tab_lines.specs.Updates.{updated, update_of}
 use Rattle.tab_lines.proofs.UpdateLemmas.{step_last, step_more, step_other, step_len, step_fails}

@@ -5,7 +5,7 @@ use Rattle.tab_image.specs.Images.{written_version}
 use Rattle.tab_image.specs.Spelling.{front_bytes}
 use Rattle.tab_policy.specs.Holders.{AreUsers}
 use Rattle.tab_policy.specs.State.{State}
-use Rattle.tab_store.specs.Stores.{HeldTable, Held}
+use Rattle.tab_store.specs.Stores.{TableContents, CoreContents}
 use Rattle.tab_saving.specs.Saves.{Saves, RootHasAll, AreListed}
 use Rattle.tab_saving.specs.Typed.{IsTypedUser, IsTypedTable}
 use Rattle.tab_saving.proofs.Fitting.{spelled_with}
@@ -27,13 +27,13 @@ pub put_held-requires-clause-users : goal.put_held-requires-clause-users
 put_held-requires-clause-users g c = subst (λ s. AreUsers s c.args.users.now) (sym c.policy.ensures) c.requires.users
 
 pub put_held-requires-clause-listed : goal.put_held-requires-clause-listed
-put_held-requires-clause-listed g c = subst (AllByRecursion (λ (t : HeldTable). AreListed t.tablets)) (sym c.tables.ensures) (all_listed c.args.core.now c.requires.core)
+put_held-requires-clause-listed g c = subst (AllByRecursion (λ (t : TableContents). AreListed t.tablets)) (sym c.tables.ensures) (all_listed c.args.core.now c.requires.core)
 
 pub returns-clause-put : goal.returns-clause-put
 returns-clause-put g c =
     let h = c.args.core.now in
     let names = c.args.users.now in
-    let put : State → List HeldTable → Type 0 = λ s ts. Saves g.W.Output c.put_clocks.new.output c.put_held.new.output (held_bytes (record h { policy = s; tables = ts }) names) c.put_held.result in
+    let put : State → List TableContents → Type 0 = λ s ts. Saves g.W.Output c.put_clocks.new.output c.put_held.new.output (held_bytes (record h { policy = s; tables = ts }) names) c.put_held.result in
     let held : put h.policy h.tables = subst (λ s. put s h.tables) c.policy.ensures (subst (put c.policy.result.now) c.tables.ensures c.put_held.ensures.put) in
     saves_same g.W.Output c.args.output.now c.put_held.new.output _ _ c.put_held.result (image_written h names)
     (saves_more g.W.Output c.args.output.now c.put_clocks.new.output c.put_held.new.output (front_bytes written_version h.clock h.next) (held_bytes h names) c.put_held.result c.in_ok-put_clocks.ensures.put held)

@@ -2,7 +2,7 @@ use Rattle.std.proofs.Common.{rules, ◌≡◌, ◌∙◌, ℕ, ◌≤◌, ◌<�
 use Rattle.std.specs.Prelude.{◌&&◌, FitsSigned}
 use Rattle.std.specs.Int.{w64, cast_unsigned}
 use Rattle.std.proofs.lemmas.Bool.{le-leb}
-use Rattle.tab_key.specs.declared.part.TheConstants.{MAX_VERSIONS}
+use Rattle.tab_key.specs.declared.limited_part.TheConstants.{MAX_VERSIONS}
 use Rattle.tab_rules.specs.Constraints.{constraint_set_of}
 use Rattle.tab_history.specs.Settings.{is_version_count}
 use Rattle.tab_saving.proofs.tables.keep_types.Goals as goal

@@ -2,7 +2,7 @@ use Rattle.std.proofs.Common.{◌≡◌, ◌∙◌, ◌∷◌, map, sym, ap, sub
 use Rattle.std.specs.List.{AllByRecursion}
 use Rattle.tab_image.specs.Images.{written_version}
 use Rattle.tab_image.specs.Spelling.{table_bytes}
-use Rattle.tab_store.specs.Stores.{HeldTable}
+use Rattle.tab_store.specs.Stores.{TableContents}
 use Rattle.tab_store.specs.Tables.{named_table}
 use Rattle.tab_saving.specs.ImageOf.{table_of}
 use Rattle.tab_saving.specs.Saves.{AreListed}
@@ -16,7 +16,7 @@ loop-name-init g c =
     let all : map named_table c.into_iter-name-iterator.result ≡ c.args.tables.now = search rules in
     record {
       put = λ names users. subst (PutSome g.W.Output c.args.output.now c.args.output.now (λ t. table_bytes written_version (table_of c.args.policy.now names t)) c.args.tables.now) (sym all) (some_none g.W.Output (λ t. table_bytes written_version (table_of c.args.policy.now names t)) c.args.output.now c.args.tables.now);
-      listed = subst (AllByRecursion (λ (t : HeldTable). AreListed t.tablets)) (sym all) c.requires;
+      listed = subst (AllByRecursion (λ (t : TableContents). AreListed t.tablets)) (sym all) c.requires;
       typed = subst (λ left. AllByRecursion IsTypedTable left → AllByRecursion IsTypedTable c.args.tables.now) (sym all) (λ a. a);
     }
 
@@ -28,7 +28,7 @@ loop-name-preserved g c =
     let front : left ≡ one ∷ rest = ap (map named_table) c.in-Some.ensures.steps ∙ ap (λ n. named_table (n, c.in-Some.table.now) ∷ rest) (sym c.to_name.ensures) in
     record {
       put = λ names users. some_more g.W.Output (λ t. table_bytes written_version (table_of c.args.policy.now names t)) c.args.output.now c.loop-name.output c.put_table.new.output c.args.tables.now left rest one (c.loop-name.invariant.put names users) front (c.in-Ok.ensures.put names users);
-      listed = (subst (AllByRecursion (λ (t : HeldTable). AreListed t.tablets)) front c.loop-name.invariant.listed).1;
+      listed = (subst (AllByRecursion (λ (t : TableContents). AreListed t.tablets)) front c.loop-name.invariant.listed).1;
       typed = λ more. one_less IsTypedTable c.args.tables.now left rest one c.loop-name.invariant.typed front c.in-Ok.ensures.typed more;
     }
 

@@ -1,5 +1,5 @@
 use Rattle.std.proofs.Common.{◌≡◌, ◌∙◌, ◌+◌, ℕ, List, Ok, None, true, false, sym, ap, subst, rules, to_z, of_z, w64}
-use Rattle.tab_key.specs.declared.part.Part.TheVariants.{Sessions}
+use Rattle.tab_key.specs.declared.limited_part.LimitedPart.TheVariants.{Sessions}
 use Rattle.tab_core.specs.OpenSession.{OpenSession}
 use Rattle.tab_history.specs.Answers.{told_of}
 use Rattle.tab_history.specs.declared.event.Act.TheVariants.{Open}
@@ -9,9 +9,9 @@ use Rattle.tab_history.specs.declared.reply.Refusal.TheVariants.{TooLarge}
 use Rattle.tab_history.specs.declared.reply.Reply.{Reply}
 use Rattle.tab_history.specs.declared.reply.Reply.TheVariants.{Opened}
 use Rattle.tab_core.specs.Parts.{TabletMerge}
-use Rattle.tab_core.specs.Stores.{Held, base_of}
+use Rattle.tab_core.specs.Stores.{CoreContents, base_of}
 use Rattle.tab_core.specs.Stepping.{Steps, StepsWith, asked_at}
-use Rattle.tab_core.specs.declared.sessions.Kept.{Kept}
+use Rattle.tab_core.specs.declared.sessions.UserSessions.{UserSessions}
 use Rattle.tab_core.specs.Sessions.{is_spent, KeepsFor}
 use Rattle.tab_lines.specs.declared.line.Line.TheVariants as line
 use Rattle.tab_replies.specs.Texts.{refusal_text, reply_text}
@@ -34,7 +34,7 @@ pub returns-in-Opened : goal.returns-in-Opened
 returns-in-Opened g c keeping keeping' jobs own keeps =
     let v : ScriptState = record { core = c.args.core.now; asker = record { user = c.args.user.now; moment = c.args.moment }; kept = keeping; jobs = jobs } in
     let scan : Scan = c.args.scan.now in
-    let new : Held = c.open_lent.new.self in
+    let new : CoreContents = c.open_lent.new.self in
     let no : c.is_spent.result ≡ false = search rules in
     let room : is_spent (own_kept v) ≡ false = ap is_spent own ∙ sym c.is_spent.ensures ∙ no in
     let trip : to_z w64 (of_z w64 c.args.moment) ≡ c.args.moment = search rules in
@@ -44,17 +44,17 @@ returns-in-Opened g c keeping keeping' jobs own keeps =
     let session : OpenSession = c.in-Opened.session in
     let opening : Steps (base_of v.core) (event_by v.asker (Open scan)) (Opened session) (base_of new) = subst (λ (r : Reply OpenSession TabletMerge). Steps (base_of v.core) (event_by v.asker (Open scan)) r (base_of new)) c.in-Opened.is steps in
     let goes : OpensExactly v new scan (Opened tt) = subst (λ (r : Reply OpenSession TabletMerge). OpensExactly v new scan (told_of r)) c.in-Opened.is (opens_exactly v new scan c.open_lent.result exact) in
-    let counted : c.count_scan.new.self ≡ record (own_kept v) { scanned = (own_kept v).scanned + 1 } = c.count_scan.ensures ∙ sym (ap (λ (k : Kept). record k { scanned = k.scanned + 1 }) own) in
+    let counted : c.count_scan.new.self ≡ record (own_kept v) { scanned = (own_kept v).scanned + 1 } = c.count_scan.ensures ∙ sym (ap (λ (k : UserSessions). record k { scanned = k.scanned + 1 }) own) in
     let puts = c.put_session.ensures in
     let answered : ScriptAnswersLine v (Ok (line.Scan scan)) puts.0 (with_sessions v new keeping') =
-    scan_answered v new keeping' scan session puts.0 room opening goes (subst (λ (k : Kept). KeepsFor v.asker.user k keeping keeping') counted keeps) puts.1 in
+    scan_answered v new keeping' scan session puts.0 room opening goes (subst (λ (k : UserSessions). KeepsFor v.asker.user k keeping keeping') counted keeps) puts.1 in
     (puts.0, answered, puts.2)
 
 pub returns-in_default : goal.returns-in_default
 returns-in_default g c keeping keeping' jobs own keeps =
     let v : ScriptState = record { core = c.args.core.now; asker = record { user = c.args.user.now; moment = c.args.moment }; kept = keeping; jobs = jobs } in
     let scan : Scan = c.args.scan.now in
-    let new : Held = c.open_lent.new.self in
+    let new : CoreContents = c.open_lent.new.self in
     let no : c.is_spent.result ≡ false = search rules in
     let room : is_spent (own_kept v) ≡ false = ap is_spent own ∙ sym c.is_spent.ensures ∙ no in
     let trip : to_z w64 (of_z w64 c.args.moment) ≡ c.args.moment = search rules in

@@ -1,6 +1,6 @@
 use Rattle.std.proofs.Common.{◌≡◌, ◌∙◌, List, ◌∷◌, [], ◌++◌, map, sym, ap, append_assoc, rules}
 use Rattle.tab_tablets.specs.Tablets.{Tablet}
-use Rattle.tab_store.specs.Stores.{HeldTable}
+use Rattle.tab_store.specs.Stores.{TableContents}
 use Rattle.tab_store.specs.Due.{due_among, all_due, listed_on}
 use Rattle.tab_store.specs.Tables.{named_table}
 use Rattle.tab_store.specs.declared.due.Due.{Due}
@@ -15,8 +15,8 @@ loop-table-init c =
 pub loop-table-preserved : goal.loop-table-preserved
 loop-table-preserved c =
     let at = c.loop-table in
-    let rest_of : List HeldTable = map named_table c.next.new.self in
-    let one : HeldTable = named_table (c.in-Some.field-0-0.now, c.in-Some.table.now) in
+    let rest_of : List TableContents = map named_table c.next.new.self in
+    let one : TableContents = named_table (c.in-Some.field-0-0.now, c.in-Some.table.now) in
     let front : map named_table at.table-iterator ≡ one ∷ rest_of = ap (map named_table) c.in-Some.ensures.steps in
     let behind : List Due = all_due c.args.kind rest_of in
     record {

@@ -3,7 +3,7 @@ use Rattle.std.proofs.Common.{◌≡◌, ◌∙◌, ℕ, List, ◌++◌, ◌∷�
 use Rattle.std.proofs.lemmas.List.{length-map}
 use Rattle.tab_key.specs.Encoding.{record_at, records_at, AreAt}
 use Rattle.tab_key.proofs.Placed.{same_records, pushed_at, pushed_records}
-use Rattle.tab_mem.specs.Fronts.{AreFronts}
+use Rattle.tab_mem.specs.RowIndex.{IsRowIndex}
 use Rattle.tab_mem.proofs.Copied.{copied_one}
 use Rattle.tab_table.specs.Sizes.{size_behind, base_of, key_behind, no_key}
 use Rattle.tab_table.proofs.Grown.{nothing_sized, nothing_indexed, more_sized, twice, front_at, moved}
@@ -14,13 +14,13 @@ loop-next-init g c =
     let body = c.in_ok-body.body.items in
     let places = c.in_ok-places.places.items in
     let no_places : places ≡ [] = search rules in
-    let no_fronts : c.in_ok-fronts.fronts.numbers.items ≡ [] = search rules in
+    let no_fronts : c.in_ok-row_index.row_index.numbers.items ≡ [] = search rules in
     record {
       copied = ap (λ ps. records_at body ps ++ g.S.Source.rest c.args.source.now) no_places;
       within = subst (AreAt body) (sym no_places) tt;
       size = nothing_sized body places no_places;
       few = omega arith;
-      indexed = nothing_indexed c.in_ok-fronts.fronts.numbers.items body places no_fronts no_places;
+      indexed = nothing_indexed c.in_ok-row_index.row_index.numbers.items body places no_fronts no_places;
     }
 
 pub base_of-requires : goal.base_of-requires
@@ -52,12 +52,12 @@ loop-next-preserved g c =
     let base = base_of (length (records_at old places)) (key_behind no_key (records_at old places)) in
     let size : c.size_behind-more.result ≡ size_behind base r =
     c.size_behind-more.ensures ∙ (λ i. size_behind (c.base_of.ensures i) (copy i)) ∙ ap (λ rs. size_behind (base_of (length rs) (key_behind no_key rs)) r) there in
-    let before : AreFronts c.make_room.new.self.numbers.items (records_at old places) = subst (λ ns. AreFronts ns (records_at old places)) (sym {A = List ℕ} c.make_room.ensures.same) inv.indexed in
+    let before : IsRowIndex c.make_room.new.self.numbers.items (records_at old places) = subst (λ ns. IsRowIndex ns (records_at old places)) (sym {A = List ℕ} c.make_room.ensures.same) inv.indexed in
     let count : length (records_at old places) ≡ c.len.result = length-map places (record_at old) ∙ (let same : length places ≡ c.len.result = search rules in same) in
     record {
       copied = copied_one (records_at old places) (records_at new now) (g.S.Source.rest c.loop-next.source) (g.S.Source.rest c.advance.new.self) (g.S.Source.rest c.args.source.now) r inv.copied c.in-Some.ensures more c.in_ok-advance.ensures.rest;
       within = pushed_at old new places now place pushed c.append_copy.ensures.front inv.within made.within;
       size = more_sized (records_at old places) (records_at new now) r c.loop-next.size c.size_behind-more.result more size inv.size;
       few = twice base r (length old) (length new) c.loop-next.size c.size_behind-more.result inv.few made.size size;
-      indexed = subst (AreFronts c.put.new.self.numbers.items) (sym more) (c.put.ensures (records_at old places) count before);
+      indexed = subst (IsRowIndex c.put.new.self.numbers.items) (sym more) (c.put.ensures (records_at old places) count before);
     }

@@ -1,5 +1,5 @@
 use Rattle.std.proofs.Common.{◌≤◌, length}
 use Rattle.tab_tablet.proofs.growing.count_kept.Given as goal
 
-abbrev pub invariant-loop-body : goal.invariant-loop-body
-invariant-loop-body l = l.kept ≤ length l.bodies
+abbrev pub invariant-loop-merged_run : goal.invariant-loop-merged_run
+invariant-loop-merged_run l = l.kept ≤ length l.merged_runs

@@ -7,7 +7,7 @@ use Rattle.tab_tablets.proofs.opening.clips_in.Given as goal
 
 abbrev pub invariant-loop-place : goal.invariant-loop-place
 invariant-loop-place l = record {
-  clips : map in_its_order l.clips.items ≡ map (part_sorted l.bounds) (slice_range l.line l.from l.place);
-  made : AreMade frozen l.line l.made.items;
-  settled : (k : ℕ) → l.from ≤ k → k < l.place → IsSettled frozen l.line l.made.items k;
+  clips : map in_its_order l.clips.items ≡ map (part_sorted l.bounds) (slice_range l.tablet_list l.from l.place);
+  made : AreMade frozen l.tablet_list l.made.items;
+  settled : (k : ℕ) → l.from ≤ k → k < l.place → IsSettled frozen l.tablet_list l.made.items k;
 }

@@ -3,7 +3,7 @@ use Rattle.std.proofs.Common.{◌≡◌, ◌++◌, ◌-◌, map, take, drop}
 use Rattle.tab_iter.specs.Bags.{flat}
 use Rattle.tab_mem.specs.Lists.{part, HasShortParts}
 use Rattle.tab_mem.specs.Cursors.{whole, rest}
-use Rattle.tab_table.specs.Tables.{records}
+use Rattle.tab_table.specs.SortedTables.{records}
 use Rattle.tab_version.specs.OneOf.{one_of}
 use Rattle.tab_version.proofs.clips.put_runs.Given as goal
 

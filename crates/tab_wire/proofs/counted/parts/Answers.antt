@@ -8,8 +8,8 @@ use Rattle.tab_wire.proofs.counted.parts.Goals as goal
 
 pub loop-preserved : goal.loop-preserved
 loop-preserved g c =
-    let reads = g.T.Part.reads in
-    let see = g.T.Part.meaning_of in
+    let reads = g.T.Countable.reads in
+    let see = g.T.Countable.meaning_of in
     let before = map see c.loop.parts.items in
     let part = c.in_ok-take.field-0 in
     let e : map see c.push.new.self.items ≡ before ++ see part ∷ [] = ap (map see) c.in_ok-push.ensures.items ∙ map_push see c.loop.parts.items part in

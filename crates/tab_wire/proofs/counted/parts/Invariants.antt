@@ -7,4 +7,4 @@ use Rattle.tab_wire.proofs.counted.parts.Given as goal
 
 abbrev pub invariant-loop : goal.invariant-loop
 invariant-loop g l =
-    with_front (map g.T.Part.meaning_of l.parts.items) (parts_at g.T.Part.reads (l.count - l.counter) (bytes_left l.fields)) ≡ parts_at g.T.Part.reads l.count (bytes_left l.fn.fields)
+    with_front (map g.T.Countable.meaning_of l.parts.items) (parts_at g.T.Countable.reads (l.count - l.counter) (bytes_left l.fields)) ≡ parts_at g.T.Countable.reads l.count (bytes_left l.fn.fields)

@@ -1,5 +1,5 @@
 use Rattle.std.proofs.Common.{◌≡◌, ◌∙◌, ap, refl, rules}
-use Rattle.tab_core.specs.declared.sessions.Kept.{Kept}
+use Rattle.tab_core.specs.declared.sessions.UserSessions.{UserSessions}
 use Rattle.tab_core.specs.Sessions.{Keeping, kept_of}
 use Rattle.tab_core.proofs.KeptLemmas.{leaves_kept, kept_value}
 use Rattle.tab_core.proofs.sessions.Sessions.kept_for.Goals as goal
@@ -9,6 +9,6 @@ returns c =
     let old : Keeping = c.args.self.now in
     let ready : Keeping = c.ready.new.self in
     let user = c.args.user.now in
-    let left = λ (kept : Kept). leaves_kept user old ready _ kept c.find.result c.ready.ensures.same (c.find.follows.holds kept) in
+    let left = λ (kept : UserSessions). leaves_kept user old ready _ kept c.find.result c.ready.ensures.same (c.find.follows.holds kept) in
     let none : c.find.follows.lender-at-none ≡ ready = search rules in
     ((refl, left, λ n. ap (λ (ks : Keeping). kept_of ks n) none ∙ c.ready.ensures.same n), record { lends = tt; value = kept_value user old ready c.find.result c.find.ensures.value c.ready.ensures.same })

@@ -1,6 +1,6 @@
 use Rattle.std.proofs.Common.{subst, rules, to_z, of_z, w64, Some}
 use Rattle.tab_history.specs.Answers.{told_of, job_of}
-use Rattle.tab_store.specs.Stores.{Held, base_of}
+use Rattle.tab_store.specs.Stores.{CoreContents, base_of}
 use Rattle.tab_store.specs.Stepping.{StepsExactly}
 use Rattle.tab_core.specs.Holding.{held}
 use Rattle.tab_core.specs.Stepping.{Steps, installs_at}
@@ -17,11 +17,11 @@ returns-clause-steps c =
     let done : StepsWell (held c.self.inside.store) (Some c.args.finished) (installs_at c.args.user.now c.args.moment c.args.table.now c.args.finished) c.answer_install-answer.result (record (held c.answer_install-answer.new.self) { clock = c.move_clock.new.clock }) =
     well (held c.self.inside.store) (held c.answer_install-answer.new.self) (Some c.args.finished) (installs_at c.args.user.now c.args.moment c.args.table.now c.args.finished) c.answer_install-answer.result c.later-now.result (to_z w64 (of_z w64 c.later-now.result)) c.move_clock.new.clock
     c.self.invariant tt tt (search rules) (search rules) c.answer_install-answer.ensures (search rules) in
-    subst (λ (h : Held). Steps (base_of h) (installs_at c.args.user.now c.args.moment c.args.table.now c.args.finished) c.answer_install-answer.result (base_of (record (held c.answer_install-answer.new.self) { clock = c.move_clock.new.clock }))) c.self.view_is done.steps
+    subst (λ (h : CoreContents). Steps (base_of h) (installs_at c.args.user.now c.args.moment c.args.table.now c.args.finished) c.answer_install-answer.result (base_of (record (held c.answer_install-answer.new.self) { clock = c.move_clock.new.clock }))) c.self.view_is done.steps
 
 pub returns-clause-exact : goal.returns-clause-exact
 returns-clause-exact c =
     let done : StepsWell (held c.self.inside.store) (Some c.args.finished) (installs_at c.args.user.now c.args.moment c.args.table.now c.args.finished) c.answer_install-answer.result (record (held c.answer_install-answer.new.self) { clock = c.move_clock.new.clock }) =
     well (held c.self.inside.store) (held c.answer_install-answer.new.self) (Some c.args.finished) (installs_at c.args.user.now c.args.moment c.args.table.now c.args.finished) c.answer_install-answer.result c.later-now.result (to_z w64 (of_z w64 c.later-now.result)) c.move_clock.new.clock
     c.self.invariant tt tt (search rules) (search rules) c.answer_install-answer.ensures (search rules) in
-    subst (λ (h : Held). StepsExactly h (Some c.args.finished) (installs_at c.args.user.now c.args.moment c.args.table.now c.args.finished) (told_of c.answer_install-answer.result) (job_of c.answer_install-answer.result) (record (held c.answer_install-answer.new.self) { clock = c.move_clock.new.clock })) c.self.view_is done.exact
+    subst (λ (h : CoreContents). StepsExactly h (Some c.args.finished) (installs_at c.args.user.now c.args.moment c.args.table.now c.args.finished) (told_of c.answer_install-answer.result) (job_of c.answer_install-answer.result) (record (held c.answer_install-answer.new.self) { clock = c.move_clock.new.clock })) c.self.view_is done.exact

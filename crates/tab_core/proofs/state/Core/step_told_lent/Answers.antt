@@ -5,7 +5,7 @@ use Rattle.tab_history.specs.declared.reply.Reply.{Reply}
 use Rattle.tab_history.specs.declared.reply.Reply.TheVariants.{Refused}
 use Rattle.tab_store.specs.Parts.{TabletMerge}
 use Rattle.tab_history.specs.Answers.{told_of}
-use Rattle.tab_store.specs.Stores.{Held, base_of}
+use Rattle.tab_store.specs.Stores.{CoreContents, base_of}
 use Rattle.tab_core.specs.Holding.{held}
 use Rattle.tab_core.specs.EventReplies.{is_long}
 use Rattle.tab_core.specs.Recording.{StepsOn}
@@ -31,5 +31,5 @@ returns-clause-steps c =
     let done : StepsWell (held c.self.inside.store) None (asked_at c.args.user.now c.args.moment c.args.act.now) c.answer_told-answered.result.0 (record (held c.answer_told-answered.new.self) { clock = c.move_clock.new.clock }) =
     well (held c.self.inside.store) (held c.answer_told-answered.new.self) None (asked_at c.args.user.now c.args.moment c.args.act.now) c.answer_told-answered.result.0 c.later-now.result (to_z w64 (of_z w64 c.later-now.result)) c.move_clock.new.clock
     c.self.invariant c.keep_markers.ensures c.in_default.ensures.none (search rules) (search rules) c.answer_told-answered.ensures.acts (search rules) in
-    subst (λ (h : Held). StepsOn h None (asked_at c.args.user.now c.args.moment c.args.act.now) c.answer_told-answered.result.0 (record (held c.answer_told-answered.new.self) { clock = c.move_clock.new.clock })) c.self.view_is
+    subst (λ (h : CoreContents). StepsOn h None (asked_at c.args.user.now c.args.moment c.args.act.now) c.answer_told-answered.result.0 (record (held c.answer_told-answered.new.self) { clock = c.move_clock.new.clock })) c.self.view_is
     (steps_on (held c.self.inside.store) (record (held c.answer_told-answered.new.self) { clock = c.move_clock.new.clock }) None (asked_at c.args.user.now c.args.moment c.args.act.now) c.answer_told-answered.result.0 done.steps (steps_alone (held c.self.inside.store) (record (held c.answer_told-answered.new.self) { clock = c.move_clock.new.clock }) None (asked_at c.args.user.now c.args.moment c.args.act.now) c.answer_told-answered.result.0 c.in_default.ensures.none done))

@@ -6,7 +6,7 @@ use Rattle.tab_history.specs.declared.event.Act.TheVariants as act
 use Rattle.tab_history.specs.declared.reply.Refusal.TheVariants.{NoMemory}
 use Rattle.tab_history.specs.declared.reply.Reply.TheVariants.{Done, Refused}
 use Rattle.tab_history.specs.Readings.{has_user}
-use Rattle.tab_store.specs.Stores.{HeldTable}
+use Rattle.tab_store.specs.Stores.{TableContents}
 use Rattle.tab_store.specs.Tables.{made_table, table_at}
 use Rattle.tab_store.proofs.Changed.{tables_back, count_back}
 use Rattle.tab_core.specs.Holding.{held}
@@ -28,7 +28,7 @@ returns-then-len-ge-MAX_TABLES c =
 
 pub returns-in-Err : goal.returns-in-Err
 returns-in-Err c =
-    subst (λ (ts : List HeldTable). Does c.args.self.now c.args.now c.args.user.now (act.CreateTable c.args.table.now c.args.time c.args.versions) (Refused NoMemory) (record (c.args.self.now) { tables = ts })) (sym c.in-Err.ensures.err)
+    subst (λ (ts : List TableContents). Does c.args.self.now c.args.now c.args.user.now (act.CreateTable c.args.table.now c.args.time c.args.versions) (Refused NoMemory) (record (c.args.self.now) { tables = ts })) (sym c.in-Err.ensures.err)
     (lacked _ (held c.args.self.now) c.args.now c.args.user.now (act.CreateTable c.args.table.now c.args.time c.args.versions) refl c.requires.core)
 
 pub returns-in-Ok-create_table : goal.returns-in-Ok-create_table

@@ -52,7 +52,7 @@ invariant_of-self-2 g c =
     }
 
 pub returns-clause-batch : goal.returns-clause-batch
-returns-clause-batch g c front bs k is =
+returns-clause-batch g c header bs k is =
     let w = c.args.self.now in
     let ok : w.has_failed ≡ false = search rules in
     let file = g.D.Device.seen w.device in
@@ -63,7 +63,7 @@ returns-clause-batch g c front bs k is =
     let fits : w.settled < 2 ^ 64 = search rules in
     let short : length c.args.body.now < 2 ^ 32 = search rules in
     let right : c.in_ok-text.sum < 2 ^ 64 = search rules in
-    put_as file now c.args.body.now w.salt w.sum w.settled c.in_ok-text.sum front bs k now_is c.in_ok-text.ensures.sum low fits short right is
+    put_as file now c.args.body.now w.salt w.sum w.settled c.in_ok-text.sum header bs k now_is c.in_ok-text.ensures.sum low fits short right is
 
 pub returns-clause-any_moment : goal.returns-clause-any_moment
 returns-clause-any_moment g c ok =

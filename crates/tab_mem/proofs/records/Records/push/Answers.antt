@@ -6,7 +6,7 @@ use Rattle.tab_key.specs.KeyOf.{key_of}
 use Rattle.tab_key.specs.Records.{Record}
 use Rattle.tab_key.proofs.Placed.{pushed_records}
 use Rattle.tab_iter.specs.Lists.{latest}
-use Rattle.tab_mem.specs.Fronts.{AreFronts}
+use Rattle.tab_mem.specs.RowIndex.{IsRowIndex}
 use Rattle.tab_mem.proofs.Placing.{indexed_more}
 use Rattle.tab_mem.proofs.records.Records.push.Goals as goal
 
@@ -16,10 +16,10 @@ invariant_of-self-in-Ok c =
     let r : Record = record { key = key_of c.args.key; kind = c.args.kind; value = c.args.value.now; seq = c.args.seq; idx = c.args.idx } in
     let rs = records_at c.self.inside.body.items c.self.inside.places.items in
     let count : length rs ≡ c.len.result = length-map c.self.inside.places.items (record_at c.self.inside.body.items) ∙ (let same : length c.self.inside.places.items ≡ c.len.result = search rules in same) in
-    let before : AreFronts c.make_room.new.self.numbers.items rs = subst (λ ns. AreFronts ns rs) (sym c.make_room.ensures.same) c.self.invariant.fronts in
+    let before : IsRowIndex c.make_room.new.self.numbers.items rs = subst (λ ns. IsRowIndex ns rs) (sym c.make_room.ensures.same) c.self.invariant.row_index in
     let noted : c.at-lent.result ≡ r = c.at-lent.ensures ∙ (search rules) in
     indexed_more _ _ _ _ _ _ c.in-Ok.place r c.in-Ok.ensures.place (c.push_reserved.ensures.items ∙ ap (λ xs. xs ++ c.in-Ok.place ∷ []) c.in_ok-reserve.ensures.items) c.append.ensures.front c.self.invariant c.in-Ok.ensures.within c.in-Ok.ensures.record fits
-    (subst (λ u. AreFronts c.put.new.self.numbers.items (rs ++ u ∷ [])) noted (c.put.ensures rs count before))
+    (subst (λ u. IsRowIndex c.put.new.self.numbers.items (rs ++ u ∷ [])) noted (c.put.ensures rs count before))
 
 pub returns-in-Ok-clause-ok : goal.returns-in-Ok-clause-ok
 returns-in-Ok-clause-ok c =

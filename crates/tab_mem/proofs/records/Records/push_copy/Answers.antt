@@ -4,7 +4,7 @@ use Rattle.std.proofs.lemmas.List.{length-map}
 use Rattle.tab_key.specs.Encoding.{record_at, records_at}
 use Rattle.tab_key.proofs.Placed.{pushed_records}
 use Rattle.tab_iter.specs.Lists.{latest}
-use Rattle.tab_mem.specs.Fronts.{AreFronts}
+use Rattle.tab_mem.specs.RowIndex.{IsRowIndex}
 use Rattle.tab_mem.proofs.Placing.{indexed_more}
 use Rattle.tab_mem.proofs.records.Records.push_copy.Goals as goal
 
@@ -13,7 +13,7 @@ invariant_of-self-in-Ok c =
     let fits : int_le c.args.source.now.key.timestamp latest ≡ true = search rules in
     let rs = records_at c.self.inside.body.items c.self.inside.places.items in
     let count : length rs ≡ c.len.result = length-map c.self.inside.places.items (record_at c.self.inside.body.items) ∙ (let same : length c.self.inside.places.items ≡ c.len.result = search rules in same) in
-    let before : AreFronts c.make_room.new.self.numbers.items rs = subst (λ ns. AreFronts ns rs) (sym c.make_room.ensures.same) c.self.invariant.fronts in
+    let before : IsRowIndex c.make_room.new.self.numbers.items rs = subst (λ ns. IsRowIndex ns rs) (sym c.make_room.ensures.same) c.self.invariant.row_index in
     indexed_more _ _ _ _ _ _ c.in-Ok.place c.args.source.now c.in-Ok.ensures.place (c.push_reserved.ensures.items ∙ ap (λ xs. xs ++ c.in-Ok.place ∷ []) c.in_ok-reserve.ensures.items) c.append_copy.ensures.front c.self.invariant c.in-Ok.ensures.within c.in-Ok.ensures.copy fits
     (c.put.ensures rs count before)
 

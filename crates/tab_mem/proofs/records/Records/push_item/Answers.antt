@@ -2,7 +2,7 @@ use Rattle.std.proofs.Common.{◌≡◌, ◌∙◌, ap, sym, subst, ◌++◌, �
 use Rattle.std.proofs.lemmas.List.{length-map}
 use Rattle.tab_key.specs.Encoding.{record_at, records_at}
 use Rattle.tab_key.proofs.Placed.{pushed_records}
-use Rattle.tab_mem.specs.Fronts.{AreFronts}
+use Rattle.tab_mem.specs.RowIndex.{IsRowIndex}
 use Rattle.tab_mem.proofs.Placing.{indexed_more}
 use Rattle.tab_mem.proofs.records.Records.push_item.Goals as goal
 
@@ -10,9 +10,9 @@ pub invariant_of-self-in-Ok : goal.invariant_of-self-in-Ok
 invariant_of-self-in-Ok c =
     let rs = records_at c.self.inside.body.items c.self.inside.places.items in
     let count : length rs ≡ c.len.result = length-map c.self.inside.places.items (record_at c.self.inside.body.items) ∙ (let same : length c.self.inside.places.items ≡ c.len.result = search rules in same) in
-    let before : AreFronts c.make_room.new.self.numbers.items rs = subst (λ ns. AreFronts ns rs) (sym c.make_room.ensures.same) c.self.invariant.fronts in
+    let before : IsRowIndex c.make_room.new.self.numbers.items rs = subst (λ ns. IsRowIndex ns rs) (sym c.make_room.ensures.same) c.self.invariant.row_index in
     indexed_more _ _ _ _ _ _ c.in-Ok.place c.args.item.now c.in-Ok.ensures.place (c.push_reserved.ensures.items ∙ ap (λ xs. xs ++ c.in-Ok.place ∷ []) c.in_ok-reserve.ensures.items) c.append_to.ensures.front c.self.invariant c.in-Ok.ensures.within c.in-Ok.ensures.copy c.append_to.ensures.timestamp
-    (subst (λ u. AreFronts c.put.new.self.numbers.items (rs ++ u ∷ [])) c.record.ensures (c.put.ensures rs count before))
+    (subst (λ u. IsRowIndex c.put.new.self.numbers.items (rs ++ u ∷ [])) c.record.ensures (c.put.ensures rs count before))
 
 pub returns-in-Ok-clause-ok : goal.returns-in-Ok-clause-ok
 returns-in-Ok-clause-ok c =

@@ -6,8 +6,8 @@ use Rattle.tab_mem.proofs.records.Records.truncate.Goals as goal
 pub invariant_of-self : goal.invariant_of-self
 invariant_of-self c =
     let p = c.self.inside in
-    indexed_cut p.body.items p.places.items c.truncate.new.self.items p.fronts.numbers.items c.truncate-2.new.self.numbers.items c.args.count c.truncate.ensures.items c.self.invariant
-    (c.truncate-2.ensures (records_at p.body.items p.places.items) c.self.invariant.fronts)
+    indexed_cut p.body.items p.places.items c.truncate.new.self.items p.row_index.numbers.items c.truncate-2.new.self.numbers.items c.args.count c.truncate.ensures.items c.self.invariant
+    (c.truncate-2.ensures (records_at p.body.items p.places.items) c.self.invariant.row_index)
 
 pub returns : goal.returns
 returns c =

@@ -1,6 +1,6 @@
 use Rattle.std.proofs.Common.{◌≡◌, ℕ, List, Ok, sym, subst, rules, to_z, of_z, w64}
 use Rattle.tab_history.specs.declared.event.Event.{Event}
-use Rattle.tab_core.specs.Stores.{Held}
+use Rattle.tab_core.specs.Stores.{CoreContents}
 use Rattle.tab_core.specs.JobSlots.{StepsIn}
 use Rattle.tab_core.specs.Stepping.{asked_at}
 use Rattle.tab_core.specs.declared.job_slots.JobSlot.{JobSlot}
@@ -14,7 +14,7 @@ use Rattle.tab_shell.proofs.script.Script.act.Goals as goal
 pub returns : goal.returns
 returns g c =
     let v : ScriptState = record { core = c.self.inside.core; asker = record { user = c.self.inside.user; moment = c.self.inside.moment }; kept = c.self.inside.sessions; jobs = c.self.inside.jobs } in
-    let new : Held = c.step-reply.new.core in
+    let new : CoreContents = c.step-reply.new.core in
     let jobs : List JobSlot = c.step-reply.new.self in
     let trip : to_z w64 (of_z w64 c.self.inside.moment) ≡ c.self.inside.moment = search rules in
     let is : asked_at c.self.inside.user (to_z w64 (of_z w64 c.self.inside.moment)) c.args.act.now ≡ event_by v.asker c.args.act.now = λ i. asked_at c.self.inside.user (trip i) c.args.act.now in

@@ -1,5 +1,5 @@
 use Rattle.std.proofs.Common.{List, ℕ, Err, rules, subst}
-use Rattle.tab_lines.specs.declared.line_error.LineError.TheVariants.{NoMemory}
+use Rattle.tab_text.specs.declared.parse_error.ParseError.TheVariants.{NoMemory}
 use Rattle.tab_shell.specs.Ahead.{ReadsLine}
 use Rattle.tab_shell.specs.Progress.{PrintsAnswer}
 use Rattle.tab_shell.proofs.Saying.{printed_answers}

@@ -3,8 +3,8 @@ use Rattle.tab_shell.specs.Progress.{PrintsAnswer}
 use Rattle.tab_shell.proofs.Saying.{printed_answers}
 use Rattle.tab_shell.proofs.script.Script.answer_read.Goals as goal
 
-pub returns-in-Err-Fault : goal.returns-in-Err-Fault
-returns-in-Err-Fault g c =
+pub returns-in-Err-Malformed : goal.returns-in-Err-Malformed
+returns-in-Err-Malformed g c =
     let prints : PrintsAnswer g.W.Output c.args.self.now c.args.said.now c.faults.new.self c.args.output.now c.faults.new.output c.faults.result = search rules in
     printed_answers g.W.Output c.args.self.now c.faults.new.self c.args.said.now c.args.output.now c.faults.new.output c.faults.result c.printed.result c.printed.ensures prints
 

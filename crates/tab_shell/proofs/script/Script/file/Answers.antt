@@ -3,7 +3,7 @@ use Rattle.tab_history.specs.declared.event.Act.{Act}
 use Rattle.tab_history.specs.declared.event.Event.{Event}
 use Rattle.tab_history.specs.declared.reply.Reply.TheVariants.{Done}
 use Rattle.tab_history.specs.Answers.{Told}
-use Rattle.tab_core.specs.Stores.{Held}
+use Rattle.tab_core.specs.Stores.{CoreContents}
 use Rattle.tab_core.specs.JobSlots.{StepsIn}
 use Rattle.tab_core.specs.Stepping.{asked_at}
 use Rattle.tab_core.specs.declared.job_slots.JobSlot.{JobSlot}
@@ -20,7 +20,7 @@ pub returns-then-is_done : goal.returns-then-is_done
 returns-then-is_done g c =
     let v : ScriptState = record { core = c.self.inside.core; asker = record { user = c.self.inside.user; moment = c.self.inside.moment }; kept = c.self.inside.sessions; jobs = c.self.inside.jobs } in
     let act : Act = file_act c.args.file.now.kind in
-    let new : Held = c.step-answer.new.core in
+    let new : CoreContents = c.step-answer.new.core in
     let jobs : List JobSlot = c.step-answer.new.self in
     let reply : Told = c.step-answer.result in
     let trip : to_z w64 (of_z w64 c.self.inside.moment) ≡ c.self.inside.moment = search rules in
@@ -37,7 +37,7 @@ pub returns : goal.returns
 returns g c =
     let v : ScriptState = record { core = c.self.inside.core; asker = record { user = c.self.inside.user; moment = c.self.inside.moment }; kept = c.self.inside.sessions; jobs = c.self.inside.jobs } in
     let act : Act = file_act c.args.file.now.kind in
-    let new : Held = c.step-answer.new.core in
+    let new : CoreContents = c.step-answer.new.core in
     let jobs : List JobSlot = c.step-answer.new.self in
     let reply : Told = c.step-answer.result in
     let trip : to_z w64 (of_z w64 c.self.inside.moment) ≡ c.self.inside.moment = search rules in

@@ -5,7 +5,7 @@ use Rattle.tab_policy.specs.Entries.{at_name, changed_at}
 use Rattle.tab_tablets.specs.Parts.{TabletMerge, begins_at}
 use Rattle.tab_history.specs.Held.{floor_of}
 use Rattle.tab_store.specs.Tables.{TableState, named_table, with_tablets, table_at, begun_in}
-use Rattle.tab_store.specs.Stores.{HeldTable}
+use Rattle.tab_store.specs.Stores.{TableContents}
 use Rattle.tab_store.proofs.Named.{Entries, table_found, table_changed, count_kept, rises}
 use Rattle.tab_store.proofs.tables.Tables.begin.Goals as goal
 
@@ -15,7 +15,7 @@ returns-clause-job c =
     let entries : Entries = c.self.inside.by_name.entries in
     let begun : IfOk c.begin.result (λ (job : Option TabletMerge). job ≡ begun_in c.args.row c.args.number c.args.kind c.args.now (at_name c.args.name.now entries)) =
     subst (λ (m : ℤ). IfOk c.begin.result (λ (job : Option TabletMerge). job ≡ begun_in c.args.row c.args.number c.args.kind m (at_name c.args.name.now entries))) trip c.begin.ensures.job in
-    subst (λ (ts : List HeldTable). IfOk c.begin.result (λ (job : Option TabletMerge). job ≡ begun_in c.args.row c.args.number c.args.kind c.args.now (table_at ts c.args.name.now))) c.self.view_is
+    subst (λ (ts : List TableContents). IfOk c.begin.result (λ (job : Option TabletMerge). job ≡ begun_in c.args.row c.args.number c.args.kind c.args.now (table_at ts c.args.name.now))) c.self.view_is
     (subst (λ o. IfOk c.begin.result (λ (job : Option TabletMerge). job ≡ begun_in c.args.row c.args.number c.args.kind c.args.now o)) (sym (table_found entries c.args.name.now)) begun)
 
 pub returns-clause-ok : goal.returns-clause-ok

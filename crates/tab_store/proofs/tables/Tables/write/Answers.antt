@@ -5,14 +5,14 @@ use Rattle.tab_cells.specs.Written.{mutation_records}
 use Rattle.tab_policy.specs.Entries.{at_name, changed_at}
 use Rattle.tab_tablets.specs.Tablets.{written}
 use Rattle.tab_tablets.specs.ByRow.{at_row, records_of_all}
-use Rattle.tab_store.specs.Stores.{HeldTable}
+use Rattle.tab_store.specs.Stores.{TableContents}
 use Rattle.tab_store.specs.Tables.{TableState, named_table, with_tablets, table_at, tablets_of}
 use Rattle.tab_store.proofs.Named.{table_found, table_changed, count_kept, rises}
 use Rattle.tab_store.proofs.tables.Tables.write.Goals as goal
 
 pub write-requires-clause-unused : goal.write-requires-clause-unused
 write-requires-clause-unused c = λ u h. c.requires.unused u
-    (subst (λ (ts : List HeldTable). Contains (records_of_all (tablets_of (table_at ts c.args.name.now))) u) c.self.view_is
+    (subst (λ (ts : List TableContents). Contains (records_of_all (tablets_of (table_at ts c.args.name.now))) u) c.self.view_is
     (subst (λ o. Contains (records_of_all (tablets_of o)) u) (sym (table_found c.self.inside.by_name.entries c.args.name.now)) h))
 
 pub returns-clause-ok : goal.returns-clause-ok

@@ -1,8 +1,8 @@
 use Rattle.std.proofs.Common.{refl, sym, subst}
 use Rattle.std.specs.Prelude.{None}
 use Rattle.tab_tablet.specs.Tablets.{Tablet}
-use Rattle.tab_tablet.specs.Bodies.{IsFreezeOf}
-use Rattle.tab_tablet.proofs.BodyLaws.{freeze_distinct}
+use Rattle.tab_tablet.specs.MergedRuns.{IsFreezeOf}
+use Rattle.tab_tablet.proofs.MergedRunLaws.{freeze_distinct}
 use Rattle.tab_tablet.proofs.tablet.Tablet.clips_after.Goals as goal
 
 pub clips_after-requires-clause-distinct : goal.clips_after-requires-clause-distinct

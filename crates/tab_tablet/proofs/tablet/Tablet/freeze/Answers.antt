@@ -3,8 +3,8 @@ use Rattle.std.specs.Prelude.{None}
 use Rattle.tab_key.specs.Sorted.{IsDistinct}
 use Rattle.tab_version.specs.Sources.{records_of}
 use Rattle.tab_tablet.specs.Tablets.{Tablet}
-use Rattle.tab_tablet.specs.Bodies.{IsFreezeOf}
-use Rattle.tab_tablet.proofs.BodyLaws.{freeze_distinct}
+use Rattle.tab_tablet.specs.MergedRuns.{IsFreezeOf}
+use Rattle.tab_tablet.proofs.MergedRunLaws.{freeze_distinct}
 use Rattle.tab_tablet.proofs.tablet.Tablet.freeze.Goals as goal
 
 pub invariant_of-self-2 : goal.invariant_of-self-2

@@ -11,15 +11,15 @@ pub invariant_of-self : goal.invariant_of-self
 invariant_of-self c =
     let floor : ℤ = to_z w64 (of_z w64 c.args.floor) in
     let f : Tablet → Tablet = compacted c.args.kind floor c.args.versions in
-    let line : List Tablet = c.self.inside.line in
-    let all : c.install.new.self ≡ map f line = c.install.ensures ∙ installed_all f (compacted_end c.args.kind floor c.args.versions) line c.in_ok-made.made.items c.in_ok-made.ensures.made (λ k lt. inl (c.in_ok-made.ensures.all k lt)) in
-    subst (λ ts. AreKept ts c.clear.new.self.items) (sym all) (subst (AreKept (map f line)) (sym c.clear.ensures.items)
-    (kept_all line c.self.inside.written.items c.self.invariant f (compacted_end c.args.kind floor c.args.versions) (compacted_in c.args.kind floor c.args.versions) (compacted_idle c.args.kind floor c.args.versions)))
+    let tablet_list : List Tablet = c.self.inside.tablet_list in
+    let all : c.install.new.self ≡ map f tablet_list = c.install.ensures ∙ installed_all f (compacted_end c.args.kind floor c.args.versions) tablet_list c.in_ok-made.made.items c.in_ok-made.ensures.made (λ k lt. inl (c.in_ok-made.ensures.all k lt)) in
+    subst (λ ts. AreKept ts c.clear.new.self.items) (sym all) (subst (AreKept (map f tablet_list)) (sym c.clear.ensures.items)
+    (kept_all tablet_list c.self.inside.written.items c.self.invariant f (compacted_end c.args.kind floor c.args.versions) (compacted_in c.args.kind floor c.args.versions) (compacted_idle c.args.kind floor c.args.versions)))
 
 pub returns-clause-ok : goal.returns-clause-ok
 returns-clause-ok c =
     let floor : ℤ = to_z w64 (of_z w64 c.args.floor) in
     let trip : to_z w64 (of_z w64 c.args.floor) ≡ c.args.floor = search rules in
     c.install.ensures
-    ∙ installed_all (compacted c.args.kind floor c.args.versions) (compacted_end c.args.kind floor c.args.versions) c.self.inside.line c.in_ok-made.made.items c.in_ok-made.ensures.made (λ k lt. inl (c.in_ok-made.ensures.all k lt))
+    ∙ installed_all (compacted c.args.kind floor c.args.versions) (compacted_end c.args.kind floor c.args.versions) c.self.inside.tablet_list c.in_ok-made.made.items c.in_ok-made.ensures.made (λ k lt. inl (c.in_ok-made.ensures.all k lt))
     ∙ (λ i. map (compacted c.args.kind (trip i) c.args.versions) (c.self.view_is i))

@@ -8,9 +8,9 @@ use Rattle.tab_tablets.proofs.tablets.Tablets.divide.Goals as goal
 
 pub invariant_of-self-2 : goal.invariant_of-self-2
 invariant_of-self-2 c =
-    let line : List Tablet = c.self.inside.line in
-    let place : IsPlaceOf c.args.row line c.args.place = subst (λ ts. IsPlaceOf c.args.row ts c.args.place) (sym c.self.view_is) c.requires.place in
-    let fresh : is_end_row c.args.row (tablet_at line c.args.place).end ≡ false = subst (λ ts. is_end_row c.args.row (tablet_at ts c.args.place).end ≡ false) (sym c.self.view_is) c.requires.fresh in
+    let tablet_list : List Tablet = c.self.inside.tablet_list in
+    let place : IsPlaceOf c.args.row tablet_list c.args.place = subst (λ ts. IsPlaceOf c.args.row ts c.args.place) (sym c.self.view_is) c.requires.place in
+    let fresh : is_end_row c.args.row (tablet_at tablet_list c.args.place).end ≡ false = subst (λ ts. is_end_row c.args.row (tablet_at ts c.args.place).end ≡ false) (sym c.self.view_is) c.requires.fresh in
     subst (λ ts. AreKept ts c.in_ok-written.written.items) (sym c.in_ok-split.ensures.ok)
-    (subst (AreKept (at_place c.args.place (split_at c.args.row c.args.number) line)) (sym (c.in_ok-written.ensures ∙ ap (filter_map (moved_from c.args.place)) c.deref.ensures.value))
-    (kept_split line c.self.inside.written.items c.self.invariant c.args.row c.args.number c.args.place place fresh))
+    (subst (AreKept (at_place c.args.place (split_at c.args.row c.args.number) tablet_list)) (sym (c.in_ok-written.ensures ∙ ap (filter_map (moved_from c.args.place)) c.deref.ensures.value))
+    (kept_split tablet_list c.self.inside.written.items c.self.invariant c.args.row c.args.number c.args.place place fresh))

@@ -12,47 +12,47 @@ use Rattle.tab_tablets.proofs.tablets.Tablets.install.Goals as goal
 
 pub invariant_of-self : goal.invariant_of-self
 invariant_of-self c =
-    let line : List Tablet = c.self.inside.line in
+    let tablet_list : List Tablet = c.self.inside.tablet_list in
     let f : Tablet → Tablet = λ t. (installed c.args.finished.merge t).1 in
-    either (λ ts. AreKept ts c.self.inside.written.items) c.install_merge.result (at_place c.place_of-place.result (one f) line) line c.install_merge.new.self
-    (subst (λ m. OnOk c.install_merge.result (c.install_merge.new.self ≡ at_place c.place_of-place.result (one (λ t. (installed m t).1)) line)) c.into_finished-merge.ensures c.install_merge.ensures.ok)
+    either (λ ts. AreKept ts c.self.inside.written.items) c.install_merge.result (at_place c.place_of-place.result (one f) tablet_list) tablet_list c.install_merge.new.self
+    (subst (λ m. OnOk c.install_merge.result (c.install_merge.new.self ≡ at_place c.place_of-place.result (one (λ t. (installed m t).1)) tablet_list)) c.into_finished-merge.ensures c.install_merge.ensures.ok)
     c.install_merge.ensures.err
-    (kept_one line c.self.inside.written.items c.self.invariant f (installed_end c.args.finished.merge) (installed_in c.args.finished.merge) c.place_of-place.result (installed_active c.args.finished.merge))
+    (kept_one tablet_list c.self.inside.written.items c.self.invariant f (installed_end c.args.finished.merge) (installed_in c.args.finished.merge) c.place_of-place.result (installed_active c.args.finished.merge))
     c.self.invariant
 
 -- the tablet there has another number
 pub returns-then-not-has_number-clause-told : goal.returns-then-not-has_number-clause-told
 returns-then-not-has_number-clause-told c =
-    let line : List Tablet = c.self.inside.line in
-    let place : IsPlaceOf c.args.finished.row line c.place_of-place.result = subst (λ r. IsPlaceOf r line c.place_of-place.result) c.row.ensures c.place_of-place.ensures in
+    let tablet_list : List Tablet = c.self.inside.tablet_list in
+    let place : IsPlaceOf c.args.finished.row tablet_list c.place_of-place.result = subst (λ r. IsPlaceOf r tablet_list c.place_of-place.result) c.row.ensures c.place_of-place.ensures in
     sym (ap (λ (x : Installed × List Tablet). x.0) (ap (installs_in c.args.finished) (sym c.self.view_is)
-    ∙ installs_nowhere c.args.finished line c.place_of-place.result place (ap (λ n. ((tablet_at line c.place_of-place.result).number == n)) (sym c.tablet.ensures) ∙ sym c.has_number.ensures ∙ c.if-not-has_number.true)))
+    ∙ installs_nowhere c.args.finished tablet_list c.place_of-place.result place (ap (λ n. ((tablet_at tablet_list c.place_of-place.result).number == n)) (sym c.tablet.ensures) ∙ sym c.has_number.ensures ∙ c.if-not-has_number.true)))
 
 pub returns-then-not-has_number-clause-tablets : goal.returns-then-not-has_number-clause-tablets
 returns-then-not-has_number-clause-tablets c =
-    let line : List Tablet = c.self.inside.line in
-    let place : IsPlaceOf c.args.finished.row line c.place_of-place.result = subst (λ r. IsPlaceOf r line c.place_of-place.result) c.row.ensures c.place_of-place.ensures in
+    let tablet_list : List Tablet = c.self.inside.tablet_list in
+    let place : IsPlaceOf c.args.finished.row tablet_list c.place_of-place.result = subst (λ r. IsPlaceOf r tablet_list c.place_of-place.result) c.row.ensures c.place_of-place.ensures in
     sym (ap (λ (x : Installed × List Tablet). x.1) (ap (installs_in c.args.finished) (sym c.self.view_is)
-    ∙ installs_nowhere c.args.finished line c.place_of-place.result place (ap (λ n. ((tablet_at line c.place_of-place.result).number == n)) (sym c.tablet.ensures) ∙ sym c.has_number.ensures ∙ c.if-not-has_number.true))
+    ∙ installs_nowhere c.args.finished tablet_list c.place_of-place.result place (ap (λ n. ((tablet_at tablet_list c.place_of-place.result).number == n)) (sym c.tablet.ensures) ∙ sym c.has_number.ensures ∙ c.if-not-has_number.true))
     ∙ c.self.view_is)
 
 -- it is the merge's
 pub returns-clause-told : goal.returns-clause-told
 returns-clause-told c =
-    let line : List Tablet = c.self.inside.line in
-    let place : IsPlaceOf c.args.finished.row line c.place_of-place.result = subst (λ r. IsPlaceOf r line c.place_of-place.result) c.row.ensures c.place_of-place.ensures in
+    let tablet_list : List Tablet = c.self.inside.tablet_list in
+    let place : IsPlaceOf c.args.finished.row tablet_list c.place_of-place.result = subst (λ r. IsPlaceOf r tablet_list c.place_of-place.result) c.row.ensures c.place_of-place.ensures in
     subst (λ (x : Installed). IfOk c.install_merge.result (λ told. told ≡ x))
-    (ap (λ m. (installed m (tablet_at line c.place_of-place.result)).0) c.into_finished-merge.ensures
-    ∙ sym (ap (λ (x : Installed × List Tablet). x.0) (installs_there c.args.finished line c.place_of-place.result place (ap (λ n. ((tablet_at line c.place_of-place.result).number == n)) (sym c.tablet.ensures) ∙ sym c.has_number.ensures ∙ c.if-not-has_number.false)))
+    (ap (λ m. (installed m (tablet_at tablet_list c.place_of-place.result)).0) c.into_finished-merge.ensures
+    ∙ sym (ap (λ (x : Installed × List Tablet). x.0) (installs_there c.args.finished tablet_list c.place_of-place.result place (ap (λ n. ((tablet_at tablet_list c.place_of-place.result).number == n)) (sym c.tablet.ensures) ∙ sym c.has_number.ensures ∙ c.if-not-has_number.false)))
     ∙ ap (λ ts. (installs_in c.args.finished ts).0) c.self.view_is)
     c.install_merge.ensures.told
 
 pub returns-clause-tablets : goal.returns-clause-tablets
 returns-clause-tablets c =
-    let line : List Tablet = c.self.inside.line in
-    let place : IsPlaceOf c.args.finished.row line c.place_of-place.result = subst (λ r. IsPlaceOf r line c.place_of-place.result) c.row.ensures c.place_of-place.ensures in
+    let tablet_list : List Tablet = c.self.inside.tablet_list in
+    let place : IsPlaceOf c.args.finished.row tablet_list c.place_of-place.result = subst (λ r. IsPlaceOf r tablet_list c.place_of-place.result) c.row.ensures c.place_of-place.ensures in
     subst (λ (ts : List Tablet). OnOk c.install_merge.result (c.install_merge.new.self ≡ ts))
-    (ap (λ m. at_place c.place_of-place.result (one (λ t. (installed m t).1)) line) c.into_finished-merge.ensures
-    ∙ sym (ap (λ (x : Installed × List Tablet). x.1) (installs_there c.args.finished line c.place_of-place.result place (ap (λ n. ((tablet_at line c.place_of-place.result).number == n)) (sym c.tablet.ensures) ∙ sym c.has_number.ensures ∙ c.if-not-has_number.false)))
+    (ap (λ m. at_place c.place_of-place.result (one (λ t. (installed m t).1)) tablet_list) c.into_finished-merge.ensures
+    ∙ sym (ap (λ (x : Installed × List Tablet). x.1) (installs_there c.args.finished tablet_list c.place_of-place.result place (ap (λ n. ((tablet_at tablet_list c.place_of-place.result).number == n)) (sym c.tablet.ensures) ∙ sym c.has_number.ensures ∙ c.if-not-has_number.false)))
     ∙ ap (λ ts. (installs_in c.args.finished ts).1) c.self.view_is)
     c.install_merge.ensures.ok

@@ -3,7 +3,7 @@ use Rattle.tab_tablet.specs.Splitting.{split_at}
 use Rattle.tab_tablet.specs.Tablets.{Tablet}
 use Rattle.tab_tablets.specs.Places.{at_place}
 use Rattle.tab_tablets.specs.Splits.{is_full}
-use Rattle.tab_tablets.specs.declared.split.Split.{Split}
+use Rattle.tab_tablets.specs.declared.splitting.Split.{Split}
 use Rattle.tab_tablets.proofs.EndRows.{row_at_place}
 use Rattle.tab_tablets.proofs.Told.{done}
 use Rattle.tab_tablets.proofs.tablets.Tablets.split_in.Goals as goal

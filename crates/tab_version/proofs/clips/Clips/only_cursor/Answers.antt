@@ -1,7 +1,7 @@
 -- The only clip's records are all.
 use Rattle.std.proofs.Common.{◌∙◌, ap, rules}
 use Rattle.tab_mem.proofs.Parts.{part_rises}
-use Rattle.tab_table.specs.Tables.{records}
+use Rattle.tab_table.specs.SortedTables.{records}
 use Rattle.tab_key.specs.Sorted.{sorted}
 use Rattle.tab_version.specs.Sources.{records_of}
 use Rattle.tab_version.proofs.Alone.{alone_run, alone_table}

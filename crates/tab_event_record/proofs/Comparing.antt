@@ -1,0 +1,81 @@
+-- What `==` says of refusals and of plain acts: it is true of two that are one, and of no others.
+use Rattle.std.proofs.Common.{rules, ◌≡◌, List, true, refl, sym, subst}
+use Rattle.std.specs.Bool.{Decides}
+use Rattle.std.specs.Cmp.Rules.{comparing}
+use Rattle.std.specs.Cmp.Lexicographic.{pointwise}
+use mathlib.Core.Bool.{true≢false}
+use Rattle.tab_key.proofs.Each.{lists_equal}
+use Rattle.tab_rules.specs.declared.violation.Violation.{Violation}
+use Rattle.tab_rules.specs.contracts.violation.ViolationPartialEq.TheImpl.{eq-value as violation_eq}
+use Rattle.tab_history.specs.declared.reply.Refusal.{Refusal}
+use Rattle.tab_history.specs.declared.reply.Refusal.TheVariants.{UnknownUser, NoTable, PermissionDenied, BadAuthorizations, MalformedVisibility, ConstraintViolation, TimestampNotAllowed, EmptyMutation, TooLarge, TableExists, UserExists, NoUser, BadRange, Stale, NoSession, NoJob, NoMemory, RootFixed, GrantInvalid, BelowHorizon, VersionsRaised, HorizonLowered, ServerTime, BadSplit}
+use Rattle.tab_history.specs.contracts.reply.RefusalPartialEq.TheImpl.{eq-value as refusal_eq}
+use Rattle.tab_event_record.specs.declared.act.PlainAct.{PlainAct}
+use Rattle.tab_event_record.specs.declared.act.PlainAct.TheVariants.{CreateTable, DropTable, SetVersions, SetHorizon, CreateUser, DropUser, Grant, Revoke, Rights, Status, Flush, Compact, AddSplit, SplitBySize, Splits, Save, Load, Rotate, Begin, Install}
+use Rattle.tab_event_record.specs.contracts.act.PlainActPartialEq.TheImpl.{eq-value as act_eq}
+
+violations : (xs ys : List Violation) → Decides (pointwise violation_eq.it xs ys) (xs ≡ ys)
+violations = lists_equal (λ a b. search (comparing, rules))
+
+-- a row for each pair of one variant, so that no search goes over all pairs
+one_refusal : (a b : Refusal) → refusal_eq.it a b ≡ true → a ≡ b
+one_refusal (UnknownUser x) (UnknownUser y) e = search rules
+one_refusal (NoTable x) (NoTable y) e = search rules
+one_refusal (PermissionDenied x) (PermissionDenied y) e = search rules
+one_refusal (BadAuthorizations x) (BadAuthorizations y) e = search rules
+one_refusal (MalformedVisibility m x) (MalformedVisibility n y) e = search rules
+one_refusal (ConstraintViolation x) (ConstraintViolation y) e = search (violations, rules)
+one_refusal (TimestampNotAllowed x) (TimestampNotAllowed y) e = search rules
+one_refusal EmptyMutation EmptyMutation e = refl
+one_refusal (TooLarge x) (TooLarge y) e = search rules
+one_refusal (TableExists x) (TableExists y) e = search rules
+one_refusal (UserExists x) (UserExists y) e = search rules
+one_refusal (NoUser x) (NoUser y) e = search rules
+one_refusal BadRange BadRange e = refl
+one_refusal (Stale x) (Stale y) e = search rules
+one_refusal (NoSession x) (NoSession y) e = search rules
+one_refusal (NoJob x) (NoJob y) e = search rules
+one_refusal NoMemory NoMemory e = refl
+one_refusal RootFixed RootFixed e = refl
+one_refusal GrantInvalid GrantInvalid e = refl
+one_refusal (BelowHorizon x) (BelowHorizon y) e = search rules
+one_refusal (VersionsRaised x) (VersionsRaised y) e = search rules
+one_refusal (HorizonLowered x) (HorizonLowered y) e = search rules
+one_refusal ServerTime ServerTime e = refl
+one_refusal (BadSplit x) (BadSplit y) e = search rules
+one_refusal a b e = absurd (true≢false (sym e))
+
+itself : (a : Refusal) → refusal_eq.it a a ≡ true
+itself a = search (violations, rules) depth 12 fits 5000
+
+pub refusals : (a b : Refusal) → Decides (refusal_eq.it a b) (a ≡ b)
+refusals a b = (one_refusal a b, λ same. subst (λ (r : Refusal). refusal_eq.it a r ≡ true) same (itself a))
+
+one_act : (a b : PlainAct) → act_eq.it a b ≡ true → a ≡ b
+one_act (CreateTable t time n) (CreateTable s mode m) e = search rules
+one_act (DropTable t) (DropTable s) e = search rules
+one_act (SetVersions t n) (SetVersions s m) e = search rules
+one_act (SetHorizon t n) (SetHorizon s m) e = search rules
+one_act (CreateUser n) (CreateUser m) e = search rules
+one_act (DropUser n) (DropUser m) e = search rules
+one_act (Grant n p) (Grant m q) e = search rules
+one_act (Revoke n p) (Revoke m q) e = search rules
+one_act (Rights t) (Rights s) e = search rules
+one_act (Status t) (Status s) e = search rules
+one_act (Flush t) (Flush s) e = search rules
+one_act (Compact t x) (Compact s y) e = search rules
+one_act (AddSplit t x) (AddSplit s y) e = search rules
+one_act (SplitBySize t x n) (SplitBySize s y m) e = search rules
+one_act (Splits t) (Splits s) e = search rules
+one_act Save Save e = refl
+one_act Load Load e = refl
+one_act Rotate Rotate e = refl
+one_act (Begin t x k) (Begin s y l) e = search rules
+one_act (Install t x) (Install s y) e = search rules
+one_act a b e = absurd (true≢false (sym e))
+
+act_itself : (a : PlainAct) → act_eq.it a a ≡ true
+act_itself a = search rules depth 12 fits 5000
+
+pub acts : (a b : PlainAct) → Decides (act_eq.it a b) (a ≡ b)
+acts a b = (one_act a b, λ same. subst (λ (r : PlainAct). act_eq.it a r ≡ true) same (act_itself a))

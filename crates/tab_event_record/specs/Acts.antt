@@ -1,0 +1,60 @@
+-- For proofs. Which act is kept.
+use Rattle.std.specs.Prelude.{Bool, true, false}
+use Rattle.tab_policy.specs.declared.permission.Permission.{Permission}
+use Rattle.tab_policy.specs.declared.permission.Permission.TheVariants.{OfSystem, OfTable}
+use Rattle.tab_history.specs.declared.event.Scan.{Scan}
+use Rattle.tab_history.specs.declared.event.Act.{Act}
+use Rattle.tab_history.specs.declared.event.Act.TheVariants.{Open, Write, CreateTable, DropTable, SetConstraints, SetVersions, SetHorizon, CreateUser, DropUser, SetAuths, Grant, Revoke, Rights, Status, Flush, Compact, AddSplit, SplitBySize, Splits, Save, Load, Rotate, Begin, Install}
+use Rattle.tab_event_record.specs.declared.act.RecordedPermission.{RecordedPermission}
+use Rattle.tab_event_record.specs.declared.act.RecordedPermission.TheVariants as permission
+use Rattle.tab_event_record.specs.declared.act.RecordedScan.{RecordedScan}
+use Rattle.tab_event_record.specs.declared.act.PlainAct.{PlainAct}
+use Rattle.tab_event_record.specs.declared.act.PlainAct.TheVariants as plain
+use Rattle.tab_event_record.specs.declared.act.RecordedAct.{RecordedAct}
+use Rattle.tab_event_record.specs.declared.act.RecordedAct.TheVariants as kept
+
+-- the permission
+abbrev pub permission_in : RecordedPermission → Permission
+permission_in (permission.OfSystem p) = OfSystem p
+permission_in (permission.OfTable p t) = OfTable p t
+
+-- the scan
+abbrev pub scan_in : RecordedScan → Scan
+scan_in s = record { table = s.table; bounds = s.bounds; columns = s.columns; authorizations = s.authorizations }
+
+-- the act of names, rows and numbers
+abbrev pub plain_in : PlainAct → Act
+plain_in (plain.CreateTable t time n) = CreateTable t time n
+plain_in (plain.DropTable t) = DropTable t
+plain_in (plain.SetVersions t many) = SetVersions t many
+plain_in (plain.SetHorizon t low) = SetHorizon t low
+plain_in (plain.CreateUser n) = CreateUser n
+plain_in (plain.DropUser n) = DropUser n
+plain_in (plain.Grant n p) = Grant n (permission_in p)
+plain_in (plain.Revoke n p) = Revoke n (permission_in p)
+plain_in (plain.Rights t) = Rights t
+plain_in (plain.Status t) = Status t
+plain_in (plain.Flush t) = Flush t
+plain_in (plain.Compact t extent) = Compact t extent
+plain_in (plain.AddSplit t row) = AddSplit t row
+plain_in (plain.SplitBySize t row limit) = SplitBySize t row limit
+plain_in (plain.Splits t) = Splits t
+plain_in plain.Save = Save
+plain_in plain.Load = Load
+plain_in plain.Rotate = Rotate
+plain_in (plain.Begin t row kind) = Begin t row kind
+plain_in (plain.Install t given) = Install t given
+
+-- the act
+abbrev pub act_in : RecordedAct → Act
+act_in (kept.Open scan) = Open (scan_in scan.value)
+act_in (kept.Write t m) = Write t m
+act_in (kept.SetConstraints t cs) = SetConstraints t cs
+act_in (kept.SetAuths n auths) = SetAuths n auths
+act_in (kept.Plain act) = plain_in act
+
+-- ---- what a kept act is
+-- whether the act is a Write
+abbrev pub is_write : Act → Bool
+is_write (Write t m) = true
+is_write _ = false

@@ -1,0 +1,17 @@
+use Rattle.std.proofs.Common.{◌≡◌, ◌++◌}
+use Rattle.std.specs.List.{AllByRecursion}
+use Rattle.tab_key.specs.Encoding.{records_at, places_from, AreAt}
+use Rattle.tab_iter.specs.Bags.{flat}
+use Rattle.tab_mem.specs.Groups.{IsOfOneRow}
+use Rattle.tab_mem.specs.Parting.{records_in}
+use Rattle.tab_mem.proofs.sorting.grouping.groups_in.Given as goal
+
+abbrev pub invariant-loop-left : goal.invariant-loop-left
+invariant-loop-left l = record {
+  lent : flat l.groups.items ++ records_at l.body (places_from l.body l.place l.left) ≡ records_in l.body l.count;
+  rows : AllByRecursion IsOfOneRow l.groups.items;
+  at : AreAt l.body (places_from l.body l.place l.left);
+}
+
+abbrev pub decreases-loop-left : goal.decreases-loop-left
+decreases-loop-left l = l.left

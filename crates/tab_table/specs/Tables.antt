@@ -1,9 +1,0 @@
--- What a sorted table lists.
-use Rattle.std.specs.Prelude.{List}
-use Rattle.tab_key.specs.Records.{Record}
-use Rattle.tab_key.specs.Encoding.{records_at}
-use Rattle.tab_table.specs.declared.table.Table.{Table}
-
--- its records, in their order
-abbrev pub records : Table → List Record
-records t = records_at t.body t.places.items

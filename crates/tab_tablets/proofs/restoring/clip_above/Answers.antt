@@ -1,6 +1,0 @@
-use Rattle.std.proofs.Common.{◌≡◌, List, ℕ, Bool, filter, IfOk, subst}
-use Rattle.tab_key.specs.Records.{Record}
-use Rattle.tab_tablets.proofs.restoring.clip_above.Goals as goal
-
-pub returns : goal.returns
-returns c = subst (λ (p : List ℕ → Bool). IfOk c.in_rows.result (λ (us : List Record). us ≡ filter (λ (u : Record). p u.key.row) c.args.records.now)) c.in_ok-above.ensures c.in_rows.ensures

@@ -1,8 +1,0 @@
-use Rattle.tab_work.proofs.Following.{unchanged, one}
-use Rattle.tab_work.proofs.asker.Asker.install.Goals as goal
-
-pub returns-in-Some : goal.returns-in-Some
-returns-in-Some g c = one _ _ _ _ c.in-Some.ensures.asks c.keep_done.ensures
-
-pub returns-in-None : goal.returns-in-None
-returns-in-None g c = unchanged _ _ c.in-None.ensures.none
