@@ -36,7 +36,7 @@ use std::thread::Threads;
 use tab_book::{Book, Seat, SeatsOut};
 use tab_core::Core;
 use tab_io::{BlockReader, BlockWriter, Input, Output};
-use tab_serve::Listed;
+use tab_serve::ListedMoments;
 use tab_work::{OpenGate, Shared, serve_shared};
 use talking::talk;
 
@@ -187,7 +187,7 @@ fn by_frames<L: Ledger, R: Threads + Wait + Sync, I: Input, W: Output>(
         return Ok(false);
     };
     let mut receipts = Vec::new(alloc);
-    let mut moments = Listed::new(Vec::new(alloc));
+    let mut moments = ListedMoments::new(Vec::new(alloc));
     serve_shared(
         rt,
         alloc,

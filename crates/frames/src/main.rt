@@ -4,7 +4,7 @@
 use std::process::ExitCode;
 use tab_core::Core;
 use tab_io::{BlockReader, BlockWriter};
-use tab_serve::{Listed, serve};
+use tab_serve::{ListedMoments, serve};
 
 fn main(rt: HostRuntime) -> ExitCode {
     match run(&rt) {
@@ -20,7 +20,7 @@ fn main(rt: HostRuntime) -> ExitCode {
 fn run(rt: &HostRuntime) -> anyhow::Result<()> {
     let alloc = rt.alloc();
     let mut core = Core::new(alloc)?;
-    let mut moments = Listed::new(Vec::new(alloc));
+    let mut moments = ListedMoments::new(Vec::new(alloc));
     let mut input = BlockReader::new(alloc, rt.stdin())?;
     let mut output = BlockWriter::new(alloc, rt.stdout())?;
     serve(alloc, &mut input, &mut output, &mut moments, &mut core)?;

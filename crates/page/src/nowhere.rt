@@ -8,9 +8,9 @@ use tab_prog::{FileName, Files, LoadFault, SaveFault};
 
 /// The files of a page: none can be saved or loaded.
 #[derive(Drop)]
-pub struct Nowhere;
+pub struct NoFiles;
 
-impl Files for Nowhere {
+impl Files for NoFiles {
     ghost saves = { λ _ _ _ told _. told ≡ Err save.Io };
 
     ghost loads = { λ _ _ told _. told ≡ Err load.Io };

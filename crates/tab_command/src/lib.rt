@@ -15,4 +15,6 @@ mod request;
 
 pub use building::LineHelp;
 pub use looking::{ExportRequest, InspectRequest};
-pub use request::{Place, Request, ScriptRequest, ServeRequest, ShellRequest, SyncMode, parse};
+pub use request::{
+    Request, ScriptRequest, ServeRequest, ServerAddress, ShellRequest, SyncMode, parse,
+};

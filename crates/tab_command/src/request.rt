@@ -23,7 +23,7 @@ pub enum Request<'a> {
 
 /// Where a server is.
 #[derive(Clone, Copy)]
-pub enum Place<'a> {
+pub enum ServerAddress<'a> {
     /// A port of 127.0.0.1, 1 to 65,535.
     Port(u16),
     /// A socket file.
@@ -74,7 +74,7 @@ pub struct ServeRequest<'a> {
     /// Whether it tells of each connection that has ended.
     pub logged: bool,
     /// Where it is.
-    pub place: Place<'a>,
+    pub place: ServerAddress<'a>,
     /// The mode of its socket file, as it is written.
     pub socket_mode: Option<&'a str>,
     /// How many connections are answered at once, 1 to 64.
@@ -93,7 +93,7 @@ pub struct ShellRequest<'a> {
     /// Who asks.
     pub user: &'a str,
     /// Where the server is.
-    pub place: Place<'a>,
+    pub place: ServerAddress<'a>,
     /// Whether line faults are explained.
     pub explained: bool,
     /// Whether lines are prompted for.
@@ -188,9 +188,9 @@ fn sync_mode(serve: &ArgMatches<'_>) -> SyncMode {
 }
 
 // The port or the socket file, one of which a command line can't do without.
-fn place_in<'a>(subcommand: &ArgMatches<'a>) -> Place<'a> {
+fn place_in<'a>(subcommand: &ArgMatches<'a>) -> ServerAddress<'a> {
     match subcommand.get_str("socket") {
-        Some(file) => Place::Socket(file),
-        None => Place::Port(subcommand.get_one::<u16>("port").unwrap_or(0)),
+        Some(file) => ServerAddress::Socket(file),
+        None => ServerAddress::Port(subcommand.get_one::<u16>("port").unwrap_or(0)),
     }
 }

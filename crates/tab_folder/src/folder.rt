@@ -1,7 +1,7 @@
 //! The folder: taken up, read, and left with the next image.
 use crate::journal::Journal;
 use crate::left::left_in;
-use crate::names::{Kind, PART, image_path, journal_path, kind_of, loaded_path};
+use crate::names::{FileKind, PART, image_path, journal_path, kind_of, loaded_path};
 use crate::{FolderFault, Left};
 use std::fs::{DirBuilder, File, OpenOptions, TryLockError};
 use std::io::{ErrorKind, Read};
@@ -235,12 +235,12 @@ pub(crate) fn numbers(
     for entry in fs::read_dir(rt, path)? {
         let entry = entry?;
         match kind_of(entry.file_name()) {
-            Kind::Image(number) => {
+            FileKind::Image(number) => {
                 newest = newest.max(Some(number));
                 last = last.max(Some(number));
             }
-            Kind::With(number) => last = last.max(Some(number)),
-            Kind::Other => {}
+            FileKind::With(number) => last = last.max(Some(number)),
+            FileKind::Other => {}
         }
     }
     Ok((newest, last))
@@ -290,7 +290,7 @@ fn sweep(rt: &HostRuntime, path: &str, number: u64) {
             return;
         };
         match kind_of(entry.file_name()) {
-            Kind::Image(older) | Kind::With(older) if older < number => {
+            FileKind::Image(older) | FileKind::With(older) if older < number => {
                 let _ = fs::remove_file(rt, entry.path());
             }
             _ => {}

@@ -6,14 +6,14 @@ use std::io::{Error, ErrorKind};
 
 /// The journal of the lines of a script, which are put as they are read.
 #[derive(Drop)]
-pub struct Log {
+pub struct ScriptLog {
     journal: RefCell<Journal>,
 }
 
-impl Log {
+impl ScriptLog {
     /// Lines go into this journal.
-    pub fn new(journal: Journal) -> Log {
-        Log {
+    pub fn new(journal: Journal) -> ScriptLog {
+        ScriptLog {
             journal: RefCell::new(journal),
         }
     }

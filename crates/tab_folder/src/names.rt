@@ -6,7 +6,7 @@ pub const PART: &str = ".part";
 
 /// What a file of a folder is, by its name. The number is that of an image.
 #[derive(Clone, Copy, Debug, PartialEq, Eq)]
-pub enum Kind {
+pub enum FileKind {
     /// An image, which is whole.
     Image(u64),
     /// What goes with an image: its journal, an image that was loaded since, or a part of one.
@@ -16,13 +16,13 @@ pub enum Kind {
 }
 
 /// What the file of this name is.
-pub fn kind_of(name: &str) -> Kind {
+pub fn kind_of(name: &str) -> FileKind {
     if let Some(number) = number_behind(name, "image.") {
-        return Kind::Image(number);
+        return FileKind::Image(number);
     }
     match goes_with(name) {
-        Some(number) => Kind::With(number),
-        None => Kind::Other,
+        Some(number) => FileKind::With(number),
+        None => FileKind::Other,
     }
 }
 

@@ -1,6 +1,6 @@
 //! Streams beside a journal.
 use crate::FolderFault;
-use crate::log::Log;
+use crate::log::ScriptLog;
 use std::io;
 use std::io::{Error, ErrorKind, Read, Write};
 
@@ -9,14 +9,14 @@ use std::io::{Error, ErrorKind, Read, Write};
 #[derive(Drop)]
 pub struct Logged<'a, R> {
     reader: R,
-    log: &'a Log,
+    log: &'a ScriptLog,
     // whether a line has begun that hasn't ended
     within: bool,
 }
 
 impl<'a, R> Logged<'a, R> {
     /// Over this reader, of which nothing was read yet.
-    pub fn new(reader: R, log: &'a Log) -> Logged<'a, R> {
+    pub fn new(reader: R, log: &'a ScriptLog) -> Logged<'a, R> {
         Logged {
             reader,
             log,
@@ -59,19 +59,19 @@ impl<R: Read> Read for Logged<'_, R> {
 
 /// A writer that sees a journal on the disk before it writes.
 #[derive(Drop)]
-pub struct Settled<'a, W> {
+pub struct SyncedWriter<'a, W> {
     writer: W,
-    log: &'a Log,
+    log: &'a ScriptLog,
 }
 
-impl<'a, W> Settled<'a, W> {
+impl<'a, W> SyncedWriter<'a, W> {
     /// Over this writer.
-    pub fn new(writer: W, log: &'a Log) -> Settled<'a, W> {
-        Settled { writer, log }
+    pub fn new(writer: W, log: &'a ScriptLog) -> SyncedWriter<'a, W> {
+        SyncedWriter { writer, log }
     }
 }
 
-impl<W: Write> Write for Settled<'_, W> {
+impl<W: Write> Write for SyncedWriter<'_, W> {
     fn write(&mut self, buf: &[u8]) -> io::Result<usize> {
         if self.log.settle().is_err() {
             return Err(Error::from(ErrorKind::Other));

@@ -11,7 +11,7 @@ use tab_lines::{ParseError, Words, read_line};
 
 /// Why a line is a fault, with the word that shows it and its place, counted from 1.
 #[derive(Clone, Copy)]
-pub enum Reason<'a> {
+pub enum LineReason<'a> {
     /// The script begins with a byte order mark.
     Mark(&'a [u8]),
     /// The line ends in a carriage return.
@@ -45,32 +45,36 @@ fn is_command(word: &[u8]) -> bool {
 }
 
 // That the word is no command.
-fn unknown_command(alloc: Global, word: &[u8]) -> Result<Reason<'_>, AllocError> {
+fn unknown_command(alloc: Global, word: &[u8]) -> Result<LineReason<'_>, AllocError> {
     Ok(match near_command(alloc, word)? {
-        Some(command) => Reason::Near(word, command),
-        None => Reason::Command(word),
+        Some(command) => LineReason::Near(word, command),
+        None => LineReason::Command(word),
     })
 }
 
 // Why the line is a fault, which it is. A mark and a carriage return come first: they are in the way of all else.
-fn reason_for<'a>(alloc: Global, line: &'a [u8], is_first: bool) -> Result<Reason<'a>, AllocError> {
+fn reason_for<'a>(
+    alloc: Global,
+    line: &'a [u8],
+    is_first: bool,
+) -> Result<LineReason<'a>, AllocError> {
     let mut words = Words::of(line);
     let Some(command) = words.next() else {
-        return Ok(Reason::Form);
+        return Ok(LineReason::Form);
     };
     if is_first && command.starts_with(b"\xef\xbb\xbf") {
-        return Ok(Reason::Mark(command));
+        return Ok(LineReason::Mark(command));
     }
     if line.ends_with(b"\r") {
         let (place, word) = last_word(line);
-        return Ok(Reason::Return(place, word));
+        return Ok(LineReason::Return(place, word));
     }
     if !is_command(command) {
         return unknown_command(alloc, command);
     }
     match furthest_misfit(alloc, command, words)? {
-        Some(found) => Ok(Reason::Word(found)),
-        None => Ok(Reason::Form),
+        Some(found) => Ok(LineReason::Word(found)),
+        None => Ok(LineReason::Form),
     }
 }
 
@@ -79,7 +83,7 @@ pub fn fault<'a>(
     alloc: Global,
     line: &'a [u8],
     is_first: bool,
-) -> Result<Option<Reason<'a>>, AllocError>
+) -> Result<Option<LineReason<'a>>, AllocError>
     ensures { IfOk result (λ found. MatchOption found (IsLine line.now) (λ _. line_of line.now ≡ None)) }
 {
     match read_line(alloc, line) {

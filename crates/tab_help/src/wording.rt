@@ -1,7 +1,7 @@
 //! The text of a reason.
 use crate::fitting::Misfit;
 use crate::forms::{LINES, meaning, parted};
-use crate::reason::Reason;
+use crate::reason::LineReason;
 use std::fmt;
 use std::fmt::{Display, Formatter};
 
@@ -71,32 +71,32 @@ impl Display for Misfit<'_> {
     }
 }
 
-impl Display for Reason<'_> {
+impl Display for LineReason<'_> {
     fn fmt<W: fmt::Write>(&self, f: &mut Formatter<W>) -> fmt::Result {
         match self {
-            Reason::Mark(word) => write!(
+            LineReason::Mark(word) => write!(
                 f,
                 "word 1, \"{}\": expected no byte order mark (\\xef\\xbb\\xbf) at the beginning",
                 Shown(word)
             ),
-            Reason::Return(place, word) => write!(
+            LineReason::Return(place, word) => write!(
                 f,
                 "word {place}, \"{}\": expected no carriage return (\\x0d) at the end of the line",
                 Shown(word)
             ),
-            Reason::Command(word) => write!(
+            LineReason::Command(word) => write!(
                 f,
                 "word 1, \"{}\": expected a command, one of{}",
                 Shown(word),
                 Commands
             ),
-            Reason::Near(word, command) => write!(
+            LineReason::Near(word, command) => write!(
                 f,
                 "word 1, \"{}\": expected a command: did you mean {command}?",
                 Shown(word)
             ),
-            Reason::Word(misfit) => Display::fmt(misfit, f),
-            Reason::Form => f.write_str("expected a line of another form"),
+            LineReason::Word(misfit) => Display::fmt(misfit, f),
+            LineReason::Form => f.write_str("expected a line of another form"),
         }
     }
 }

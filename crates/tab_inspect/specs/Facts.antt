@@ -20,7 +20,7 @@ use Rattle.tab_image.specs.declared.table.ImageRight.{ImageRight}
 use Rattle.tab_image.specs.declared.table.TableHead.{TableHead}
 use Rattle.tab_image.specs.declared.table.ImageTable.{ImageTable}
 use Rattle.tab_image.specs.declared.image.Image.{Image}
-use Rattle.tab_inspect.specs.declared.tally.Tally.{Tally}
+use Rattle.tab_inspect.specs.declared.tally.RecordCounts.{RecordCounts}
 
 -- texts, one after another
 abbrev pub joined : List (List ℕ) → List ℕ
@@ -32,23 +32,23 @@ abbrev pub added : ℕ → ℕ → ℕ
 added m n = min (m + n) (2 ^ 64 - 1)
 
 -- one more record of this kind
-abbrev pub counted : Kind → Tally → Tally
+abbrev pub counted : Kind → RecordCounts → RecordCounts
 counted Put t = record t { puts = added t.puts 1 }
 counted Delete t = record t { deletes = added t.deletes 1 }
 
 -- .. with the bytes of its row, family, qualifier and label, and those of its value
-abbrev pub tallied : Tally → Record → Tally
+abbrev pub tallied : RecordCounts → Record → RecordCounts
 tallied t r = counted r.kind (record t {
   key_bytes = added t.key_bytes (length (r.key.row ++ r.key.family ++ r.key.qualifier ++ r.key.label));
   value_bytes = added t.value_bytes (length r.value);
 })
 
 -- nothing is counted yet
-abbrev pub nothing_counted : Tally
+abbrev pub nothing_counted : RecordCounts
 nothing_counted = record { puts = 0; deletes = 0; key_bytes = 0; value_bytes = 0 }
 
 -- all records
-abbrev pub tally_of : List Record → Tally
+abbrev pub tally_of : List Record → RecordCounts
 tally_of rs = fold tallied nothing_counted rs
 
 -- ---- a user
@@ -81,7 +81,7 @@ abbrev pub split_fact : List ℕ → List ℕ → List ℕ
 split_fact table row = line_text (codes "table" ∷ word table ∷ codes "split" ∷ word row ∷ [])
 
 -- its records
-abbrev pub tally_fact : List ℕ → ℕ → Tally → List ℕ
+abbrev pub tally_fact : List ℕ → ℕ → RecordCounts → List ℕ
 tally_fact table many t = line_text (
     codes "table" ∷ word table ∷ codes "records" ∷ decimal many ∷ codes "puts" ∷ decimal t.puts ∷ codes "deletes" ∷ decimal t.deletes
     ∷ codes "key-bytes" ∷ decimal t.key_bytes ∷ codes "value-bytes" ∷ decimal t.value_bytes ∷ [])

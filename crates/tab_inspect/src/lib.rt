@@ -15,4 +15,4 @@ mod tally;
 mod users;
 
 pub use image::put_facts;
-pub use tally::Tally;
+pub use tally::RecordCounts;

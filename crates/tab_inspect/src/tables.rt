@@ -14,7 +14,7 @@ ghost use Rattle.tab_audit.specs.Words.{list_word, versions_word};
 ghost use Rattle.tab_inspect.specs.Facts.{table_facts, horizon_fact, rights_fact, right_fact, split_fact, tally_fact, tally_of};
 ghost use Rattle.tab_inspect.specs.Parts.{table_part};
 
-use crate::tally::Tally;
+use crate::tally::RecordCounts;
 use tab_audit::{Piece, put_line};
 use tab_history::TimeMode;
 use tab_image::{ImageRight, ImageTable, TableHead};
@@ -279,14 +279,19 @@ fn put_tally<W: Output>(output: &mut W, table: &ImageTable) -> Result<(), WriteF
     ensures { Puts W.Output output.old output.new (tally_fact table.now.head.name (length table.now.records) (tally_of table.now.records)) result }
 {
     let many = table.records.len() as u64;
-    put_counts(output, &table.head.name, many, Tally::of(&table.records))
+    put_counts(
+        output,
+        &table.head.name,
+        many,
+        RecordCounts::of(&table.records),
+    )
 }
 
 fn put_counts<W: Output>(
     output: &mut W,
     name: &Name,
     many: u64,
-    tally: Tally,
+    tally: RecordCounts,
 ) -> Result<(), WriteFault>
     ensures { Puts W.Output output.old output.new (tally_fact name.now many tally) result }
 {

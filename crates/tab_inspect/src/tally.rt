@@ -7,7 +7,7 @@ use tab_key::{Kind, RecordRef};
 
 /// Counts of records and of their bytes. Each ends at the greatest number of 64 bits.
 #[derive(Clone, Copy, Debug, PartialEq, Eq)]
-pub struct Tally {
+pub struct RecordCounts {
     /// How many puts there are.
     pub puts: u64,
     /// How many delete markers there are.
@@ -18,12 +18,12 @@ pub struct Tally {
     pub value_bytes: u64,
 }
 
-impl Tally {
+impl RecordCounts {
     /// The counts of these records. It reads the head of each, and takes no memory.
-    pub fn of(records: &Records) -> Tally
+    pub fn of(records: &Records) -> RecordCounts
         ensures { result ≡ tally_of records.now }
     {
-        let mut tally = Tally {
+        let mut tally = RecordCounts {
             puts: 0,
             deletes: 0,
             key_bytes: 0,
@@ -36,12 +36,12 @@ impl Tally {
     }
 
     // With one more record.
-    fn with(self, record: &RecordRef<'_>) -> Tally
+    fn with(self, record: &RecordRef<'_>) -> RecordCounts
         ensures { result ≡ tallied self record.now }
     {
         let key = record.column().len() as u64;
         let value = record.value().len() as u64;
-        let tally = Tally {
+        let tally = RecordCounts {
             puts: self.puts,
             deletes: self.deletes,
             key_bytes: self.key_bytes.saturating_add(key),
@@ -51,17 +51,17 @@ impl Tally {
     }
 
     // With one more record of this kind.
-    fn counting(self, kind: Kind) -> Tally
+    fn counting(self, kind: Kind) -> RecordCounts
         ensures { result ≡ counted kind self }
     {
         match kind {
-            Kind::Put => Tally {
+            Kind::Put => RecordCounts {
                 puts: self.puts.saturating_add(1),
                 deletes: self.deletes,
                 key_bytes: self.key_bytes,
                 value_bytes: self.value_bytes,
             },
-            Kind::Delete => Tally {
+            Kind::Delete => RecordCounts {
                 puts: self.puts,
                 deletes: self.deletes.saturating_add(1),
                 key_bytes: self.key_bytes,

@@ -1,7 +1,7 @@
 -- For proofs. What headers, batches and journals of the code stand for.
 use Rattle.std.specs.Prelude.{ℕ, List, length}
 use Rattle.std.specs.List.{flat_map, fold}
-use Rattle.tab_journal.specs.declared.batch.Batch.{Batch as TheBatch}
+use Rattle.tab_journal.specs.declared.batch.JournalBatch.{JournalBatch as TheBatch}
 use Rattle.tab_journal.specs.declared.header.Header.{Header as TheFront}
 use Rattle.tab_journal.specs.declared.reading.JournalContents.{JournalContents as TheKept}
 use Rattle.tab_journal.specs.Journals.{Header, Batch}

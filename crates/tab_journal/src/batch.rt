@@ -11,7 +11,7 @@ use std::alloc::{AllocError, Global};
 
 /// A batch, as it stands in the bytes of a journal.
 #[derive(Clone, Copy, Debug)]
-pub struct Batch<'a> {
+pub struct JournalBatch<'a> {
     /// How many bytes of the journal were on the disk when it was written.
     pub settled: u64,
     /// What it keeps.
@@ -44,7 +44,7 @@ pub fn batch_text(
 /// The batch at the front of some bytes, in a journal with this salt and behind this sum, and what stands behind it. `None`: none begins there
 /// that is whole and has the sum.
 #[tactic(auto, unfolding(crate::specs::Reading::batch_at))]
-pub fn take_batch(salt: u64, before: u64, bytes: &[u8]) -> Option<(Batch<'_>, &[u8])>
+pub fn take_batch(salt: u64, before: u64, bytes: &[u8]) -> Option<(JournalBatch<'_>, &[u8])>
     ensures { option_map (λ x. (batch_in x.0, x.1.now)) result ≡ batch_at salt before bytes.now }
 {
     let (settled, rest) = take_long(bytes)?;
@@ -53,5 +53,5 @@ pub fn take_batch(salt: u64, before: u64, bytes: &[u8]) -> Option<(Batch<'_>, &[
     if sum != batch_sum(salt, before, settled, body) {
         return None;
     }
-    Some((Batch { settled, body, sum }, rest))
+    Some((JournalBatch { settled, body, sum }, rest))
 }

@@ -49,7 +49,7 @@ mod writer;
 #[cfg(test)]
 mod writing_tests;
 
-pub use batch::{Batch, batch_text, take_batch};
+pub use batch::{JournalBatch, batch_text, take_batch};
 pub use device::{Device, DeviceError};
 pub use entry::next_entry;
 pub use format::Format;

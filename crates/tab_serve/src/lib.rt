@@ -33,7 +33,7 @@ mod turn;
 
 pub use conversation::converse;
 pub use fault::ServeFault;
-pub use listed::Listed;
+pub use listed::ListedMoments;
 pub use moments::Moments;
 pub use service::Service;
 pub use serving::serve;

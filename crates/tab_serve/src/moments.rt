@@ -1,7 +1,7 @@
 //! Where moments come from.
 ghost use Rattle.std.specs.Prelude.{◌≡◌, ℤ};
 
-use crate::Listed;
+use crate::ListedMoments;
 
 /// A source of moments, one for each event.
 pub trait Moments {
@@ -13,7 +13,7 @@ pub trait Moments {
         ensures { gives self.old result self.new };
 }
 
-impl Moments for Listed {
+impl Moments for ListedMoments {
     ghost use Rattle.std.specs.Prelude.{◌≡◌};
     ghost use Rattle.tab_serve.specs.Moments.{listed_now, listed_after};
 

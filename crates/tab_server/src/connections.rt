@@ -8,7 +8,7 @@ use tab_socket::{Closer, Listener};
 
 // What closes the connection that a worker serves.
 #[derive(Drop)]
-struct Place {
+struct WorkerConnection {
     stream: Mutex<Option<Closer>>,
 }
 
@@ -17,7 +17,7 @@ struct Place {
 #[derive(Drop)]
 pub(crate) struct Connections {
     listener: Closer,
-    places: Vec<Place>,
+    places: Vec<WorkerConnection>,
     are_closed: AtomicBool,
 }
 
@@ -35,7 +35,7 @@ impl Connections {
         for _ in 0..workers {
             places.reserve(1)?;
             let stream = Mutex::new(None);
-            places.push_reserved(Place { stream });
+            places.push_reserved(WorkerConnection { stream });
         }
         Ok(Connections {
             listener,

@@ -44,4 +44,4 @@ pub use connection::{Connection, Ending, Peer};
 pub use figures::Figures;
 pub use history::{Dropped, History};
 pub use server::{Options, ServerFault, run_server};
-pub use store::{NotKept, Nowhere, Store};
+pub use store::{NoStore, NotKept, Store};

@@ -33,9 +33,9 @@ pub trait Store {
 
 /// It keeps nothing.
 #[derive(Clone, Copy)]
-pub struct Nowhere;
+pub struct NoStore;
 
-impl Store for Nowhere {
+impl Store for NoStore {
     fn keeps(&self) -> bool {
         false
     }

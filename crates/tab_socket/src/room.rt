@@ -18,7 +18,7 @@ const LONGER: usize = ".tabd999/s".len();
 /// A new folder beside a file, into which nobody else can go, and the names of two files in it. What is made in it gets the group that the
 /// rights of the outer folder give, as it would there.
 #[derive(Drop)]
-pub(crate) struct Room {
+pub(crate) struct PrivateFolder {
     folder: String,
     /// What is made in it.
     pub(crate) made: String,
@@ -32,7 +32,7 @@ pub(crate) fn has_room(name: &str, most: usize) -> bool {
 }
 
 /// Makes such a folder beside the file of this name.
-pub(crate) fn make_room(rt: &HostRuntime, name: &str) -> Result<Room, Error> {
+pub(crate) fn make_room(rt: &HostRuntime, name: &str) -> Result<PrivateFolder, Error> {
     for number in 0..TRIES {
         let room = room_of(rt, name, number)?;
         match DirBuilder::new()
@@ -47,7 +47,7 @@ pub(crate) fn make_room(rt: &HostRuntime, name: &str) -> Result<Room, Error> {
     Err(Error::from(ErrorKind::AlreadyExists))
 }
 
-impl Room {
+impl PrivateFolder {
     /// Takes the folder away, with what is made in it still. What was made and has another name too stays under that.
     pub(crate) fn clear(&self, rt: &HostRuntime) {
         let _ = fs::remove_file(rt, self.made.as_str());
@@ -57,7 +57,7 @@ impl Room {
 }
 
 // The names of a folder that isn't made yet.
-fn room_of(rt: &HostRuntime, name: &str, number: u32) -> Result<Room, Error> {
+fn room_of(rt: &HostRuntime, name: &str, number: u32) -> Result<PrivateFolder, Error> {
     match named(rt, folder_of(name), number) {
         Ok(room) => Ok(room),
         Err(_) => Err(Error::from(ErrorKind::OutOfMemory)),
@@ -65,12 +65,12 @@ fn room_of(rt: &HostRuntime, name: &str, number: u32) -> Result<Room, Error> {
 }
 
 // The same.
-fn named(rt: &HostRuntime, beside: &str, number: u32) -> Result<Room, AllocError> {
+fn named(rt: &HostRuntime, beside: &str, number: u32) -> Result<PrivateFolder, AllocError> {
     let alloc = rt.alloc();
     let folder = format!(in alloc; "{beside}.tabd{number}").map_err(|_| AllocError)?;
     let made = format!(in alloc; "{folder}/s").map_err(|_| AllocError)?;
     let taken = format!(in alloc; "{folder}/t").map_err(|_| AllocError)?;
-    Ok(Room {
+    Ok(PrivateFolder {
         folder,
         made,
         taken,

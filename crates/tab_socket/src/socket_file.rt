@@ -1,6 +1,6 @@
 //! A socket file that is listened on: how it gets its name, and how it goes.
 
-use crate::room::{Room, has_room, make_room};
+use crate::room::{PrivateFolder, has_room, make_room};
 use std::fs;
 use std::fs::{Metadata, Permissions};
 use std::io::{Error, ErrorKind};
@@ -94,7 +94,7 @@ fn bind_in<'a>(
     rt: &'a HostRuntime,
     name: &'a str,
     mode: u32,
-    room: &Room,
+    room: &PrivateFolder,
 ) -> Result<SocketFile<'a>, SocketFault> {
     let made = room.made.as_str();
     let listener = UnixListener::bind(rt, made)?;
@@ -110,7 +110,7 @@ fn bind_in<'a>(
 }
 
 // Gives what was made in the room this name too.
-fn take_name(rt: &HostRuntime, name: &str, room: &Room) -> Result<(), SocketFault> {
+fn take_name(rt: &HostRuntime, name: &str, room: &PrivateFolder) -> Result<(), SocketFault> {
     for _ in 0..TRIES {
         match fs::hard_link(rt, room.made.as_str(), name) {
             Ok(()) => return Ok(()),
@@ -122,7 +122,7 @@ fn take_name(rt: &HostRuntime, name: &str, room: &Room) -> Result<(), SocketFaul
 }
 
 // Takes a dead server's file of this name away, into the room first: one that is another's by then gets its name back.
-fn free_name(rt: &HostRuntime, name: &str, room: &Room) -> Result<(), SocketFault> {
+fn free_name(rt: &HostRuntime, name: &str, room: &PrivateFolder) -> Result<(), SocketFault> {
     match fs::symlink_metadata(rt, name) {
         Ok(found) if !found.file_type().is_socket() => return Err(SocketFault::NoSocket),
         _ => {}

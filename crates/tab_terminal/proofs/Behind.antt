@@ -2,7 +2,7 @@
 use Rattle.std.proofs.Common.{◌≡◌, ℕ, List, [], ◌∷◌, ◌++◌, refl, sym, ap, ◌∙◌, Result, Ok, Err, subst}
 use Rattle.std.proofs.lemmas.List.{append_assoc}
 use Rattle.tab_terminal.specs.Typing.{behind, goes_on, sent, typed, PutsTyped, PutsOn}
-use Rattle.tab_terminal.specs.declared.place.Place.{Place}
+use Rattle.tab_terminal.specs.declared.place.LinePosition.{LinePosition}
 use Rattle.tab_terminal.specs.declared.misquote.Misquote.{Misquote}
 use Rattle.tab_terminal.specs.declared.misquote.Unsent.{Unsent}
 
@@ -12,7 +12,7 @@ behind_twice a b (Ok rest) = ap (λ x. Ok x) (sym (append_assoc a b rest))
 behind_twice a b (Err why) = refl
 
 -- one byte on
-pub sent_on : (old new : List ℕ) (place next : Place) (b : ℕ) (bs : List ℕ) (t : Result (List ℕ × Place) Misquote) → typed place b ≡ t
+pub sent_on : (old new : List ℕ) (place next : LinePosition) (b : ℕ) (bs : List ℕ) (t : Result (List ℕ × LinePosition) Misquote) → typed place b ≡ t
     → PutsTyped old new (Ok next) t → behind new (sent next bs) ≡ behind old (sent place (b ∷ bs))
 sent_on old new place next b bs (Ok step) is puts =
     ap (λ xs. behind xs (sent next bs)) puts.0

@@ -7,13 +7,13 @@ use Rattle.tab_text.specs.Words.{is_plain, hex_digit, hex_form, escaped_byte, es
 use Rattle.tab_text.proofs.Spelling.{AreBytes}
 use Rattle.tab_terminal.specs.Typing.{outside_byte, inside, typed, behind, goes_on, sent}
 use Rattle.tab_terminal.specs.Showing.{shown_byte, shown_bytes, shown}
-use Rattle.tab_terminal.specs.declared.place.Place.{Place}
-use Rattle.tab_terminal.specs.declared.place.Place.TheVariants.{Between, Word, Opened, Quoted, Slash, Closed}
+use Rattle.tab_terminal.specs.declared.place.LinePosition.{LinePosition}
+use Rattle.tab_terminal.specs.declared.place.LinePosition.TheVariants.{Between, Word, Opened, Quoted, Slash, Closed}
 use Rattle.tab_terminal.specs.declared.misquote.Misquote.{Misquote}
 use Rattle.tab_terminal.proofs.Behind.{behind_twice}
 
 -- a byte of which that is sent
-step : (place next : Place) (c : ℕ) (cs bs : List ℕ) → typed place c ≡ Ok (bs, next) → sent place (c ∷ cs) ≡ behind bs (sent next cs)
+step : (place next : LinePosition) (c : ℕ) (cs bs : List ℕ) → typed place c ≡ Ok (bs, next) → sent place (c ∷ cs) ≡ behind bs (sent next cs)
 step place next c cs bs is = ap (λ r. goes_on r (λ later. sent later cs)) is
 
 -- ---- Out of quotes.

@@ -26,6 +26,6 @@ mod sending;
 mod showing;
 
 pub use misquote::{Misquote, Unsent};
-pub use place::Place;
+pub use place::LinePosition;
 pub use sending::sent_line;
 pub use showing::shown_word;

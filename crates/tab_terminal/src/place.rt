@@ -2,7 +2,7 @@
 
 /// Where in a typed line a byte stands.
 #[derive(Clone, Copy, Debug, PartialEq, Eq)]
-pub enum Place {
+pub enum LinePosition {
     /// Between two words, or in front of the first.
     Between,
     /// In a word that begins without a quote.

@@ -4,7 +4,7 @@ ghost use Rattle.tab_terminal.specs.Typing.{Sends, PutsTyped, PutsOn, line_sent,
 
 use crate::hex::hex_form;
 use crate::misquote::{Misquote, Unsent};
-use crate::place::Place;
+use crate::place::LinePosition;
 use std::alloc::Global;
 use tab_text::is_plain;
 
@@ -25,10 +25,10 @@ pub fn sent_line(alloc: Global, line: &[u8]) -> Result<Vec<u8>, Unsent>
 
 // The same of a line that is no comment.
 fn sent_words(alloc: Global, line: &[u8]) -> Result<Vec<u8>, Unsent>
-    ensures { Sends (λ x. x.items) result (sent Place.Between line.now) }
+    ensures { Sends (λ x. x.items) result (sent LinePosition.Between line.now) }
 {
     let mut text = Vec::new(alloc);
-    let mut place = Place::Between;
+    let mut place = LinePosition::Between;
     for byte in line {
         match put_typed(&mut text, place, *byte) {
             Ok(next) => place = next,
@@ -36,66 +36,72 @@ fn sent_words(alloc: Global, line: &[u8]) -> Result<Vec<u8>, Unsent>
         }
     }
     match place {
-        Place::Between | Place::Word | Place::Closed => Ok(text),
-        Place::Opened | Place::Quoted | Place::Slash => Err(Unsent::Misquoted(Misquote::Open)),
+        LinePosition::Between | LinePosition::Word | LinePosition::Closed => Ok(text),
+        LinePosition::Opened | LinePosition::Quoted | LinePosition::Slash => Err(Unsent::Misquoted(
+            Misquote::Open,
+        )),
     }
 }
 
 // Puts what is sent for a byte that stands there. Gives where the next one stands.
-fn put_typed(text: &mut Vec<u8>, place: Place, byte: u8) -> Result<Place, Unsent>
+fn put_typed(text: &mut Vec<u8>, place: LinePosition, byte: u8) -> Result<LinePosition, Unsent>
     ensures { PutsTyped text.old.items text.new.items result (typed place byte) }
 {
     match place {
-        Place::Between if byte == b'"' => Ok(Place::Opened),
-        Place::Between | Place::Word if byte == b' ' => put(text, b" ", Place::Between),
-        Place::Between | Place::Word => put_outside(text, byte),
-        Place::Opened if byte == b'"' => put(text, b"\\e", Place::Closed),
-        Place::Quoted if byte == b'"' => Ok(Place::Closed),
-        Place::Opened | Place::Quoted => put_inside(text, byte),
-        Place::Slash => put_behind_slash(text, byte),
-        Place::Closed if byte == b' ' => put(text, b" ", Place::Between),
-        Place::Closed => Err(Unsent::Misquoted(Misquote::Follows)),
+        LinePosition::Between if byte == b'"' => Ok(LinePosition::Opened),
+        LinePosition::Between | LinePosition::Word if byte == b' ' => put(
+            text,
+            b" ",
+            LinePosition::Between,
+        ),
+        LinePosition::Between | LinePosition::Word => put_outside(text, byte),
+        LinePosition::Opened if byte == b'"' => put(text, b"\\e", LinePosition::Closed),
+        LinePosition::Quoted if byte == b'"' => Ok(LinePosition::Closed),
+        LinePosition::Opened | LinePosition::Quoted => put_inside(text, byte),
+        LinePosition::Slash => put_behind_slash(text, byte),
+        LinePosition::Closed if byte == b' ' => put(text, b" ", LinePosition::Between),
+        LinePosition::Closed => Err(Unsent::Misquoted(Misquote::Follows)),
     }
 }
 
 // Puts a byte of a word that isn't quoted: one that isn't ASCII is escaped.
-fn put_outside(text: &mut Vec<u8>, byte: u8) -> Result<Place, Unsent>
-    ensures { PutsOn text.old.items text.new.items (outside_byte byte) Place.Word result }
+fn put_outside(text: &mut Vec<u8>, byte: u8) -> Result<LinePosition, Unsent>
+    ensures { PutsOn text.old.items text.new.items (outside_byte byte) LinePosition.Word result }
 {
     if byte < 128 {
-        return put(text, &[byte], Place::Word);
+        return put(text, &[byte], LinePosition::Word);
     }
-    put(text, &hex_form(byte), Place::Word)
+    put(text, &hex_form(byte), LinePosition::Word)
 }
 
 // Puts a byte of a quoted word that is no quote: what isn't plain is escaped.
-fn put_inside(text: &mut Vec<u8>, byte: u8) -> Result<Place, Unsent>
+fn put_inside(text: &mut Vec<u8>, byte: u8) -> Result<LinePosition, Unsent>
     ensures { PutsTyped text.old.items text.new.items result (inside byte) }
 {
     if byte == b'\\' {
-        return Ok(Place::Slash);
+        return Ok(LinePosition::Slash);
     }
     if is_plain(byte) {
-        return put(text, &[byte], Place::Quoted);
+        return put(text, &[byte], LinePosition::Quoted);
     }
-    put(text, &hex_form(byte), Place::Quoted)
+    put(text, &hex_form(byte), LinePosition::Quoted)
 }
 
 // Puts the byte behind a backslash in a quoted word.
-fn put_behind_slash(text: &mut Vec<u8>, byte: u8) -> Result<Place, Unsent>
+fn put_behind_slash(text: &mut Vec<u8>, byte: u8) -> Result<LinePosition, Unsent>
     ensures { PutsTyped text.old.items text.new.items result (behind_slash byte) }
 {
     if byte == b'"' {
-        return put(text, b"\"", Place::Quoted);
+        return put(text, b"\"", LinePosition::Quoted);
     }
     if is_plain(byte) || byte == b'\\' {
-        return put(text, &[b'\\', byte], Place::Quoted);
+        return put(text, &[b'\\', byte], LinePosition::Quoted);
     }
     Err(Unsent::Misquoted(Misquote::Escape))
 }
 
 // Puts these bytes. Gives this place.
-fn put(text: &mut Vec<u8>, bytes: &[u8], place: Place) -> Result<Place, Unsent>
+fn put(text: &mut Vec<u8>, bytes: &[u8], place: LinePosition) -> Result<LinePosition, Unsent>
     ensures { PutsOn text.old.items text.new.items bytes.now place result }
 {
     text.extend_from_slice(bytes)?;

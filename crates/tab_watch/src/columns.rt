@@ -1,5 +1,5 @@
 //! A writer that puts cells into columns.
-use crate::kinds::{Kind, kind_of};
+use crate::kinds::{ReplyKind, kind_of};
 use std::alloc::{AllocError, Global};
 use std::io::Write;
 use std::{io, str};
@@ -70,7 +70,7 @@ fn lay_out(alloc: Global, text: &[u8]) -> Result<Vec<u8>, AllocError> {
 fn widths_of(alloc: Global, text: &[u8]) -> Result<[usize; COLUMNS], AllocError> {
     let mut widths = [0usize; COLUMNS];
     for line in text.split(|byte| *byte == b'\n') {
-        if kind_of(line) == Kind::Cell {
+        if kind_of(line) == ReplyKind::Cell {
             for (word, width) in line.split(|byte| *byte == b' ').zip(widths.iter_mut()) {
                 let shown = shown_word(alloc, word)?;
                 *width = (*width).max(drawn_width(shown.as_slice()).min(WIDEST));
@@ -95,7 +95,7 @@ fn lay_line(
     line: &[u8],
     widths: &[usize; COLUMNS],
 ) -> Result<(), AllocError> {
-    if kind_of(line) != Kind::Cell {
+    if kind_of(line) != ReplyKind::Cell {
         return laid.extend_from_slice(line);
     }
     let mut widths = widths.iter();

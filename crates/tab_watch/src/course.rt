@@ -5,14 +5,14 @@ use std::fmt::{Display, Formatter};
 
 /// What is asked of a run.
 #[derive(Clone, Copy, Debug, PartialEq, Eq)]
-pub struct Watch {
+pub struct RunOptions {
     /// Whether it stops at the first fault or refusal.
     pub strict: bool,
     /// Whether it prints only what isn't `ok`.
     pub quiet: bool,
 }
 
-impl Watch {
+impl RunOptions {
     /// Whether anything is asked.
     pub fn is_on(self) -> bool {
         self.strict || self.quiet
@@ -21,13 +21,13 @@ impl Watch {
 
 /// How many lines were answered `ok`, by a refusal, and by a fault.
 #[derive(Clone, Copy, Debug, PartialEq, Eq)]
-pub struct Tally {
+pub struct LineCounts {
     pub done: u64,
     pub refused: u64,
     pub faults: u64,
 }
 
-impl Display for Tally {
+impl Display for LineCounts {
     fn fmt<W: fmt::Write>(&self, f: &mut Formatter<W>) -> fmt::Result {
         let (done, refused, faults) = (self.done, self.refused, self.faults);
         write!(f, "{done} ok, {refused} refused, {faults} faults")
@@ -37,14 +37,14 @@ impl Display for Tally {
 /// Where a run stands: the line that is being answered, counted from 1, and whether the run has stopped. Its reader and its writer share it.
 #[derive(Drop)]
 pub struct Course {
-    watch: Watch,
+    watch: RunOptions,
     line: Cell<u64>,
     stopped: Cell<bool>,
 }
 
 impl Course {
     /// The course of a run of which this is asked. No line was read yet.
-    pub fn new(watch: Watch) -> Course {
+    pub fn new(watch: RunOptions) -> Course {
         Course {
             watch,
             line: Cell::new(0),
@@ -53,7 +53,7 @@ impl Course {
     }
 
     /// What is asked of the run.
-    pub fn watch(&self) -> Watch {
+    pub fn watch(&self) -> RunOptions {
         self.watch
     }
 

@@ -2,7 +2,7 @@
 
 /// What a line of a reply says, without its line feed.
 #[derive(Clone, Copy, Debug, PartialEq, Eq)]
-pub(crate) enum Kind {
+pub(crate) enum ReplyKind {
     /// A cell: six words, of which the fifth is its timestamp.
     Cell,
     /// A refusal.
@@ -14,17 +14,17 @@ pub(crate) enum Kind {
 }
 
 /// What the line says. A cell may begin as a refusal does.
-pub(crate) fn kind_of(line: &[u8]) -> Kind {
+pub(crate) fn kind_of(line: &[u8]) -> ReplyKind {
     if is_cell(line) {
-        return Kind::Cell;
+        return ReplyKind::Cell;
     }
     if line.starts_with(b"refused ") {
-        return Kind::Refusal;
+        return ReplyKind::Refusal;
     }
     if line == b"line fault".as_slice() || line.starts_with(b"fault ") {
-        return Kind::Fault;
+        return ReplyKind::Fault;
     }
-    Kind::Other
+    ReplyKind::Other
 }
 
 // Whether it has six words, of which the fifth is a number.

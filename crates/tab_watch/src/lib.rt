@@ -19,6 +19,6 @@ mod replies;
 mod steps;
 
 pub use columns::Columns;
-pub use course::{Course, Tally, Watch};
+pub use course::{Course, LineCounts, RunOptions};
 pub use replies::Replies;
 pub use steps::Steps;

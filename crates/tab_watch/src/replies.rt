@@ -1,6 +1,6 @@
 //! A writer that looks at each reply.
-use crate::course::{Course, Tally};
-use crate::kinds::{Kind, kind_of};
+use crate::course::{Course, LineCounts};
+use crate::kinds::{ReplyKind, kind_of};
 use std::alloc::Global;
 use std::io;
 use std::io::Write;
@@ -24,7 +24,7 @@ pub struct Replies<'a, W> {
     held: usize,
     line: Vec<u8>,
     lost: bool,
-    tally: Tally,
+    tally: LineCounts,
 }
 
 impl<'a, W: Write> Replies<'a, W> {
@@ -37,7 +37,7 @@ impl<'a, W: Write> Replies<'a, W> {
             held: 0,
             line: Vec::new(alloc),
             lost: false,
-            tally: Tally {
+            tally: LineCounts {
                 done: 0,
                 refused: 0,
                 faults: 0,
@@ -46,7 +46,7 @@ impl<'a, W: Write> Replies<'a, W> {
     }
 
     /// Ends the last reply, and tells how many there were of each kind. Of a run that isn't quiet those that are `ok` aren't counted.
-    pub fn finish(&mut self) -> Tally {
+    pub fn finish(&mut self) -> LineCounts {
         self.settle();
         self.tally
     }
@@ -107,16 +107,16 @@ impl<'a, W: Write> Replies<'a, W> {
     // A line has ended. A strict run stops where it is a refusal or a fault, and keeps it.
     fn end(&mut self) {
         let kind = if self.lost {
-            Kind::Other
+            ReplyKind::Other
         } else {
             kind_of(self.line.as_slice())
         };
         match kind {
-            Kind::Refusal => self.tally.refused = self.tally.refused.saturating_add(1),
-            Kind::Fault => self.tally.faults = self.tally.faults.saturating_add(1),
-            Kind::Cell | Kind::Other => {}
+            ReplyKind::Refusal => self.tally.refused = self.tally.refused.saturating_add(1),
+            ReplyKind::Fault => self.tally.faults = self.tally.faults.saturating_add(1),
+            ReplyKind::Cell | ReplyKind::Other => {}
         }
-        if self.course.watch().strict && (kind == Kind::Refusal || kind == Kind::Fault) {
+        if self.course.watch().strict && (kind == ReplyKind::Refusal || kind == ReplyKind::Fault) {
             self.course.stop();
         } else {
             self.line.clear();

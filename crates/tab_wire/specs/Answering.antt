@@ -4,7 +4,7 @@ use Rattle.tab_key.specs.Records.{Cell, cell_of}
 use Rattle.tab_history.specs.declared.reply.Reply.TheVariants as reply
 use Rattle.tab_wire.specs.declared.answer.Answer.{Answer}
 use Rattle.tab_wire.specs.declared.answer.Answer.TheVariants as answer
-use Rattle.tab_wire.specs.declared.answer.Listed.{Listed}
+use Rattle.tab_wire.specs.declared.answer.ReplySoFar.{ReplySoFar}
 use Rattle.tab_wire.specs.declared.client.ReceiveFault.{ReceiveFault}
 use Rattle.tab_wire.specs.declared.client.ReceiveFault.TheVariants as fault
 use Rattle.tab_wire.specs.declared.reply_frame.ReplyFrame.{ReplyFrame}
@@ -16,7 +16,7 @@ pub record SoFar : Type 0 where
   pub ranges : List (List Cell)
   pub rows : List (List ℕ)
 
-abbrev pub listed : Listed → SoFar
+abbrev pub listed : ReplySoFar → SoFar
 listed l = record { cells = l.cells; ranges = l.ranges.items; rows = l.rows.items }
 
 -- nothing

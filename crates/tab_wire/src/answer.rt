@@ -22,19 +22,19 @@ pub enum Answer {
 
 /// What the frames of one reply told so far.
 #[derive(Drop)]
-pub struct Listed {
+pub struct ReplySoFar {
     alloc: Global,
     cells: Cells,
     ranges: Vec<Cells>,
     rows: Vec<ByteString>,
 }
 
-impl Listed {
+impl ReplySoFar {
     /// Nothing was told yet.
-    pub fn new(alloc: Global) -> Listed
+    pub fn new(alloc: Global) -> ReplySoFar
         ensures { listed result ≡ none_so_far }
     {
-        Listed {
+        ReplySoFar {
             alloc,
             cells: Cells::new(alloc),
             ranges: Vec::new(alloc),

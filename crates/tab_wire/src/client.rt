@@ -5,7 +5,7 @@ ghost use Rattle.tab_wire.specs.Replies.{frame};
 ghost use Rattle.tab_wire.specs.Sending.{Sends, Greets, IsGathered, PutsFrame, hello_before, request_bytes};
 
 use crate::Request;
-use crate::answer::{Answer, Listed};
+use crate::answer::{Answer, ReplySoFar};
 use crate::frame::{FrameBuffer, MAX_FRAME, Taken};
 use crate::gathering::Gathering;
 use crate::numbers::put_field;
@@ -200,7 +200,7 @@ impl Client {
 
     // Receives the frames of one reply.
     fn answer<R: Input>(&mut self, alloc: Global, reader: &mut R) -> Result<Answer, ReceiveFault> {
-        let mut listed = Listed::new(alloc);
+        let mut listed = ReplySoFar::new(alloc);
         for _ in 0..u64::MAX {
             let told = self.next_told(alloc, reader)?;
             if let Some(answer) = listed.add(told)? {

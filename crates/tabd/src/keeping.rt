@@ -5,7 +5,7 @@ use crate::unheard::Unheard;
 use anyhow::Context;
 use std::io::{ErrorKind, Read, Write};
 use tab_core::Core;
-use tab_folder::{Folder, FolderFault, Format, Left, Log, Logged, Settled};
+use tab_folder::{Folder, FolderFault, Format, Left, Logged, ScriptLog, SyncedWriter};
 use tab_io::{BlockReader, BlockWriter, Output};
 use tab_prog::{FileName, Files, LoadFault, ProgramFault, SaveFault, script_on};
 use tab_shell::Script;
@@ -21,13 +21,13 @@ enum TakeUpFault {
 #[derive(Drop)]
 pub struct Keeping<'a> {
     folder: &'a Folder<'a>,
-    log: &'a Log,
+    log: &'a ScriptLog,
     script: &'a mut Script,
 }
 
 impl<'a> Keeping<'a> {
     /// This script, whose core is that of the folder's image, and the journal behind it.
-    pub fn new(folder: &'a Folder<'a>, log: &'a Log, script: &'a mut Script) -> Keeping<'a> {
+    pub fn new(folder: &'a Folder<'a>, log: &'a ScriptLog, script: &'a mut Script) -> Keeping<'a> {
         Keeping {
             folder,
             log,
@@ -45,7 +45,8 @@ impl<'a> Keeping<'a> {
         let Ok(mut input) = BlockReader::new(rt.alloc(), Logged::new(reader, self.log)) else {
             return Err(ProgramFault::NoMemory);
         };
-        let Ok(mut output) = BlockWriter::new(rt.alloc(), Settled::new(writer, self.log)) else {
+        let Ok(mut output) = BlockWriter::new(rt.alloc(), SyncedWriter::new(writer, self.log))
+        else {
             return Err(ProgramFault::NoMemory);
         };
         let mut files = FolderFiles::new(rt, self.folder, false);

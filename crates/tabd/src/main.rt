@@ -45,7 +45,7 @@ use tab_key::Name;
 use tab_prog::ProgramFault;
 use tab_server::Options;
 use tab_socket::mode_of;
-use tab_watch::Watch;
+use tab_watch::RunOptions;
 
 // From how many entries on a server's history is dropped.
 const ROTATE_AT: u64 = 16_384;
@@ -134,7 +134,7 @@ fn exported(rt: &HostRuntime, export: ExportRequest<'_>) -> anyhow::Result<ExitC
 
 // Runs a script.
 fn scripted(rt: &HostRuntime, script: ScriptRequest<'_>) -> anyhow::Result<ExitCode> {
-    let watch = Watch {
+    let watch = RunOptions {
         strict: script.strict,
         quiet: script.quiet,
     };
@@ -182,7 +182,7 @@ fn shelled(rt: &HostRuntime, shell: ShellRequest<'_>) -> anyhow::Result<ExitCode
         place: shell.place,
         patience: Duration::from_secs(shell.timeout as u64),
         style: style_of(shell.prompted, shell.explained),
-        watch: Watch {
+        watch: RunOptions {
             strict: shell.strict,
             quiet: shell.quiet,
         },

@@ -6,14 +6,14 @@ use anyhow::Context;
 use std::io::{IsTerminal, Read, Write};
 use std::process::ExitCode;
 use tab_core::Core;
-use tab_folder::{Folder, Format, Log};
+use tab_folder::{Folder, Format, ScriptLog};
 use tab_help::{Asks, Explaining, Prompting};
 use tab_host::Noting;
 use tab_io::{BlockReader, BlockWriter};
 use tab_key::Name;
 use tab_prog::{ProgramFault, script, script_over};
 use tab_shell::Script;
-use tab_watch::{Columns, Course, Replies, Steps, Watch};
+use tab_watch::{Columns, Course, Replies, RunOptions, Steps};
 
 /// What goes with the lines of a script.
 #[derive(Clone, Copy, Debug, PartialEq, Eq)]
@@ -43,7 +43,7 @@ pub fn run_script(
     rt: &HostRuntime,
     image: Option<&str>,
     style: Style,
-    watch: Watch,
+    watch: RunOptions,
 ) -> anyhow::Result<ExitCode> {
     match loaded(rt, image)? {
         Some(core) => styled(rt, Begins::Over(core), style, watch),
@@ -58,12 +58,12 @@ pub fn run_kept(
     path: &str,
     image: Option<&str>,
     style: Style,
-    watch: Watch,
+    watch: RunOptions,
 ) -> anyhow::Result<ExitCode> {
     let mut folder = Folder::open(rt, path).with_context(|| path)?;
     let core = taken_up(rt, &mut folder, path, image)?;
     let journal = folder.begin(&core, Format::Lines).with_context(|| path)?;
-    let log = Log::new(journal);
+    let log = ScriptLog::new(journal);
     let mut script = Script::new(rt.alloc(), core);
     let keeping = Keeping::new(&folder, &log, &mut script);
     let outcome = styled(rt, Begins::Kept(keeping), style, watch);
@@ -80,7 +80,7 @@ fn styled(
     rt: &HostRuntime,
     begins: Begins<'_>,
     style: Style,
-    watch: Watch,
+    watch: RunOptions,
 ) -> anyhow::Result<ExitCode> {
     let course = Course::new(watch);
     let mut input = Noting::new(rt.stdin());

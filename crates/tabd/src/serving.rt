@@ -11,12 +11,12 @@ use std::process::ExitCode;
 use std::sync::Wait;
 use std::thread::Threads;
 use std::time::Clock;
-use tab_command::{Place, ServeRequest};
+use tab_command::{ServeRequest, ServerAddress};
 use tab_core::Core;
 use tab_host::NetFault;
 use tab_prog::ProgramFault;
 use tab_serve::Moments;
-use tab_server::{Nowhere, Options, Store, WallClock, run_server};
+use tab_server::{NoStore, Options, Store, WallClock, run_server};
 use tab_socket::{Listener, SocketFile};
 
 // A year, in milliseconds.
@@ -37,7 +37,7 @@ pub fn run_serve<R: Threads + Wait + Clock + Sync>(
     match serve.store {
         None => {
             let core = core_of(rt, serve.image)?;
-            answer(rt, threads, serve, mode, options, core, None, &Nowhere)?;
+            answer(rt, threads, serve, mode, options, core, None, &NoStore)?;
             Ok(ExitCode::SUCCESS)
         }
         Some(path) => {
@@ -74,8 +74,10 @@ fn answer<R: Threads + Wait + Clock + Sync, D: Store + Sync>(
     let log = LogFile::open(rt, serve.history)?;
     let telling = Telling::new(rt, log, serve.metrics, counts, serve.logged)?;
     match serve.place {
-        Place::Port(port) => at_port(rt, threads, port, options, core, &telling, store),
-        Place::Socket(name) => at_file(rt, threads, name, mode, options, core, &telling, store),
+        ServerAddress::Port(port) => at_port(rt, threads, port, options, core, &telling, store),
+        ServerAddress::Socket(name) => at_file(
+            rt, threads, name, mode, options, core, &telling, store,
+        ),
     }
 }
 

@@ -7,34 +7,34 @@ use std::net::{Ipv4Addr, SocketAddr, TcpStream};
 use std::os::unix::net::UnixStream;
 use std::process::ExitCode;
 use std::time::Duration;
-use tab_command::Place;
+use tab_command::ServerAddress;
 use tab_help::{Asks, Explaining, Prompting};
 use tab_host::{FirstWait, NetFault, Noting};
 use tab_io::{BlockReader, BlockWriter};
 use tab_key::Name;
 use tab_prog::{ShellFault, shell_run};
 use tab_socket::{End, Stream};
-use tab_watch::{Columns, Course, Replies, Steps, Watch};
+use tab_watch::{Columns, Course, Replies, RunOptions, Steps};
 
 /// Whom a shell asks, and how.
 #[derive(Clone, Copy)]
 pub struct Way<'a> {
     /// Where the server is.
-    pub place: Place<'a>,
+    pub place: ServerAddress<'a>,
     /// How long the server is waited for, to connect to its port and for its first answer.
     pub patience: Duration,
     /// What goes with the lines.
     pub style: Style,
     /// What is asked of the run.
-    pub watch: Watch,
+    pub watch: RunOptions,
 }
 
 /// Asks the server what the lines of standard input say, as this user, and prints what it tells on standard output. Gives the status; a
 /// fault tells the system's reason.
 pub fn run_shell(rt: &HostRuntime, way: &Way<'_>, user: Name) -> anyhow::Result<ExitCode> {
     match way.place {
-        Place::Port(port) => shell_over(rt, way, connected(rt, port, way.patience)?, user),
-        Place::Socket(name) => shell_over(rt, way, opened(rt, name)?, user),
+        ServerAddress::Port(port) => shell_over(rt, way, connected(rt, port, way.patience)?, user),
+        ServerAddress::Socket(name) => shell_over(rt, way, opened(rt, name)?, user),
     }
 }
 
@@ -104,10 +104,10 @@ fn opened(rt: &HostRuntime, name: &str) -> anyhow::Result<UnixStream> {
 }
 
 // The fault of a server that gives no first answer.
-fn silent(place: Place<'_>) -> anyhow::Error {
+fn silent(place: ServerAddress<'_>) -> anyhow::Error {
     match place {
-        Place::Port(port) => NetFault::Silent(port).into(),
-        Place::Socket(name) => anyhow::Error::from(NetFault::NoAnswer).context(name),
+        ServerAddress::Port(port) => NetFault::Silent(port).into(),
+        ServerAddress::Socket(name) => anyhow::Error::from(NetFault::NoAnswer).context(name),
     }
 }
 

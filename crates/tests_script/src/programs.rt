@@ -10,9 +10,9 @@ use tab_prog::{FileName, Files, LoadFault, ProgramFault, SaveFault, script};
 
 // No files at all.
 #[derive(Drop)]
-struct Nowhere;
+struct NoFiles;
 
-impl Files for Nowhere {
+impl Files for NoFiles {
     ghost saves = { λ _ _ _ _ _. Unit {0} };
 
     ghost loads = { λ _ _ _ _. Unit {0} };
@@ -35,7 +35,7 @@ fn run(
     input: &mut BlockReader<PieceReader<'_>>,
     output: &mut BlockWriter<PieceWriter>,
 ) -> Result<(), ProgramFault> {
-    script(alloc, &mut Nowhere, input, output)
+    script(alloc, &mut NoFiles, input, output)
 }
 
 // What is written of the answers where the subcommand ends with this fault.

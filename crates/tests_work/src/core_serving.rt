@@ -6,7 +6,7 @@ use std::process::Abort;
 use tab_core::Core;
 use tab_io::memory::{Fault, PieceReader, PieceWriter};
 use tab_io::{BlockReader, BlockWriter};
-use tab_serve::{Listed, ServeFault, serve};
+use tab_serve::{ListedMoments, ServeFault, serve};
 
 // The connection is served by this core. Each event has the moment 0.
 fn serve_all(
@@ -15,7 +15,7 @@ fn serve_all(
     input: &mut BlockReader<PieceReader<'_>>,
     output: &mut BlockWriter<PieceWriter>,
 ) -> Result<(), ServeFault> {
-    let mut moments = Listed::new(Vec::new(alloc));
+    let mut moments = ListedMoments::new(Vec::new(alloc));
     serve(alloc, input, output, &mut moments, core)
 }
 

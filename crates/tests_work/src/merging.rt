@@ -18,7 +18,7 @@ use tab_book::{Receipt, Seat, settle};
 use tab_core::Core;
 use tab_history::Reply;
 use tab_io::memory::{PieceReader, PieceWriter};
-use tab_serve::Listed;
+use tab_serve::ListedMoments;
 use tab_work::{Claims, Compactor, Gate, OpenGate, Shared};
 
 // It holds a merge up until the other connection was answered.
@@ -81,7 +81,7 @@ fn compacts_held_up<L: Ledger, R: Threads + Wait + Abort + Clock + Sync>(
 ) -> Worked<L> {
     let gate = HoldingGate { rt, signs };
     let claims = Claims::new(alloc);
-    let moments = Listed::new(Vec::new(alloc));
+    let moments = ListedMoments::new(Vec::new(alloc));
     let root = named(rt, b"root");
     let mut compactor = Compactor::new(rt, alloc, shared, seat, root, moments, &claims, &gate);
     compactor.compact();

@@ -14,7 +14,7 @@ use tab_book::{Receipt, Seat, settle};
 use tab_core::Core;
 use tab_io::memory::{Fault, PieceReader, PieceWriter};
 use tab_io::{BlockReader, BlockWriter};
-use tab_serve::{Listed, ServeFault};
+use tab_serve::{ListedMoments, ServeFault};
 use tab_work::{Gate, OpenGate, Shared, serve_shared};
 
 // How the connection of this reader ends on this seat, and what stands in the writer then. Each event has the moment 0.
@@ -30,7 +30,7 @@ pub fn served_by<L: Ledger, R: Threads + Wait + Abort + Sync, G: Gate>(
 ) -> (Result<(), ServeFault>, Vec<u8>) {
     let mut input = BlockReader::new(alloc, reader).expect(rt, "memory");
     let mut output = BlockWriter::new(alloc, writer).expect(rt, "memory");
-    let mut moments = Listed::new(Vec::new(alloc));
+    let mut moments = ListedMoments::new(Vec::new(alloc));
     let ended = serve_shared(
         rt,
         alloc,

@@ -15,7 +15,7 @@ use tab_book::{Held, Receipt, Seat, settle};
 use tab_core::{Core, Session};
 use tab_history::Reply;
 use tab_key::Cells;
-use tab_serve::Listed;
+use tab_serve::ListedMoments;
 use tab_work::{Claims, Compactor, Gate, OpenGate, Requests, Shared, wait_for_requests};
 
 // How many writers there are, how many rows each has, and how many cells a row.
@@ -82,7 +82,7 @@ fn compact_all<L: Ledger, R: Threads + Wait + Abort + Sync>(
     awaiting: Awaiting<L>,
 ) -> Worked<L> {
     let Awaiting { seat, requests } = awaiting;
-    let moments = Listed::new(Vec::new(alloc));
+    let moments = ListedMoments::new(Vec::new(alloc));
     let root = named(rt, b"root");
     let mut compactor = Compactor::new(rt, alloc, shared, seat, root, moments, claims, &OpenGate);
     for _ in rt.forever() {

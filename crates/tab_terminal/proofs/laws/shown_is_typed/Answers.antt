@@ -4,7 +4,7 @@ use Rattle.tab_text.specs.Words.{word}
 use Rattle.tab_text.proofs.Spelling.{bytes_fit}
 use Rattle.tab_terminal.specs.Showing.{shown}
 use Rattle.tab_terminal.specs.Typing.{sent, behind}
-use Rattle.tab_terminal.specs.declared.place.Place.TheVariants.{Between}
+use Rattle.tab_terminal.specs.declared.place.LinePosition.TheVariants.{Between}
 use Rattle.tab_terminal.proofs.Behind.{behind_twice}
 use Rattle.tab_terminal.proofs.ShownTyped.{shown_on}
 use Rattle.tab_terminal.proofs.laws.shown_is_typed.Goals as goal

@@ -1,6 +1,6 @@
 use Rattle.std.proofs.Common.{◌≡◌, drop}
 use Rattle.tab_terminal.specs.Typing.{sent, behind}
-use Rattle.tab_terminal.specs.declared.place.Place.TheVariants.{Between}
+use Rattle.tab_terminal.specs.declared.place.LinePosition.TheVariants.{Between}
 use Rattle.tab_terminal.proofs.sending.sent_words.Given as goal
 
 -- behind what is written stands what is sent for the bytes that are left

@@ -1,7 +1,7 @@
 use Rattle.std.proofs.Common.{◌≡◌, ◌&&◌, true, rules}
 use Rattle.tab_wire.specs.Answering.{listed, is_empty}
 use Rattle.tab_wire.proofs.Answering.{alone_comes}
-use Rattle.tab_wire.proofs.answer.Listed.add.Goals as goal
+use Rattle.tab_wire.proofs.answer.ReplySoFar.add.Goals as goal
 
 pub returns-in_default : goal.returns-in_default
 returns-in_default c =
