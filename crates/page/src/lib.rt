@@ -4,7 +4,7 @@
 //! |---|---|
 //! | `running` | lines are answered by `script` of `tab_prog`, as by `tabd script` |
 //! | `explaining` | why a line is a line fault, as by `tabd script --explain` |
-//! | `nowhere` | the files that a page doesn't have |
+//! | `no_files` | the files that a page doesn't have |
 //! | `filling` | bytes, copied to where the caller has room |
 //!
 //! `specs/Answering` says it, for `run` and `why`: no contract of what C calls may speak of readers and writers, so the two functions here,
@@ -13,7 +13,7 @@
 
 mod explaining;
 mod filling;
-mod nowhere;
+mod no_files;
 mod running;
 
 use std::alloc::Global;

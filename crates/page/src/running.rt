@@ -2,7 +2,7 @@
 ghost use Rattle.page.specs.Answering.{Answers};
 
 use crate::filling::fill;
-use crate::nowhere::NoFiles;
+use crate::no_files::NoFiles;
 use std::alloc::Global;
 use tab_io::memory::{PieceReader, PieceWriter};
 use tab_io::{BLOCK_LENGTH, BlockReader, BlockWriter, Input, Output};

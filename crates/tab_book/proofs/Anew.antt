@@ -20,7 +20,7 @@ use Rattle.tab_core.specs.Recording.{RefinesHistory, IsLegalFrom, StepsOn, Steps
 use Rattle.tab_core.specs.Rotating.{raised}
 use Rattle.tab_core.specs.Stepping.{LaysExactly, now_at}
 use Rattle.tab_core.specs.Stores.{CoreContents, base_of}
-use Rattle.tab_book.specs.Entries.{Posted, Place, Record, next_of, past}
+use Rattle.tab_book.specs.Entries.{Posted, SeatState, Record, next_of, past}
 use Rattle.tab_book.specs.Receipts.{Slip, Applies}
 use Rattle.tab_book.specs.Rotating.{Portion, portion_of, FollowsOn, rotation, Rotates}
 use Rattle.tab_book.proofs.Growing.{past_more}
@@ -87,7 +87,7 @@ follows old new base h user moment reply begins refines steps done =
 
 -- ---- rotations
 -- one that wasn't done
-pub rotates_none : (book book' : Record) (seat seat' : Place) (user : List ℕ) (moment : ℤ) (slip : Slip) (done : Bool)
+pub rotates_none : (book book' : Record) (seat seat' : SeatState) (user : List ℕ) (moment : ℤ) (slip : Slip) (done : Bool)
     → Applies book seat None (rotation user moment) slip book' seat' → (IsTrue done ↔ (slip.entry.reply ≡ Done)) → done ≡ false → Rotates book seat user moment slip None book' seat'
 rotates_none book book' seat seat' user moment slip done applied is off =
     let s = applied.steps in
@@ -99,7 +99,7 @@ rotates_none book book' seat seat' user moment slip done applied is off =
     }
 
 -- one that was done: an entry more, and then all of them handed out
-pub rotates_some : (book mid book' : Record) (seat seat' : Place) (user : List ℕ) (moment : ℤ) (slip : Slip) (part : Portion) (base : Base)
+pub rotates_some : (book mid book' : Record) (seat seat' : SeatState) (user : List ℕ) (moment : ℤ) (slip : Slip) (part : Portion) (base : Base)
     → RefinesHistory book.core (base_of book.core) [] → RefinesHistory book.core book.base (past book.entries)
     → Applies book seat None (rotation user moment) slip mid seat' → slip.entry.reply ≡ Done
     → base ≡ raised moment (base_of book.core) → part ≡ portion_of mid → book' ≡ record mid { base = base; first = next_of mid; entries = [] }

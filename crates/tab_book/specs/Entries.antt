@@ -26,12 +26,12 @@ abbrev pub past : List Posted → List Entry
 past ps = extend [] ps
 
 -- a seat: its number, the number above all that it has seen, and how many entries are its
-pub record Place : Type 0 where
+pub record SeatState : Type 0 where
   pub number : ℕ
   pub seen : ℕ
   pub count : ℕ
 
-abbrev pub place : ℕ → ℕ → ℕ → Place
+abbrev pub place : ℕ → ℕ → ℕ → SeatState
 place number seen count = record { number = number; seen = seen; count = count }
 
 -- a book: what its history began on, and the number of its first entry, which is how many were handed out before; the entries, the oldest

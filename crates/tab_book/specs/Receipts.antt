@@ -8,7 +8,7 @@ use Rattle.tab_core.specs.Parts.{TabletMerge}
 use Rattle.tab_core.specs.Recording.{StepsOn}
 use Rattle.tab_book.specs.declared.held.Held.{Held}
 use Rattle.tab_book.specs.HandedOut.{held_of}
-use Rattle.tab_book.specs.Entries.{Posted, posted, Place, place, Record, next_of}
+use Rattle.tab_book.specs.Entries.{Posted, posted, SeatState, place, Record, next_of}
 
 -- a receipt: the number of an entry, the entry, and the session or the job that was handed out and not taken yet
 pub record Slip : Type 0 where
@@ -26,7 +26,7 @@ Has book slip = StandsIn book.first book.entries slip
 
 -- The receipt of a seat's event: it names the seat and the event, its number is above all that the seat has seen, nothing was taken from it,
 -- and the seat counts one entry more.
-pub record Receives (seat : Place) (event : Event) (slip : Slip) (seat' : Place) : Type 0 where
+pub record Receives (seat : SeatState) (event : Event) (slip : Slip) (seat' : SeatState) : Type 0 where
   pub entry : slip.entry ≡ posted seat.number event slip.entry.reply
   pub above : seat.seen ≤ slip.number
   pub counts : seat' ≡ place seat.number (slip.number + 1) (seat.count + 1)
@@ -34,7 +34,7 @@ pub record Receives (seat : Place) (event : Event) (slip : Slip) (seat' : Place)
 
 -- An event of a seat, and the merge that came with it: the history grows by the receipt's entry, and the core goes on by its step, whose reply
 -- the entry has, and whose session or job the receipt.
-pub record Applies (book : Record) (seat : Place) (given : Option TabletMerge) (event : Event) (slip : Slip) (book' : Record) (seat' : Place) : Type 0 where
+pub record Applies (book : Record) (seat : SeatState) (given : Option TabletMerge) (event : Event) (slip : Slip) (book' : Record) (seat' : SeatState) : Type 0 where
   pub receives : Receives seat event slip seat'
   pub number : slip.number ≡ next_of book
   pub grows : book' ≡ record book { entries = book.entries ++ slip.entry ∷ []; core = book'.core }

@@ -16,7 +16,7 @@ use Rattle.tab_core.specs.Rotating.{raised}
 use Rattle.tab_core.specs.Stepping.{asked_at}
 use Rattle.tab_core.specs.Stores.{base_of}
 use Rattle.tab_book.specs.HandedOut.{held_of}
-use Rattle.tab_book.specs.Entries.{Posted, Place, Record, next_of, past}
+use Rattle.tab_book.specs.Entries.{Posted, SeatState, Record, next_of, past}
 use Rattle.tab_book.specs.Receipts.{Slip, Receives}
 
 -- what is handed out: the entries from the number of the first one on, the oldest first, and the base from which they are legal
@@ -51,7 +51,7 @@ Leaves book moment slip (Some part) book' =
     × FollowsOn part (portion_of book')
 
 -- A rotation of a seat: the core goes on by its step, whose reply the entry has, as after each event.
-pub record Rotates (book : Record) (seat : Place) (user : List ℕ) (moment : ℤ) (slip : Slip) (part : Option Portion) (book' : Record) (seat' : Place) : Type 0 where
+pub record Rotates (book : Record) (seat : SeatState) (user : List ℕ) (moment : ℤ) (slip : Slip) (part : Option Portion) (book' : Record) (seat' : SeatState) : Type 0 where
   pub receives : Receives seat (rotation user moment) slip seat'
   pub number : slip.number ≡ next_of book
   pub steps : (reply : Reply OpenSession TabletMerge) × (slip.entry.reply ≡ told_of reply) × (slip.held ≡ held_of reply) × StepsOn book.core None (rotation user moment) reply book'.core

@@ -15,9 +15,9 @@ pub struct Seat<L: Ledger> {
 
 impl<L: Ledger> Model for Seat<L> {
     ghost use Rattle.std.specs.Prelude.{◌≡◌};
-    ghost use Rattle.tab_book.specs.Entries.{Place};
+    ghost use Rattle.tab_book.specs.Entries.{SeatState};
 
-    ghost Value = { Place };
+    ghost Value = { SeatState };
 
     ghost view = { λ s. record { number = s.number; seen = s.seen; count = s.share.amount } };
 

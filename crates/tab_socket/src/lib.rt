@@ -7,7 +7,7 @@
 //! | `closer` | what closes a socket |
 //! | `listener` | what a server's connections come by |
 //! | `socket_file` | a socket file that is listened on: how it gets its name, and how it goes |
-//! | `room` | a folder of one's own beside a file |
+//! | `private_folder` | a folder of one's own beside a file |
 //! | `mode` | a file's mode, as it is written |
 //!
 //! What sockets and files of a system do no contract says.
@@ -17,7 +17,7 @@ mod closer;
 mod connection;
 mod listener;
 mod mode;
-mod room;
+mod private_folder;
 mod socket_file;
 mod stream;
 

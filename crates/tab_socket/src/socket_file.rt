@@ -1,6 +1,6 @@
 //! A socket file that is listened on: how it gets its name, and how it goes.
 
-use crate::room::{PrivateFolder, has_room, make_room};
+use crate::private_folder::{PrivateFolder, has_room, make_room};
 use std::fs;
 use std::fs::{Metadata, Permissions};
 use std::io::{Error, ErrorKind};

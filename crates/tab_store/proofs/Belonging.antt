@@ -31,7 +31,7 @@ use Rattle.tab_history.specs.declared.event.Step.TheVariants.{Event as IsEvent, 
 use Rattle.tab_history.specs.declared.reply.Refusal.TheVariants.{NoMemory, Stale}
 use Rattle.tab_history.specs.declared.reply.Reply.TheVariants.{Done, Refused, Begun}
 use Rattle.tab_store.specs.Stores.{CoreContents, table_in, tablets_in}
-use Rattle.tab_store.specs.Stepping.{TabletWork, Freezing, Writing, Compacting, Counting, Splitting, Halving, Listing, Beginning, Installing, TableWork, Aside, Making, Dropping, On, Place, floor_at, told_install, lays, work_of, place_of, lays_in, told_by, laid_by, job_by, handed, tablet_told, told_exactly, laid_exactly, laid_told}
+use Rattle.tab_store.specs.Stepping.{TabletWork, Freezing, Writing, Compacting, Counting, Splitting, Halving, Listing, Beginning, Installing, TableWork, Aside, Making, Dropping, On, WorkContext, floor_at, told_install, lays, work_of, place_of, lays_in, told_by, laid_by, job_by, handed, tablet_told, told_exactly, laid_exactly, laid_told}
 use Rattle.tab_store.specs.Chains.{Running, given_in, by_hand, RunsExactly, EntryGoes}
 use Rattle.tab_store.specs.Numbers.{has_number, NumbersDiffer, AreNumbered, IsNumbered}
 use Rattle.tab_store.specs.Belonging.{ChainsKeepNumbers, beside_row, BelongsTo, Belongs, BegunBelong, BelongingStays, BegunBelongOn, ElsewhereIsStale}
@@ -153,7 +153,7 @@ module _ (k : ℕ) (row at : List ℕ) (n : ℕ) (few : n < 18446744073709551615
   stay_cut ts = record { none = no_new ts; others = beside_cut ts }
 
 -- ---- work
-module _ (k : ℕ) (row : List ℕ) (p : Place) (few : p.tablet < 18446744073709551615) (lt : k < p.tablet) (ts : List Tablet) where
+module _ (k : ℕ) (row : List ℕ) (p : WorkContext) (few : p.tablet < 18446744073709551615) (lt : k < p.tablet) (ts : List Tablet) where
   unchanged : Stays k row ts ts
   unchanged = record { none = λ h. h; others = λ h. h }
 
@@ -319,7 +319,7 @@ row_alone row (t ∷ ts) x d e = go (is_up_to t.end row) (row_alone row ts x d.1
     go false ih q = or_none (t.number == x.number) (has_number x.number (beside_row row ts)) (other (row_has row ts x q)) (ih q)
 
 module _ (old : CoreContents) (now : ℤ) (given : Option TabletMerge) (t row : List ℕ) (kind : Compaction) where
-  abbrev p : Place
+  abbrev p : WorkContext
   p = place_of old now (table_in old t)
 
   abbrev work : TableWork
@@ -336,7 +336,7 @@ module _ (old : CoreContents) (now : ℤ) (given : Option TabletMerge) (t row : 
   begun_lines plain q = go (bytes_eq t q)
     where
       go : (v : Bool) → lines (cond v (lays_in old now (Beginning row kind) plain (table_in old q)).1 (tablets_in old q)) ≡ lines (tablets_in old q)
-      go true = let at : Place = place_of old now (table_in old q) in lines_at (begins at.job kind (floor_at at) at.settings.versions) (λ x. refl) (λ x. refl) row (tablets_in old q)
+      go true = let at : WorkContext = place_of old now (table_in old q) in lines_at (begins at.job kind (floor_at at) at.settings.versions) (λ x. refl) (λ x. refl) row (tablets_in old q)
       go false = refl
 
   exactly_lines : (plain : Told) (q : List ℕ) → lines (laid_exactly old now given (Begin t row kind) plain q) ≡ lines (tablets_in old q)

@@ -14,7 +14,7 @@ use Rattle.tab_tablets.specs.declared.splitting.Split.{Split}
 use Rattle.tab_tablets.specs.declared.splitting.Split.TheVariants.{Done, Present, Small, Full}
 use Rattle.tab_tablets.proofs.Merged.{compacted_end}
 use Rattle.tab_history.specs.Answers.{Told}
-use Rattle.tab_store.specs.Stepping.{TabletWork, Freezing, Writing, Compacting, Counting, Splitting, Halving, Listing, Beginning, Installing, TableWork, On, Place, floor_at, lays}
+use Rattle.tab_store.specs.Stepping.{TabletWork, Freezing, Writing, Compacting, Counting, Splitting, Halving, Listing, Beginning, Installing, TableWork, On, WorkContext, floor_at, lays}
 use Rattle.tab_store.specs.Limits.{AreEndRows}
 use Rattle.tab_store.proofs.InstallCases.{with_merge, with_merge_end, after_install}
 
@@ -117,7 +117,7 @@ module _ (number : ℕ) (ts : List Tablet) (fit : EndsFit ts) where
       go (Some t) e = sized t e (nat_lt (size_of t.sources) limit)
 
 -- ---- all work
-pub work_fits : (p : Place) (work : TabletWork) (plain : Told) (ts : List Tablet) → MiddlesFit ts → SplitFits work → EndsFit ts → EndsFit (lays p work plain ts).1
+pub work_fits : (p : WorkContext) (work : TabletWork) (plain : Told) (ts : List Tablet) → MiddlesFit ts → SplitFits work → EndsFit ts → EndsFit (lays p work plain ts).1
 unfolding lays
 work_fits p Freezing plain ts middles s fit = subst AreEndRows (sym (ends_map frozen (λ t. refl) ts)) fit
 work_fits p (Writing m) plain ts middles s fit = subst AreEndRows (sym (ends_at m.row (written (mutation_records p.next p.now m)) (λ t. refl) ts)) fit

@@ -17,7 +17,7 @@ use Rattle.tab_tablets.specs.declared.splitting.Split.TheVariants as split
 use Rattle.tab_tablets.proofs.Parted.{nat_same}
 use Rattle.tab_history.specs.Answers.{Told}
 use Rattle.tab_history.specs.declared.reply.Reply.TheVariants.{Done}
-use Rattle.tab_store.specs.Stepping.{TabletWork, Freezing, Writing, Compacting, Counting, Splitting, Halving, Listing, Beginning, Installing, On, Place, floor_at, told_split, laid_install, lays, tablets_numbered, tablet_told}
+use Rattle.tab_store.specs.Stepping.{TabletWork, Freezing, Writing, Compacting, Counting, Splitting, Halving, Listing, Beginning, Installing, On, WorkContext, floor_at, told_split, laid_install, lays, tablets_numbered, tablet_told}
 use Rattle.tab_store.specs.Numbers.{has_number, NumbersDiffer}
 use Rattle.tab_store.proofs.InstallCases.{with_merge, with_merge_number, after_install}
 
@@ -151,7 +151,7 @@ compacted_number kind floor n t = go (capture 0 kind floor n t)
     go None = refl
     go (Some m) = by_left m (left_by m.inputs (frozen t).sources)
 
-module _ (p : Place) (t : List ℕ) (ts : List Tablet) (d : NumbersDiffer ts) (below : (k : ℕ) → has_number k ts ≡ true → k < p.tablet) where
+module _ (p : WorkContext) (t : List ℕ) (ts : List Tablet) (d : NumbersDiffer ts) (below : (k : ℕ) → has_number k ts ≡ true → k < p.tablet) where
   mapped : (f : Tablet → Tablet) → ((x : Tablet) → (f x).number ≡ x.number) → (next : ℕ) → Renumbered p.tablet next ts (map f ts)
   mapped f same next = record { differ = differ_map f same ts d; from = λ k h. inl (sym (has_map f same k ts) ∙ h) }
 

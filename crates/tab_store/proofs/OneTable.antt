@@ -12,7 +12,7 @@ use Rattle.tab_history.specs.Held.{floor_of, RefinesTable}
 use Rattle.tab_history.specs.Answers.{Told}
 use Rattle.tab_history.proofs.Refines.{floor_later}
 use Rattle.tab_store.specs.Stores.{TableContents, CoreContents, base_of, table_in, tablets_found, tablets_in}
-use Rattle.tab_store.specs.Stepping.{TabletWork, Place, lays, lays_in}
+use Rattle.tab_store.specs.Stepping.{TabletWork, WorkContext, lays, lays_in}
 use Rattle.tab_store.specs.Keeping.{settings_in, AreSound, updates_after, next_after, IsRecent, GoesOnWell}
 use Rattle.tab_store.specs.Rightness.{IsStore}
 use Rattle.tab_store.proofs.Sound.{work_stays_sound, self_refines, sound_grown}
@@ -62,7 +62,7 @@ module _ (old new : CoreContents) (store : IsStore old) (now : ℤ) (later : int
     sound = subst (λ ts. AreSound ts more t.settings.versions low) (sym (same ∙ here)) (grown more le);
   }
 
-  abbrev pub place : Place
+  abbrev pub place : WorkContext
   place = record { settings = t.settings; now = now; next = old.next; tablet = old.tablet; job = old.job }
 
   -- work is done with them

@@ -19,7 +19,7 @@ use Rattle.tab_history.proofs.HeldWrite.{covers, column_itself, le_itself_z, del
 use Rattle.tab_history.proofs.Holds.{holds_nothing}
 use Rattle.tab_tablets.specs.ByRow.{records_of_all, AreWhole}
 use Rattle.tab_tablets.specs.Places.{HoldOwnRows}
-use Rattle.tab_store.specs.Stepping.{TabletWork, Freezing, Writing, Compacting, Counting, Splitting, Halving, Listing, Beginning, Installing, Place, floor_at, lays}
+use Rattle.tab_store.specs.Stepping.{TabletWork, Freezing, Writing, Compacting, Counting, Splitting, Halving, Listing, Beginning, Installing, WorkContext, floor_at, lays}
 use Rattle.tab_store.specs.Keeping.{TabletRefines, is_low, is_high, TabletsRefine, AreSound, updates_after, next_after, WorkStaysSound, NewTablesAreSound, SoundLater}
 use Rattle.tab_store.proofs.OneTablet.{permuted_refines, later_keeps}
 use Rattle.tab_store.proofs.CutTablet.{none_under_way}
@@ -91,7 +91,7 @@ fine_written next now m us f = record {
     go u (inl h) = let e = records_seq next m.row (reverse (map (timed now) m.updates)) u (in_to _ u h) in omega (arith, e)
     go u (inr h) = let lt = f.numbers u (in_to us u h) in omega (arith, lt)
 
-fine_after : (p : Place) (work : TabletWork) (us : List Record) → Fine us p.next → Fine (updates_after p work us) (next_after p work)
+fine_after : (p : WorkContext) (work : TabletWork) (us : List Record) → Fine us p.next → Fine (updates_after p work us) (next_after p work)
 fine_after p Freezing us f = f
 fine_after p (Writing m) us f = fine_written p.next p.now m us f
 fine_after p (Compacting kind) us f = f

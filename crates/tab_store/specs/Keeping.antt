@@ -15,7 +15,7 @@ use Rattle.tab_history.specs.Readings.{settings_of, updates_of}
 use Rattle.tab_history.specs.Held.{RefinesTable}
 use Rattle.tab_history.specs.Answers.{Told}
 use Rattle.tab_store.specs.Stores.{TableContents, CoreContents, base_of, table_in, tablets_in}
-use Rattle.tab_store.specs.Stepping.{TabletWork, Freezing, Writing, Compacting, Counting, Splitting, Halving, Listing, Beginning, Installing, Place, floor_at, lays}
+use Rattle.tab_store.specs.Stepping.{TabletWork, Freezing, Writing, Compacting, Counting, Splitting, Halving, Listing, Beginning, Installing, WorkContext, floor_at, lays}
 
 -- ---- one tablet
 -- A merge under way may still be installed, as far as its table's deletes and versions go: it keeps enough versions, its floor isn't above
@@ -87,7 +87,7 @@ TabletsHoldAll = (ts : List Tablet) (us : List Record) (next n : ℕ) (floor : �
 
 -- ---- The law: whatever work does to the tablets of its table leaves them so, for the updates that there are then.
 -- the updates of the table afterwards
-abbrev pub updates_after : Place → TabletWork → List Record → List Record
+abbrev pub updates_after : WorkContext → TabletWork → List Record → List Record
 updates_after p Freezing us = us
 updates_after p (Writing m) us = mutation_records p.next p.now m ++ us
 updates_after p (Compacting kind) us = us
@@ -99,7 +99,7 @@ updates_after p (Beginning row kind) us = us
 updates_after p (Installing given) us = us
 
 -- the number of the next write afterwards
-abbrev pub next_after : Place → TabletWork → ℕ
+abbrev pub next_after : WorkContext → TabletWork → ℕ
 next_after p Freezing = p.next
 next_after p (Writing m) = p.next + 1
 next_after p (Compacting kind) = p.next
@@ -111,7 +111,7 @@ next_after p (Beginning row kind) = p.next
 next_after p (Installing given) = p.next
 
 -- a write has no timestamp below the floor
-abbrev pub IsRecent : Place → TabletWork → Type 0
+abbrev pub IsRecent : WorkContext → TabletWork → Type 0
 IsRecent p Freezing = Unit {0}
 IsRecent p (Writing m) = (u : Record) → Contains (mutation_records p.next p.now m) u → int_le (floor_at p) u.key.timestamp ≡ true
 IsRecent p (Compacting kind) = Unit {0}
@@ -123,12 +123,12 @@ IsRecent p (Beginning row kind) = Unit {0}
 IsRecent p (Installing given) = Unit {0}
 
 abbrev pub WorkKeeps : Type 0
-WorkKeeps = (p : Place) (work : TabletWork) (plain : Told) (ts : List Tablet) (us : List Record) → AreWhole ts → IsRecent p work
+WorkKeeps = (p : WorkContext) (work : TabletWork) (plain : Told) (ts : List Tablet) (us : List Record) → AreWhole ts → IsRecent p work
     → TabletsRefine ts us p.next p.settings.versions (floor_at p) → TabletsRefine (lays p work plain ts).1 (updates_after p work us) (next_after p work) p.settings.versions (floor_at p)
 
 -- ---- The law: and each row has one tablet still. (That the row in the middle of a tablet is no end row is known of its own rows.)
 abbrev pub StaysWhole : Type 0
-StaysWhole = (p : Place) (work : TabletWork) (plain : Told) (ts : List Tablet) (us : List Record) → AreWhole ts → TabletsRefine ts us p.next p.settings.versions (floor_at p) → AreWhole (lays p work plain ts).1
+StaysWhole = (p : WorkContext) (work : TabletWork) (plain : Told) (ts : List Tablet) (us : List Record) → AreWhole ts → TabletsRefine ts us p.next p.settings.versions (floor_at p) → AreWhole (lays p work plain ts).1
 
 -- ---- What a core keeps of a table's tablets by itself, whichever histories it refines.
 -- each row has one tablet; no two records stand at one place, and their numbers are used up; and the tablets refine what they hold
@@ -153,12 +153,12 @@ EachTabletRefines = (ts : List Tablet) (us : List Record) (next n : ℕ) (floor 
 
 -- ---- The law: all work keeps it; and what the table holds then refines what it held before, with what was written.
 -- the work goes on well
-pub record GoesOnWell (p : Place) (work : TabletWork) (ts after : List Tablet) : Type 0 where
+pub record GoesOnWell (p : WorkContext) (work : TabletWork) (ts after : List Tablet) : Type 0 where
   pub sound : AreSound after (next_after p work) p.settings.versions (floor_at p)
   pub refines : RefinesTable (sorted (records_of_all after)) (updates_after p work (sorted (records_of_all ts))) (next_after p work) p.settings.versions (floor_at p)
 
 abbrev pub WorkStaysSound : Type 0
-WorkStaysSound = (p : Place) (work : TabletWork) (plain : Told) (ts : List Tablet) → AreSound ts p.next p.settings.versions (floor_at p) → IsRecent p work → GoesOnWell p work ts (lays p work plain ts).1
+WorkStaysSound = (p : WorkContext) (work : TabletWork) (plain : Told) (ts : List Tablet) → AreSound ts p.next p.settings.versions (floor_at p) → IsRecent p work → GoesOnWell p work ts (lays p work plain ts).1
 
 -- ---- The law: a table begins so.
 abbrev pub NewTablesAreSound : Type 0

@@ -92,7 +92,7 @@ work_of given act = Aside
 -- ---- what that does to the tablets of one table
 -- what an event finds beside the tablets: the settings of the table, the clock with the event's moment in it, and the numbers of the next
 -- write, the next tablet and the next job
-pub record Place : Type 0 where
+pub record WorkContext : Type 0 where
   pub settings : Settings
   pub now : ℤ
   pub next : ℕ
@@ -100,7 +100,7 @@ pub record Place : Type 0 where
   pub job : ℕ
 
 -- below this time the table takes no update any more
-abbrev pub floor_at : Place → ℤ
+abbrev pub floor_at : WorkContext → ℤ
 floor_at p = floor_of p.settings.time p.now p.settings.horizon
 
 -- what is told of a split that ended so, where the answer of histories is this one
@@ -131,7 +131,7 @@ laid_install plain None ts = (Refused (Stale 0), ts)
 laid_install plain (Some m) ts = (told_install plain (installs_in m ts).0, (installs_in m ts).1)
 
 -- the merge that begins, if any does
-abbrev pub begun_by : Place → TabletWork → List Tablet → Option TabletMerge
+abbrev pub begun_by : WorkContext → TabletWork → List Tablet → Option TabletMerge
 begun_by p (Beginning row kind) ts = begun_at row p.job kind (floor_at p) p.settings.versions ts
 begun_by p Freezing ts = None
 begun_by p (Writing m) ts = None
@@ -143,7 +143,7 @@ begun_by p Listing ts = None
 begun_by p (Installing given) ts = None
 
 -- what is told of the work, where the answer of histories is this one, and the tablets afterwards
-unfoldable pub lays : Place → TabletWork → Told → List Tablet → Told × List Tablet
+unfoldable pub lays : WorkContext → TabletWork → Told → List Tablet → Told × List Tablet
 lays p Freezing plain ts = (plain, map frozen ts)
 lays p (Writing m) plain ts = (plain, at_row m.row (λ t. written (mutation_records p.next p.now m) t ∷ []) ts)
 lays p (Compacting kind) plain ts = (plain, map (compacted kind (floor_at p) p.settings.versions) ts)
@@ -161,7 +161,7 @@ settings_found None = made_with Any 1
 settings_found (Some t) = t.settings
 
 -- the place of a table
-abbrev pub place_of : CoreContents → ℤ → Option TableContents → Place
+abbrev pub place_of : CoreContents → ℤ → Option TableContents → WorkContext
 place_of h now t = record { settings = settings_found t; now = now; next = h.next; tablet = h.tablet; job = h.job }
 
 -- what is told of the work on a table, and its tablets afterwards

@@ -13,7 +13,7 @@ use Rattle.tab_core.specs.Parts.{TabletMerge}
 use Rattle.tab_core.specs.Stores.{CoreContents}
 use Rattle.tab_core.specs.Recording.{RefinesHistory, IsLegalFrom, ShowsAnswer, StepsOn, entry_of}
 use Rattle.tab_serve.proofs.Shut.{event_shut}
-use Rattle.tab_book.specs.Entries.{past, Place, Record}
+use Rattle.tab_book.specs.Entries.{past, SeatState, Record}
 use Rattle.tab_book.specs.HandedOut.{session_in, held_of}
 use Rattle.tab_book.specs.Receipts.{Slip, Applies}
 use Rattle.tab_book.specs.Rotating.{Portion, rotation, Rotates}
@@ -41,11 +41,11 @@ handed core core' base h given event slip legal refines steps =
     subst (λ (s : Option OpenSession). HandsOut event.act s) (sym is_its) (stepped core core' base h given event reply refines legal steps.3)
 
 -- an event
-pub applied : (book book' : Record) (seat seat' : Place) (given : Option TabletMerge) (event : Event) (slip : Slip) → IsLegalFrom book.base (past book.entries) → RefinesHistory book.core book.base (past book.entries)
+pub applied : (book book' : Record) (seat seat' : SeatState) (given : Option TabletMerge) (event : Event) (slip : Slip) → IsLegalFrom book.base (past book.entries) → RefinesHistory book.core book.base (past book.entries)
     → Applies book seat given event slip book' seat' → HandsOut event.act (session_in slip.held)
 applied book book' seat seat' given event slip legal refines does = handed book.core book'.core book.base (past book.entries) given event slip legal refines does.steps
 
 -- a rotation
-pub rotated : (book book' : Record) (seat seat' : Place) (user : List ℕ) (moment : ℤ) (slip : Slip) (part : Option Portion) → IsLegalFrom book.base (past book.entries) → RefinesHistory book.core book.base (past book.entries)
+pub rotated : (book book' : Record) (seat seat' : SeatState) (user : List ℕ) (moment : ℤ) (slip : Slip) (part : Option Portion) → IsLegalFrom book.base (past book.entries) → RefinesHistory book.core book.base (past book.entries)
     → Rotates book seat user moment slip part book' seat' → HandsOut Rotate (session_in slip.held)
 rotated book book' seat seat' user moment slip part legal refines does = handed book.core book'.core book.base (past book.entries) None (rotation user moment) slip legal refines does.steps

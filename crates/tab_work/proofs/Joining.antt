@@ -9,7 +9,7 @@ use Rattle.tab_history.specs.Answers.{Told}
 use Rattle.tab_core.specs.SessionState.{SessionState}
 use Rattle.tab_core.specs.Slots.{SlotsAre}
 use Rattle.tab_core.proofs.SlotLemmas.{slots_none}
-use Rattle.tab_book.specs.Entries.{Place}
+use Rattle.tab_book.specs.Entries.{SeatState}
 use Rattle.tab_book.specs.Receipts.{Slip}
 use Rattle.tab_wire.specs.declared.request.Request.{Request}
 use Rattle.tab_wire.specs.Heard.{Heard}
@@ -34,8 +34,8 @@ gave_join : {M : Type 0} (gives : M → ℤ → M → Type 0) (a b c : M) (xs ys
 gave_join gives a b c [] ys first next = subst (λ m. Gave gives m ys c) first next
 gave_join gives a b c (x ∷ xs) ys first next = (first.0, first.1, gave_join gives first.0 b c xs ys first.2 next)
 
-pub follows_join : (a b c : Place) (es fs : List Event) (rs ss : List Slip) → Follows a es rs b → Follows b fs ss c → Follows a (es ++ fs) (rs ++ ss) c
-follows_join a b c [] fs [] ss first next = subst (λ (p : Place). Follows p fs ss c) first next
+pub follows_join : (a b c : SeatState) (es fs : List Event) (rs ss : List Slip) → Follows a es rs b → Follows b fs ss c → Follows a (es ++ fs) (rs ++ ss) c
+follows_join a b c [] fs [] ss first next = subst (λ (p : SeatState). Follows p fs ss c) first next
 follows_join a b c [] fs (r ∷ rs) ss first next = absurd first
 follows_join a b c (e ∷ es) fs [] ss first next = absurd first
 follows_join a b c (e ∷ es) fs (r ∷ rs) ss first next = (first.0, first.1, follows_join first.0 b c es fs rs ss first.2 next)

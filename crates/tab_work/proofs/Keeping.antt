@@ -6,7 +6,7 @@ use Rattle.tab_io.specs.declared.writing.Output.{Ghosts as OutputGhosts}
 use Rattle.tab_history.specs.Answers.{Told}
 use Rattle.tab_history.specs.declared.event.Act.{Act}
 use Rattle.tab_core.specs.SessionState.{SessionState}
-use Rattle.tab_book.specs.Entries.{Place}
+use Rattle.tab_book.specs.Entries.{SeatState}
 use Rattle.tab_book.specs.Receipts.{Slip}
 use Rattle.tab_wire.specs.declared.request.Request.{Request}
 use Rattle.tab_wire.specs.declared.request.Request.TheVariants as asks
@@ -131,7 +131,7 @@ module _ {S M : Type 0} (s : Ghosts S) (gives : M → ℤ → M → Type 0) (vie
         (kept.0, (talks.0, kept.1))
 
     -- with the receipts that a service that keeps all would have added
-    pub forgets_all : (seat' : Place) (moments' : M) → slots_of old ≡ [] → (Lent old new → (seat' ≡ (view new).seat) × (moments' ≡ (view new).moments)) → (r : Result (Unit {0}) ServeFault) → Converses i o s old input output new input' output' r
+    pub forgets_all : (seat' : SeatState) (moments' : M) → slots_of old ≡ [] → (Lent old new → (seat' ≡ (view new).seat) × (moments' ≡ (view new).moments)) → (r : Result (Unit {0}) ServeFault) → Converses i o s old input output new input' output' r
         → (all : List Slip) × SharesAll i o gives (having [] (view old)) input output (record { seat = seat'; receipts = all; moments = moments' }) input' output' r
     forgets_all seat' moments' none back r talks =
         let kept = converses_kept r talks in (

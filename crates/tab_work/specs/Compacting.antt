@@ -3,7 +3,7 @@ use Rattle.std.specs.Prelude.{ℕ, ◌≡◌, Bool, true, false, List, [], ◌�
 use Rattle.tab_history.specs.declared.event.Act.{Act}
 use Rattle.tab_history.specs.declared.event.Act.TheVariants.{SplitBySize, Splits, Begin, Install}
 use Rattle.tab_history.specs.declared.event.Event.{Event}
-use Rattle.tab_book.specs.Entries.{Place}
+use Rattle.tab_book.specs.Entries.{SeatState}
 use Rattle.tab_book.specs.Receipts.{Slip, Receives}
 use Rattle.tab_work.specs.declared.compactor_seat.CompactorSeat.{CompactorSeat}
 use Rattle.tab_work.specs.declared.compactor.Compactor.{Compactor}
@@ -12,7 +12,7 @@ use Rattle.tab_work.specs.Receiving.{spent, Follows}
 -- who asks by himself, his seat, and the receipts that it got
 pub record Asking : Type 0 where
   pub user : List ℕ
-  pub seat : Place
+  pub seat : SeatState
   pub receipts : List Slip
 
 abbrev pub asking : {L R M : Type 0} → CompactorSeat L R M → Asking

@@ -4,7 +4,7 @@ use Rattle.tab_history.specs.declared.event.Act.{Act}
 use Rattle.tab_history.specs.declared.event.Event.{Event}
 use Rattle.tab_history.specs.Answers.{is_open}
 use Rattle.tab_core.specs.OpenSession.{OpenSession}
-use Rattle.tab_book.specs.Entries.{Place}
+use Rattle.tab_book.specs.Entries.{SeatState}
 use Rattle.tab_book.specs.Receipts.{Slip, Receives}
 
 -- a session is handed out for an Open alone, and nothing of it was given yet
@@ -17,8 +17,8 @@ abbrev pub spent : Slip → Slip
 spent slip = record slip { held = None }
 
 -- the receipts that the seat got for these events, one after another
-abbrev pub Follows : Place → List Event → List Slip → Place → Type 0
+abbrev pub Follows : SeatState → List Event → List Slip → SeatState → Type 0
 Follows seat [] [] seat' = seat' ≡ seat
 Follows seat [] (slip ∷ slips) seat' = ⊥
 Follows seat (event ∷ events) [] seat' = ⊥
-Follows seat (event ∷ events) (slip ∷ slips) seat' = (mid : Place) × Receives seat event slip mid × Follows mid events slips seat'
+Follows seat (event ∷ events) (slip ∷ slips) seat' = (mid : SeatState) × Receives seat event slip mid × Follows mid events slips seat'

@@ -8,7 +8,7 @@ use Rattle.tab_history.specs.Answers.{Told, is_open}
 use Rattle.tab_core.specs.SessionState.{SessionState}
 use Rattle.tab_core.specs.Slots.{are_full, NextFrom, ManyFrom, CloseFrom}
 use Rattle.tab_core.specs.Owners.{kept_with}
-use Rattle.tab_book.specs.Entries.{Place}
+use Rattle.tab_book.specs.Entries.{SeatState}
 use Rattle.tab_book.specs.HandedOut.{session_in}
 use Rattle.tab_book.specs.Receipts.{Slip, Receives}
 use Rattle.tab_wire.specs.declared.request.Request.{Request}
@@ -18,7 +18,7 @@ use Rattle.tab_work.specs.Receiving.{HandsOut, spent}
 
 -- a seat, the receipts that were added for it, and where moments come from
 pub record Seated (M : Type 0) : Type 0 where
-  pub seat : Place
+  pub seat : SeatState
   pub receipts : List Slip
   pub moments : M
 

@@ -3,7 +3,7 @@ use Rattle.std.specs.Prelude.{ℕ, ℤ, List, [], Result}
 use Rattle.tab_io.specs.declared.reading.Input.{Ghosts as InputGhosts}
 use Rattle.tab_io.specs.declared.writing.Output.{Ghosts as OutputGhosts}
 use Rattle.tab_history.specs.Answers.{Told}
-use Rattle.tab_book.specs.Entries.{Place}
+use Rattle.tab_book.specs.Entries.{SeatState}
 use Rattle.tab_book.specs.Receipts.{Slip}
 use Rattle.tab_serve.specs.declared.fault.ServeFault.{ServeFault}
 use Rattle.tab_wire.specs.declared.request.Request.{Request}
@@ -18,6 +18,6 @@ pub record Forgets {L R M G : Type 0} (gives : M → ℤ → M → Type 0) (old 
   pub lent : LentSame old new
 
 -- the whole connection: there were receipts, with which it is as if they had been kept
-abbrev pub ForgetsAll : {R W M : Type 0} → InputGhosts R → OutputGhosts W → (M → ℤ → M → Type 0) → Place → M → R → W → Place → M → R → W → Result (Unit {0}) ServeFault → Type 0
+abbrev pub ForgetsAll : {R W M : Type 0} → InputGhosts R → OutputGhosts W → (M → ℤ → M → Type 0) → SeatState → M → R → W → SeatState → M → R → W → Result (Unit {0}) ServeFault → Type 0
 ForgetsAll i o gives seat moments input output seat' moments' input' output' r =
     (slips : List Slip) × SharesAll i o gives (record { seat = seat; receipts = []; moments = moments }) input output (record { seat = seat'; receipts = slips; moments = moments' }) input' output' r
