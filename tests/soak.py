@@ -10,8 +10,9 @@ say nothing, or break off. At the end
 
 With --store the server keeps what it does in a folder. It is killed at the end and started again there: all is as it was.
 
-Usage: tests/soak.py [--seconds N] [--connections N] [--memory MIB] [--seed N] [--folder F] [--store always|interval]   (from anywhere; wants
-  Python 3.9; builds the program if it isn't built; the history and the store lie in the folder, and take up to 10 MB a second there)
+Usage: tests/soak.py [--seconds N] [--connections N] [--memory MIB] [--slowest MS] [--rest MS] [--seed N] [--folder F]
+  [--store always|interval]   (from anywhere; wants Python 3.9; builds the program if it isn't built; the history and the store lie in the
+  folder, and take up to 10 MB a second there)
   TABD in the environment: another built program
 """
 import argparse
@@ -107,6 +108,7 @@ class Writer(Peer):
                 if time.monotonic() >= self.soak.ends:
                     break
                 act = self.random.choice([self.write, self.write, self.pipeline, self.scan, self.leave, self.ranges, self.delete, self.tidy])
+                self.soak.over.wait(self.random.random() * 2 * self.soak.rest)
                 began = time.monotonic()
                 act(client)
                 self.slowest[act.__name__] = max(self.slowest[act.__name__], time.monotonic() - began)
@@ -217,7 +219,7 @@ class Rude(Peer):
 
 class Soak:
     def __init__(self, program, asked):
-        self.seed = asked.seed
+        self.seed, self.rest = asked.seed, asked.rest / 1000
         with socket.create_server(("127.0.0.1", 0)) as listener:
             self.port = listener.getsockname()[1]
         self.folder = tempfile.TemporaryDirectory(dir=asked.folder)
@@ -347,6 +349,8 @@ def main():
     parser.add_argument("--seconds", type=float, default=60)
     parser.add_argument("--connections", type=int, default=64, help="at once, 64 at most")
     parser.add_argument("--memory", type=float, default=2048, help="the bound in MiB")
+    parser.add_argument("--slowest", type=float, default=None, help="how long a request may take at most, in ms")
+    parser.add_argument("--rest", type=float, default=0, help="how long a writer rests before each of its requests, in ms, on average")
     parser.add_argument("--seed", type=int, default=1)
     parser.add_argument("--folder", help="where the history and the store lie")
     parser.add_argument("--store", choices=["always", "interval"], help="keep what the server does in a folder, synced so")
@@ -376,6 +380,8 @@ def main():
     quarters = ", ".join(f"{level:.0f}" for level in levels)
     print(f"{resident:.0f} MiB resident, {most:.0f} MiB at most, bound {asked.memory:.0f} MiB; at most {quarters} in the four quarters")
     print(f"processors busy: {busy / all_of * os.cpu_count():.1f} of {os.cpu_count()} on average, load {os.getloadavg()[2]:.1f} at the end")
+    if asked.slowest is not None and max(slowest.values()) * 1000 > asked.slowest:
+        faults.append("a request was slower than it may be")
     if most > asked.memory:
         faults.append("over the bound of memory")
     if last > 1.25 * third + 64:
