@@ -1,5 +1,7 @@
 //! How many versions of a column a table shows.
-ghost use Rattle.std.specs.Prelude.{◌≡◌, ◌≤◌, Some, None, cond};
+ghost use Rattle.std.specs.Prelude.{◌≡◌, ◌≤◌, Some, None, cond, nat_eq};
+ghost use Rattle.std.specs.Cmp.Rules.{comparing};
+ghost use Rattle.std.proofs.Common.{rules};
 ghost use Rattle.tab_history.specs.Settings.{is_version_count};
 ghost use Rattle.tab_key.specs.declared.limited_part.TheConstants.{MAX_VERSIONS};
 
@@ -57,4 +59,18 @@ impl Versions {
     {
         self.count
     }
+}
+
+impl PartialEq for Versions {
+    ghost eq = { nat_eq };
+
+    ghost laws = { Prim.search (comparing, rules) };
+
+    fn eq(&self, other: &Versions) -> bool {
+        self.count == other.count
+    }
+}
+
+impl Eq for Versions {
+    ghost laws = { Prim.search (comparing, rules) };
 }
