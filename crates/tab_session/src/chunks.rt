@@ -17,10 +17,10 @@ use tab_version::Version;
 pub(crate) const LEAST_RANGES: usize = 500;
 
 /// How many of these the calling thread reads first.
-pub(crate) const FIRST_RANGES: usize = 64;
+pub(crate) const FIRST_RANGES: usize = 32;
 
 // How many cells the answers in the first ranges have at least, where the others are worth threads: 32 a range.
-const LEAST_CELLS: usize = 2048;
+const LEAST_CELLS: usize = 1024;
 
 // In how many parts the others are read, each by a thread, one of them by the calling one.
 const CHUNKS: usize = 4;

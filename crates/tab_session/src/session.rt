@@ -95,8 +95,8 @@ impl Session {
         self.scan.scan_each(alloc, ranges)
     }
 
-    /// The same answers, read by several threads where that is sooner. Of 500 ranges or more the calling thread reads the first 64; where
-    /// these have 2,048 cells or more, the others are read in four chunks, each as [`Session::scan_each`] reads ranges, but with verdicts
+    /// The same answers, read by several threads where that is sooner. Of 500 ranges or more the calling thread reads the first 32; where
+    /// these have 1,024 cells or more, the others are read in four chunks, each as [`Session::scan_each`] reads ranges, but with verdicts
     /// of its own, which are dropped behind it. So a chunk judges the labels that it meets anew.
     ///
     /// There are no more threads than processors, and where none can be made the calling one reads all. The error comes only from want
