@@ -36,7 +36,7 @@ table_part (table.Filled t) = flat_map record_text (reverse t.now.records)
 table_part (table.Constrained h) = flat_map (constraint_text h.now) all_constraints
 table_part (table.Bounded h) = horizon_text h.now
 table_part (table.Unheld h) = unheld_text h.now
-table_part (table.HasRecords h) = flat_map (rights_text h.now.name) h.now.rights
+table_part (table.Held h) = flat_map (rights_text h.now.name) h.now.rights
 
 -- of the whole
 abbrev pub shell_part : ShellPart → List ℕ

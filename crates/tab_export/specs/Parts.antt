@@ -29,7 +29,7 @@ abbrev pub setting_part : SettingPart → List ℕ
 setting_part (setting.Constrained h) = act_text (SetConstraints h.now.name h.now.constraints)
 setting_part (setting.Bounded h) = horizon_text h.now
 setting_part (setting.Unheld h) = unheld_text h.now
-setting_part (setting.HasRecords h) = flat_map (rights_text h.now.name) h.now.rights
+setting_part (setting.Held h) = flat_map (rights_text h.now.name) h.now.rights
 
 -- of a script
 abbrev pub script_part : ScriptPart → List ℕ

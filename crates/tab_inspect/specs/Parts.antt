@@ -27,7 +27,7 @@ abbrev pub table_part : TablePart → List ℕ
 table_part (table.Made h) = line_text (codes "table" ∷ word h.now.name ∷ time_name h.now.time ∷ versions_word h.now.versions ∷ [])
 table_part (table.Constrained h) = line_text (codes "table" ∷ word h.now.name ∷ codes "constraints" ∷ list_word constraint_name h.now.constraints ∷ [])
 table_part (table.Bounded h) = horizon_fact h.now
-table_part (table.HasRecords h) = flat_map (rights_fact h.now.name) h.now.rights
+table_part (table.Held h) = flat_map (rights_fact h.now.name) h.now.rights
 table_part (table.Split h) = flat_map (split_fact h.now.name) h.now.ends
 table_part (table.Filled t) = tally_fact t.now.head.name (length t.now.records) (tally_of t.now.records)
 
