@@ -15,4 +15,4 @@ pub mod MergeLaws
 pub mod Steps
 pub mod Orders
 pub mod KeptVerdicts
-pub mod KnownVerdicts
+pub mod ShortLabels

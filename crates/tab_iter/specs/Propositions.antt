@@ -39,4 +39,4 @@ AreTold-prop : (auths : List (List ℕ)) (numbers : List ℕ) → IsProp (AreTol
 AreTold-prop auths numbers = AllByRecursion-prop (Tells auths) (λ _. Π_prop λ _. Π_prop λ _. Π_prop λ _. Π_prop λ _. Π_prop λ _. Coded-set coded_bool _ _) numbers
 
 pub IsSound-prop : (auths : List (List ℕ)) (v : Verdicts) → IsProp (IsSound auths v)
-IsSound-prop auths v = ×_prop (AreSound-prop auths v.body.items v.kept.items) (AreTold-prop auths v.known.numbers.items)
+IsSound-prop auths v = ×_prop (AreSound-prop auths v.body.items v.kept.items) (AreTold-prop auths v.numbers.items)

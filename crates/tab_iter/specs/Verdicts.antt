@@ -34,4 +34,4 @@ AreTold auths numbers = AllByRecursion (Tells auths) numbers
 
 -- what is kept is right under these authorizations
 abbrev pub IsSound : List (List ℕ) → Verdicts → Type 0
-IsSound auths v = AreSound auths v.body.items v.kept.items × AreTold auths v.known.numbers.items
+IsSound auths v = AreSound auths v.body.items v.kept.items × AreTold auths v.numbers.items

@@ -13,8 +13,7 @@
 //! | `first_markers_rule` | the rule of a merge: of each column the first marker |
 //! | `last_column` | the column of the last record that a rule observed, and the one next after it |
 //! | `named_column` | where the columns that a scan names begin in a row |
-//! | `verdicts`, `hints` | verdicts on labels, kept and found again, and where those on longer labels were found last |
-//! | `known_verdicts`, `guesses` | verdicts on short labels, found by number, and guesses at them |
+//! | `verdicts` | verdicts on labels, kept and found again, and guesses at labels that aren't read yet |
 //! | `system_iterators` | a source filtered by one of these four rules alone: deleting, fetching, visible, versioning |
 //! | `layers` | what a scan reads: its rules, one behind the other, in one layer |
 //! | `merged` | what a merge writes: its rules, one behind the other, in one layer |
@@ -29,9 +28,6 @@ mod deleting_rule;
 mod fetching_rule;
 mod filtered;
 mod first_markers_rule;
-mod guesses;
-mod hints;
-mod known_verdicts;
 mod last_column;
 mod layers;
 mod list_source;

@@ -5,7 +5,6 @@ ghost use Rattle.tab_label.specs.Holding.{label_holds};
 ghost use Rattle.tab_iter.specs.Verdicts.{IsSound};
 ghost use Rattle.tab_iter.specs.Propositions.{IsSound-prop};
 
-use crate::guesses::Guesses;
 use crate::rule::nowhere;
 use crate::{NoMemory, Rule, Verdicts};
 use std::alloc::Global;
@@ -20,8 +19,6 @@ pub struct VisibleRule<'a> {
     auths: &'a AuthSet,
     // the verdicts on the labels observed, and on those of batches before
     verdicts: Verdicts,
-    // by what can be guessed of a label out of its record's head
-    guesses: Guesses,
     ghost sound: { IsSound auths.now verdicts } by { IsSound-prop auths.now verdicts },
 }
 
@@ -31,11 +28,7 @@ impl<'a> VisibleRule<'a> {
         requires { IsSound auths.now verdicts }
         ensures { result.auths.now ≡ auths.now }
     {
-        VisibleRule {
-            auths,
-            verdicts,
-            guesses: Guesses::new(),
-        }
+        VisibleRule { auths, verdicts }
     }
 
     /// The verdicts, if the rule's authorizations are these, and else none. No contract of a source says whose they are, so they are
@@ -73,7 +66,7 @@ impl<'a> VisibleRule<'a> {
         ensures holds { IfOk result (λ b. b ≡ label_holds next.now.key.label self.old.auths.now) }
     {
         let holds = self.observe_label(next)?;
-        self.guesses.note(next.label_guess(), holds);
+        self.verdicts.note_guess(next.label_guess(), holds);
         Ok(holds)
     }
 
@@ -169,7 +162,7 @@ impl<'a> Rule for VisibleRule<'a> {
     #[inline]
     fn observe(&mut self, next: &RecordRef<'_>) -> Result<bool, NoMemory> {
         // What is guessed is there at once, and what follows begins with it; whether the guess was right is seen meanwhile.
-        let guess = self.guesses.get(next.label_guess());
+        let guess = self.verdicts.guess(next.label_guess());
         if self.is_known(next, guess) {
             return Ok(guess);
         }

@@ -1,5 +1,5 @@
 -- A label of at most seven bytes has a small number.
-use Rattle.tab_iter.proofs.KnownVerdicts.{small_if_short}
+use Rattle.tab_iter.proofs.ShortLabels.{small_if_short}
 use Rattle.tab_iter.proofs.visible_rule.short_label.Goals as goal
 
 pub returns-clause-small : goal.returns-clause-small
