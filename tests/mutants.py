@@ -58,7 +58,9 @@ class Mutant:
         """Returns the function in its file's text that it changes, if it changes nothing else and the function can stand there twice."""
         name, spans = self.function.split("::")[-1], self.spans(text)
         found = [it for it in functions_of(text) if it.name == name and all(it.attributes <= start and end <= it.end for start, end, _ in spans)]
-        return found[0] if len(found) == 1 and not found[0].is_of_a_trait else None
+        if len(found) != 1 or found[0].is_of_a_trait or "#[cycle(" in text[found[0].attributes : found[0].head]:
+            return None
+        return found[0]
 
     def goes_with(self, other):
         """Returns whether another can be applied to the same copy of the crate: to another function, and to other texts."""

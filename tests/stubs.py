@@ -82,8 +82,8 @@ def stubs_in(text, spared):
     for it in functions_of(text):
         if it.name in spared:
             continue
-        # what a proof is to use reads lemmas, which take long
-        kept = [line for line in text[it.attributes : it.head].splitlines(True) if not line.strip().startswith("#[tactic(")]
+        # what a proof is to use reads lemmas, which take long, and a stub calls nothing that leads back to it
+        kept = [line for line in text[it.attributes : it.head].splitlines(True) if not line.strip().startswith(("#[tactic(", "#[cycle("))]
         puts += [(it.attributes, it.head, "".join(kept)), (it.body, it.end, BODY)]
     return puts
 

@@ -2,4 +2,4 @@ pub mod Marks
 pub mod Taken
 pub mod Batches
 pub mod InRange
-pub mod InChunks
+pub mod Shares

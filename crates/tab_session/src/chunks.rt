@@ -1,14 +1,14 @@
 //! Many ranges, read by several threads.
-ghost use Rattle.std.specs.Prelude.{◌≡◌, ◌<◌, map, flat_map, IfOk};
+ghost use Rattle.std.specs.Prelude.{◌≡◌, ◌≤◌, map, IfOk};
+ghost use denote.Param.Send.{IsSync};
 ghost use Rattle.tab_key.specs.Records.{cell_of};
 ghost use Rattle.tab_cells.specs.SessionState.{cells_within};
 ghost use Rattle.tab_version.specs.Shown.{shown};
 
 use crate::rows::take_ranges;
 use crate::snapshot_scan::{Asked, unread};
-use rayon::prelude::*;
 use std::alloc::Global;
-use std::thread::Threads;
+use std::thread::{Threads, available_parallelism, join};
 use tab_iter::{NoMemory, Verdicts};
 use tab_key::{Bounds, Cells};
 use tab_version::Version;
@@ -22,8 +22,8 @@ pub(crate) const FIRST_RANGES: usize = 32;
 // How many cells the answers in the first ranges have at least, where the others are worth threads: 32 a range.
 const LEAST_CELLS: usize = 1024;
 
-// In how many parts the others are read, each by a thread, one of them by the calling one.
-const CHUNKS: usize = 4;
+// By how many threads the others are read at most, the calling one among them.
+const MOST_THREADS: usize = 4;
 
 /// Whether ranges like those that have these answers are worth threads.
 pub(crate) fn are_worth_threads(answers: &[Cells]) -> bool {
@@ -34,34 +34,44 @@ pub(crate) fn are_worth_threads(answers: &[Cells]) -> bool {
     cells >= LEAST_CELLS
 }
 
-// How many of so many ranges are a chunk.
-fn chunk_len(ranges: usize) -> usize
-    ensures { 0 < result }
-{
-    (ranges / CHUNKS).max(1)
+/// By how many threads they are read: no more than there are processors.
+pub(crate) fn thread_count(rt: &impl Threads) -> usize {
+    let processors = available_parallelism(rt).map_or(1, |count| count.get());
+    processors.min(MOST_THREADS)
 }
 
-/// The answers in the ranges, those of each chunk of them in one list.
-pub(crate) fn read_chunks(
-    rt: &(impl Threads + Sync),
+/// The answers in the ranges, read by so many threads, the calling one among them, in shares of like size. It starts the others one after
+/// another: of two that begin at one moment the system puts both on one processor, though another is idle.
+#[cycle(read_by_threads)]
+pub(crate) fn read_by_threads<R: Threads + Sync>(
+    rt: &R,
     alloc: Global,
     version: &Version,
     asked: &Asked,
     ranges: &[Bounds],
-) -> Result<Vec<Vec<Cells>>, NoMemory>
-    ensures { IfOk result (λ v. flat_map (λ chunk. chunk.items) v.items
+    threads: usize,
+) -> Result<Vec<Cells>, NoMemory>
+    ensures { IfOk result (λ v. v.items
         ≡ map (λ rows. cells_within rows (map cell_of (shown version.now asked.now.versions asked.now.columns asked.now.auths))) ranges.now) }
 {
-    ranges
-        .par_chunks(chunk_len(ranges.len()))
-        .with_min_len(1)
-        .map(
-            |chunk: &[Bounds]| -> Result<Vec<Cells>, NoMemory>
-                ensures { IfOk result (λ v. v.items
-                    ≡ map (λ rows. cells_within rows (map cell_of (shown version.entry.now asked.entry.now.versions asked.entry.now.columns asked.entry.now.auths))) chunk.now) }
-            { read_chunk(alloc, version, asked, chunk) },
-        )
-        .collect::<Result<Vec<Vec<Cells>>, NoMemory>>(rt, alloc)?
+    if threads < 2 {
+        return read_chunk(alloc, version, asked, ranges);
+    }
+    let (first, others) = ranges.split_at(ranges.len() / threads);
+    let beside = move || -> Result<Vec<Cells>, NoMemory>
+        ensures { IfOk result (λ v. v.items
+            ≡ map (λ rows. cells_within rows (map cell_of (shown version.entry.now asked.entry.now.versions asked.entry.now.columns asked.entry.now.auths))) first.entry.now) }
+    { read_chunk(alloc, version, asked, first) };
+    let here = move || -> Result<Vec<Cells>, NoMemory>
+        requires { IsSync R.row × (2 ≤ threads) }
+        ensures { IfOk result (λ v. v.items
+            ≡ map (λ rows. cells_within rows (map cell_of (shown version.entry.now asked.entry.now.versions asked.entry.now.columns asked.entry.now.auths))) others.entry.now) }
+    { read_by_threads(rt, alloc, version, asked, others, threads - 1) };
+    let (answers, more) = join(rt, beside, here);
+    let mut answers = answers?;
+    let mut more = more?;
+    answers.append(&mut more)?;
+    Ok(answers)
 }
 
 // The answers in these ranges, under verdicts of their own.
@@ -76,15 +86,4 @@ fn read_chunk(
 {
     let mut source = unread(alloc, version, asked, Verdicts::none(alloc));
     take_ranges(alloc, &mut source, chunk)
-}
-
-/// The answers of all chunks in one list.
-pub(crate) fn joined(alloc: Global, chunks: Vec<Vec<Cells>>) -> Result<Vec<Cells>, NoMemory>
-    ensures { IfOk result (λ v. v.items ≡ flat_map (λ chunk. chunk.items) chunks.items) }
-{
-    let mut all = Vec::new(alloc);
-    for mut chunk in chunks {
-        all.append(&mut chunk)?;
-    }
-    Ok(all)
 }

@@ -96,11 +96,11 @@ impl Session {
     }
 
     /// The same answers, read by several threads where that is sooner. Of 500 ranges or more the calling thread reads the first 32; where
-    /// these have 1,024 cells or more, the others are read in four chunks, each as [`Session::scan_each`] reads ranges, but with verdicts
-    /// of its own, which are dropped behind it. So a chunk judges the labels that it meets anew.
+    /// these have 1,024 cells or more, the others are read in four shares, each as [`Session::scan_each`] reads ranges, but with verdicts
+    /// of its own, which are dropped behind it. So each judges the labels that it meets anew.
     ///
     /// There are no more threads than processors, and where none can be made the calling one reads all. The error comes only from want
-    /// of memory, of whichever chunk; the session is as before.
+    /// of memory, of whichever share; the session is as before.
     pub fn scan_many(
         &mut self,
         rt: &(impl Threads + Sync),

@@ -8,7 +8,7 @@ ghost use Rattle.tab_session.specs.Bookmarks.{from_mark, ahead_of};
 ghost use Rattle.tab_version.specs.Shown.{shown};
 
 use crate::bookmark::{Bookmark, pass_before};
-use crate::chunks::{FIRST_RANGES, are_worth_threads, joined, read_chunks};
+use crate::chunks::{FIRST_RANGES, are_worth_threads, read_by_threads, thread_count};
 use crate::room::Room;
 use crate::rows::take_ranges;
 use crate::taking::take;
@@ -132,7 +132,7 @@ impl SnapshotScan {
         Ok(Items::from_vec(answers))
     }
 
-    // The same in a vector, read by several threads in chunks of the ranges, each under verdicts of its own, or by the calling one.
+    // The same in a vector, read by several threads, each under verdicts of its own, or by the calling one.
     fn read_others(
         &mut self,
         rt: &(impl Threads + Sync),
@@ -144,14 +144,14 @@ impl SnapshotScan {
         ensures cells { IfOk result (λ v. v.items ≡ map (λ rows. cells_within rows (map cell_of self.old)) ranges.now) }
     {
         if at_once {
-            self.read_in_chunks(rt, alloc, ranges)
+            self.read_by_threads(rt, alloc, ranges)
         } else {
             self.read_each(alloc, ranges)
         }
     }
 
     // By several threads.
-    fn read_in_chunks(
+    fn read_by_threads(
         &self,
         rt: &(impl Threads + Sync),
         alloc: Global,
@@ -159,8 +159,7 @@ impl SnapshotScan {
     ) -> Result<Vec<Cells>, NoMemory>
         ensures { IfOk result (λ v. v.items ≡ map (λ rows. cells_within rows (map cell_of self.now)) ranges.now) }
     {
-        let chunks = read_chunks(rt, alloc, &self.version, &self.asked, ranges)?;
-        joined(alloc, chunks)
+        read_by_threads(rt, alloc, &self.version, &self.asked, ranges, thread_count(rt))
     }
 
     // By the calling one.

@@ -2,7 +2,7 @@ use Rattle.std.proofs.Common.{◌≡◌, ◌++◌, ◌∙◌, List, ap, map, rul
 use Rattle.tab_cells.specs.SessionState.{cells_within}
 use Rattle.tab_key.specs.Records.{Record, Cell, cell_of}
 use Rattle.tab_key.specs.declared.range.Bounds.{Bounds}
-use Rattle.tab_session.proofs.InChunks.{both_answered}
+use Rattle.tab_session.proofs.Shares.{both_answered}
 use Rattle.tab_session.proofs.snapshot_scan.SnapshotScan.read_at_once.Goals as goal
 
 pub returns-clause-cells : goal.returns-clause-cells
