@@ -2,13 +2,11 @@
 ghost use Rattle.std.specs.Prelude.{◌≡◌, ◌↔◌, IsTrue, IfOk};
 ghost use Rattle.tab_event_record.specs.Acts.{permission_in, plain_in, scan_in, act_in, is_write};
 
-use crate::equal::{same_auths, same_bounds, same_columns, same_constraints, same_mutation};
+use crate::equal::{same_constraints, same_mutation};
 use crate::recorded_name::RecordedName;
-use crate::recorded_versions::RecordedVersions;
-use crate::text::Text;
 use std::alloc::{AllocError, Global};
 use tab_cells::Compaction;
-use tab_history::{Act, Extent, Given, Scan, TimeMode};
+use tab_history::{Act, Extent, Given, Scan, TimeMode, Versions};
 use tab_key::{Bounds, ByteString, Column, Items, Name};
 use tab_label::AuthSet;
 use tab_mutation::Mutation;
@@ -25,7 +23,7 @@ pub enum RecordedPermission {
 }
 
 /// What a scan asks for.
-#[derive(Drop)]
+#[derive(PartialEq, Drop)]
 pub struct RecordedScan {
     /// The table.
     pub table: RecordedName,
@@ -40,9 +38,9 @@ pub struct RecordedScan {
 /// An act of names, rows and numbers. [`tab_history::Act`] says what each asks.
 #[derive(PartialEq, Eq, Drop)]
 pub enum PlainAct {
-    CreateTable(RecordedName, TimeMode, RecordedVersions),
+    CreateTable(RecordedName, TimeMode, Versions),
     DropTable(RecordedName),
-    SetVersions(RecordedName, RecordedVersions),
+    SetVersions(RecordedName, Versions),
     SetHorizon(RecordedName, i64),
     CreateUser(RecordedName),
     DropUser(RecordedName),
@@ -52,13 +50,13 @@ pub enum PlainAct {
     Status(RecordedName),
     Flush(RecordedName),
     Compact(RecordedName, Extent),
-    AddSplit(RecordedName, Text),
-    SplitBySize(RecordedName, Text, u64),
+    AddSplit(RecordedName, ByteString),
+    SplitBySize(RecordedName, ByteString, u64),
     Splits(RecordedName),
     Save,
     Load,
     Rotate,
-    Begin(RecordedName, Text, Compaction),
+    Begin(RecordedName, ByteString, Compaction),
     Install(RecordedName, Given),
 }
 
@@ -82,13 +80,6 @@ fn named(alloc: Global, name: &Name) -> Result<RecordedName, AllocError>
     ensures { IfOk result (λ kept. kept ≡ name.now) }
 {
     RecordedName::of(alloc, name)
-}
-
-// A row in the bytes that it has.
-fn row_text(alloc: Global, row: &ByteString) -> Result<Text, AllocError>
-    ensures { IfOk result (λ text. text ≡ row.now) }
-{
-    Text::of(alloc, row.as_bytes())
 }
 
 // The permission, kept.
@@ -127,11 +118,11 @@ impl RecordedAct {
             Act::SetConstraints(table, set) => return constraints(alloc, table, set),
             Act::SetAuths(name, auths) => return authorizations(alloc, name, auths),
             Act::CreateTable(table, time, versions) => {
-                PlainAct::CreateTable(named(alloc, table)?, *time, RecordedVersions::of(*versions))
+                PlainAct::CreateTable(named(alloc, table)?, *time, *versions)
             }
             Act::DropTable(table) => PlainAct::DropTable(named(alloc, table)?),
             Act::SetVersions(table, versions) => {
-                PlainAct::SetVersions(named(alloc, table)?, RecordedVersions::of(*versions))
+                PlainAct::SetVersions(named(alloc, table)?, *versions)
             }
             Act::SetHorizon(table, horizon) => PlainAct::SetHorizon(named(alloc, table)?, *horizon),
             Act::CreateUser(name) => PlainAct::CreateUser(named(alloc, name)?),
@@ -146,16 +137,14 @@ impl RecordedAct {
             Act::Status(table) => PlainAct::Status(named(alloc, table)?),
             Act::Flush(table) => PlainAct::Flush(named(alloc, table)?),
             Act::Compact(table, extent) => PlainAct::Compact(named(alloc, table)?, *extent),
-            Act::AddSplit(table, row) => {
-                PlainAct::AddSplit(named(alloc, table)?, row_text(alloc, row)?)
-            }
+            Act::AddSplit(table, row) => { PlainAct::AddSplit(named(alloc, table)?, row.clone()?) }
             Act::SplitBySize(table, row, limit) => split_by_size(alloc, table, row, *limit)?,
             Act::Splits(table) => PlainAct::Splits(named(alloc, table)?),
             Act::Save => PlainAct::Save,
             Act::Load => PlainAct::Load,
             Act::Rotate => PlainAct::Rotate,
             Act::Begin(table, row, kind) => {
-                PlainAct::Begin(named(alloc, table)?, row_text(alloc, row)?, *kind)
+                PlainAct::Begin(named(alloc, table)?, row.clone()?, *kind)
             }
             Act::Install(table, given) => PlainAct::Install(named(alloc, table)?, *given),
         };
@@ -163,17 +152,17 @@ impl RecordedAct {
     }
 
     /// The act itself. An error leaves nothing behind.
-    pub fn to_act(&self, alloc: Global) -> Result<Act, AllocError>
+    pub fn to_act(&self) -> Result<Act, AllocError>
         ensures { IfOk result (λ act. act ≡ act_in self.now) }
     {
         Ok(match self {
-            RecordedAct::Open(scan) => Act::Open(to_scan(alloc, scan)?),
+            RecordedAct::Open(scan) => Act::Open(to_scan(scan)?),
             RecordedAct::Write(table, mutation) => Act::Write(table.to_name(), mutation.clone()?),
             RecordedAct::SetConstraints(table, set) => {
                 Act::SetConstraints(table.to_name(), set.clone()?)
             }
             RecordedAct::SetAuths(name, auths) => Act::SetAuths(name.to_name(), auths.clone()?),
-            RecordedAct::Plain(plain) => to_plain(alloc, plain)?,
+            RecordedAct::Plain(plain) => to_plain(plain)?,
         })
     }
 
@@ -192,7 +181,7 @@ impl RecordedAct {
     }
 
     /// Whether the two are one act.
-    #[tactic(auto, using(crate::proofs::Keeping::plain_apart))]
+    #[tactic(auto, using(crate::proofs::Keeping::plain_apart, tab_key::proofs::Each::lists_equal))]
     pub fn same(&self, other: &RecordedAct) -> bool
         ensures { IsTrue result ↔ (act_in self.now ≡ act_in other.now) }
     {
@@ -204,7 +193,7 @@ impl RecordedAct {
             (RecordedAct::SetConstraints(table, set), RecordedAct::SetConstraints(place, given)) =>
                 { table == place && same_constraints(set, given) }
             (RecordedAct::SetAuths(name, auths), RecordedAct::SetAuths(user, given)) => {
-                name == user && same_auths(auths, given)
+                name == user && auths == given
             }
             (RecordedAct::Plain(plain), RecordedAct::Plain(asked)) => same_plain(plain, asked),
             _ => false,
@@ -252,7 +241,7 @@ fn split_by_size(
 ) -> Result<PlainAct, AllocError>
     ensures { IfOk result (λ kept. plain_in kept ≡ Act.SplitBySize table.now row.now limit) }
 {
-    Ok(PlainAct::SplitBySize(named(alloc, table)?, row_text(alloc, row)?, limit))
+    Ok(PlainAct::SplitBySize(named(alloc, table)?, row.clone()?, limit))
 }
 
 // The permission itself.
@@ -266,7 +255,7 @@ fn to_permission(kept: &RecordedPermission) -> Permission
 }
 
 // The scan itself.
-fn to_scan(alloc: Global, kept: &RecordedScan) -> Result<Scan, AllocError>
+fn to_scan(kept: &RecordedScan) -> Result<Scan, AllocError>
     ensures { IfOk result (λ scan. scan ≡ scan_in kept.now) }
 {
     Ok(Scan {
@@ -277,23 +266,16 @@ fn to_scan(alloc: Global, kept: &RecordedScan) -> Result<Scan, AllocError>
     })
 }
 
-// The row itself.
-fn to_row(alloc: Global, row: &Text) -> Result<ByteString, AllocError>
-    ensures { IfOk result (λ copy. copy ≡ row.now) }
-{
-    ByteString::from_slice(alloc, row.as_bytes())
-}
-
 // The act of names, rows and numbers itself.
-fn to_plain(alloc: Global, kept: &PlainAct) -> Result<Act, AllocError>
+fn to_plain(kept: &PlainAct) -> Result<Act, AllocError>
     ensures { IfOk result (λ act. act ≡ plain_in kept.now) }
 {
     Ok(match kept {
         PlainAct::CreateTable(table, time, many) => {
-            Act::CreateTable(table.to_name(), *time, many.versions())
+            Act::CreateTable(table.to_name(), *time, *many)
         }
         PlainAct::DropTable(table) => Act::DropTable(table.to_name()),
-        PlainAct::SetVersions(table, many) => Act::SetVersions(table.to_name(), many.versions()),
+        PlainAct::SetVersions(table, many) => Act::SetVersions(table.to_name(), *many),
         PlainAct::SetHorizon(table, horizon) => Act::SetHorizon(table.to_name(), *horizon),
         PlainAct::CreateUser(name) => Act::CreateUser(name.to_name()),
         PlainAct::DropUser(name) => Act::DropUser(name.to_name()),
@@ -303,29 +285,25 @@ fn to_plain(alloc: Global, kept: &PlainAct) -> Result<Act, AllocError>
         PlainAct::Status(table) => Act::Status(table.to_name()),
         PlainAct::Flush(table) => Act::Flush(table.to_name()),
         PlainAct::Compact(table, extent) => Act::Compact(table.to_name(), *extent),
-        PlainAct::AddSplit(table, row) => Act::AddSplit(table.to_name(), to_row(alloc, row)?),
+        PlainAct::AddSplit(table, row) => Act::AddSplit(table.to_name(), row.clone()?),
         PlainAct::SplitBySize(table, row, limit) => {
-            Act::SplitBySize(table.to_name(), to_row(alloc, row)?, *limit)
+            Act::SplitBySize(table.to_name(), row.clone()?, *limit)
         }
         PlainAct::Splits(table) => Act::Splits(table.to_name()),
         PlainAct::Save => Act::Save,
         PlainAct::Load => Act::Load,
         PlainAct::Rotate => Act::Rotate,
-        PlainAct::Begin(table, row, kind) => {
-            Act::Begin(table.to_name(), to_row(alloc, row)?, *kind)
-        }
+        PlainAct::Begin(table, row, kind) => { Act::Begin(table.to_name(), row.clone()?, *kind) }
         PlainAct::Install(table, given) => Act::Install(table.to_name(), *given),
     })
 }
 
 // Whether the two ask for the same.
+#[tactic(auto, using(crate::proofs::Comparing::scans))]
 fn same_scan(a: &RecordedScan, b: &RecordedScan) -> bool
     ensures { IsTrue result ↔ (scan_in a.now ≡ scan_in b.now) }
 {
-    a.table == b.table
-        && same_bounds(&a.bounds, &b.bounds)
-        && same_columns(&a.columns, &b.columns)
-        && same_auths(&a.authorizations, &b.authorizations)
+    a == b
 }
 
 // Whether the two are one act.

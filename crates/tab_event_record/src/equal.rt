@@ -2,10 +2,8 @@
 ghost use Rattle.std.specs.Prelude.{◌≡◌, ◌↔◌, IsTrue, length};
 
 use tab_history::{Refusal, Rights};
-use tab_key::{Bounds, ByteString, Column, Items};
-use tab_label::AuthSet;
+use tab_key::ByteString;
 use tab_mutation::{Mutation, UpdateRef};
-use tab_policy::{SystemPermission, SystemPermissions, TablePermission, TablePermissions};
 use tab_rules::{Constraint, ConstraintSet};
 
 /// Whether the two mutations have the same row and the same updates, in the same order.
@@ -41,14 +39,6 @@ fn same_update(a: &UpdateRef<'_>, b: &UpdateRef<'_>) -> bool
 }
 
 /// Whether the two sets have the same members.
-#[tactic(auto, using(tab_key::proofs::Each::lists_equal))]
-pub fn same_auths(a: &AuthSet, b: &AuthSet) -> bool
-    ensures { IsTrue result ↔ (a.now ≡ b.now) }
-{
-    a == b
-}
-
-/// Whether the two sets have the same members.
 pub fn same_constraints(a: &ConstraintSet, b: &ConstraintSet) -> bool
     ensures { IsTrue result ↔ (a.now ≡ b.now) }
 {
@@ -60,66 +50,12 @@ pub fn same_constraints(a: &ConstraintSet, b: &ConstraintSet) -> bool
         && a.contains(Constraint::Visibility) == b.contains(Constraint::Visibility)
 }
 
-/// Whether the two lists have the same columns, in the same order.
-#[tactic(auto, using(tab_key::proofs::Each::lists_equal))]
-pub fn same_columns(a: &Items<Column>, b: &Items<Column>) -> bool
-    ensures { IsTrue result ↔ (a.now ≡ b.now) }
-{
-    a == b
-}
-
-/// Whether the two have the same ends.
-pub fn same_bounds(a: &Bounds, b: &Bounds) -> bool
-    ensures { IsTrue result ↔ (a.now ≡ b.now) }
-{
-    a == b
-}
-
 /// Whether the two tell the same.
+#[tactic(auto, using(crate::proofs::Comparing::rights))]
 pub fn same_rights(a: &Rights, b: &Rights) -> bool
     ensures { IsTrue result ↔ (a.now ≡ b.now) }
 {
-    same_system(&a.system, &b.system)
-        && same_table(&a.table, &b.table)
-        && same_auths(&a.authorizations, &b.authorizations)
-}
-
-// Whether the two sets have the same members.
-fn same_system(a: &SystemPermissions, b: &SystemPermissions) -> bool
-    ensures { IsTrue result ↔ (a.now ≡ b.now) }
-{
-    same_first(a, b) && same_last(a, b)
-}
-
-// Whether the two agree about the first four permissions.
-fn same_first(a: &SystemPermissions, b: &SystemPermissions) -> bool
-    ensures { IsTrue result ↔ ((a.now.grant ≡ b.now.grant) × (a.now.create_table ≡ b.now.create_table) × (a.now.drop_table ≡ b.now.drop_table) × (a.now.alter_table ≡ b.now.alter_table)) }
-{
-    a.contains(SystemPermission::Grant) == b.contains(SystemPermission::Grant)
-        && a.contains(SystemPermission::CreateTable) == b.contains(SystemPermission::CreateTable)
-        && a.contains(SystemPermission::DropTable) == b.contains(SystemPermission::DropTable)
-        && a.contains(SystemPermission::AlterTable) == b.contains(SystemPermission::AlterTable)
-}
-
-// Whether the two agree about the others.
-fn same_last(a: &SystemPermissions, b: &SystemPermissions) -> bool
-    ensures { IsTrue result ↔ ((a.now.create_user ≡ b.now.create_user) × (a.now.drop_user ≡ b.now.drop_user) × (a.now.alter_user ≡ b.now.alter_user) × (a.now.system ≡ b.now.system)) }
-{
-    a.contains(SystemPermission::CreateUser) == b.contains(SystemPermission::CreateUser)
-        && a.contains(SystemPermission::DropUser) == b.contains(SystemPermission::DropUser)
-        && a.contains(SystemPermission::AlterUser) == b.contains(SystemPermission::AlterUser)
-        && a.contains(SystemPermission::System) == b.contains(SystemPermission::System)
-}
-
-// Whether the two sets have the same members.
-fn same_table(a: &TablePermissions, b: &TablePermissions) -> bool
-    ensures { IsTrue result ↔ (a.now ≡ b.now) }
-{
-    a.contains(TablePermission::Read) == b.contains(TablePermission::Read)
-        && a.contains(TablePermission::Write) == b.contains(TablePermission::Write)
-        && a.contains(TablePermission::AlterTable) == b.contains(TablePermission::AlterTable)
-        && a.contains(TablePermission::Grant) == b.contains(TablePermission::Grant)
-        && a.contains(TablePermission::DropTable) == b.contains(TablePermission::DropTable)
+    a == b
 }
 
 /// Whether the two lists have the same rows, in the same order.
@@ -131,6 +67,7 @@ pub fn same_rows(rows: &[ByteString], others: &[ByteString]) -> bool
 }
 
 /// Whether the two are one refusal.
+#[tactic(auto, using(crate::proofs::Comparing::refusals))]
 pub fn same_refusal(refusal: &Refusal, other: &Refusal) -> bool
     ensures { IsTrue result ↔ (refusal.now ≡ other.now) }
 {

@@ -41,13 +41,13 @@ impl EventRecord {
     }
 
     /// The event itself, in memory of its own. An error leaves nothing behind.
-    pub fn to_event(&self, alloc: Global) -> Result<Event, AllocError>
+    pub fn to_event(&self) -> Result<Event, AllocError>
         ensures { IfOk result (λ event. event ≡ self.now) }
     {
         Ok(Event {
             user: self.user.to_name(),
             moment: self.moment,
-            act: self.act.to_act(alloc)?,
+            act: self.act.to_act()?,
         })
     }
 

@@ -7,8 +7,7 @@
 //! | File | What |
 //! |---|---|
 //! | `event_record`, `act` | events and acts at rest |
-//! | `text`, `recorded_name` | bytes, and names, in memory of their own |
-//! | `recorded_versions` | numbers of versions that can be compared |
+//! | `recorded_name` | names in memory of their own |
 //! | `equal` | whether parts of events and of replies are equal |
 //!
 //! Of the definitions in `specs`, `Acts` and `EventRecords` say which act and which event is kept.
@@ -18,12 +17,8 @@ mod act;
 mod equal;
 mod event_record;
 mod recorded_name;
-mod recorded_versions;
-mod text;
 
 pub use act::{PlainAct, RecordedAct, RecordedPermission, RecordedScan};
 pub use equal::{same_refusal, same_rights, same_rows};
 pub use event_record::EventRecord;
 pub use recorded_name::RecordedName;
-pub use recorded_versions::RecordedVersions;
-pub use text::Text;

@@ -5,15 +5,14 @@ ghost use Rattle.std.specs.Cmp.Rules.{comparing};
 ghost use Rattle.std.proofs.Common.{rules};
 ghost use Rattle.tab_key.specs.Names.{IsName};
 
-use crate::text::Text;
 use std::alloc::{AllocError, Global};
 use std::marker::Model;
-use tab_key::Name;
+use tab_key::{ByteString, Name};
 
 /// A name that takes as much memory as it has bytes, and 24 bytes in place. A contract sees its bytes.
 #[derive(Drop)]
 pub struct RecordedName {
-    text: Text,
+    text: ByteString,
 }
 
 impl Model for RecordedName {
@@ -33,7 +32,7 @@ impl RecordedName {
         ensures { IfOk result (λ kept. kept ≡ name.now) }
     {
         Ok(RecordedName {
-            text: Text::of(alloc, name.as_bytes())?,
+            text: ByteString::from_slice(alloc, name.as_bytes())?,
         })
     }
 

@@ -5,7 +5,8 @@ ghost use Rattle.tab_key.specs.Names.{IsName};
 ghost use Rattle.tab_event_record.specs.Acts.{act_in, plain_in, permission_in};
 ghost use Rattle.tab_journal.specs.Fitting.{FitsMutation, FitsVersions, FitsPermission, FitsAct};
 
-use tab_event_record::{PlainAct, RecordedAct, RecordedName, RecordedPermission, RecordedVersions};
+use tab_event_record::{PlainAct, RecordedAct, RecordedName, RecordedPermission};
+use tab_history::Versions;
 use tab_mutation::Mutation;
 
 /// The act fits.
@@ -70,10 +71,10 @@ fn permission_fits(permission: &RecordedPermission)
     }
 }
 
-fn versions_fit(many: &RecordedVersions)
+fn versions_fit(many: &Versions)
     ensures { FitsVersions many.now }
 {
-    let _ = many.versions().get();
+    let _ = many.get();
 }
 
 fn mutation_fits(mutation: &Mutation)

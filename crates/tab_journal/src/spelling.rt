@@ -51,12 +51,10 @@ fn put_plain<W: Output>(output: &mut W, act: &PlainAct) -> Result<(), WriteFault
 {
     match act {
         PlainAct::CreateTable(table, time, many) => {
-            put_create(output, table.as_bytes(), *time, many.versions().get())
+            put_create(output, table.as_bytes(), *time, many.get())
         }
         PlainAct::DropTable(table) => put_named(output, 0x03, table.as_bytes()),
-        PlainAct::SetVersions(table, many) => {
-            put_versions(output, table.as_bytes(), many.versions().get())
-        }
+        PlainAct::SetVersions(table, many) => { put_versions(output, table.as_bytes(), many.get()) }
         PlainAct::SetHorizon(table, horizon) => put_horizon(output, table.as_bytes(), *horizon),
         PlainAct::CreateUser(user) => put_named(output, 0x04, user.as_bytes()),
         PlainAct::DropUser(user) => put_named(output, 0x05, user.as_bytes()),
