@@ -159,7 +159,14 @@ impl SnapshotScan {
     ) -> Result<Vec<Cells>, NoMemory>
         ensures { IfOk result (λ v. v.items ≡ map (λ rows. cells_within rows (map cell_of self.now)) ranges.now) }
     {
-        read_by_threads(rt, alloc, &self.version, &self.asked, ranges, thread_count(rt))
+        read_by_threads(
+            rt,
+            alloc,
+            &self.version,
+            &self.asked,
+            ranges,
+            thread_count(rt),
+        )
     }
 
     // By the calling one.

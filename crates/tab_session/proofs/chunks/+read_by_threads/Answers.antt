@@ -12,6 +12,6 @@ returns g t c =
     let asked = c.args.asked.now in
     let answer : Bounds → List Cell = λ rows. cells_within rows (map cell_of (shown c.args.version.now asked.versions asked.columns asked.auths)) in
     both_answered answer c.args.ranges.now _ _ _ _ _ c.split_at.ensures.by_index.0
-        (IfOk-at_ok (λ v. v.items ≡ map answer _) c.in_ok-answers.was c.join-answers.ensures.first)
-        (IfOk-at_ok (λ v. v.items ≡ map answer _) c.in_ok-more.was c.join-answers.ensures.second)
-        c.in_ok-append.ensures.items
+    (IfOk-at_ok (λ v. v.items ≡ map answer _) c.in_ok-answers.was c.join-answers.ensures.first)
+    (IfOk-at_ok (λ v. v.items ≡ map answer _) c.in_ok-more.was c.join-answers.ensures.second)
+    c.in_ok-append.ensures.items
