@@ -1,7 +1,7 @@
 #!/usr/bin/env bash
 # Sees that crates.txt lists for each crate what its files name, and nothing else; that each file says in its first line
 # what it is, those of specs/ whether they are to be believed or only serve proofs; that docs/DEFINITIONS.md says how much the promise asks to
-# believe; and that the table of files in each crate's root names each of its modules. A crate's own tests (tests, NAME_tests) aside.
+# believe; and that the table of files in each crate's root names each of its modules. A module `tests` aside.
 # Usage: tests/layers.sh   (from anywhere; builds nothing)
 set -u
 top=$(cd "$(dirname -- "${BASH_SOURCE[0]}")/.." && pwd)
@@ -39,11 +39,11 @@ while IFS=: read -r crate listed; do
         fail "crates.txt, $crate: listed and named differ: $(diff <(echo "$asked") <(echo "$named") | grep '^[<>]' | tr '\n' ' ')"
     fi
     while read -r file; do
-        case $file in */proofs/*/* | *_tests.rt) continue ;; esac
+        case $file in */proofs/*/*) continue ;; esac
         head -n 1 "$file" | grep -qE '^(//!|--) ' || [ "${file##*/}" = Lib.antt ] || fail "$file: its first line doesn't say what it is"
     done < <(files_of "$crate")
     root=$(ls "crates/$crate/src/lib.rt" "crates/$crate/src/main.rt" 2>/dev/null)
-    for module in $(grep -oE '^(pub )?mod [a-z_]+' "$root" | sed 's/.* //' | grep -vxE '([a-z_]+_)?tests'); do
+    for module in $(grep -oE '^(pub )?mod [a-z_]+' "$root" | sed 's/.* //' | grep -vx tests); do
         grep -qE "^//!.*\`$module\`" "$root" || fail "$root: its table of files lacks $module"
     done
 done <crates.txt

@@ -9,6 +9,7 @@ use Rattle.tab_journal.specs.Spelling.{header_bytes, batch_bytes}
 use Rattle.tab_journal.specs.Writing.{IsWritten, KeepFirst}
 use Rattle.tab_journal.proofs.Crashing.{journal_more, last_sum_more}
 use Rattle.tab_journal.proofs.Forms.{front_long, front_written, batch_written}
+use Rattle.tab_journal.proofs.Timely.{timely_more, timely_all}
 
 -- ---- bytes
 pub take_first : (n m : ℕ) (c : List ℕ) → n ≤ m → n ≤ length c → take n c ≡ take n (take m c)
@@ -64,7 +65,13 @@ begun header fits =
     let is = front_written header fits in
     let all : take 48 (header_bytes header) ≡ header_bytes header = take_all 48 (header_bytes header) (omega (arith, front_long (header_bytes header) header is)) in
     let journal : IsJournal (header_bytes header) header [] = (header_bytes header, [], sym (append-nil (header_bytes header)), is, refl) in
-    record { journal = journal; salted = refl; summed = refl; few = omega arith; first = subst (λ (z : List ℕ). IsJournal z header []) (sym all) journal }
+    record { journal = journal; salted = refl; summed = refl; few = omega arith; first = subst (λ (z : List ℕ). IsJournal z header []) (sym all) journal; timely = tt }
+
+-- behind the header stand its batches
+pub long_journal : (bytes : List ℕ) (header : Header) (bs : List Batch) → (j : IsJournal bytes header bs) → length bytes ≡ 48 + length j.1
+long_journal bytes header bs j =
+    let all : length bytes ≡ length j.0 + length j.1 = ap (λ (z : List ℕ). length z) j.2 ∙ length-append j.0 j.1 in
+    omega (arith, all, front_long j.0 header j.3)
 
 -- one batch more
 pub put_more : (bytes body : List ℕ) (salt sum n : ℕ) (header : Header) (bs : List Batch) (k : ℕ) → n ≤ length bytes → n < 2 ^ 64 → length body < 2 ^ 32 → sum_of (batch_summed salt sum n body) < 2 ^ 64
@@ -83,6 +90,7 @@ put_more bytes body salt sum n header bs k low fits short right w =
       few = omega (arith, w.few, length-append bs (b ∷ []));
       first = subst (λ (z : List ℕ). IsJournal z header (take k (bs ++ b ∷ []))) (sym (take-append-le n bytes text low))
           (subst (λ (z : List Batch). IsJournal (take n bytes) header z) (sym (take-append-le k bs (b ∷ []) w.few)) w.first);
+      timely = timely_more n header.salt header.sum 48 w.journal.1 bs b w.journal.4 w.timely refl (omega (arith, low, long_journal bytes header bs w.journal));
     }
 
 -- all of it on the disk
@@ -94,6 +102,7 @@ all_settled bytes salt sum n header bs k w = record {
   few = omega arith;
   first = subst (λ (z : List ℕ). IsJournal z header (take (length bs) bs)) (sym (take_all (length bytes) bytes (omega arith)))
       (subst (λ (z : List Batch). IsJournal bytes header z) (sym (take_all (length bs) bs (omega arith))) w.journal);
+  timely = let long = long_journal bytes header bs w.journal in timely_all n (length bytes) header.salt header.sum 48 w.journal.1 bs w.journal.4 w.timely (omega (arith, long));
 }
 
 -- the same of the bytes and the sum that are there then

@@ -9,7 +9,7 @@ use Rattle.tab_parts.proofs.Exact.{bytes-drop, bind_some}
 use Rattle.tab_journal.specs.Journals.{Header, Batch, IsBatch, AreBatches, IsJournal}
 use Rattle.tab_journal.specs.Reading.{header_at, batch_at, batches_within, journal_from, journal_of}
 use Rattle.tab_journal.specs.Laws.{last_sum}
-use Rattle.tab_journal.specs.Crashes.{NoneByChance, IsReadFrom, CrashesLeaveBeginnings}
+use Rattle.tab_journal.specs.Crashes.{NoneByChance, CrashesLeaveBeginnings}
 use Rattle.tab_journal.proofs.Forms.{exact_front, exact_batch, batch_long}
 
 -- ---- a batch more
@@ -25,12 +25,12 @@ pub last_sum_more : (header : Header) (bs : List Batch) (b : Batch) → last_sum
 last_sum_more header bs b = fold-append (λ (sum : ℕ) (x : Batch). x.sum) header.sum bs (b ∷ [])
 
 -- ---- batches in front are read first
-abbrev With : ℕ → ℕ → List Batch → List ℕ → List ℕ → ℕ → Type 0
+abbrev pub With : ℕ → ℕ → List Batch → List ℕ → List ℕ → ℕ → Type 0
 With salt before bs bytes rest fuel =
     (left : ℕ) × (length rest ≤ left) × (batches_within salt before fuel (bytes ++ rest)
     ≡ (bs ++ (batches_within salt (fold (λ (sum : ℕ) (x : Batch). x.sum) before bs) left rest).0, (batches_within salt (fold (λ (sum : ℕ) (x : Batch). x.sum) before bs) left rest).1))
 
-read_first : (salt : ℕ) (bs : List Batch) (fuel before : ℕ) (bytes rest : List ℕ) → AreBatches salt before bytes bs → length (bytes ++ rest) ≤ fuel → With salt before bs bytes rest fuel
+pub read_first : (salt : ℕ) (bs : List Batch) (fuel before : ℕ) (bytes rest : List ℕ) → AreBatches salt before bytes bs → length (bytes ++ rest) ≤ fuel → With salt before bs bytes rest fuel
 read_first salt [] fuel before bytes rest are short =
     let same : bytes ++ rest ≡ rest = ap (λ (z : List ℕ). z ++ rest) are in
     (fuel, omega (arith, short, ap (λ (z : List ℕ). length z) same), ap (λ (z : List ℕ). batches_within salt before fuel z) same)

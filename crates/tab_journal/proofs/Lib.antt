@@ -13,3 +13,7 @@ pub mod Crashing
 pub mod Appending
 pub mod Calling
 pub mod Lengths
+pub mod Timely
+pub mod Damaging
+pub mod Tearing
+pub mod Telling

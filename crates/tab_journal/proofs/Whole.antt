@@ -33,7 +33,7 @@ take_within zero xs ys less = refl
 take_within (suc m) [] ys less = absurd (omega (arith, less))
 take_within (suc m) (x ∷ xs) ys less = ap (λ (z : List ℕ). x ∷ z) (take_within m xs ys (omega (arith, less)))
 
-take_beyond : (m n : ℕ) (xs ys : List ℕ) → m ≡ length xs + n → take m (xs ++ ys) ≡ xs ++ take n ys
+pub take_beyond : (m n : ℕ) (xs ys : List ℕ) → m ≡ length xs + n → take m (xs ++ ys) ≡ xs ++ take n ys
 take_beyond m n [] ys is = let same : m ≡ n = omega (arith, is) in ap (λ (k : ℕ). take k ys) same
 take_beyond m n (x ∷ xs) ys is =
     let more : m ≡ suc (length xs + n) = omega (arith, is) in
@@ -76,7 +76,7 @@ module _ (salt : ℕ) where
           })
 
   -- of all of these batches, and something behind them, with which none begins
-  batches_complete : (bs : List Batch) (k before : ℕ) (bytes rest : List ℕ) → AreBatches salt before bytes bs → length (bytes ++ rest) ≤ k → batch_at salt (fold (λ (sum : ℕ) (b : Batch). b.sum) before bs) rest ≡ None
+  pub batches_complete : (bs : List Batch) (k before : ℕ) (bytes rest : List ℕ) → AreBatches salt before bytes bs → length (bytes ++ rest) ≤ k → batch_at salt (fold (λ (sum : ℕ) (b : Batch). b.sum) before bs) rest ≡ None
       → batches_within salt before k (bytes ++ rest) ≡ (bs, rest)
   batches_complete [] zero before bytes rest are short none = ap (λ (z : List ℕ). ([], z ++ rest)) are
   batches_complete [] (suc k) before bytes rest are short none =

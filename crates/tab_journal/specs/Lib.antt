@@ -11,6 +11,7 @@ pub mod Device
 pub mod Crashes
 pub mod Writing
 pub mod Writers
+pub mod Damage
 pub mod Calls
 pub mod Past
 pub mod Memory

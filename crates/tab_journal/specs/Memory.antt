@@ -1,5 +1,5 @@
 -- For proofs. The calls that a device in memory keeps.
-use Rattle.std.specs.Prelude.{cond, List, [], map, reverse}
+use Rattle.std.specs.Prelude.{cond, List, map, reverse}
 use Rattle.tab_journal.specs.declared.memory.MemoryCall.{MemoryCall}
 use Rattle.tab_journal.specs.Calls.{Call}
 

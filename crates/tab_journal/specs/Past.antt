@@ -1,5 +1,5 @@
 -- For proofs. What a crash may leave now is among what it may have left since, and the last of that.
-use Rattle.std.specs.Prelude.{◌⊎◌, ℕ, suc, ◌≤◌, List, [], ◌∷◌, length}
+use Rattle.std.specs.Prelude.{ℕ, suc, ◌≤◌, List, [], ◌∷◌, length}
 use Rattle.std.proofs.Common.{inl, inr, arith}
 use Rattle.tab_journal.specs.Calls.{Call, state_behind, MayLeave, LeftSince}
 

@@ -1,8 +1,13 @@
 -- For proofs. A journal that is being written.
-use Rattle.std.specs.Prelude.{ℕ, ◌≡◌, ◌≤◌, List, length, take}
+use Rattle.std.specs.Prelude.{ℕ, ◌+◌, ◌≡◌, ◌≤◌, List, [], ◌∷◌, length, take}
 use Rattle.tab_journal.specs.Journals.{Header, Batch, IsJournal}
 use Rattle.tab_journal.specs.Laws.{last_sum}
 use Rattle.tab_journal.specs.Crashes.{HasFirst}
+
+-- each of these batches, of which the first has so many bytes before it, was written when no more than n bytes, and no more than it has before it, were on the disk
+abbrev pub AreTimely : ℕ → ℕ → List Batch → Type 0
+AreTimely n at [] = Unit {0}
+AreTimely n at (b ∷ bs) = (b.settled ≤ n) × (b.settled ≤ at) × AreTimely n (at + (20 + length b.body)) bs
 
 -- These bytes are this header and these batches, the last sum is this one, and the first n bytes are the header and the first k batches.
 pub record IsWritten (bytes : List ℕ) (salt sum n : ℕ) (header : Header) (bs : List Batch) (k : ℕ) : Type 0 where
@@ -11,6 +16,7 @@ pub record IsWritten (bytes : List ℕ) (salt sum n : ℕ) (header : Header) (bs
   pub summed : sum ≡ last_sum header bs
   pub few : k ≤ length bs
   pub first : IsJournal (take n bytes) header (take k bs)
+  pub timely : AreTimely n 48 bs
 
 -- they are some header and some batches
 abbrev pub IsSomeJournal : List ℕ → ℕ → ℕ → ℕ → Type 0

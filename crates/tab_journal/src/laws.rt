@@ -1,6 +1,7 @@
 //! What holds of journals: laws, each the contract of a function that does nothing.
 ghost use Rattle.tab_journal.specs.Laws.{JournalsAreRead, WholeBatchesAreKept, CutsAreBeginnings, EntriesAreRead, TextsHaveForm};
 ghost use Rattle.tab_journal.specs.Crashes.{CrashesLeaveBeginnings};
+ghost use Rattle.tab_journal.specs.Damage.{CrashesLeaveTornEnds, CutsAreTorn, DamageIsTold};
 ghost use Rattle.tab_journal.specs.Stretches.{GatheredIsLasting};
 
 /// What is read of a journal's bytes is what they say, and bytes that say something are read so.
@@ -21,6 +22,21 @@ pub fn cuts_are_beginnings()
 /// Of what a crash leaves of a journal a beginning of what was put is read, with all that was on the disk.
 pub fn crashes_leave_beginnings()
     ensures { CrashesLeaveBeginnings }
+{}
+
+/// What a crash leaves of a journal behind the batches that are read is torn, and never damaged.
+pub fn crashes_leave_torn_ends()
+    ensures { CrashesLeaveTornEnds }
+{}
+
+/// Each cut of a journal that leaves what was on the disk is torn.
+pub fn cuts_are_torn()
+    ensures { CutsAreTorn }
+{}
+
+/// What is changed of what was on the disk is told, where a batch that was written later still stands.
+pub fn damage_is_told()
+    ensures { DamageIsTold }
 {}
 
 /// The same of the entries that the bytes of a batch may be.

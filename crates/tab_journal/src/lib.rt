@@ -13,23 +13,28 @@
 //! | `format` | what the batches keep: lines or entries |
 //! | `header`, `batch` | their texts, and what is read of them |
 //! | `reading` | a whole journal, read |
+//! | `damage` | whether what stands behind the batches that were read is damaged, or torn |
 //! | `lasting`, `fitting` | which events leave a trace, and which fit into the field of an entry |
 //! | `spelling`, `gathered` | the bytes of an entry, and those of a stretch of a history |
 //! | `entry` | an entry, read |
 //! | `sums`, `taking` | sums, and numbers and fields at the front of some bytes |
 //! | `device`, `memory_device`, `memory` | a file as a journal sees it, and one in memory with the calls that it keeps |
 //! | `writer`, `beginning`, `write_error` | a journal that is being written into a device, its header, and why nothing is put |
-//! | `laws` | reading is exactly the forms, and a beginning of a journal says the first of its batches |
+//! | `laws` | reading is exactly the forms, a beginning of a journal says the first of its batches, and what a crash cuts off is torn |
+//! | `writing_tests`, `damage_tests` | tests of writing, and of what is called damaged |
 //!
 //! In `specs`, `Journals` says what the bytes of a journal are, as relations, `Reading` reads them, `Spelling` has the bytes that are written,
 //! `Laws` the laws, and `Examples` computes examples. In `proofs`, `Forms` shows that parts are read exactly, `Whole` that journals are, and
 //! what is read of a part of one. `Stretches` and `Gathering` say what is gathered of a history, entry by entry, and `Fitting` which entries have
-//! a spelling. `Device` says what calls of a device do to what a crash may leave, `Crashes` what is read of that, `Writing` and `Writers` what a
-//! writer has written, and `Calls` what is known of a file behind given calls.
+//! a spelling. `Device` says what calls of a device do to what a crash may leave, `Crashes` what is read of that, `Damage` when what stands
+//! behind that is torn or damaged, `Writing` and `Writers` what a writer has written, and `Calls` what is known of a file behind given calls.
 #![tactic(auto)]
 
 mod batch;
 mod beginning;
+mod damage;
+#[cfg(test)]
+mod damage_tests;
 mod device;
 mod entry;
 mod fitting;
@@ -49,15 +54,21 @@ mod writer;
 #[cfg(test)]
 mod writing_tests;
 
+<<<<<<< HEAD
 pub use batch::{JournalBatch, batch_text, take_batch};
+=======
+pub use batch::{Batch, batch_text, take_batch};
+pub use damage::is_damaged;
+>>>>>>> acc178f3d7fd17ee1633eb412ae8954e71d565f1
 pub use device::{Device, DeviceError};
 pub use entry::next_entry;
 pub use format::Format;
 pub use gathered::Gathered;
 pub use header::{Header, header_text, take_header};
 pub use laws::{
-    crashes_leave_beginnings, cuts_are_beginnings, entries_are_read, gathered_is_lasting,
-    journals_are_read, texts_have_form, whole_batches_are_kept,
+    crashes_leave_beginnings, crashes_leave_torn_ends, cuts_are_beginnings, cuts_are_torn,
+    damage_is_told, entries_are_read, gathered_is_lasting, journals_are_read, texts_have_form,
+    whole_batches_are_kept,
 };
 pub use memory::MemoryCall;
 pub use memory_device::MemoryDevice;

@@ -1,3 +1,4 @@
+//! Tests of writing: batches past a block, what a crash leaves, a device that fails.
 use crate::{Format, Header, MemoryDevice, WriteError, Writer, read_journal};
 use std::alloc::Global;
 use std::process::Abort;
@@ -6,7 +7,7 @@ use std::process::Abort;
 const LONG: usize = 40_000;
 
 // A journal in memory, of whose calls so many go well.
-fn begun(rt: &impl Abort, alloc: Global, good: usize) -> Writer<MemoryDevice> {
+pub(crate) fn begun(rt: &impl Abort, alloc: Global, good: usize) -> Writer<MemoryDevice> {
     let header = Header::new(Format::Lines, 1, 2, 3, 4);
     match Writer::begin(alloc, MemoryDevice::new(alloc, good), header) {
         Ok(writer) => writer,

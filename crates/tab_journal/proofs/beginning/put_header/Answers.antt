@@ -1,4 +1,4 @@
-use Rattle.std.proofs.Common.{◌≡◌, ◌≤◌, ◌+◌, ℕ, List, [], length, ◌∙◌, ap, arith}
+use Rattle.std.proofs.Common.{◌≡◌, ◌≤◌, ◌+◌, ℕ, List, length, ◌∙◌, ap, arith}
 use Rattle.tab_journal.specs.Said.{header_in}
 use Rattle.tab_journal.proofs.Appending.{torn_short}
 use Rattle.tab_journal.proofs.Lengths.{length_header}
