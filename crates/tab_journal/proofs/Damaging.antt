@@ -76,7 +76,7 @@ module _ (salt : ℕ) (bytes : List ℕ) where
       record {
         ahead = take (p - 8) bytes;
         sum = t.front;
-        text = u.front;
+        text = u.header;
         behind = rest;
         before = before;
         spelled = sym (take-append-drop (p - 8) bytes) ∙ ap (λ (z : List ℕ). take (p - 8) bytes ++ z) (t.parts ∙ ap (λ (z : List ℕ). t.front ++ z) u.parts);

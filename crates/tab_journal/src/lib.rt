@@ -54,12 +54,8 @@ mod writer;
 #[cfg(test)]
 mod writing_tests;
 
-<<<<<<< HEAD
 pub use batch::{JournalBatch, batch_text, take_batch};
-=======
-pub use batch::{Batch, batch_text, take_batch};
 pub use damage::is_damaged;
->>>>>>> acc178f3d7fd17ee1633eb412ae8954e71d565f1
 pub use device::{Device, DeviceError};
 pub use entry::next_entry;
 pub use format::Format;
