@@ -1,7 +1,7 @@
 //! What a run that didn't end left in its journal.
 use crate::FolderFault;
 use std::alloc::Global;
-use tab_journal::{Format, Header, JournalContents, read_journal, take_batch};
+use tab_journal::{Format, Header, JournalContents, is_damaged, read_journal};
 
 // How many bytes a header has.
 const HEADER: usize = 48;
@@ -34,9 +34,9 @@ pub(crate) fn left_in(
     if !follows_on(&kept.header, number, is_first, base) {
         return Err(FolderFault::Strange(number));
     }
-    let length = bytes.len().saturating_sub(kept.left);
-    if is_damaged(&kept, bytes, length) {
-        return Err(FolderFault::Damaged(number, length as u64));
+    let read = bytes.len().saturating_sub(kept.left);
+    if is_damaged(kept.header.salt, bytes, read) {
+        return Err(FolderFault::Damaged(number, read as u64));
     }
     let JournalContents {
         header,
@@ -83,38 +83,4 @@ fn follows_on(header: &Header, number: u64, is_first: bool, base: (u64, i64)) ->
         header.clock >= base.1
     };
     header.generation == number && header.next == base.0 && is_at
-}
-
-// Whether some batch stands behind the first ones that were read, and was written when more than these were on the disk.
-fn is_damaged(kept: &JournalContents, bytes: &[u8], length: usize) -> bool {
-    for place in length..bytes.len() {
-        if is_later(kept.header.salt, bytes, place, length) {
-            return true;
-        }
-    }
-    false
-}
-
-// Whether a batch begins at this place that was written when more than the first so many bytes were on the disk, and no more than stand before
-// it. What stands before the place is the sum before it. A sum is made only where the rest fits: that takes long.
-fn is_later(salt: u64, bytes: &[u8], place: usize, length: usize) -> bool {
-    let settled = number_at(bytes, place).unwrap_or(0);
-    if settled <= length as u64 || settled > place as u64 {
-        return false;
-    }
-    let Some(before) = number_at(bytes, place.saturating_sub(8)) else {
-        return false;
-    };
-    match bytes.get(place..) {
-        Some(behind) => take_batch(salt, before, behind).is_some(),
-        None => false,
-    }
-}
-
-// The eight bytes at this place as a number.
-fn number_at(bytes: &[u8], place: usize) -> Option<u64> {
-    let Some([a, b, c, d, e, f, g, h]) = bytes.get(place..place.saturating_add(8)) else {
-        return None;
-    };
-    Some(u64::from_be_bytes([*a, *b, *c, *d, *e, *f, *g, *h]))
 }

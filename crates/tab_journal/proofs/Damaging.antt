@@ -3,7 +3,7 @@ use Rattle.std.proofs.Common.{◌≡◌, ℕ, ◌+◌, ◌-◌, ◌≤◌, ◌<�
 use Rattle.std.specs.Prelude.{is_some, option_map}
 use Rattle.std.proofs.lemmas.Bool.{cases_lt}
 use Rattle.std.proofs.lemmas.List.{drop_at, take-append-drop, length-append, length-take}
-use Rattle.tab_parts.specs.Parts.{IsBytes}
+use Rattle.tab_parts.specs.Parts.{IsBytes, IsU64}
 use Rattle.tab_parts.specs.Reading.{u64_at}
 use Rattle.tab_parts.proofs.Exact.{bytes-drop, some_inj, exact_u64}
 use Rattle.tab_journal.specs.Journals.{Batch, IsBatch}
@@ -68,22 +68,26 @@ module _ (salt : ℕ) (bytes : List ℕ) where
       }
 
   -- ---- where one is read, it stands
+  stands_behind : (p before : ℕ) (sum tail rest : List ℕ) (b : Batch) → 8 ≤ p → p ≤ length bytes → drop (p - 8) bytes ≡ sum ++ tail → IsU64 sum before → IsBytes tail → batch_at salt before tail ≡ Some (b, rest) → StandsAt salt p bytes b
+  stands_behind p before sum tail rest b low inside parts summed fits whole =
+      let t = (exact_batch salt before).sound tail b rest fits whole in
+      let eight : length sum ≡ 8 = ap (λ (z : List ℕ). length z) summed.0 in
+      record {
+        ahead = take (p - 8) bytes;
+        sum = sum;
+        text = t.front;
+        behind = rest;
+        before = before;
+        spelled = sym (take-append-drop (p - 8) bytes) ∙ ap (λ (z : List ℕ). take (p - 8) bytes ++ z) (parts ∙ ap (λ (z : List ℕ). sum ++ z) t.parts);
+        place = omega (arith, low, inside, eight, length-take (p - 8) bytes);
+        summed = summed;
+        whole = t.says;
+      }
+
   pub reads_stands : (p before : ℕ) (tail rest : List ℕ) (b : Batch) → IsBytes bytes → 8 ≤ p → p ≤ length bytes → u64_at (drop (p - 8) bytes) ≡ Some (before, tail) → batch_at salt before tail ≡ Some (b, rest) → StandsAt salt p bytes b
   reads_stands p before tail rest b fits low inside summed whole =
       let t = exact_u64.sound (drop (p - 8) bytes) before tail (bytes-drop (p - 8) bytes fits) summed in
-      let u = (exact_batch salt before).sound tail b rest t.fits whole in
-      let eight : length t.front ≡ 8 = ap (λ (z : List ℕ). length z) t.says.0 in
-      record {
-        ahead = take (p - 8) bytes;
-        sum = t.front;
-        text = u.header;
-        behind = rest;
-        before = before;
-        spelled = sym (take-append-drop (p - 8) bytes) ∙ ap (λ (z : List ℕ). take (p - 8) bytes ++ z) (t.parts ∙ ap (λ (z : List ℕ). t.front ++ z) u.parts);
-        place = omega (arith, low, inside, eight, length-take (p - 8) bytes);
-        summed = t.says;
-        whole = u.says;
-      }
+      stands_behind p before t.front tail rest b low inside t.parts t.says t.fits whole
 
   -- ---- the test of one place
   pub none_so_low : (n p : ℕ) → p < 8 → (false ≡ true) ↔ IsLaterAt salt n bytes p

@@ -31,21 +31,21 @@ batches_once salt before t u (x ∷ bs) a b =
 
 -- ---- the first ones, and those behind them
 record Split (salt before : ℕ) (text : List ℕ) (xs ys : List Batch) : Type 0 where
-  header : List ℕ
+  ahead : List ℕ
   back : List ℕ
-  parts : text ≡ header ++ back
-  first : AreBatches salt before header xs
+  parts : text ≡ ahead ++ back
+  first : AreBatches salt before ahead xs
   others : AreBatches salt (fold (λ (sum : ℕ) (b : Batch). b.sum) before xs) back ys
 
 split : (salt before : ℕ) (text : List ℕ) (xs ys : List Batch) → AreBatches salt before text (xs ++ ys) → Split salt before text xs ys
-split salt before text [] ys are = record { header = []; back = text; parts = refl; first = refl; others = are }
+split salt before text [] ys are = record { ahead = []; back = text; parts = refl; first = refl; others = are }
 split salt before text (x ∷ xs) ys are =
     let r = split salt x.sum are.1 xs ys are.4 in
     record {
-      header = are.0 ++ r.header;
+      ahead = are.0 ++ r.ahead;
       back = r.back;
-      parts = are.2 ∙ ap (λ (z : List ℕ). are.0 ++ z) r.parts ∙ sym (append_assoc are.0 r.header r.back);
-      first = (are.0, r.header, refl, are.3, r.first);
+      parts = are.2 ∙ ap (λ (z : List ℕ). are.0 ++ z) r.parts ∙ sym (append_assoc are.0 r.ahead r.back);
+      first = (are.0, r.ahead, refl, are.3, r.first);
       others = r.others;
     }
 
@@ -90,17 +90,17 @@ module _ (bytes c : List ℕ) (header : Header) (xs ys : List Batch) (b : Batch)
       let r = split header.salt header.sum j.1 xs (b ∷ ys) j.4 in
       let t = r.others.0 in
       let o = r.others.1 in
-      let e = batches_end header.salt header.sum j.0 r.header xs (header_ends j.0 header j.3) r.first in
+      let e = batches_end header.salt header.sum j.0 r.ahead xs (header_ends j.0 header j.3) r.first in
       let s = e.1 in
       let eight : length s ≡ 8 = ap (λ (z : List ℕ). length z) e.3.0 in
-      let pre : length (j.0 ++ r.header) ≡ length e.0 + length s = ap (λ (z : List ℕ). length z) e.2 ∙ length-append e.0 s in
-      let place : 48 + length r.header ≡ p = place_is header.salt header.sum 48 r.header xs r.first in
-      let here : length e.0 ≡ p - 8 = omega (arith, eight, pre, place, length-append j.0 r.header, front_long j.0 header j.3) in
+      let pre : length (j.0 ++ r.ahead) ≡ length e.0 + length s = ap (λ (z : List ℕ). length z) e.2 ∙ length-append e.0 s in
+      let place : 48 + length r.ahead ≡ p = place_is header.salt header.sum 48 r.ahead xs r.first in
+      let here : length e.0 ≡ p - 8 = omega (arith, eight, pre, place, length-append j.0 r.ahead, front_long j.0 header j.3) in
       let long : length t ≡ 20 + length b.body = batch_length header.salt (last_sum header xs) t b r.others.3 in
       let parts : bytes ≡ e.0 ++ (s ++ (t ++ o)) =
       j.2
-      ∙ ap (λ (z : List ℕ). j.0 ++ z) (r.parts ∙ ap (λ (z : List ℕ). r.header ++ z) r.others.2)
-      ∙ sym (append_assoc j.0 r.header (t ++ o))
+      ∙ ap (λ (z : List ℕ). j.0 ++ z) (r.parts ∙ ap (λ (z : List ℕ). r.ahead ++ z) r.others.2)
+      ∙ sym (append_assoc j.0 r.ahead (t ++ o))
       ∙ ap (λ (z : List ℕ). z ++ (t ++ o)) e.2
       ∙ append_assoc e.0 s (t ++ o) in
       let there : drop (p - 8) bytes ≡ (s ++ t) ++ o = ap (λ (z : List ℕ). drop (p - 8) z) parts ∙ drop_at e.0 (s ++ (t ++ o)) (p - 8) here ∙ sym (append_assoc s t o) in
@@ -126,17 +126,17 @@ read_is_put bytes c kept left header xs ys n j parts k same le =
     let c_is : c ≡ k.0 ++ (k.1 ++ left) = parts ∙ ap (λ (z : List ℕ). z ++ left) k.2 ∙ append_assoc k.0 k.1 left in
     let first : k.0 ≡ j.0 =
     sym (take_at k.0 (k.1 ++ left) 48 (front_long k.0 header k.3)) ∙ ap (λ (z : List ℕ). take 48 z) (sym c_is) ∙ same ∙ ap (λ (z : List ℕ). take 48 z) j.2 ∙ take_at j.0 j.1 48 (front_long j.0 header j.3) in
-    let others : k.1 ≡ r.header = batches_once header.salt header.sum k.1 r.header xs k.4 r.first in
-    let kept_is : kept ≡ j.0 ++ r.header = k.2 ∙ (λ i. first i ++ others i) in
-    let bytes_are : bytes ≡ kept ++ r.back = j.2 ∙ ap (λ (z : List ℕ). j.0 ++ z) r.parts ∙ sym (append_assoc j.0 r.header r.back) ∙ ap (λ (z : List ℕ). z ++ r.back) (sym kept_is) in
+    let others : k.1 ≡ r.ahead = batches_once header.salt header.sum k.1 r.ahead xs k.4 r.first in
+    let kept_is : kept ≡ j.0 ++ r.ahead = k.2 ∙ (λ i. first i ++ others i) in
+    let bytes_are : bytes ≡ kept ++ r.back = j.2 ∙ ap (λ (z : List ℕ). j.0 ++ z) r.parts ∙ sym (append_assoc j.0 r.ahead r.back) ∙ ap (λ (z : List ℕ). z ++ r.back) (sym kept_is) in
     ap (λ (z : List ℕ). take n z) parts ∙ take-append-le n kept left le ∙ sym (take-append-le n kept r.back le) ∙ sym (ap (λ (z : List ℕ). take n z) bytes_are)
 
 pub damage_is_told : DamageIsTold
 damage_is_told bytes c salt sum n k header xs ys b fits w has none still changed =
     let bs = xs ++ b ∷ ys in
     let j = w.journal in
-    let header : take 48 bytes ≡ j.0 ++ [] = ap (λ (z : List ℕ). take 48 z) j.2 ∙ take_at j.0 j.1 48 (front_long j.0 header j.3) ∙ sym (append-nil j.0) in
-    let r = crashes_leave_beginnings bytes c header bs 48 0 fits (j.0, [], header, j.3, refl) has none in
+    let beginning : take 48 bytes ≡ j.0 ++ [] = ap (λ (z : List ℕ). take 48 z) j.2 ∙ take_at j.0 j.1 48 (front_long j.0 header j.3) ∙ sym (append-nil j.0) in
+    let r = crashes_leave_beginnings bytes c header bs 48 0 fits (j.0, [], beginning, j.3, refl) has none in
     let read : Journal = record { header = header; batches = take r.0 bs; left = r.1 } in
     let kept = whole_batches_are_kept c read fits r.3 in
     let stands = still_stands bytes c header xs ys b j still in
