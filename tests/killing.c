@@ -52,6 +52,7 @@ ssize_t write(int file, const void *bytes, size_t count) {
 }
 int fsync(int file) { int met = meets(); FAILS(met) int done = REAL(fsync)(file); behind(met); return done; }
 int fdatasync(int file) { int met = meets(); FAILS(met) int done = REAL(fdatasync)(file); behind(met); return done; }
+int ftruncate(int file, off_t length) { int met = meets(); FAILS(met) int done = REAL(ftruncate)(file, length); behind(met); return done; }
 int rename(const char *from, const char *to) { int met = meets(); FAILS(met) int done = REAL(rename)(from, to); behind(met); return done; }
 int unlink(const char *name) { int met = meets(); FAILS(met) int done = REAL(unlink)(name); behind(met); return done; }
 int mkdir(const char *name, mode_t mode) { int met = meets(); FAILS(met) int done = REAL(mkdir)(name, mode); behind(met); return done; }

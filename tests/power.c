@@ -1,7 +1,7 @@
 /* Preloaded into the program: each call that changes the folder FOLDER, has the disk hold a file or the folder, or tells something to a
    client, is a line of the file LOG, in the one order in which the calls are made:
 
-     O INODE NEW NAME          a file is opened that may be made; NEW is 1 where it was made, 2 where it was cut to nothing
+     O INODE NEW NAME          a file is opened to be made or changed; NEW is 1 where it was made, 2 where it was cut to nothing
      W INODE PLACE BYTES       bytes, as hex digits, are written
      T INODE LENGTH            a file is cut, or made longer
      S INODE                   a file is on the disk, whole
@@ -83,7 +83,7 @@ int open(const char *name, int flags, ...) {
         names[file] = strdup(name);
         char line[500];
         snprintf(line, sizeof line, "O %lu %d %s\n", inode(file), !there ? 1 : flags & O_TRUNC && full ? 2 : 0, name);
-        if (flags & (O_CREAT | O_TRUNC)) tell(line);
+        if (flags & (O_CREAT | O_TRUNC | O_WRONLY | O_RDWR)) tell(line);
     }
     pthread_mutex_unlock(&one);
     return file;

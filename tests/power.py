@@ -8,7 +8,8 @@ are many folders that the disk may hold: all of them, where they differ in at mo
 picked by a fixed seed.
 
 The program takes up each of these folders: with status 0, always. All rows are there that were answered before the cut, or, under `--sync interval`,
-before the last sync of a journal; what is there is a beginning of what was asked, each write whole; and the next start finds the same.
+before the last sync of a journal; what is there is a beginning of what was asked, each write whole; and the next start finds the same. Where the power is cut while a folder
+is taken up, any 8 bytes of a write may be there or not, so that a header is torn too.
 Usage: power.py PROGRAM [MOST]   (of how many folders each moment has at most, 40 where unsaid)"""
 
 import concurrent.futures
@@ -28,6 +29,7 @@ HERE = os.path.dirname(os.path.abspath(__file__))
 MOST = int(sys.argv[2]) if len(sys.argv) > 2 else 40
 STORE = "store"
 BLOCK = 512
+PIECE = 8
 MAKE_LINE = "createtable t\n"
 
 
@@ -35,7 +37,8 @@ MAKE_LINE = "createtable t\n"
 class File:
     """What a file has on the disk, and what was done to it since."""
 
-    def __init__(self):
+    def __init__(self, block):
+        self.block = block
         self.kept = b""
         self.since = []
 
@@ -63,7 +66,7 @@ class File:
     def write(self, place, text):
         """Notes a write, block by block."""
         while text:
-            end = (place // BLOCK + 1) * BLOCK - place
+            end = (place // self.block + 1) * self.block - place
             self.since.append((place, text[:end]))
             place, text = place + len(text[:end]), text[end:]
 
@@ -71,10 +74,11 @@ class File:
 class Disk:
     """A disk, with the folder as it was left, and as it may be."""
 
-    def __init__(self, names=None):
+    def __init__(self, names=None, block=BLOCK):
+        self.block = block
         self.kept = {}
         for name, text in (names or {}).items():
-            self.kept[name] = File()
+            self.kept[name] = File(block)
             self.kept[name].kept = text
         self.made = names is not None  # whether the folder outlives a cut
         self.since = []  # what was done to its names: the name, the name that it gives, and the file
@@ -99,7 +103,7 @@ class Disk:
         kind, first, *rest = words
         if kind == "O":
             if rest[0] == "1":
-                self.inodes[first] = File()
+                self.inodes[first] = File(self.block)
                 self.since.append((rest[1], None, self.inodes[first]))
             else:
                 self.inodes[first] = self.names()[rest[1]]
@@ -206,8 +210,8 @@ def rows_of(out):
 class Log:
     """A folder, and the log of the runs over it."""
 
-    def __init__(self, name, asked, names=None, due=None):
-        self.path, self.asked, self.disk, self.due = os.path.abspath(name + ".log"), asked, Disk(names), due or {}
+    def __init__(self, name, asked, names=None, due=None, block=BLOCK):
+        self.path, self.asked, self.disk, self.due = os.path.abspath(name + ".log"), asked, Disk(names, block), due or {}
         self.clients = []  # of each run the clients in the order in which they came, and what each asked
         self.modes = []
         shutil.rmtree(STORE, ignore_errors=True)
@@ -442,7 +446,7 @@ def starts(name, log):
     something = [(names, due) for names, due, told in torn if "done again" in told]
     count("%s: ends are cut off" % name, something and (nothing or name == "intervals"), len(torn))
     for place, (names, due) in enumerate(nothing[:2] + something[:1] + something[-2:]):
-        again = Log("%s-%d" % (name, place), log.asked, names, due)
+        again = Log("%s-%d" % (name, place), log.asked, names, due, PIECE)
         again.script(ends=place % 2 == 1)
         judge("%s, started over %d" % (name, place), again)
 

@@ -296,11 +296,11 @@ def turned():
     with open("%s/%s" % (STORE, journal), "r+b") as file:
         file.seek(70)
         file.write(b"\xff")
-    before = sorted((name, os.stat("%s/%s" % (STORE, name)).st_size) for name in os.listdir(STORE))
+    before = sizes()
     with Server() as server:
         told = server.end()
         count("a server refuses it too", server.process.returncode == 1 and told.startswith("fault: %s: %s is damaged at " % (STORE, journal)), told)
-    count("and changes nothing", before == sorted((name, os.stat("%s/%s" % (STORE, name)).st_size) for name in os.listdir(STORE)))
+    count("and changes nothing", before == sizes())
     fine = True
     for length in range(0, len(bytes_are), 9):
         put_back("whole")
@@ -308,6 +308,29 @@ def turned():
         found, _ = rows_of_script()
         fine = fine and found == ASKED[:len(found)]
     count("each beginning of a journal keeps a beginning of its rows", fine)
+
+
+def sizes():
+    return sorted((name, os.stat("%s/%s" % (STORE, name)).st_size) for name in os.listdir(STORE))
+
+
+def followed():
+    """A journal that is cut is refused where the next one was begun behind it, and stays; where that one has no header its end is cut off, and told."""
+    count("all is answered", killed_folder())
+    with open(STORE + "/journal.0", "r+b") as file:
+        header = file.read(48)
+        file.seek(-3, os.SEEK_END)
+        file.truncate()
+    with open(STORE + "/journal.1", "wb") as file:
+        file.write(header)
+    before = sizes()
+    with Server() as server:
+        told = server.end()
+        count("a server refuses it", server.process.returncode == 1 and told == "fault: %s: journal.0 is cut, and isn't the last one\n" % STORE, told)
+    count("and leaves it", before == sizes())
+    os.truncate(STORE + "/journal.1", 47)
+    found, told = rows_of_script()
+    count("else its end is cut off", found == ASKED[:len(found)] and len(found) >= ROWS - CHUNK and "are cut off" in told, told)
 
 
 def folders():
@@ -507,4 +530,4 @@ def build():
     subprocess.run([os.environ.get("CC", "cc"), "-shared", "-fPIC", "-O1", "-o", "killing.so", "%s/killing.c" % HERE, "-ldl"], check=True)
 
 
-run_parts(build, readme, folders, both_formats, intervals, full_disk, reads_wait_for_nothing, turned, kills, short_writes, checkpoints, beneath_writers)
+run_parts(build, readme, folders, both_formats, intervals, full_disk, reads_wait_for_nothing, turned, followed, kills, short_writes, checkpoints, beneath_writers)

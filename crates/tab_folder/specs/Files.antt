@@ -1,7 +1,7 @@
 -- For proofs. What the file of a journal stands for.
 use Rattle.std.specs.Prelude.{List}
 use Rattle.tab_folder.specs.declared.file_device.FileDevice.{FileDevice}
-use Rattle.tab_journal.specs.Calls.{Call}
+use Rattle.tab_recovery.specs.Calls.{Call}
 use Rattle.tab_folder.specs.Calls.{history}
 
 abbrev pub calls_of : FileDevice → List Call

@@ -61,15 +61,22 @@ impl From<SaveFault> for FolderFault {
     }
 }
 
+impl From<DeviceError> for FolderFault {
+    fn from(error: DeviceError) -> FolderFault {
+        match error {
+            DeviceError::NoMemory => FolderFault::NoMemory,
+            DeviceError::Failed(error) => FolderFault::Refused(error),
+        }
+    }
+}
+
 impl From<WriteError> for FolderFault {
     fn from(error: WriteError) -> FolderFault {
         match error {
-            WriteError::NoMemory | WriteError::Device(DeviceError::NoMemory) => {
-                FolderFault::NoMemory
-            }
+            WriteError::NoMemory => FolderFault::NoMemory,
             WriteError::TooLong | WriteError::Full => FolderFault::Full,
             WriteError::Stopped => FolderFault::Refused(Error::from(ErrorKind::Other)),
-            WriteError::Device(DeviceError::Failed(error)) => FolderFault::Refused(error),
+            WriteError::Device(error) => FolderFault::from(error),
         }
     }
 }

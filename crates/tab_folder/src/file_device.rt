@@ -1,17 +1,17 @@
 //! The file of a journal, as a device.
-ghost use Rattle.std.specs.Prelude.{◌≡◌, ◌∷◌, [], true, cond, length};
-ghost use Rattle.tab_journal.specs.Calls.{state_behind, MayLeave, LeftSince};
+ghost use Rattle.std.specs.Prelude.{◌≡◌, ◌∷◌, [], true, length};
 ghost use Rattle.tab_journal.specs.Device.{Only};
-ghost use Rattle.tab_journal.specs.Past.{counts_now, only_now};
+ghost use Rattle.tab_recovery.specs.Calls.{seen_behind, is_usable_behind, faults_behind, MayLeave, LeftSince};
+ghost use Rattle.tab_recovery.specs.Past.{counts_now, only_now};
 ghost use Rattle.tab_folder.specs.Calls.{history};
 
-use crate::file_call::FileCall;
 use http_server::Log;
 use std::alloc::Global;
 use std::fs::File;
 use std::io;
-use std::io::Write;
+use std::io::{Seek, SeekFrom, Write};
 use tab_journal::{Device, DeviceError};
+use tab_recovery::{Asked, FileCall, Recoverable};
 
 /// The file of a journal, as a device.
 ///
@@ -21,18 +21,18 @@ use tab_journal::{Device, DeviceError};
 pub struct FileDevice {
     alloc: Global,
     file: File,
-    // the calls so far and the bytes that were to be put, for contracts alone: they take no memory
+    // the calls so far and the bytes that were found or were to be put, for contracts alone: they take no memory
     calls: Log<FileCall, Vec<u8>>,
 }
 
 impl FileDevice {
     ghost use Rattle.tab_folder.specs.Files.{calls_of};
 
-    /// This file, in which nothing is.
+    /// This file, which is new: nothing is in it.
     pub fn new(alloc: Global, file: File) -> FileDevice
-        ensures empty { (state_behind (calls_of result)).seen ≡ [] }
-        ensures settled { Only [] (MayLeave (state_behind (calls_of result))) }
-        ensures usable { (state_behind (calls_of result)).is_usable ≡ true }
+        ensures empty { seen_behind (calls_of result) ≡ [] }
+        ensures settled { Only [] (MayLeave (calls_of result)) }
+        ensures usable { is_usable_behind (calls_of result) ≡ true }
     {
         FileDevice {
             alloc,
@@ -41,31 +41,54 @@ impl FileDevice {
         }
     }
 
+    /// This file, in which these bytes were found. What a crash leaves of it before its first sync isn't known.
+    pub fn found(alloc: Global, file: File, bytes: &Vec<u8>) -> FileDevice
+        ensures found { seen_behind (calls_of result) ≡ bytes.now.items }
+        ensures usable { is_usable_behind (calls_of result) ≡ true }
+    {
+        let call = FileCall {
+            asked: Asked::Found,
+            is_ok: true,
+        };
+        FileDevice {
+            alloc,
+            file,
+            calls: Log::new().and(&call, bytes),
+        }
+    }
+
     /// Another handle of the file, by which the disk may be asked for what was put.
     pub fn beside(&self) -> io::Result<File> {
         self.file.try_clone()
     }
 
-    // Notes a call: whether it was a sync, whether it went well, and the bytes that were to be put.
-    fn note(&mut self, is_sync: bool, is_ok: bool, bytes: Vec<u8>)
-        ensures { calls_of self.new ≡ (cond is_sync 1 0, is_ok, bytes.items) ∷ calls_of self.old }
+    // Notes a call: what was asked, whether it went well, and the bytes that were to be put.
+    fn note(&mut self, asked: Asked, is_ok: bool, bytes: Vec<u8>)
+        ensures { calls_of self.new ≡ (asked, is_ok, bytes.items) ∷ calls_of self.old }
     {
-        self.calls = self.calls.and(&FileCall { is_sync, is_ok }, &bytes);
+        self.calls = self.calls.and(&FileCall { asked, is_ok }, &bytes);
     }
 }
 
-impl Device for FileDevice {
-    ghost seen = { λ d. (state_behind (history d.calls.items)).seen };
+// Cuts the file to its first bytes, so many. What is put goes behind these.
+fn cut_file(file: &mut File, count: usize) -> io::Result<()> {
+    file.set_len(count as u64)?;
+    file.seek(SeekFrom::Start(count as u64))?;
+    Ok(())
+}
 
-    ghost may_leave = { λ d. MayLeave (state_behind (history d.calls.items)) };
+impl Device for FileDevice {
+    ghost seen = { λ d. seen_behind (history d.calls.items) };
+
+    ghost may_leave = { λ d. MayLeave (history d.calls.items) };
 
     ghost moment = { λ d. length (history d.calls.items) };
 
     ghost left_since = { λ d. LeftSince (history d.calls.items) };
 
-    ghost faults = { λ d. (state_behind (history d.calls.items)).faults };
+    ghost faults = { λ d. faults_behind (history d.calls.items) };
 
-    ghost is_usable = { λ d. (state_behind (history d.calls.items)).is_usable };
+    ghost is_usable = { λ d. is_usable_behind (history d.calls.items) };
 
     ghost counts_now = { λ d. counts_now (history d.calls.items) };
 
@@ -74,11 +97,11 @@ impl Device for FileDevice {
     fn append(&mut self, bytes: Vec<u8>) -> Result<(), DeviceError> {
         match self.file.write_all(bytes.as_slice()) {
             Ok(()) => {
-                self.note(false, true, bytes);
+                self.note(Asked::Append, true, bytes);
                 Ok(())
             }
             Err(error) => {
-                self.note(false, false, bytes);
+                self.note(Asked::Append, false, bytes);
                 Err(DeviceError::Failed(error))
             }
         }
@@ -87,11 +110,26 @@ impl Device for FileDevice {
     fn sync(&mut self) -> Result<(), DeviceError> {
         match self.file.sync_data() {
             Ok(()) => {
-                self.note(true, true, Vec::new(self.alloc));
+                self.note(Asked::Sync, true, Vec::new(self.alloc));
                 Ok(())
             }
             Err(error) => {
-                self.note(true, false, Vec::new(self.alloc));
+                self.note(Asked::Sync, false, Vec::new(self.alloc));
+                Err(DeviceError::Failed(error))
+            }
+        }
+    }
+}
+
+impl Recoverable for FileDevice {
+    fn cut(&mut self, count: usize) -> Result<(), DeviceError> {
+        match cut_file(&mut self.file, count) {
+            Ok(()) => {
+                self.note(Asked::Cut(count), true, Vec::new(self.alloc));
+                Ok(())
+            }
+            Err(error) => {
+                self.note(Asked::Cut(count), false, Vec::new(self.alloc));
                 Err(DeviceError::Failed(error))
             }
         }

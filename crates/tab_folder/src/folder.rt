@@ -2,6 +2,7 @@
 use crate::journal::Journal;
 use crate::left::left_in;
 use crate::names::{FileKind, PART, image_path, journal_path, kind_of, loaded_path};
+use crate::taking_up::{FILE_MODE, emptied, has_header, taken_up};
 use crate::{FolderFault, Left};
 use std::fs::{DirBuilder, File, OpenOptions, TryLockError};
 use std::io::{ErrorKind, Read};
@@ -14,10 +15,8 @@ use tab_core::Core;
 use tab_io::{BlockReader, BlockWriter, Output};
 use tab_journal::{Format, Header};
 
-// Who may use the folder and read what is in it: whoever runs the program.
+// Who may use the folder: whoever runs the program.
 const FOLDER_MODE: u32 = 0o700;
-
-const FILE_MODE: u32 = 0o600;
 
 /// A folder that was taken up. No other process takes it up until this is dropped.
 #[derive(Drop)]
@@ -80,11 +79,33 @@ impl<'a> Folder<'a> {
         Ok(number..last.saturating_add(1))
     }
 
-    /// What a run that didn't end left in the journal of this number, which goes on from this core. Memory is taken for the whole journal.
-    pub fn left(&self, number: u64, core: &Core) -> Result<Left, FolderFault> {
+    /// Takes up what a run that didn't end left in the journal of this number, which goes on from this core. What stands at its end that is no whole
+    /// batch is cut off, down to the disk; that is refused where a later journal was begun, and the file stays as it is. Memory is taken for the
+    /// whole journal.
+    pub fn take_up(&self, number: u64, core: &Core) -> Result<Left, FolderFault> {
         let is_first = self.newest == Some(number);
         let base = (core.next(), core.clock());
-        left_behind(self.rt, self.path, number, is_first, base)
+        if !self.is_followed(number)? {
+            let name = journal_path(self.rt.alloc(), self.path, number)?;
+            return taken_up(self.rt, name.as_str(), number, is_first, base);
+        }
+        let left = left_behind(self.rt, self.path, number, is_first, base)?;
+        if left.cut > 0 {
+            return Err(FolderFault::Torn(number));
+        }
+        Ok(left)
+    }
+
+    // Whether a journal behind this one has a header.
+    fn is_followed(&self, number: u64) -> Result<bool, FolderFault> {
+        let last = self.last.unwrap_or(number);
+        for later in number.saturating_add(1)..last.saturating_add(1) {
+            let name = journal_path(self.rt.alloc(), self.path, later)?;
+            if has_header(self.rt, name.as_str())? {
+                return Ok(true);
+            }
+        }
+        Ok(false)
     }
 
     /// Begins the journal behind this image, whose core this is, for lines or events. What stood there is lost.
@@ -106,10 +127,10 @@ impl<'a> Folder<'a> {
         let mut salt = [0; 8];
         self.rt.fill_bytes(&mut salt)?;
         let name = journal_path(self.rt.alloc(), self.path, number)?;
-        let file = created(self.rt, name.as_str())?;
+        let device = emptied(self.rt, name.as_str())?;
         let salt = u64::from_be_bytes(salt);
         let header = Header::new(format, number, core.next(), core.clock(), salt);
-        let journal = Journal::begin(self.rt.alloc(), file, header)?;
+        let journal = Journal::begin(self.rt.alloc(), device, header)?;
         sync_folder(self.rt, self.path)?;
         Ok(journal)
     }

@@ -1,6 +1,9 @@
 //! A journal that is being written.
-ghost use Rattle.std.specs.Prelude.{◌≡◌};
+ghost use Rattle.std.specs.Prelude.{◌≡◌, [], true};
+ghost use Rattle.tab_journal.specs.Device.{Only};
 ghost use Rattle.tab_journal.specs.Journals.{sum_of, header_summed};
+ghost use Rattle.tab_recovery.specs.Calls.{seen_behind, is_usable_behind, MayLeave};
+ghost use Rattle.tab_folder.specs.Files.{calls_of};
 
 use crate::FolderFault;
 use crate::file_device::FileDevice;
@@ -18,10 +21,17 @@ pub struct Journal {
 
 impl Journal {
     /// Begins a journal with this header in an empty file, down to the disk.
-    pub(crate) fn begin(alloc: Global, file: File, header: Header) -> Result<Journal, FolderFault>
-        requires { header.sum ≡ sum_of (header_summed header.format header.generation header.next header.clock header.salt) }
+    pub(crate) fn begin(
+        alloc: Global,
+        device: FileDevice,
+        header: Header,
+    ) -> Result<Journal, FolderFault>
+        requires empty { seen_behind (calls_of device) ≡ [] }
+        requires settled { Only [] (MayLeave (calls_of device)) }
+        requires usable { is_usable_behind (calls_of device) ≡ true }
+        requires right { header.sum ≡ sum_of (header_summed header.format header.generation header.next header.clock header.salt) }
     {
-        match Writer::begin(alloc, FileDevice::new(alloc, file), header) {
+        match Writer::begin(alloc, device, header) {
             Ok(writer) => Ok(Journal {
                 writer,
                 failure: None,

@@ -1,10 +1,8 @@
 //! What a run that didn't end left in its journal.
 use crate::FolderFault;
 use std::alloc::Global;
-use tab_journal::{Format, Header, JournalContents, is_damaged, read_journal};
-
-// How many bytes a header has.
-const HEADER: usize = 48;
+use tab_journal::{Format, Header, JournalContents, take_header};
+use tab_recovery::{TakeUpFault, read_left};
 
 /// What a run that didn't end left in its journal.
 #[derive(Drop)]
@@ -28,16 +26,23 @@ pub(crate) fn left_in(
     base: (u64, i64),
     bytes: &[u8],
 ) -> Result<Left, FolderFault> {
-    let Some(kept) = read_journal(alloc, bytes)? else {
-        return headless(alloc, number, bytes);
+    check_header(number, is_first, base, bytes)?;
+    match read_left(alloc, bytes) {
+        Ok(kept) => Ok(left_of(alloc, kept, bytes.len())),
+        Err(fault) => Err(fault_at(number, fault)),
+    }
+}
+
+/// What is left of a journal that had so many bytes, of which these contents were read.
+pub(crate) fn left_of(alloc: Global, kept: Option<JournalContents>, count: usize) -> Left {
+    let Some(kept) = kept else {
+        return Left {
+            format: Format::Events,
+            text: Vec::new(alloc),
+            cut: count,
+            has_header: false,
+        };
     };
-    if !follows_on(&kept.header, number, is_first, base) {
-        return Err(FolderFault::Strange(number));
-    }
-    let read = bytes.len().saturating_sub(kept.left);
-    if is_damaged(kept.header.salt, bytes, read) {
-        return Err(FolderFault::Damaged(number, read as u64));
-    }
     let JournalContents {
         header,
         mut text,
@@ -47,12 +52,12 @@ pub(crate) fn left_in(
     if header.format == Format::Lines {
         end_with_line(&mut text);
     }
-    Ok(Left {
+    Left {
         format: header.format,
         text,
         cut: left,
         has_header: true,
-    })
+    }
 }
 
 // Leaves what comes before the last line that doesn't end.
@@ -61,17 +66,19 @@ fn end_with_line(text: &mut Vec<u8>) {
     text.truncate(whole.map_or(0, |last| last.saturating_add(1)));
 }
 
-// A journal that has no header. Nothing is put before its header is on the disk.
-fn headless(alloc: Global, number: u64, bytes: &[u8]) -> Result<Left, FolderFault> {
-    if bytes.len() > HEADER {
-        return Err(FolderFault::Damaged(number, 0));
+/// Sees that the journal of this number, if it has a header, was begun on a core of which `base` has the number of the next mutation and the clock.
+pub(crate) fn check_header(
+    number: u64,
+    is_first: bool,
+    base: (u64, i64),
+    bytes: &[u8],
+) -> Result<(), FolderFault> {
+    match take_header(bytes) {
+        Some((header, _)) if !follows_on(&header, number, is_first, base) => {
+            Err(FolderFault::Strange(number))
+        }
+        _ => Ok(()),
     }
-    Ok(Left {
-        format: Format::Events,
-        text: Vec::new(alloc),
-        cut: bytes.len(),
-        has_header: false,
-    })
 }
 
 // Whether the journal of this number was begun on a core of which `base` has the number of the next mutation and the clock: the one of the image
@@ -83,4 +90,13 @@ fn follows_on(header: &Header, number: u64, is_first: bool, base: (u64, i64)) ->
         header.clock >= base.1
     };
     header.generation == number && header.next == base.0 && is_at
+}
+
+/// Why the journal of this number isn't taken up.
+pub(crate) fn fault_at(number: u64, fault: TakeUpFault) -> FolderFault {
+    match fault {
+        TakeUpFault::NoMemory => FolderFault::NoMemory,
+        TakeUpFault::Damaged(place) => FolderFault::Damaged(number, place as u64),
+        TakeUpFault::Device(error) => FolderFault::from(error),
+    }
 }

@@ -11,8 +11,9 @@
 //! | `folder` | the folder: taken up, read, and left with the next image |
 //! | `looking` | a folder that is looked into, and left as it is |
 //! | `left` | what a run that didn't end left in its journal |
+//! | `taking_up` | the file of a journal, taken up or made empty |
 //! | `journal` | a journal that is being written |
-//! | `file_device`, `file_call` | its file, as the device of `tab_journal`, and the calls that are noted of it |
+//! | `file_device` | its file, as the device of `tab_journal` and `tab_recovery`, of which calls are noted |
 //! | `log`, `streams` | the journal of a script's lines, and the streams of a script beside it |
 //! | `names` | the names of the files |
 //! | `fault` | why a folder can't be taken up, and why nothing is kept in it |
@@ -21,7 +22,6 @@
 #![tactic(auto)]
 
 mod fault;
-mod file_call;
 mod file_device;
 mod folder;
 mod journal;
@@ -30,6 +30,7 @@ mod log;
 mod looking;
 mod names;
 mod streams;
+mod taking_up;
 
 pub use fault::FolderFault;
 pub use folder::Folder;

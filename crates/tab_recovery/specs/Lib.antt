@@ -1,3 +1,9 @@
 pub mod Recovering
 pub mod Redoing
 pub mod Answering
+pub mod Cutting
+pub mod Calls
+pub mod Past
+pub mod LeftDevices
+pub mod TakingUp
+pub mod LeftFiles

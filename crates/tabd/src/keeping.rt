@@ -71,7 +71,7 @@ pub fn taken_up(
     }
     let core = folder.load().with_context(|| path)?;
     let journals = folder.journals().with_context(|| path)?;
-    let left = folder.left(journals.start, &core).with_context(|| path)?;
+    let left = folder.take_up(journals.start, &core).with_context(|| path)?;
     match left.format {
         Format::Lines => lines_done(rt, folder, path, core, &left),
         Format::Events => entries_done(rt, folder, path, core, left),

@@ -1,7 +1,7 @@
 //! What a server left in its journals, done again.
 use anyhow::Context;
 use tab_core::Core;
-use tab_folder::{Folder, FolderFault, Left};
+use tab_folder::{Folder, Left};
 use tab_recovery::replay;
 
 // What was found in the journals behind an image.
@@ -29,9 +29,9 @@ pub fn entries_done(
     for number in journals {
         let left = match first.take() {
             Some(left) => left,
-            None => folder.left(number, &core).with_context(|| path)?,
+            None => folder.take_up(number, &core).with_context(|| path)?,
         };
-        found = done(rt, path, number, &mut core, found, &left)?;
+        found = done(rt, path, &mut core, found, &left)?;
     }
     if found.count > 0 || !is_alone {
         folder.keep(&core).with_context(|| path)?;
@@ -40,23 +40,24 @@ pub fn entries_done(
     Ok(core)
 }
 
-// Does the entries again that were left in the journal of this number, behind others in which that was found. A journal is begun only once the
-// one before is whole on the disk.
+// Does the entries again that were left in a journal, behind others in which that was found. What was cut off is told where they aren't done: the next
+// start doesn't find it.
 fn done(
     rt: &HostRuntime,
     path: &str,
-    number: u64,
     core: &mut Core,
     found: Found,
     left: &Left,
 ) -> anyhow::Result<Found> {
-    if found.cut > 0 && left.has_header {
-        return Err(FolderFault::Torn(number.saturating_sub(1))).with_context(|| path);
+    let cut = found.cut.saturating_add(left.cut);
+    let outcome = replay(rt.alloc(), core, left.text.as_slice());
+    if outcome.is_err() {
+        tell(rt, path, Found { count: 0, cut });
     }
-    let count = replay(rt.alloc(), core, left.text.as_slice()).with_context(|| path)?;
+    let count = outcome.with_context(|| path)?;
     Ok(Found {
         count: found.count.saturating_add(count),
-        cut: found.cut.saturating_add(left.cut),
+        cut,
     })
 }
 
