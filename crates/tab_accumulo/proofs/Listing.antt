@@ -2,7 +2,6 @@
 use Rattle.std.proofs.Common.{◌≡◌, ℕ, ◌<◌, List, [], ◌∷◌, length, get_or, drop, refl, sym, ap, arith}
 use Rattle.std.specs.Prelude.{codes, Vec}
 use Rattle.std.specs.declared.alloc.Global.{Global}
-use Rattle.std.specs.List.{flat_map}
 use Rattle.std.proofs.lemmas.List.Folds.{flat_map-map}
 use Rattle.tab_label.specs.Sets.{byte_lists}
 use Rattle.tab_accumulo.specs.Words.{joined, listed}

@@ -6,18 +6,18 @@
 //! | File | What |
 //! |---|---|
 //! | `shell` | the whole |
-//! | `users`, `tables`, `versions`, `records`, `settings` | its parts |
+//! | `lines` | the lines for each thing |
+//! | `versions`, `constraints`, `records` | those of a new table, of its constraints and of a record |
 //! | `word`, `quoting` | words on a line, and bytes between quotes |
 //!
 //! In `specs`, `Words` says how words are written, `Lines` which lines there are, `Parts` which part of them a value of the code stands for.
 #![tactic(auto)]
 
+mod constraints;
+mod lines;
 mod quoting;
 mod records;
-mod settings;
 mod shell;
-mod tables;
-mod users;
 mod versions;
 mod word;
 

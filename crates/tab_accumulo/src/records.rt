@@ -1,28 +1,29 @@
 //! The lines of records.
 #![tactic(auto, using(tab_io::proofs::Putting::putting))]
 
-ghost use Rattle.std.specs.Prelude.{reverse};
-ghost use Rattle.std.specs.List.{flat_map};
 ghost use Rattle.tab_io.specs.Writing.{Puts};
 ghost use Rattle.tab_accumulo.specs.Lines.{record_text, put_text, delete_text};
 
 use crate::word::{ShellWord, put_words};
-use tab_image::Records;
 use tab_io::{Output, WriteFault};
 use tab_key::{Kind, RecordRef};
+use tab_walk::PutRecord;
 
-/// Puts the records, the last one first.
-pub(crate) fn put_records<W: Output>(output: &mut W, records: &Records) -> Result<(), WriteFault>
-    ensures { Puts W.Output output.old output.new (flat_map record_text (reverse records.now)) result }
-{
-    let count = records.len();
-    for index in 0..count {
-        match put_written(output, &records.get(count - 1 - index)) {
-            Ok(()) => {}
-            Err(fault) => return Err(fault),
-        }
+/// A record as a line that writes it.
+pub(crate) struct Written;
+
+impl PutRecord for Written {
+    ghost use Rattle.tab_accumulo.specs.Lines.{record_text};
+
+    ghost text = { λ _ r. record_text r };
+
+    fn put_record<W: Output>(
+        &self,
+        output: &mut W,
+        record: &RecordRef<'_>,
+    ) -> Result<(), WriteFault> {
+        put_written(output, record)
     }
-    Ok(())
 }
 
 #[tactic(auto, using(tab_io::proofs::Putting::putting), unfolding(crate::specs::Lines::record_text))]

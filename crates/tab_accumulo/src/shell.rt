@@ -1,24 +1,15 @@
 //! The whole.
 #![tactic(auto, using(tab_io::proofs::Putting::putting))]
 
+ghost use Rattle.std.specs.List.{flat_map};
 ghost use Rattle.tab_io.specs.Writing.{Puts};
-ghost use Rattle.tab_accumulo.specs.Lines.{shell_text};
-ghost use Rattle.tab_accumulo.specs.Parts.{shell_part};
+ghost use Rattle.tab_walk.specs.Walks.{user_text, table_text};
+ghost use Rattle.tab_accumulo.specs.Lines.{shell, user_parts, table_parts, shell_text};
 
-use crate::tables::Tables;
-use crate::users::Users;
+use crate::lines::Shell;
 use tab_image::Image;
 use tab_io::{Output, WriteFault};
-use tab_text::{PutItem, put_each};
-
-/// What the lines do, one part behind the other.
-#[derive(Clone, Copy)]
-pub(crate) enum ShellPart<'a> {
-    /// Make the users.
-    Users(&'a Image),
-    /// Make the tables.
-    Tables(&'a Image),
-}
+use tab_walk::{TablePart, ToldRights, UserPart, put_tables, put_users};
 
 /// Puts lines of Accumulo's shell that make what the image says, as far as there is the like: `specs/Lines` says which.
 ///
@@ -27,27 +18,28 @@ pub(crate) enum ShellPart<'a> {
 pub fn put_shell_lines<W: Output>(output: &mut W, image: &Image) -> Result<(), WriteFault>
     ensures { Puts W.Output output.old output.new (shell_text image.now) result }
 {
-    let parts = [ShellPart::Users(image), ShellPart::Tables(image)];
-    put_each(output, &parts, &ShellParts)
+    put_made_users(output, image)?;
+    put_made_tables(output, image)
 }
 
-struct ShellParts;
-
-impl<'a> PutItem<ShellPart<'a>> for ShellParts {
-    ghost use Rattle.tab_accumulo.specs.Parts.{shell_part};
-
-    ghost text = { λ _ part. shell_part part };
-
-    fn put_item<W: Output>(&self, output: &mut W, part: &ShellPart<'a>) -> Result<(), WriteFault> {
-        put_part(output, part)
-    }
-}
-
-fn put_part<W: Output>(output: &mut W, part: &ShellPart<'_>) -> Result<(), WriteFault>
-    ensures { Puts W.Output output.old output.new (shell_part part.now) result }
+fn put_made_users<W: Output>(output: &mut W, image: &Image) -> Result<(), WriteFault>
+    ensures { Puts W.Output output.old output.new (flat_map (user_text shell user_parts) image.now.users) result }
 {
-    match *part {
-        ShellPart::Users(image) => put_each(output, image.users.as_slice(), &Users),
-        ShellPart::Tables(image) => put_each(output, image.tables.as_slice(), &Tables),
-    }
+    let parts = [UserPart::Created, UserPart::Authorized, UserPart::Granted];
+    put_users(output, image.users.as_slice(), &parts, &Shell)
+}
+
+fn put_made_tables<W: Output>(output: &mut W, image: &Image) -> Result<(), WriteFault>
+    ensures { Puts W.Output output.old output.new (flat_map (table_text shell table_parts) image.now.tables) result }
+{
+    let parts = [
+        TablePart::Created,
+        TablePart::Split,
+        TablePart::Filled,
+        TablePart::Constrained,
+        TablePart::Bounded,
+        TablePart::Unheld,
+        TablePart::Held(ToldRights::Changed),
+    ];
+    put_tables(output, image.tables.as_slice(), &parts, &Shell)
 }

@@ -1,10 +1,10 @@
-//! How many versions a table shows, as settings of its iterator.
+//! What is set on a new table: no constraint, and how many versions it shows, as settings of its iterator.
 #![tactic(auto, using(tab_io::proofs::Putting::putting))]
 
-ghost use Rattle.std.specs.Prelude.{◌≡◌};
+ghost use Rattle.std.specs.Prelude.{◌≡◌, ◌++◌};
 ghost use Rattle.std.specs.List.{flat_map};
 ghost use Rattle.tab_io.specs.Writing.{Puts};
-ghost use Rattle.tab_accumulo.specs.Lines.{version_key, versions_text, all_scopes};
+ghost use Rattle.tab_accumulo.specs.Lines.{bare_text, version_key, versions_text, all_scopes};
 
 use crate::word::{ShellWord, put_words};
 use tab_image::TableHead;
@@ -22,8 +22,30 @@ pub(crate) enum Scope {
     Major,
 }
 
-/// Puts how many versions the table shows, and keeps in each kind of a compaction.
-pub(crate) fn put_versions<W: Output>(output: &mut W, head: &TableHead) -> Result<(), WriteFault>
+/// Takes the constraint that a new table has, and sets how many versions it shows, and keeps in each kind of a compaction.
+pub(crate) fn put_settled<W: Output>(output: &mut W, head: &TableHead) -> Result<(), WriteFault>
+    ensures { Puts W.Output output.old output.new (bare_text head.now ++ flat_map (versions_text head.now) all_scopes) result }
+{
+    put_bare(output, head)?;
+    put_versions(output, head)
+}
+
+fn put_bare<W: Output>(output: &mut W, head: &TableHead) -> Result<(), WriteFault>
+    ensures { Puts W.Output output.old output.new (bare_text head.now) result }
+{
+    put_words(
+        output,
+        b"constraint",
+        &[
+            ShellWord::Text(b"-t"),
+            ShellWord::Text(head.name.as_bytes()),
+            ShellWord::Text(b"-d"),
+            ShellWord::Number(1),
+        ],
+    )
+}
+
+fn put_versions<W: Output>(output: &mut W, head: &TableHead) -> Result<(), WriteFault>
     ensures { Puts W.Output output.old output.new (flat_map (versions_text head.now) all_scopes) result }
 {
     let scopes = [Scope::Scan, Scope::Minor, Scope::Major];

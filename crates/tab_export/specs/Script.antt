@@ -1,15 +1,10 @@
 -- To be believed by whoever relies on it. The lines of a script that make what an image says.
-use Rattle.std.specs.Prelude.{ℕ, ℤ, List, [], ◌∷◌, ◌++◌, Option, Some, None, reverse, codes, cond, bytes_eq, int_lt}
-use Rattle.std.specs.List.{flat_map, list_any}
+use Rattle.std.specs.Prelude.{ℕ, ℤ, List, [], ◌∷◌, ◌++◌, Option, Some, None, reverse, codes, cond}
+use Rattle.std.specs.List.{flat_map}
 use Rattle.std.specs.Fmt.{signed_decimal}
 use Rattle.tab_key.specs.Records.{Record}
 use Rattle.tab_mutation.specs.Mutations.{Update}
-use Rattle.tab_policy.specs.Permissions.{all_system, all_table}
-use Rattle.tab_policy.specs.Roots.{root}
-use Rattle.tab_policy.specs.Sets.{system_contains, table_contains}
 use Rattle.tab_policy.specs.declared.permission.Permission.TheVariants.{OfSystem, OfTable}
-use Rattle.tab_policy.specs.declared.permission.SystemPermission.{SystemPermission}
-use Rattle.tab_policy.specs.declared.permission.TablePermission.{TablePermission}
 use Rattle.tab_history.specs.Settings.{least}
 use Rattle.tab_history.specs.declared.event.Act.{Act}
 use Rattle.tab_history.specs.declared.event.Act.TheVariants.{Write, CreateTable, SetConstraints, SetHorizon, CreateUser, SetAuths, Grant, Revoke, AddSplit, Rotate}
@@ -17,11 +12,14 @@ use Rattle.tab_history.specs.declared.event.TimeMode.{TimeMode}
 use Rattle.tab_history.specs.declared.event.TimeMode.TheVariants.{Any, Server}
 use Rattle.tab_text.specs.Lines.{line_text}
 use Rattle.tab_audit.specs.Words.{act_words}
-use Rattle.tab_image.specs.declared.user.ImageUser.{ImageUser}
-use Rattle.tab_image.specs.declared.table.ImageRight.{ImageRight}
-use Rattle.tab_image.specs.declared.table.TableHead.{TableHead}
-use Rattle.tab_image.specs.declared.table.ImageTable.{ImageTable}
 use Rattle.tab_image.specs.declared.image.Image.{Image}
+use Rattle.tab_walk.specs.Texts.{Texts}
+use Rattle.tab_walk.specs.Walks.{user_text, table_text}
+use Rattle.tab_walk.specs.declared.rights.ToldRights.TheVariants.{Changed}
+use Rattle.tab_walk.specs.declared.users.UserPart.{UserPart}
+use Rattle.tab_walk.specs.declared.users.UserPart.TheVariants as user
+use Rattle.tab_walk.specs.declared.tables.TablePart.{TablePart}
+use Rattle.tab_walk.specs.declared.tables.TablePart.TheVariants as table
 use Rattle.tab_export.specs.Places.{Place}
 
 -- ---- lines
@@ -36,23 +34,6 @@ at_text moment = line_text (codes "at" ∷ signed_decimal moment ∷ [])
 -- texts, one after another
 abbrev pub joined : List (List ℕ) → List ℕ
 joined = flat_map (λ text. text)
-
--- ---- a user
--- root is there from the first
-abbrev pub created_text : ImageUser → List ℕ
-created_text u = cond (bytes_eq u.name root) [] (act_text (CreateUser u.name))
-
--- a permission that he holds is granted
-abbrev pub system_text : ImageUser → SystemPermission → List ℕ
-system_text u p = cond (system_contains u.system p) (act_text (Grant u.name (OfSystem p))) []
-
--- root holds all of them from the first
-abbrev pub granted_text : ImageUser → List ℕ
-granted_text u = cond (bytes_eq u.name root) [] (flat_map (system_text u) all_system)
-
--- he is made, gets his authorizations, and his system permissions
-unfoldable pub user_text : ImageUser → List ℕ
-user_text u = joined (created_text u ∷ act_text (SetAuths u.name u.authorizations) ∷ granted_text u ∷ [])
 
 -- ---- records
 -- the update that a record is of, with this timestamp
@@ -76,42 +57,35 @@ abbrev pub records_text : TimeMode → List ℕ → List Record → List ℕ
 records_text Any table rs = flat_map (given_text table) (reverse rs)
 records_text Server table rs = []
 
--- ---- a table
--- it is split behind this row
-abbrev pub split_text : List ℕ → List ℕ → List ℕ
-split_text table row = act_text (AddSplit table row)
-
--- it is made, split, and filled where it takes timestamps
-unfoldable pub table_text : ImageTable → List ℕ
-table_text t = joined (act_text (CreateTable t.head.name t.head.time t.head.versions) ∷ flat_map (split_text t.head.name) t.head.ends ∷ records_text t.head.time t.head.name t.records ∷ [])
-
--- ---- what is set behind all records
--- a horizon above the least one
-abbrev pub horizon_text : TableHead → List ℕ
-horizon_text h = cond (int_lt least h.horizon) (act_text (SetHorizon h.name h.horizon)) []
-
--- root, who made the table, loses a permission on it
-abbrev pub revoked_text : List ℕ → TablePermission → List ℕ
-revoked_text table p = act_text (Revoke root (OfTable p table))
-
--- .. each of them where he holds none
-abbrev pub unheld_text : TableHead → List ℕ
-unheld_text h = cond (list_any (λ r. bytes_eq r.user root) h.rights) [] (flat_map (revoked_text h.name) all_table)
-
--- a permission on the table: root keeps it or loses it, another gets it or doesn't
-abbrev pub right_text : List ℕ → ImageRight → TablePermission → List ℕ
-right_text table r p = cond (bytes_eq r.user root) (cond (table_contains r.held p) [] (revoked_text table p)) (cond (table_contains r.held p) (act_text (Grant r.user (OfTable p table))) [])
-
--- all permissions of one user
-abbrev pub rights_text : List ℕ → ImageRight → List ℕ
-rights_text table r = flat_map (right_text table r) all_table
-
--- its constraints, its horizon, and who may what on it
-unfoldable pub settings_text : TableHead → List ℕ
-settings_text h = joined (act_text (SetConstraints h.name h.constraints) ∷ horizon_text h ∷ unheld_text h ∷ flat_map (rights_text h.name) h.rights ∷ [])
+-- ---- each thing
+-- a permission on a table is granted or revoked
+abbrev pub script : Texts
+script = record {
+  user = λ name. act_text (CreateUser name);
+  authorizations = λ name auths. act_text (SetAuths name auths);
+  system = λ name p. act_text (Grant name (OfSystem p));
+  table = λ h. act_text (CreateTable h.name h.time h.versions);
+  constraints = λ h. act_text (SetConstraints h.name h.constraints);
+  horizon = λ name low. act_text (SetHorizon name low);
+  split = λ name row. act_text (AddSplit name row);
+  right = λ name holder p held. cond held (act_text (Grant holder (OfTable p name))) (act_text (Revoke holder (OfTable p name)));
+  records = λ t. records_text t.head.time t.head.name t.records;
+}
 
 -- ---- the whole
+-- a user is made, gets his authorizations, and his system permissions
+abbrev pub user_parts : List UserPart
+user_parts = user.Created ∷ user.Authorized ∷ user.Granted ∷ []
+
+-- a table is made, split, and filled where it takes timestamps
+abbrev pub table_parts : List TablePart
+table_parts = table.Created ∷ table.Split ∷ table.Filled ∷ []
+
+-- behind all records: its constraints, its horizon, and who may what on it
+abbrev pub setting_parts : List TablePart
+setting_parts = table.Constrained ∷ table.Bounded ∷ table.Unheld ∷ table.Held Changed ∷ []
+
 -- Users and tables are made at the least moment, and what writers gave a timestamp is written. Then come the records of tables that give the
 -- timestamps, in this order, each at its own moment. Behind them all is set that would refuse some of them, and at last the clock.
 unfoldable pub script_text : List Place → Image → List ℕ
-script_text order i = joined (at_text least ∷ flat_map user_text i.users ∷ flat_map table_text i.tables ∷ flat_map placed_text order ∷ flat_map (λ t. settings_text t.head) i.tables ∷ at_text i.clock ∷ act_text Rotate ∷ [])
+script_text order i = joined (at_text least ∷ flat_map (user_text script user_parts) i.users ∷ flat_map (table_text script table_parts) i.tables ∷ flat_map placed_text order ∷ flat_map (table_text script setting_parts) i.tables ∷ at_text i.clock ∷ act_text Rotate ∷ [])

@@ -7,19 +7,17 @@
 //! | File | What |
 //! |---|---|
 //! | `script` | the whole |
-//! | `users`, `tables`, `records`, `settings` | its parts |
+//! | `lines`, `records` | a line for each thing, and the lines of records |
 //! | `placed`, `order` | the records of tables that give the timestamps, and the order in which they are written |
 //!
 //! In `specs`, `Script` says which lines there are, `Parts` which part of them a value of the code stands for.
 #![tactic(auto)]
 
+mod lines;
 mod order;
 mod placed;
 mod records;
 mod script;
-mod settings;
-mod tables;
-mod users;
 
 pub use order::server_records;
 pub use placed::Placed;

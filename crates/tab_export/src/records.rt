@@ -1,8 +1,7 @@
 //! The lines of records.
 #![tactic(auto, using(tab_io::proofs::Putting::putting))]
 
-ghost use Rattle.std.specs.Prelude.{◌++◌, ◌∷◌, codes, Some, None, reverse};
-ghost use Rattle.std.specs.List.{flat_map};
+ghost use Rattle.std.specs.Prelude.{◌++◌, ◌∷◌, codes, Some, None};
 ghost use Rattle.tab_io.specs.Writing.{Puts};
 ghost use Rattle.tab_key.specs.declared.key.Kind.TheVariants.{Put, Delete};
 ghost use Rattle.tab_text.specs.Words.{word};
@@ -13,36 +12,46 @@ ghost use Rattle.tab_export.specs.Script.{at_text, given_text, records_text, rec
 use crate::placed::Placed;
 use tab_audit::{Piece, put_line};
 use tab_history::TimeMode;
-use tab_image::{ImageTable, Records};
+use tab_image::ImageTable;
 use tab_io::{Output, WriteFault};
 use tab_key::{Kind, Name, RecordRef};
 use tab_text::PutItem;
+use tab_walk::{PutRecord, put_last_first};
 
 /// Puts the records of a table that takes timestamps, the last one first; of another one none.
 pub(crate) fn put_own<W: Output>(output: &mut W, table: &ImageTable) -> Result<(), WriteFault>
     ensures { Puts W.Output output.old output.new (records_text table.now.head.time table.now.head.name table.now.records) result }
 {
     match table.head.time {
-        TimeMode::Any => put_records(output, &table.head.name, &table.records),
+        TimeMode::Any => put_last_first(
+            output,
+            &table.records,
+            &Given {
+                table: &table.head.name,
+            },
+        ),
         TimeMode::Server => output.put(b""),
     }
 }
 
-fn put_records<'a, W: Output>(
-    output: &mut W,
+// A record of the table of this name, with its timestamp.
+#[derive(Clone, Copy)]
+struct Given<'a> {
     table: &'a Name,
-    records: &'a Records,
-) -> Result<(), WriteFault>
-    ensures { Puts W.Output output.old output.new (flat_map (given_text table.now) (reverse records.now)) result }
-{
-    let count = records.len();
-    for index in 0..count {
-        match put_given(output, table, &records.get(count - 1 - index)) {
-            Ok(()) => {}
-            Err(fault) => return Err(fault),
-        }
+}
+
+impl<'a> PutRecord for Given<'a> {
+    ghost use Rattle.tab_export.specs.Script.{given_text};
+
+    ghost text = { λ given r. given_text given.table.now r };
+
+    fn put_record<W: Output>(
+        &self,
+        output: &mut W,
+        record: &RecordRef<'_>,
+    ) -> Result<(), WriteFault> {
+        put_given(output, self.table, record)
     }
-    Ok(())
 }
 
 fn put_given<'a, W: Output>(

@@ -2,20 +2,21 @@
 #![tactic(auto, using(tab_io::proofs::Putting::putting))]
 
 ghost use Rattle.std.specs.Prelude.{[], ◌∷◌};
+ghost use Rattle.std.specs.List.{flat_map};
 ghost use Rattle.tab_io.specs.Writing.{Puts};
 ghost use Rattle.tab_history.specs.declared.event.Act.TheVariants.{Rotate};
-ghost use Rattle.tab_export.specs.Script.{act_text, script_text};
+ghost use Rattle.tab_walk.specs.Walks.{user_text, table_text};
+ghost use Rattle.tab_export.specs.Script.{act_text, script, user_parts, table_parts, setting_parts, script_text};
 ghost use Rattle.tab_export.specs.Parts.{script_part};
 
+use crate::lines::Script;
 use crate::placed::Placed;
 use crate::records::{InPlace, put_at};
-use crate::settings::Settings;
-use crate::tables::Tables;
-use crate::users::Users;
 use tab_audit::put_line;
 use tab_image::Image;
 use tab_io::{Output, WriteFault};
 use tab_text::{PutItem, put_each};
+use tab_walk::{TablePart, ToldRights, UserPart, put_tables, put_users};
 
 /// What the lines of a script do, one part behind the other.
 #[derive(Clone, Copy)]
@@ -75,12 +76,38 @@ fn put_part<W: Output>(output: &mut W, part: &ScriptPart<'_>) -> Result<(), Writ
 {
     match *part {
         ScriptPart::At(moment) => put_at(output, moment),
-        ScriptPart::Users(image) => put_each(output, image.users.as_slice(), &Users),
-        ScriptPart::Tables(image) => put_each(output, image.tables.as_slice(), &Tables),
+        ScriptPart::Users(image) => put_made_users(output, image),
+        ScriptPart::Tables(image) => put_made_tables(output, image),
         ScriptPart::Placed(order) => put_each(output, order, &InPlace),
-        ScriptPart::Settings(image) => put_each(output, image.tables.as_slice(), &Settings),
+        ScriptPart::Settings(image) => put_settings(output, image),
         ScriptPart::Last => put_last(output),
     }
+}
+
+fn put_made_users<W: Output>(output: &mut W, image: &Image) -> Result<(), WriteFault>
+    ensures { Puts W.Output output.old output.new (flat_map (user_text script user_parts) image.now.users) result }
+{
+    let parts = [UserPart::Created, UserPart::Authorized, UserPart::Granted];
+    put_users(output, image.users.as_slice(), &parts, &Script)
+}
+
+fn put_made_tables<W: Output>(output: &mut W, image: &Image) -> Result<(), WriteFault>
+    ensures { Puts W.Output output.old output.new (flat_map (table_text script table_parts) image.now.tables) result }
+{
+    let parts = [TablePart::Created, TablePart::Split, TablePart::Filled];
+    put_tables(output, image.tables.as_slice(), &parts, &Script)
+}
+
+fn put_settings<W: Output>(output: &mut W, image: &Image) -> Result<(), WriteFault>
+    ensures { Puts W.Output output.old output.new (flat_map (table_text script setting_parts) image.now.tables) result }
+{
+    let parts = [
+        TablePart::Constrained,
+        TablePart::Bounded,
+        TablePart::Unheld,
+        TablePart::Held(ToldRights::Changed),
+    ];
+    put_tables(output, image.tables.as_slice(), &parts, &Script)
 }
 
 fn put_last<W: Output>(output: &mut W) -> Result<(), WriteFault>

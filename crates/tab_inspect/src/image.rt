@@ -2,18 +2,20 @@
 #![tactic(auto, using(tab_io::proofs::Putting::putting))]
 
 ghost use Rattle.std.specs.Prelude.{[], ◌∷◌, codes};
+ghost use Rattle.std.specs.List.{flat_map};
 ghost use Rattle.std.specs.Fmt.{decimal, signed_decimal};
 ghost use Rattle.tab_io.specs.Writing.{Puts};
 ghost use Rattle.tab_text.specs.Lines.{line_text};
-ghost use Rattle.tab_inspect.specs.Facts.{image_facts};
+ghost use Rattle.tab_walk.specs.Walks.{user_text, table_text};
+ghost use Rattle.tab_inspect.specs.Facts.{facts, user_parts, table_parts, image_facts};
 ghost use Rattle.tab_inspect.specs.Parts.{image_part};
 
-use crate::tables::Tables;
-use crate::users::Users;
+use crate::facts::Facts;
 use tab_audit::{Piece, put_line};
 use tab_image::Image;
 use tab_io::{Output, WriteFault};
 use tab_text::{PutItem, put_each};
+use tab_walk::{TablePart, ToldRights, UserPart, put_tables, put_users};
 
 /// What is shown of an image.
 #[derive(Clone, Copy)]
@@ -70,9 +72,9 @@ fn put_part<W: Output>(output: &mut W, part: &ImagePart<'_>) -> Result<(), Write
         ImagePart::Clock(image) => put_clock(output, image.clock),
         ImagePart::Next(image) => put_count(output, b"next", image.next),
         ImagePart::UserCount(image) => put_count(output, b"users", image.users.len() as u64),
-        ImagePart::Users(image) => put_each(output, image.users.as_slice(), &Users),
+        ImagePart::Users(image) => put_each_user(output, image),
         ImagePart::TableCount(image) => put_count(output, b"tables", image.tables.len() as u64),
-        ImagePart::Tables(image) => put_each(output, image.tables.as_slice(), &Tables),
+        ImagePart::Tables(image) => put_each_table(output, image),
     }
 }
 
@@ -86,4 +88,25 @@ fn put_count<W: Output>(output: &mut W, what: &[u8], count: u64) -> Result<(), W
     ensures { Puts W.Output output.old output.new (line_text (what.now ∷ decimal count ∷ [])) result }
 {
     put_line(output, what, &[Piece::Number(count)])
+}
+
+fn put_each_user<W: Output>(output: &mut W, image: &Image) -> Result<(), WriteFault>
+    ensures { Puts W.Output output.old output.new (flat_map (user_text facts user_parts) image.now.users) result }
+{
+    let parts = [UserPart::Named, UserPart::System, UserPart::Authorized];
+    put_users(output, image.users.as_slice(), &parts, &Facts)
+}
+
+fn put_each_table<W: Output>(output: &mut W, image: &Image) -> Result<(), WriteFault>
+    ensures { Puts W.Output output.old output.new (flat_map (table_text facts table_parts) image.now.tables) result }
+{
+    let parts = [
+        TablePart::Created,
+        TablePart::Constrained,
+        TablePart::Bounded,
+        TablePart::Held(ToldRights::All),
+        TablePart::Split,
+        TablePart::Filled,
+    ];
+    put_tables(output, image.tables.as_slice(), &parts, &Facts)
 }

@@ -3,16 +3,15 @@
 //! | File | What |
 //! |---|---|
 //! | `image` | the whole |
-//! | `users`, `tables` | what is shown of a user and of a table |
+//! | `facts` | the fact for each thing |
 //! | `tally` | how many records a table has, and how many bytes |
 //!
 //! In `specs`, `Facts` says which lines there are, `Parts` which part of them a value of the code stands for.
 #![tactic(auto)]
 
+mod facts;
 mod image;
-mod tables;
 mod tally;
-mod users;
 
 pub use image::put_facts;
 pub use tally::RecordCounts;

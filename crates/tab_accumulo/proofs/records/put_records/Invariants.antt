@@ -1,9 +1,0 @@
-use Rattle.std.proofs.Common.{take}
-use Rattle.std.specs.Prelude.{reverse}
-use Rattle.std.specs.List.{flat_map}
-use Rattle.tab_io.specs.Writing.{HasPut}
-use Rattle.tab_accumulo.specs.Lines.{record_text}
-use Rattle.tab_accumulo.proofs.records.put_records.Given as goal
-
-abbrev pub invariant-loop-index : goal.invariant-loop-index
-invariant-loop-index g l = HasPut g.W.Output l.initial.output l.output (flat_map record_text (take l.index (reverse l.records)))

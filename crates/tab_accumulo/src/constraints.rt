@@ -1,0 +1,88 @@
+//! The constraints of a table.
+#![tactic(auto, using(tab_io::proofs::Putting::putting))]
+
+ghost use Rattle.std.specs.Prelude.{◌≡◌, [], ◌∷◌, codes};
+ghost use Rattle.std.specs.List.{flat_map};
+ghost use Rattle.tab_io.specs.Writing.{Puts};
+ghost use Rattle.tab_text.specs.Lines.{line_text};
+ghost use Rattle.tab_accumulo.specs.Lines.{class_name, constraint_text, all_constraints};
+
+use crate::word::{ShellWord, put_words};
+use tab_image::TableHead;
+use tab_io::{Output, WriteFault};
+use tab_key::Name;
+use tab_rules::Constraint;
+use tab_text::{PutItem, put_each};
+
+/// Puts the constraints of the table.
+pub(crate) fn put_each_constraint<W: Output>(
+    output: &mut W,
+    head: &TableHead,
+) -> Result<(), WriteFault>
+    ensures { Puts W.Output output.old output.new (flat_map (constraint_text head.now) all_constraints) result }
+{
+    let all = [
+        Constraint::KeySize,
+        Constraint::Alphanumeric,
+        Constraint::Numeric,
+        Constraint::Visibility,
+    ];
+    put_each(output, &all, &Constrained { head })
+}
+
+// A constraint that the table may have.
+#[derive(Clone, Copy)]
+struct Constrained<'a> {
+    head: &'a TableHead,
+}
+
+impl<'a> PutItem<Constraint> for Constrained<'a> {
+    ghost use Rattle.tab_accumulo.specs.Lines.{constraint_text};
+
+    ghost text = { λ constrained constraint. constraint_text constrained.head.now constraint };
+
+    fn put_item<W: Output>(
+        &self,
+        output: &mut W,
+        constraint: &Constraint,
+    ) -> Result<(), WriteFault> {
+        if self.head.constraints.contains(*constraint) {
+            put_constraint(output, &self.head.name, *constraint)
+        } else {
+            output.put(b"")
+        }
+    }
+}
+
+fn put_constraint<W: Output>(
+    output: &mut W,
+    name: &Name,
+    constraint: Constraint,
+) -> Result<(), WriteFault>
+    ensures { Puts W.Output output.old output.new (line_text (codes "constraint" ∷ codes "-t" ∷ name.now ∷ codes "-a" ∷ class_name constraint ∷ [])) result }
+{
+    put_words(
+        output,
+        b"constraint",
+        &[
+            ShellWord::Text(b"-t"),
+            ShellWord::Text(name.as_bytes()),
+            ShellWord::Text(b"-a"),
+            ShellWord::Text(class_name(constraint)),
+        ],
+    )
+}
+
+// The class that does what the constraint does.
+fn class_name(constraint: Constraint) -> &'static [u8]
+    ensures { result.now ≡ class_name constraint }
+{
+    match constraint {
+        Constraint::KeySize =>
+            b"org.apache.accumulo.core.data.constraints.DefaultKeySizeConstraint",
+        Constraint::Alphanumeric =>
+            b"org.apache.accumulo.examples.constraints.AlphaNumKeyConstraint",
+        Constraint::Numeric => b"org.apache.accumulo.examples.constraints.NumericValueConstraint",
+        Constraint::Visibility => b"org.apache.accumulo.core.data.constraints.VisibilityConstraint",
+    }
+}
