@@ -1,4 +1,4 @@
--- For proofs. What is left where a journal is taken up that a crash left, and what another crash leaves of that.
+-- To be believed by whoever relies on it. What is left where a journal is taken up that a crash left, and what another crash leaves of that.
 use Rattle.std.specs.Prelude.{⊤, ℕ, ◌≡◌, ◌⊎◌, ◌<◌, ◌≤◌, List, [], length, take, Option, Some, None, option_map, unwrap_or}
 use Rattle.std.specs.declared.io.Error.{Error}
 use Rattle.tab_parts.specs.Parts.{IsBytes}

@@ -1,4 +1,4 @@
--- For proofs. A text for each thing that an image says.
+-- To be believed by whoever relies on it. A text for each thing that an image says.
 use Rattle.std.specs.Prelude.{ℕ, ℤ, List, Bool}
 use Rattle.tab_policy.specs.declared.permission.SystemPermission.{SystemPermission}
 use Rattle.tab_policy.specs.declared.permission.TablePermission.{TablePermission}

@@ -1,4 +1,4 @@
--- For proofs. The parts of what an image says of a user and of a table, with these texts.
+-- To be believed by whoever relies on it. The parts of what an image says of a user and of a table, with these texts.
 use Rattle.std.specs.Prelude.{ℕ, List, [], true, false, cond, bytes_eq, int_lt}
 use Rattle.std.specs.List.{flat_map, list_any}
 use Rattle.tab_policy.specs.Permissions.{all_system, all_table}
