@@ -437,6 +437,50 @@ def reads_wait_for_nothing():
         count("without the disk", not was_met() and server.process.poll() is None)
 
 
+WORDS = {2: "createtable", 4: "createuser", 6: "setauths", 7: "grant", 10: "mutate"}
+
+
+def kept_in(name):
+    """Of each entry of a server's journal who asked, and the first word of its line."""
+    with open(name, "rb") as file:
+        left, text, at = file.read()[48:], b"", 0
+    while left:
+        (length,) = struct.unpack_from(">I", left, 8)
+        text, left = text + left[12 : 12 + length], left[20 + length :]
+    while at < len(text):
+        (user,) = struct.unpack_from(">I", text, at + 8)
+        (body,) = struct.unpack_from(">I", text, at + 12 + user)
+        yield text[at + 12 : at + 12 + user].decode(), WORDS[text[at + 16 + user]]
+        at += 16 + user + body
+
+
+def ask(server, user, lines):
+    subprocess.run([PROGRAM, "shell", "--port", str(server.port), "--user", user], input="\n".join(lines) + "\n", stdout=subprocess.DEVNULL, text=True, timeout=60)
+
+
+def history_says_yes():
+    """The journal has just those requests of the history that were done and changed something, whoever asked them, in its order."""
+    shutil.rmtree(STORE, ignore_errors=True)
+    with Server("--history", "history") as server:
+        ask(server, "root", ["createtable t", "createuser ann", "grant ann READ t", "grant ann WRITE t", "setauths ann a"])
+        mixed = [line for each in range(100) for line in (f"insert t r{each} f q \\e v", f"insert u r{each} f q \\e v", "scan t \\0", f"delete t r{each} f q \\e", "createuser ann")]
+        asked = [threading.Thread(target=ask, args=(server, user, mixed)) for user in ("root", "ann", "ann")]
+        for thread in asked:
+            thread.start()
+        for thread in asked:
+            thread.join()
+        ask(server, "root", ["createuser the-end", "rotate"])
+        ends, told = time.monotonic() + PATIENCE, []
+        while "createuser the-end" not in told and time.monotonic() < ends:
+            time.sleep(0.05)
+            with open("history", encoding="ascii") as file:
+                told = file.read().split("\n")
+        server.kill()
+    done = [(user[3:], line.split()[0]) for user, line, reply in zip(told[1::4], told[2::4], told[3::4]) if reply == "# ok"]
+    kept = list(kept_in("%s/journal.0" % STORE))
+    count("what is kept is what the history says was done", kept == [it for it in done if it[1] in WORDS.values()] and len(kept) > 300, (len(kept), len(done)))
+
+
 class Writer(threading.Thread):
     """Writes rows of its own one after another, some at a time, until the server is gone."""
 
@@ -530,4 +574,4 @@ def build():
     subprocess.run([os.environ.get("CC", "cc"), "-shared", "-fPIC", "-O1", "-o", "killing.so", "%s/killing.c" % HERE, "-ldl"], check=True)
 
 
-run_parts(build, readme, folders, both_formats, intervals, full_disk, reads_wait_for_nothing, turned, followed, kills, short_writes, checkpoints, beneath_writers)
+run_parts(build, readme, folders, both_formats, intervals, full_disk, reads_wait_for_nothing, history_says_yes, turned, followed, kills, short_writes, checkpoints, beneath_writers)
