@@ -1,4 +1,4 @@
--- For proofs. When what stands behind the batches that were read of a journal is damaged, and when it is torn.
+-- To be believed by whoever relies on it. When what stands behind the batches that were read of a journal is damaged, and when it is torn.
 use Rattle.std.specs.Prelude.{ℕ, ◌≡◌, ◌≢◌, ◌≤◌, ◌<◌, ◌+◌, ◌-◌, List, [], ◌∷◌, ◌++◌, length, take, drop, Some}
 use Rattle.std.specs.List.{Contains}
 use Rattle.tab_parts.specs.Parts.{IsBytes, IsU64}
