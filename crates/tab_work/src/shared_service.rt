@@ -20,7 +20,7 @@ use std::thread::Threads;
 use tab_book::{Held, Receipt, Seat};
 use tab_core::{Session, Slots};
 use tab_history::{Act, Refusal, Reply};
-use tab_key::{Bounds, Items, LimitedPart, Name};
+use tab_key::{LimitedPart, Name};
 use tab_serve::{Moments, Service};
 use tab_wire::{Asked, Request};
 
@@ -82,9 +82,27 @@ impl<'a, L: Ledger, R: Threads + Wait + Sync, M: Moments, G: Gate> SharedService
         match request {
             Request::Hello(_) => self.tell(Reply::Done),
             Request::Act(act) => self.act(user, act),
-            Request::Next { slot, count } => self.next(user, *slot, *count),
-            Request::Many { slot, ranges } => self.many(user, *slot, ranges),
-            Request::Close { slot } => self.close(user, *slot),
+            Request::Next { slot, count } => {
+                self.gate.before_batch();
+                let reply = self.slots.next(self.alloc, *slot, *count);
+                self.tell(reply);
+            }
+            Request::Many { slot, ranges } => {
+                let ranges = ranges.as_slice();
+                let reply = read_ranges(
+                    self.rt,
+                    self.alloc,
+                    self.shared,
+                    self.slots,
+                    *slot,
+                    ranges,
+                );
+                self.tell(reply);
+            }
+            Request::Close { slot } => {
+                let reply = self.slots.close(*slot);
+                self.tell(reply);
+            }
         }
     }
 
@@ -96,52 +114,13 @@ impl<'a, L: Ledger, R: Threads + Wait + Sync, M: Moments, G: Gate> SharedService
         let _ = mem::replace(self.reply, reply);
     }
 
-    // The next cells of the session in the slot.
-    fn next(&mut self, user: &Name, slot: u32, count: u32)
-        ensures { SharedAnswers M.gives self.old user.now (Request.Next slot count) (told_by self.new) self.new }
-    {
-        let _ = user;
-        self.gate.before_batch();
-        let reply = self.slots.next(self.alloc, slot, count);
-        self.tell(reply);
-    }
-
-    // What the session in the slot shows in these ranges of rows.
-    fn many(&mut self, user: &Name, slot: u32, ranges: &Items<Bounds>)
-        ensures { SharedAnswers M.gives self.old user.now (Request.Many slot ranges.now) (told_by self.new) self.new }
-    {
-        let _ = user;
-        let ranges = ranges.as_slice();
-        let reply = read_ranges(self.rt, self.alloc, self.shared, self.slots, slot, ranges);
-        self.tell(reply);
-    }
-
-    // Closes the session in the slot.
-    fn close(&mut self, user: &Name, slot: u32)
-        ensures { SharedAnswers M.gives self.old user.now (Request.Close slot) (told_by self.new) self.new }
-    {
-        let _ = user;
-        let reply = self.slots.close(slot);
-        self.tell(reply);
-    }
-
-    // An event at the next moment.
+    // An event at the next moment. An Open past the limit of sessions takes no moment, and doesn't happen.
     fn act(&mut self, user: &Name, act: &mut Act)
         ensures { SharedAnswers M.gives self.old user.now (Request.Act act.old) (told_by self.new) self.new }
     {
-        if opens(act) {
-            self.open(user, act)
-        } else {
+        if !opens(act) {
             self.apply(user, act)
-        }
-    }
-
-    // An Open. Past the limit of sessions it takes no moment, and doesn't happen.
-    fn open(&mut self, user: &Name, act: &mut Act)
-        requires { is_open act.old ≡ true }
-        ensures { SharedAnswers M.gives self.old user.now (Request.Act act.old) (told_by self.new) self.new }
-    {
-        if self.slots.are_full() {
+        } else if self.slots.are_full() {
             self.tell(Reply::Refused(Refusal::TooLarge(LimitedPart::Sessions)))
         } else {
             self.open_next(user, act)
@@ -188,7 +167,8 @@ impl<'a, L: Ledger, R: Threads + Wait + Sync, M: Moments, G: Gate> SharedService
         ensures lent { LentSame self.old self.new }
     {
         if self.receipts.reserve(1).is_err() {
-            return self.give_up();
+            self.lack();
+            return None;
         }
         match ask(
             self.rt,
@@ -200,7 +180,10 @@ impl<'a, L: Ledger, R: Threads + Wait + Sync, M: Moments, G: Gate> SharedService
             act,
         ) {
             Ok(receipt) => self.add(receipt),
-            Err(AllocError) => self.give_up(),
+            Err(AllocError) => {
+                self.lack();
+                None
+            }
         }
     }
 
@@ -220,15 +203,6 @@ impl<'a, L: Ledger, R: Threads + Wait + Sync, M: Moments, G: Gate> SharedService
         self.receipts.push_reserved(receipt);
         self.booked = true;
         session
-    }
-
-    // Tells that memory lacks for the event, which doesn't happen: it hands out no session.
-    fn give_up(&mut self) -> Option<Session>
-        ensures tells { Tells self.old (Reply.Refused Refusal.NoMemory) self.new }
-        ensures session { result ≡ None }
-    {
-        self.lack();
-        None
     }
 
     // Tells that memory lacks for the event, which doesn't happen.
