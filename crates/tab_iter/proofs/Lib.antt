@@ -16,3 +16,5 @@ pub mod Steps
 pub mod Orders
 pub mod KeptVerdicts
 pub mod ShortLabels
+pub mod RowPrefix
+pub mod FrontLaws

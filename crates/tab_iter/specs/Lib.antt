@@ -10,4 +10,5 @@ pub mod Bags
 pub mod Stack
 pub mod SourceLaws
 pub mod Propositions
+pub mod Fronts
 pub mod NamedColumns

@@ -7,17 +7,22 @@ ghost use Rattle.tab_iter.specs.Lists.{tail, from_key};
 ghost use Rattle.tab_iter.specs.Bags.{flat, IsEnding, IsDescending, Covers};
 ghost use Rattle.tab_iter.specs.Propositions.{IsDistinct-prop, IsDescending-prop, Covers-prop};
 
+use crate::fronted::{Fronted, with_fronts};
 use crate::source_order::{put, put_all, top_at};
 use crate::{NoMemory, Source};
 use std::alloc::AllocError;
 use tab_key::{Key, RecordRef};
 
+/// The records of several sources, no two of which stand at one place. It holds the row prefix of each source's first record, and
+/// compares mostly these.
+pub type Merging<S> = MergingOf<Fronted<S>>;
+
 /// The records of several sources, no two of which stand at one place.
 ///
-/// It keeps its sources in the order of their first records. An advance mostly compares two records; where another source
+/// It keeps its sources in the order of their first records. An advance mostly compares two of these; where another source
 /// comes first, it finds the new place by halves, and a source that has ended leaves the order.
 #[derive(Drop)]
-pub struct Merging<S: Source> {
+pub struct MergingOf<S: Source> {
     sources: Vec<S>,
     // the places of the sources that have records left; the one whose first record stands before the others is the last
     order: Vec<usize>,
@@ -29,7 +34,7 @@ pub struct Merging<S: Source> {
     ghost covers: { unpositioned ≡ false → Covers (map S.rest sources.items) order.items } by { λ p q. Covers-prop unpositioned (map S.rest sources.items) order.items p q },
 }
 
-impl<S: Source + Drop> Merging<S> {
+impl<S: Source + Drop> MergingOf<Fronted<S>> {
     /// The records of all of these. The error comes only from want of memory.
     pub fn new(sources: Vec<S>) -> Result<Merging<S>, NoMemory>
         requires distinct { IsDistinct (flat (map S.whole sources.items)) }
@@ -37,14 +42,9 @@ impl<S: Source + Drop> Merging<S> {
         ensures whole { IfOk result (λ m. ⟦<Merging<S> as Source>⟧.whole m ≡ sorted (flat (map S.whole sources.items))) }
         ensures rest { IfOk result (λ m. ⟦<Merging<S> as Source>⟧.rest m ≡ sorted (flat (map S.rest sources.items))) }
     {
-        let alloc = *sources.allocator();
-        let mut order = Vec::with_capacity(alloc, sources.len())?;
-        put_all(&sources, &mut order)?;
-        Ok(Merging {
-            sources,
-            order,
-            unpositioned: false,
-        })
+        let sources = with_fronts(sources)?;
+        let all = MergingOf::of(sources)?;
+        Ok(all)
     }
 
     /// The same, unpositioned: nothing is read before a seek. The error comes only from want of memory.
@@ -53,9 +53,39 @@ impl<S: Source + Drop> Merging<S> {
         ensures whole { IfOk result (λ m. ⟦<Merging<S> as Source>⟧.whole m ≡ sorted (flat (map S.whole sources.items))) }
         ensures unpositioned { IfOk result (λ m. ⟦<Merging<S> as Source>⟧.is_unpositioned m ≡ true) }
     {
+        let sources = with_fronts(sources)?;
+        let all = MergingOf::unread(sources)?;
+        Ok(all)
+    }
+}
+
+impl<S: Source + Drop> MergingOf<S> {
+    // The records of all of these.
+    fn of(sources: Vec<S>) -> Result<MergingOf<S>, NoMemory>
+        requires distinct { IsDistinct (flat (map S.whole sources.items)) }
+        requires at_start { map S.rest sources.items ≡ map S.whole sources.items }
+        ensures whole { IfOk result (λ m. ⟦<MergingOf<S> as Source>⟧.whole m ≡ sorted (flat (map S.whole sources.items))) }
+        ensures rest { IfOk result (λ m. ⟦<MergingOf<S> as Source>⟧.rest m ≡ sorted (flat (map S.rest sources.items))) }
+    {
+        let alloc = *sources.allocator();
+        let mut order = Vec::with_capacity(alloc, sources.len())?;
+        put_all(&sources, &mut order)?;
+        Ok(MergingOf {
+            sources,
+            order,
+            unpositioned: false,
+        })
+    }
+
+    // The same, unpositioned.
+    fn unread(sources: Vec<S>) -> Result<MergingOf<S>, NoMemory>
+        requires { IsDistinct (flat (map S.whole sources.items)) }
+        ensures whole { IfOk result (λ m. ⟦<MergingOf<S> as Source>⟧.whole m ≡ sorted (flat (map S.whole sources.items))) }
+        ensures unpositioned { IfOk result (λ m. ⟦<MergingOf<S> as Source>⟧.is_unpositioned m ≡ true) }
+    {
         let alloc = *sources.allocator();
         let order = Vec::with_capacity(alloc, sources.len())?;
-        Ok(Merging {
+        Ok(MergingOf {
             sources,
             order,
             unpositioned: true,
@@ -63,7 +93,7 @@ impl<S: Source + Drop> Merging<S> {
     }
 }
 
-impl<S: Source> Source for Merging<S> {
+impl<S: Source> Source for MergingOf<S> {
     ghost use Rattle.tab_iter.specs.Positions.{unless};
     ghost use Rattle.tab_iter.specs.SourceLaws.{end_of_ending, unless_ends, unless_empty, i64_timestamps_sorted};
     ghost use Rattle.tab_key.proofs.Rising.{rising_sorted};

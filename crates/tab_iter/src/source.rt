@@ -4,7 +4,7 @@ ghost use Rattle.std.specs.Result.{is_err};
 ghost use Rattle.tab_key.specs.KeyOf.{key_of};
 
 use std::alloc::AllocError;
-use tab_key::{Key, RecordRef};
+use tab_key::{Key, RecordRef, row_prefix};
 
 /// Memory was refused.
 pub type NoMemory = AllocError;
@@ -16,6 +16,7 @@ pub type NoMemory = AllocError;
 pub trait Source {
     ghost use Rattle.tab_key.specs.Records.{Record};
     ghost use Rattle.tab_iter.specs.Lists.{first_of, tail, from_key, IsRising, HasI64Timestamps, IsEnd};
+    ghost use Rattle.tab_iter.specs.Fronts.{IsFront};
 
     ghost whole: { Self → List Record };
 
@@ -26,6 +27,16 @@ pub trait Source {
     /// The first record that is left.
     fn top(&self) -> Option<RecordRef<'_>>
         ensures { result ≡ first_of (rest self.now) };
+
+    /// The row prefix of the first record that is left. Where none is left it has no meaning.
+    fn front(&self) -> u128
+        ensures { IsFront result (first_of (rest self.now)) }
+    {
+        match self.top() {
+            None => 0,
+            Some(record) => row_prefix(record.row()),
+        }
+    }
 
     /// Drops the first record. At the end it changes nothing.
     fn advance(&mut self) -> Result<(), NoMemory>

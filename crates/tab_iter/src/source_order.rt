@@ -2,13 +2,16 @@
 //!
 //! An order lists the places of the sources that have records left; the source whose first record stands before the others is the
 //! last.
-ghost use Rattle.std.specs.Prelude.{◌≡◌, ◌≢◌, ℕ, ◌≤◌, None, true, false, map, length, OnOk};
+ghost use Rattle.std.specs.Prelude.{◌≡◌, ◌≢◌, ℕ, ◌≤◌, None, Some, true, false, map, length, OnOk};
 ghost use Rattle.std.specs.Bool.{OnTrue};
 ghost use Rattle.std.specs.List.{AllByRecursion};
 ghost use Rattle.std.specs.List.Sorted.{IsPartitionPoint};
+ghost use Rattle.tab_key.specs.Order.{record_cmp};
 ghost use Rattle.tab_iter.specs.Bags.{first_in, is_ahead_at, IsDescending, Covers, IsOutside};
+ghost use Rattle.tab_iter.specs.Fronts.{IsFront};
 
 use crate::{NoMemory, Source};
+use std::cmp::Ordering;
 use tab_key::RecordRef;
 
 /// Makes the order of all sources anew.
@@ -76,8 +79,40 @@ fn is_ahead<S: Source>(sources: &[S], place: usize, other: usize) -> bool
         None => false,
         Some(record) => match top_at(sources, other) {
             None => true,
-            Some(rival) => record.cmp(&rival).is_lt(),
+            Some(rival) => {
+                let front = front_at(sources, place);
+                let rival_front = front_at(sources, other);
+                order_of(front, rival_front, &record, &rival).is_lt()
+            }
         },
+    }
+}
+
+// The order of two records, of which these are the row prefixes. Only where these are one number are the records read.
+#[inline]
+fn order_of(
+    front: u128,
+    rival_front: u128,
+    record: &RecordRef<'_>,
+    rival: &RecordRef<'_>,
+) -> Ordering
+    requires own { IsFront front (Some record.now) }
+    requires others { IsFront rival_front (Some rival.now) }
+    ensures { result ≡ record_cmp record.now rival.now }
+{
+    match front.cmp(&rival_front) {
+        Ordering::Equal => record.cmp(rival),
+        decided => decided,
+    }
+}
+
+// The row prefix of the first record that the source at this place has left.
+fn front_at<S: Source>(sources: &[S], place: usize) -> u128
+    ensures { IsFront result (first_in (map S.rest sources.now) place) }
+{
+    match sources.get(place) {
+        None => 0,
+        Some(source) => source.front(),
     }
 }
 

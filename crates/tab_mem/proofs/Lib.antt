@@ -2,7 +2,6 @@ pub mod KeptFront
 pub mod ShortParts
 pub mod Written
 pub mod Placing
-pub mod RowPrefix
 pub mod RowOrder
 pub mod Seeking
 pub mod Parts

@@ -1,7 +1,7 @@
 use Rattle.std.proofs.Common.{subst, sym}
 use Rattle.tab_key.specs.Records.{Record}
 use Rattle.tab_key.specs.RowPrefix.{IsRowPrefix}
-use Rattle.tab_mem.proofs.RowPrefix.{prefix_decides}
+use Rattle.tab_iter.proofs.RowPrefix.{prefix_decides}
 use Rattle.tab_mem.proofs.sorting.item.Item.cmp.Goals as goal
 
 pub returns-in_default : goal.returns-in_default

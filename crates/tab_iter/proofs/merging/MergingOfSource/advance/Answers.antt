@@ -6,7 +6,7 @@ use Rattle.tab_iter.proofs.MergingLaws.{distinct_same, kept, advance_step, synce
 use Rattle.tab_key.specs.Sorted.{sorted}
 use Rattle.tab_iter.specs.SourceLaws.{unless_positioned}
 use Rattle.tab_iter.proofs.Orders.{first_last, inside_last, descending_step, covers_step, outside_front, none_left, none_of_none}
-use Rattle.tab_iter.proofs.merging.MergingSource.advance.Goals as goal
+use Rattle.tab_iter.proofs.merging.MergingOfSource.advance.Goals as goal
 
 pub returns-in-None-clause-rest : goal.returns-in-None-clause-rest
 returns-in-None-clause-rest g c =

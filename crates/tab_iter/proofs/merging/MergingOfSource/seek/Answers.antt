@@ -6,7 +6,7 @@ use Rattle.tab_iter.specs.Lists.{from_key}
 use Rattle.tab_iter.specs.Bags.{flat, IsDescending, Covers}
 use Rattle.tab_iter.proofs.BagLaws.{sought_key, each_rises}
 use Rattle.tab_iter.proofs.MergingLaws.{synced_key, distinct_same, kept}
-use Rattle.tab_iter.proofs.merging.MergingSource.seek.Goals as goal
+use Rattle.tab_iter.proofs.merging.MergingOfSource.seek.Goals as goal
 
 pub invariant_of-self-2 : goal.invariant_of-self-2
 invariant_of-self-2 g c =

@@ -6,7 +6,7 @@ use Rattle.tab_iter.specs.Bags.{flat, Covers}
 use Rattle.tab_key.specs.Sorted.{sorted}
 use Rattle.tab_iter.specs.SourceLaws.{unless_positioned}
 use Rattle.tab_iter.proofs.Orders.{first_step, none_left, none_at_all}
-use Rattle.tab_iter.proofs.merging.MergingSource.top.Goals as goal
+use Rattle.tab_iter.proofs.merging.MergingOfSource.top.Goals as goal
 
 pub returns-in-None : goal.returns-in-None
 returns-in-None g c =
