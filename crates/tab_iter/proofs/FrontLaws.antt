@@ -1,28 +1,43 @@
 -- The row prefixes of first records: what they say of records, and how they are found.
-use Rattle.std.proofs.Common.{◌≡◌, ◌≢◌, ℕ, zero, suc, ◌≤◌, List, [], ◌∷◌, ◌++◌, Option, Some, None, sym, ◌∙◌, ap, subst, length, map, arith}
+use Rattle.std.proofs.Common.{◌≡◌, ℕ, zero, suc, ◌<◌, ◌≤◌, ◌-◌, ◌^◌, List, [], ◌∷◌, ◌++◌, Option, Some, None, true, false, refl, sym, ◌∙◌, ap, subst, length, map, arith}
 use Rattle.std.proofs.lemmas.List.{map-append}
-use Rattle.std.specs.Ordering.{nat_cmp}
-use Rattle.std.specs.declared.cmp.Ordering.{Ordering}
-use Rattle.std.specs.declared.cmp.Ordering.TheVariants.{Equal}
-use Rattle.tab_key.specs.Order.{record_cmp}
+use Rattle.std.specs.Ordering.{nat_cmp, is_lt}
+use Rattle.std.specs.declared.cmp.Ordering.TheVariants.{Less, Greater}
+use Rattle.std.proofs.lemmas.Bool.Decides.{nat_tests}
 use Rattle.tab_key.specs.Records.{Record}
 use Rattle.tab_key.specs.RowPrefix.{IsRowPrefix}
-use Rattle.tab_iter.specs.Bags.{first_in}
+use Rattle.tab_iter.specs.Bags.{first_in, is_ahead}
 use Rattle.tab_iter.specs.Fronts.{IsFront}
 use Rattle.tab_iter.proofs.RowPrefix.{prefix_decides}
 
-pub front_of_none : (n : ℕ) (first : Option Record) → None ≡ first → IsFront n first
+pub front_of_none : (n : ℕ) (first : Option Record) → n ≡ 2 ^ 128 - 1 → None ≡ first → IsFront n first
 unfolding IsFront
-front_of_none n None e = tt
-front_of_none n (Some r) e = let N : Option Record = None in let f : N ≡ Some r = e in absurd cc
+front_of_none n None m e = m
+front_of_none n (Some r) m e = let N : Option Record = None in let f : N ≡ Some r = e in absurd cc
 
 pub front_of_some : (n : ℕ) (row : List ℕ) (r : Record) (first : Option Record) → row ≡ r.key.row → Some r ≡ first → IsRowPrefix n row → IsFront n first
 unfolding IsFront
 front_of_some n row r first same e p = subst (IsFront n) e (subst (IsRowPrefix n) same p)
 
-pub fronts_decide : (a b : Record) (m n : ℕ) (o : Ordering) → IsFront m (Some a) → IsFront n (Some b) → nat_cmp m n ≡ o → o ≢ Equal → o ≡ record_cmp a b
+less_from : (m n : ℕ) → nat_cmp m n ≡ Less → m < n
+less_from m n e = grind (arith, nat_tests)
+
+greater_from : (m n : ℕ) → nat_cmp m n ≡ Greater → n < m
+greater_from m n e = grind (arith, nat_tests)
+
+-- the source with the less number has a record, and it stands before the other's
+pub front_ahead : (a b : Option Record) (m n : ℕ) → n < 2 ^ 128 → IsFront m a → IsFront n b → nat_cmp m n ≡ Less → true ≡ is_ahead a b
 unfolding IsFront
-fronts_decide a b m n o p q e other = prefix_decides a b m n o p q e other
+front_ahead None b m n fits p q e = let lt : m < n = less_from m n e in absurd (omega (arith, fits, p, lt))
+front_ahead (Some r) None m n fits p q e = refl
+front_ahead (Some r) (Some s) m n fits p q e = ap is_lt (prefix_decides r s m n Less p q e (λ x. cc))
+
+-- one with the greater number doesn't stand before the other
+pub front_behind : (a b : Option Record) (m n : ℕ) → m < 2 ^ 128 → IsFront m a → IsFront n b → nat_cmp m n ≡ Greater → false ≡ is_ahead a b
+unfolding IsFront
+front_behind None b m n fits p q e = refl
+front_behind (Some r) None m n fits p q e = let lt : n < m = greater_from m n e in absurd (omega (arith, fits, q, lt))
+front_behind (Some r) (Some s) m n fits p q e = ap is_lt (prefix_decides r s m n Greater p q e (λ x. cc))
 
 -- one source more
 pub one_more : {S F : Type 0} (f : F → List Record) (g : S → List Record) (kept more : List F) (given : List S) (x : F) (s : S) → more ≡ kept ++ x ∷ [] → f x ≡ g s → map f kept ≡ map g given → map f more ≡ map g (given ++ s ∷ [])
@@ -30,8 +45,8 @@ one_more f g kept more given x s grown same e =
     ap (map f) grown ∙ map-append f kept (x ∷ []) ∙ (λ i. e i ++ same i ∷ []) ∙ sym (map-append g given (s ∷ []))
 
 -- behind the last list there is no record
-pub front_beyond : {S : Type 0} (rest : S → List Record) (ss : List S) (k n : ℕ) → length ss ≤ k → IsFront n (first_in (map rest ss) k)
+pub front_beyond : {S : Type 0} (rest : S → List Record) (ss : List S) (k n : ℕ) → n ≡ 2 ^ 128 - 1 → length ss ≤ k → IsFront n (first_in (map rest ss) k)
 unfolding IsFront
-front_beyond rest [] k n beyond = tt
-front_beyond rest (s ∷ ss) zero n beyond = absurd (omega (arith, beyond))
-front_beyond rest (s ∷ ss) (suc k) n beyond = front_beyond rest ss k n (omega (arith, beyond))
+front_beyond rest [] k n m beyond = m
+front_beyond rest (s ∷ ss) zero n m beyond = absurd (omega (arith, beyond))
+front_beyond rest (s ∷ ss) (suc k) n m beyond = front_beyond rest ss k n m (omega (arith, beyond))

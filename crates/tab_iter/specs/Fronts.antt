@@ -1,13 +1,13 @@
 -- For proofs. The row prefix of a source's first record.
-use Rattle.std.specs.Prelude.{ℕ, ◌<◌, List, Option, Some, None, ⊤}
+use Rattle.std.specs.Prelude.{◌≡◌, ℕ, ◌-◌, ◌^◌, List, Option, Some, None}
 use Rattle.std.specs.List.{AllByRecursion-prop}
-use Rattle.std.specs.Coded.{Unit-prop, Coded-set, coded_ℕ, le_prop}
+use Rattle.std.specs.Coded.{Coded-set, coded_ℕ, le_prop}
 use Rattle.tab_key.specs.Records.{Record}
 use Rattle.tab_key.specs.RowPrefix.{padded, IsRowPrefix}
 
--- the number is the row prefix of the record, if there is one
+-- the number is the row prefix of the record; where there is none, the largest of all
 unfoldable pub IsFront : ℕ → Option Record → Type 0
-IsFront n None = ⊤
+IsFront n None = n ≡ 2 ^ 128 - 1
 IsFront n (Some r) = IsRowPrefix n r.key.row
 
 -- ---- these facts have one proof each
@@ -16,5 +16,5 @@ IsRowPrefix-prop prefix row a b = λ i. record { value = Coded-set coded_ℕ _ _
 
 pub IsFront-prop : (n : ℕ) (first : Option Record) → IsProp (IsFront n first)
 unfolding IsFront
-IsFront-prop n None = Unit-prop
+IsFront-prop n None = Coded-set coded_ℕ _ _
 IsFront-prop n (Some r) = IsRowPrefix-prop n r.key.row

@@ -28,12 +28,12 @@ pub trait Source {
     fn top(&self) -> Option<RecordRef<'_>>
         ensures { result ≡ first_of (rest self.now) };
 
-    /// The row prefix of the first record that is left. Where none is left it has no meaning.
+    /// The row prefix of the first record that is left, and `u128::MAX` where none is left.
     fn front(&self) -> u128
         ensures { IsFront result (first_of (rest self.now)) }
     {
         match self.top() {
-            None => 0,
+            None => u128::MAX,
             Some(record) => row_prefix(record.row()),
         }
     }

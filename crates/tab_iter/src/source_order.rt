@@ -2,11 +2,10 @@
 //!
 //! An order lists the places of the sources that have records left; the source whose first record stands before the others is the
 //! last.
-ghost use Rattle.std.specs.Prelude.{◌≡◌, ◌≢◌, ℕ, ◌≤◌, None, Some, true, false, map, length, OnOk};
+ghost use Rattle.std.specs.Prelude.{◌≡◌, ◌≢◌, ℕ, ◌≤◌, None, true, false, map, length, OnOk};
 ghost use Rattle.std.specs.Bool.{OnTrue};
 ghost use Rattle.std.specs.List.{AllByRecursion};
 ghost use Rattle.std.specs.List.Sorted.{IsPartitionPoint};
-ghost use Rattle.tab_key.specs.Order.{record_cmp};
 ghost use Rattle.tab_iter.specs.Bags.{first_in, is_ahead_at, IsDescending, Covers, IsOutside};
 ghost use Rattle.tab_iter.specs.Fronts.{IsFront};
 
@@ -71,47 +70,39 @@ fn count_behind<S: Source>(sources: &[S], order: &[usize], place: usize) -> usiz
     order.partition_point(|other| !is_ahead(sources, *other, place))
 }
 
-// Whether the first record of one source stands before that of the other. One that is empty stands last.
+// Whether the first record of one source stands before that of the other. One that is empty stands last. Only where the two fronts
+// are one number are the records read.
 fn is_ahead<S: Source>(sources: &[S], place: usize, other: usize) -> bool
+    ensures { result ≡ is_ahead_at (map S.rest sources.now) place other }
+{
+    let front = front_at(sources, place);
+    let rival = front_at(sources, other);
+    match front.cmp(&rival) {
+        Ordering::Less => true,
+        Ordering::Equal => is_record_ahead(sources, place, other),
+        Ordering::Greater => false,
+    }
+}
+
+// The same, by the records themselves.
+fn is_record_ahead<S: Source>(sources: &[S], place: usize, other: usize) -> bool
     ensures { result ≡ is_ahead_at (map S.rest sources.now) place other }
 {
     match top_at(sources, place) {
         None => false,
         Some(record) => match top_at(sources, other) {
             None => true,
-            Some(rival) => {
-                let front = front_at(sources, place);
-                let rival_front = front_at(sources, other);
-                order_of(front, rival_front, &record, &rival).is_lt()
-            }
+            Some(rival) => record.cmp(&rival).is_lt(),
         },
     }
 }
 
-// The order of two records, of which these are the row prefixes. Only where these are one number are the records read.
-#[inline]
-fn order_of(
-    front: u128,
-    rival_front: u128,
-    record: &RecordRef<'_>,
-    rival: &RecordRef<'_>,
-) -> Ordering
-    requires own { IsFront front (Some record.now) }
-    requires others { IsFront rival_front (Some rival.now) }
-    ensures { result ≡ record_cmp record.now rival.now }
-{
-    match front.cmp(&rival_front) {
-        Ordering::Equal => record.cmp(rival),
-        decided => decided,
-    }
-}
-
-// The row prefix of the first record that the source at this place has left.
+// The row prefix of the first record that the source at this place has left; the largest number where there is none.
 fn front_at<S: Source>(sources: &[S], place: usize) -> u128
     ensures { IsFront result (first_in (map S.rest sources.now) place) }
 {
     match sources.get(place) {
-        None => 0,
+        None => u128::MAX,
         Some(source) => source.front(),
     }
 }
