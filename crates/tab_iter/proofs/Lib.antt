@@ -17,4 +17,4 @@ pub mod Orders
 pub mod KeptVerdicts
 pub mod ShortLabels
 pub mod RowPrefix
-pub mod FrontLaws
+pub mod PrefixLaws

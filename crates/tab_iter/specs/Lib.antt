@@ -10,5 +10,5 @@ pub mod Bags
 pub mod Stack
 pub mod SourceLaws
 pub mod Propositions
-pub mod Fronts
+pub mod TopPrefix
 pub mod NamedColumns

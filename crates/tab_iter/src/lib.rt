@@ -5,7 +5,7 @@
 //! | `source` | what every source does: its first record, an advance, a seek |
 //! | `list_source` | a source over a rising list |
 //! | `merging` | the one rising list of several sources |
-//! | `fronted` | sources with the row prefixes of their first records |
+//! | `prefixed` | sources with the row prefixes of their first records |
 //! | `source_order` | the order of several sources by their first records |
 //! | `filtered` | a source without the records that a rule holds back |
 //! | `rule` | what a rule observes, what it tells, and where it aims |
@@ -29,13 +29,13 @@ mod deleting_rule;
 mod fetching_rule;
 mod filtered;
 mod first_markers_rule;
-mod fronted;
 mod last_column;
 mod layers;
 mod list_source;
 mod merged;
 mod merging;
 mod named_column;
+mod prefixed;
 mod rule;
 mod source;
 mod source_order;
@@ -49,11 +49,11 @@ pub use deleting_rule::DeletingRule;
 pub use fetching_rule::FetchingRule;
 pub use filtered::Filtered;
 pub use first_markers_rule::FirstMarkersRule;
-pub use fronted::Fronted;
 pub use layers::{Stack, StackRule, stack_of, stack_unread, verdicts_of};
 pub use list_source::{ListSource, is_rising};
 pub use merged::{MergeRule, Merged, merged_of};
 pub use merging::{Merging, MergingOf};
+pub use prefixed::Prefixed;
 pub use rule::Rule;
 pub use source::{NoMemory, Source};
 pub use system_iterators::{

@@ -7,7 +7,7 @@ ghost use Rattle.tab_iter.specs.Lists.{tail, from_key};
 ghost use Rattle.tab_iter.specs.Bags.{flat, IsEnding, IsDescending, Covers};
 ghost use Rattle.tab_iter.specs.Propositions.{IsDistinct-prop, IsDescending-prop, Covers-prop};
 
-use crate::fronted::{Fronted, with_fronts};
+use crate::prefixed::{Prefixed, with_prefixes};
 use crate::source_order::{put, put_all, top_at};
 use crate::{NoMemory, Source};
 use std::alloc::AllocError;
@@ -15,7 +15,7 @@ use tab_key::{Key, RecordRef};
 
 /// The records of several sources, no two of which stand at one place. It holds the row prefix of each source's first record, and
 /// compares mostly these.
-pub type Merging<S> = MergingOf<Fronted<S>>;
+pub type Merging<S> = MergingOf<Prefixed<S>>;
 
 /// The records of several sources, no two of which stand at one place.
 ///
@@ -34,7 +34,7 @@ pub struct MergingOf<S: Source> {
     ghost covers: { unpositioned ≡ false → Covers (map S.rest sources.items) order.items } by { λ p q. Covers-prop unpositioned (map S.rest sources.items) order.items p q },
 }
 
-impl<S: Source + Drop> MergingOf<Fronted<S>> {
+impl<S: Source + Drop> MergingOf<Prefixed<S>> {
     /// The records of all of these. The error comes only from want of memory.
     pub fn new(sources: Vec<S>) -> Result<Merging<S>, NoMemory>
         requires distinct { IsDistinct (flat (map S.whole sources.items)) }
@@ -42,7 +42,7 @@ impl<S: Source + Drop> MergingOf<Fronted<S>> {
         ensures whole { IfOk result (λ m. ⟦<Merging<S> as Source>⟧.whole m ≡ sorted (flat (map S.whole sources.items))) }
         ensures rest { IfOk result (λ m. ⟦<Merging<S> as Source>⟧.rest m ≡ sorted (flat (map S.rest sources.items))) }
     {
-        let sources = with_fronts(sources)?;
+        let sources = with_prefixes(sources)?;
         let all = MergingOf::of(sources)?;
         Ok(all)
     }
@@ -53,7 +53,7 @@ impl<S: Source + Drop> MergingOf<Fronted<S>> {
         ensures whole { IfOk result (λ m. ⟦<Merging<S> as Source>⟧.whole m ≡ sorted (flat (map S.whole sources.items))) }
         ensures unpositioned { IfOk result (λ m. ⟦<Merging<S> as Source>⟧.is_unpositioned m ≡ true) }
     {
-        let sources = with_fronts(sources)?;
+        let sources = with_prefixes(sources)?;
         let all = MergingOf::unread(sources)?;
         Ok(all)
     }

@@ -16,7 +16,7 @@ pub type NoMemory = AllocError;
 pub trait Source {
     ghost use Rattle.tab_key.specs.Records.{Record};
     ghost use Rattle.tab_iter.specs.Lists.{first_of, tail, from_key, IsRising, HasI64Timestamps, IsEnd};
-    ghost use Rattle.tab_iter.specs.Fronts.{IsFront};
+    ghost use Rattle.tab_iter.specs.TopPrefix.{IsTopPrefix};
 
     ghost whole: { Self → List Record };
 
@@ -29,8 +29,8 @@ pub trait Source {
         ensures { result ≡ first_of (rest self.now) };
 
     /// The row prefix of the first record that is left, and `u128::MAX` where none is left.
-    fn front(&self) -> u128
-        ensures { IsFront result (first_of (rest self.now)) }
+    fn top_prefix(&self) -> u128
+        ensures { IsTopPrefix result (first_of (rest self.now)) }
     {
         match self.top() {
             None => u128::MAX,

@@ -7,7 +7,7 @@ ghost use Rattle.std.specs.Bool.{OnTrue};
 ghost use Rattle.std.specs.List.{AllByRecursion};
 ghost use Rattle.std.specs.List.Sorted.{IsPartitionPoint};
 ghost use Rattle.tab_iter.specs.Bags.{first_in, is_ahead_at, IsDescending, Covers, IsOutside};
-ghost use Rattle.tab_iter.specs.Fronts.{IsFront};
+ghost use Rattle.tab_iter.specs.TopPrefix.{IsTopPrefix};
 
 use crate::{NoMemory, Source};
 use std::cmp::Ordering;
@@ -70,14 +70,14 @@ fn count_behind<S: Source>(sources: &[S], order: &[usize], place: usize) -> usiz
     order.partition_point(|other| !is_ahead(sources, *other, place))
 }
 
-// Whether the first record of one source stands before that of the other. One that is empty stands last. Only where the two fronts
+// Whether the first record of one source stands before that of the other. One that is empty stands last. Only where the two prefixes
 // are one number are the records read.
 fn is_ahead<S: Source>(sources: &[S], place: usize, other: usize) -> bool
     ensures { result ≡ is_ahead_at (map S.rest sources.now) place other }
 {
-    let front = front_at(sources, place);
-    let rival = front_at(sources, other);
-    match front.cmp(&rival) {
+    let prefix = prefix_at(sources, place);
+    let rival = prefix_at(sources, other);
+    match prefix.cmp(&rival) {
         Ordering::Less => true,
         Ordering::Equal => is_record_ahead(sources, place, other),
         Ordering::Greater => false,
@@ -98,12 +98,12 @@ fn is_record_ahead<S: Source>(sources: &[S], place: usize, other: usize) -> bool
 }
 
 // The row prefix of the first record that the source at this place has left; the largest number where there is none.
-fn front_at<S: Source>(sources: &[S], place: usize) -> u128
-    ensures { IsFront result (first_in (map S.rest sources.now) place) }
+fn prefix_at<S: Source>(sources: &[S], place: usize) -> u128
+    ensures { IsTopPrefix result (first_in (map S.rest sources.now) place) }
 {
     match sources.get(place) {
         None => u128::MAX,
-        Some(source) => source.front(),
+        Some(source) => source.top_prefix(),
     }
 }
 

@@ -5,7 +5,7 @@ use Rattle.std.specs.Coded.{le_prop}
 use mathlib.Core.HLevel.{Π_prop}
 use Rattle.tab_key.specs.Records.{Record}
 use Rattle.tab_key.specs.RowPrefix.{IsRowPrefix}
-use Rattle.tab_iter.specs.Fronts.{IsRowPrefix-prop}
+use Rattle.tab_iter.specs.TopPrefix.{IsRowPrefix-prop}
 use Rattle.tab_mem.specs.declared.row_index.TheConstants.{STRIDE}
 
 -- the numbers are the row prefixes of the first record and each 16th one after it, in their order

@@ -1,6 +1,6 @@
 -- The sources so far.
 use Rattle.std.proofs.Common.{◌≡◌, map}
-use Rattle.tab_iter.proofs.fronted.with_fronts.Given as goal
+use Rattle.tab_iter.proofs.prefixed.with_prefixes.Given as goal
 
 abbrev pub invariant-loop-source : goal.invariant-loop-source
 invariant-loop-source g l = record {

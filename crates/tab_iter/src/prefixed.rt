@@ -1,7 +1,7 @@
 //! Sources with the row prefixes of their first records.
 ghost use Rattle.std.specs.Prelude.{◌≡◌, map, IfOk};
 ghost use Rattle.tab_iter.specs.Lists.{first_of};
-ghost use Rattle.tab_iter.specs.Fronts.{IsFront, IsFront-prop};
+ghost use Rattle.tab_iter.specs.TopPrefix.{IsTopPrefix, IsTopPrefix-prop};
 
 use crate::{NoMemory, Source};
 use tab_key::{Key, RecordRef};
@@ -9,24 +9,24 @@ use tab_key::{Key, RecordRef};
 /// A source, and the row prefix of its first record, which is read once for each. So the first records of two sources are mostly told
 /// apart without being read again.
 #[derive(Drop)]
-pub struct Fronted<S: Source> {
+pub struct Prefixed<S: Source> {
     source: S,
-    front: u128,
-    ghost own: { IsFront front (first_of (S.rest source)) } by { IsFront-prop front (first_of (S.rest source)) },
+    top_prefix: u128,
+    ghost own: { IsTopPrefix top_prefix (first_of (S.rest source)) } by { IsTopPrefix-prop top_prefix (first_of (S.rest source)) },
 }
 
-impl<S: Source> Fronted<S> {
+impl<S: Source> Prefixed<S> {
     // The source with the row prefix of its first record.
-    fn new(source: S) -> Fronted<S>
-        ensures whole { ⟦<Fronted<S> as Source>⟧.whole result ≡ S.whole source }
-        ensures rest { ⟦<Fronted<S> as Source>⟧.rest result ≡ S.rest source }
+    fn new(source: S) -> Prefixed<S>
+        ensures whole { ⟦<Prefixed<S> as Source>⟧.whole result ≡ S.whole source }
+        ensures rest { ⟦<Prefixed<S> as Source>⟧.rest result ≡ S.rest source }
     {
-        let front = source.front();
-        Fronted { source, front }
+        let top_prefix = source.top_prefix();
+        Prefixed { source, top_prefix }
     }
 }
 
-impl<S: Source> Source for Fronted<S> {
+impl<S: Source> Source for Prefixed<S> {
     ghost whole = { λ f. S.whole f.source };
 
     ghost rest = { λ f. S.rest f.source };
@@ -47,33 +47,33 @@ impl<S: Source> Source for Fronted<S> {
     }
 
     #[inline]
-    fn front(&self) -> u128 {
-        self.front
+    fn top_prefix(&self) -> u128 {
+        self.top_prefix
     }
 
     #[inline]
     fn advance(&mut self) -> Result<(), NoMemory> {
         let advanced = self.source.advance();
-        self.front = self.source.front();
+        self.top_prefix = self.source.top_prefix();
         advanced
     }
 
     fn seek(&mut self, key: Key<'_>) -> Result<(), NoMemory> {
         let sought = self.source.seek(key);
-        self.front = self.source.front();
+        self.top_prefix = self.source.top_prefix();
         sought
     }
 }
 
 /// The sources, each with the row prefix of its first record. The error comes only from want of memory.
-pub(crate) fn with_fronts<S: Source + Drop>(sources: Vec<S>) -> Result<Vec<Fronted<S>>, NoMemory>
-    ensures whole { IfOk result (λ v. map ⟦<Fronted<S> as Source>⟧.whole v.items ≡ map S.whole sources.items) }
-    ensures rest { IfOk result (λ v. map ⟦<Fronted<S> as Source>⟧.rest v.items ≡ map S.rest sources.items) }
+pub(crate) fn with_prefixes<S: Source + Drop>(sources: Vec<S>) -> Result<Vec<Prefixed<S>>, NoMemory>
+    ensures whole { IfOk result (λ v. map ⟦<Prefixed<S> as Source>⟧.whole v.items ≡ map S.whole sources.items) }
+    ensures rest { IfOk result (λ v. map ⟦<Prefixed<S> as Source>⟧.rest v.items ≡ map S.rest sources.items) }
 {
     let alloc = *sources.allocator();
     let mut kept = Vec::with_capacity(alloc, sources.len())?;
     for source in sources {
-        kept.push(Fronted::new(source))?;
+        kept.push(Prefixed::new(source))?;
     }
     Ok(kept)
 }

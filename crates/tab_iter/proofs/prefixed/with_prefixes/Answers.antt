@@ -3,8 +3,8 @@ use Rattle.std.proofs.Common.{◌≡◌, ◌++◌, ◌∷◌, [], ◌∙◌, sym
 use Rattle.std.proofs.lemmas.Iterator.Adapters.{YieldsList-from_vec}
 use Rattle.std.proofs.lemmas.Iterator.Consumers.{YieldsList-end}
 use Rattle.std.proofs.lemmas.List.{map-id}
-use Rattle.tab_iter.proofs.FrontLaws.{one_more}
-use Rattle.tab_iter.proofs.fronted.with_fronts.Goals as goal
+use Rattle.tab_iter.proofs.PrefixLaws.{one_more}
+use Rattle.tab_iter.proofs.prefixed.with_prefixes.Goals as goal
 
 pub loop-source-preserved : goal.loop-source-preserved
 loop-source-preserved g c =
