@@ -8,6 +8,7 @@
 //! | `listener` | what a server's connections come by |
 //! | `socket_file` | a socket file that is listened on: how it gets its name, and how it goes |
 //! | `private_folder` | a folder of one's own beside a file |
+//! | `folder_lock` | the lock of a folder, which one server at a time has |
 //! | `mode` | a file's mode, as it is written |
 //!
 //! What sockets and files of a system do no contract says.
@@ -15,6 +16,7 @@
 
 mod closer;
 mod connection;
+mod folder_lock;
 mod listener;
 mod mode;
 mod private_folder;

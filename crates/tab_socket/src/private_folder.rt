@@ -15,15 +15,13 @@ const MODE: u32 = 0o700;
 // How much longer than its folder's, with the slash, the longest name of a file in it is.
 const LONGER: usize = ".tabd999/s".len();
 
-/// A new folder beside a file, into which nobody else can go, and the names of two files in it. What is made in it gets the group that the
+/// A new folder beside a file, into which nobody else can go, and the name of a file in it. What is made in it gets the group that the
 /// rights of the outer folder give, as it would there.
 #[derive(Drop)]
 pub(crate) struct PrivateFolder {
     folder: String,
     /// What is made in it.
     pub(crate) made: String,
-    /// What is taken away into it.
-    pub(crate) taken: String,
 }
 
 /// Whether the names in such a folder have at most so many bytes.
@@ -51,7 +49,6 @@ impl PrivateFolder {
     /// Takes the folder away, with what is made in it still. What was made and has another name too stays under that.
     pub(crate) fn clear(&self, rt: &HostRuntime) {
         let _ = fs::remove_file(rt, self.made.as_str());
-        let _ = fs::remove_file(rt, self.taken.as_str());
         let _ = fs::remove_dir(rt, self.folder.as_str());
     }
 }
@@ -69,16 +66,11 @@ fn named(rt: &HostRuntime, beside: &str, number: u32) -> Result<PrivateFolder, A
     let alloc = rt.alloc();
     let folder = format!(in alloc; "{beside}.tabd{number}").map_err(|_| AllocError)?;
     let made = format!(in alloc; "{folder}/s").map_err(|_| AllocError)?;
-    let taken = format!(in alloc; "{folder}/t").map_err(|_| AllocError)?;
-    Ok(PrivateFolder {
-        folder,
-        made,
-        taken,
-    })
+    Ok(PrivateFolder { folder, made })
 }
 
-// The beginning of a file's name up to its last slash: empty where it has none.
-fn folder_of(name: &str) -> &str {
+/// The beginning of a file's name up to its last slash: empty where it has none.
+pub(crate) fn folder_of(name: &str) -> &str {
     match name.rfind('/') {
         Some(at) => &name[..at + 1],
         None => "",

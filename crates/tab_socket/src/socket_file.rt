@@ -1,17 +1,15 @@
 //! A socket file that is listened on: how it gets its name, and how it goes.
 
+use crate::folder_lock::FolderLock;
 use crate::private_folder::{PrivateFolder, has_room, make_room};
 use std::fs;
-use std::fs::{Metadata, Permissions};
+use std::fs::{Metadata, Permissions, TryLockError};
 use std::io::{Error, ErrorKind};
 use std::os::unix::fs::{FileTypeExt, MetadataExt, PermissionsExt};
 use std::os::unix::net::{UnixListener, UnixStream};
 
 // How many bytes the name of a socket has at most.
 const LONGEST: usize = 107;
-
-// How often a name is asked for: each time it is taken a dead server's file goes.
-const TRIES: u32 = 16;
 
 /// Why a socket file can't be listened on. Whatever had its name has it still.
 #[derive(Clone, Copy, Debug, thiserror::Error)]
@@ -25,6 +23,9 @@ pub enum SocketFault {
     /// Another server listens on it.
     #[error("another server has it")]
     Taken,
+    /// Another program has had its folder locked for 5 seconds.
+    #[error("another program has its folder locked")]
+    Locked,
     /// The system refuses it, for this reason.
     #[error("it can't be listened on: {0}")]
     Refused(Error),
@@ -36,15 +37,24 @@ impl From<Error> for SocketFault {
     }
 }
 
+impl From<TryLockError> for SocketFault {
+    fn from(error: TryLockError) -> SocketFault {
+        match error {
+            TryLockError::WouldBlock => SocketFault::Locked,
+            TryLockError::Error(error) => SocketFault::Refused(error),
+        }
+    }
+}
+
 /// A socket file that is listened on.
 ///
 /// Nobody can connect before the file has its mode: the socket is made in a new folder that only its maker can enter, gets its mode there,
-/// and only then the name under which others find it, by a link, which replaces nothing. So who connects has passed the mode, and the owner and
-/// group of the file. This holds as long as only who may be trusted can write to the file's folder: who can may take the name away, and give it
-/// to a socket of his own.
+/// and only then the name under which others find it. So who connects has passed the mode, and the owner and group of the file. This holds as
+/// long as only who may be trusted can write to the file's folder: who can may take the name away, and give it to a socket of his own.
 ///
-/// Of a dead server the file is left over; nobody answers there. It is taken away first. That it is dead is asked once more behind that, so
-/// that of two servers that begin at once one gets the name, and the other is told that it's taken.
+/// Of a dead server the file is left over; nobody answers there. A new server's takes its place, in one step. A server has the folder locked from
+/// before it looks whether somebody answers until it has the name, and while it gives the name up. So of any number of servers that begin at once
+/// over one name one gets it, and the others are told that it's taken.
 #[derive(Drop)]
 pub struct SocketFile<'a> {
     rt: &'a HostRuntime,
@@ -54,7 +64,8 @@ pub struct SocketFile<'a> {
 }
 
 impl<'a> SocketFile<'a> {
-    /// Makes a socket file of this name and mode, and listens on it. It has the group that the rights of its folder give.
+    /// Makes a socket file of this name and mode, and listens on it. It has the group that the rights of its folder give. The folder has to be
+    /// one that can be read and locked.
     pub fn bind(
         rt: &'a HostRuntime,
         name: &'a str,
@@ -63,14 +74,23 @@ impl<'a> SocketFile<'a> {
         if name.len() > LONGEST || !has_room(name, LONGEST) {
             return Err(SocketFault::TooLong);
         }
+        let _lock = FolderLock::take(rt, name)?;
         let room = make_room(rt, name)?;
         let outcome = bind_in(rt, name, mode, &room);
         room.clear(rt);
         outcome
     }
 
-    /// Takes the file away, unless another one has its name by now. It's listened on still, so that no server takes it for a dead one's.
+    /// Takes the file away, unless another one has its name by now. Where its folder can't be locked within 5 seconds it stays, as a dead
+    /// server's does.
     pub fn remove(&self) {
+        if let Ok(_lock) = FolderLock::take(self.rt, self.name) {
+            self.remove_own();
+        }
+    }
+
+    // The same in the folder that is locked.
+    fn remove_own(&self) {
         if let Ok(found) = fs::symlink_metadata(self.rt, self.name)
             && is_same(&found, &self.made)
         {
@@ -109,44 +129,29 @@ fn bind_in<'a>(
     })
 }
 
-// Gives what was made in the room this name too.
+// Gives what was made in the room its name. The folder is locked: no other server's file comes to have the name meanwhile.
 fn take_name(rt: &HostRuntime, name: &str, room: &PrivateFolder) -> Result<(), SocketFault> {
-    for _ in 0..TRIES {
-        match fs::hard_link(rt, room.made.as_str(), name) {
-            Ok(()) => return Ok(()),
-            Err(error) if error.kind() == ErrorKind::AlreadyExists => free_name(rt, name, room)?,
-            Err(error) => return Err(SocketFault::Refused(error)),
-        }
+    let made = room.made.as_str();
+    if is_left_over(rt, name)? {
+        fs::rename(rt, made, name)?;
+    } else {
+        fs::hard_link(rt, made, name)?;
     }
-    Err(SocketFault::Taken)
+    Ok(())
 }
 
-// Takes a dead server's file of this name away, into the room first: one that is another's by then gets its name back.
-fn free_name(rt: &HostRuntime, name: &str, room: &PrivateFolder) -> Result<(), SocketFault> {
+// Whether a dead server's file has this name, which nothing has otherwise.
+fn is_left_over(rt: &HostRuntime, name: &str) -> Result<bool, SocketFault> {
     match fs::symlink_metadata(rt, name) {
         Ok(found) if !found.file_type().is_socket() => return Err(SocketFault::NoSocket),
-        _ => {}
+        Ok(_) => {}
+        Err(error) if error.kind() == ErrorKind::NotFound => return Ok(false),
+        Err(error) => return Err(SocketFault::Refused(error)),
     }
     if answers(rt, name)? {
         return Err(SocketFault::Taken);
     }
-    let taken = room.taken.as_str();
-    match fs::rename(rt, name, taken) {
-        Ok(()) => {}
-        Err(error) if error.kind() == ErrorKind::NotFound => return Ok(()),
-        Err(error) => return Err(SocketFault::Refused(error)),
-    }
-    match answers(rt, taken) {
-        Ok(false) => Ok(()),
-        Ok(true) => Err(given_back(rt, name, taken, SocketFault::Taken)),
-        Err(fault) => Err(given_back(rt, name, taken, fault)),
-    }
-}
-
-// The fault, behind which the file has its name again, as far as the system lets it be linked.
-fn given_back(rt: &HostRuntime, name: &str, taken: &str, fault: SocketFault) -> SocketFault {
-    let _ = fs::hard_link(rt, taken, name);
-    fault
+    Ok(true)
 }
 
 // Whether somebody listens on the socket file of this name.
