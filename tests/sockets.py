@@ -2,6 +2,7 @@
 
 As root it tries other users' rights too."""
 
+import fcntl
 import os
 import select
 import socket
@@ -169,20 +170,40 @@ def one_server_a_file():
             count("by one that answers", answers("one"))
     for _ in range(20):
         FileServer("many").kill()
-        begun = [subprocess.Popen([PROGRAM, "serve", "--socket", "many"], stdin=subprocess.DEVNULL, stdout=subprocess.PIPE, stderr=subprocess.PIPE) for _ in range(2)]
+        begun = [subprocess.Popen([PROGRAM, "serve", "--socket", "many"], stdin=subprocess.DEVNULL, stdout=subprocess.PIPE, stderr=subprocess.PIPE) for _ in range(4)]
         told = []
         for process in begun:
             ready, _, _ = select.select([process.stdout], [], [], PATIENCE)
             told.append(process.stdout.readline() if ready else b"?")
-        one = told.count(b"listening many\n") == 1 and told.count(b"") == 1 and answers("many")
+        one = told.count(b"listening many\n") == 1 and told.count(b"") == 3 and answers("many")
         for process in begun:
             process.kill()
         said = sorted(process.communicate()[1] for process in begun)
-        if not one or said != [b"", b"fault: many: another server has it\n"]:
-            count("of two servers that begin at once one gets the name", False, (told, said))
+        if not one or said != [b""] + 3 * [b"fault: many: another server has it\n"]:
+            count("of servers that begin at once one gets the name", False, (told, said))
             break
     else:
-        count("of two servers that begin at once one gets the name", True)
+        count("of servers that begin at once one gets the name", True)
+
+
+def locked_folders():
+    os.mkdir("held")
+    folder = os.open("held", os.O_RDONLY)
+    fcntl.flock(folder, fcntl.LOCK_EX)
+    began = time.monotonic()
+    ran = run("serve", "--socket", "held/s")
+    count("a locked folder is waited for", 4.5 < time.monotonic() - began < PATIENCE)
+    count("and then refused", (ran.returncode, ran.stdout, ran.stderr) == (1, b"", b"fault: held/s: another program has its folder locked\n"), ran)
+    count("and nothing is made there", os.listdir("held") == [], os.listdir("held"))
+    fcntl.flock(folder, fcntl.LOCK_UN)
+    with FileServer("held/s", "--accept", "1") as server:
+        fcntl.flock(folder, fcntl.LOCK_EX | fcntl.LOCK_NB)
+        count("a server has it locked no longer than it begins", answers("held/s"))
+        count("one that can't lock it ends all the same", server.ends() == 0)
+        count("and leaves its file", os.path.lexists("held/s"))
+    os.close(folder)
+    with FileServer("held/s", "--accept", "1") as server:
+        count("which the next replaces", answers("held/s") and server.ends() == 0 and os.listdir("held") == [], os.listdir("held"))
 
 
 def what_is_no_socket():
@@ -288,4 +309,4 @@ def clients():
 
 
 if __name__ == "__main__":
-    run_parts(rights, group, others, one_server_a_file, what_is_no_socket, names_too_long, the_end, command_lines, shells, clients)
+    run_parts(rights, group, others, one_server_a_file, locked_folders, what_is_no_socket, names_too_long, the_end, command_lines, shells, clients)
