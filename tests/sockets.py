@@ -85,7 +85,7 @@ def group():
         return
     os.mkdir("group")
     os.chown("group", -1, groups[0])
-    os.chmod("group", 0o2750)
+    os.chmod("group", 0o2710)
     with FileServer("group/s", "--socket-mode", "660"):
         held = os.lstat("group/s")
         count("the folder's group, where its rights give it", (held.st_gid, stat.S_IMODE(held.st_mode)) == (groups[0], 0o660), held)
