@@ -2,6 +2,7 @@ pub mod Cutting
 pub mod SpellingLemmas
 pub mod NumberLemmas
 pub mod NameLemmas
+pub mod ScanLemmas
 pub mod Looking
 pub mod UpdateLemmas
 pub mod Inverting

@@ -56,6 +56,7 @@
 //! | `fields`, `updates`, `permissions` | one word after another, the updates of a mutation, and what is granted to whom |
 //! | `command`, `line`, `named` | the first word, and the lines; among them those of one name |
 //! | `file_line` | the lines that name a file |
+//! | `scan` | what a scan asks |
 //! | `laws` | reading is exactly the forms of lines |
 //!
 //! `specs/Forms` says what the lines are, with one form for each row of the table above, and nothing of how they are
@@ -77,6 +78,7 @@ mod named;
 mod names;
 mod numbers;
 mod permissions;
+mod scan;
 mod spelling;
 mod updates;
 mod words;
@@ -85,6 +87,7 @@ pub use command::Command;
 pub use file_line::{FileKind, FileLine, FileName};
 pub use laws::lines_are_forms;
 pub use line::{Line, read_line};
+pub use scan::{read_scan, words_of_scan};
 pub use spelling::Spelled;
 pub use tab_text::ParseError;
 pub use updates::TimestampForm;

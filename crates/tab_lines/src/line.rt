@@ -1,10 +1,9 @@
 //! What a line says.
-ghost use Rattle.std.specs.Prelude.{[]};
 ghost use Rattle.tab_text.specs.Gives.{Gives};
 ghost use Rattle.tab_lines.specs.Gives.{optional};
 ghost use Rattle.tab_lines.specs.Words.{words_left};
-ghost use Rattle.tab_lines.specs.Fields.{constraints_of, columns_of, versions_word};
-ghost use Rattle.tab_lines.specs.Lines.{settings, createtable_of, setauths_of, constraints_line_of, versions_line_of, horizon_of, insert_of, delete_line_of, mutate_of, bounds_of, scan_words, next_of, ranges_of, many_of, close_of, compact_of, begin_of, merge_of, install_of, addsplit_of, splitsize_of, file_of, rotate_of, at_of, commanded, said, line_of};
+ghost use Rattle.tab_lines.specs.Fields.{constraints_of, versions_word};
+ghost use Rattle.tab_lines.specs.Lines.{settings, createtable_of, setauths_of, constraints_line_of, versions_line_of, horizon_of, insert_of, delete_line_of, mutate_of, next_of, ranges_of, many_of, close_of, compact_of, begin_of, merge_of, install_of, addsplit_of, splitsize_of, file_of, rotate_of, at_of, commanded, said, line_of};
 
 use crate::bounds::bound_of;
 use crate::command::{Command, command_of};
@@ -13,17 +12,18 @@ use crate::fields::{
     a_version_count, an_extent, an_unsigned, ends,
 };
 use crate::file_line::{FileKind, FileLine};
-use crate::lists::{columns_of, constraints_of};
+use crate::lists::constraints_of;
 use crate::named::{
     as_user, createuser, droptable, dropuser, flush, grant, revoke, rights, splits, status,
 };
 use crate::names::time_word;
 use crate::numbers::versions_word;
+use crate::scan::read_scan;
 use crate::updates::{TimestampForm, a_row, add_delete, add_put, add_updates};
 use crate::words::Words;
 use std::alloc::Global;
 use tab_history::{Act, Given, Scan, TimeMode, Versions};
-use tab_key::{Bound, Bounds, Column, Items, Name};
+use tab_key::{Bounds, Items, Name};
 use tab_label::AuthSet;
 use tab_rules::ConstraintSet;
 use tab_text::ParseError;
@@ -181,51 +181,6 @@ fn mutate(alloc: Global, words: &mut Words) -> Result<Line, ParseError>
     Ok(Line::Act(Act::Write(table, mutation)))
 }
 
-// Takes both bounds, or none where no word is left.
-fn bounds(alloc: Global, words: &mut Words) -> Result<Bounds, ParseError>
-    ensures { Gives (λ x. (x, words_left words.new)) result (bounds_of (words_left words.old)) }
-{
-    let Some(word) = words.next() else {
-        return Ok(Bounds {
-            low: Bound::Unbounded,
-            high: Bound::Unbounded,
-        });
-    };
-    let low = bound_of(alloc, word)?;
-    let high = a_bound(alloc, words)?;
-    Ok(Bounds { low, high })
-}
-
-// Takes the columns, all where no word is left.
-fn any_columns(alloc: Global, words: &mut Words) -> Result<Items<Column>, ParseError>
-    ensures { Gives (λ x. (x, words_left words.new)) result (optional [] columns_of (words_left words.old)) }
-{
-    let Some(word) = words.next() else {
-        return Ok(Items::new(alloc));
-    };
-    Ok(Items::from_vec(columns_of(alloc, word)?))
-}
-
-// Takes all that is left: what a scan asks.
-#[inline(always)]
-#[tactic(auto, unfolding(crate::specs::Lines::scan_words))]
-fn scan(alloc: Global, words: &mut Words) -> Result<Scan, ParseError>
-    ensures { Gives (λ x. x) result (scan_words (words_left words.old)) }
-{
-    let table = a_name(alloc, words)?;
-    let members = a_list(alloc, words)?;
-    let bounds = bounds(alloc, words)?;
-    let columns = any_columns(alloc, words)?;
-    ends(words)?;
-    let authorizations = AuthSet::new(members);
-    Ok(Scan {
-        table,
-        bounds,
-        columns,
-        authorizations,
-    })
-}
-
 #[inline(never)]
 #[tactic(auto, unfolding(crate::specs::Lines::next_of))]
 fn next(words: &mut Words) -> Result<Line, ParseError>
@@ -371,14 +326,14 @@ fn at(words: &mut Words) -> Result<Line, ParseError>
 fn whole_scan(alloc: Global, words: &mut Words) -> Result<Line, ParseError>
     ensures { Gives (λ x. x) result (commanded Command.Scan (words_left words.old)) }
 {
-    Ok(Line::Scan(scan(alloc, words)?))
+    Ok(Line::Scan(read_scan(alloc, words)?))
 }
 
 #[inline(never)]
 fn open(alloc: Global, words: &mut Words) -> Result<Line, ParseError>
     ensures { Gives (λ x. x) result (commanded Command.Open (words_left words.old)) }
 {
-    Ok(Line::Open(scan(alloc, words)?))
+    Ok(Line::Open(read_scan(alloc, words)?))
 }
 
 // What the words behind a command say. Each command is a function that isn't inlined: room for what a line says is filled with zeros

@@ -24,10 +24,10 @@ pub fn name_of(alloc: Global, word: &[u8]) -> Result<Name, ParseError>
     Ok(name)
 }
 
-// The bytes as a name, if they are one.
+/// The bytes as a name, if they are one.
 #[inline(always)]
 #[tactic(auto, using(crate::proofs::NameLemmas::named))]
-fn checked_name(bytes: &[u8]) -> Option<Name>
+pub fn checked_name(bytes: &[u8]) -> Option<Name>
     ensures { result ≡ only_if is_name bytes.now }
 {
     Name::new(bytes)
