@@ -64,7 +64,7 @@ from .errors import (
 from .pipeline import WINDOW
 from .session import Session
 
-__version__ = "0.15.0"
+__version__ = "0.16.0"
 """The version of the program that it was released with."""
 
 __all__ = [
