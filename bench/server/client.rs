@@ -15,8 +15,9 @@ use std::error::Error;
 use std::fs::File;
 use std::io::{self, BufReader, BufWriter, Write};
 use std::net::TcpStream;
+use std::sync::atomic::{AtomicBool, Ordering};
 use std::thread;
-use std::time::Instant;
+use std::time::{Duration, Instant};
 
 type Result<T> = std::result::Result<T, Box<dyn Error + Send + Sync>>;
 
@@ -28,6 +29,9 @@ const BLOCK: usize = 1 << 16;
 /// Whole scans that are timed together behind the first one, and the session of the second table, which is opened behind theirs.
 const SCANS: u32 = 10;
 const TALL: u32 = SCANS + 1;
+/// What is written beside ranges: so many cells a millisecond at most. And how long nothing is asked before those of an idle server.
+const WRITES_BESIDE: usize = 100;
+const IDLE: Duration = Duration::from_secs(4);
 
 /// Random words, by splitmix64.
 struct Words(u64);
@@ -160,7 +164,8 @@ fn alone(port: u16, cells: usize, ranges: usize, file: Option<&String>) -> Resul
         one.ask(&list(|to| to.open("tall")))?;
         one.ask(&list(|to| to.next(TALL))).map(|()| one.told.cells)
     })?;
-    let ranges = list(|to| (0..ranges / RANGES_A_REQUEST).for_each(|_| to.many(TALL, RANGES_A_REQUEST, cells, &mut words)));
+    let requests = ranges / RANGES_A_REQUEST;
+    let ranges = list(|to| (0..requests).for_each(|_| to.many(TALL, RANGES_A_REQUEST, cells, &mut words)));
     measure("ranges", &mut one, |one| one.pipeline(&ranges).map(|()| one.told.cells))?;
     let turns = 20_000.min(cells);
     measure("one at a time, writes", &mut one, |one| {
@@ -168,6 +173,38 @@ fn alone(port: u16, cells: usize, ranges: usize, file: Option<&String>) -> Resul
     })?;
     measure("one at a time, ranges", &mut one, |one| {
         (0..turns).try_for_each(|_| one.ask(&list(|to| to.many(TALL, 1, cells, &mut words)))).map(|()| one.told.cells)
+    })?;
+    if cfg!(postgres) {
+        return Ok(());
+    }
+    // of a session that is opened now, so that it reads what there is by then
+    let mut again = |name, session| {
+        one.ask(&list(|to| to.open("tall")))?;
+        let ranges = list(|to| (0..requests).for_each(|_| to.many(session, RANGES_A_REQUEST, cells, &mut words)));
+        measure(name, &mut one, |one| one.pipeline(&ranges).map(|()| one.told.cells))
+    };
+    beside_writes(port, cells, || again("ranges beside writes", TALL + 1))?;
+    thread::sleep(IDLE);
+    again("ranges once idle", TALL + 2)
+}
+
+/// Does something while another connection writes cells anew that there are.
+fn beside_writes(port: u16, cells: usize, act: impl FnOnce() -> Result<()>) -> Result<()> {
+    let (mut other, ended) = (Connection::new(port)?, &AtomicBool::new(false));
+    let mut words = Words(cells as u64);
+    thread::scope(|threads| {
+        let writer = threads.spawn(move || -> Result<()> {
+            while !ended.load(Ordering::Relaxed) {
+                let rows = (0..WRITES_BESIDE).map(|_| words.below(cells));
+                other.ask(&list(|to| rows.for_each(|row| to.write("tall", row, 1, &mut Words(row as u64)))))?;
+                thread::sleep(Duration::from_millis(1));
+            }
+            Ok(())
+        });
+        let outcome = act();
+        ended.store(true, Ordering::Relaxed);
+        writer.join().unwrap_or_else(|_| Err("the writer failed".into()))?;
+        outcome
     })
 }
 
