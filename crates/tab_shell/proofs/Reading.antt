@@ -1,9 +1,11 @@
 -- No line is a bare act that opens a session.
-use Rattle.std.proofs.Common.{ℕ, true, false, cond, List, [], ◌∷◌, refl, subst, Option, Some, None, Result, Ok, Err}
+use Rattle.std.proofs.Common.{ℕ, true, false, cond, List, [], ◌∷◌, refl, ap, subst, Option, Some, None, Result, Ok, Err}
 use Rattle.std.specs.Prelude.{Result, option_map}
 use Rattle.tab_lines.specs.declared.line.Line.{Line}
 use Rattle.tab_lines.specs.declared.line.Line.TheVariants as line
 use Rattle.tab_text.specs.declared.parse_error.ParseError.{ParseError}
+use Rattle.tab_text.specs.declared.parse_error.ParseError.TheVariants as stop
+use Rattle.tab_history.specs.declared.event.Scan.{Scan}
 use Rattle.tab_lines.specs.declared.command.Command.{Command}
 use Rattle.tab_lines.specs.declared.command.Command.TheVariants as command
 use Rattle.tab_lines.specs.declared.file_line.FileKind.{FileKind}
@@ -16,7 +18,7 @@ use Rattle.tab_lines.specs.Fields.{name_of, unsigned_of, small_of, signed_of, ve
 use Rattle.tab_lines.specs.Updates.{row_of, put_of, delete_of, updates_of}
 use Rattle.tab_text.specs.Reading.{bytes_of}
 use Rattle.tab_lines.specs.Lines.{settings, createtable_of, setauths_of, constraints_line_of, versions_line_of, horizon_of, insert_of, delete_line_of, mutate_of, scan_words, next_of, ranges_of, many_of, close_of, compact_of, begin_of, merge_of, install_of, addsplit_of, splitsize_of, file_of, rotate_of, at_of, name_alone, grant_of, command_of, commanded, said, is_comment, line_of}
-use Rattle.tab_shell.specs.Ahead.{OpensNoSession}
+use Rattle.tab_shell.specs.Ahead.{OpensNoSession, scan_line}
 
 -- nothing is read, or what is read is no bare act that opens a session
 abbrev IsShut : Option Line → Type 0
@@ -160,3 +162,9 @@ shut (Err e) o h is = tt
 -- what a line says is no bare act that opens a session
 pub line_opens_none : (said : Result Line ParseError) (text : List ℕ) → Gives (λ x. x) said (line_of text) → OpensNoSession said
 line_opens_none said text is = shut said (line_of text) (line_shut text) is
+
+-- what was read of a whole scan says what the line says
+pub scan_reads : (asked : Result Scan ParseError) (read : Option Scan) → Gives (λ x. x) asked read → Gives (λ x. x) (scan_line asked) (option_map (λ scan. line.Scan scan) read)
+scan_reads (Ok scan) read is = ap (option_map (λ s. line.Scan s)) is
+scan_reads (Err stop.NoMemory) read is = tt
+scan_reads (Err stop.Malformed) read is = ap (option_map (λ s. line.Scan s)) is

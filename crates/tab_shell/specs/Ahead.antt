@@ -2,11 +2,15 @@
 use Rattle.std.specs.Prelude.{ℕ, ◌≡◌, ◌<◌, Bool, true, false, List, [], ◌∷◌, ◌++◌, length, Result, Ok, Err, Option, Some, None}
 use Rattle.std.specs.List.{prefix_len}
 use Rattle.tab_history.specs.Answers.{is_open}
+use Rattle.tab_history.specs.declared.event.Scan.{Scan}
 use Rattle.tab_lines.specs.declared.line.Line.{Line}
 use Rattle.tab_lines.specs.declared.line.Line.TheVariants as line
 use Rattle.tab_text.specs.declared.parse_error.ParseError.{ParseError}
 use Rattle.tab_text.specs.Gives.{Gives}
-use Rattle.tab_lines.specs.Lines.{line_of}
+use Rattle.tab_lines.specs.declared.command.Command.TheVariants as command
+use Rattle.tab_lines.specs.declared.words.Words.{Words}
+use Rattle.tab_lines.specs.Words.{words_left}
+use Rattle.tab_lines.specs.Lines.{commanded, line_of}
 use Rattle.tab_shell.specs.declared.pending.Pending.{Pending}
 use Rattle.tab_shell.specs.Scripts.{is_inside, IsInside}
 
@@ -27,6 +31,15 @@ AddsOn old new part = (gone : List ℕ) → Pends old gone → Pends new (gone +
 -- what the line says, or memory lacked
 abbrev pub ReadsLine : Result Line ParseError → List ℕ → Type 0
 ReadsLine said line = Gives (λ x. x) said (line_of line)
+
+-- what a whole scan says, of which these words are left behind its command, or memory lacked
+abbrev pub ReadsScan : Result Line ParseError → Words → Type 0
+ReadsScan said words = Gives (λ x. x) said (commanded command.Scan (words_left words))
+
+-- what was read of a whole scan, as that of a line
+abbrev pub scan_line : Result Scan ParseError → Result Line ParseError
+scan_line (Ok scan) = Ok (line.Scan scan)
+scan_line (Err stop) = Err stop
 
 -- todo is what has gone by of a line, and what is to come
 abbrev pub Ahead : Option (List ℕ) → Pending → List ℕ → Type 0

@@ -4,7 +4,7 @@ ghost use Rattle.tab_history.specs.Answers.{is_open};
 ghost use Rattle.tab_io.specs.Streams.{FailsByFault};
 ghost use Rattle.tab_policy.specs.Roots.{root};
 ghost use Rattle.tab_shell.specs.Scripts.{new_script, replaced, IsInside};
-ghost use Rattle.tab_shell.specs.Ahead.{Pends, ReadsLine, TakesLine, IsLineEnd, OpensNoSession};
+ghost use Rattle.tab_shell.specs.Ahead.{Pends, ReadsLine, ReadsScan, scan_line, TakesLine, IsLineEnd, OpensNoSession};
 ghost use Rattle.tab_shell.specs.Progress.{PrintsAnswer, AnswersOrAccepts, AnswersRead, AnswersFront, IsEmptied, EndsAhead, StopsAhead, FailedSide, RunsScript, ComesFurther};
 
 use crate::file_lines::{file_act, hand_back, is_done, printed, taken};
@@ -16,7 +16,7 @@ use tab_core::{Core, JobSlots, Sessions};
 use tab_history::{Act, Refusal, Scan};
 use tab_io::{Input, Output, WriteFault};
 use tab_key::{Bounds, Items, Name};
-use tab_lines::{FileLine, Line, ParseError, read_line};
+use tab_lines::{FileLine, Line, ParseError, Words, read_line, read_scan, words_of_scan};
 use tab_replies::{put_begun, put_next, write_reply};
 
 /// How a run of a script ended.
@@ -136,6 +136,48 @@ impl Script {
 
     // The same for a line that is here whole.
     fn answer_text<W: Output>(
+        &mut self,
+        text: &[u8],
+        output: &mut W,
+    ) -> Result<Option<FileLine>, WriteFault>
+        ensures { AnswersRead W.Output self.old (λ said. ReadsLine said text.now) self.new output.old output.new result }
+    {
+        match words_of_scan(text) {
+            Some(words) => self.answer_scan(words, output),
+            None => self.answer_other(text, output),
+        }
+    }
+
+    // The same for a whole scan, of which these words are left. It is read into no room for what other lines say.
+    #[inline(never)]
+    fn answer_scan<W: Output>(
+        &mut self,
+        mut words: Words<'_>,
+        output: &mut W,
+    ) -> Result<Option<FileLine>, WriteFault>
+        ensures { AnswersRead W.Output self.old (λ said. ReadsScan said words.entry) self.new output.old output.new result }
+    {
+        self.answer_asked(read_scan(self.alloc, &mut words), output)
+    }
+
+    // The same for what was read of a whole scan.
+    fn answer_asked<W: Output>(
+        &mut self,
+        mut asked: Result<Scan, ParseError>,
+        output: &mut W,
+    ) -> Result<Option<FileLine>, WriteFault>
+        ensures { AnswersOrAccepts W.Output self.old (scan_line asked) self.new output.old output.new result }
+    {
+        match &mut asked {
+            Ok(scan) => printed(self.scan(scan, output)),
+            Err(ParseError::Malformed) => printed(self.faults(output)),
+            Err(ParseError::NoMemory) => printed(self.lacks_memory(output)),
+        }
+    }
+
+    // The same for any line.
+    #[inline(never)]
+    fn answer_other<W: Output>(
         &mut self,
         text: &[u8],
         output: &mut W,

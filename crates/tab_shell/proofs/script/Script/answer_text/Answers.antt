@@ -1,8 +1,9 @@
-use Rattle.tab_shell.proofs.Reading.{line_opens_none}
+use Rattle.std.proofs.Common.{Option, sym, subst}
+use Rattle.tab_text.specs.Gives.{Gives}
+use Rattle.tab_lines.specs.declared.line.Line.{Line}
 use Rattle.tab_shell.proofs.script.Script.answer_text.Goals as goal
 
-pub answer_read-requires : goal.answer_read-requires
-answer_read-requires g c = line_opens_none c.read_line.result c.args.text.now c.read_line.ensures
-
-pub returns : goal.returns
-returns g c = (c.read_line.result, c.read_line.ensures, c.answer_read-2.ensures)
+pub returns-in-Some : goal.returns-in-Some
+returns-in-Some g c =
+    let read = c.answer_scan.ensures in
+    (read.0, subst (λ (o : Option Line). Gives (λ x. x) read.0 o) (sym c.in-Some.ensures) read.1, read.2)
