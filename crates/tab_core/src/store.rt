@@ -111,10 +111,9 @@ impl Store {
         ensures left { Act.Open scan.new ≡ left_of (Act.Open scan.old) (told_of result) }
     {
         let action = Action::OnTable(TableAction::Open, &scan.table);
-        let caller = match self.policy.decide(user, &action) {
-            Ok(caller) => caller,
-            Err(denial) => return Reply::Refused(refusal_of(*user, denial)),
-        };
-        open(alloc, &mut self.tables, caller.authorizations, scan)
+        match self.policy.decide(user, &action) {
+            Ok(caller) => open(alloc, &mut self.tables, caller.authorizations, scan),
+            Err(denial) => Reply::Refused(refusal_of(*user, denial)),
+        }
     }
 }

@@ -18,8 +18,8 @@ returns-in-Err-clause-acts c =
 pub open-requires : goal.open-requires
 open-requires c = tablets_apart (held c.args.self.now) c.requires.store c.args.scan.now.table
 
-pub returns-clause-acts : goal.returns-clause-acts
-returns-clause-acts c =
+pub returns-in-Ok-clause-acts : goal.returns-in-Ok-clause-acts
+returns-in-Ok-clause-acts c =
     let act : Act = Open c.args.scan.now in
     let d : None ≡ decision (standing_of c.args.self.now.policy c.args.user.now) (action_of act) = c.in-Ok.ensures.decided in
     admitted (held c.args.self.now) _ c.args.now c.args.now None c.args.user.now act act (action_of act) c.open.result c.requires refl d refl refl
