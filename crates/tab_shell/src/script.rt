@@ -157,18 +157,18 @@ impl Script {
     ) -> Result<Option<FileLine>, WriteFault>
         ensures { AnswersRead W.Output self.old (λ said. ReadsScan said words.entry) self.new output.old output.new result }
     {
-        self.answer_asked(read_scan(self.alloc, &mut words), output)
+        self.answer_asked(&mut read_scan(self.alloc, &mut words), output)
     }
 
     // The same for what was read of a whole scan.
     fn answer_asked<W: Output>(
         &mut self,
-        mut asked: Result<Scan, ParseError>,
+        asked: &mut Result<Scan, ParseError>,
         output: &mut W,
     ) -> Result<Option<FileLine>, WriteFault>
-        ensures { AnswersOrAccepts W.Output self.old (scan_line asked) self.new output.old output.new result }
+        ensures { AnswersOrAccepts W.Output self.old (scan_line asked.old) self.new output.old output.new result }
     {
-        match &mut asked {
+        match asked {
             Ok(scan) => printed(self.scan(scan, output)),
             Err(ParseError::Malformed) => printed(self.faults(output)),
             Err(ParseError::NoMemory) => printed(self.lacks_memory(output)),
