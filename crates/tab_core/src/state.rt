@@ -191,6 +191,7 @@ impl Core {
 
     /// The same for an Open of a scan that is lent as it is. What the core keeps of it, its columns and its authorizations, is taken out of it
     /// unless the Open is refused; then the scan is left as it was.
+    #[inline(always)]
     pub fn open_lent(&mut self, alloc: Global, user: &Name, moment: i64, scan: &mut Scan) -> Answer
         ensures steps { Steps (base_of self.old) (asked_at user.now moment (Act.Open scan.old)) result (base_of self.new) }
         ensures exact { StepsWith self.old None (asked_at user.now moment (Act.Open scan.old)) result self.new }

@@ -105,6 +105,7 @@ impl Store {
     }
 
     /// The same for an Open of a scan that is lent as it is.
+    #[inline(always)]
     pub fn answer_open(&mut self, alloc: Global, now: i64, user: &Name, scan: &mut Scan) -> Answer
         requires { IsCore (held self.old) }
         ensures acts { Acts (event_answer (base_of (held self.old)) [] now user.now (Act.Open scan.old)) (held self.old) now None user.now (Act.Open scan.old) result (held self.new) }
