@@ -16,6 +16,7 @@ pub mod Merged
 pub mod InParts
 pub mod FirstDue
 pub mod Idle
+pub mod Bare
 pub use Rattle.tab_tablet.proofs.Parted
 pub use Rattle.tab_tablet.proofs.Moved
 pub use Rattle.tab_tablet.proofs.Gathered

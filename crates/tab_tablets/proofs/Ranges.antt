@@ -176,9 +176,9 @@ module _ (bounds : Bounds) (ts : List Tablet) (own : HoldOwnRows ts) (apart : Li
       go (inl lt) u q = ap (λ v. v && is_below bounds.high u.key.row) (low k u.key.row lt q)
       go (inr ge) u q = ap (λ v. is_above bounds.low u.key.row && v) (high k u.key.row (omega arith) q) ∙ and_false (is_above bounds.low u.key.row)
 
-  module _ (cs : List Sources) (are : map in_its_order cs ≡ map (part_sorted bounds) (slice_range ts a b)) where
+  module _ (cs : List Sources) (are : flat (map in_its_order cs) ≡ flat (map (part_sorted bounds) (slice_range ts a b))) where
     all_are : flat (map in_its_order cs) ≡ flat (map (part_sorted bounds) ts)
-    all_are = ap flat are ∙ within (part_sorted bounds) ts a b order (λ k in_ts o. ap sorted (unseen k in_ts o))
+    all_are = are ∙ within (part_sorted bounds) ts a b order (λ k in_ts o. ap sorted (unseen k in_ts o))
 
     pub clips_rise : IsRising (flat (map (λ (c : Sources). sorted (records_of c)) cs))
     clips_rise = subst IsRising (sym all_are) (rises bounds ts apart)

@@ -1,10 +1,11 @@
 //! What a scan reads of tablets, which are frozen for it.
-ghost use Rattle.std.specs.Prelude.{◌≡◌, ◌≢◌, ℕ, ◌≤◌, ◌<◌, [], length, map, slice_range, IfOk, OnOk, OnErr, true};
+ghost use Rattle.std.specs.Prelude.{◌≡◌, ◌≢◌, ℕ, ◌≤◌, ◌<◌, ◌==◌, ◌++◌, [], length, map, slice_range, IsTrue, IfOk, OnOk, OnErr, true};
 ghost use Rattle.tab_key.specs.Sorted.{sorted};
+ghost use Rattle.tab_iter.specs.Bags.{flat};
 ghost use Rattle.tab_version.specs.Sources.{records_of};
 ghost use Rattle.tab_tablet.specs.MergedRuns.{IsFreezeOf};
 ghost use Rattle.tab_tablet.specs.Opened.{ShowsRowsOf};
-ghost use Rattle.tab_tablet.specs.Tablets.{frozen};
+ghost use Rattle.tab_tablet.specs.Tablets.{frozen, records_in};
 ghost use Rattle.tab_tablets.specs.ByRow.{LieApart, records_of_all};
 ghost use Rattle.tab_tablets.specs.Places.{tablet_at, IsSettled, AreMade, part_in, MakesMore, is_among};
 ghost use Rattle.std.specs.List.{AllByRecursion};
@@ -15,7 +16,7 @@ use crate::tablet_list::TabletList;
 use crate::tablets::Tablets;
 use std::alloc::{AllocError, Global};
 use tab_key::Bounds;
-use tab_tablet::Freeze;
+use tab_tablet::{Freeze, Tablet};
 use tab_version::{Clips, Version};
 
 impl Tablets {
@@ -107,7 +108,8 @@ impl Tablets {
     }
 }
 
-// What a scan reads of the tablets from one place up to another. Where anything was written to one, a frozen one is made.
+// What a scan reads of the tablets from one place up to another, but for those that hold nothing. Where anything was written to one, a
+// frozen one is made.
 fn clips_in(
     alloc: Global,
     tablet_list: &TabletList,
@@ -119,15 +121,65 @@ fn clips_in(
     requires order { from ≤ end }
     requires inside { end ≤ length tablet_list.now }
     requires none { made.old.items ≡ [] }
-    ensures clips { IfOk result (λ v. map (λ c. sorted (records_of c)) v.items ≡ map (λ t. sorted (part_in bounds.now t)) (slice_range tablet_list.now from end)) }
+    ensures clips { IfOk result (λ v. flat (map (λ c. sorted (records_of c)) v.items) ≡ flat (map (λ t. sorted (part_in bounds.now t)) (slice_range tablet_list.now from end))) }
     ensures made { OnOk result (AreMade frozen tablet_list.now made.new.items) }
     ensures settled { OnOk result ((k : ℕ) → from ≤ k → k < end → IsSettled frozen tablet_list.now made.new.items k) }
 {
     let mut clips = Vec::new(alloc);
     for place in from..end {
-        clips.push(clips_at(alloc, tablet_list, bounds, place, made)?)?;
+        add_clips_at(alloc, tablet_list, bounds, place, &mut clips, made)?;
     }
     Ok(clips)
+}
+
+// Puts what a scan reads of the tablet at a place behind the others, unless the tablet holds nothing.
+fn add_clips_at(
+    alloc: Global,
+    tablet_list: &TabletList,
+    bounds: &Bounds,
+    place: usize,
+    clips: &mut Vec<Clips>,
+    made: &mut Vec<MadeTablet>,
+) -> Result<(), AllocError>
+    requires { place < length tablet_list.now }
+    ensures clips { OnOk result (flat (map (λ c. sorted (records_of c)) clips.new.items) ≡ flat (map (λ c. sorted (records_of c)) clips.old.items) ++ sorted (part_in bounds.now (tablet_at tablet_list.now place))) }
+    ensures more { OnOk result (MakesMore frozen tablet_list.now made.old.items made.new.items) }
+    ensures settled { OnOk result (IsSettled frozen tablet_list.now made.new.items place) }
+{
+    if holds_nothing(tablet_list.tablet(place)) {
+        return Ok(());
+    }
+    push_clips_at(alloc, tablet_list, bounds, place, clips, made)
+}
+
+// The same, of one that may hold something.
+#[inline(never)]
+fn push_clips_at(
+    alloc: Global,
+    tablet_list: &TabletList,
+    bounds: &Bounds,
+    place: usize,
+    clips: &mut Vec<Clips>,
+    made: &mut Vec<MadeTablet>,
+) -> Result<(), AllocError>
+    requires { place < length tablet_list.now }
+    ensures clips { OnOk result (flat (map (λ c. sorted (records_of c)) clips.new.items) ≡ flat (map (λ c. sorted (records_of c)) clips.old.items) ++ sorted (part_in bounds.now (tablet_at tablet_list.now place))) }
+    ensures more { OnOk result (MakesMore frozen tablet_list.now made.old.items made.new.items) }
+    ensures settled { OnOk result (IsSettled frozen tablet_list.now made.new.items place) }
+{
+    clips.push(clips_at(alloc, tablet_list, bounds, place, made)?)?;
+    Ok(())
+}
+
+// Whether the tablet holds no record, and has no source.
+fn holds_nothing(tablet: &Tablet) -> bool
+    ensures frozen { IsTrue result → (length tablet.now.active == 0) ≡ true }
+    ensures none { IsTrue result → records_in tablet.now ≡ [] }
+{
+    if !tablet.is_frozen() {
+        return false;
+    }
+    tablet.count_sources() == 0
 }
 
 // What a scan reads of them once the one at a place is frozen, for which that was prepared. Nothing was written to another one.

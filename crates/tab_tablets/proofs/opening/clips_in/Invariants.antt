@@ -1,5 +1,6 @@
 use Rattle.std.proofs.Common.{◌≡◌, ℕ, ◌<◌, ◌≤◌}
 use Rattle.std.specs.Prelude.{map, slice_range}
+use Rattle.tab_iter.specs.Bags.{flat}
 use Rattle.tab_tablets.proofs.Ranges.{in_its_order, part_sorted}
 use Rattle.tab_tablet.specs.Tablets.{frozen}
 use Rattle.tab_tablets.specs.Places.{IsSettled, AreMade}
@@ -7,7 +8,7 @@ use Rattle.tab_tablets.proofs.opening.clips_in.Given as goal
 
 abbrev pub invariant-loop-place : goal.invariant-loop-place
 invariant-loop-place l = record {
-  clips : map in_its_order l.clips.items ≡ map (part_sorted l.bounds) (slice_range l.tablet_list l.from l.place);
+  clips : flat (map in_its_order l.clips.items) ≡ flat (map (part_sorted l.bounds) (slice_range l.tablet_list l.from l.place));
   made : AreMade frozen l.tablet_list l.made.items;
   settled : (k : ℕ) → l.from ≤ k → k < l.place → IsSettled frozen l.tablet_list l.made.items k;
 }
