@@ -1,6 +1,8 @@
 -- For proofs. Where a search in a run goes.
 use Rattle.std.specs.Prelude.{ℕ, ◌≡◌, ◌<◌, ◌^◌, Bool, true, false, List, filter, not}
 use Rattle.std.specs.Ordering.{is_lt}
+use mathlib.Core.Bool.{Bool-set}
+use mathlib.Core.HLevel.{Π_prop}
 use Rattle.tab_key.specs.Order.{key_cmp}
 use Rattle.tab_key.specs.Ranges.{is_above, is_below}
 use Rattle.tab_key.specs.RowPrefix.{IsRowPrefix}
@@ -34,3 +36,10 @@ IsEndPrefix none (Exclusive row) prefix = IsRowPrefix prefix row
 pub record IsPrefixOf (s : Start) (prefix : ℕ) : Type 0 where
   pub lower : (u : Record) (p : ℕ) → IsRowPrefix p u.key.row → p < prefix → is_before s u ≡ true
   pub higher : (u : Record) (p : ℕ) → p < 2 ^ 128 → IsRowPrefix p u.key.row → prefix < p → is_before s u ≡ false
+
+-- ---- this fact has one proof
+pub IsPrefixOf-prop : (s : Start) (prefix : ℕ) → IsProp (IsPrefixOf s prefix)
+IsPrefixOf-prop s prefix a b = λ i. record {
+  lower = Π_prop (λ u. Π_prop λ p. Π_prop λ is. Π_prop λ lt. Bool-set _ _) a.lower b.lower i;
+  higher = Π_prop (λ u. Π_prop λ p. Π_prop λ fits. Π_prop λ is. Π_prop λ lt. Bool-set _ _) a.higher b.higher i;
+}

@@ -53,4 +53,4 @@ pub use rising::{count_below, count_up_to};
 pub use row_index::RowIndex;
 pub use run::Run;
 pub use searching::{first_near, rows_in};
-pub use start::Start;
+pub use start::{Start, Target};

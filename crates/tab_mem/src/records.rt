@@ -8,7 +8,7 @@ ghost use Rattle.tab_mem.specs.Lists.{HasShortParts};
 
 use crate::partitions::lending::lend_at;
 use crate::sorting::item::Item;
-use crate::{Ordered, RowIndex, Start};
+use crate::{Ordered, RowIndex, Target};
 use std::alloc::{AllocError, Global};
 use std::marker::Model;
 use std::ops::Range;
@@ -236,16 +236,16 @@ impl Records {
 impl Ordered for Records {
     ghost listed = { λ p. p };
 
-    fn precedes(&self, index: usize, start: Start<'_>) -> bool {
-        start.is_after(&self.get(index))
+    fn precedes(&self, index: usize, target: &Target<'_>) -> bool {
+        target.is_after(&self.get(index))
     }
 
-    fn narrowed(&self, low: usize, high: usize, start: Start<'_>) -> Range<usize> {
-        self.row_index.narrow(low, high, start)
+    fn narrowed(&self, low: usize, high: usize, target: &Target<'_>) -> Range<usize> {
+        self.row_index.narrow(low, high, target)
     }
 
-    fn is_far(&self, index: usize, start: Start<'_>) -> bool {
-        self.row_index.is_far(index, start)
+    fn is_far(&self, index: usize, target: &Target<'_>) -> bool {
+        self.row_index.is_far(index, target)
     }
 }
 

@@ -8,7 +8,7 @@ ghost use Rattle.tab_mem.specs.RowIndex.{IsRowIndex};
 ghost use Rattle.tab_mem.specs.Numbers.{count_below};
 ghost use Rattle.tab_mem.specs.Starts.{is_before};
 
-use crate::Start;
+use crate::Target;
 use crate::rising::{count_below, count_up_to};
 use std::alloc::{AllocError, Global};
 use std::ops::Range;
@@ -82,41 +82,41 @@ impl RowIndex {
     /// neighbours in the index, unless more of those have the prefix of the start's row.
     ///
     /// It takes time logarithmic in the part, and reads no record.
-    pub fn narrow(&self, low: usize, high: usize, start: Start<'_>) -> Range<usize>
+    pub fn narrow(&self, low: usize, high: usize, target: &Target<'_>) -> Range<usize>
         requires rising { IsNonDecreasing self.now.numbers.items }
         requires order { low ≤ high }
         requires inside { high ≤ STRIDE * length self.now.numbers.items }
         ensures low { low ≤ result.start }
         ensures order { result.start ≤ result.end }
         ensures high { result.end ≤ high }
-        ensures count { (rs : List Record) → IsRowIndex self.now.numbers.items rs → IsRising rs → high ≤ length rs → max low (min (prefix_len (is_before start.entry) rs) high) ≡ max result.start (min (prefix_len (is_before start.entry) rs) result.end) }
+        ensures count { (rs : List Record) → IsRowIndex self.now.numbers.items rs → IsRising rs → high ≤ length rs → max low (min (prefix_len (is_before target.now.start) rs) high) ≡ max result.start (min (prefix_len (is_before target.now.start) rs) result.end) }
     {
-        narrow_in(&self.numbers, low, high, start)
+        narrow_in(&self.numbers, low, high, target)
     }
 
     /// Whether the row of a record that stands some 128 places behind this index is below the start's, as far as the prefixes tell. Only
     /// speed hangs on it.
-    pub fn is_far(&self, index: usize, start: Start<'_>) -> bool {
+    pub fn is_far(&self, index: usize, target: &Target<'_>) -> bool {
         match self.numbers.get(index / STRIDE + FAR) {
-            Some(number) => *number < start.prefix(),
+            Some(number) => *number < target.prefix(),
             None => false,
         }
     }
 }
 
 // What `narrow` says, of the numbers of an index.
-fn narrow_in(numbers: &[u128], low: usize, high: usize, start: Start<'_>) -> Range<usize>
+fn narrow_in(numbers: &[u128], low: usize, high: usize, target: &Target<'_>) -> Range<usize>
     requires rising { IsNonDecreasing numbers.now }
     requires order { low ≤ high }
     requires inside { high ≤ STRIDE * length numbers.now }
     ensures low { low ≤ result.start }
     ensures order { result.start ≤ result.end }
     ensures high { result.end ≤ high }
-    ensures count { (rs : List Record) → IsRowIndex numbers.now rs → IsRising rs → high ≤ length rs → max low (min (prefix_len (is_before start.entry) rs) high) ≡ max result.start (min (prefix_len (is_before start.entry) rs) result.end) }
+    ensures count { (rs : List Record) → IsRowIndex numbers.now rs → IsRising rs → high ≤ length rs → max low (min (prefix_len (is_before target.now.start) rs) high) ≡ max result.start (min (prefix_len (is_before target.now.start) rs) result.end) }
 {
     let first = low / STRIDE;
     let past = (high / STRIDE + 1).min(numbers.len());
-    between(alike_in(numbers, first, past, start.prefix()), low, high)
+    between(alike_in(numbers, first, past, target.prefix()), low, high)
 }
 
 // The records of a part from behind the last one that is in the index before these places, up to the first one in it from their end on.

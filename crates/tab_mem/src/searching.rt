@@ -6,7 +6,7 @@ ghost use Rattle.tab_iter.specs.Lists.{IsRising};
 ghost use Rattle.tab_mem.specs.Lists.{part};
 ghost use Rattle.tab_mem.specs.Starts.{is_before, from_start};
 
-use crate::{Ordered, Start};
+use crate::{Ordered, Start, Target};
 use std::ops::Range;
 use tab_key::{Bound, Bounds};
 
@@ -15,17 +15,17 @@ const FAR: usize = 128;
 
 // How many records stand before the start, but no fewer than `low` and no more than `high`: between these by halves, of a part that is
 // near where they are many.
-fn count_between<R: Ordered>(records: &R, low: usize, high: usize, start: Start<'_>) -> usize
+fn count_between<R: Ordered>(records: &R, low: usize, high: usize, target: &Target<'_>) -> usize
     requires rising { IsRising (R.listed records.now) }
     requires ends { low ≤ high }
     requires inside { high ≤ length (R.listed records.now) }
-    ensures { result ≡ max low (min (prefix_len (is_before start.entry) (R.listed records.now)) high) }
+    ensures { result ≡ max low (min (prefix_len (is_before target.now.start) (R.listed records.now)) high) }
 {
     if high - low <= FAR {
-        return count_by_halves(records, low, high, start);
+        return count_by_halves(records, low, high, target);
     }
-    let near = records.narrowed(low, high, start);
-    count_by_halves(records, near.start, near.end, start)
+    let near = records.narrowed(low, high, target);
+    count_by_halves(records, near.start, near.end, target)
 }
 
 // The same, by halves alone.
@@ -33,16 +33,16 @@ fn count_by_halves<R: Ordered>(
     records: &R,
     mut low: usize,
     mut high: usize,
-    start: Start<'_>,
+    target: &Target<'_>,
 ) -> usize
     requires rising { IsRising (R.listed records.now) }
     requires ends { low ≤ high }
     requires inside { high ≤ length (R.listed records.now) }
-    ensures { result ≡ max low (min (prefix_len (is_before start.entry) (R.listed records.now)) high) }
+    ensures { result ≡ max low (min (prefix_len (is_before target.now.start) (R.listed records.now)) high) }
 {
     while low < high {
         let mid = low + (high - low) / 2;
-        if records.precedes(mid, start) {
+        if records.precedes(mid, target) {
             low = mid + 1;
         } else {
             high = mid;
@@ -53,26 +53,26 @@ fn count_by_halves<R: Ordered>(
 
 // The same, by steps from `low` on that double. Where the count isn't near, it is then looked for in all that is left, and at once where
 // the index of rows tells that it is far: each step reads a record that lies elsewhere.
-fn count_from<R: Ordered>(records: &R, low: usize, high: usize, start: Start<'_>) -> usize
+fn count_from<R: Ordered>(records: &R, low: usize, high: usize, target: &Target<'_>) -> usize
     requires rising { IsRising (R.listed records.now) }
     requires ends { low ≤ high }
     requires inside { high ≤ length (R.listed records.now) }
-    ensures { result ≡ max low (min (prefix_len (is_before start.entry) (R.listed records.now)) high) }
+    ensures { result ≡ max low (min (prefix_len (is_before target.now.start) (R.listed records.now)) high) }
 {
-    if records.is_far(low, start) {
-        return count_between(records, low, high, start);
+    if records.is_far(low, target) {
+        return count_between(records, low, high, target);
     }
     let far = high.min(low.saturating_add(FAR));
     let mut near = low;
     let mut step: usize = 1;
     while step < far - near {
-        if !records.precedes(near + step, start) {
-            return count_between(records, near, near + step, start);
+        if !records.precedes(near + step, target) {
+            return count_between(records, near, near + step, target);
         }
         near += step;
         step = step.saturating_mul(2);
     }
-    count_between(records, near, high, start)
+    count_between(records, near, high, target)
 }
 
 // The same, found from a place between the two: by steps from there on that double, or by halves before it. At `low` nothing was read
@@ -82,21 +82,21 @@ fn count_near<R: Ordered>(
     low: usize,
     at: usize,
     high: usize,
-    start: Start<'_>,
+    target: &Target<'_>,
 ) -> usize
     requires rising { IsRising (R.listed records.now) }
     requires before { low ≤ at }
     requires behind { at ≤ high }
     requires inside { high ≤ length (R.listed records.now) }
-    ensures { result ≡ max low (min (prefix_len (is_before start.entry) (R.listed records.now)) high) }
+    ensures { result ≡ max low (min (prefix_len (is_before target.now.start) (R.listed records.now)) high) }
 {
     if at == low {
-        return count_between(records, low, high, start);
+        return count_between(records, low, high, target);
     }
-    if !records.precedes(at - 1, start) {
-        return count_between(records, low, at - 1, start);
+    if !records.precedes(at - 1, target) {
+        return count_between(records, low, at - 1, target);
     }
-    count_from(records, at, high, start)
+    count_from(records, at, high, target)
 }
 
 // The index of the first record of a part that isn't before the start, or the part's end. The part goes from one index up to
@@ -109,7 +109,8 @@ fn first_at<R: Ordered>(records: &R, from: usize, end: usize, start: Start<'_>) 
     ensures high { result ≤ end }
     ensures found { part result end (R.listed records.now) ≡ from_start start.entry (part from end (R.listed records.now)) }
 {
-    count_between(records, from, end, start)
+    let target = Target::of(start);
+    count_between(records, from, end, &target)
 }
 
 /// The index of the first record of a part that isn't before the start, or the part's end, found from a place in the part: it takes
@@ -132,7 +133,8 @@ pub fn first_near<R: Ordered>(
     ensures high { result ≤ end }
     ensures found { part result end (R.listed records.now) ≡ from_start start.entry (part from end (R.listed records.now)) }
 {
-    count_near(records, from, at, end, start)
+    let target = Target::of(start);
+    count_near(records, from, at, end, &target)
 }
 
 // The index behind those first records of a part whose rows aren't above the high end.
@@ -144,7 +146,8 @@ fn past_rows<R: Ordered>(records: &R, from: usize, end: usize, high: &Bound) -> 
     ensures high { result ≤ end }
     ensures rows { part from result (R.listed records.now) ≡ filter (λ u. is_below high.now u.key.row) (part from end (R.listed records.now)) }
 {
-    count_from(records, from, end, Start::PastHigh(high))
+    let target = Target::of(Start::PastHigh(high));
+    count_from(records, from, end, &target)
 }
 
 /// The indexes of the records of a part whose rows are in bounds: these records stand together. The part goes from one index

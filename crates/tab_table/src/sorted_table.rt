@@ -16,7 +16,7 @@ use bytes::Bytes;
 use std::alloc::{AllocError, Global};
 use std::ops::Range;
 use tab_key::{Bounds, ByteString, RecordRef};
-use tab_mem::{Ordered, RowIndex, Start, room_between, rows_in};
+use tab_mem::{Ordered, RowIndex, Target, room_between, rows_in};
 
 /// Records that no longer change, in their order. A contract sees their list by `records`.
 ///
@@ -140,15 +140,15 @@ impl Ordered for SortedTable {
 
     ghost listed = { λ t. records t };
 
-    fn precedes(&self, index: usize, start: Start<'_>) -> bool {
-        start.is_after(&self.get(index))
+    fn precedes(&self, index: usize, target: &Target<'_>) -> bool {
+        target.is_after(&self.get(index))
     }
 
-    fn narrowed(&self, low: usize, high: usize, start: Start<'_>) -> Range<usize> {
-        self.row_index.narrow(low, high, start)
+    fn narrowed(&self, low: usize, high: usize, target: &Target<'_>) -> Range<usize> {
+        self.row_index.narrow(low, high, target)
     }
 
-    fn is_far(&self, index: usize, start: Start<'_>) -> bool {
-        self.row_index.is_far(index, start)
+    fn is_far(&self, index: usize, target: &Target<'_>) -> bool {
+        self.row_index.is_far(index, target)
     }
 }

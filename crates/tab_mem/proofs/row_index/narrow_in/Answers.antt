@@ -8,7 +8,7 @@ use Rattle.tab_mem.proofs.row_index.narrow_in.Goals as goal
 
 pub returns-clause-count : goal.returns-clause-count
 returns-clause-count c rs h rise inside =
-    let s = c.args.start in
+    let s = c.args.target.now.start in
     let q = c.prefix.result in
     let ns = c.args.numbers.now in
     let n = prefix_len (is_before s) rs in

@@ -8,7 +8,7 @@ invariant-loop-step g l = record {
   left : l.low ≤ l.near;
   right : l.near ≤ l.far;
   reach : l.far ≤ l.high;
-  passed : l.near ≤ max l.low (prefix_len (is_before l.start) (g.R.Ordered.listed l.records));
+  passed : l.near ≤ max l.low (prefix_len (is_before l.target.start) (g.R.Ordered.listed l.records));
   moves : 1 ≤ l.step;
 }
 

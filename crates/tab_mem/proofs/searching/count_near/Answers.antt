@@ -7,12 +7,12 @@ use Rattle.tab_mem.proofs.searching.count_near.Goals as goal
 
 pub returns-then-not-precedes : goal.returns-then-not-precedes
 returns-then-not-precedes g c =
-    let here : is_before c.args.start (slice_index_or (g.R.Ordered.listed c.args.records.now) (c.args.at - 1) blank) ≡ false = sym (c.precedes.ensures blank) ∙ cc in
-    let more = before_later c.args.start (g.R.Ordered.listed c.args.records.now) (c.args.at - 1) blank here (omega arith) in
+    let here : is_before c.args.target.now.start (slice_index_or (g.R.Ordered.listed c.args.records.now) (c.args.at - 1) blank) ≡ false = sym (c.precedes.ensures blank) ∙ cc in
+    let more = before_later c.args.target.now.start (g.R.Ordered.listed c.args.records.now) (c.args.at - 1) blank here (omega arith) in
     omega (arith, more)
 
 pub returns : goal.returns
 returns g c =
-    let here : is_before c.args.start (slice_index_or (g.R.Ordered.listed c.args.records.now) (c.args.at - 1) blank) ≡ true = sym (c.precedes.ensures blank) ∙ cc in
-    let more = before_earlier c.args.start (g.R.Ordered.listed c.args.records.now) c.requires.rising (c.args.at - 1) blank (omega arith) here in
+    let here : is_before c.args.target.now.start (slice_index_or (g.R.Ordered.listed c.args.records.now) (c.args.at - 1) blank) ≡ true = sym (c.precedes.ensures blank) ∙ cc in
+    let more = before_earlier c.args.target.now.start (g.R.Ordered.listed c.args.records.now) c.requires.rising (c.args.at - 1) blank (omega arith) here in
     omega (arith, more)
