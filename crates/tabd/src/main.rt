@@ -2,6 +2,7 @@
 //!
 //! | File | What |
 //! |---|---|
+//! | `closed_streams` | standard streams that are closed |
 //! | `scripting`, `serving`, `shell` | `tabd script`, `tabd serve` and `tabd shell` |
 //! | `watching` | how a run of lines ends that is watched |
 //! | `keeping`, `unheard` | a script over a folder, which keeps what it does, and the answers to lines that are done again |
@@ -12,6 +13,7 @@
 //! | `files` | images in files, as lines and the command line name them |
 #![tactic(auto)]
 
+mod closed_streams;
 mod counts;
 mod files;
 mod folder_store;
@@ -29,6 +31,7 @@ mod watching;
 
 use anyhow::Context;
 use clap::Error;
+use closed_streams::ClosedStreams;
 use looking::{Form, run_look};
 use scripting::{Style, run_kept, run_script};
 use serving::run_serve;
@@ -54,6 +57,7 @@ const ROTATE_AT: u64 = 16_384;
 const SOCKET_MODE: &str = "600";
 
 fn main(rt: HostRuntime) -> ExitCode {
+    let _closed = ClosedStreams::hold(&rt);
     match run(&rt, &rt) {
         Ok(status) => status,
         Err(fault) => {
