@@ -104,6 +104,31 @@ done
 [ "${PIPESTATUS[1]}" -eq 1 ] && [ "$(cat err)" = "fault: the output can't be written: Broken pipe (os error 32)" ]
 count 'an output that nobody reads' $?
 
+# ---- Closed streams: what is meant for them goes into no file and no socket that is opened later.
+printf 'createtable t\n' | "$program" script --store shut 2>err >&-
+fails 'a closed output beside a store' $? "the output can't be written: $bad"
+printf 'createtable t\n' | "$program" script --store shut --quiet >out 2>&-
+[ $? -eq 0 ] && [ ! -s shut/lock ]
+count 'nothing that was meant for closed streams is in a store' $?
+timeout 10 "$program" serve --socket s --store shut --history heard --accept 1 </dev/null >&- 2>err
+[ $? -eq 1 ] && [ ! -s heard ]
+count "a server that can't say that it listens, and its history" $?
+rm -f s
+"$program" serve --socket s --store shut --log <&- >/dev/null 2>&- &
+server=$!
+for _ in $(seq 100); do [ -S s ] && break || sleep 0.1; done
+printf 'insert t a f q \\e v 1\n' | "$program" shell --socket s --user root >out 2>err &&
+    "$program" shell --socket s --user root </dev/null >out 2>err
+printf 'bogus\n' | "$program" shell --socket s --user root --explain >out 2>&-
+[ $? -eq 0 ] && [ "$(cat out)" = 'line fault' ]
+count 'a shell with a closed standard error' $?
+printf 'bogus\n' | "$program" shell --socket s --user root 2>err >&-
+fails 'a shell with a closed output' $? "the output can't be written: $bad"
+kill -9 "$server" && wait "$server" 2>/dev/null
+[ "$(printf 'scan t \\0\n' | "$program" script --store shut 2>&1)" = "$(printf 'a f q \\e 1 v\nend\n')" ]
+count 'what a server with closed streams answered is kept' $?
+rm -rf shut s heard
+
 # ---- Want of memory before the first line: status 1, and one line.
 cat >failing.c <<'C'
 #define _GNU_SOURCE
