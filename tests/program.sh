@@ -125,7 +125,7 @@ count 'a shell with a closed standard error' $?
 printf 'bogus\n' | "$program" shell --socket s --user root 2>err >&-
 fails 'a shell with a closed output' $? "the output can't be written: $bad"
 kill -9 "$server" && wait "$server" 2>/dev/null
-[ "$(printf 'scan t \\0\n' | "$program" script --store shut 2>&1)" = "$(printf 'a f q \\e 1 v\nend\n')" ]
+[ "$(printf 'scan t \\0\n' | "$program" script --store shut 2>err)" = "$(printf 'a f q \\e 1 v\nend\n')" ]
 count 'what a server with closed streams answered is kept' $?
 rm -rf shut s heard
 
