@@ -144,6 +144,50 @@ class Tests:
         self.browser.type("no name")
         self.count("what is no name is told", "line fault" in run("document.querySelector('.card .notice').textContent"))
 
+    def store(self, lines, auths):
+        """These lines, and one reader, `ann`, to whom these authorizations are typed."""
+        run = self.browser.run
+        run("[...document.querySelectorAll('.remove')].forEach((it) => it.click()); document.getElementById('add').click()")
+        self.browser.type("ann")
+        for auth in auths:
+            run("document.querySelector('.card .more').focus()")
+            self.browser.type(auth)
+            self.press("Enter")
+        run("document.getElementById('lines').focus(); document.getElementById('lines').select()")
+        self.browser.type(lines)
+
+    def nobody(self):
+        """Who can't be a user sees nothing, though root, who then asks in his place, would be shown cells."""
+        run = self.browser.run
+        values = "[...document.querySelectorAll('.card .shown .value')].map((it) => it.textContent).join()"
+        for auths, seen in [([], "pub"), (["kept"], "mine,pub")]:
+            self.store("createtable t\ninsert t r f a kept mine 1\ninsert t r f q \\e pub 1\nsetauths root kept", auths)
+            self.agrees(f"a reader of {auths}")
+            self.count(f"a reader of {auths} sees what is his", run(values) == seen)
+            for name in ["ann b", "", "\u00c4nn"]:
+                run("document.querySelector('.card .who').focus(); document.querySelector('.card .who').select()")
+                self.browser.type(name)
+                notice = run("document.querySelector('.card .notice:not([hidden])')?.textContent")
+                self.count(f"'{name}' of {auths} is told to be none", notice == f"createuser {name}: line fault")
+                counted = run("document.querySelector('.card .bytes').textContent")
+                self.count(f"'{name}' of {auths} sees nothing", run(values) == "" and counted.startswith("0 cells "))
+                self.count(f"'{name}' of {auths} has no cell in his view", self.views() == ["line fault\n"])
+
+    def utf8(self):
+        """Authorizations are typed in UTF-8, as at the program's prompt."""
+        run = self.browser.run
+        spelled = {"\u65e5": "\\xe6\\x97\\xa5", "\u00c4": "\\xc3\\x84", "\U0001f511": "\\xf0\\x9f\\x94\\x91", 'a "b",\\': 'a\\x20"b"\\x2c\\\\'}
+        lines = ["createtable t", 'insert t r f q "\u65e5" fault 1', 'insert t r f other ee5|"\\xc4" other 1']
+        lines += [f'insert t r f {i} "{it}" {i} 1' for i, it in enumerate(list(spelled.values())[:3])]
+        self.store("\n".join(lines), spelled)
+        self.agrees("authorizations in UTF-8")
+        self.count("each is sent as its bytes", run("state.last.views[0].asked.at(-1)") == "scan t " + ",".join(spelled.values()))
+        self.count("and is shown as it was typed", run("state.readers[0].auths") == list(spelled))
+        shown = run("[...document.querySelectorAll('.card .shown')].map((it) => it.querySelector('.value').textContent)")
+        self.count("he sees the cells of these bytes, and of no others", shown == ["0", "1", "2"])
+        self.count("these parts of labels hold, and no others", run("document.querySelectorAll('.card .part.holds').length") == 3)
+        self.count("what isn't spelled is no word of the lines", not run("state.last.root.asked.at(-1)").count("x65e5"))
+
     def examples(self):
         run = self.browser.run
         for number, title in enumerate(run("EXAMPLES.map((it) => it.title)")):
@@ -213,7 +257,7 @@ def main():
         if "--picture" in options:
             browser.size(1200, 820)
             browser.picture(options["--picture"])
-        for test in [tests.beginning, tests.typing, tests.readers, tests.examples, tests.worlds, tests.memory, tests.around]:
+        for test in [tests.beginning, tests.typing, tests.readers, tests.nobody, tests.utf8, tests.examples, tests.worlds, tests.memory, tests.around]:
             test()
     finally:
         browser.close()

@@ -24,10 +24,11 @@ function explained(core, number, line) {
 }
 
 const authList = (auths) => (auths.length ? auths.map(spellMember).join(",") : "\\0");
+const typedList = (auths) => authList(auths.map(bytesOf));
 
 // What is asked for a reader behind the lines of the store: that he is there, holds these authorizations, may read the table, and scans it.
 function linesOf(reader, table) {
-  const list = authList(reader.auths);
+  const list = typedList(reader.auths);
   return ["as root", `createuser ${reader.name}`, `setauths ${reader.name} ${list}`, `grant ${reader.name} READ ${table}`, `as ${reader.name}`, `scan ${table} ${list}`];
 }
 
@@ -37,14 +38,20 @@ function linesOfRoot(terms, table) {
   return ["as root", `setauths root ${list}`, `grant root READ ${table}`, `scan ${table} ${list}`];
 }
 
-// The store's lines and the views over them, in one run.
+// Whether a line before a view's scan was answered as it must be, so that the scan is made by whom it should be. A reader may be there already.
+const isAnswered = (line, answer) => answer === (line.startsWith("as ") ? "" : "ok\n") || answer.startsWith("refused 11 UserExists ");
+
+// The store's lines and the views over them, in one run. A view is what the scan was answered; where a line before it was answered otherwise
+// than it must be, the scan is somebody else's, and the view is that line's answer.
 function askAll(core, lines, readers, table, terms) {
   const groups = table ? [...readers.map((it) => linesOf(it, table)), linesOfRoot(terms, table)] : [];
   const { torn, answers } = askLines(core, [...lines, ...groups.flat()]);
   let at = lines.length;
   const views = groups.map((group) => {
     at += group.length;
-    return { asked: group, told: answers.slice(at - group.length, at), view: answers[at - 1] };
+    const told = answers.slice(at - group.length, at);
+    const other = told.slice(0, -1).find((it, i) => !isAnswered(group[i], it));
+    return { asked: group, told, view: other ?? told.at(-1) };
   });
   return { torn, answers: answers.slice(0, lines.length), views: views.slice(0, -1), root: views.at(-1) ?? null };
 }
@@ -53,7 +60,7 @@ function askAll(core, lines, readers, table, terms) {
 function askLabels(core, labels, lists) {
   if (!labels.length || !lists.length) return lists.map(() => new Set());
   const cells = labels.map((label, i) => `insert parts ${i} f q ${spellWord(label)} v`);
-  const scans = lists.flatMap((auths) => [`setauths root ${authList(auths)}`, `scan parts ${authList(auths)}`]);
+  const scans = lists.flatMap((auths) => [`setauths root ${typedList(auths)}`, `scan parts ${typedList(auths)}`]);
   const { answers } = askLines(core, ["createtable parts", ...cells, ...scans]);
   return lists.map((_, i) => {
     const shown = answers[cells.length + 2 + 2 * i] ?? "";

@@ -6,6 +6,7 @@ function readWord(word) {
   if (word === "\\e") return "";
   let bytes = "";
   for (let i = 0; i < word.length; i++) {
+    if (word[i] < "!" || word[i] > "~") return null;
     if (word[i] !== "\\") bytes += word[i];
     else if (word[i + 1] === "\\") (bytes += "\\"), (i += 1);
     else if (/^x[0-9a-f]{2}$/.test(word.slice(i + 1, i + 4))) (bytes += String.fromCharCode(parseInt(word.slice(i + 2, i + 4), 16))), (i += 3);
@@ -13,6 +14,9 @@ function readWord(word) {
   }
   return bytes;
 }
+
+// The bytes of what is typed, in UTF-8, one character a byte.
+const bytesOf = (text) => Array.from(encoder.encode(text), (byte) => String.fromCharCode(byte)).join("");
 
 const spellByte = (c) => (c === "\\" ? "\\\\" : c < "!" || c > "~" ? `\\x${c.charCodeAt(0).toString(16).padStart(2, "0")}` : c);
 const spellWord = (bytes) => (bytes === "" ? "\\e" : [...bytes].map(spellByte).join(""));
