@@ -12,7 +12,7 @@
 package has examples.
 """
 from .client import TIMEOUT, Client, connect
-from .connection import MAX_FRAME
+from .connection import MAX_FRAME, WINDOW
 from .data import (
     CONSTRAINTS,
     SYSTEM_PERMISSIONS,
@@ -61,7 +61,6 @@ from .errors import (
     UserExists,
     VersionsRaised,
 )
-from .pipeline import WINDOW
 from .session import Session
 
 __version__ = "0.16.0"

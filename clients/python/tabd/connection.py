@@ -11,6 +11,9 @@ from .requests import Opcode, field
 
 MAX_FRAME = 8_388_608
 """Bytes of a request or a reply."""
+WINDOW = 100
+"""At most so many requests are sent together. The replies to so many writes and closes, of at most 140 bytes each, fit into what a
+socket or a pipe holds, so that neither side waits for the other."""
 
 
 class Connection:
@@ -36,15 +39,17 @@ class Connection:
         self._waiting.append((request, hear))
 
     def send(self) -> None:
-        """Sends all that waits, in turn, and hears the answers."""
+        """Sends all that waits, in turn, and hears the answers to each window before it sends the next."""
         waiting, self._waiting = self._waiting, []
         if self.closed:
             raise ConnectionClosed("the client is closed")
         try:
-            self._writer.write(b"".join([field(request) for request, _ in waiting]))
-            self._writer.flush()
-            for request, hear in waiting:
-                hear(self._answer(Opcode(request[0])))
+            for first in range(0, len(waiting), WINDOW):
+                window = waiting[first : first + WINDOW]
+                self._writer.write(b"".join([field(request) for request, _ in window]))
+                self._writer.flush()
+                for request, hear in window:
+                    hear(self._answer(Opcode(request[0])))
         except BaseException as error:
             self.close()
             if isinstance(error, (socket.timeout, TimeoutError)):

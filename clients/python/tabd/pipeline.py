@@ -3,13 +3,9 @@ from __future__ import annotations
 
 from typing import Dict
 
-from .connection import MAX_FRAME, Connection
+from .connection import MAX_FRAME, WINDOW, Connection
 from .errors import Refused
 from .replies import Answer
-
-WINDOW = 100
-"""Writes that are sent together. The replies to so many, of at most 140 bytes each, fit into what a socket or a pipe holds, so that
-neither side waits for the other."""
 
 
 class Pipeline:

@@ -122,6 +122,20 @@ class Timeouts(unittest.TestCase):
         self.assertTrue(client.closed)
         self.assertLess(time.monotonic() - began, 5)
 
+    def test_closes_are_sent_a_window_at_a_time(self) -> None:
+        ours, theirs = socket.socketpair()
+        with ours, theirs:
+            theirs.settimeout(5)
+            theirs.sendall(b"\0\0\0\1\x80")
+            ours.settimeout(0.1)
+            client = tabd.Client(ours.makefile("rb"), ours.makefile("wb"), "root")
+            for number in range(1000):
+                tabd.Session(client._connection, number, 1).close()
+            self.assertRaises(tabd.TimedOut, client.status, "t")
+            ours.shutdown(socket.SHUT_WR)
+            sent = theirs.makefile("rb").read()
+        self.assertEqual(len(sent), len(b"\0\0\0\x09\1\0\0\0\4root") + 9 * tabd.WINDOW)
+
     def test_what_is_waited_unless_told_otherwise(self) -> None:
         self.assertEqual(inspect.signature(tabd.connect).parameters["timeout"].default, tabd.TIMEOUT)
         self.assertEqual(tabd.TIMEOUT, 60)

@@ -30,6 +30,17 @@ class SocketFile(unittest.TestCase):
         self.assertEqual(self.server.wait(timeout=60), 0)
         self.assertRaises(FileNotFoundError, tabd.connect, self.path, "root")
 
+    def test_many_closes_at_once(self) -> None:
+        self.serve()
+        with tabd.connect(self.path, "root", timeout=5) as root:
+            root.create_table("t")
+            kept = root.scan("t")
+            for number in range(1, 65_536):
+                # of one that isn't open, which costs no Open and is answered as well
+                tabd.Session(root._connection, number, 1).close()
+            self.assertEqual(root.status("t").records, 0)
+            self.assertEqual(list(kept), [])
+
     def test_a_dead_server(self) -> None:
         self.serve()
         with tabd.connect(self.path, "root") as root:
