@@ -84,7 +84,7 @@ ask() { # WHO WORDS   notes what the client tells
 }
 
 cd /
-rustc --edition=2021 -O -o "$work/tabd" "$top/bench/server/client.rs"
+rustc --edition=2021 -O --cfg beside_postgres -o "$work/tabd" "$top/bench/server/client.rs"
 rustc --edition=2021 -O --cfg postgres -o "$work/postgres" "$top/bench/server/client.rs"
 start_postgres
 few=$((cells < 10000 ? cells : 10000))

@@ -1,5 +1,6 @@
 //! The client with which servers are measured over loopback, the same one for each: in the frames of docs/PROTOCOL.md (wire.rs), or
-//! compiled with `--cfg postgres` in those of PostgreSQL (../postgres/wire.rs).
+//! compiled with `--cfg postgres` in those of PostgreSQL (../postgres/wire.rs); beside that with `--cfg beside_postgres`, which leaves out the
+//! last two parts of one connection.
 //!
 //! `client PORT CELLS CONNECTIONS OPERATIONS [FILE]` asks a new store everything in turn, and prints a line for each part as it ends: its
 //! name, its seconds by the clock, what it counted (writes, cells or operations, which the same parts of two servers must have alike), and
@@ -174,7 +175,7 @@ fn alone(port: u16, cells: usize, ranges: usize, file: Option<&String>) -> Resul
     measure("one at a time, ranges", &mut one, |one| {
         (0..turns).try_for_each(|_| one.ask(&list(|to| to.many(TALL, 1, cells, &mut words)))).map(|()| one.told.cells)
     })?;
-    if cfg!(postgres) {
+    if cfg!(any(postgres, beside_postgres)) {
         return Ok(());
     }
     // of a session that is opened now, so that it reads what there is by then
