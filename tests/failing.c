@@ -6,6 +6,7 @@
 #include <fcntl.h>
 #include <stdatomic.h>
 #include <stdlib.h>
+#include <string.h>
 #include <sys/mman.h>
 #include <sys/socket.h>
 #include <sys/types.h>
@@ -96,6 +97,7 @@ int open(const char *name, int flags, ...) {
     __builtin_va_start(more, flags);
     int mode = flags & (O_CREAT | O_TMPFILE) ? __builtin_va_arg(more, int) : 0;
     __builtin_va_end(more);
-    if (call_fails(4, 0, 0)) { errno = EIO; return -1; }
+    /* nothing comes of what is opened in closed streams' places */
+    if (strcmp(name, "/dev/null") && call_fails(4, 0, 0)) { errno = EIO; return -1; }
     return real_open(name, flags, mode);
 }
