@@ -49,12 +49,12 @@ impl<S: Source + Drop, R: Rule + Drop> Filtered<S, R> {
         }
     }
 
-    /// The rule; the source is dropped.
-    pub(crate) fn into_rule(self) -> R
-        ensures { result ≡ self.rule }
+    /// The source and the rule.
+    pub(crate) fn into_parts(self) -> (S, R)
+        ensures { result.1 ≡ self.rule }
     {
-        let Filtered { rule, .. } = self;
-        rule
+        let Filtered { source, rule, .. } = self;
+        (source, rule)
     }
 }
 

@@ -83,15 +83,17 @@ fn stack_rule<'a>(
     ThenRule::new(visible, VersioningRule::new(alloc, versions, false))
 }
 
-/// The verdicts on labels that a scan under these authorizations made or began with; none where it was one under others.
-pub fn verdicts_of<'a, S: Source + Drop>(
+/// What a scan under these authorizations leaves: the verdicts on labels that it made or began with, none where it was one under others,
+/// and the source, which may stand anywhere.
+pub fn taken_apart<'a, S: Source + Drop>(
     alloc: Global,
     stack: Stack<'a, S>,
     auths: &AuthSet,
-) -> Verdicts
-    ensures { IsSound auths.now result }
+) -> (Verdicts, S)
+    ensures { IsSound auths.now result.0 }
 {
-    let (seen, _versions) = stack.into_rule().into_parts();
+    let (source, rule) = stack.into_parts();
+    let (seen, _versions) = rule.into_parts();
     let (_fetched, visible) = seen.into_parts();
-    visible.into_verdicts(alloc, auths)
+    (visible.into_verdicts(alloc, auths), source)
 }

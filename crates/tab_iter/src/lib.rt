@@ -49,7 +49,7 @@ pub use deleting_rule::DeletingRule;
 pub use fetching_rule::FetchingRule;
 pub use filtered::Filtered;
 pub use first_markers_rule::FirstMarkersRule;
-pub use layers::{Stack, StackRule, stack_of, stack_unread, verdicts_of};
+pub use layers::{Stack, StackRule, stack_of, stack_unread, taken_apart};
 pub use list_source::{ListSource, is_rising};
 pub use merged::{MergeRule, Merged, merged_of};
 pub use merging::{Merging, MergingOf};

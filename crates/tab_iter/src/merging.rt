@@ -91,6 +91,14 @@ impl<S: Source + Drop> MergingOf<S> {
             unpositioned: true,
         })
     }
+
+    /// The sources, each of which may stand anywhere.
+    pub fn into_sources(self) -> Vec<S>
+        ensures { sorted (flat (map S.whole result.items)) ≡ ⟦<MergingOf<S> as Source>⟧.whole self }
+    {
+        let MergingOf { sources, .. } = self;
+        sources
+    }
 }
 
 impl<S: Source> Source for MergingOf<S> {

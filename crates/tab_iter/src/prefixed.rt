@@ -26,6 +26,16 @@ impl<S: Source> Prefixed<S> {
     }
 }
 
+impl<S: Source + Drop> Prefixed<S> {
+    /// The source, which may stand anywhere.
+    pub fn into_source(self) -> S
+        ensures { S.whole result ≡ ⟦<Prefixed<S> as Source>⟧.whole self }
+    {
+        let Prefixed { source, .. } = self;
+        source
+    }
+}
+
 impl<S: Source> Source for Prefixed<S> {
     ghost whole = { λ f. S.whole f.source };
 

@@ -60,6 +60,13 @@ impl<'a> Target<'a> {
         Target { start, prefix }
     }
 
+    /// The start.
+    pub fn start(&self) -> Start<'a>
+        ensures { result ≡ self.now.start }
+    {
+        self.start
+    }
+
     /// Whether the record stands before the start. Its key is read only where its row has the prefix of the start's.
     pub fn is_after(&self, other: &RecordRef<'_>) -> bool
         ensures { result ≡ is_before self.now.start other.now }

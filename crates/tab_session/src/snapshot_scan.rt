@@ -16,7 +16,7 @@ use std::alloc::Global;
 use std::marker::Model;
 use std::mem;
 use std::thread::Threads;
-use tab_iter::{NoMemory, Source, Verdicts, verdicts_of};
+use tab_iter::{NoMemory, Source, Verdicts, taken_apart};
 use tab_key::{Bounds, Cells, Column, Items};
 use tab_label::AuthSet;
 use tab_version::{Stack, Version};
@@ -97,7 +97,8 @@ impl SnapshotScan {
         let mut source = source(alloc, &self.version, asked, from, verdicts)?;
         let cells = take(alloc, &mut source, count, room)?;
         let next = Bookmark::of(alloc, &source)?;
-        self.verdicts = verdicts_of(alloc, source, &asked.auths);
+        let (verdicts, _source) = taken_apart(alloc, source, &asked.auths);
+        self.verdicts = verdicts;
         Ok(Batch { cells, next })
     }
 
@@ -178,7 +179,8 @@ impl SnapshotScan {
         let asked = &self.asked;
         let mut source = unread(alloc, &self.version, asked, verdicts);
         let answers = take_ranges(alloc, &mut source, ranges)?;
-        self.verdicts = verdicts_of(alloc, source, &asked.auths);
+        let (verdicts, _source) = taken_apart(alloc, source, &asked.auths);
+        self.verdicts = verdicts;
         Ok(answers)
     }
 }
