@@ -35,8 +35,7 @@ compaction_sound word kind is =
 
 compaction_complete : (kind : Compaction) → compaction_word (compaction_name kind) ≡ Some kind
 compaction_complete Minor = refl
-compaction_complete Partial = refl
-compaction_complete Full = refl
+compaction_complete kind = refl
 
 pub begin_sound : (words : Words) (line : Line) → begin_of words ≡ Some line → Form (codes "begin" ∷ words) line
 unfolding begin_of

@@ -18,7 +18,7 @@ use Rattle.tab_history.specs.declared.event.Extent.{Extent}
 use Rattle.tab_history.specs.declared.event.Extent.TheVariants.{Partial, Full}
 use Rattle.tab_history.specs.declared.event.TimeMode.{TimeMode}
 use Rattle.tab_history.specs.declared.event.TimeMode.TheVariants.{Any, Server}
-use Rattle.tab_history.specs.declared.event.Act.TheVariants.{CreateTable, DropTable, CreateUser, DropUser, SetAuths, Grant, Revoke, SetConstraints, Write, Rights, Status, Flush, Compact, Splits, Rotate}
+use Rattle.tab_history.specs.declared.event.Act.TheVariants as act
 use Rattle.tab_history.specs.declared.event.Scan.{Scan}
 use Rattle.tab_lines.specs.declared.line.Line.{Line}
 use Rattle.tab_lines.specs.declared.line.Line.TheVariants as says
@@ -182,7 +182,7 @@ unfolding createtable_of
 createtable_sound words line is =
     on_field name_of words _ line (λ ws. Form (codes "createtable" ∷ ws) line) is (λ t ws table e1 f1.
     on_bind (settings ws) _ line (Form (codes "createtable" ∷ t ∷ ws) line) f1 (λ s e2 f2.
-    subst (λ (y : Line). Form (codes "createtable" ∷ t ∷ ws) y) (some_inj (says.Act (CreateTable table s.0 s.1)) line f2)
+    subst (λ (y : Line). Form (codes "createtable" ∷ t ∷ ws) y) (some_inj (says.Act (act.CreateTable table s.0 s.1)) line f2)
     (form_createtable t table ws s.0 s.1 (names_read.sound t table e1) (settings_sound ws s.0 s.1 e2))))
 
 setauths_sound : (words : Words) (line : Line) → setauths_of words ≡ Some line → Form (codes "setauths" ∷ words) line
@@ -191,7 +191,7 @@ setauths_sound words line is =
     on_field name_of words _ line (λ ws. Form (codes "setauths" ∷ ws) line) is (λ u ws1 user e1 f1.
     on_field list_of ws1 _ line (λ ws. Form (codes "setauths" ∷ u ∷ ws) line) f1 (λ l ws2 members e2 f2.
     on_ends ws2 _ line (λ ws. Form (codes "setauths" ∷ u ∷ l ∷ ws) line) f2 (λ f3.
-    subst (λ (y : Line). Form (codes "setauths" ∷ u ∷ l ∷ []) y) (some_inj (says.Act (SetAuths user (set_of members))) line f3)
+    subst (λ (y : Line). Form (codes "setauths" ∷ u ∷ l ∷ []) y) (some_inj (says.Act (act.SetAuths user (set_of members))) line f3)
     (form_setauths u l user members (names_read.sound u user e1) (lists_read.sound l members e2)))))
 
 constraints_sound : (words : Words) (line : Line) → constraints_line_of words ≡ Some line → Form (codes "constraints" ∷ words) line
@@ -200,7 +200,7 @@ constraints_sound words line is =
     on_field name_of words _ line (λ ws. Form (codes "constraints" ∷ ws) line) is (λ t ws1 table e1 f1.
     on_field constraints_of ws1 _ line (λ ws. Form (codes "constraints" ∷ t ∷ ws) line) f1 (λ l ws2 members e2 f2.
     on_ends ws2 _ line (λ ws. Form (codes "constraints" ∷ t ∷ l ∷ ws) line) f2 (λ f3.
-    subst (λ (y : Line). Form (codes "constraints" ∷ t ∷ l ∷ []) y) (some_inj (says.Act (SetConstraints table (constraint_set_of members))) line f3)
+    subst (λ (y : Line). Form (codes "constraints" ∷ t ∷ l ∷ []) y) (some_inj (says.Act (act.SetConstraints table (constraint_set_of members))) line f3)
     (form_constraints t l table members (names_read.sound t table e1) (constraints_read.sound l members e2)))))
 
 insert_sound : (words : Words) (line : Line) → insert_of words ≡ Some line → Form (codes "insert" ∷ words) line
@@ -211,10 +211,10 @@ insert_sound words line is =
     on_bind (put_of Optional ws2) _ line (Form (codes "insert" ∷ t ∷ r ∷ ws2) line) f2 (λ u e3 f3.
     on_bind (ends u.1) _ line (Form (codes "insert" ∷ t ∷ r ∷ ws2) line) f3 (λ end e4 f4.
     let h = row_sound r m e2 in
-    let said : says.Act (Write table (with_update (row_alone h.0) u.0)) ≡ line =
-    sym (ap (λ (n : Mutation). says.Act (Write table (with_update n u.0))) h.2) ∙ some_inj (says.Act (Write table (with_update m u.0))) line f4 in
+    let said : says.Act (act.Write table (with_update (row_alone h.0) u.0)) ≡ line =
+    sym (ap (λ (n : Mutation). says.Act (act.Write table (with_update n u.0))) h.2) ∙ some_inj (says.Act (act.Write table (with_update m u.0))) line f4 in
     subst (λ (y : Line). Form (codes "insert" ∷ t ∷ r ∷ ws2) y) said
-    (on_put Optional ws2 u.0 u.1 (λ ws x. Form (codes "insert" ∷ t ∷ r ∷ ws) (says.Act (Write table (with_update (row_alone h.0) x)))) e3
+    (on_put Optional ws2 u.0 u.1 (λ ws x. Form (codes "insert" ∷ t ∷ r ∷ ws) (says.Act (act.Write table (with_update (row_alone h.0) x)))) e3
     (λ f q l v more family qualifier label value timestamp w1 w2 w3 w4 e5.
     form_insert t r f q l v table h.0 family qualifier label value more timestamp (names_read.sound t table e1) h.1 w1 w2 w3 w4 (last_timestamp more u.1 timestamp e5 (ends_none u.1 end e4))))))))
 
@@ -226,10 +226,10 @@ delete_sound words line is =
     on_bind (delete_of Optional ws2) _ line (Form (codes "delete" ∷ t ∷ r ∷ ws2) line) f2 (λ u e3 f3.
     on_bind (ends u.1) _ line (Form (codes "delete" ∷ t ∷ r ∷ ws2) line) f3 (λ end e4 f4.
     let h = row_sound r m e2 in
-    let said : says.Act (Write table (with_update (row_alone h.0) u.0)) ≡ line =
-    sym (ap (λ (n : Mutation). says.Act (Write table (with_update n u.0))) h.2) ∙ some_inj (says.Act (Write table (with_update m u.0))) line f4 in
+    let said : says.Act (act.Write table (with_update (row_alone h.0) u.0)) ≡ line =
+    sym (ap (λ (n : Mutation). says.Act (act.Write table (with_update n u.0))) h.2) ∙ some_inj (says.Act (act.Write table (with_update m u.0))) line f4 in
     subst (λ (y : Line). Form (codes "delete" ∷ t ∷ r ∷ ws2) y) said
-    (on_delete Optional ws2 u.0 u.1 (λ ws x. Form (codes "delete" ∷ t ∷ r ∷ ws) (says.Act (Write table (with_update (row_alone h.0) x)))) e3
+    (on_delete Optional ws2 u.0 u.1 (λ ws x. Form (codes "delete" ∷ t ∷ r ∷ ws) (says.Act (act.Write table (with_update (row_alone h.0) x)))) e3
     (λ f q l more family qualifier label timestamp w1 w2 w3 e5.
     form_delete t r f q l table h.0 family qualifier label more timestamp (names_read.sound t table e1) h.1 w1 w2 w3 (last_timestamp more u.1 timestamp e5 (ends_none u.1 end e4))))))))
 
@@ -240,8 +240,8 @@ mutate_sound words line is =
     on_field row_of ws1 _ line (λ ws. Form (codes "mutate" ∷ t ∷ ws) line) f1 (λ r ws2 m e2 f2.
     on_bind (updates_of ws2) _ line (Form (codes "mutate" ∷ t ∷ r ∷ ws2) line) f2 (λ us e3 f3.
     let h = row_sound r m e2 in
-    let said : says.Act (Write table (with_updates (row_alone h.0) us)) ≡ line =
-    sym (ap (λ (n : Mutation). says.Act (Write table (with_updates n us))) h.2) ∙ some_inj (says.Act (Write table (with_updates m us))) line f3 in
+    let said : says.Act (act.Write table (with_updates (row_alone h.0) us)) ≡ line =
+    sym (ap (λ (n : Mutation). says.Act (act.Write table (with_updates n us))) h.2) ∙ some_inj (says.Act (act.Write table (with_updates m us))) line f3 in
     subst (λ (y : Line). Form (codes "mutate" ∷ t ∷ r ∷ ws2) y) said
     (form_mutate t r table h.0 ws2 us (names_read.sound t table e1) h.1 (updates_sound ws2 us e3)))))
 
@@ -267,24 +267,24 @@ rotate_sound : (words : Words) (line : Line) → rotate_of words ≡ Some line �
 unfolding rotate_of
 rotate_sound words line is =
     on_ends words _ line (λ ws. Form (codes "rotate" ∷ ws) line) is (λ f.
-    subst (λ (y : Line). Form (codes "rotate" ∷ []) y) (some_inj (says.Act Rotate) line f) form_rotate)
+    subst (λ (y : Line). Form (codes "rotate" ∷ []) y) (some_inj (says.Act act.Rotate) line f) form_rotate)
 
 -- ---- and back
 
 createtable_complete : (t table : List ℕ) (words : Words) (mode : TimeMode) (versions : ℕ) → IsNameWord t table → AreSettings words mode versions
-    → createtable_of (t ∷ words) ≡ Some (says.Act (CreateTable table mode versions))
+    → createtable_of (t ∷ words) ≡ Some (says.Act (act.CreateTable table mode versions))
 unfolding createtable_of
 createtable_complete t table words mode versions name are =
     bind_some (field name_of (t ∷ words)) (table, words) _ _ (field_some name_of t words table (names_read.complete t table name))
     (bind_some (settings words) (mode, versions) _ _ (settings_complete words mode versions are) refl)
 
-setauths_complete : (u l user : List ℕ) (members : List (List ℕ)) → IsNameWord u user → IsList IsWord l members → setauths_of (u ∷ l ∷ []) ≡ Some (says.Act (SetAuths user (set_of members)))
+setauths_complete : (u l user : List ℕ) (members : List (List ℕ)) → IsNameWord u user → IsList IsWord l members → setauths_of (u ∷ l ∷ []) ≡ Some (says.Act (act.SetAuths user (set_of members)))
 unfolding setauths_of
 setauths_complete u l user members name list =
     bind_some (field name_of (u ∷ l ∷ [])) (user, l ∷ []) _ _ (field_some name_of u (l ∷ []) user (names_read.complete u user name))
     (bind_some (field list_of (l ∷ [])) (members, []) _ _ (field_some list_of l [] members (lists_read.complete l members list)) refl)
 
-constraints_complete : (t l table : List ℕ) (members : List Constraint) → IsNameWord t table → IsList IsConstraint l members → constraints_line_of (t ∷ l ∷ []) ≡ Some (says.Act (SetConstraints table (constraint_set_of members)))
+constraints_complete : (t l table : List ℕ) (members : List Constraint) → IsNameWord t table → IsList IsConstraint l members → constraints_line_of (t ∷ l ∷ []) ≡ Some (says.Act (act.SetConstraints table (constraint_set_of members)))
 unfolding constraints_line_of
 constraints_complete t l table members name list =
     bind_some (field name_of (t ∷ l ∷ [])) (table, l ∷ []) _ _ (field_some name_of t (l ∷ []) table (names_read.complete t table name))
@@ -292,7 +292,7 @@ constraints_complete t l table members name list =
 
 insert_complete : (t r f q l v table row family qualifier label value : List ℕ) (words : Words) (timestamp : Option ℤ)
     → IsNameWord t table → IsWord r row → IsWord f family → IsWord q qualifier → IsWord l label → IsWord v value → IsLastTimestamp words timestamp
-    → insert_of (t ∷ r ∷ f ∷ q ∷ l ∷ v ∷ words) ≡ Some (says.Act (Write table (record { row = row; updates = put_with family qualifier label value timestamp ∷ [] })))
+    → insert_of (t ∷ r ∷ f ∷ q ∷ l ∷ v ∷ words) ≡ Some (says.Act (act.Write table (record { row = row; updates = put_with family qualifier label value timestamp ∷ [] })))
 unfolding insert_of
 insert_complete t r f q l v table row family qualifier label value words timestamp name w0 w1 w2 w3 w4 time =
     bind_some (field name_of (t ∷ r ∷ f ∷ q ∷ l ∷ v ∷ words)) (table, r ∷ f ∷ q ∷ l ∷ v ∷ words) _ _ (field_some name_of t (r ∷ f ∷ q ∷ l ∷ v ∷ words) table (names_read.complete t table name))
@@ -302,7 +302,7 @@ insert_complete t r f q l v table row family qualifier label value words timesta
 
 delete_line_complete : (t r f q l table row family qualifier label : List ℕ) (words : Words) (timestamp : Option ℤ)
     → IsNameWord t table → IsWord r row → IsWord f family → IsWord q qualifier → IsWord l label → IsLastTimestamp words timestamp
-    → delete_line_of (t ∷ r ∷ f ∷ q ∷ l ∷ words) ≡ Some (says.Act (Write table (record { row = row; updates = delete_with family qualifier label timestamp ∷ [] })))
+    → delete_line_of (t ∷ r ∷ f ∷ q ∷ l ∷ words) ≡ Some (says.Act (act.Write table (record { row = row; updates = delete_with family qualifier label timestamp ∷ [] })))
 unfolding delete_line_of
 delete_line_complete t r f q l table row family qualifier label words timestamp name w0 w1 w2 w3 time =
     bind_some (field name_of (t ∷ r ∷ f ∷ q ∷ l ∷ words)) (table, r ∷ f ∷ q ∷ l ∷ words) _ _ (field_some name_of t (r ∷ f ∷ q ∷ l ∷ words) table (names_read.complete t table name))
@@ -311,7 +311,7 @@ delete_line_complete t r f q l table row family qualifier label words timestamp 
     (delete_complete Optional f q l words family qualifier label timestamp [] w1 w2 w3 (last_complete words timestamp time)) refl))
 
 mutate_complete : (t r table row : List ℕ) (words : Words) (updates : List Update) → IsNameWord t table → IsWord r row → AreUpdates words updates
-    → mutate_of (t ∷ r ∷ words) ≡ Some (says.Act (Write table (record { row = row; updates = updates })))
+    → mutate_of (t ∷ r ∷ words) ≡ Some (says.Act (act.Write table (record { row = row; updates = updates })))
 unfolding mutate_of
 mutate_complete t r table row words updates name w0 are =
     bind_some (field name_of (t ∷ r ∷ words)) (table, r ∷ words) _ _ (field_some name_of t (r ∷ words) table (names_read.complete t table name))
@@ -332,7 +332,7 @@ at_complete : (t : List ℕ) (moment : ℤ) → IsNumber t moment → at_of (t �
 unfolding at_of
 at_complete t moment is = bind_some (field signed_of (t ∷ [])) (moment, []) _ _ (field_some signed_of t [] moment (numbers_read.complete t moment is)) refl
 
-rotate_complete : rotate_of [] ≡ Some (says.Act Rotate)
+rotate_complete : rotate_of [] ≡ Some (says.Act act.Rotate)
 unfolding rotate_of
 rotate_complete = refl
 
@@ -342,92 +342,17 @@ compact_sound words line is =
     on_field name_of words _ line (λ ws. Form (codes "compact" ∷ ws) line) is (λ t ws1 table e1 f1.
     on_field extent_word ws1 _ line (λ ws. Form (codes "compact" ∷ t ∷ ws) line) f1 (λ word ws2 extent e2 f2.
     on_ends ws2 _ line (λ ws. Form (codes "compact" ∷ t ∷ word ∷ ws) line) f2 (λ f3.
-    subst (λ (y : Line). Form (codes "compact" ∷ t ∷ word ∷ []) y) (some_inj (says.Act (Compact table extent)) line f3)
-    (subst (λ (w : List ℕ). Form (codes "compact" ∷ t ∷ w ∷ []) (says.Act (Compact table extent))) (sym (extent_sound word extent e2))
+    subst (λ (y : Line). Form (codes "compact" ∷ t ∷ word ∷ []) y) (some_inj (says.Act (act.Compact table extent)) line f3)
+    (subst (λ (w : List ℕ). Form (codes "compact" ∷ t ∷ w ∷ []) (says.Act (act.Compact table extent))) (sym (extent_sound word extent e2))
     (form_compact t table extent (names_read.sound t table e1))))))
 
-compact_complete : (t table : List ℕ) (extent : Extent) → IsNameWord t table → compact_of (t ∷ extent_name extent ∷ []) ≡ Some (says.Act (Compact table extent))
+compact_complete : (t table : List ℕ) (extent : Extent) → IsNameWord t table → compact_of (t ∷ extent_name extent ∷ []) ≡ Some (says.Act (act.Compact table extent))
 unfolding compact_of
 compact_complete t table extent name =
     bind_some (field name_of (t ∷ extent_name extent ∷ [])) (table, extent_name extent ∷ []) _ _ (field_some name_of t (extent_name extent ∷ []) table (names_read.complete t table name))
     (bind_some (field extent_word (extent_name extent ∷ [])) (extent, []) _ _ (field_some extent_word (extent_name extent) [] extent (extent_complete extent)) refl)
 
 -- ---- all lines
-
--- the word of a command
-abbrev command_name : Command → List ℕ
-command_name command.As = codes "as"
-command_name command.At = codes "at"
-command_name command.CreateTable = codes "createtable"
-command_name command.DropTable = codes "droptable"
-command_name command.CreateUser = codes "createuser"
-command_name command.DropUser = codes "dropuser"
-command_name command.SetAuths = codes "setauths"
-command_name command.Grant = codes "grant"
-command_name command.Revoke = codes "revoke"
-command_name command.Rights = codes "rights"
-command_name command.Constraints = codes "constraints"
-command_name command.Versions = codes "versions"
-command_name command.Horizon = codes "horizon"
-command_name command.Insert = codes "insert"
-command_name command.Delete = codes "delete"
-command_name command.Mutate = codes "mutate"
-command_name command.Scan = codes "scan"
-command_name command.Open = codes "open"
-command_name command.Next = codes "next"
-command_name command.Many = codes "many"
-command_name command.Close = codes "close"
-command_name command.Flush = codes "flush"
-command_name command.Compact = codes "compact"
-command_name command.Begin = codes "begin"
-command_name command.Merge = codes "merge"
-command_name command.Install = codes "install"
-command_name command.Status = codes "status"
-command_name command.AddSplit = codes "addsplit"
-command_name command.SplitSize = codes "splitsize"
-command_name command.Splits = codes "splits"
-command_name command.Save = codes "save"
-command_name command.Load = codes "load"
-command_name command.Rotate = codes "rotate"
-
-command_sound : (word : List ℕ) (c : Command) → command_of word ≡ Some c → word ≡ command_name c
-command_sound word c is =
-    on_cond (bytes_eq word (codes "as")) (Some command.As) _ c (word ≡ command_name c) is (λ yes e. named (codes "as") command.As yes refl e) (λ no1 e1.
-    on_cond (bytes_eq word (codes "at")) (Some command.At) _ c (word ≡ command_name c) e1 (λ yes e. named (codes "at") command.At yes refl e) (λ no2 e2.
-    on_cond (bytes_eq word (codes "createtable")) (Some command.CreateTable) _ c (word ≡ command_name c) e2 (λ yes e. named (codes "createtable") command.CreateTable yes refl e) (λ no3 e3.
-    on_cond (bytes_eq word (codes "droptable")) (Some command.DropTable) _ c (word ≡ command_name c) e3 (λ yes e. named (codes "droptable") command.DropTable yes refl e) (λ no4 e4.
-    on_cond (bytes_eq word (codes "createuser")) (Some command.CreateUser) _ c (word ≡ command_name c) e4 (λ yes e. named (codes "createuser") command.CreateUser yes refl e) (λ no5 e5.
-    on_cond (bytes_eq word (codes "dropuser")) (Some command.DropUser) _ c (word ≡ command_name c) e5 (λ yes e. named (codes "dropuser") command.DropUser yes refl e) (λ no6 e6.
-    on_cond (bytes_eq word (codes "setauths")) (Some command.SetAuths) _ c (word ≡ command_name c) e6 (λ yes e. named (codes "setauths") command.SetAuths yes refl e) (λ no7 e7.
-    on_cond (bytes_eq word (codes "grant")) (Some command.Grant) _ c (word ≡ command_name c) e7 (λ yes e. named (codes "grant") command.Grant yes refl e) (λ no8 e8.
-    on_cond (bytes_eq word (codes "revoke")) (Some command.Revoke) _ c (word ≡ command_name c) e8 (λ yes e. named (codes "revoke") command.Revoke yes refl e) (λ no9 e9.
-    on_cond (bytes_eq word (codes "rights")) (Some command.Rights) _ c (word ≡ command_name c) e9 (λ yes e. named (codes "rights") command.Rights yes refl e) (λ no10 e10.
-    on_cond (bytes_eq word (codes "constraints")) (Some command.Constraints) _ c (word ≡ command_name c) e10 (λ yes e. named (codes "constraints") command.Constraints yes refl e) (λ no11 e11.
-    on_cond (bytes_eq word (codes "versions")) (Some command.Versions) _ c (word ≡ command_name c) e11 (λ yes e. named (codes "versions") command.Versions yes refl e) (λ no12 e12.
-    on_cond (bytes_eq word (codes "horizon")) (Some command.Horizon) _ c (word ≡ command_name c) e12 (λ yes e. named (codes "horizon") command.Horizon yes refl e) (λ no13 e13.
-    on_cond (bytes_eq word (codes "insert")) (Some command.Insert) _ c (word ≡ command_name c) e13 (λ yes e. named (codes "insert") command.Insert yes refl e) (λ no14 e14.
-    on_cond (bytes_eq word (codes "delete")) (Some command.Delete) _ c (word ≡ command_name c) e14 (λ yes e. named (codes "delete") command.Delete yes refl e) (λ no15 e15.
-    on_cond (bytes_eq word (codes "mutate")) (Some command.Mutate) _ c (word ≡ command_name c) e15 (λ yes e. named (codes "mutate") command.Mutate yes refl e) (λ no16 e16.
-    on_cond (bytes_eq word (codes "scan")) (Some command.Scan) _ c (word ≡ command_name c) e16 (λ yes e. named (codes "scan") command.Scan yes refl e) (λ no17 e17.
-    on_cond (bytes_eq word (codes "open")) (Some command.Open) _ c (word ≡ command_name c) e17 (λ yes e. named (codes "open") command.Open yes refl e) (λ no18 e18.
-    on_cond (bytes_eq word (codes "next")) (Some command.Next) _ c (word ≡ command_name c) e18 (λ yes e. named (codes "next") command.Next yes refl e) (λ no19 e19.
-    on_cond (bytes_eq word (codes "many")) (Some command.Many) _ c (word ≡ command_name c) e19 (λ yes e. named (codes "many") command.Many yes refl e) (λ no20 e20.
-    on_cond (bytes_eq word (codes "close")) (Some command.Close) _ c (word ≡ command_name c) e20 (λ yes e. named (codes "close") command.Close yes refl e) (λ no21 e21.
-    on_cond (bytes_eq word (codes "flush")) (Some command.Flush) _ c (word ≡ command_name c) e21 (λ yes e. named (codes "flush") command.Flush yes refl e) (λ no22 e22.
-    on_cond (bytes_eq word (codes "compact")) (Some command.Compact) _ c (word ≡ command_name c) e22 (λ yes e. named (codes "compact") command.Compact yes refl e) (λ no23 e23.
-    on_cond (bytes_eq word (codes "begin")) (Some command.Begin) _ c (word ≡ command_name c) e23 (λ yes e. named (codes "begin") command.Begin yes refl e) (λ no24 e24.
-    on_cond (bytes_eq word (codes "merge")) (Some command.Merge) _ c (word ≡ command_name c) e24 (λ yes e. named (codes "merge") command.Merge yes refl e) (λ no25 e25.
-    on_cond (bytes_eq word (codes "install")) (Some command.Install) _ c (word ≡ command_name c) e25 (λ yes e. named (codes "install") command.Install yes refl e) (λ no26 e26.
-    on_cond (bytes_eq word (codes "status")) (Some command.Status) _ c (word ≡ command_name c) e26 (λ yes e. named (codes "status") command.Status yes refl e) (λ no27 e27.
-    on_cond (bytes_eq word (codes "addsplit")) (Some command.AddSplit) _ c (word ≡ command_name c) e27 (λ yes e. named (codes "addsplit") command.AddSplit yes refl e) (λ no28 e28.
-    on_cond (bytes_eq word (codes "splitsize")) (Some command.SplitSize) _ c (word ≡ command_name c) e28 (λ yes e. named (codes "splitsize") command.SplitSize yes refl e) (λ no29 e29.
-    on_cond (bytes_eq word (codes "splits")) (Some command.Splits) _ c (word ≡ command_name c) e29 (λ yes e. named (codes "splits") command.Splits yes refl e) (λ no30 e30.
-    on_cond (bytes_eq word (codes "save")) (Some command.Save) _ c (word ≡ command_name c) e30 (λ yes e. named (codes "save") command.Save yes refl e) (λ no31 e31.
-    on_cond (bytes_eq word (codes "load")) (Some command.Load) _ c (word ≡ command_name c) e31 (λ yes e. named (codes "load") command.Load yes refl e) (λ no32 e32.
-    on_cond (bytes_eq word (codes "rotate")) (Some command.Rotate) _ c (word ≡ command_name c) e32 (λ yes e. named (codes "rotate") command.Rotate yes refl e) (λ no33 e33. absurd cc)))))))))))))))))))))))))))))))))
-  where
-    named : (text : List ℕ) (d : Command) → bytes_eq word text ≡ true → text ≡ command_name d → Some d ≡ Some c → word ≡ command_name c
-    named text d same name e = (bytes_eq-Decides word text).0 same ∙ name ∙ ap command_name (some_inj d c e)
 
 -- a line of a command and one name
 named_sound : (text : List ℕ) (said : List ℕ → Line) (words : Words) (line : Line) → ((w name : List ℕ) → IsNameWord w name → Form (text ∷ w ∷ []) (said name))
@@ -453,58 +378,80 @@ grant_sound text said words line form is =
     on_map said (grant_of words) line (Form (text ∷ words) line) is (λ grant read e.
     subst (λ (y : Line). Form (text ∷ words) y) e (on_grant words grant (λ ws. Form (text ∷ ws) (said grant)) read (λ u rest named given. form u grant.0 rest grant.1 named given)))
 
-commanded_sound : (c : Command) (words : Words) (line : Line) → commanded c words ≡ Some line → Form (command_name c ∷ words) line
-commanded_sound command.As words line is = named_sound (codes "as") (λ user. says.As user) words line form_asker is
-commanded_sound command.At words line is = at_sound words line is
-commanded_sound command.CreateTable words line is = createtable_sound words line is
-commanded_sound command.DropTable words line is = named_sound (codes "droptable") (λ name. says.Act (DropTable name)) words line form_droptable is
-commanded_sound command.CreateUser words line is = named_sound (codes "createuser") (λ name. says.Act (CreateUser name)) words line form_createuser is
-commanded_sound command.DropUser words line is = named_sound (codes "dropuser") (λ name. says.Act (DropUser name)) words line form_dropuser is
-commanded_sound command.SetAuths words line is = setauths_sound words line is
-commanded_sound command.Grant words line is = grant_sound (codes "grant") (λ grant. says.Act (Grant grant.0 grant.1)) words line form_grant is
-commanded_sound command.Revoke words line is = grant_sound (codes "revoke") (λ grant. says.Act (Revoke grant.0 grant.1)) words line form_revoke is
-commanded_sound command.Rights words line is = named_sound (codes "rights") (λ name. says.Act (Rights name)) words line form_rights is
-commanded_sound command.Constraints words line is = constraints_sound words line is
-commanded_sound command.Versions words line is = versions_line_sound words line is
-commanded_sound command.Horizon words line is = horizon_sound words line is
-commanded_sound command.Insert words line is = insert_sound words line is
-commanded_sound command.Delete words line is = delete_sound words line is
-commanded_sound command.Mutate words line is = mutate_sound words line is
-commanded_sound command.Scan words line is = asked_sound (codes "scan") (λ scan. says.Scan scan) words line form_scan is
-commanded_sound command.Open words line is = asked_sound (codes "open") (λ scan. says.Open scan) words line form_opened is
-commanded_sound command.Next words line is = next_sound words line is
-commanded_sound command.Many words line is = many_sound words line is
-commanded_sound command.Close words line is = close_sound words line is
-commanded_sound command.Flush words line is = named_sound (codes "flush") (λ name. says.Act (Flush name)) words line form_flush is
-commanded_sound command.Compact words line is = compact_sound words line is
-commanded_sound command.Begin words line is = begin_sound words line is
-commanded_sound command.Merge words line is = merge_sound words line is
-commanded_sound command.Install words line is = install_sound words line is
-commanded_sound command.Status words line is = named_sound (codes "status") (λ name. says.Act (Status name)) words line form_status is
-commanded_sound command.AddSplit words line is = addsplit_sound words line is
-commanded_sound command.SplitSize words line is = splitsize_sound words line is
-commanded_sound command.Splits words line is = named_sound (codes "splits") (λ name. says.Act (Splits name)) words line form_splits is
-commanded_sound command.Save words line is = file_sound (codes "save") Save words line form_save is
-commanded_sound command.Load words line is = file_sound (codes "load") Load words line form_load is
-commanded_sound command.Rotate words line is = rotate_sound words line is
+-- a command by its word, and that what is read of the words behind it is of its form
+record Row : Type 0 where
+  text : List ℕ
+  names : Command
+  sound : (words : Words) (line : Line) → commanded names words ≡ Some line → Form (text ∷ words) line
+
+abbrev row : (text : List ℕ) (c : Command) → ((words : Words) (line : Line) → commanded c words ≡ Some line → Form (text ∷ words) line) → Row
+row text c sound = record { text = text; names = c; sound = sound }
+
+abbrev rows : List Row
+rows =
+    row (codes "as") command.As (λ words line is. named_sound (codes "as") (λ user. says.As user) words line form_asker is) ∷
+    row (codes "at") command.At at_sound ∷
+    row (codes "createtable") command.CreateTable createtable_sound ∷
+    row (codes "droptable") command.DropTable (λ words line is. named_sound (codes "droptable") (λ name. says.Act (act.DropTable name)) words line form_droptable is) ∷
+    row (codes "createuser") command.CreateUser (λ words line is. named_sound (codes "createuser") (λ name. says.Act (act.CreateUser name)) words line form_createuser is) ∷
+    row (codes "dropuser") command.DropUser (λ words line is. named_sound (codes "dropuser") (λ name. says.Act (act.DropUser name)) words line form_dropuser is) ∷
+    row (codes "setauths") command.SetAuths setauths_sound ∷
+    row (codes "grant") command.Grant (λ words line is. grant_sound (codes "grant") (λ grant. says.Act (act.Grant grant.0 grant.1)) words line form_grant is) ∷
+    row (codes "revoke") command.Revoke (λ words line is. grant_sound (codes "revoke") (λ grant. says.Act (act.Revoke grant.0 grant.1)) words line form_revoke is) ∷
+    row (codes "rights") command.Rights (λ words line is. named_sound (codes "rights") (λ name. says.Act (act.Rights name)) words line form_rights is) ∷
+    row (codes "constraints") command.Constraints constraints_sound ∷
+    row (codes "versions") command.Versions versions_line_sound ∷
+    row (codes "horizon") command.Horizon horizon_sound ∷
+    row (codes "insert") command.Insert insert_sound ∷
+    row (codes "delete") command.Delete delete_sound ∷
+    row (codes "mutate") command.Mutate mutate_sound ∷
+    row (codes "scan") command.Scan (λ words line is. asked_sound (codes "scan") (λ scan. says.Scan scan) words line form_scan is) ∷
+    row (codes "open") command.Open (λ words line is. asked_sound (codes "open") (λ scan. says.Open scan) words line form_opened is) ∷
+    row (codes "next") command.Next next_sound ∷
+    row (codes "many") command.Many many_sound ∷
+    row (codes "close") command.Close close_sound ∷
+    row (codes "flush") command.Flush (λ words line is. named_sound (codes "flush") (λ name. says.Act (act.Flush name)) words line form_flush is) ∷
+    row (codes "compact") command.Compact compact_sound ∷
+    row (codes "begin") command.Begin begin_sound ∷
+    row (codes "merge") command.Merge merge_sound ∷
+    row (codes "install") command.Install install_sound ∷
+    row (codes "status") command.Status (λ words line is. named_sound (codes "status") (λ name. says.Act (act.Status name)) words line form_status is) ∷
+    row (codes "addsplit") command.AddSplit addsplit_sound ∷
+    row (codes "splitsize") command.SplitSize splitsize_sound ∷
+    row (codes "splits") command.Splits (λ words line is. named_sound (codes "splits") (λ name. says.Act (act.Splits name)) words line form_splits is) ∷
+    row (codes "save") command.Save (λ words line is. file_sound (codes "save") Save words line form_save is) ∷
+    row (codes "load") command.Load (λ words line is. file_sound (codes "load") Load words line form_load is) ∷
+    row (codes "rotate") command.Rotate rotate_sound ∷ []
+
+-- the first of these whose word it is
+abbrev command_among : List Row → List ℕ → Option Command
+command_among [] word = None
+command_among (r ∷ rs) word = cond (bytes_eq word r.text) (Some r.names) (command_among rs word)
+
+among_sound : (rs : List Row) (word : List ℕ) (c : Command) (words : Words) (line : Line) → command_among rs word ≡ Some c → commanded c words ≡ Some line → Form (word ∷ words) line
+among_sound [] word c words line e is = absurd cc
+among_sound (r ∷ rs) word c words line e is =
+    on_cond (bytes_eq word r.text) (Some r.names) (command_among rs word) c (Form (word ∷ words) line) e
+    (λ yes e1. subst (λ (w : List ℕ). Form (w ∷ words) line) (sym ((bytes_eq-Decides word r.text).0 yes))
+    (r.sound words line (subst (λ (d : Command). commanded d words ≡ Some line) (sym (some_inj r.names c e1)) is)))
+    (λ no e1. among_sound rs word c words line e1 is)
 
 said_sound : (words : Words) (line : Line) → said words ≡ Some line → Form words line
 said_sound [] line is = subst (λ (y : Line). Form [] y) (some_inj says.Blank line is) form_blank
-said_sound (word ∷ words) line is = on_bind (command_of word) (λ c. commanded c words) line (Form (word ∷ words) line) is (λ c e is'.
-    subst (λ (w : List ℕ). Form (w ∷ words) line) (sym (command_sound word c e)) (commanded_sound c words line is'))
+said_sound (word ∷ words) line is = on_bind (command_of word) (λ c. commanded c words) line (Form (word ∷ words) line) is (λ c e is'. among_sound rows word c words line e is')
 
 said_complete : (words : Words) (line : Line) → Form words line → said words ≡ Some line
 said_complete words line form_blank = refl
 said_complete words line (form_asker u user name) = ap (λ (o : Option (List ℕ)). option_map (λ n. says.As n) o) (name_alone_complete u user name)
 said_complete words line (form_at t moment is) = at_complete t moment is
 said_complete words line (form_createtable t table ws mode versions name are) = createtable_complete t table ws mode versions name are
-said_complete words line (form_droptable t table name) = ap (λ (o : Option (List ℕ)). option_map (λ n. says.Act (DropTable n)) o) (name_alone_complete t table name)
-said_complete words line (form_createuser u user name) = ap (λ (o : Option (List ℕ)). option_map (λ n. says.Act (CreateUser n)) o) (name_alone_complete u user name)
-said_complete words line (form_dropuser u user name) = ap (λ (o : Option (List ℕ)). option_map (λ n. says.Act (DropUser n)) o) (name_alone_complete u user name)
+said_complete words line (form_droptable t table name) = ap (λ (o : Option (List ℕ)). option_map (λ n. says.Act (act.DropTable n)) o) (name_alone_complete t table name)
+said_complete words line (form_createuser u user name) = ap (λ (o : Option (List ℕ)). option_map (λ n. says.Act (act.CreateUser n)) o) (name_alone_complete u user name)
+said_complete words line (form_dropuser u user name) = ap (λ (o : Option (List ℕ)). option_map (λ n. says.Act (act.DropUser n)) o) (name_alone_complete u user name)
 said_complete words line (form_setauths u l user members name list) = setauths_complete u l user members name list
-said_complete words line (form_grant u user ws p name is) = ap (λ (o : Option (List ℕ × Permission)). option_map (λ g. says.Act (Grant g.0 g.1)) o) (grant_complete u user ws p name is)
-said_complete words line (form_revoke u user ws p name is) = ap (λ (o : Option (List ℕ × Permission)). option_map (λ g. says.Act (Revoke g.0 g.1)) o) (grant_complete u user ws p name is)
-said_complete words line (form_rights t table name) = ap (λ (o : Option (List ℕ)). option_map (λ n. says.Act (Rights n)) o) (name_alone_complete t table name)
+said_complete words line (form_grant u user ws p name is) = ap (λ (o : Option (List ℕ × Permission)). option_map (λ g. says.Act (act.Grant g.0 g.1)) o) (grant_complete u user ws p name is)
+said_complete words line (form_revoke u user ws p name is) = ap (λ (o : Option (List ℕ × Permission)). option_map (λ g. says.Act (act.Revoke g.0 g.1)) o) (grant_complete u user ws p name is)
+said_complete words line (form_rights t table name) = ap (λ (o : Option (List ℕ)). option_map (λ n. says.Act (act.Rights n)) o) (name_alone_complete t table name)
 said_complete words line (form_constraints t l table members name list) = constraints_complete t l table members name list
 said_complete words line (form_versions t n table many name count) = versions_line_complete t n table many name count
 said_complete words line (form_horizon t s table timestamp name number) = horizon_complete t s table timestamp name number
@@ -518,15 +465,15 @@ said_complete words line (form_opened ws scan is) = ap (λ (o : Option Scan). op
 said_complete words line (form_next k n session count s c) = next_complete k n session count s c
 said_complete words line (form_many k ws session ranges s are) = many_complete k ws session ranges s are
 said_complete words line (form_close k session s) = close_complete k session s
-said_complete words line (form_flush t table name) = ap (λ (o : Option (List ℕ)). option_map (λ n. says.Act (Flush n)) o) (name_alone_complete t table name)
+said_complete words line (form_flush t table name) = ap (λ (o : Option (List ℕ)). option_map (λ n. says.Act (act.Flush n)) o) (name_alone_complete t table name)
 said_complete words line (form_compact t table extent name) = compact_complete t table extent name
 said_complete words line (form_begin t r table row kind name word) = begin_complete t r table row kind name word
 said_complete words line (form_merge k job number) = merge_complete k job number
 said_complete words line (form_install t k table job name number) = install_complete t k table job name number
-said_complete words line (form_status t table name) = ap (λ (o : Option (List ℕ)). option_map (λ n. says.Act (Status n)) o) (name_alone_complete t table name)
+said_complete words line (form_status t table name) = ap (λ (o : Option (List ℕ)). option_map (λ n. says.Act (act.Status n)) o) (name_alone_complete t table name)
 said_complete words line (form_addsplit t r table row name word) = addsplit_complete t r table row name word
 said_complete words line (form_splitsize t r l table row limit name word number) = splitsize_complete t r l table row limit name word number
-said_complete words line (form_splits t table name) = ap (λ (o : Option (List ℕ)). option_map (λ n. says.Act (Splits n)) o) (name_alone_complete t table name)
+said_complete words line (form_splits t table name) = ap (λ (o : Option (List ℕ)). option_map (λ n. says.Act (act.Splits n)) o) (name_alone_complete t table name)
 said_complete words line (form_save f name is) = file_complete Save f name is
 said_complete words line (form_load f name is) = file_complete Load f name is
 said_complete words line form_rotate = rotate_complete

@@ -115,9 +115,7 @@ named_sound name c is =
 
 named_complete : (c : Constraint) → constraint_named (constraint_name c) ≡ Some c
 named_complete KeySize = refl
-named_complete Alphanumeric = refl
-named_complete Numeric = refl
-named_complete Visibility = refl
+named_complete c = refl
 
 constraint_sound : (word : List ℕ) (c : Constraint) → constraint_of word ≡ Some c → IsConstraint word c
 constraint_sound word c is = on_then constraint_named (bytes_of word) c (IsConstraint word c) is (λ name read one.

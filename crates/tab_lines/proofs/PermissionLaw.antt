@@ -50,20 +50,11 @@ table_named word p is = sym ((bytes_eq-Decides (table_name p) word).0 (found_pas
 
 system_found : (p : SystemPermission) → system_by_name (system_name p) ≡ Some p
 system_found system.Grant = refl
-system_found system.CreateTable = refl
-system_found system.DropTable = refl
-system_found system.AlterTable = refl
-system_found system.CreateUser = refl
-system_found system.DropUser = refl
-system_found system.AlterUser = refl
-system_found system.System = refl
+system_found p = refl
 
 table_found : (p : TablePermission) → table_by_name (table_name p) ≡ Some p
 table_found table.Read = refl
-table_found table.Write = refl
-table_found table.AlterTable = refl
-table_found table.Grant = refl
-table_found table.DropTable = refl
+table_found p = refl
 
 permission_sound : (words : Words) (p : Permission) → permission_of words ≡ Some p → IsPermission words p
 unfolding system_permission table_permission

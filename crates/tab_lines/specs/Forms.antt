@@ -23,7 +23,7 @@ use Rattle.tab_history.specs.declared.event.Extent.{Extent}
 use Rattle.tab_history.specs.declared.event.Extent.TheVariants.{Partial, Full}
 use Rattle.tab_history.specs.declared.event.TimeMode.{TimeMode}
 use Rattle.tab_history.specs.declared.event.TimeMode.TheVariants.{Any, Server}
-use Rattle.tab_history.specs.declared.event.Act.TheVariants.{CreateTable, DropTable, CreateUser, DropUser, SetAuths, Grant, Revoke, SetConstraints, SetVersions, SetHorizon, Write, Rights, Status, Flush, Compact, AddSplit, SplitBySize, Splits, Rotate, Begin, Install}
+use Rattle.tab_history.specs.declared.event.Act.TheVariants as act
 use Rattle.tab_history.specs.declared.event.Given.TheVariants.{InSlot}
 use Rattle.tab_history.specs.declared.event.Scan.{Scan}
 use Rattle.tab_lines.specs.declared.line.Line.{Line}
@@ -175,54 +175,54 @@ pub data Form : List (List ℕ) → Line → Type 0 where
   asker : (u user : List ℕ) → IsNameWord u user → Form (codes "as" ∷ u ∷ []) (line.As user)
   at : (t : List ℕ) (moment : ℤ) → IsNumber t moment → Form (codes "at" ∷ t ∷ []) (line.At moment)
   createtable : (t table : List ℕ) (words : List (List ℕ)) (mode : TimeMode) (versions : ℕ) → IsNameWord t table → AreSettings words mode versions
-      → Form (codes "createtable" ∷ t ∷ words) (line.Act (CreateTable table mode versions))
-  droptable : (t table : List ℕ) → IsNameWord t table → Form (codes "droptable" ∷ t ∷ []) (line.Act (DropTable table))
-  createuser : (u user : List ℕ) → IsNameWord u user → Form (codes "createuser" ∷ u ∷ []) (line.Act (CreateUser user))
-  dropuser : (u user : List ℕ) → IsNameWord u user → Form (codes "dropuser" ∷ u ∷ []) (line.Act (DropUser user))
+      → Form (codes "createtable" ∷ t ∷ words) (line.Act (act.CreateTable table mode versions))
+  droptable : (t table : List ℕ) → IsNameWord t table → Form (codes "droptable" ∷ t ∷ []) (line.Act (act.DropTable table))
+  createuser : (u user : List ℕ) → IsNameWord u user → Form (codes "createuser" ∷ u ∷ []) (line.Act (act.CreateUser user))
+  dropuser : (u user : List ℕ) → IsNameWord u user → Form (codes "dropuser" ∷ u ∷ []) (line.Act (act.DropUser user))
   setauths : (u l user : List ℕ) (members : List (List ℕ)) → IsNameWord u user → IsList IsWord l members
-      → Form (codes "setauths" ∷ u ∷ l ∷ []) (line.Act (SetAuths user (set_of members)))
+      → Form (codes "setauths" ∷ u ∷ l ∷ []) (line.Act (act.SetAuths user (set_of members)))
   grant : (u user : List ℕ) (words : List (List ℕ)) (permission : Permission) → IsNameWord u user → IsPermission words permission
-      → Form (codes "grant" ∷ u ∷ words) (line.Act (Grant user permission))
+      → Form (codes "grant" ∷ u ∷ words) (line.Act (act.Grant user permission))
   revoke : (u user : List ℕ) (words : List (List ℕ)) (permission : Permission) → IsNameWord u user → IsPermission words permission
-      → Form (codes "revoke" ∷ u ∷ words) (line.Act (Revoke user permission))
-  rights : (t table : List ℕ) → IsNameWord t table → Form (codes "rights" ∷ t ∷ []) (line.Act (Rights table))
+      → Form (codes "revoke" ∷ u ∷ words) (line.Act (act.Revoke user permission))
+  rights : (t table : List ℕ) → IsNameWord t table → Form (codes "rights" ∷ t ∷ []) (line.Act (act.Rights table))
   constraints : (t l table : List ℕ) (members : List Constraint) → IsNameWord t table → IsList IsConstraint l members
-      → Form (codes "constraints" ∷ t ∷ l ∷ []) (line.Act (SetConstraints table (constraint_set_of members)))
+      → Form (codes "constraints" ∷ t ∷ l ∷ []) (line.Act (act.SetConstraints table (constraint_set_of members)))
   versions : (t n table : List ℕ) (many : ℕ) → IsNameWord t table → IsVersionCount n many
-      → Form (codes "versions" ∷ t ∷ n ∷ []) (line.Act (SetVersions table many))
+      → Form (codes "versions" ∷ t ∷ n ∷ []) (line.Act (act.SetVersions table many))
   horizon : (t s table : List ℕ) (timestamp : ℤ) → IsNameWord t table → IsNumber s timestamp
-      → Form (codes "horizon" ∷ t ∷ s ∷ []) (line.Act (SetHorizon table timestamp))
+      → Form (codes "horizon" ∷ t ∷ s ∷ []) (line.Act (act.SetHorizon table timestamp))
   insert : (t r f q l v table row family qualifier label value : List ℕ) (words : List (List ℕ)) (timestamp : Option ℤ)
       → IsNameWord t table → IsWord r row → IsWord f family → IsWord q qualifier → IsWord l label → IsWord v value → IsLastTimestamp words timestamp
       → Form (codes "insert" ∷ t ∷ r ∷ f ∷ q ∷ l ∷ v ∷ words)
-      (line.Act (Write table (record { row = row; updates = put_update family qualifier label timestamp value ∷ [] })))
+      (line.Act (act.Write table (record { row = row; updates = put_update family qualifier label timestamp value ∷ [] })))
   delete : (t r f q l table row family qualifier label : List ℕ) (words : List (List ℕ)) (timestamp : Option ℤ)
       → IsNameWord t table → IsWord r row → IsWord f family → IsWord q qualifier → IsWord l label → IsLastTimestamp words timestamp
       → Form (codes "delete" ∷ t ∷ r ∷ f ∷ q ∷ l ∷ words)
-      (line.Act (Write table (record { row = row; updates = delete_update family qualifier label timestamp ∷ [] })))
+      (line.Act (act.Write table (record { row = row; updates = delete_update family qualifier label timestamp ∷ [] })))
   mutate : (t r table row : List ℕ) (words : List (List ℕ)) (updates : List Update) → IsNameWord t table → IsWord r row → AreUpdates words updates
-      → Form (codes "mutate" ∷ t ∷ r ∷ words) (line.Act (Write table (record { row = row; updates = updates })))
+      → Form (codes "mutate" ∷ t ∷ r ∷ words) (line.Act (act.Write table (record { row = row; updates = updates })))
   scan : (words : List (List ℕ)) (scan : Scan) → IsScan words scan → Form (codes "scan" ∷ words) (line.Scan scan)
   opened : (words : List (List ℕ)) (scan : Scan) → IsScan words scan → Form (codes "open" ∷ words) (line.Open scan)
   next : (k n : List ℕ) (session count : ℕ) → IsSmall k session → IsSmall n count → Form (codes "next" ∷ k ∷ n ∷ []) (line.Next session count)
   many : (k : List ℕ) (words : List (List ℕ)) (session : ℕ) (ranges : List Bounds) → IsSmall k session → AreRanges words ranges
       → Form (codes "many" ∷ k ∷ words) (line.Many session ranges)
   close : (k : List ℕ) (session : ℕ) → IsSmall k session → Form (codes "close" ∷ k ∷ []) (line.Close session)
-  flush : (t table : List ℕ) → IsNameWord t table → Form (codes "flush" ∷ t ∷ []) (line.Act (Flush table))
-  compact : (t table : List ℕ) (extent : Extent) → IsNameWord t table → Form (codes "compact" ∷ t ∷ extent_name extent ∷ []) (line.Act (Compact table extent))
+  flush : (t table : List ℕ) → IsNameWord t table → Form (codes "flush" ∷ t ∷ []) (line.Act (act.Flush table))
+  compact : (t table : List ℕ) (extent : Extent) → IsNameWord t table → Form (codes "compact" ∷ t ∷ extent_name extent ∷ []) (line.Act (act.Compact table extent))
   begin : (t r table row : List ℕ) (kind : Compaction) → IsNameWord t table → IsWord r row
-      → Form (codes "begin" ∷ t ∷ r ∷ compaction_name kind ∷ []) (line.Act (Begin table row kind))
+      → Form (codes "begin" ∷ t ∷ r ∷ compaction_name kind ∷ []) (line.Act (act.Begin table row kind))
   merge : (k : List ℕ) (job : ℕ) → IsUnsigned k job → Form (codes "merge" ∷ k ∷ []) (line.Merge job)
   install : (t k table : List ℕ) (job : ℕ) → IsNameWord t table → IsUnsigned k job
-      → Form (codes "install" ∷ t ∷ k ∷ []) (line.Act (Install table (InSlot job)))
-  status : (t table : List ℕ) → IsNameWord t table → Form (codes "status" ∷ t ∷ []) (line.Act (Status table))
-  addsplit : (t r table row : List ℕ) → IsNameWord t table → IsWord r row → Form (codes "addsplit" ∷ t ∷ r ∷ []) (line.Act (AddSplit table row))
+      → Form (codes "install" ∷ t ∷ k ∷ []) (line.Act (act.Install table (InSlot job)))
+  status : (t table : List ℕ) → IsNameWord t table → Form (codes "status" ∷ t ∷ []) (line.Act (act.Status table))
+  addsplit : (t r table row : List ℕ) → IsNameWord t table → IsWord r row → Form (codes "addsplit" ∷ t ∷ r ∷ []) (line.Act (act.AddSplit table row))
   splitsize : (t r l table row : List ℕ) (limit : ℕ) → IsNameWord t table → IsWord r row → IsUnsigned l limit
-      → Form (codes "splitsize" ∷ t ∷ r ∷ l ∷ []) (line.Act (SplitBySize table row limit))
-  splits : (t table : List ℕ) → IsNameWord t table → Form (codes "splits" ∷ t ∷ []) (line.Act (Splits table))
+      → Form (codes "splitsize" ∷ t ∷ r ∷ l ∷ []) (line.Act (act.SplitBySize table row limit))
+  splits : (t table : List ℕ) → IsNameWord t table → Form (codes "splits" ∷ t ∷ []) (line.Act (act.Splits table))
   save : (f name : List ℕ) → IsFileWord f name → Form (codes "save" ∷ f ∷ []) (line.File (record { kind = Save; name = name }))
   load : (f name : List ℕ) → IsFileWord f name → Form (codes "load" ∷ f ∷ []) (line.File (record { kind = Load; name = name }))
-  rotate : Form (codes "rotate" ∷ []) (line.Act Rotate)
+  rotate : Form (codes "rotate" ∷ []) (line.Act act.Rotate)
 
 -- there is a byte, and none is a space
 abbrev pub IsPlainWord : List ℕ → Type 0

@@ -9,7 +9,7 @@ use Rattle.tab_policy.specs.declared.permission.Permission.{Permission}
 use Rattle.tab_history.specs.declared.event.TimeMode.{TimeMode}
 use Rattle.tab_history.specs.declared.event.TimeMode.TheVariants.{Any}
 use Rattle.tab_rules.specs.Constraints.{constraint_set_of}
-use Rattle.tab_history.specs.declared.event.Act.TheVariants.{CreateTable, DropTable, CreateUser, DropUser, SetAuths, Grant, Revoke, SetConstraints, SetVersions, SetHorizon, Write, Rights, Status, Flush, Compact, AddSplit, SplitBySize, Splits, Rotate, Begin, Install}
+use Rattle.tab_history.specs.declared.event.Act.TheVariants as act
 use Rattle.tab_history.specs.declared.event.Given.TheVariants.{InSlot}
 use Rattle.tab_history.specs.declared.event.Scan.{Scan}
 use Rattle.tab_lines.specs.declared.line.Line.{Line}
@@ -68,7 +68,7 @@ unfoldable pub createtable_of : List (List ℕ) → Option Line
 createtable_of words = do
   table ← field name_of words
   settings ← settings table.1
-  Some (line.Act (CreateTable table.0 settings.0 settings.1))
+  Some (line.Act (act.CreateTable table.0 settings.0 settings.1))
 
 -- the words behind the command of a line setauths U LIST
 unfoldable pub setauths_of : List (List ℕ) → Option Line
@@ -76,7 +76,7 @@ setauths_of words = do
   user ← field name_of words
   auths ← field list_of user.1
   end ← ends auths.1
-  Some (line.Act (SetAuths user.0 (set_of auths.0)))
+  Some (line.Act (act.SetAuths user.0 (set_of auths.0)))
 
 -- the words behind the command of a line constraints T LIST
 unfoldable pub constraints_line_of : List (List ℕ) → Option Line
@@ -84,7 +84,7 @@ constraints_line_of words = do
   table ← field name_of words
   constraints ← field constraints_of table.1
   end ← ends constraints.1
-  Some (line.Act (SetConstraints table.0 (constraint_set_of constraints.0)))
+  Some (line.Act (act.SetConstraints table.0 (constraint_set_of constraints.0)))
 
 -- the words behind the command of a line versions T N
 unfoldable pub versions_line_of : List (List ℕ) → Option Line
@@ -92,7 +92,7 @@ versions_line_of words = do
   table ← field name_of words
   many ← field version_count table.1
   end ← ends many.1
-  Some (line.Act (SetVersions table.0 many.0))
+  Some (line.Act (act.SetVersions table.0 many.0))
 
 -- the words behind the command of a line horizon T TS
 unfoldable pub horizon_of : List (List ℕ) → Option Line
@@ -100,7 +100,7 @@ horizon_of words = do
   table ← field name_of words
   timestamp ← field signed_of table.1
   end ← ends timestamp.1
-  Some (line.Act (SetHorizon table.0 timestamp.0))
+  Some (line.Act (act.SetHorizon table.0 timestamp.0))
 
 -- the words behind the command of a line insert T ROW FAM QUAL LABEL VALUE [TS]
 unfoldable pub insert_of : List (List ℕ) → Option Line
@@ -109,7 +109,7 @@ insert_of words = do
   mutation ← field row_of table.1
   update ← put_of Optional mutation.1
   end ← ends update.1
-  Some (line.Act (Write table.0 (with_update mutation.0 update.0)))
+  Some (line.Act (act.Write table.0 (with_update mutation.0 update.0)))
 
 -- the words behind the command of a line delete T ROW FAM QUAL LABEL [TS]
 unfoldable pub delete_line_of : List (List ℕ) → Option Line
@@ -118,7 +118,7 @@ delete_line_of words = do
   mutation ← field row_of table.1
   update ← delete_of Optional mutation.1
   end ← ends update.1
-  Some (line.Act (Write table.0 (with_update mutation.0 update.0)))
+  Some (line.Act (act.Write table.0 (with_update mutation.0 update.0)))
 
 -- the words behind the command of a line mutate T ROW and updates
 unfoldable pub mutate_of : List (List ℕ) → Option Line
@@ -126,7 +126,7 @@ mutate_of words = do
   table ← field name_of words
   mutation ← field row_of table.1
   updates ← updates_of mutation.1
-  Some (line.Act (Write table.0 (with_updates mutation.0 updates)))
+  Some (line.Act (act.Write table.0 (with_updates mutation.0 updates)))
 
 -- both bounds or neither
 abbrev pub bounds_of : List (List ℕ) → Option (Bounds × List (List ℕ))
@@ -180,7 +180,7 @@ compact_of words = do
   table ← field name_of words
   extent ← field extent_word table.1
   end ← ends extent.1
-  Some (line.Act (Compact table.0 extent.0))
+  Some (line.Act (act.Compact table.0 extent.0))
 
 -- the words behind the command of a line begin T ROW and minor, partial or full
 unfoldable pub begin_of : List (List ℕ) → Option Line
@@ -189,7 +189,7 @@ begin_of words = do
   row ← field bytes_of table.1
   kind ← field compaction_word row.1
   end ← ends kind.1
-  Some (line.Act (Begin table.0 row.0 kind.0))
+  Some (line.Act (act.Begin table.0 row.0 kind.0))
 
 -- the words behind the command of a line merge K
 unfoldable pub merge_of : List (List ℕ) → Option Line
@@ -204,7 +204,7 @@ install_of words = do
   table ← field name_of words
   job ← field unsigned_of table.1
   end ← ends job.1
-  Some (line.Act (Install table.0 (InSlot job.0)))
+  Some (line.Act (act.Install table.0 (InSlot job.0)))
 
 -- the words behind the command of a line addsplit T ROW
 unfoldable pub addsplit_of : List (List ℕ) → Option Line
@@ -212,7 +212,7 @@ addsplit_of words = do
   table ← field name_of words
   row ← field bytes_of table.1
   end ← ends row.1
-  Some (line.Act (AddSplit table.0 row.0))
+  Some (line.Act (act.AddSplit table.0 row.0))
 
 -- the words behind the command of a line splitsize T ROW LIMIT
 unfoldable pub splitsize_of : List (List ℕ) → Option Line
@@ -221,7 +221,7 @@ splitsize_of words = do
   row ← field bytes_of table.1
   limit ← field unsigned_of row.1
   end ← ends limit.1
-  Some (line.Act (SplitBySize table.0 row.0 limit.0))
+  Some (line.Act (act.SplitBySize table.0 row.0 limit.0))
 
 -- the words behind the command of a line save FILE or load FILE
 unfoldable pub file_of : FileKind → List (List ℕ) → Option Line
@@ -234,7 +234,7 @@ file_of kind words = do
 unfoldable pub rotate_of : List (List ℕ) → Option Line
 rotate_of words = do
   end ← ends words
-  Some (line.Act Rotate)
+  Some (line.Act act.Rotate)
 
 -- the words behind the command of a line at MOMENT
 unfoldable pub at_of : List (List ℕ) → Option Line
@@ -286,13 +286,13 @@ abbrev pub commanded : Command → List (List ℕ) → Option Line
 commanded command.As words = option_map (λ user. line.As user) (name_alone words)
 commanded command.At words = at_of words
 commanded command.CreateTable words = createtable_of words
-commanded command.DropTable words = option_map (λ table. line.Act (DropTable table)) (name_alone words)
-commanded command.CreateUser words = option_map (λ user. line.Act (CreateUser user)) (name_alone words)
-commanded command.DropUser words = option_map (λ user. line.Act (DropUser user)) (name_alone words)
+commanded command.DropTable words = option_map (λ table. line.Act (act.DropTable table)) (name_alone words)
+commanded command.CreateUser words = option_map (λ user. line.Act (act.CreateUser user)) (name_alone words)
+commanded command.DropUser words = option_map (λ user. line.Act (act.DropUser user)) (name_alone words)
 commanded command.SetAuths words = setauths_of words
-commanded command.Grant words = option_map (λ grant. line.Act (Grant grant.0 grant.1)) (grant_of words)
-commanded command.Revoke words = option_map (λ grant. line.Act (Revoke grant.0 grant.1)) (grant_of words)
-commanded command.Rights words = option_map (λ table. line.Act (Rights table)) (name_alone words)
+commanded command.Grant words = option_map (λ grant. line.Act (act.Grant grant.0 grant.1)) (grant_of words)
+commanded command.Revoke words = option_map (λ grant. line.Act (act.Revoke grant.0 grant.1)) (grant_of words)
+commanded command.Rights words = option_map (λ table. line.Act (act.Rights table)) (name_alone words)
 commanded command.Constraints words = constraints_line_of words
 commanded command.Versions words = versions_line_of words
 commanded command.Horizon words = horizon_of words
@@ -304,15 +304,15 @@ commanded command.Open words = option_map (λ scan. line.Open scan) (scan_words 
 commanded command.Next words = next_of words
 commanded command.Many words = many_of words
 commanded command.Close words = close_of words
-commanded command.Flush words = option_map (λ table. line.Act (Flush table)) (name_alone words)
+commanded command.Flush words = option_map (λ table. line.Act (act.Flush table)) (name_alone words)
 commanded command.Compact words = compact_of words
 commanded command.Begin words = begin_of words
 commanded command.Merge words = merge_of words
 commanded command.Install words = install_of words
-commanded command.Status words = option_map (λ table. line.Act (Status table)) (name_alone words)
+commanded command.Status words = option_map (λ table. line.Act (act.Status table)) (name_alone words)
 commanded command.AddSplit words = addsplit_of words
 commanded command.SplitSize words = splitsize_of words
-commanded command.Splits words = option_map (λ table. line.Act (Splits table)) (name_alone words)
+commanded command.Splits words = option_map (λ table. line.Act (act.Splits table)) (name_alone words)
 commanded command.Save words = file_of Save words
 commanded command.Load words = file_of Load words
 commanded command.Rotate words = rotate_of words
