@@ -68,13 +68,7 @@ system_at (suc (suc (suc (suc (suc (suc (suc (suc n)))))))) p is = absurd cc
 
 system_again : (p : SystemPermission) → slice_get all_system (system_place p) ≡ Some p
 system_again system.Grant = refl
-system_again system.CreateTable = refl
-system_again system.DropTable = refl
-system_again system.AlterTable = refl
-system_again system.CreateUser = refl
-system_again system.DropUser = refl
-system_again system.AlterUser = refl
-system_again system.System = refl
+system_again p = refl
 
 table_at : (n : ℕ) (p : TablePermission) → slice_get all_table n ≡ Some p → n ≡ table_place p
 table_at zero p is = ap table_place (some_inj table.Read p is)
@@ -86,10 +80,7 @@ table_at (suc (suc (suc (suc (suc n))))) p is = absurd cc
 
 table_again : (p : TablePermission) → slice_get all_table (table_place p) ≡ Some p
 table_again table.Read = refl
-table_again table.Write = refl
-table_again table.AlterTable = refl
-table_again table.Grant = refl
-table_again table.DropTable = refl
+table_again p = refl
 
 on_map : {A B : Type 0} (f : A → B) (r : Option A) (y : B) (P : Type 0) → option_map f r ≡ Some y → ((x : A) → r ≡ Some x → f x ≡ y → P) → P
 on_map f None y P is then = absurd cc

@@ -34,85 +34,30 @@ named : (says : List ℕ → Request) (bytes : List ℕ) → ((name : List ℕ) 
 named says bytes h = after (name_at bytes) _ (λ name. h name.0)
 
 -- ---- the fields of each opcode
-create_table_free : (bytes : List ℕ) → IsFree (create_table_at bytes)
-unfolding create_table_at
-create_table_free bytes = after (name_at bytes) _ (λ t. after (time_at t.1) _ (λ m. after (versions_at m.1) _ (λ v. tt)))
-
-set_auths_free : (bytes : List ℕ) → IsFree (set_auths_at bytes)
-unfolding set_auths_at
-set_auths_free bytes = after (name_at bytes) _ (λ u. after (list_at u.1) _ (λ l. tt))
-
-grant_free : (bytes : List ℕ) → IsFree (grant_at bytes)
-unfolding grant_at
-grant_free bytes = after (name_at bytes) _ (λ u. after (permission_at u.1) _ (λ p. tt))
-
-revoke_free : (bytes : List ℕ) → IsFree (revoke_at bytes)
-unfolding revoke_at
-revoke_free bytes = after (name_at bytes) _ (λ u. after (permission_at u.1) _ (λ p. tt))
-
-set_constraints_free : (bytes : List ℕ) → IsFree (set_constraints_at bytes)
-unfolding set_constraints_at
-set_constraints_free bytes = after (name_at bytes) _ (λ t. after (constraints_at t.1) _ (λ c. tt))
-
-write_free : (bytes : List ℕ) → IsFree (write_at bytes)
-unfolding write_at
-write_free bytes = after (name_at bytes) _ (λ t. after (mutation_at t.1) _ (λ m. tt))
-
-open_free : (bytes : List ℕ) → IsFree (open_at bytes)
-unfolding open_at
-open_free bytes = after (name_at bytes) _ (λ t. after (bounds_at t.1) _ (λ b. after (columns_at b.1) _ (λ c. after (list_at c.1) _ (λ a. tt))))
-
-next_free : (bytes : List ℕ) → IsFree (next_at bytes)
-unfolding next_at
-next_free bytes = after (u32_at bytes) _ (λ k. after (u32_at k.1) _ (λ n. tt))
-
-many_free : (bytes : List ℕ) → IsFree (many_at bytes)
-unfolding many_at
-many_free bytes = after (u32_at bytes) _ (λ k. after (ranges_at k.1) _ (λ r. tt))
-
-close_free : (bytes : List ℕ) → IsFree (close_at bytes)
-unfolding close_at
-close_free bytes = after (u32_at bytes) _ (λ k. tt)
-
-compact_free : (bytes : List ℕ) → IsFree (compact_at bytes)
-unfolding compact_at
-compact_free bytes = after (name_at bytes) _ (λ t. after (extent_at t.1) _ (λ e. tt))
-
-add_split_free : (bytes : List ℕ) → IsFree (add_split_at bytes)
-unfolding add_split_at
-add_split_free bytes = after (name_at bytes) _ (λ t. after (field_at t.1) _ (λ r. tt))
-
-set_versions_free : (bytes : List ℕ) → IsFree (set_versions_at bytes)
-unfolding set_versions_at
-set_versions_free bytes = after (name_at bytes) _ (λ t. after (versions_at t.1) _ (λ v. tt))
-
-set_horizon_free : (bytes : List ℕ) → IsFree (set_horizon_at bytes)
-unfolding set_horizon_at
-set_horizon_free bytes = after (name_at bytes) _ (λ t. after (i64_at t.1) _ (λ z. tt))
-
 fields_free : (o : Opcode) (bytes : List ℕ) → IsFree (fields_at o bytes)
+unfolding create_table_at set_auths_at grant_at revoke_at set_constraints_at write_at open_at next_at many_at close_at compact_at add_split_at set_versions_at set_horizon_at
 fields_free opcode.Hello bytes = named (λ user. asks.Hello user) bytes (λ name. tt)
-fields_free opcode.CreateTable bytes = create_table_free bytes
+fields_free opcode.CreateTable bytes = after (name_at bytes) _ (λ t. after (time_at t.1) _ (λ m. after (versions_at m.1) _ (λ v. tt)))
 fields_free opcode.DropTable bytes = named (λ table. asks.Act (act.DropTable table)) bytes (λ name. tt)
 fields_free opcode.CreateUser bytes = named (λ user. asks.Act (act.CreateUser user)) bytes (λ name. tt)
 fields_free opcode.DropUser bytes = named (λ user. asks.Act (act.DropUser user)) bytes (λ name. tt)
-fields_free opcode.SetAuths bytes = set_auths_free bytes
-fields_free opcode.Grant bytes = grant_free bytes
-fields_free opcode.Revoke bytes = revoke_free bytes
-fields_free opcode.SetConstraints bytes = set_constraints_free bytes
-fields_free opcode.Write bytes = write_free bytes
-fields_free opcode.Open bytes = open_free bytes
-fields_free opcode.Next bytes = next_free bytes
-fields_free opcode.Many bytes = many_free bytes
-fields_free opcode.Close bytes = close_free bytes
+fields_free opcode.SetAuths bytes = after (name_at bytes) _ (λ u. after (list_at u.1) _ (λ l. tt))
+fields_free opcode.Grant bytes = after (name_at bytes) _ (λ u. after (permission_at u.1) _ (λ p. tt))
+fields_free opcode.Revoke bytes = after (name_at bytes) _ (λ u. after (permission_at u.1) _ (λ p. tt))
+fields_free opcode.SetConstraints bytes = after (name_at bytes) _ (λ t. after (constraints_at t.1) _ (λ c. tt))
+fields_free opcode.Write bytes = after (name_at bytes) _ (λ t. after (mutation_at t.1) _ (λ m. tt))
+fields_free opcode.Open bytes = after (name_at bytes) _ (λ t. after (bounds_at t.1) _ (λ b. after (columns_at b.1) _ (λ c. after (list_at c.1) _ (λ a. tt))))
+fields_free opcode.Next bytes = after (u32_at bytes) _ (λ k. after (u32_at k.1) _ (λ n. tt))
+fields_free opcode.Many bytes = after (u32_at bytes) _ (λ k. after (ranges_at k.1) _ (λ r. tt))
+fields_free opcode.Close bytes = after (u32_at bytes) _ (λ k. tt)
 fields_free opcode.Flush bytes = named (λ table. asks.Act (act.Flush table)) bytes (λ name. tt)
-fields_free opcode.Compact bytes = compact_free bytes
-fields_free opcode.AddSplit bytes = add_split_free bytes
+fields_free opcode.Compact bytes = after (name_at bytes) _ (λ t. after (extent_at t.1) _ (λ e. tt))
+fields_free opcode.AddSplit bytes = after (name_at bytes) _ (λ t. after (field_at t.1) _ (λ r. tt))
 fields_free opcode.Splits bytes = named (λ table. asks.Act (act.Splits table)) bytes (λ name. tt)
 fields_free opcode.Status bytes = named (λ table. asks.Act (act.Status table)) bytes (λ name. tt)
 fields_free opcode.Rights bytes = named (λ table. asks.Act (act.Rights table)) bytes (λ name. tt)
-fields_free opcode.SetVersions bytes = set_versions_free bytes
-fields_free opcode.SetHorizon bytes = set_horizon_free bytes
+fields_free opcode.SetVersions bytes = after (name_at bytes) _ (λ t. after (versions_at t.1) _ (λ v. tt))
+fields_free opcode.SetHorizon bytes = after (name_at bytes) _ (λ t. after (i64_at t.1) _ (λ z. tt))
 fields_free opcode.Rotate bytes = tt
 
 -- ---- whole frames

@@ -1,8 +1,11 @@
 -- Which reason a frame is refused by, and when a request is asked in its turn.
-use Rattle.std.proofs.Common.{◌≡◌, ℕ, zero, suc, ◌<◌, Bool, true, false, cond, List, ◌∷◌, Option, Some, None, refl, sym, ap, subst, ◌∙◌, arith}
-use Rattle.std.specs.Prelude.{Result, Ok, Err}
+use Rattle.std.proofs.Common.{◌≡◌, ℕ, zero, suc, ◌<◌, Bool, true, false, cond, not, List, ◌∷◌, get_or, drop, Option, Some, None, refl, sym, ap, subst, ◌∙◌, arith}
+use Rattle.std.specs.Prelude.{Result, Ok, Err, slice_get}
 use Rattle.std.specs.Bool.{Decides}
 use Rattle.std.proofs.lemmas.Bool.Decides.{not_from_Decides}
+use Rattle.std.proofs.lemmas.List.Elements.{All-get_or}
+use Rattle.std.proofs.lemmas.List.Sums.{AllPass-from_list_all}
+use Rattle.std.proofs.lemmas.Option.{slice_get_within, slice_get-get_or, get_or_from_slice_get}
 use Rattle.tab_parts.specs.Parts.{IsBytes}
 use Rattle.tab_parts.specs.Reading.{◌>>=◌, whole}
 use Rattle.tab_parts.proofs.Exact.{some_inj}
@@ -11,7 +14,7 @@ use Rattle.tab_wire.specs.declared.opcode.Opcode.TheVariants as op_of
 use Rattle.tab_wire.specs.declared.request.Request.{Request}
 use Rattle.tab_wire.specs.declared.reason.Reason.{Reason}
 use Rattle.tab_wire.specs.declared.reason.Reason.TheVariants as reason
-use Rattle.tab_wire.specs.Requests.{opcode_of, fields_at, request_in, request_of, is_in_turn, or_field, asked_by}
+use Rattle.tab_wire.specs.Requests.{all_opcodes, opcode_of, fields_at, request_in, request_of, is_in_turn, or_field, asked_by}
 use Rattle.tab_wire.specs.Forms.{IsKnown, InTurn, IsRequest, IsBad, opcode, order, field, ReasonsAreFirst, RequestsInTurn}
 use Rattle.tab_wire.proofs.RequestLaw.{requests_are_forms}
 
@@ -33,59 +36,34 @@ other_turn : (op : ℕ) (o : Opcode) → 1 < op → is_in_turn true o ≡ true �
 other_turn op o lt yes_then no_before true = (λ e. not_one op lt, λ h. yes_then)
 other_turn op o lt yes_then no_before false = (λ e. (let no : false ≡ true = sym no_before ∙ e in absurd cc), λ h. absurd (not_one op lt h))
 
+-- the opcodes behind Hello
+abbrev others : List Opcode
+others = drop 1 all_opcodes
+
+-- before Hello no opcode has its turn that has it behind
+turned : (o : Opcode) → is_in_turn false o ≡ not (is_in_turn true o)
+turned op_of.Hello = refl
+turned o = refl
+
+-- each of them has its turn behind it
+other_first : (place : ℕ) (o : Opcode) → slice_get others place ≡ Some o → is_in_turn true o ≡ true
+other_first place o is =
+    subst (λ (x : Opcode). is_in_turn true x ≡ true) (get_or_from_slice_get others place o op_of.Hello is)
+    (All-get_or (λ x. is_in_turn true x ≡ true) others place op_of.Hello (slice_get_within others place o is) (AllPass-from_list_all (is_in_turn true) others refl))
+
 some_known : (op : ℕ) (o : Opcode) → opcode_of op ≡ Some o → Tells op o
 some_known zero o is = absurd cc
 some_known (suc zero) o is = subst (Tells 1) (some_inj op_of.Hello o is) ((omega arith, omega arith), hello_turn)
-some_known (suc (suc zero)) o is = subst (Tells 2) (some_inj op_of.CreateTable o is) ((omega arith, omega arith), other_turn 2 op_of.CreateTable (omega arith) refl refl)
-some_known (suc (suc (suc zero))) o is = subst (Tells 3) (some_inj op_of.DropTable o is) ((omega arith, omega arith), other_turn 3 op_of.DropTable (omega arith) refl refl)
-some_known (suc (suc (suc (suc zero)))) o is = subst (Tells 4) (some_inj op_of.CreateUser o is) ((omega arith, omega arith), other_turn 4 op_of.CreateUser (omega arith) refl refl)
-some_known (suc (suc (suc (suc (suc zero))))) o is = subst (Tells 5) (some_inj op_of.DropUser o is) ((omega arith, omega arith), other_turn 5 op_of.DropUser (omega arith) refl refl)
-some_known (suc (suc (suc (suc (suc (suc zero)))))) o is = subst (Tells 6) (some_inj op_of.SetAuths o is) ((omega arith, omega arith), other_turn 6 op_of.SetAuths (omega arith) refl refl)
-some_known (suc (suc (suc (suc (suc (suc (suc zero))))))) o is = subst (Tells 7) (some_inj op_of.Grant o is) ((omega arith, omega arith), other_turn 7 op_of.Grant (omega arith) refl refl)
-some_known (suc (suc (suc (suc (suc (suc (suc (suc zero)))))))) o is = subst (Tells 8) (some_inj op_of.Revoke o is) ((omega arith, omega arith), other_turn 8 op_of.Revoke (omega arith) refl refl)
-some_known (suc (suc (suc (suc (suc (suc (suc (suc (suc zero))))))))) o is = subst (Tells 9) (some_inj op_of.SetConstraints o is) ((omega arith, omega arith), other_turn 9 op_of.SetConstraints (omega arith) refl refl)
-some_known (suc (suc (suc (suc (suc (suc (suc (suc (suc (suc zero)))))))))) o is = subst (Tells 10) (some_inj op_of.Write o is) ((omega arith, omega arith), other_turn 10 op_of.Write (omega arith) refl refl)
-some_known (suc (suc (suc (suc (suc (suc (suc (suc (suc (suc (suc zero))))))))))) o is = subst (Tells 11) (some_inj op_of.Open o is) ((omega arith, omega arith), other_turn 11 op_of.Open (omega arith) refl refl)
-some_known (suc (suc (suc (suc (suc (suc (suc (suc (suc (suc (suc (suc zero)))))))))))) o is = subst (Tells 12) (some_inj op_of.Next o is) ((omega arith, omega arith), other_turn 12 op_of.Next (omega arith) refl refl)
-some_known (suc (suc (suc (suc (suc (suc (suc (suc (suc (suc (suc (suc (suc zero))))))))))))) o is = subst (Tells 13) (some_inj op_of.Many o is) ((omega arith, omega arith), other_turn 13 op_of.Many (omega arith) refl refl)
-some_known (suc (suc (suc (suc (suc (suc (suc (suc (suc (suc (suc (suc (suc (suc zero)))))))))))))) o is = subst (Tells 14) (some_inj op_of.Close o is) ((omega arith, omega arith), other_turn 14 op_of.Close (omega arith) refl refl)
-some_known (suc (suc (suc (suc (suc (suc (suc (suc (suc (suc (suc (suc (suc (suc (suc zero))))))))))))))) o is = subst (Tells 15) (some_inj op_of.Flush o is) ((omega arith, omega arith), other_turn 15 op_of.Flush (omega arith) refl refl)
-some_known (suc (suc (suc (suc (suc (suc (suc (suc (suc (suc (suc (suc (suc (suc (suc (suc zero)))))))))))))))) o is = subst (Tells 16) (some_inj op_of.Compact o is) ((omega arith, omega arith), other_turn 16 op_of.Compact (omega arith) refl refl)
-some_known (suc (suc (suc (suc (suc (suc (suc (suc (suc (suc (suc (suc (suc (suc (suc (suc (suc zero))))))))))))))))) o is = subst (Tells 17) (some_inj op_of.AddSplit o is) ((omega arith, omega arith), other_turn 17 op_of.AddSplit (omega arith) refl refl)
-some_known (suc (suc (suc (suc (suc (suc (suc (suc (suc (suc (suc (suc (suc (suc (suc (suc (suc (suc zero)))))))))))))))))) o is = subst (Tells 18) (some_inj op_of.Splits o is) ((omega arith, omega arith), other_turn 18 op_of.Splits (omega arith) refl refl)
-some_known (suc (suc (suc (suc (suc (suc (suc (suc (suc (suc (suc (suc (suc (suc (suc (suc (suc (suc (suc zero))))))))))))))))))) o is = subst (Tells 19) (some_inj op_of.Status o is) ((omega arith, omega arith), other_turn 19 op_of.Status (omega arith) refl refl)
-some_known (suc (suc (suc (suc (suc (suc (suc (suc (suc (suc (suc (suc (suc (suc (suc (suc (suc (suc (suc (suc zero)))))))))))))))))))) o is = subst (Tells 20) (some_inj op_of.Rights o is) ((omega arith, omega arith), other_turn 20 op_of.Rights (omega arith) refl refl)
-some_known (suc (suc (suc (suc (suc (suc (suc (suc (suc (suc (suc (suc (suc (suc (suc (suc (suc (suc (suc (suc (suc zero))))))))))))))))))))) o is = subst (Tells 21) (some_inj op_of.SetVersions o is) ((omega arith, omega arith), other_turn 21 op_of.SetVersions (omega arith) refl refl)
-some_known (suc (suc (suc (suc (suc (suc (suc (suc (suc (suc (suc (suc (suc (suc (suc (suc (suc (suc (suc (suc (suc (suc zero)))))))))))))))))))))) o is = subst (Tells 22) (some_inj op_of.SetHorizon o is) ((omega arith, omega arith), other_turn 22 op_of.SetHorizon (omega arith) refl refl)
-some_known (suc (suc (suc (suc (suc (suc (suc (suc (suc (suc (suc (suc (suc (suc (suc (suc (suc (suc (suc (suc (suc (suc (suc zero))))))))))))))))))))))) o is = subst (Tells 23) (some_inj op_of.Rotate o is) ((omega arith, omega arith), other_turn 23 op_of.Rotate (omega arith) refl refl)
-some_known (suc (suc (suc (suc (suc (suc (suc (suc (suc (suc (suc (suc (suc (suc (suc (suc (suc (suc (suc (suc (suc (suc (suc (suc n)))))))))))))))))))))))) o is = absurd cc
+some_known (suc (suc place)) o is =
+    let lt : place < 22 = slice_get_within others place o is in
+    let behind = other_first place o is in
+    ((omega arith, omega (arith, lt)), other_turn (suc (suc place)) o (omega arith) behind (turned o ∙ ap not behind))
 
 none_unknown : (op : ℕ) → opcode_of op ≡ None → IsKnown op → ⊥
 none_unknown zero is h = omega (arith, h.0)
-none_unknown (suc zero) is h = absurd cc
-none_unknown (suc (suc zero)) is h = absurd cc
-none_unknown (suc (suc (suc zero))) is h = absurd cc
-none_unknown (suc (suc (suc (suc zero)))) is h = absurd cc
-none_unknown (suc (suc (suc (suc (suc zero))))) is h = absurd cc
-none_unknown (suc (suc (suc (suc (suc (suc zero)))))) is h = absurd cc
-none_unknown (suc (suc (suc (suc (suc (suc (suc zero))))))) is h = absurd cc
-none_unknown (suc (suc (suc (suc (suc (suc (suc (suc zero)))))))) is h = absurd cc
-none_unknown (suc (suc (suc (suc (suc (suc (suc (suc (suc zero))))))))) is h = absurd cc
-none_unknown (suc (suc (suc (suc (suc (suc (suc (suc (suc (suc zero)))))))))) is h = absurd cc
-none_unknown (suc (suc (suc (suc (suc (suc (suc (suc (suc (suc (suc zero))))))))))) is h = absurd cc
-none_unknown (suc (suc (suc (suc (suc (suc (suc (suc (suc (suc (suc (suc zero)))))))))))) is h = absurd cc
-none_unknown (suc (suc (suc (suc (suc (suc (suc (suc (suc (suc (suc (suc (suc zero))))))))))))) is h = absurd cc
-none_unknown (suc (suc (suc (suc (suc (suc (suc (suc (suc (suc (suc (suc (suc (suc zero)))))))))))))) is h = absurd cc
-none_unknown (suc (suc (suc (suc (suc (suc (suc (suc (suc (suc (suc (suc (suc (suc (suc zero))))))))))))))) is h = absurd cc
-none_unknown (suc (suc (suc (suc (suc (suc (suc (suc (suc (suc (suc (suc (suc (suc (suc (suc zero)))))))))))))))) is h = absurd cc
-none_unknown (suc (suc (suc (suc (suc (suc (suc (suc (suc (suc (suc (suc (suc (suc (suc (suc (suc zero))))))))))))))))) is h = absurd cc
-none_unknown (suc (suc (suc (suc (suc (suc (suc (suc (suc (suc (suc (suc (suc (suc (suc (suc (suc (suc zero)))))))))))))))))) is h = absurd cc
-none_unknown (suc (suc (suc (suc (suc (suc (suc (suc (suc (suc (suc (suc (suc (suc (suc (suc (suc (suc (suc zero))))))))))))))))))) is h = absurd cc
-none_unknown (suc (suc (suc (suc (suc (suc (suc (suc (suc (suc (suc (suc (suc (suc (suc (suc (suc (suc (suc (suc zero)))))))))))))))))))) is h = absurd cc
-none_unknown (suc (suc (suc (suc (suc (suc (suc (suc (suc (suc (suc (suc (suc (suc (suc (suc (suc (suc (suc (suc (suc zero))))))))))))))))))))) is h = absurd cc
-none_unknown (suc (suc (suc (suc (suc (suc (suc (suc (suc (suc (suc (suc (suc (suc (suc (suc (suc (suc (suc (suc (suc (suc zero)))))))))))))))))))))) is h = absurd cc
-none_unknown (suc (suc (suc (suc (suc (suc (suc (suc (suc (suc (suc (suc (suc (suc (suc (suc (suc (suc (suc (suc (suc (suc (suc zero))))))))))))))))))))))) is h = absurd cc
-none_unknown (suc (suc (suc (suc (suc (suc (suc (suc (suc (suc (suc (suc (suc (suc (suc (suc (suc (suc (suc (suc (suc (suc (suc (suc n)))))))))))))))))))))))) is h = omega (arith, h.1)
+none_unknown (suc place) is h =
+    let lt : place < 23 = omega (arith, h.1) in
+    let no : None ≡ Some (get_or all_opcodes place op_of.Hello) = sym is ∙ slice_get-get_or all_opcodes place op_of.Hello lt in absurd cc
 
 -- what doesn't hold is answered no
 denied : {P : Type 0} (b : Bool) → Decides b P → (P → ⊥) → b ≡ false

@@ -99,116 +99,34 @@ four_sound a b c d IsA IsB IsC IsD says ea eb ec ed k fields r fits is form =
     (form h.front i.front j.front j.back h.first i.first j.first j.next.first h.says i.says j.says j.next.says)
 
 -- ---- each opcode, backwards
-sound_hello : (fields : List ℕ) (r : Request) → IsBytes fields → whole (mapped (λ user. asks.Hello user) name_at fields) ≡ Some r → IsRequest (1 ∷ fields) r
-sound_hello fields r fits is = one_sound name_at IsNameField (λ user. asks.Hello user) exact_name 1 fields r fits is (λ p x a. hello p x a)
-
-sound_create_table : (fields : List ℕ) (r : Request) → IsBytes fields → whole (create_table_at fields) ≡ Some r → IsRequest (2 ∷ fields) r
-unfolding create_table_at
-sound_create_table fields r fits is = three_sound name_at time_at versions_at IsNameField IsTime IsVersions (λ t m v. asks.Act (act.CreateTable t m v)) exact_name exact_time exact_versions 2 fields r fits is (λ p q s x y z a b c. subst (λ (l : List ℕ). IsRequest (2 ∷ (p ++ l)) (asks.Act (act.CreateTable x y z))) (ap (λ (l : List ℕ). l ++ s) (sym b)) (create_table p s x y z a c))
-
-sound_drop_table : (fields : List ℕ) (r : Request) → IsBytes fields → whole (mapped (λ t. asks.Act (act.DropTable t)) name_at fields) ≡ Some r → IsRequest (3 ∷ fields) r
-sound_drop_table fields r fits is = one_sound name_at IsNameField (λ t. asks.Act (act.DropTable t)) exact_name 3 fields r fits is (λ p x a. drop_table p x a)
-
-sound_create_user : (fields : List ℕ) (r : Request) → IsBytes fields → whole (mapped (λ t. asks.Act (act.CreateUser t)) name_at fields) ≡ Some r → IsRequest (4 ∷ fields) r
-sound_create_user fields r fits is = one_sound name_at IsNameField (λ t. asks.Act (act.CreateUser t)) exact_name 4 fields r fits is (λ p x a. create_user p x a)
-
-sound_drop_user : (fields : List ℕ) (r : Request) → IsBytes fields → whole (mapped (λ t. asks.Act (act.DropUser t)) name_at fields) ≡ Some r → IsRequest (5 ∷ fields) r
-sound_drop_user fields r fits is = one_sound name_at IsNameField (λ t. asks.Act (act.DropUser t)) exact_name 5 fields r fits is (λ p x a. drop_user p x a)
-
-sound_set_auths : (fields : List ℕ) (r : Request) → IsBytes fields → whole (set_auths_at fields) ≡ Some r → IsRequest (6 ∷ fields) r
-unfolding set_auths_at
-sound_set_auths fields r fits is = two_sound name_at list_at IsNameField IsList (λ u l. asks.Act (act.SetAuths u (set_of l))) exact_name exact_list 6 fields r fits is (λ p q x y a b. set_auths p q x y a b)
-
-sound_grant : (fields : List ℕ) (r : Request) → IsBytes fields → whole (grant_at fields) ≡ Some r → IsRequest (7 ∷ fields) r
-unfolding grant_at
-sound_grant fields r fits is = two_sound name_at permission_at IsNameField IsPermission (λ u p. asks.Act (act.Grant u p)) exact_name exact_permission 7 fields r fits is (λ p q x y a b. grant p q x y a b)
-
-sound_revoke : (fields : List ℕ) (r : Request) → IsBytes fields → whole (revoke_at fields) ≡ Some r → IsRequest (8 ∷ fields) r
-unfolding revoke_at
-sound_revoke fields r fits is = two_sound name_at permission_at IsNameField IsPermission (λ u p. asks.Act (act.Revoke u p)) exact_name exact_permission 8 fields r fits is (λ p q x y a b. revoke p q x y a b)
-
-sound_set_constraints : (fields : List ℕ) (r : Request) → IsBytes fields → whole (set_constraints_at fields) ≡ Some r → IsRequest (9 ∷ fields) r
-unfolding set_constraints_at
-sound_set_constraints fields r fits is = two_sound name_at constraints_at IsNameField IsConstraints (λ t c. asks.Act (act.SetConstraints t c)) exact_name exact_constraints 9 fields r fits is (λ p q x y a b. set_constraints p q x y a b)
-
-sound_write : (fields : List ℕ) (r : Request) → IsBytes fields → whole (write_at fields) ≡ Some r → IsRequest (10 ∷ fields) r
-unfolding write_at
-sound_write fields r fits is = two_sound name_at mutation_at IsNameField IsMutation (λ t m. asks.Act (act.Write t m)) exact_name exact_mutation 10 fields r fits is (λ p q x y a b. write p q x y a b)
-
-sound_opens : (fields : List ℕ) (r : Request) → IsBytes fields → whole (open_at fields) ≡ Some r → IsRequest (11 ∷ fields) r
-unfolding open_at
-sound_opens fields r fits is = four_sound name_at bounds_at columns_at list_at IsNameField IsBounds (IsCounted IsU32 IsColumn) IsList (λ t b c a. asks.Act (act.Open (record { table = t; bounds = b; columns = c; authorizations = set_of a }))) exact_name exact_bounds exact_columns exact_list 11 fields r fits is (λ p q s t x y z w a b c d. opens p q s t x y z w a b c d)
-
-sound_next : (fields : List ℕ) (r : Request) → IsBytes fields → whole (next_at fields) ≡ Some r → IsRequest (12 ∷ fields) r
-unfolding next_at
-sound_next fields r fits is = two_sound u32_at u32_at IsU32 IsU32 (λ k n. asks.Next k n) exact_u32 exact_u32 12 fields r fits is (λ p q x y a b. next p q x y a b)
-
-sound_many : (fields : List ℕ) (r : Request) → IsBytes fields → whole (many_at fields) ≡ Some r → IsRequest (13 ∷ fields) r
-unfolding many_at
-sound_many fields r fits is = two_sound u32_at ranges_at IsU32 (IsCounted IsU32 IsBounds) (λ k rs. asks.Many k rs) exact_u32 exact_ranges 13 fields r fits is (λ p q x y a b. many p q x y a b)
-
-sound_close : (fields : List ℕ) (r : Request) → IsBytes fields → whole (close_at fields) ≡ Some r → IsRequest (14 ∷ fields) r
-unfolding close_at
-sound_close fields r fits is = one_sound u32_at IsU32 (λ k. asks.Close k) exact_u32 14 fields r fits is (λ p x a. close p x a)
-
-sound_flush : (fields : List ℕ) (r : Request) → IsBytes fields → whole (mapped (λ t. asks.Act (act.Flush t)) name_at fields) ≡ Some r → IsRequest (15 ∷ fields) r
-sound_flush fields r fits is = one_sound name_at IsNameField (λ t. asks.Act (act.Flush t)) exact_name 15 fields r fits is (λ p x a. flush p x a)
-
-sound_compact : (fields : List ℕ) (r : Request) → IsBytes fields → whole (compact_at fields) ≡ Some r → IsRequest (16 ∷ fields) r
-unfolding compact_at
-sound_compact fields r fits is = two_sound name_at extent_at IsNameField IsExtent (λ t f. asks.Act (act.Compact t f)) exact_name exact_extent 16 fields r fits is (λ p q x y a b. subst (λ (l : List ℕ). IsRequest (16 ∷ (p ++ l)) (asks.Act (act.Compact x y))) (sym b) (compact p x y a))
-
-sound_add_split : (fields : List ℕ) (r : Request) → IsBytes fields → whole (add_split_at fields) ≡ Some r → IsRequest (17 ∷ fields) r
-unfolding add_split_at
-sound_add_split fields r fits is = two_sound name_at field_at IsNameField IsField (λ t r. asks.Act (act.AddSplit t r)) exact_name exact_field 17 fields r fits is (λ p q x y a b. add_split p q x y a b)
-
-sound_splits : (fields : List ℕ) (r : Request) → IsBytes fields → whole (mapped (λ t. asks.Act (act.Splits t)) name_at fields) ≡ Some r → IsRequest (18 ∷ fields) r
-sound_splits fields r fits is = one_sound name_at IsNameField (λ t. asks.Act (act.Splits t)) exact_name 18 fields r fits is (λ p x a. splits p x a)
-
-sound_status : (fields : List ℕ) (r : Request) → IsBytes fields → whole (mapped (λ t. asks.Act (act.Status t)) name_at fields) ≡ Some r → IsRequest (19 ∷ fields) r
-sound_status fields r fits is = one_sound name_at IsNameField (λ t. asks.Act (act.Status t)) exact_name 19 fields r fits is (λ p x a. status p x a)
-
-sound_rights : (fields : List ℕ) (r : Request) → IsBytes fields → whole (mapped (λ t. asks.Act (act.Rights t)) name_at fields) ≡ Some r → IsRequest (20 ∷ fields) r
-sound_rights fields r fits is = one_sound name_at IsNameField (λ t. asks.Act (act.Rights t)) exact_name 20 fields r fits is (λ p x a. rights p x a)
-
-sound_set_versions : (fields : List ℕ) (r : Request) → IsBytes fields → whole (set_versions_at fields) ≡ Some r → IsRequest (21 ∷ fields) r
-unfolding set_versions_at
-sound_set_versions fields r fits is = two_sound name_at versions_at IsNameField IsVersions (λ t v. asks.Act (act.SetVersions t v)) exact_name exact_versions 21 fields r fits is (λ p q x y a b. set_versions p q x y a b)
-
-sound_set_horizon : (fields : List ℕ) (r : Request) → IsBytes fields → whole (set_horizon_at fields) ≡ Some r → IsRequest (22 ∷ fields) r
-unfolding set_horizon_at
-sound_set_horizon fields r fits is = two_sound name_at i64_at IsNameField IsI64 (λ t z. asks.Act (act.SetHorizon t z)) exact_name exact_i64 22 fields r fits is (λ p q x y a b. set_horizon p q x y a b)
-
-sound_rotate : (fields : List ℕ) (r : Request) → IsBytes fields → whole (given (asks.Act act.Rotate) fields) ≡ Some r → IsRequest (23 ∷ fields) r
-sound_rotate fields r fits is =
+request_sound : (op : ℕ) (fields : List ℕ) (r : Request) → IsBytes fields → (opcode_of op >>= λ opcode. whole (fields_at opcode fields)) ≡ Some r → IsRequest (op ∷ fields) r
+unfolding create_table_at set_auths_at grant_at revoke_at set_constraints_at write_at open_at next_at many_at close_at compact_at add_split_at set_versions_at set_horizon_at
+request_sound zero fields r fits is = absurd cc
+request_sound (suc zero) fields r fits is = one_sound name_at IsNameField (λ user. asks.Hello user) exact_name 1 fields r fits is (λ p x a. hello p x a)
+request_sound (suc (suc zero)) fields r fits is = three_sound name_at time_at versions_at IsNameField IsTime IsVersions (λ t m v. asks.Act (act.CreateTable t m v)) exact_name exact_time exact_versions 2 fields r fits is (λ p q s x y z a b c. subst (λ (l : List ℕ). IsRequest (2 ∷ (p ++ l)) (asks.Act (act.CreateTable x y z))) (ap (λ (l : List ℕ). l ++ s) (sym b)) (create_table p s x y z a c))
+request_sound (suc (suc (suc zero))) fields r fits is = one_sound name_at IsNameField (λ t. asks.Act (act.DropTable t)) exact_name 3 fields r fits is (λ p x a. drop_table p x a)
+request_sound (suc (suc (suc (suc zero)))) fields r fits is = one_sound name_at IsNameField (λ t. asks.Act (act.CreateUser t)) exact_name 4 fields r fits is (λ p x a. create_user p x a)
+request_sound (suc (suc (suc (suc (suc zero))))) fields r fits is = one_sound name_at IsNameField (λ t. asks.Act (act.DropUser t)) exact_name 5 fields r fits is (λ p x a. drop_user p x a)
+request_sound (suc (suc (suc (suc (suc (suc zero)))))) fields r fits is = two_sound name_at list_at IsNameField IsList (λ u l. asks.Act (act.SetAuths u (set_of l))) exact_name exact_list 6 fields r fits is (λ p q x y a b. set_auths p q x y a b)
+request_sound (suc (suc (suc (suc (suc (suc (suc zero))))))) fields r fits is = two_sound name_at permission_at IsNameField IsPermission (λ u p. asks.Act (act.Grant u p)) exact_name exact_permission 7 fields r fits is (λ p q x y a b. grant p q x y a b)
+request_sound (suc (suc (suc (suc (suc (suc (suc (suc zero)))))))) fields r fits is = two_sound name_at permission_at IsNameField IsPermission (λ u p. asks.Act (act.Revoke u p)) exact_name exact_permission 8 fields r fits is (λ p q x y a b. revoke p q x y a b)
+request_sound (suc (suc (suc (suc (suc (suc (suc (suc (suc zero))))))))) fields r fits is = two_sound name_at constraints_at IsNameField IsConstraints (λ t c. asks.Act (act.SetConstraints t c)) exact_name exact_constraints 9 fields r fits is (λ p q x y a b. set_constraints p q x y a b)
+request_sound (suc (suc (suc (suc (suc (suc (suc (suc (suc (suc zero)))))))))) fields r fits is = two_sound name_at mutation_at IsNameField IsMutation (λ t m. asks.Act (act.Write t m)) exact_name exact_mutation 10 fields r fits is (λ p q x y a b. write p q x y a b)
+request_sound (suc (suc (suc (suc (suc (suc (suc (suc (suc (suc (suc zero))))))))))) fields r fits is = four_sound name_at bounds_at columns_at list_at IsNameField IsBounds (IsCounted IsU32 IsColumn) IsList (λ t b c a. asks.Act (act.Open (record { table = t; bounds = b; columns = c; authorizations = set_of a }))) exact_name exact_bounds exact_columns exact_list 11 fields r fits is (λ p q s t x y z w a b c d. opens p q s t x y z w a b c d)
+request_sound (suc (suc (suc (suc (suc (suc (suc (suc (suc (suc (suc (suc zero)))))))))))) fields r fits is = two_sound u32_at u32_at IsU32 IsU32 (λ k n. asks.Next k n) exact_u32 exact_u32 12 fields r fits is (λ p q x y a b. next p q x y a b)
+request_sound (suc (suc (suc (suc (suc (suc (suc (suc (suc (suc (suc (suc (suc zero))))))))))))) fields r fits is = two_sound u32_at ranges_at IsU32 (IsCounted IsU32 IsBounds) (λ k rs. asks.Many k rs) exact_u32 exact_ranges 13 fields r fits is (λ p q x y a b. many p q x y a b)
+request_sound (suc (suc (suc (suc (suc (suc (suc (suc (suc (suc (suc (suc (suc (suc zero)))))))))))))) fields r fits is = one_sound u32_at IsU32 (λ k. asks.Close k) exact_u32 14 fields r fits is (λ p x a. close p x a)
+request_sound (suc (suc (suc (suc (suc (suc (suc (suc (suc (suc (suc (suc (suc (suc (suc zero))))))))))))))) fields r fits is = one_sound name_at IsNameField (λ t. asks.Act (act.Flush t)) exact_name 15 fields r fits is (λ p x a. flush p x a)
+request_sound (suc (suc (suc (suc (suc (suc (suc (suc (suc (suc (suc (suc (suc (suc (suc (suc zero)))))))))))))))) fields r fits is = two_sound name_at extent_at IsNameField IsExtent (λ t f. asks.Act (act.Compact t f)) exact_name exact_extent 16 fields r fits is (λ p q x y a b. subst (λ (l : List ℕ). IsRequest (16 ∷ (p ++ l)) (asks.Act (act.Compact x y))) (sym b) (compact p x y a))
+request_sound (suc (suc (suc (suc (suc (suc (suc (suc (suc (suc (suc (suc (suc (suc (suc (suc (suc zero))))))))))))))))) fields r fits is = two_sound name_at field_at IsNameField IsField (λ t r. asks.Act (act.AddSplit t r)) exact_name exact_field 17 fields r fits is (λ p q x y a b. add_split p q x y a b)
+request_sound (suc (suc (suc (suc (suc (suc (suc (suc (suc (suc (suc (suc (suc (suc (suc (suc (suc (suc zero)))))))))))))))))) fields r fits is = one_sound name_at IsNameField (λ t. asks.Act (act.Splits t)) exact_name 18 fields r fits is (λ p x a. splits p x a)
+request_sound (suc (suc (suc (suc (suc (suc (suc (suc (suc (suc (suc (suc (suc (suc (suc (suc (suc (suc (suc zero))))))))))))))))))) fields r fits is = one_sound name_at IsNameField (λ t. asks.Act (act.Status t)) exact_name 19 fields r fits is (λ p x a. status p x a)
+request_sound (suc (suc (suc (suc (suc (suc (suc (suc (suc (suc (suc (suc (suc (suc (suc (suc (suc (suc (suc (suc zero)))))))))))))))))))) fields r fits is = one_sound name_at IsNameField (λ t. asks.Act (act.Rights t)) exact_name 20 fields r fits is (λ p x a. rights p x a)
+request_sound (suc (suc (suc (suc (suc (suc (suc (suc (suc (suc (suc (suc (suc (suc (suc (suc (suc (suc (suc (suc (suc zero))))))))))))))))))))) fields r fits is = two_sound name_at versions_at IsNameField IsVersions (λ t v. asks.Act (act.SetVersions t v)) exact_name exact_versions 21 fields r fits is (λ p q x y a b. set_versions p q x y a b)
+request_sound (suc (suc (suc (suc (suc (suc (suc (suc (suc (suc (suc (suc (suc (suc (suc (suc (suc (suc (suc (suc (suc (suc zero)))))))))))))))))))))) fields r fits is = two_sound name_at i64_at IsNameField IsI64 (λ t z. asks.Act (act.SetHorizon t z)) exact_name exact_i64 22 fields r fits is (λ p q x y a b. set_horizon p q x y a b)
+request_sound (suc (suc (suc (suc (suc (suc (suc (suc (suc (suc (suc (suc (suc (suc (suc (suc (suc (suc (suc (suc (suc (suc (suc zero))))))))))))))))))))))) fields r fits is =
     let h = whole_sound (given (asks.Act act.Rotate)) (λ bytes y. (bytes ≡ []) × (asks.Act act.Rotate ≡ y)) (exact_given (asks.Act act.Rotate)) fields r fits is in
     at_form 23 fields [] (asks.Act act.Rotate) r h.0 h.1 rotate
-
-request_sound : (op : ℕ) (fields : List ℕ) (r : Request) → IsBytes fields → (opcode_of op >>= λ opcode. whole (fields_at opcode fields)) ≡ Some r → IsRequest (op ∷ fields) r
-request_sound zero fields r fits is = absurd cc
-request_sound (suc zero) fields r fits is = sound_hello fields r fits is
-request_sound (suc (suc zero)) fields r fits is = sound_create_table fields r fits is
-request_sound (suc (suc (suc zero))) fields r fits is = sound_drop_table fields r fits is
-request_sound (suc (suc (suc (suc zero)))) fields r fits is = sound_create_user fields r fits is
-request_sound (suc (suc (suc (suc (suc zero))))) fields r fits is = sound_drop_user fields r fits is
-request_sound (suc (suc (suc (suc (suc (suc zero)))))) fields r fits is = sound_set_auths fields r fits is
-request_sound (suc (suc (suc (suc (suc (suc (suc zero))))))) fields r fits is = sound_grant fields r fits is
-request_sound (suc (suc (suc (suc (suc (suc (suc (suc zero)))))))) fields r fits is = sound_revoke fields r fits is
-request_sound (suc (suc (suc (suc (suc (suc (suc (suc (suc zero))))))))) fields r fits is = sound_set_constraints fields r fits is
-request_sound (suc (suc (suc (suc (suc (suc (suc (suc (suc (suc zero)))))))))) fields r fits is = sound_write fields r fits is
-request_sound (suc (suc (suc (suc (suc (suc (suc (suc (suc (suc (suc zero))))))))))) fields r fits is = sound_opens fields r fits is
-request_sound (suc (suc (suc (suc (suc (suc (suc (suc (suc (suc (suc (suc zero)))))))))))) fields r fits is = sound_next fields r fits is
-request_sound (suc (suc (suc (suc (suc (suc (suc (suc (suc (suc (suc (suc (suc zero))))))))))))) fields r fits is = sound_many fields r fits is
-request_sound (suc (suc (suc (suc (suc (suc (suc (suc (suc (suc (suc (suc (suc (suc zero)))))))))))))) fields r fits is = sound_close fields r fits is
-request_sound (suc (suc (suc (suc (suc (suc (suc (suc (suc (suc (suc (suc (suc (suc (suc zero))))))))))))))) fields r fits is = sound_flush fields r fits is
-request_sound (suc (suc (suc (suc (suc (suc (suc (suc (suc (suc (suc (suc (suc (suc (suc (suc zero)))))))))))))))) fields r fits is = sound_compact fields r fits is
-request_sound (suc (suc (suc (suc (suc (suc (suc (suc (suc (suc (suc (suc (suc (suc (suc (suc (suc zero))))))))))))))))) fields r fits is = sound_add_split fields r fits is
-request_sound (suc (suc (suc (suc (suc (suc (suc (suc (suc (suc (suc (suc (suc (suc (suc (suc (suc (suc zero)))))))))))))))))) fields r fits is = sound_splits fields r fits is
-request_sound (suc (suc (suc (suc (suc (suc (suc (suc (suc (suc (suc (suc (suc (suc (suc (suc (suc (suc (suc zero))))))))))))))))))) fields r fits is = sound_status fields r fits is
-request_sound (suc (suc (suc (suc (suc (suc (suc (suc (suc (suc (suc (suc (suc (suc (suc (suc (suc (suc (suc (suc zero)))))))))))))))))))) fields r fits is = sound_rights fields r fits is
-request_sound (suc (suc (suc (suc (suc (suc (suc (suc (suc (suc (suc (suc (suc (suc (suc (suc (suc (suc (suc (suc (suc zero))))))))))))))))))))) fields r fits is = sound_set_versions fields r fits is
-request_sound (suc (suc (suc (suc (suc (suc (suc (suc (suc (suc (suc (suc (suc (suc (suc (suc (suc (suc (suc (suc (suc (suc zero)))))))))))))))))))))) fields r fits is = sound_set_horizon fields r fits is
-request_sound (suc (suc (suc (suc (suc (suc (suc (suc (suc (suc (suc (suc (suc (suc (suc (suc (suc (suc (suc (suc (suc (suc (suc zero))))))))))))))))))))))) fields r fits is = sound_rotate fields r fits is
 request_sound (suc (suc (suc (suc (suc (suc (suc (suc (suc (suc (suc (suc (suc (suc (suc (suc (suc (suc (suc (suc (suc (suc (suc (suc n)))))))))))))))))))))))) fields r fits is = absurd cc
 
 -- ---- each opcode, forwards

@@ -2,11 +2,9 @@
 use Rattle.std.proofs.Common.{◌≤◌, arith}
 use Rattle.tab_rules.specs.Constraints.{constraint_number}
 use Rattle.tab_rules.specs.declared.constraint.Constraint.{Constraint}
-use Rattle.tab_rules.specs.declared.constraint.Constraint.TheVariants.{KeySize, Alphanumeric, Numeric, Visibility}
+use Rattle.tab_rules.specs.declared.constraint.Constraint.TheVariants.{KeySize}
 
 -- the numbers are 1 to 4
 pub number_few : (c : Constraint) → (1 ≤ constraint_number c) × (constraint_number c ≤ 4)
 number_few KeySize = (omega arith, omega arith)
-number_few Alphanumeric = (omega arith, omega arith)
-number_few Numeric = (omega arith, omega arith)
-number_few Visibility = (omega arith, omega arith)
+number_few c = (omega arith, omega arith)

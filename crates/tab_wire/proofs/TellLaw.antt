@@ -1,7 +1,7 @@
 -- A refusal is read of the frame that is written of it, and of no other one.
 use Rattle.std.proofs.Common.{◌≡◌, ℕ, ℤ, ◌<◌, ◌≤◌, ◌^◌, ◌==◌, Bool, true, false, cond, List, [], ◌∷◌, ◌++◌, length, Option, Some, None, refl, sym, ap, subst, ◌∙◌, arith, inl, inr}
 use Rattle.std.specs.Prelude.{FitsSigned}
-use Rattle.std.specs.Int.{w32, w64, to_be_bytes, cast_signed, cast_unsigned}
+use Rattle.std.specs.Int.{w32, w64, to_be_bytes, cast_unsigned}
 use Rattle.std.proofs.lemmas.Int.{of_z-to_z, to_z-of_z}
 use Rattle.std.specs.List.{flat_map}
 use Rattle.tab_key.specs.Names.{IsName}
@@ -11,7 +11,7 @@ use Rattle.tab_rules.specs.Constraints.{constraint_number}
 use Rattle.tab_rules.specs.declared.constraint.Constraint.{Constraint}
 use Rattle.tab_rules.specs.declared.constraint.Constraint.TheVariants.{KeySize, Alphanumeric, Numeric, Visibility}
 use Rattle.tab_rules.specs.declared.violation.Violation.{Violation}
-use Rattle.tab_policy.specs.Permissions.{system_place, table_place}
+use Rattle.tab_policy.specs.Permissions.{table_place}
 use Rattle.tab_policy.specs.declared.permission.Permission.{Permission}
 use Rattle.tab_policy.specs.declared.permission.Permission.TheVariants.{OfSystem, OfTable}
 use Rattle.tab_history.specs.declared.reply.Refusal.{Refusal}
@@ -19,7 +19,7 @@ use Rattle.tab_history.specs.declared.reply.Refusal.TheVariants as refusal
 use Rattle.tab_history.specs.declared.split_fault.SplitFault.{SplitFault}
 use Rattle.tab_history.specs.declared.split_fault.SplitFault.TheVariants.{Present, Small, OneRow}
 use Rattle.tab_parts.specs.Parts.{IsBytes, IsByte, IsU32, IsU64, IsI64, IsField, IsNameField, AreParts, IsCounted}
-use Rattle.tab_parts.specs.Reading.{◌>>=◌, Reader, and_then, mapped, picked, given, nothing_at, whole, u8_at, u32_at, u64_at, i64_at, field_at, name_at, tagged}
+use Rattle.tab_parts.specs.Reading.{◌>>=◌, Reader, mapped, picked, given, nothing_at, whole, u8_at, u32_at, u64_at, i64_at, field_at, name_at, tagged}
 use Rattle.tab_parts.specs.Exactness.{Exact}
 use Rattle.tab_parts.proofs.Exact.{some_inj, exact_as, Follows, exact_then, Becomes, exact_mapped, exact_picked, exact_nothing, exact_given, exact_u8, exact_u32, exact_u64, bytes-rest, whole_sound, whole_complete}
 use Rattle.tab_parts.proofs.PartLaw.{exact_i64, exact_field, exact_name, exact_counted, Tagged, exact_tagged, eq_is, Either, exact_either}
@@ -48,16 +48,7 @@ or_next n k x rest y number is says then =
 
 part_again : (p : LimitedPart) → part_of (part_number p) ≡ Some p
 part_again part.Updates = refl
-part_again part.Row = refl
-part_again part.Family = refl
-part_again part.Qualifier = refl
-part_again part.Label = refl
-part_again part.Value = refl
-part_again part.Columns = refl
-part_again part.Authorizations = refl
-part_again part.Ranges = refl
-part_again part.Sessions = refl
-part_again part.Numbers = refl
+part_again p = refl
 
 part_picks : (n : ℕ) (p : LimitedPart) → part_of n ≡ Some p → n ≡ part_number p
 part_picks n p is =
@@ -76,11 +67,7 @@ part_picks n p is =
 
 reason_again : (r : Reason) → reason_of (reason_number r) ≡ Some r
 reason_again reason.Empty = refl
-reason_again reason.TooLong = refl
-reason_again reason.Cut = refl
-reason_again reason.Opcode = refl
-reason_again reason.Field = refl
-reason_again reason.Order = refl
+reason_again r = refl
 
 reason_picks : (n : ℕ) (r : Reason) → reason_of n ≡ Some r → n ≡ reason_number r
 reason_picks n r is =
@@ -94,8 +81,7 @@ reason_picks n r is =
 
 split_again : (f : SplitFault) → split_fault_of (split_number f) ≡ Some f
 split_again Present = refl
-split_again Small = refl
-split_again OneRow = refl
+split_again f = refl
 
 split_picks : (n : ℕ) (f : SplitFault) → split_fault_of n ≡ Some f → n ≡ split_number f
 split_picks n f is =
@@ -106,9 +92,7 @@ split_picks n f is =
 
 constraint_again : (c : Constraint) → constraint_of (constraint_number c) ≡ Some c
 constraint_again KeySize = refl
-constraint_again Alphanumeric = refl
-constraint_again Numeric = refl
-constraint_again Visibility = refl
+constraint_again c = refl
 
 constraint_picks : (n : ℕ) (c : Constraint) → constraint_of n ≡ Some c → n ≡ constraint_number c
 constraint_picks n c is =

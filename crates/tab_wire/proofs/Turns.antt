@@ -5,7 +5,7 @@ use Rattle.tab_parts.specs.Parts.{IsBytes}
 use Rattle.tab_wire.specs.declared.request.Request.{Request}
 use Rattle.tab_wire.specs.declared.request.Request.TheVariants as asks
 use Rattle.tab_wire.specs.Requests.{request_of}
-use Rattle.tab_wire.specs.Forms.{InTurn, IsRequest, hello, create_table, drop_table, create_user, drop_user, set_auths, grant, revoke, set_constraints, write, opens, next, many, close, flush, compact, add_split, splits, status, rights, set_versions, set_horizon, rotate}
+use Rattle.tab_wire.specs.Forms.{InTurn, IsRequest, hello}
 use Rattle.tab_wire.specs.Asking.{IsBy, MayAsk}
 use Rattle.tab_wire.proofs.ReasonLaw.{requests_in_turn}
 
@@ -13,35 +13,11 @@ use Rattle.tab_wire.proofs.ReasonLaw.{requests_in_turn}
 abbrev Begins : List ℕ → Request → Type 0
 Begins [] request = ⊥
 Begins (op ∷ fields) (asks.Hello user) = op ≡ 1
-Begins (op ∷ fields) (asks.Act act) = 1 < op
-Begins (op ∷ fields) (asks.Next slot count) = 1 < op
-Begins (op ∷ fields) (asks.Many slot ranges) = 1 < op
-Begins (op ∷ fields) (asks.Close slot) = 1 < op
+Begins (op ∷ fields) request = 1 < op
 
 begins : (bytes : List ℕ) (request : Request) → IsRequest bytes request → Begins bytes request
 begins bytes request (hello u user h) = refl
-begins bytes request (create_table t v table time versions h k) = omega arith
-begins bytes request (drop_table t table h) = omega arith
-begins bytes request (create_user u user h) = omega arith
-begins bytes request (drop_user u user h) = omega arith
-begins bytes request (set_auths u l user members h k) = omega arith
-begins bytes request (grant u p user permission h k) = omega arith
-begins bytes request (revoke u p user permission h k) = omega arith
-begins bytes request (set_constraints t c table constraints h k) = omega arith
-begins bytes request (write t m table mutation h k) = omega arith
-begins bytes request (opens t b c a table bounds columns members h k l m) = omega arith
-begins bytes request (next k c slot count h l) = omega arith
-begins bytes request (many k r slot ranges h l) = omega arith
-begins bytes request (close k slot h) = omega arith
-begins bytes request (flush t table h) = omega arith
-begins bytes request (compact t table extent h) = omega arith
-begins bytes request (add_split t r table row h k) = omega arith
-begins bytes request (splits t table h) = omega arith
-begins bytes request (status t table h) = omega arith
-begins bytes request (rights t table h) = omega arith
-begins bytes request (set_versions t v table versions h k) = omega arith
-begins bytes request (set_horizon t z table horizon h k) = omega arith
-begins bytes request rotate = omega arith
+begins bytes request form = omega arith
 
 -- Hello is asked where nobody said it, and all else where somebody did
 pub may_ask : (user : Option (List ℕ)) (frame : List ℕ) (request : Request) → IsBytes frame → request_of (is_some user) frame ≡ Ok request → MayAsk user request
@@ -53,15 +29,9 @@ may_ask user (op ∷ fields) request fits is =
   where
     by_user : (u : Option (List ℕ)) (r : Request) → InTurn (is_some u) op → Begins (op ∷ fields) r → MayAsk u r
     by_user None (asks.Hello name) turn first = refl
-    by_user None (asks.Act act) turn first = absurd (omega (arith, turn, first))
-    by_user None (asks.Next slot count) turn first = absurd (omega (arith, turn, first))
-    by_user None (asks.Many slot ranges) turn first = absurd (omega (arith, turn, first))
-    by_user None (asks.Close slot) turn first = absurd (omega (arith, turn, first))
+    by_user None r turn first = absurd (omega (arith, turn, first))
     by_user (Some u) (asks.Hello name) turn first = absurd (turn first)
-    by_user (Some u) (asks.Act act) turn first = refl
-    by_user (Some u) (asks.Next slot count) turn first = refl
-    by_user (Some u) (asks.Many slot ranges) turn first = refl
-    by_user (Some u) (asks.Close slot) turn first = refl
+    by_user (Some u) r turn first = refl
 
 -- the request is one of the user who is known then
 pub asked_by_known : (before after : Option (List ℕ)) (request : Request) → is_some after ≡ true → IfSome after (λ user. IsBy before user request)

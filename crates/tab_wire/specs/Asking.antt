@@ -34,33 +34,23 @@ IsRead greeted (Broken why) heard.NoMemory = ⊥
 -- this user asks: Hello names him, where there was none, and all else is asked by the one who said it
 abbrev pub IsBy : Option (List ℕ) → List ℕ → Request → Type 0
 IsBy before user (asks.Hello name) = (before ≡ None) × (user ≡ name)
-IsBy before user (asks.Act act) = before ≡ Some user
-IsBy before user (asks.Next slot count) = before ≡ Some user
-IsBy before user (asks.Many slot ranges) = before ≡ Some user
-IsBy before user (asks.Close slot) = before ≡ Some user
+IsBy before user request = before ≡ Some user
 
 -- who asks, before and after; where nothing is asked, that stays
 abbrev pub Hears : Option (List ℕ) → Heard → Option (List ℕ) → Type 0
 Hears before (heard.Request user request) after = IsBy before user request × (after ≡ Some user)
-Hears before (heard.Bad reason) after = after ≡ before
-Hears before (heard.Broken reason) after = after ≡ before
-Hears before heard.NoMemory after = after ≡ before
+Hears before what after = after ≡ before
 
 -- Who may ask this: Hello where nobody said it, and all else where somebody did.
 abbrev pub MayAsk : Option (List ℕ) → Request → Type 0
 MayAsk before (asks.Hello name) = before ≡ None
-MayAsk before (asks.Act act) = is_some before ≡ true
-MayAsk before (asks.Next slot count) = is_some before ≡ true
-MayAsk before (asks.Many slot ranges) = is_some before ≡ true
-MayAsk before (asks.Close slot) = is_some before ≡ true
+MayAsk before request = is_some before ≡ true
 
 -- ---- what was taken of the stream
 -- Behind a frame the rest is left. Behind what is no frame nothing is said.
 abbrev pub IsLeft : Heard → List ℕ → Option (List ℕ) → Type 0
 IsLeft (heard.Broken reason) behind left = Unit {0}
-IsLeft (heard.Request user request) behind left = left ≡ Some behind
-IsLeft (heard.Bad reason) behind left = left ≡ Some behind
-IsLeft heard.NoMemory behind left = left ≡ Some behind
+IsLeft what behind left = left ≡ Some behind
 
 -- at the end of the stream nothing is asked; else what the piece asks that it begins with
 abbrev pub Asks : Bool → List ℕ → Option Heard → Option (List ℕ) → Type 0

@@ -27,6 +27,4 @@ next_by user (Some what) = Some (heard_by user what)
 -- a request is one of somebody
 abbrev pub HasUser : Option (List ℕ) → Asked → Type 0
 HasUser user (asked.Request request) = is_some user ≡ true
-HasUser user (asked.Bad reason) = Unit {0}
-HasUser user (asked.Broken reason) = Unit {0}
-HasUser user asked.NoMemory = Unit {0}
+HasUser user what = Unit {0}

@@ -4,7 +4,7 @@ use Rattle.tab_label.specs.Sets.{set_of}
 use Rattle.tab_history.specs.declared.event.Act.TheVariants as act
 use Rattle.tab_parts.specs.Reading.{◌>>=◌, Reader, mapped, given, whole, u32_at, i64_at, field_at, name_at, list_at, bounds_at, time_at, versions_at, constraints_at}
 use Rattle.tab_wire.specs.declared.opcode.Opcode.{Opcode}
-use Rattle.tab_wire.specs.declared.opcode.Opcode.TheVariants.{Hello, CreateTable, DropTable, CreateUser, DropUser, SetAuths, Grant, Revoke, SetConstraints, Write, Open, Next, Many, Close, Flush, Compact, AddSplit, Splits, Status, Rights, SetVersions, SetHorizon, Rotate}
+use Rattle.tab_wire.specs.declared.opcode.Opcode.TheVariants as op
 use Rattle.tab_wire.specs.declared.request.Request.{Request}
 use Rattle.tab_wire.specs.declared.request.Request.TheVariants as asks
 use Rattle.tab_wire.specs.declared.reason.Reason.{Reason}
@@ -14,7 +14,7 @@ use Rattle.tab_wire.specs.FrameReading.{columns_at, permission_at, extent_at, mu
 -- ---- the first byte
 -- the opcodes from 1 on
 abbrev pub all_opcodes : List Opcode
-all_opcodes = Hello ∷ CreateTable ∷ DropTable ∷ CreateUser ∷ DropUser ∷ SetAuths ∷ Grant ∷ Revoke ∷ SetConstraints ∷ Write ∷ Open ∷ Next ∷ Many ∷ Close ∷ Flush ∷ Compact ∷ AddSplit ∷ Splits ∷ Status ∷ Rights ∷ SetVersions ∷ SetHorizon ∷ Rotate ∷ []
+all_opcodes = op.Hello ∷ op.CreateTable ∷ op.DropTable ∷ op.CreateUser ∷ op.DropUser ∷ op.SetAuths ∷ op.Grant ∷ op.Revoke ∷ op.SetConstraints ∷ op.Write ∷ op.Open ∷ op.Next ∷ op.Many ∷ op.Close ∷ op.Flush ∷ op.Compact ∷ op.AddSplit ∷ op.Splits ∷ op.Status ∷ op.Rights ∷ op.SetVersions ∷ op.SetHorizon ∷ op.Rotate ∷ []
 
 abbrev pub opcode_of : ℕ → Option Opcode
 opcode_of zero = None
@@ -111,29 +111,29 @@ set_horizon_at bytes = do
 
 -- the fields of an opcode
 abbrev pub fields_at : Opcode → Reader Request
-fields_at Hello bytes = named_at (λ user. asks.Hello user) bytes
-fields_at CreateTable bytes = create_table_at bytes
-fields_at DropTable bytes = named_at (λ table. asks.Act (act.DropTable table)) bytes
-fields_at CreateUser bytes = named_at (λ user. asks.Act (act.CreateUser user)) bytes
-fields_at DropUser bytes = named_at (λ user. asks.Act (act.DropUser user)) bytes
-fields_at SetAuths bytes = set_auths_at bytes
-fields_at Grant bytes = grant_at bytes
-fields_at Revoke bytes = revoke_at bytes
-fields_at SetConstraints bytes = set_constraints_at bytes
-fields_at Write bytes = write_at bytes
-fields_at Open bytes = open_at bytes
-fields_at Next bytes = next_at bytes
-fields_at Many bytes = many_at bytes
-fields_at Close bytes = close_at bytes
-fields_at Flush bytes = named_at (λ table. asks.Act (act.Flush table)) bytes
-fields_at Compact bytes = compact_at bytes
-fields_at AddSplit bytes = add_split_at bytes
-fields_at Splits bytes = named_at (λ table. asks.Act (act.Splits table)) bytes
-fields_at Status bytes = named_at (λ table. asks.Act (act.Status table)) bytes
-fields_at Rights bytes = named_at (λ table. asks.Act (act.Rights table)) bytes
-fields_at SetVersions bytes = set_versions_at bytes
-fields_at SetHorizon bytes = set_horizon_at bytes
-fields_at Rotate bytes = given (asks.Act act.Rotate) bytes
+fields_at op.Hello bytes = named_at (λ user. asks.Hello user) bytes
+fields_at op.CreateTable bytes = create_table_at bytes
+fields_at op.DropTable bytes = named_at (λ table. asks.Act (act.DropTable table)) bytes
+fields_at op.CreateUser bytes = named_at (λ user. asks.Act (act.CreateUser user)) bytes
+fields_at op.DropUser bytes = named_at (λ user. asks.Act (act.DropUser user)) bytes
+fields_at op.SetAuths bytes = set_auths_at bytes
+fields_at op.Grant bytes = grant_at bytes
+fields_at op.Revoke bytes = revoke_at bytes
+fields_at op.SetConstraints bytes = set_constraints_at bytes
+fields_at op.Write bytes = write_at bytes
+fields_at op.Open bytes = open_at bytes
+fields_at op.Next bytes = next_at bytes
+fields_at op.Many bytes = many_at bytes
+fields_at op.Close bytes = close_at bytes
+fields_at op.Flush bytes = named_at (λ table. asks.Act (act.Flush table)) bytes
+fields_at op.Compact bytes = compact_at bytes
+fields_at op.AddSplit bytes = add_split_at bytes
+fields_at op.Splits bytes = named_at (λ table. asks.Act (act.Splits table)) bytes
+fields_at op.Status bytes = named_at (λ table. asks.Act (act.Status table)) bytes
+fields_at op.Rights bytes = named_at (λ table. asks.Act (act.Rights table)) bytes
+fields_at op.SetVersions bytes = set_versions_at bytes
+fields_at op.SetHorizon bytes = set_horizon_at bytes
+fields_at op.Rotate bytes = given (asks.Act act.Rotate) bytes
 
 -- what all bytes of a frame ask, in their form
 unfoldable pub request_in : List ℕ → Option Request
@@ -143,9 +143,9 @@ request_in (op ∷ fields) = opcode_of op >>= λ opcode. whole (fields_at opcode
 -- ---- which reason comes first
 -- Hello is the first frame, and no other one
 abbrev pub is_in_turn : Bool → Opcode → Bool
-is_in_turn true Hello = false
+is_in_turn true op.Hello = false
 is_in_turn true opcode = true
-is_in_turn false Hello = true
+is_in_turn false op.Hello = true
 is_in_turn false opcode = false
 
 -- the request, or that the bytes aren't of its form
