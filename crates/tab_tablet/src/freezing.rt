@@ -4,6 +4,7 @@ ghost use Rattle.tab_key.specs.Sorted.{IsDistinct};
 ghost use Rattle.tab_version.specs.Sources.{records_of};
 ghost use Rattle.tab_tablet.specs.Tablets.{run_of};
 
+use crate::source_lists::SourceLists;
 use crate::sources::Sources;
 use std::alloc::{AllocError, Global};
 use tab_mem::Active;
@@ -46,6 +47,7 @@ fn add_prepared(alloc: Global, active: &Active, sources: &mut Sources) -> Result
     if active.is_empty() {
         return Ok(());
     }
-    let freeze = sources.prepare(alloc, active)?;
+    let none = SourceLists::new(alloc);
+    let freeze = sources.lists_or(&none).prepare(alloc, active)?;
     sources.put(alloc, freeze)
 }

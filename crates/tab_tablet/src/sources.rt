@@ -1,10 +1,9 @@
 //! A tablet's sources, and the place where they lie.
-ghost use Rattle.std.specs.Prelude.{◌≡◌, ◌==◌, ◌++◌, ◌∷◌, [], Some, false, filter, length, is_some, IfOk, OnOk, OnErr};
-ghost use Rattle.tab_key.specs.Ranges.{is_in_range};
-ghost use Rattle.tab_key.specs.Sorted.{sorted, IsDistinct};
-ghost use Rattle.tab_version.specs.Sources.{clipped, no_sources, records_of, left_by, with_table};
-ghost use Rattle.tab_compact.specs.Merges.{output, captured};
-ghost use Rattle.tab_tablet.specs.MergedRuns.{AreMergedRuns, Freezes};
+ghost use Rattle.std.specs.Prelude.{◌≡◌, ◌++◌, ◌∷◌, [], is_some, IfOk, OnOk, OnErr};
+ghost use Rattle.tab_key.specs.Sorted.{IsDistinct};
+ghost use Rattle.tab_version.specs.Sources.{no_sources, records_of};
+ghost use Rattle.tab_compact.specs.Merges.{captured};
+ghost use Rattle.tab_tablet.specs.MergedRuns.{AreMergedRuns};
 ghost use Rattle.tab_tablet.specs.Spared.{sources_after};
 
 use crate::freeze::Freeze;
@@ -12,11 +11,8 @@ use crate::source_lists::SourceLists;
 use std::alloc::{AllocError, Global};
 use std::marker::Model;
 use tab_cells::Compaction;
-use tab_compact::Finished;
 use tab_iter::NoMemory;
-use tab_key::Bounds;
-use tab_mem::Active;
-use tab_version::{Clip, Clips, TableClip};
+use tab_version::{Clip, TableClip};
 
 /// The lists, if there is a run or a table: memory for them is taken with the first. A contract sees the runs and the tables.
 #[derive(Drop)]
@@ -74,19 +70,8 @@ impl Sources {
         }
     }
 
-    /// The runs and the tables. Where there are none, it lends the ones it is handed, which are none either.
-    pub(crate) fn clips_or<'a>(&'a self, none: &'a Clips) -> &'a Clips
-        requires { none.now ≡ no_sources }
-        ensures { result.now ≡ self.now }
-    {
-        match &self.source_lists {
-            Some(source_lists) => source_lists.sources(),
-            None => none,
-        }
-    }
-
-    // The lists. Where there are none, it lends the ones it is handed, which are none either.
-    fn layers_or<'a>(&'a self, none: &'a SourceLists) -> &'a SourceLists
+    /// The lists. Where there are none, it lends the ones it is handed, which are none either.
+    pub(crate) fn lists_or<'a>(&'a self, none: &'a SourceLists) -> &'a SourceLists
         requires { none.now ≡ no_sources }
         ensures { result.now ≡ self.now }
     {
@@ -97,7 +82,7 @@ impl Sources {
     }
 
     // The lists, out of their place.
-    fn into_layers(self, alloc: Global) -> SourceLists
+    fn into_lists(self, alloc: Global) -> SourceLists
         ensures { result ≡ self }
     {
         match self.source_lists {
@@ -111,52 +96,8 @@ impl Sources {
         ensures { IfOk result (λ s. s ≡ self.now) }
     {
         let none = SourceLists::new(alloc);
-        let source_lists = self.layers_or(&none).share(alloc)?;
+        let source_lists = self.lists_or(&none).share(alloc)?;
         Sources::of(alloc, source_lists)
-    }
-
-    /// The same sources, each cut to the rows in bounds, and so is each merged run.
-    pub(crate) fn in_rows(&self, alloc: Global, bounds: &Bounds) -> Result<Sources, AllocError>
-        requires { IsDistinct (records_of self.now) }
-        ensures { IfOk result (λ s. s ≡ clipped (is_in_range bounds.now) self.now) }
-    {
-        let none = SourceLists::new(alloc);
-        let source_lists = self.layers_or(&none).in_rows(alloc, bounds)?;
-        Sources::of(alloc, source_lists)
-    }
-
-    /// What a scan of these rows reads: the parts of the merged runs and of the tables.
-    pub(crate) fn clips(&self, alloc: Global, bounds: &Bounds) -> Result<Clips, AllocError>
-        requires { IsDistinct (records_of self.now) }
-        ensures { IfOk result (λ c. sorted (records_of c) ≡ sorted (filter (λ u. is_in_range bounds.now u.key.row) (records_of self.now))) }
-    {
-        let none = SourceLists::new(alloc);
-        self.layers_or(&none).clips(alloc, bounds)
-    }
-
-    /// A run of these records, of which there are some, and the merged runs with it.
-    pub(crate) fn prepare(&self, alloc: Global, active: &Active) -> Result<Freeze, AllocError>
-        requires some { (length active.now == 0) ≡ false }
-        requires distinct { IsDistinct (active.now ++ records_of self.now) }
-        ensures { IfOk result (λ f. Freezes active.now self.now f) }
-    {
-        let none = SourceLists::new(alloc);
-        self.layers_or(&none).prepare(alloc, active)
-    }
-
-    /// What a scan of these rows reads once this run is put behind the others.
-    pub(crate) fn clips_after(
-        &self,
-        alloc: Global,
-        freeze: &Freeze,
-        bounds: &Bounds,
-    ) -> Result<Clips, AllocError>
-        requires merged_runs { AreMergedRuns (self.now.runs ++ freeze.now.run ∷ []) freeze.now.merged_runs }
-        requires distinct { IsDistinct (records_of (record (self.now) { runs = self.now.runs ++ freeze.now.run ∷ [] })) }
-        ensures { IfOk result (λ c. sorted (records_of c) ≡ sorted (filter (λ u. is_in_range bounds.now u.key.row) (records_of (record (self.now) { runs = self.now.runs ++ freeze.now.run ∷ [] })))) }
-    {
-        let none = SourceLists::new(alloc);
-        self.layers_or(&none).clips_after(alloc, freeze, bounds)
     }
 
     /// Puts the run behind the others. `AllocError` leaves all as it was.
@@ -190,27 +131,11 @@ impl Sources {
         ensures sources { IfOk result (λ p. p.0 ≡ sources_after kind (captured tablet 0 kind floor versions self) self) }
         ensures is_merged { IfOk result (λ p. p.1 ≡ is_some (captured tablet 0 kind floor versions self)) }
     {
-        let source_lists = self.into_layers(alloc);
+        let source_lists = self.into_lists(alloc);
         let (source_lists, is_merged) = source_lists.compacted(
             alloc, tablet, kind, floor, versions,
         )?;
         let sources = Sources::of(alloc, source_lists)?;
         Ok((sources, is_merged))
-    }
-
-    /// The sources that are left where the merge's inputs are taken out, with what it made behind them. These stay as they are. It takes
-    /// memory for a share of each run or merged run.
-    pub(crate) fn installed(
-        &self,
-        alloc: Global,
-        left: Clips,
-        finished: Finished,
-    ) -> Result<Sources, AllocError>
-        requires { left_by finished.inputs self.now ≡ Some left }
-        ensures { IfOk result (λ s. s ≡ with_table (output finished) left) }
-    {
-        let none = SourceLists::new(alloc);
-        let source_lists = self.layers_or(&none).installed(alloc, left, finished)?;
-        Sources::of(alloc, source_lists)
     }
 }

@@ -262,8 +262,8 @@ impl Tablet {
         ensures job { IfOk result (λ j. j ≡ captured self.old.number number kind floor versions self.old.sources) }
         ensures ok { OnOk result (self.new ≡ begun (captured self.old.number number kind floor versions self.old.sources) self.old) }
     {
-        let none = Clips::new(alloc);
-        let sources = self.sources.clips_or(&none);
+        let none = SourceLists::new(alloc);
+        let sources = self.sources.lists_or(&none).sources();
         let job = capture(alloc, self.number, number, kind, sources, floor, versions)?;
         self.jobs.register(alloc, &job)?;
         Ok(job)
@@ -296,8 +296,9 @@ impl Tablet {
         if !self.jobs.has(job) {
             return Ok(None);
         }
-        let none = Clips::new(alloc);
-        self.sources.clips_or(&none).left_by(alloc, job.inputs())
+        let none = SourceLists::new(alloc);
+        let sources = self.sources.lists_or(&none).sources();
+        sources.left_by(alloc, job.inputs())
     }
 
     // Puts what the merge made behind the sources that its inputs leave.
@@ -313,7 +314,12 @@ impl Tablet {
         ensures err { OnErr result (self.new ≡ self.old) }
     {
         let kind = finished.job().kind();
-        let sources = self.sources.installed(alloc, left, finished)?;
+        let none = SourceLists::new(alloc);
+        let source_lists = self
+            .sources
+            .lists_or(&none)
+            .installed(alloc, left, finished)?;
+        let sources = Sources::of(alloc, source_lists)?;
         self.sources = sources;
         self.jobs.forget(kind);
         Ok(Installed::Done)
@@ -389,7 +395,9 @@ impl Tablet {
         requires { self.now.active ≡ [] }
         ensures { IfOk result (λ t. t ≡ record (self.now) { number = number; sources = clipped (is_in_range bounds.now) self.now.sources; jobs = no_jobs }) }
     {
-        let sources = self.sources.in_rows(alloc, bounds)?;
+        let none = SourceLists::new(alloc);
+        let source_lists = self.sources.lists_or(&none).in_rows(alloc, bounds)?;
+        let sources = Sources::of(alloc, source_lists)?;
         Ok(Tablet {
             number,
             active: Active::new(alloc),
@@ -406,7 +414,8 @@ impl Tablet {
         requires { (length self.now.active == 0) ≡ false }
         ensures { IfOk result (λ f. IsFreezeOf self.now f) }
     {
-        self.sources.prepare(alloc, &self.active)
+        let none = SourceLists::new(alloc);
+        self.sources.lists_or(&none).prepare(alloc, &self.active)
     }
 
     /// Freezes it in its place: the run comes last. It takes memory for one place in the list of runs, and at the first for the lists.
@@ -430,7 +439,8 @@ impl Tablet {
         requires { self.now.active ≡ [] }
         ensures { IfOk result (λ c. sorted (records_of c) ≡ sorted (filter (λ u. is_in_range bounds.now u.key.row) (records_in self.now))) }
     {
-        self.sources.clips(alloc, bounds)
+        let none = SourceLists::new(alloc);
+        self.sources.lists_or(&none).clips(alloc, bounds)
     }
 
     /// What a scan of these rows reads once it is frozen. It stays as it is.
@@ -443,7 +453,9 @@ impl Tablet {
         requires { IsFreezeOf self.now freeze.now }
         ensures { IfOk result (λ c. sorted (records_of c) ≡ sorted (filter (λ u. is_in_range bounds.now u.key.row) (records_in (frozen self.now)))) }
     {
-        self.sources.clips_after(alloc, freeze, bounds)
+        let none = SourceLists::new(alloc);
+        let source_lists = self.sources.lists_or(&none);
+        source_lists.clips_after(alloc, freeze, bounds)
     }
 
     /// All that it holds, as a version, which lists it: what was written since the last freeze as a run, and a share of each source.
@@ -454,8 +466,8 @@ impl Tablet {
         ensures held { IfOk result (λ v. v ≡ records_in (frozen self.now)) }
         ensures listed { IfOk result (λ v. sorted v ≡ sorted (records_in self.now)) }
     {
-        let none = Clips::new(alloc);
-        let mut sources = self.sources.clips_or(&none).share(alloc)?;
+        let none = SourceLists::new(alloc);
+        let mut sources = self.sources.lists_or(&none).sources().share(alloc)?;
         add_frozen(alloc, &self.active, &mut sources)?;
         version_of(alloc, sources)
     }
@@ -469,8 +481,8 @@ impl Tablet {
         requires { self.now.active ≡ [] }
         ensures { IfOk result (λ row. row ≡ middle_row (rows_in self.now)) }
     {
-        let none = Clips::new(alloc);
-        middle_row(alloc, self.sources.clips_or(&none))
+        let none = SourceLists::new(alloc);
+        middle_row(alloc, self.sources.lists_or(&none).sources())
     }
 
     /// The bytes of its sorted tables together, each with its whole size; the greatest `u64` for any number above it.
