@@ -1,8 +1,8 @@
 -- What two byte strings share.
-use Rattle.std.proofs.Common.{◌≡◌, ◌≢◌, ℕ, zero, suc, ◌+◌, ◌*◌, ◌-◌, ◌<◌, ◌≤◌, List, [], ◌∷◌, cond, refl, sym, ◌∙◌, ap, length, take, drop, get_or, min, arith, add-one, eq-eqb}
+use Rattle.std.proofs.Common.{◌≡◌, ◌≢◌, ℕ, zero, suc, ◌+◌, ◌*◌, ◌-◌, ◌<◌, ◌≤◌, List, [], ◌∷◌, ◌++◌, Bool, true, false, cond, refl, sym, ◌∙◌, ap, length, take, drop, get_or, min, arith, add-one, eq-eqb}
 use Rattle.std.specs.Prelude.{◌==◌}
 use Rattle.std.proofs.lemmas.Bool.Decides.{nat_tests}
-use Rattle.std.proofs.lemmas.List.{length-drop, length-take-le, drop-drop, get_or-drop}
+use Rattle.std.proofs.lemmas.List.{length-drop, length-take-le, drop-drop, get_or-drop, take-append-drop}
 use Rattle.std.proofs.lemmas.Nat.{be_bytes_8}
 use Rattle.std.specs.Int.{w64, from_be_bytes, to_be_bytes}
 use Rattle.std.specs.List.{slice_range}
@@ -80,3 +80,39 @@ same_words a b i m n la lb ea eb e so =
     let step = shared_along a b p 8 (omega (arith, la)) (omega (arith, lb)) same in
     let moved : shared (drop (p + 8) a) (drop (p + 8) b) ≡ shared (drop (8 * (i + 1)) a) (drop (8 * (i + 1)) b) = ap (λ k. shared (drop k a) (drop k b)) next in
     omega (arith, so, step, moved)
+
+-- ---- what it says
+pub shared_first : (a b : List ℕ) → shared a b ≤ length a
+shared_first [] b = omega arith
+shared_first (x ∷ a) [] = omega arith
+shared_first (x ∷ a) (y ∷ b) = go (x == y) (shared_first a b)
+  where
+    go : (v : Bool) → shared a b ≤ length a → cond v (suc (shared a b)) 0 ≤ suc (length a)
+    go true ih = omega (arith, ih)
+    go false ih = omega arith
+
+pub shared_second : (a b : List ℕ) → shared a b ≤ length b
+shared_second [] b = omega arith
+shared_second (x ∷ a) [] = omega arith
+shared_second (x ∷ a) (y ∷ b) = go (x == y) (shared_second a b)
+  where
+    go : (v : Bool) → shared a b ≤ length b → cond v (suc (shared a b)) 0 ≤ suc (length b)
+    go true ih = omega (arith, ih)
+    go false ih = omega arith
+
+same_byte : (x y : ℕ) → (x == y) ≡ true → x ≡ y
+same_byte x y e = grind (arith, nat_tests)
+
+shared_alike : (a b : List ℕ) → take (shared a b) a ≡ take (shared a b) b
+shared_alike [] [] = refl
+shared_alike [] (y ∷ b) = refl
+shared_alike (x ∷ a) [] = refl
+shared_alike (x ∷ a) (y ∷ b) = go (x == y) refl (shared_alike a b)
+  where
+    go : (v : Bool) → (x == y) ≡ v → take (shared a b) a ≡ take (shared a b) b → take (cond v (suc (shared a b)) 0) (x ∷ a) ≡ take (cond v (suc (shared a b)) 0) (y ∷ b)
+    go true e ih = λ i. same_byte x y e i ∷ ih i
+    go false e ih = refl
+
+-- what is shared, and the rest
+pub shared_rest : (a b : List ℕ) → take (shared a b) a ++ drop (shared a b) b ≡ b
+shared_rest a b = ap (λ xs. xs ++ drop (shared a b) b) (shared_alike a b) ∙ take-append-drop (shared a b) b

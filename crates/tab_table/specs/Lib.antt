@@ -1,3 +1,15 @@
 pub mod Sizes
 pub mod SizeExamples
+pub mod Codes
+pub mod Blocks
+pub mod Counts
+pub mod EntryBytes
+pub mod Agreements
+pub mod Decoding
+pub mod Reading
+pub mod Restarts
+pub mod Indexed
 pub mod SortedTables
+pub mod Windows
+pub mod PartBytes
+pub mod CursorLaws

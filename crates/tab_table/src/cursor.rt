@@ -1,13 +1,19 @@
 //! A part of a table that is gone over.
-ghost use Rattle.std.specs.Prelude.{◌≡◌, ◌≤◌, List, [], Bool, true, false, ◌-◌, drop, length};
+ghost use Rattle.std.specs.Prelude.{◌≡◌, ◌≤◌, ◌<◌, List, [], Bool, true, false, ◌-◌, drop, length, max, min, IsTrue, IfOk, OnOk, OnErr};
+ghost use Rattle.std.specs.List.{prefix_len};
 ghost use Rattle.tab_mem.specs.Lists.{part};
-ghost use Rattle.tab_key.specs.Encoding.{records_at};
+ghost use Rattle.tab_mem.specs.Starts.{is_before};
+ghost use Rattle.tab_table.specs.Blocks.{block_records};
+ghost use Rattle.tab_table.specs.Windows.{IsWindow, IsWindow-prop, Has, Holds-prop, IsPassed};
 
 use crate::SortedTable;
+use crate::window::Window;
+use std::alloc::{AllocError, Global};
+use std::ops::Range;
 use std::sync::Arc;
 use tab_iter::{NoMemory, Source};
 use tab_key::{Key, RecordRef};
-use tab_mem::{Start, first_near};
+use tab_mem::{Start, Target};
 
 /// Whoever has a table: who borrows it, or who shares it.
 pub trait HasSortedTable {
@@ -38,15 +44,23 @@ impl HasSortedTable for Arc<SortedTable> {
 
 /// The records of a table from one index up to another, and a place among them: a source of `tab_iter`. A contract sees all of
 /// these records, and those that are left.
+///
+/// It holds the records that it decoded, of one block at most and as far as they were read.
 #[derive(Drop)]
 pub struct TableCursor<T: HasSortedTable> {
     table: T,
     from: usize,
     at: usize,
     end: usize,
+    window: Window,
+    // there is no top until a seek succeeds: it stands at the end
+    unpositioned: bool,
     ghost ordered: { from ≤ at },
     ghost upto: { at ≤ end },
-    ghost inside: { end ≤ length (records_at (T.table table).body (T.table table).places.items) },
+    ghost inside: { end ≤ length (block_records (T.table table).packed.bytes (T.table table).packed.count) },
+    ghost decoded: { IsWindow window (T.table table).packed.bytes (T.table table).packed.count } by { IsWindow-prop window (T.table table).packed.bytes (T.table table).packed.count },
+    ghost here: { at < end → Has window at } by { Holds-prop window at end },
+    ghost lost: { unpositioned ≡ true → at ≡ end },
 }
 
 /// A cursor that borrows its table.
@@ -59,41 +73,167 @@ impl<T: HasSortedTable + Drop> TableCursor<T> {
     ghost use Rattle.tab_table.specs.SortedTables.{records};
 
     /// A cursor over the whole table, at its first record.
-    pub fn new(table: T) -> TableCursor<T>
-        ensures whole { ⟦<TableCursor<T> as Source>⟧.whole result ≡ records (T.table table) }
-        ensures rest { ⟦<TableCursor<T> as Source>⟧.rest result ≡ records (T.table table) }
+    ///
+    /// NoMemory says that memory for that record lacked.
+    pub fn new(alloc: Global, table: T) -> Result<TableCursor<T>, NoMemory>
+        ensures whole { IfOk result (λ c. ⟦<TableCursor<T> as Source>⟧.whole c ≡ records (T.table table)) }
+        ensures rest { IfOk result (λ c. ⟦<TableCursor<T> as Source>⟧.rest c ≡ records (T.table table)) }
     {
         let end = table.table().len();
-        TableCursor::over(table, 0, end)
+        let cursor = TableCursor::over(alloc, table, 0, end)?;
+        Ok(cursor)
     }
 
     /// A cursor over the records from one index up to another, that one excluded, at the first of them.
-    pub fn over(table: T, from: usize, end: usize) -> TableCursor<T>
+    ///
+    /// NoMemory says that memory for that record lacked.
+    pub fn over(
+        alloc: Global,
+        table: T,
+        from: usize,
+        end: usize,
+    ) -> Result<TableCursor<T>, NoMemory>
+        requires ends { from ≤ end }
+        requires inside { end ≤ length (records (T.table table)) }
+        ensures whole { IfOk result (λ c. ⟦<TableCursor<T> as Source>⟧.whole c ≡ part from end (records (T.table table))) }
+        ensures rest { IfOk result (λ c. ⟦<TableCursor<T> as Source>⟧.rest c ≡ part from end (records (T.table table))) }
+    {
+        let mut cursor = TableCursor::unpositioned(alloc, table, from, end);
+        cursor.go_to(from)?;
+        Ok(cursor)
+    }
+
+    /// The same, unpositioned: nothing is read before a seek. It takes no memory.
+    pub fn unpositioned(alloc: Global, table: T, from: usize, end: usize) -> TableCursor<T>
         requires ends { from ≤ end }
         requires inside { end ≤ length (records (T.table table)) }
         ensures whole { ⟦<TableCursor<T> as Source>⟧.whole result ≡ part from end (records (T.table table)) }
-        ensures rest { ⟦<TableCursor<T> as Source>⟧.rest result ≡ part from end (records (T.table table)) }
+        ensures unpositioned { ⟦<TableCursor<T> as Source>⟧.is_unpositioned result ≡ true }
+        ensures from { result.from ≡ from }
+        ensures end { result.end ≡ end }
+        ensures table { T.table result.table ≡ T.table table }
     {
         TableCursor {
             table,
             from,
-            at: from,
+            at: end,
             end,
+            window: Window::new(alloc),
+            unpositioned: true,
         }
     }
 }
 
-/// No call takes memory. A seek takes time logarithmic in how far it goes on where it stays near, and else in the part.
+impl<T: HasSortedTable> TableCursor<T> {
+    ghost use Rattle.tab_table.specs.SortedTables.{records};
+
+    // Whether the start lies behind the place.
+    fn is_behind(&self, target: &Target<'_>) -> bool
+        ensures { IsTrue result → IsPassed self.now.at self.now.end target.now.start (records (T.table self.now.table)) }
+    {
+        self.at < self.end && self.window.precedes(self.at, target)
+    }
+
+    // A part of the records in which a search for the start finds what it would find in all: near the place where the start lies behind
+    // it.
+    fn part_of(&self, target: &Target<'_>) -> Range<usize>
+        ensures low { self.now.from ≤ result.start }
+        ensures order { result.start ≤ result.end }
+        ensures high { result.end ≤ self.now.end }
+        ensures count { max self.now.from (min (prefix_len (is_before target.now.start) (records (T.table self.now.table))) self.now.end) ≡ max result.start (min (prefix_len (is_before target.now.start) (records (T.table self.now.table))) result.end) }
+    {
+        if self.is_behind(target) {
+            self.table.table().behind(self.at, self.end, target)
+        } else {
+            self.table.table().around(self.from, self.end, target)
+        }
+    }
+
+    // Goes to the first record of a part that isn't before the start, or to the part's end. After an error there is no top.
+    fn find(&mut self, low: usize, high: usize, target: &Target<'_>) -> Result<(), NoMemory>
+        requires low { self.old.from ≤ low }
+        requires order { low ≤ high }
+        requires high { high ≤ self.old.end }
+        ensures from { self.new.from ≡ self.old.from }
+        ensures end { self.new.end ≡ self.old.end }
+        ensures table { self.new.table ≡ self.old.table }
+        ensures at { OnOk result (self.new.at ≡ max low (min (prefix_len (is_before target.now.start) (records (T.table self.old.table))) high)) }
+        ensures positioned { OnOk result (self.new.unpositioned ≡ false) }
+        ensures err { OnErr result (self.new.unpositioned ≡ true) }
+    {
+        self.at = self.end;
+        self.unpositioned = true;
+        let packed = &self.table.table().packed;
+        let index = self.window.find(packed, low, high, target)?;
+        self.go_to(index)?;
+        Ok(())
+    }
+
+    // Goes to the record with this index, or to the end. After an error there is no top.
+    #[inline]
+    fn go_to(&mut self, index: usize) -> Result<(), NoMemory>
+        requires low { self.old.from ≤ index }
+        requires high { index ≤ self.old.end }
+        ensures from { self.new.from ≡ self.old.from }
+        ensures end { self.new.end ≡ self.old.end }
+        ensures table { self.new.table ≡ self.old.table }
+        ensures at { OnOk result (self.new.at ≡ index) }
+        ensures positioned { OnOk result (self.new.unpositioned ≡ false) }
+        ensures err { OnErr result (self.new.unpositioned ≡ true) }
+    {
+        if index < self.end {
+            self.read(index)?;
+        }
+        self.at = index;
+        self.unpositioned = false;
+        Ok(())
+    }
+
+    // Sees that the record with this index is decoded. After an error there is no top.
+    #[inline]
+    fn read(&mut self, index: usize) -> Result<(), NoMemory>
+        requires { index < self.old.end }
+        ensures from { self.new.from ≡ self.old.from }
+        ensures end { self.new.end ≡ self.old.end }
+        ensures table { self.new.table ≡ self.old.table }
+        ensures has { OnOk result (Has self.new.window index) }
+        ensures err { OnErr result (self.new.unpositioned ≡ true) }
+    {
+        if self.window.has(index) {
+            return Ok(());
+        }
+        self.read_on(index)
+    }
+
+    // The same, where it has to be decoded first.
+    #[inline(never)]
+    fn read_on(&mut self, index: usize) -> Result<(), NoMemory>
+        requires { index < self.old.end }
+        ensures from { self.new.from ≡ self.old.from }
+        ensures end { self.new.end ≡ self.old.end }
+        ensures table { self.new.table ≡ self.old.table }
+        ensures has { OnOk result (Has self.new.window index) }
+        ensures err { OnErr result (self.new.unpositioned ≡ true) }
+    {
+        self.at = self.end;
+        self.unpositioned = true;
+        self.window.reach(&self.table.table().packed, index)
+    }
+}
+
+/// A seek that goes on by at most 16 records decodes these. Another one takes time logarithmic in the part, and decodes some 40 records at
+/// most. Memory is taken for the records of a block as far as they are read.
 impl<T: HasSortedTable> Source for TableCursor<T> {
-    ghost use Rattle.tab_iter.specs.SourceLaws.{ends_drop, always_positioned};
+    ghost use Rattle.tab_iter.specs.SourceLaws.{ends_drop};
     ghost use Rattle.tab_mem.proofs.Parts.{part_rises, part_timestamps};
+    ghost use Rattle.tab_table.specs.CursorLaws.{nothing_left};
     ghost use Rattle.tab_table.specs.SortedTables.{records};
 
     ghost whole = { λ c. part c.from c.end (records (T.table c.table)) };
 
     ghost rest = { λ c. drop (c.at - c.from) (part c.from c.end (records (T.table c.table))) };
 
-    ghost is_unpositioned = { λ c. false };
+    ghost is_unpositioned = { λ c. c.unpositioned };
 
     ghost whole_rises = { λ c. part_rises c.from c.end (records (T.table c.table)) (T.table c.table).rising };
 
@@ -101,11 +241,11 @@ impl<T: HasSortedTable> Source for TableCursor<T> {
 
     ghost rest_is_suffix = { λ c. ends_drop (c.at - c.from) (part c.from c.end (records (T.table c.table))) };
 
-    ghost unpositioned_is_empty = { λ c. always_positioned (drop (c.at - c.from) (part c.from c.end (records (T.table c.table)))) };
+    ghost unpositioned_is_empty = { λ c e. nothing_left c.from c.at c.end (records (T.table c.table)) c.ordered (c.lost e) };
 
     fn top(&self) -> Option<RecordRef<'_>> {
         if self.at < self.end {
-            Some(self.table.table().get(self.at))
+            Some(self.window.get(self.at))
         } else {
             None
         }
@@ -113,15 +253,21 @@ impl<T: HasSortedTable> Source for TableCursor<T> {
 
     fn advance(&mut self) -> Result<(), NoMemory> {
         if self.at < self.end {
-            self.at += 1;
+            let next = self.at + 1;
+            self.go_to(next)?;
+            return Ok(());
+        }
+        if self.unpositioned {
+            return Err(AllocError);
         }
         Ok(())
     }
 
     #[tactic(auto, unfolding(tab_mem::specs::Starts::from_start))]
     fn seek(&mut self, key: Key<'_>) -> Result<(), NoMemory> {
-        let start = Start::AtKey(key);
-        self.at = first_near(self.table.table(), self.from, self.at, self.end, start);
+        let target = Target::of(Start::AtKey(key));
+        let part = self.part_of(&target);
+        self.find(part.start, part.end, &target)?;
         Ok(())
     }
 }

@@ -4,16 +4,35 @@
 //! |---|---|
 //! | `sorted_table` | a sorted table |
 //! | `building` | a table built of what a source has left |
-//! | `block` | how many bytes a record takes in its block |
-//! | `sharing` | how many first bytes two byte strings share |
 //! | `cursor` | a part of a table that is gone over, as a source of `tab_iter`; it borrows its table or shares it |
+//! | `entry`, `sharing` | how a record lies in a block: what of it the record before it doesn't have |
+//! | `heads`, `writing` | the head of a record, and bytes that are written over others, in steps of a fixed length |
+//! | `rebuilding`, `decoded` | how a record is rebuilt of its entry and the record before it, and the records that are decoded |
+//! | `restarts` | where decoding may begin |
+//! | `blocks` | records in blocks, with their indexes, as they are built |
+//! | `packed` | records in blocks that no longer change, and the searches among them |
+//! | `agreement`, `key_agreement` | how a record compares with a key, found from entry to entry |
+//! | `part_bytes`, `same` | single bytes of a record's parts, and whether two records are the same |
+//! | `window` | the records that are decoded, and which ones they are |
 #![tactic(auto)]
 
-mod block;
+mod agreement;
+mod blocks;
 mod building;
 mod cursor;
+mod decoded;
+mod entry;
+mod heads;
+mod key_agreement;
+mod packed;
+mod part_bytes;
+mod rebuilding;
+mod restarts;
+mod same;
 mod sharing;
 mod sorted_table;
+mod window;
+mod writing;
 
 pub use cursor::{Cursor, HasSortedTable, OwnedCursor, TableCursor};
 pub use sorted_table::SortedTable;

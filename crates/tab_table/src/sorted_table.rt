@@ -1,51 +1,58 @@
 //! Sorted tables.
-ghost use Rattle.std.specs.Prelude.{◌≡◌, ◌<◌, ◌≤◌, ◌==◌, IsTrue, IfOk, length, filter};
-ghost use Rattle.std.specs.List.{slice_index_or};
+ghost use Rattle.std.specs.Prelude.{◌≡◌, ◌+◌, ◌<◌, ◌≤◌, ◌==◌, IsTrue, IfOk, length, filter, max, min};
+ghost use Rattle.std.specs.List.{slice_index_or, prefix_len};
+ghost use Rattle.std.specs.Ordering.{is_lt};
 ghost use Rattle.std.proofs.lemmas.Map.Keys.{IsStrictlySortedBy-prop};
-ghost use Rattle.tab_key.specs.Encoding.{records_at, AreAt, AreAt-prop};
-ghost use Rattle.tab_key.specs.Order.{record_cmp};
+ghost use Rattle.tab_key.specs.KeyOf.{key_of};
+ghost use Rattle.tab_key.specs.Order.{key_cmp, record_cmp};
 ghost use Rattle.tab_key.specs.Ranges.{is_in_range};
 ghost use Rattle.tab_key.specs.Records.{Record as Fields};
+ghost use Rattle.tab_key.specs.Same.{same_record};
 ghost use Rattle.tab_iter.specs.Lists.{IsRising, HasI64Timestamps};
 ghost use Rattle.tab_iter.specs.Propositions.{HasI64Timestamps-prop};
 ghost use Rattle.tab_mem.specs.RowIndex.{IsRowIndex, IsRowIndex-prop};
 ghost use Rattle.tab_mem.specs.Lists.{part, HasShortParts};
+ghost use Rattle.tab_mem.specs.Starts.{is_before};
+ghost use Rattle.tab_table.specs.Blocks.{block_records};
 ghost use Rattle.tab_table.specs.Sizes.{encoded_size};
 
-use bytes::Bytes;
+use crate::packed::Packed;
+use crate::window::Window;
 use std::alloc::{AllocError, Global};
 use std::ops::Range;
-use tab_key::{Bounds, ByteString, RecordRef};
-use tab_mem::{Ordered, RowIndex, Target, room_between, rows_in};
+use tab_key::{Bounds, ByteString, Key};
+use tab_mem::{Ordered, RowIndex, Target, rows_in};
+
+// A search decodes so many records one by one; more it halves first.
+const FEW: usize = 24;
+
+// A seek looks at so many records behind its place before it asks the index.
+const NEAR: usize = 16;
 
 /// Records that no longer change, in their order. A contract sees their list by `records`.
 ///
-/// They lie in one piece of bytes, one after another; beside it a table takes 8 bytes a record, and one for a sparse index of their
-/// rows. (Accumulo user manual: a file that a compaction writes)
+/// They lie in one piece of bytes, in blocks of 64 records, in which a record shares its first bytes with the one before it; beside it a
+/// table takes some two bytes a record for where decoding may begin and for a sparse index of their rows. (Accumulo user manual: a file
+/// that a compaction writes)
 #[derive(Drop)]
 pub struct SortedTable {
-    pub(crate) body: Bytes,
-    // where the records' heads begin
-    pub(crate) places: Vec<usize>,
+    pub(crate) packed: Packed,
     pub(crate) row_index: RowIndex,
-    // what the records take in blocks
-    pub(crate) size: u64,
-    ghost within: { AreAt body places.items } by { AreAt-prop body places.items },
-    ghost rising: { IsRising (records_at body places.items) } by { IsStrictlySortedBy-prop record_cmp (records_at body places.items) },
-    ghost timestamps: { HasI64Timestamps (records_at body places.items) } by { HasI64Timestamps-prop (records_at body places.items) },
-    ghost sized: { size ≡ encoded_size (records_at body places.items) },
-    ghost indexed: { IsRowIndex row_index.numbers.items (records_at body places.items) } by { IsRowIndex-prop row_index.numbers.items (records_at body places.items) },
+    ghost rising: { IsRising (block_records packed.bytes packed.count) } by { IsStrictlySortedBy-prop record_cmp (block_records packed.bytes packed.count) },
+    ghost timestamps: { HasI64Timestamps (block_records packed.bytes packed.count) } by { HasI64Timestamps-prop (block_records packed.bytes packed.count) },
+    ghost sized: { length packed.bytes ≡ encoded_size (block_records packed.bytes packed.count) },
+    ghost indexed: { IsRowIndex row_index.numbers.items (block_records packed.bytes packed.count) } by { IsRowIndex-prop row_index.numbers.items (block_records packed.bytes packed.count) },
 }
 
 impl SortedTable {
     ghost use Rattle.tab_table.specs.SortedTables.{records};
 
     /// How many bytes the records take in blocks of 64: each 57, its value, and of its row, family, qualifier and label what lies behind
-    /// the first bytes shared with the record before it. A block's first record shares none. It is counted once, while the table is built.
+    /// the first bytes shared with the record before it. A block's first record shares none.
     pub fn size(&self) -> u64
         ensures { result ≡ encoded_size (records self.now) }
     {
-        self.size
+        self.packed.bytes.len() as u64
     }
 
     /// How many records there are, markers and hidden ones among them.
@@ -55,22 +62,32 @@ impl SortedTable {
         ensures timestamps { HasI64Timestamps (records self.now) }
         ensures short { HasShortParts (records self.now) }
     {
-        self.places.len()
+        self.packed.count
     }
 
     /// Whether there is no record.
     pub fn is_empty(&self) -> bool
         ensures { result ≡ (length (records self.now) == 0) }
     {
-        self.places.is_empty()
+        self.len() == 0
     }
 
-    /// The record at an index, counted from 0 in the order of records.
-    pub fn get(&self, index: usize) -> RecordRef<'_>
+    /// Whether the record at an index stands before the key. It takes no memory.
+    pub fn is_before(&self, index: usize, key: Key<'_>) -> bool
         requires { index < length (records self.now) }
-        ensures { (u : Fields) → result ≡ slice_index_or (records self.now) index u }
+        ensures { (u : Fields) → result ≡ is_lt (key_cmp (slice_index_or (records self.now) index u).key (key_of key.entry)) }
     {
-        record_of(self.body.as_slice(), self.places.as_slice(), index)
+        self.packed.cmp_key(index, key).is_lt()
+    }
+
+    /// Whether the record at an index is the same as the one at an index of another table: key, kind, value, number and place. It takes no
+    /// memory, and time linear in the bytes of its parts.
+    pub fn same_at(&self, index: usize, other: &SortedTable, place: usize) -> bool
+        requires here { index < length (records self.now) }
+        requires there { place < length (records other.now) }
+        ensures { (u v : Fields) → result ≡ same_record (slice_index_or (records self.now) index u) (slice_index_or (records other.now) place v) }
+    {
+        self.packed.same_at(index, &other.packed, place)
     }
 
     /// Whether the other's records lie as its own do, byte for byte; then they are the same records. Where they don't, they may be the
@@ -78,18 +95,10 @@ impl SortedTable {
     pub fn lies_like(&self, other: &SortedTable) -> bool
         ensures { IsTrue result → records self.now ≡ records other.now }
     {
-        if self.places.as_slice() != other.places.as_slice() {
+        if self.packed.count != other.packed.count {
             return false;
         }
-        self.body.as_slice() == other.body.as_slice()
-    }
-
-    /// The row of the record at an index, counted from 0 in the order of records.
-    pub fn row(&self, index: usize) -> &[u8]
-        requires { index < length (records self.now) }
-        ensures { (u : Fields) → result.now ≡ (slice_index_or (records self.now) index u).key.row }
-    {
-        self.get(index).row()
+        self.packed.bytes.as_slice() == other.packed.bytes.as_slice()
     }
 
     /// A copy of the row of the record at an index, counted from 0 in the order of records.
@@ -99,14 +108,16 @@ impl SortedTable {
         requires { index < length (records self.now) }
         ensures { (u : Fields) → IfOk result (λ row. row ≡ (slice_index_or (records self.now) index u).key.row) }
     {
-        let copy = ByteString::from_slice(alloc, self.row(index))?;
+        let mut window = Window::new(alloc);
+        window.reach(&self.packed, index)?;
+        let copy = ByteString::from_slice(alloc, window.get(index).row())?;
         Ok(copy)
     }
 
     /// How much room to ask for, in bytes, where the records from one index up to another are copied: what they take in the body. Only
     /// how often memory is taken hangs on it.
     pub fn room(&self, from: usize, end: usize) -> usize {
-        room_between(&self.places, self.body.len(), from, end)
+        self.packed.room(from, end)
     }
 
     /// The indexes of the records of a part whose rows are in bounds: these records stand together. The part goes from one index
@@ -124,15 +135,66 @@ impl SortedTable {
     {
         rows_in(self, from, end, bounds)
     }
-}
 
-// The record in the body whose head begins at the place with this index.
-fn record_of<'a>(body: &'a [u8], places: &[usize], index: usize) -> RecordRef<'a>
-    requires places { AreAt body.now places.now }
-    requires inside { index < length (records_at body.now places.now) }
-    ensures { (u : Fields) → result ≡ slice_index_or (records_at body.now places.now) index u }
-{
-    RecordRef::at(body, places[index])
+    /// A small part of the records in which a search for the start finds what it would find in this one. It takes no memory.
+    pub(crate) fn around(&self, from: usize, end: usize, target: &Target<'_>) -> Range<usize>
+        requires ends { from ≤ end }
+        requires inside { end ≤ length (records self.now) }
+        ensures low { from ≤ result.start }
+        ensures order { result.start ≤ result.end }
+        ensures high { result.end ≤ end }
+        ensures count { max from (min (prefix_len (is_before target.now.start) (records self.now)) end) ≡ max result.start (min (prefix_len (is_before target.now.start) (records self.now)) result.end) }
+    {
+        if end - from <= FEW {
+            return from..end;
+        }
+        let part = self.narrowed(from, end, target);
+        self.halved(part.start, part.end, target)
+    }
+
+    /// The same of the part behind a record that stands before the start, up to this end.
+    pub(crate) fn behind(&self, at: usize, end: usize, target: &Target<'_>) -> Range<usize>
+        requires inside { end ≤ length (records self.now) }
+        requires place { at < end }
+        requires passed { at < prefix_len (is_before target.now.start) (records self.now) }
+        ensures low { at < result.start }
+        ensures order { result.start ≤ result.end }
+        ensures high { result.end ≤ end }
+        ensures count { max (at + 1) (min (prefix_len (is_before target.now.start) (records self.now)) end) ≡ max result.start (min (prefix_len (is_before target.now.start) (records self.now)) result.end) }
+    {
+        let next = at + 1;
+        let near = end.min(next.saturating_add(NEAR));
+        if end <= near {
+            return next..end;
+        }
+        if self.is_far(at, target) {
+            return self.around(next, end, target);
+        }
+        if self.packed.precedes(near, target.start()) {
+            return self.around(next, end, target);
+        }
+        next..near
+    }
+
+    // The same, by halves.
+    fn halved(&self, mut low: usize, mut high: usize, target: &Target<'_>) -> Range<usize>
+        requires ends { low ≤ high }
+        requires inside { high ≤ length (records self.now) }
+        ensures low { low ≤ result.start }
+        ensures order { result.start ≤ result.end }
+        ensures high { result.end ≤ high }
+        ensures count { max low (min (prefix_len (is_before target.now.start) (records self.now)) high) ≡ max result.start (min (prefix_len (is_before target.now.start) (records self.now)) result.end) }
+    {
+        while high - low > FEW {
+            let mid = low + (high - low) / 2;
+            if self.packed.precedes(mid, target.start()) {
+                low = mid + 1;
+            } else {
+                high = mid;
+            }
+        }
+        low..high
+    }
 }
 
 impl Ordered for SortedTable {
@@ -141,7 +203,7 @@ impl Ordered for SortedTable {
     ghost listed = { λ t. records t };
 
     fn precedes(&self, index: usize, target: &Target<'_>) -> bool {
-        target.is_after(&self.get(index))
+        self.packed.precedes(index, target.start())
     }
 
     fn narrowed(&self, low: usize, high: usize, target: &Target<'_>) -> Range<usize> {
