@@ -1,5 +1,5 @@
 //! Parts of shared runs and tables.
-ghost use Rattle.std.specs.Prelude.{◌≡◌, ◌<◌, ◌==◌, IfOk, IsTrue, length, filter, slice_index_or};
+ghost use Rattle.std.specs.Prelude.{◌≡◌, ◌<◌, ◌==◌, IfOk, OnOk, IsTrue, length, filter, slice_index_or};
 ghost use Rattle.tab_key.specs.Ranges.{is_in_range};
 ghost use Rattle.tab_key.specs.Records.{Record as Fields};
 ghost use Rattle.tab_key.specs.KeyOf.{key_of};
@@ -12,7 +12,7 @@ use crate::FrozenRecords;
 use std::alloc::{AllocError, Global};
 use std::marker::Model;
 use std::sync::Arc;
-use tab_iter::Source;
+use tab_iter::{NoMemory, Source};
 use tab_key::{Bounds, ByteString, Key};
 use tab_mem::{Run, RunCursor};
 use tab_table::{Cursor, SortedTable};
@@ -78,16 +78,6 @@ impl<W: FrozenRecords + Drop> ClipOf<W> {
     {
         let counted = self.whole.rows_in(self.from, self.end, bounds);
         counted.end - counted.start
-    }
-
-    /// The row of the record at an index, counted from 0 in the order of records.
-    pub fn row(&self, index: usize) -> &[u8]
-        requires { index < length self.now }
-        ensures { (u : Fields) → result.now ≡ (slice_index_or self.now index u).key.row }
-    {
-        let _end = self.end;
-        let place = self.from + index;
-        self.whole.row(place)
     }
 
     /// A copy of the row of the record at an index, counted from 0 in the order of records.
@@ -217,13 +207,22 @@ impl ClipOf<Run> {
 }
 
 impl ClipOf<SortedTable> {
-    /// The records as a source, at its first record.
-    pub(crate) fn table_cursor<'a>(&'a self) -> Cursor<'a>
-        ensures whole { ⟦<Cursor<'a> as Source>⟧.whole result ≡ self.now }
-        ensures at_start { ⟦<Cursor<'a> as Source>⟧.rest result ≡ ⟦<Cursor<'a> as Source>⟧.whole result }
-        ensures short { HasShortParts self.now }
+    /// The records as a source, at its first record. NoMemory says that memory for that record lacked.
+    pub(crate) fn table_cursor<'a>(&'a self, alloc: Global) -> Result<Cursor<'a>, NoMemory>
+        ensures whole { IfOk result (λ c. ⟦<Cursor<'a> as Source>⟧.whole c ≡ self.now) }
+        ensures at_start { IfOk result (λ c. ⟦<Cursor<'a> as Source>⟧.rest c ≡ ⟦<Cursor<'a> as Source>⟧.whole c) }
+        ensures short { OnOk result (HasShortParts self.now) }
     {
         let table: &'a SortedTable = &self.whole;
-        Cursor::over(table, self.from, self.end)
+        let cursor = Cursor::over(alloc, table, self.from, self.end)?;
+        Ok(cursor)
+    }
+
+    /// The same, unpositioned: no record is read before a seek. It takes no memory.
+    pub(crate) fn unread_cursor<'a>(&'a self, alloc: Global) -> Cursor<'a>
+        ensures { ⟦<Cursor<'a> as Source>⟧.whole result ≡ self.now }
+    {
+        let table: &'a SortedTable = &self.whole;
+        Cursor::unpositioned(alloc, table, self.from, self.end)
     }
 }

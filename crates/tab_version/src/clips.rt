@@ -9,8 +9,9 @@ ghost use Rattle.tab_version.specs.Clips.{lists_of};
 ghost use Rattle.tab_version.specs.Sources.{no_sources, records_of, clipped, same_sources, left_by};
 
 use crate::cutting::{runs_in, tables_in};
-use crate::has_records::HasRecords;
+use crate::has_records::{HasRecords, count_all};
 use crate::sought::pair_up;
+use crate::table_clip::room_in_blocks;
 use crate::taking::{take_runs, take_tables};
 use crate::{Clip, OneOf, TableClip};
 use std::alloc::{AllocError, Global};
@@ -179,7 +180,13 @@ impl Clips {
     ) -> Result<SortedTable, NoMemory>
         ensures { IfOk result (λ t. records t ≡ S.rest source.old) }
     {
-        SortedTable::build(alloc, source, self.count(), self.room())
+        let in_runs = count_all(self.runs());
+        SortedTable::build(
+            alloc,
+            source,
+            self.count(),
+            room_in_blocks(self.room(), in_runs),
+        )
     }
 
     /// A run of the records that a source has left which reads these clips, as a clip. Room for all that they hold is asked for at once,
@@ -195,6 +202,8 @@ impl Clips {
     }
 
     /// A cursor over each clip, at its first record. No record has a part that is too long for a table.
+    ///
+    /// It takes memory for the cursors, and for the first record of each table. `AllocError` says that it lacked.
     pub fn cursors<'a>(&'a self, alloc: Global) -> Result<Vec<ClipCursor<'a>>, AllocError>
         ensures lists { IfOk result (λ v. map ⟦<ClipCursor<'a> as Source>⟧.whole v.items ≡ lists_of self.now) }
         ensures whole { IfOk result (λ v. flat (map ⟦<ClipCursor<'a> as Source>⟧.whole v.items) ≡ records_of self.now) }
@@ -204,18 +213,50 @@ impl Clips {
         let count = self.runs.len().saturating_add(self.tables.len());
         let mut cursors = Vec::with_capacity(alloc, count)?;
         put_runs(&mut cursors, &self.runs)?;
-        put_tables(&mut cursors, &self.tables)?;
+        put_tables(alloc, &mut cursors, &self.tables)?;
         Ok(cursors)
     }
 
-    /// A cursor over all records, at the first of them, where one clip has them all. It takes no memory.
-    pub fn only_cursor<'a>(&'a self) -> Option<ClipCursor<'a>>
-        ensures whole { IfSome result (λ c. ⟦<ClipCursor<'a> as Source>⟧.whole c ≡ sorted (records_of self.now)) }
-        ensures at_start { IfSome result (λ c. ⟦<ClipCursor<'a> as Source>⟧.rest c ≡ ⟦<ClipCursor<'a> as Source>⟧.whole c) }
+    /// The same, but those over tables are unpositioned: no record of these is read before a seek.
+    ///
+    /// It takes memory for the cursors alone. `AllocError` says that it lacked.
+    pub(crate) fn unread_cursors<'a>(
+        &'a self,
+        alloc: Global,
+    ) -> Result<Vec<ClipCursor<'a>>, AllocError>
+        ensures { IfOk result (λ v. flat (map ⟦<ClipCursor<'a> as Source>⟧.whole v.items) ≡ records_of self.now) }
+    {
+        let count = self.runs.len().saturating_add(self.tables.len());
+        let mut cursors = Vec::with_capacity(alloc, count)?;
+        put_runs(&mut cursors, &self.runs)?;
+        put_unread(alloc, &mut cursors, &self.tables)?;
+        Ok(cursors)
+    }
+
+    /// A cursor over all records, at the first of them, where one clip has them all. It takes memory for the first record of a table;
+    /// NoMemory says that it lacked.
+    pub fn only_cursor<'a>(&'a self, alloc: Global) -> Result<Option<ClipCursor<'a>>, NoMemory>
+        ensures whole { IfOk result (λ o. IfSome o (λ c. ⟦<ClipCursor<'a> as Source>⟧.whole c ≡ sorted (records_of self.now))) }
+        ensures at_start { IfOk result (λ o. IfSome o (λ c. ⟦<ClipCursor<'a> as Source>⟧.rest c ≡ ⟦<ClipCursor<'a> as Source>⟧.whole c)) }
     {
         match (self.runs.len(), self.tables.len()) {
+            (1, 0) => Ok(Some(OneOf::First(self.runs[0].cursor()))),
+            (0, 1) => {
+                let cursor = self.tables[0].cursor(alloc)?;
+                Ok(Some(OneOf::Second(cursor)))
+            }
+            _ => Ok(None),
+        }
+    }
+
+    /// The same, but over a table it is unpositioned: no record of it is read before a seek. It takes no memory.
+    pub(crate) fn only_unread<'a>(&'a self, alloc: Global) -> Option<ClipCursor<'a>>
+        ensures { IfSome result (λ c. ⟦<ClipCursor<'a> as Source>⟧.whole c ≡ sorted (records_of self.now)) }
+    {
+        let counts = (self.runs.len(), self.tables.len());
+        match counts {
             (1, 0) => Some(OneOf::First(self.runs[0].cursor())),
-            (0, 1) => Some(OneOf::Second(self.tables[0].cursor())),
+            (0, 1) => Some(OneOf::Second(self.tables[0].unread_cursor(alloc))),
             _ => None,
         }
     }
@@ -257,6 +298,7 @@ fn put_runs<'a>(cursors: &mut Vec<ClipCursor<'a>>, clips: &'a [Clip]) -> Result<
 
 // Puts a cursor over each of the tables' clips behind the others.
 fn put_tables<'a>(
+    alloc: Global,
     cursors: &mut Vec<ClipCursor<'a>>,
     clips: &'a [TableClip],
 ) -> Result<(), AllocError>
@@ -265,7 +307,23 @@ fn put_tables<'a>(
     ensures short { OnOk result (HasShortParts (flat (map (λ t. t.records) clips.now))) }
 {
     for clip in clips {
-        cursors.push(OneOf::Second(clip.cursor()))?;
+        let cursor = clip.cursor(alloc)?;
+        cursors.push(OneOf::Second(cursor))?;
+    }
+    Ok(())
+}
+
+// The same, unpositioned.
+fn put_unread<'a>(
+    alloc: Global,
+    cursors: &mut Vec<ClipCursor<'a>>,
+    clips: &'a [TableClip],
+) -> Result<(), AllocError>
+    ensures { OnOk result (map ⟦<ClipCursor<'a> as Source>⟧.whole cursors.new.items ≡ map ⟦<ClipCursor<'a> as Source>⟧.whole cursors.old.items ++ map (λ t. t.records) clips.now) }
+{
+    for clip in clips {
+        let cursor = clip.unread_cursor(alloc);
+        cursors.push(OneOf::Second(cursor))?;
     }
     Ok(())
 }

@@ -32,11 +32,6 @@ pub trait FrozenRecords {
         requires { index < length (listed self.now) }
         ensures { (u : Record) → result ≡ is_lt (key_cmp (slice_index_or (listed self.now) index u).key (key_of key.entry)) };
 
-    /// The row of the record at an index, counted from 0 in the order of records.
-    fn row(&self, index: usize) -> &[u8]
-        requires { index < length (listed self.now) }
-        ensures { (u : Record) → result.now ≡ (slice_index_or (listed self.now) index u).key.row };
-
     /// A copy of the row of the record at an index, counted from 0 in the order of records. `AllocError` says that memory for it lacked.
     fn row_of(&self, alloc: Global, index: usize) -> Result<ByteString, AllocError>
         requires { index < length (listed self.now) }
@@ -79,10 +74,6 @@ impl FrozenRecords for Run {
         self.get(index).key().cmp(key).is_lt()
     }
 
-    fn row(&self, index: usize) -> &[u8] {
-        self.get(index).row()
-    }
-
     fn row_of(&self, alloc: Global, index: usize) -> Result<ByteString, AllocError> {
         let copy = ByteString::from_slice(alloc, self.get(index).row())?;
         Ok(copy)
@@ -117,11 +108,7 @@ impl FrozenRecords for SortedTable {
     }
 
     fn is_before(&self, index: usize, key: Key<'_>) -> bool {
-        self.get(index).key().cmp(key).is_lt()
-    }
-
-    fn row(&self, index: usize) -> &[u8] {
-        SortedTable::row(self, index)
+        SortedTable::is_before(self, index, key)
     }
 
     fn row_of(&self, alloc: Global, index: usize) -> Result<ByteString, AllocError> {
@@ -129,9 +116,7 @@ impl FrozenRecords for SortedTable {
     }
 
     fn same_at(&self, index: usize, other: &SortedTable, place: usize) -> bool {
-        let here = self.get(index);
-        let there = other.get(place);
-        here.same_record(&there)
+        SortedTable::same_at(self, index, other, place)
     }
 
     fn lies_like(&self, other: &SortedTable) -> bool {

@@ -151,8 +151,8 @@ pub(crate) fn read_all<H: HasRecords>(several: &[H])
     }
 }
 
-// How many records all of them have.
-fn count_all<H: HasRecords>(several: &[H]) -> usize {
+/// How many records all of them have.
+pub(crate) fn count_all<H: HasRecords>(several: &[H]) -> usize {
     let mut count = 0usize;
     for one in several {
         count = count.saturating_add(one.count());

@@ -1,5 +1,5 @@
 //! Parts of shared tables, with the tables' sizes.
-ghost use Rattle.std.specs.Prelude.{◌≡◌, ◌<◌, ◌==◌, IfOk, length, filter, slice_index_or};
+ghost use Rattle.std.specs.Prelude.{◌≡◌, ◌<◌, ◌==◌, IfOk, OnOk, length, filter, slice_index_or};
 ghost use Rattle.tab_key.specs.Ranges.{is_in_range};
 ghost use Rattle.tab_key.specs.Records.{Record as Fields};
 ghost use Rattle.tab_key.specs.KeyOf.{key_of};
@@ -51,7 +51,8 @@ impl TableClip {
         ensures { IfOk result (λ c. c ≡ built run.now) }
     {
         let mut records = run.cursor();
-        let table = SortedTable::build(alloc, &mut records, run.len(), run.room())?;
+        let room = room_in_blocks(run.room(), run.len());
+        let table = SortedTable::build(alloc, &mut records, run.len(), room)?;
         let shared = Arc::new(alloc, table)?;
         Ok(TableClip::whole(shared))
     }
@@ -74,14 +75,6 @@ impl TableClip {
         ensures { result ≡ length (filter (λ u. is_in_range bounds.now u.key.row) self.now.records) }
     {
         self.part.count_in(bounds)
-    }
-
-    /// The row of the record at an index, counted from 0 in the order of records.
-    pub fn row(&self, index: usize) -> &[u8]
-        requires { index < length self.now.records }
-        ensures { (u : Fields) → result.now ≡ (slice_index_or self.now.records index u).key.row }
-    {
-        self.part.row(index)
     }
 
     /// A copy of the row of the record at an index, counted from 0 in the order of records.
@@ -126,13 +119,20 @@ impl TableClip {
         })
     }
 
-    /// The records as a source, at its first record.
-    pub fn cursor<'a>(&'a self) -> Cursor<'a>
-        ensures whole { ⟦<Cursor<'a> as Source>⟧.whole result ≡ self.now.records }
-        ensures at_start { ⟦<Cursor<'a> as Source>⟧.rest result ≡ ⟦<Cursor<'a> as Source>⟧.whole result }
-        ensures short { HasShortParts self.now.records }
+    /// The records as a source, at its first record. NoMemory says that memory for that record lacked.
+    pub fn cursor<'a>(&'a self, alloc: Global) -> Result<Cursor<'a>, NoMemory>
+        ensures whole { IfOk result (λ c. ⟦<Cursor<'a> as Source>⟧.whole c ≡ self.now.records) }
+        ensures at_start { IfOk result (λ c. ⟦<Cursor<'a> as Source>⟧.rest c ≡ ⟦<Cursor<'a> as Source>⟧.whole c) }
+        ensures short { OnOk result (HasShortParts self.now.records) }
     {
-        self.part.table_cursor()
+        self.part.table_cursor(alloc)
+    }
+
+    // The same, unpositioned: no record is read before a seek. It takes no memory.
+    pub(crate) fn unread_cursor<'a>(&'a self, alloc: Global) -> Cursor<'a>
+        ensures { ⟦<Cursor<'a> as Source>⟧.whole result ≡ self.now.records }
+    {
+        self.part.unread_cursor(alloc)
     }
 
     /// The size of the whole table, in bytes, as `SortedTable::size` of `tab_table` counts them.
@@ -158,4 +158,10 @@ impl TableClip {
     {
         self.part.is_empty()
     }
+}
+
+/// How much room to ask for, in bytes, where so many records of a run, of so many bytes, are put in blocks: each may take 16 more there.
+/// Only how often memory is taken hangs on it.
+pub(crate) fn room_in_blocks(bytes: usize, count: usize) -> usize {
+    bytes.saturating_add(count.saturating_mul(16))
 }

@@ -32,7 +32,7 @@ impl<'a> Lists<TabletSource<'a>> for &'a [Clips] {
     fn source_at(&mut self, alloc: Global, index: usize) -> Result<TabletSource<'a>, NoMemory> {
         let tablets: &'a [Clips] = *self;
         let tablet = &tablets[index];
-        if let Some(cursor) = tablet.only_cursor() {
+        if let Some(cursor) = tablet.only_cursor(alloc)? {
             return Ok(OneOf::First(cursor));
         }
         let cursors = tablet.cursors(alloc)?;
@@ -47,10 +47,10 @@ impl<'a> Lists<TabletSource<'a>> for &'a [Clips] {
     ) -> Result<TabletSource<'a>, NoMemory> {
         let tablets: &'a [Clips] = *self;
         let tablet = &tablets[index];
-        if let Some(cursor) = tablet.only_cursor() {
+        if let Some(cursor) = tablet.only_unread(alloc) {
             return Ok(OneOf::First(cursor));
         }
-        let cursors = tablet.cursors(alloc)?;
+        let cursors = tablet.unread_cursors(alloc)?;
         let source = Merging::unpositioned(cursors)?;
         Ok(OneOf::Second(source))
     }

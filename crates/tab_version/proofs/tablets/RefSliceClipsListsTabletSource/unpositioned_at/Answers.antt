@@ -9,4 +9,4 @@ pub unpositioned-requires : goal.unpositioned-requires
 unpositioned-requires c =
     let ts = c.args.self.now.now in
     let lt : c.args.index < length ts = omega (arith, c.requires.inside, length-map ts (λ (s : Sources). sorted (records_of s))) in
-    one_distinct ts c.args.index c.index-tablets-index.result _ lt c.requires.in_turn.rising c.index-tablets-index.is c.in_ok-cursors.ensures.whole
+    one_distinct ts c.args.index c.index-tablets-index.result _ lt c.requires.in_turn.rising c.index-tablets-index.is c.in_ok-cursors.ensures
