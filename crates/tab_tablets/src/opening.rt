@@ -34,16 +34,6 @@ impl Tablets {
         ensures err { OnErr result (self.new ≡ self.old) }
     {
         self.make_runs(alloc)?;
-        self.open_made(alloc, bounds)
-    }
-
-    // The same, where the runs of what was written are made: each is shared.
-    fn open_made(&mut self, alloc: Global, bounds: &Bounds) -> Result<Version, AllocError>
-        requires { LieApart self.old }
-        ensures ok { OnOk result (self.new ≡ map frozen self.old) }
-        ensures answers { IfOk result (λ v. ShowsRowsOf bounds.now (sorted (records_of_all self.old)) v) }
-        ensures err { OnErr result (self.new ≡ self.old) }
-    {
         if self.written.len() == 1 {
             let place = self.written[0];
             return self.open_one(alloc, bounds, place);
@@ -259,8 +249,8 @@ fn make_runs(
     Ok(())
 }
 
-/// What a scan of these rows reads of the tablet at a place. Where anything was written to it, a frozen one is made.
-pub(crate) fn clips_at(
+// What a scan of these rows reads of the tablet at a place. Where anything was written to it, a frozen one is made.
+fn clips_at(
     alloc: Global,
     tablet_list: &TabletList,
     bounds: &Bounds,
@@ -285,26 +275,7 @@ pub(crate) fn clips_at(
     Ok(clips)
 }
 
-// Makes a frozen tablet for this place.
-fn freeze_at(
-    alloc: Global,
-    tablet_list: &TabletList,
-    place: usize,
-    made: &mut Vec<MadeTablet>,
-) -> Result<(), AllocError>
-    requires { place < length tablet_list.now }
-    ensures more { OnOk result (MakesMore frozen tablet_list.now made.old.items made.new.items) }
-    ensures settled { OnOk result (IsSettled frozen tablet_list.now made.new.items place) }
-{
-    let frozen = tablet_list.tablet(place).frozen(alloc)?;
-    made.push(MadeTablet {
-        place,
-        tablet: frozen,
-    })?;
-    Ok(())
-}
-
-// The same, unless the place is from the one up to the other, where that was done before.
+// Makes a frozen tablet for this place, unless it lies from the one up to the other, where that was done before.
 fn freeze_outside(
     alloc: Global,
     tablet_list: &TabletList,
@@ -318,17 +289,19 @@ fn freeze_outside(
     ensures more { OnOk result (MakesMore frozen tablet_list.now made.old.items made.new.items) }
     ensures settled { OnOk result (IsSettled frozen tablet_list.now made.new.items place) }
 {
-    if place < from {
-        return freeze_at(alloc, tablet_list, place, made);
+    if from <= place && place < end {
+        return Ok(());
     }
-    if end <= place {
-        return freeze_at(alloc, tablet_list, place, made);
-    }
+    let frozen = tablet_list.tablet(place).frozen(alloc)?;
+    made.push(MadeTablet {
+        place,
+        tablet: frozen,
+    })?;
     Ok(())
 }
 
-/// Makes a frozen tablet for each of these places, but for those from the one up to the other, where that was done before.
-pub(crate) fn freeze_others(
+// Makes a frozen tablet for each of these places, but for those from the one up to the other, where that was done before.
+fn freeze_others(
     alloc: Global,
     tablet_list: &TabletList,
     places: &[usize],

@@ -2,7 +2,7 @@ use Rattle.std.proofs.Common.{◌≡◌, ◌≢◌, ◌∙◌, ◌<◌, List, []
 use Rattle.tab_tablet.specs.Tablets.{Tablet}
 use Rattle.tab_tablets.specs.Places.{tablet_at}
 use Rattle.tab_tablets.proofs.Kept.{only_one}
-use Rattle.tab_tablets.proofs.tablets.Tablets.open_made.Goals as goal
+use Rattle.tab_tablets.proofs.tablets.Tablets.open.Goals as goal
 
 pub open_one-requires-clause-inside : goal.open_one-requires-clause-inside
 open_one-requires-clause-inside c =
