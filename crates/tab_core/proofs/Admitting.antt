@@ -1,6 +1,6 @@
 -- What the policy decides of an act, and who is admitted.
 use Rattle.std.proofs.Common.{◌≡◌, inl, ℕ, List, [], Bool, true, false, cond, ◌||◌, refl, sym, ◌∙◌, ap, subst, Option, Some, None}
-use Rattle.std.specs.Prelude.{ℤ, bytes_eq, IfSome}
+use Rattle.std.specs.Prelude.{ℤ, bytes_eq, is_some, IfSome}
 use Rattle.tab_policy.specs.declared.decision.Denial.{Denial}
 use Rattle.tab_policy.specs.declared.decision.Denial.TheVariants as policy
 use Rattle.tab_policy.specs.declared.permission.Permission.{Permission}
@@ -15,11 +15,13 @@ use Rattle.tab_history.specs.declared.reply.Refusal.{Refusal}
 use Rattle.tab_history.specs.declared.reply.Reply.{Reply}
 use Rattle.tab_history.specs.declared.reply.Reply.TheVariants.{Refused}
 use Rattle.tab_history.specs.Bases.{Base}
-use Rattle.tab_history.specs.Readings.{has_user, has_system_right, has_table_right}
+use Rattle.tab_history.specs.Readings.{has_user, has_system_right, has_table_right, settings_of}
 use Rattle.tab_history.specs.Checks.{standing, exists_in, user_named, own_checks, action_of, denial, refusal_of}
 use Rattle.tab_history.specs.Answers.{told, are_used_up, numbered, granted, event_answer}
 use Rattle.tab_store.specs.Parts.{TabletMerge}
 use Rattle.tab_store.specs.Stores.{CoreContents, base_of}
+use Rattle.tab_store.specs.Tables.{TableState, settings_at, table_at}
+use Rattle.tab_store.proofs.Changed.{settings_read}
 use Rattle.tab_core.specs.Stepping.{Acts, own_answer, IsAdmitted, IsCore}
 use Rattle.tab_core.proofs.Acting.{given_refused}
 
@@ -83,3 +85,15 @@ unfolding standing
 is_admitted h user act named asked core asks e is =
     subst (λ (a : Act). IsAdmitted (base_of h) user a) is
     (admitted_parts (standing (base_of h) [] user).policy (action_of act) (none_denied user (decision (standing (base_of h) [] user).policy (action_of act)) (sym (decided h core user act) ∙ undenied h user act asked asks e)))
+
+-- whether there is a table of this name, as it is looked up
+pub there_alike : (h : CoreContents) (t : List ℕ) → is_some (settings_of (base_of h) [] t) ≡ is_some (table_at h.tables t)
+there_alike h t = ap is_some (settings_read h t) ∙ go (table_at h.tables t)
+  where
+    go : (o : Option TableState) → is_some (settings_at o) ≡ is_some o
+    go None = refl
+    go (Some s) = refl
+
+-- the table that an admitted act names is there
+pub admitted_there : (h : CoreContents) (user t : List ℕ) (a : Act) → table_named (action_of a) ≡ Some t → IsAdmitted (base_of h) user a → is_some (table_at h.tables t) ≡ true
+admitted_there h user t a names admitted = sym (there_alike h t) ∙ subst (λ (o : Option (List ℕ)). IfSome o (λ q. is_some (settings_of (base_of h) [] q) ≡ true)) names admitted.1

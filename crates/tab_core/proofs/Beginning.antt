@@ -1,5 +1,5 @@
 -- Compactions in parts: a merge that begins, and one that is installed.
-use Rattle.std.proofs.Common.{◌≡◌, inl, ℕ, List, [], true, refl, sym, ◌∙◌, ap, subst, length, Option, Some, None, Result, Ok, Err}
+use Rattle.std.proofs.Common.{◌≡◌, inl, ℕ, List, [], true, refl, sym, ◌∙◌, ap, subst, Option, Some, None, Result, Ok, Err}
 use Rattle.std.specs.Prelude.{ℤ, IfOk, OnOk, OnErr}
 use Rattle.tab_key.specs.Records.{Cell}
 use Rattle.tab_cells.specs.declared.compaction.Compaction.{Compaction}
@@ -21,10 +21,11 @@ use Rattle.tab_history.specs.Readings.{settings_of}
 use Rattle.std.specs.Option.{option_map}
 use Rattle.tab_store.specs.Stores.{TableContents, CoreContents, RiseByName, base_of, table_in, tablets_found}
 use Rattle.tab_store.specs.Stepping.{Beginning, Installing, On, lays, place_of, begun_by, told_job, told_install, laid_exactly, laid_told, job_by, handed, tablet_told, job_told}
-use Rattle.tab_store.specs.Tables.{TableState, with_tablets, table_at, changed_table, tablets_of, begun_in, state_of}
+use Rattle.tab_store.specs.Tables.{TableState, with_tablets, table_at, tablets_of, begun_in, state_of}
 use Rattle.tab_store.proofs.Changed.{tablets_read, settings_kept, begun_read, table_begun, table_installed, table_uninstalled}
 use Rattle.tab_core.specs.Stepping.{HandsOut, Acts, Becomes, changes_told, own_answer, IsCore}
 use Rattle.tab_core.proofs.Acting.{becomes_alike, knows_alike, lacked, given_lacked}
+use Rattle.tab_core.proofs.Lent.{Alters, Lent, alters, alters_none}
 
 -- ---- a merge that begins
 -- a table whose tablet of the row is where a merge begins
@@ -33,16 +34,18 @@ begun_at_table row kind now number s = with_tablets (begins_at row number kind (
 
 -- what a Begin leaves of these tables, and the merge that began
 pub record BeganSo (t row : List ℕ) (kind : Compaction) (now : ℤ) (number : ℕ) (ts new : List TableContents) (job : Option TabletMerge) : Type 0 where
-  pub names : RiseByName new
-  pub count : length new ≡ length ts
   pub began : job ≡ begun_in row number kind now (table_at ts t)
-  pub changed : (q : List ℕ) → table_at new q ≡ changed_table t (begun_at_table row kind now number) ts q
+  pub tables : Alters t (begun_at_table row kind now number) ts new
 
--- what a call that begins a merge ensures
-pub began_so : {E : Type 0} (t row : List ℕ) (kind : Compaction) (now : ℤ) (number : ℕ) (ts new : List TableContents) (made : Result (Option TabletMerge) E) → RiseByName new → length new ≡ length ts → IfOk made (λ j. j ≡ begun_in row number kind now (table_at ts t))
-    → OnOk made ((q : List ℕ) → table_at new q ≡ changed_table t (begun_at_table row kind now number) ts q) → IfOk made (BeganSo t row kind now number ts new)
-began_so t row kind now number ts new (Ok job) names count began changed = record { names = names; count = count; began = began; changed = changed }
-began_so t row kind now number ts new (Err e) names count began changed = tt
+-- what a call that begins a merge in a lent table ensures
+pub began_so : {E : Type 0} {t : List ℕ} {ts new : List TableContents} {was now : TableState} (row : List ℕ) (kind : Compaction) (m : ℤ) (number : ℕ) (made : Result (Option TabletMerge) E) → Lent t ts new was now → IfOk made (λ j. j ≡ begun_in row number kind m (Some was))
+    → OnOk made (now ≡ begun_at_table row kind m number was) → IfOk made (BeganSo t row kind m number ts new)
+began_so row kind m number (Ok job) lent began ok = record { began = began ∙ ap (begun_in row number kind m) (sym lent.had); tables = alters (begun_at_table row kind m number) lent ok }
+began_so row kind m number (Err e) lent began ok = tt
+
+-- where there is no such table
+pub began_none : (t row : List ℕ) (kind : Compaction) (m : ℤ) (number : ℕ) (ts new : List TableContents) → RiseByName ts → table_at ts t ≡ None → new ≡ ts → BeganSo t row kind m number ts new None
+began_none t row kind m number ts new names none same = record { began = ap (begun_in row number kind m) (sym none); tables = alters_none t (begun_at_table row kind m number) ts new names none same }
 
 -- a reply that tells whether a merge began hands out no session
 none_opened : (r : Reply OpenSession TabletMerge) (j : Option TabletMerge) (all : List Cell) → told_of r ≡ told_job j → HandsOut r all
@@ -75,24 +78,24 @@ module _ (h : CoreContents) (now : ℤ) (user t row : List ℕ) (kind : Compacti
   abbrev asks : Act
   asks = act.Begin t row kind
 
-  begin_done : (ts : List TableContents) (n : ℕ) (job : Option TabletMerge) (reply : Reply OpenSession TabletMerge) → BeganSo t row kind now h.job h.tables ts job → told_of reply ≡ told_job job → job_of reply ≡ job → n ≡ job_told (told_of reply) h.job
+  pub begin_done : (ts : List TableContents) (n : ℕ) (job : Option TabletMerge) (reply : Reply OpenSession TabletMerge) → BeganSo t row kind now h.job h.tables ts job → told_of reply ≡ told_job job → job_of reply ≡ job → n ≡ job_told (told_of reply) h.job
       → Acts (own_answer (base_of h) now user asks) h now None user asks reply (record h { tables = ts; job = n })
   unfolding lays
   begin_done ts n job reply after told is numbered =
       let new : CoreContents = record h { tables = ts; job = n } in
-      let settings : (q : List ℕ) → settings_of (base_of new) [] q ≡ settings_of (base_of h) [] q = settings_kept h new t (begun_at_table row kind now h.job) (λ x. refl) after.changed in
+      let settings : (q : List ℕ) → settings_of (base_of new) [] q ≡ settings_of (base_of h) [] q = settings_kept h new t (begun_at_table row kind now h.job) (λ x. refl) after.tables.changed in
       let none : changes_told now user asks (told_of reply) ≡ [] = ap (changes_told now user asks) told ∙ none_changed now user asks job refl in
       let began : job ≡ job_by h now (On t (Beginning row kind)) = after.began ∙ begun_read h now t Done row kind in
       record {
         exact = record {
           answers = inl (told ∙ ap told_job began);
           hands = is ∙ handed_so job ∙ (λ i. handed (sym told i) (began i));
-          tablets = λ q. table_begun h new t now Done row kind after.changed q ∙ laid_so h now asks job q ∙ ap (λ r. laid_told r h now None asks Done q) (sym told);
-          names = after.names;
+          tablets = λ q. table_begun h new t now Done row kind after.tables.changed q ∙ laid_so h now asks job q ∙ ap (λ r. laid_told r h now None asks Done q) (sym told);
+          names = after.tables.names;
           tablet = same_tablets job t row kind h.tablet ∙ ap (λ r. tablet_told r (On t (Beginning row kind)) h.tablet) (sym told);
           number = numbered;
         };
-        becomes = subst (λ j. Becomes (base_of h) j (base_of new)) (sym none) (becomes_alike h ts after.count settings);
+        becomes = subst (λ j. Becomes (base_of h) j (base_of new)) (sym none) (becomes_alike h ts after.tables.count settings);
         hands = none_opened reply job _ told;
         knows = knows_alike h ts core settings;
       }
@@ -109,16 +112,18 @@ module _ (h : CoreContents) (now : ℤ) (user t row : List ℕ) (kind : Compacti
 -- ---- a merge that is installed
 -- what an Install leaves of these tables, and how it ended
 pub record InstalledSo (t : List ℕ) (m : TabletMerge) (ts new : List TableContents) (ended : Installed) : Type 0 where
-  pub names : RiseByName new
-  pub count : length new ≡ length ts
   pub told_so : ended ≡ (installs_in m (tablets_of (table_at ts t))).0
-  pub changed : (q : List ℕ) → table_at new q ≡ changed_table t (with_tablets (λ us. (installs_in m us).1)) ts q
+  pub tables : Alters t (with_tablets (λ us. (installs_in m us).1)) ts new
 
--- what a call that installs ensures
-pub installed_so : {E : Type 0} (t : List ℕ) (m : TabletMerge) (ts new : List TableContents) (made : Result Installed E) → RiseByName new → length new ≡ length ts → IfOk made (λ s. s ≡ (installs_in m (tablets_of (table_at ts t))).0)
-    → OnOk made ((q : List ℕ) → table_at new q ≡ changed_table t (with_tablets (λ us. (installs_in m us).1)) ts q) → IfOk made (InstalledSo t m ts new)
-installed_so t m ts new (Ok s) names count told changed = record { names = names; count = count; told_so = told; changed = changed }
-installed_so t m ts new (Err e) names count told changed = tt
+-- what a call that installs in a lent table ensures
+pub installed_so : {E : Type 0} {t : List ℕ} {ts new : List TableContents} {was now : TableState} (m : TabletMerge) (made : Result Installed E) → Lent t ts new was now → IfOk made (λ s. s ≡ (installs_in m was.tablets).0)
+    → OnOk made (now ≡ with_tablets (λ us. (installs_in m us).1) was) → IfOk made (InstalledSo t m ts new)
+installed_so m (Ok s) lent told ok = record { told_so = told ∙ ap (λ o. (installs_in m (tablets_of o)).0) (sym lent.had); tables = alters (with_tablets (λ us. (installs_in m us).1)) lent ok }
+installed_so m (Err e) lent told ok = tt
+
+-- where there is no such table
+pub installed_none : (t : List ℕ) (m : TabletMerge) (ts new : List TableContents) → RiseByName ts → table_at ts t ≡ None → new ≡ ts → InstalledSo t m ts new (installed.Stale 0)
+installed_none t m ts new names none same = record { told_so = ap (λ o. (installs_in m (tablets_of o)).0) (sym none); tables = alters_none t (with_tablets (λ us. (installs_in m us).1)) ts new names none same }
 
 -- it hands out no session
 none_shown : (r : Reply OpenSession TabletMerge) (s : Installed) (all : List Cell) → told_of r ≡ told_install Done s → HandsOut r all
@@ -151,23 +156,23 @@ module _ (h : CoreContents) (now : ℤ) (user t : List ℕ) (m : TabletMerge) (c
   abbrev installing : Act
   installing = act.Install t (ByHand m.merge.number)
 
-  install_done : (ts : List TableContents) (s : Installed) (reply : Reply OpenSession TabletMerge) → InstalledSo t m h.tables ts s → told_of reply ≡ told_install Done s → job_of reply ≡ None
+  pub install_done : (ts : List TableContents) (s : Installed) (reply : Reply OpenSession TabletMerge) → InstalledSo t m h.tables ts s → told_of reply ≡ told_install Done s → job_of reply ≡ None
       → Acts (own_answer (base_of h) now user installing) h now (Some m) user installing reply (record h { tables = ts })
   unfolding lays
   install_done ts s reply after told is =
       let new : CoreContents = record h { tables = ts } in
-      let settings : (q : List ℕ) → settings_of (base_of new) [] q ≡ settings_of (base_of h) [] q = settings_kept h new t (with_tablets (λ us. (installs_in m us).1)) (λ x. refl) after.changed in
+      let settings : (q : List ℕ) → settings_of (base_of new) [] q ≡ settings_of (base_of h) [] q = settings_kept h new t (with_tablets (λ us. (installs_in m us).1)) (λ x. refl) after.tables.changed in
       let none : changes_told now user installing (told_of reply) ≡ [] = ap (changes_told now user installing) told ∙ none_read now user installing s refl in
       record {
         exact = record {
           answers = inl (told ∙ ap (told_install Done) (after.told_so ∙ ap (λ us. (installs_in m us).0) (sym (tablets_read h t))));
           hands = is ∙ never_handed s (job_by h now (On t (Installing (Some m)))) ∙ ap (λ r. handed r (job_by h now (On t (Installing (Some m))))) (sym told);
-          tablets = λ q. table_installed h new t now Done m after.changed q ∙ laid_as h now (Some m) installing s q ∙ ap (λ r. laid_told r h now (Some m) installing Done q) (sym told);
-          names = after.names;
+          tablets = λ q. table_installed h new t now Done m after.tables.changed q ∙ laid_as h now (Some m) installing s q ∙ ap (λ r. laid_told r h now (Some m) installing Done q) (sym told);
+          names = after.tables.names;
           tablet = none_numbered s t (Some m) h.tablet ∙ ap (λ r. tablet_told r (On t (Installing (Some m))) h.tablet) (sym told);
           number = same_jobs s h.job ∙ ap (λ r. job_told r h.job) (sym told);
         };
-        becomes = subst (λ j. Becomes (base_of h) j (base_of new)) (sym none) (becomes_alike h ts after.count settings);
+        becomes = subst (λ j. Becomes (base_of h) j (base_of new)) (sym none) (becomes_alike h ts after.tables.count settings);
         hands = none_shown reply s _ told;
         knows = knows_alike h ts core settings;
       }

@@ -1,5 +1,5 @@
 -- Compactions, and counts that are told.
-use Rattle.std.proofs.Common.{◌≡◌, inl, ℕ, List, [], true, refl, sym, ap, subst, length, map, Result, Ok, Err, None}
+use Rattle.std.proofs.Common.{◌≡◌, inl, ℕ, List, [], true, refl, sym, ap, subst, map, Result, Ok, Err, None}
 use Rattle.std.specs.Prelude.{ℤ, OnOk, OnErr}
 use Rattle.tab_cells.specs.declared.compaction.Compaction.{Compaction}
 use Rattle.tab_session.specs.OpenSession.{OpenSession}
@@ -14,12 +14,13 @@ use Rattle.tab_history.specs.Changes.{changes_of}
 use Rattle.tab_history.specs.Readings.{settings_of}
 use Rattle.tab_history.specs.Legal.{takes_memory}
 use Rattle.tab_store.specs.Parts.{TabletMerge}
-use Rattle.tab_store.specs.Stores.{TableContents, CoreContents, RiseByName, base_of, counts_of}
+use Rattle.tab_store.specs.Stores.{TableContents, CoreContents, base_of, counts_of}
 use Rattle.tab_store.specs.Stepping.{Compacting, On, work_of, lays}
-use Rattle.tab_store.specs.Tables.{TableState, with_tablets, table_at, changed_table, tablets_of}
+use Rattle.tab_store.specs.Tables.{TableState, with_tablets, table_at, tablets_of}
 use Rattle.tab_store.proofs.Changed.{tablets_read, settings_kept, table_compacted, table_counted}
 use Rattle.tab_core.specs.Stepping.{Acts, Becomes, own_answer, IsCore}
 use Rattle.tab_core.proofs.Acting.{becomes_alike, knows_alike, done_exactly, lacked}
+use Rattle.tab_core.proofs.Lent.{Alters}
 
 -- ---- compactions
 -- a table with its tablets compacted at this moment
@@ -27,13 +28,11 @@ abbrev pub compacted_at : Compaction → ℤ → TableState → TableState
 compacted_at kind now s = with_tablets (map (compacted kind (floor_of s.settings.time now s.settings.horizon) s.settings.versions)) s
 
 -- what a compaction leaves of these tables
-pub record Compacted (t : List ℕ) (kind : Compaction) (now : ℤ) (ts new : List TableContents) : Type 0 where
-  pub names : RiseByName new
-  pub count : length new ≡ length ts
-  pub changed : (q : List ℕ) → table_at new q ≡ changed_table t (compacted_at kind now) ts q
+abbrev pub Compacted : List ℕ → Compaction → ℤ → List TableContents → List TableContents → Type 0
+Compacted t kind now = Alters t (compacted_at kind now)
 
 -- an act that compacts and changes nothing that histories read
-compaction_done : (h : CoreContents) (ts : List TableContents) (now : ℤ) (user t : List ℕ) (a : Act) (kind : Compaction) → IsCore h → work_of None a ≡ On t (Compacting kind) → Done ≡ own_answer (base_of h) now user a → changes_of now user a ≡ [] → Compacted t kind now h.tables ts
+pub compaction_done : (h : CoreContents) (ts : List TableContents) (now : ℤ) (user t : List ℕ) (a : Act) (kind : Compaction) → IsCore h → work_of None a ≡ On t (Compacting kind) → Done ≡ own_answer (base_of h) now user a → changes_of now user a ≡ [] → Compacted t kind now h.tables ts
     → Acts (own_answer (base_of h) now user a) h now None user a Done (record h { tables = ts })
 unfolding lays
 compaction_done h ts now user t a kind core is passes none after =

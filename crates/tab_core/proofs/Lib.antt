@@ -8,6 +8,7 @@ pub mod Compacting
 pub mod Limits
 pub mod LabelLemmas
 pub mod Opening
+pub mod Lent
 pub mod KeptLemmas
 pub mod PlaceLemmas
 pub mod PolicyActs

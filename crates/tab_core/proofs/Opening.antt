@@ -1,5 +1,5 @@
 -- Sessions that are opened, and what a caller is told of his rights.
-use Rattle.std.proofs.Common.{◌≡◌, ◌⊎◌, inl, inr, ℕ, List, [], true, refl, sym, ◌∙◌, ap, subst, length, map, Option, Some, None, Result, Ok, Err}
+use Rattle.std.proofs.Common.{◌≡◌, ◌⊎◌, inl, inr, ℕ, List, [], true, refl, sym, ◌∙◌, ap, subst, map, Option, Some, None, Result, Ok, Err}
 use Rattle.std.specs.Prelude.{ℤ, IfOk, OnOk, OnErr}
 use Rattle.std.specs.Option.{option_map}
 use Rattle.tab_key.specs.Sorted.{sorted}
@@ -10,7 +10,6 @@ use Rattle.tab_policy.specs.declared.sets.SystemPermissions.{SystemPermissions}
 use Rattle.tab_policy.specs.declared.sets.TablePermissions.{TablePermissions}
 use Rattle.tab_policy.specs.Sets.{system_contains, table_contains}
 use Rattle.tab_policy.specs.State.{auths_of, has_system, table_granted}
-use Rattle.tab_cells.specs.Cells.{Query, cells}
 use Rattle.tab_session.specs.OpenSession.{OpenSession, opened}
 use Rattle.tab_store.specs.Tablets.{frozen}
 use Rattle.tab_history.specs.declared.event.Act.TheVariants as act
@@ -27,29 +26,15 @@ use Rattle.tab_history.proofs.RightsTold.{rights_are_told}
 use Rattle.tab_iter.proofs.ListLaws.{rises_none}
 use Rattle.tab_store.specs.ByRow.{records_of_all, LieApart}
 use Rattle.tab_store.specs.Parts.{TabletMerge}
-use Rattle.tab_store.specs.Stores.{TableContents, CoreContents, RiseByName, base_of, table_in}
+use Rattle.tab_store.specs.Stores.{TableContents, CoreContents, base_of, table_in}
 use Rattle.tab_store.specs.Stepping.{lays, told_exactly, laid_told}
-use Rattle.tab_store.specs.Tables.{TableState, with_tablets, state_of, table_at, changed_table, settings_at, tablets_of}
+use Rattle.tab_store.specs.Tables.{with_tablets, state_of, table_at, settings_at, tablets_of}
 use Rattle.tab_store.specs.Rightness.{IsStore}
 use Rattle.tab_store.proofs.Apart.{sound_tablets_lie_apart}
 use Rattle.tab_store.proofs.Changed.{records_read, settings_read, settings_kept, table_frozen}
-use Rattle.tab_core.specs.Holding.{versions_shown}
 use Rattle.tab_core.specs.Stepping.{Acts, ActsOnTables, own_answer, IsCore}
 use Rattle.tab_core.proofs.Acting.{becomes_alike, knows_alike, refused, lacked}
-
--- no records show no cells
-cells_of_none : (n : ℕ) (q : Query) → cells [] n q ≡ []
-unfolding cells
-cells_of_none n q = refl
-
--- what a scan shows of a table that may be missing
-pub cells_listed : (ts : List TableContents) (t : List ℕ) (q : Query)
-    → cells (sorted (records_of_all (tablets_of (table_at ts t)))) (versions_shown (settings_at (table_at ts t))) q ≡ listed (sorted (records_of_all (tablets_of (table_at ts t)))) q (settings_at (table_at ts t))
-cells_listed ts t q = go (table_at ts t)
-  where
-    go : (o : Option TableState) → cells (sorted (records_of_all (tablets_of o))) (versions_shown (settings_at o)) q ≡ listed (sorted (records_of_all (tablets_of o))) q (settings_at o)
-    go None = cells_of_none 0 q
-    go (Some s) = refl
+use Rattle.tab_core.proofs.Lent.{Alters}
 
 -- what one tablet of a table holds lies before what the next one holds
 pub tablets_apart : (h : CoreContents) → IsStore h → (q : List ℕ) → LieApart (tablets_of (table_at h.tables q))
@@ -77,10 +62,8 @@ abbrev pub session_in : List TableContents → Scan → OpenSession
 session_in ts scan = opened (listed (sorted (records_of_all (tablets_of (table_at ts scan.table)))) (query_of scan) (settings_at (table_at ts scan.table)))
 
 -- what a scan leaves of these tables
-pub record Froze (t : List ℕ) (ts new : List TableContents) : Type 0 where
-  pub names : RiseByName new
-  pub count : length new ≡ length ts
-  pub changed : (q : List ℕ) → table_at new q ≡ changed_table t (with_tablets (map frozen)) ts q
+abbrev pub Froze : List ℕ → List TableContents → List TableContents → Type 0
+Froze t = Alters t (with_tablets (map frozen))
 
 open_done : (h : CoreContents) (ts : List TableContents) (now : ℤ) (user : List ℕ) (scan : Scan) (auths : List (List ℕ)) (session : OpenSession) → IsCore h → auths_of h.policy user ≡ auths
     → (None ≡ first_some (scan_checks auths scan)) ⊎ (None ≡ Some NoMemory) → session ≡ session_in h.tables scan → Froze scan.table h.tables ts

@@ -1,5 +1,5 @@
 -- Splits of a table's tablets, and end rows that are told.
-use Rattle.std.proofs.Common.{◌≡◌, inl, ℕ, List, [], ◌∷◌, true, false, refl, sym, ◌∙◌, ap, subst, length, Option, None, Result, Ok, Err}
+use Rattle.std.proofs.Common.{◌≡◌, inl, ℕ, List, [], ◌∷◌, true, false, refl, sym, ◌∙◌, ap, subst, Option, None, Result, Ok, Err}
 use Rattle.std.specs.Prelude.{ℤ, IfOk, OnOk, OnErr}
 use Rattle.tab_key.specs.Records.{Cell}
 use Rattle.tab_key.specs.declared.limited_part.LimitedPart.TheVariants.{Row}
@@ -23,10 +23,11 @@ use Rattle.tab_history.specs.Legal.{takes_memory}
 use Rattle.tab_store.specs.Parts.{TabletMerge}
 use Rattle.tab_store.specs.Stores.{TableContents, CoreContents, RiseByName, base_of, tablets_in}
 use Rattle.tab_store.specs.Stepping.{TabletWork, TableWork, Splitting, Halving, On, work_of, lays, told_split, told_by, laid_by, told_exactly, laid_exactly, laid_told, job_by, handed, tablets_numbered, tablet_told, job_told}
-use Rattle.tab_store.specs.Tables.{with_tablets, table_at, changed_table, tablets_of}
+use Rattle.tab_store.specs.Tables.{TableState, with_tablets, table_at, changed_table, tablets_of}
 use Rattle.tab_store.proofs.Changed.{tablets_read, settings_kept, table_split, table_halved, table_listed}
 use Rattle.tab_core.specs.Stepping.{HandsOut, Acts, Becomes, changes_told, own_answer, IsCore}
 use Rattle.tab_core.proofs.Acting.{becomes_alike, knows_alike, own_refused, lacked}
+use Rattle.tab_core.proofs.Lent.{Alters, Lent, alters, alters_none}
 
 -- ---- what is told of a split
 -- it hands out no session
@@ -86,10 +87,8 @@ laid_so h now a split.Full q = refl
 -- ---- splits
 -- what an act that splits so leaves of these tables, and what became of the split
 pub record SplitSo (t : List ℕ) (f : List Tablet → Split × List Tablet) (ts new : List TableContents) (told : Split) : Type 0 where
-  pub names : RiseByName new
-  pub count : length new ≡ length ts
   pub told_so : told ≡ (f (tablets_of (table_at ts t))).0
-  pub changed : (q : List ℕ) → table_at new q ≡ changed_table t (with_tablets (λ us. (f us).1)) ts q
+  pub tables : Alters t (with_tablets (λ us. (f us).1)) ts new
 
 -- an act that splits so in this core
 pub record Splits (h : CoreContents) (a : Act) (t : List ℕ) (work : TabletWork) (f : List Tablet → Split × List Tablet) : Type 0 where
@@ -116,22 +115,22 @@ module _ (h : CoreContents) (now : ℤ) (user t : List ℕ) (a : Act) (work : Ta
   numbers_done : (reply : Reply OpenSession TabletMerge) (n : ℕ) → NumbersSplit reply h.tablet n → n ≡ tablet_told (told_of reply) (work_of None a) h.tablet
   numbers_done reply n numbered = numbered t [] ∙ numbered_alike (told_of reply) (On t (Splitting [])) (On t work) h.tablet (sym is.numbers) ∙ ap (λ w. tablet_told (told_of reply) w h.tablet) (sym is.works)
 
-  split_done : (ts : List TableContents) (n : ℕ) (s : Split) (reply : Reply OpenSession TabletMerge) → SplitSo t f h.tables ts s → told_of reply ≡ told_split Done s → NumbersSplit reply h.tablet n
+  pub split_done : (ts : List TableContents) (n : ℕ) (s : Split) (reply : Reply OpenSession TabletMerge) → SplitSo t f h.tables ts s → told_of reply ≡ told_split Done s → NumbersSplit reply h.tablet n
       → Acts (own_answer (base_of h) now user a) h now None user a reply (record h { tables = ts; tablet = n })
   split_done ts n s reply after told numbered =
       let new : CoreContents = record h { tables = ts; tablet = n } in
-      let settings : (q : List ℕ) → settings_of (base_of new) [] q ≡ settings_of (base_of h) [] q = settings_kept h new t (with_tablets (λ us. (f us).1)) (λ x. refl) after.changed in
+      let settings : (q : List ℕ) → settings_of (base_of new) [] q ≡ settings_of (base_of h) [] q = settings_kept h new t (with_tablets (λ us. (f us).1)) (λ x. refl) after.tables.changed in
       let none : changes_told now user a (told_of reply) ≡ [] = ap (changes_told now user a) told ∙ none_changed now user a s (is.changes now user) in
       record {
         exact = record {
           answers = inl (told ∙ ap (told_split Done) (after.told_so ∙ ap (λ us. (f us).0) (sym (tablets_read h t))) ∙ sym (is.tells now) ∙ ap (λ w. told_by h now w Done) (sym is.works) ∙ ap (told_exactly h now None a) passes);
           hands = none_begun reply s told ∙ never_handed s (job_by h now (work_of None a)) ∙ ap (λ r. handed r (job_by h now (work_of None a))) (sym told);
-          tablets = λ q. is.lies new now after.changed q ∙ ap (λ w. laid_by h now w Done q) (sym is.works) ∙ laid_so h now a s q ∙ ap (λ r. laid_told r h now None a Done q) (sym told) ∙ ap (λ p. laid_told (told_of reply) h now None a p q) passes;
-          names = after.names;
+          tablets = λ q. is.lies new now after.tables.changed q ∙ ap (λ w. laid_by h now w Done q) (sym is.works) ∙ laid_so h now a s q ∙ ap (λ r. laid_told r h now None a Done q) (sym told) ∙ ap (λ p. laid_told (told_of reply) h now None a p q) passes;
+          names = after.tables.names;
           tablet = numbers_done reply n numbered;
           number = same_jobs s h.job ∙ ap (λ r. job_told r h.job) (sym told);
         };
-        becomes = subst (λ j. Becomes (base_of h) j (base_of new)) (sym none) (becomes_alike h ts after.count settings);
+        becomes = subst (λ j. Becomes (base_of h) j (base_of new)) (sym none) (becomes_alike h ts after.tables.count settings);
         hands = none_handed reply s _ told;
         knows = knows_alike h ts core settings;
       }
@@ -145,11 +144,15 @@ module _ (h : CoreContents) (now : ℤ) (user t : List ℕ) (a : Act) (work : Ta
       subst (λ r. Acts (own_answer (base_of h) now user a) h now None user a r (record h { tables = ts; tablet = n })) (sym err)
       (subst (λ (new : CoreContents). Acts (own_answer (base_of h) now user a) h now None user a (Refused NoMemory) new) (λ i. record h { tables = sym same i; tablet = sym kept i }) (lacked (own_answer (base_of h) now user a) h now user a is.takes core))
 
--- what a call that splits so ensures
-pub split_so : {E : Type 0} (t : List ℕ) (f : List Tablet → Split × List Tablet) (ts new : List TableContents) (made : Result Split E) → RiseByName new → length new ≡ length ts → IfOk made (λ s. s ≡ (f (tablets_of (table_at ts t))).0)
-    → OnOk made ((q : List ℕ) → table_at new q ≡ changed_table t (with_tablets (λ us. (f us).1)) ts q) → IfOk made (SplitSo t f ts new)
-split_so t f ts new (Ok s) names count told changed = record { names = names; count = count; told_so = told; changed = changed }
-split_so t f ts new (Err e) names count told changed = tt
+-- what a call that splits a lent table so ensures
+pub split_so : {E : Type 0} {t : List ℕ} {ts new : List TableContents} {was now : TableState} (f : List Tablet → Split × List Tablet) (made : Result Split E) → Lent t ts new was now → IfOk made (λ s. s ≡ (f was.tablets).0)
+    → OnOk made (now ≡ with_tablets (λ us. (f us).1) was) → IfOk made (SplitSo t f ts new)
+split_so f (Ok s) lent told ok = record { told_so = told ∙ ap (λ o. (f (tablets_of o)).0) (sym lent.had); tables = alters (with_tablets (λ us. (f us).1)) lent ok }
+split_so f (Err e) lent told ok = tt
+
+-- where there is no such table
+pub split_none : (t : List ℕ) (f : List Tablet → Split × List Tablet) (ts new : List TableContents) (s : Split) → RiseByName ts → table_at ts t ≡ None → new ≡ ts → s ≡ (f []).0 → SplitSo t f ts new s
+split_none t f ts new s names none same is = record { told_so = is ∙ ap (λ o. (f (tablets_of o)).0) (sym none); tables = alters_none t (with_tablets (λ us. (f us).1)) ts new names none same }
 
 -- ---- the row
 -- it is too long

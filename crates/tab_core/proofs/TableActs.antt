@@ -24,19 +24,13 @@ use Rattle.tab_store.specs.declared.setting.Setting.TheVariants.{Constraints, Ve
 use Rattle.tab_store.specs.Stores.{TableContents, CoreContents, RiseByName, base_of}
 use Rattle.tab_store.specs.Stepping.{Aside, Making, Dropping, work_of}
 use Rattle.tab_store.specs.Tablets.{next_number as next_tablet}
-use Rattle.tab_store.specs.Tables.{TableState, made_table, with_setting, table_at, changed_table, settings_at}
+use Rattle.tab_store.specs.Tables.{TableState, made_table, with_setting, table_at, settings_at}
 use Rattle.tab_store.proofs.Changed.{read_so, settings_read, count_read, tablets_kept, settings_set, settings_made, settings_dropped}
 use Rattle.tab_store.proofs.Changed as changed
 use Rattle.tab_core.specs.Stepping.{Acts, Becomes, own_answer, IsAdmitted, IsCore}
 use Rattle.tab_core.proofs.Acting.{becomes, done_exactly, refused, own_refused}
-
--- whether there is a table of this name, as it is looked up
-there_alike : (h : CoreContents) (t : List ℕ) → is_some (settings_of (base_of h) [] t) ≡ is_some (table_at h.tables t)
-there_alike h t = ap is_some (settings_read h t) ∙ go (table_at h.tables t)
-  where
-    go : (o : Option TableState) → is_some (settings_at o) ≡ is_some o
-    go None = refl
-    go (Some s) = refl
+use Rattle.tab_core.proofs.Admitting.{there_alike, admitted_there}
+use Rattle.tab_core.proofs.Lent.{Alters}
 
 -- ---- a table set
 -- what it is set to doesn't say whether it is there
@@ -51,25 +45,25 @@ set_there x false o = refl
 
 -- the table t is set so, if it is there, and all others stay
 abbrev pub Sets : CoreContents → List TableContents → List ℕ → Setting → Type 0
-Sets h ts t x = (q : List ℕ) → table_at ts q ≡ changed_table t (with_setting x) h.tables q
+Sets h ts t x = Alters t (with_setting x) h.tables ts
 
 -- an act that passes its checks, and whose changes say the same
-set_done : (h : CoreContents) (ts : List TableContents) (now : ℤ) (user t : List ℕ) (a : Act) (x : Setting) → IsCore h → work_of None a ≡ Aside → own_answer (base_of h) now user a ≡ Done → Becomes (base_of h) (changes_of now user a) (base_of (record h { tables = ts })) → RiseByName ts → Sets h ts t x
+set_done : (h : CoreContents) (ts : List TableContents) (now : ℤ) (user t : List ℕ) (a : Act) (x : Setting) → IsCore h → work_of None a ≡ Aside → own_answer (base_of h) now user a ≡ Done → Becomes (base_of h) (changes_of now user a) (base_of (record h { tables = ts })) → Sets h ts t x
     → Acts (own_answer (base_of h) now user a) h now None user a Done (record h { tables = ts })
-set_done h ts now user t a x core aside passes becomes names sets =
+set_done h ts now user t a x core aside passes becomes sets =
     let new : CoreContents = record h { tables = ts } in
     record {
-      exact = done_exactly h new now a (own_answer (base_of h) now user a) Aside aside (sym passes) refl (tablets_kept h new t (with_setting x) (λ s. refl) sets) names refl refl;
+      exact = done_exactly h new now a (own_answer (base_of h) now user a) Aside aside (sym passes) refl (tablets_kept h new t (with_setting x) (λ s. refl) sets.changed) sets.names refl refl;
       becomes = becomes;
       hands = tt;
-      knows = λ q. core.knows q ∙ sym (ap is_some (settings_set h new t x sets q) ∙ set_there x (bytes_eq t q) (settings_of (base_of h) [] q));
+      knows = λ q. core.knows q ∙ sym (ap is_some (settings_set h new t x sets.changed q) ∙ set_there x (bytes_eq t q) (settings_of (base_of h) [] q));
     }
 
-pub constraints_set : (h : CoreContents) (ts : List TableContents) (now : ℤ) (user t : List ℕ) (cs : List Constraint) → IsCore h → RiseByName ts → length ts ≡ length h.tables → Sets h ts t (Constraints cs)
+pub constraints_set : (h : CoreContents) (ts : List TableContents) (now : ℤ) (user t : List ℕ) (cs : List Constraint) → IsCore h → Sets h ts t (Constraints cs)
     → Acts (own_answer (base_of h) now user (act.SetConstraints t cs)) h now None user (act.SetConstraints t cs) Done (record h { tables = ts })
 unfolding readings next_number has_user user_count held_auths has_system_right has_table_right table_count settings_of
-constraints_set h ts now user t cs core names count sets = set_done h ts now user t (act.SetConstraints t cs) (Constraints cs) core refl refl
-    (becomes h h.next h.policy ts (changes_of now user (act.SetConstraints t cs)) (table_exists h.policy) refl refl (count ∙ sym (count_read h)) (settings_set h (record h { tables = ts }) t (Constraints cs) sets)) names sets
+constraints_set h ts now user t cs core sets = set_done h ts now user t (act.SetConstraints t cs) (Constraints cs) core refl refl
+    (becomes h h.next h.policy ts (changes_of now user (act.SetConstraints t cs)) (table_exists h.policy) refl refl (sets.count ∙ sym (count_read h)) (settings_set h (record h { tables = ts }) t (Constraints cs) sets.changed)) sets
 
 -- ---- the number of versions
 pub versions_refused : (h : CoreContents) (now : ℤ) (user t : List ℕ) (many : ℕ) (r : Refusal) → IsCore h → first_some (version_checks (settings_at (table_at h.tables t)) many) ≡ Some r
@@ -81,11 +75,11 @@ versions_pass : (h : CoreContents) (now : ℤ) (user t : List ℕ) (many : ℕ) 
 unfolding standing
 versions_pass h now user t many e = ap (λ o. told o Done) (ap (λ o. first_some (version_checks o many)) (settings_read h t) ∙ e)
 
-pub versions_set : (h : CoreContents) (ts : List TableContents) (now : ℤ) (user t : List ℕ) (many : ℕ) → IsCore h → first_some (version_checks (settings_at (table_at h.tables t)) many) ≡ None → RiseByName ts → length ts ≡ length h.tables → Sets h ts t (Versions many)
+pub versions_set : (h : CoreContents) (ts : List TableContents) (now : ℤ) (user t : List ℕ) (many : ℕ) → IsCore h → first_some (version_checks (settings_at (table_at h.tables t)) many) ≡ None → Sets h ts t (Versions many)
     → Acts (own_answer (base_of h) now user (act.SetVersions t many)) h now None user (act.SetVersions t many) Done (record h { tables = ts })
 unfolding readings next_number has_user user_count held_auths has_system_right has_table_right table_count settings_of
-versions_set h ts now user t many core passes names count sets = set_done h ts now user t (act.SetVersions t many) (Versions many) core refl (versions_pass h now user t many passes)
-    (becomes h h.next h.policy ts (changes_of now user (act.SetVersions t many)) (table_exists h.policy) refl refl (count ∙ sym (count_read h)) (settings_set h (record h { tables = ts }) t (Versions many) sets)) names sets
+versions_set h ts now user t many core passes sets = set_done h ts now user t (act.SetVersions t many) (Versions many) core refl (versions_pass h now user t many passes)
+    (becomes h h.next h.policy ts (changes_of now user (act.SetVersions t many)) (table_exists h.policy) refl refl (sets.count ∙ sym (count_read h)) (settings_set h (record h { tables = ts }) t (Versions many) sets.changed)) sets
 
 -- ---- the horizon
 pub horizon_refused : (h : CoreContents) (now : ℤ) (user t : List ℕ) (low : ℤ) (r : Refusal) → IsCore h → first_some (horizon_checks (settings_at (table_at h.tables t)) low) ≡ Some r
@@ -97,11 +91,11 @@ horizon_passes : (h : CoreContents) (now : ℤ) (user t : List ℕ) (low : ℤ) 
 unfolding standing
 horizon_passes h now user t low e = ap (λ o. told o Done) (ap (λ o. first_some (horizon_checks o low)) (settings_read h t) ∙ e)
 
-pub horizon_set : (h : CoreContents) (ts : List TableContents) (now : ℤ) (user t : List ℕ) (low : ℤ) → IsCore h → first_some (horizon_checks (settings_at (table_at h.tables t)) low) ≡ None → RiseByName ts → length ts ≡ length h.tables → Sets h ts t (Horizon low)
+pub horizon_set : (h : CoreContents) (ts : List TableContents) (now : ℤ) (user t : List ℕ) (low : ℤ) → IsCore h → first_some (horizon_checks (settings_at (table_at h.tables t)) low) ≡ None → Sets h ts t (Horizon low)
     → Acts (own_answer (base_of h) now user (act.SetHorizon t low)) h now None user (act.SetHorizon t low) Done (record h { tables = ts })
 unfolding readings next_number has_user user_count held_auths has_system_right has_table_right table_count settings_of
-horizon_set h ts now user t low core passes names count sets = set_done h ts now user t (act.SetHorizon t low) (Horizon low) core refl (horizon_passes h now user t low passes)
-    (becomes h h.next h.policy ts (changes_of now user (act.SetHorizon t low)) (table_exists h.policy) refl refl (count ∙ sym (count_read h)) (settings_set h (record h { tables = ts }) t (Horizon low) sets)) names sets
+horizon_set h ts now user t low core passes sets = set_done h ts now user t (act.SetHorizon t low) (Horizon low) core refl (horizon_passes h now user t low passes)
+    (becomes h h.next h.policy ts (changes_of now user (act.SetHorizon t low)) (table_exists h.policy) refl refl (sets.count ∙ sym (count_read h)) (settings_set h (record h { tables = ts }) t (Horizon low) sets.changed)) sets
 
 -- ---- a table made
 pub table_exists_already : (h : CoreContents) (now : ℤ) (user t : List ℕ) (time : TimeMode) (v : ℕ) → IsCore h → is_some (table_at h.tables t) ≡ true
@@ -181,10 +175,6 @@ table_made h p ts now user t time v core absent room names count made read =
     go false o = refl
 
 -- ---- a table dropped
--- the table that an admitted drop names is there
-dropped_is : (h : CoreContents) (user t : List ℕ) → IsAdmitted (base_of h) user (act.DropTable t) → is_some (table_at h.tables t) ≡ true
-dropped_is h user t admitted = sym (there_alike h t) ∙ admitted.1
-
 pub table_dropped : (h : CoreContents) (p : State) (ts : List TableContents) (now : ℤ) (user t : List ℕ) → IsCore h → IsAdmitted (base_of h) user (act.DropTable t) → RiseByName ts
     → length ts ≡ cond (is_some (table_at h.tables t)) (length h.tables - 1) (length h.tables) → ((q : List ℕ) → table_at ts q ≡ cond (bytes_eq t q) None (table_at h.tables q))
     → readings p ≡ record (readings h.policy) {
@@ -199,7 +189,7 @@ table_dropped h p ts now user t core admitted names count dropped read =
     record {
       exact = done_exactly h new now (act.DropTable t) Done (Dropping t) refl refl refl (changed.table_dropped h new t now Done dropped) names refl refl;
       becomes = becomes h h.next p ts (changes_of now user (act.DropTable t)) (λ s. cond (bytes_eq t s) false (table_exists h.policy s)) refl read
-          (count ∙ ap (λ x. cond x (length h.tables - 1) (length h.tables)) (dropped_is h user t admitted) ∙ ap (λ n. n - 1) (sym (count_read h))) settings;
+          (count ∙ ap (λ x. cond x (length h.tables - 1) (length h.tables)) (admitted_there h user t (act.DropTable t) refl admitted) ∙ ap (λ n. n - 1) (sym (count_read h))) settings;
       hands = tt;
       knows = λ q. ap (λ (r : Readings). r.tables q) read ∙ ap (λ k. cond (bytes_eq t q) false k) (core.knows q) ∙ sym (ap is_some (settings q) ∙ go (bytes_eq t q) (settings_of (base_of h) [] q));
     }

@@ -1,6 +1,6 @@
 -- A mutation written, or refused.
-use Rattle.std.proofs.Common.{◌≡◌, ◌⊎◌, inl, inr, ℕ, ◌+◌, length, List, [], ◌∷◌, ◌++◌, Bool, true, false, refl, Option, sym, ◌∙◌, ap, subst, Some, None}
-use Rattle.std.specs.Prelude.{ℤ, nat_le, is_some}
+use Rattle.std.proofs.Common.{◌≡◌, ◌⊎◌, inl, inr, ℕ, ◌+◌, List, [], ◌∷◌, ◌++◌, Bool, true, false, refl, Option, sym, ◌∙◌, ap, subst, Some, None}
+use Rattle.std.specs.Prelude.{ℤ, nat_le}
 use Rattle.tab_key.specs.declared.limited_part.LimitedPart.TheVariants.{Numbers}
 use Rattle.tab_mutation.specs.Mutations.{Mutation}
 use Rattle.tab_mutation.specs.Shape.{first_some, when}
@@ -16,12 +16,13 @@ use Rattle.tab_history.specs.Readings.{has_user, user_count, held_auths, has_sys
 use Rattle.tab_history.specs.Checks.{standing, mutation_checks}
 use Rattle.tab_history.specs.Answers.{Told, told, numbered}
 use Rattle.tab_store.specs.ByRow.{at_row}
-use Rattle.tab_store.specs.Stores.{TableContents, CoreContents, RiseByName, base_of}
+use Rattle.tab_store.specs.Stores.{TableContents, CoreContents, base_of}
 use Rattle.tab_store.specs.Stepping.{Writing, On, lays}
-use Rattle.tab_store.specs.Tables.{TableState, with_tablets, table_at, changed_table, settings_at}
+use Rattle.tab_store.specs.Tables.{TableState, with_tablets, table_at, settings_at}
 use Rattle.tab_store.proofs.Changed.{settings_read, count_read, settings_kept, table_written}
-use Rattle.tab_core.specs.Stepping.{Acts, ActsOnTables, own_answer, IsAdmitted, IsCore, write_checks}
+use Rattle.tab_core.specs.Stepping.{Acts, ActsOnTables, own_answer, IsCore, write_checks}
 use Rattle.tab_core.proofs.Acting.{becomes, knows_alike, done_exactly, refused}
+use Rattle.tab_core.proofs.Lent.{Alters}
 
 -- the check that stands last
 last_check : (os : List (Option Refusal)) (used_up : Bool) (reply : Told) → told (first_some os) (numbered used_up reply) ≡ told (first_some (os ++ when used_up (TooLarge Numbers) ∷ [])) reply
@@ -29,14 +30,6 @@ last_check [] true reply = refl
 last_check [] false reply = refl
 last_check (None ∷ os) used_up reply = last_check os used_up reply
 last_check (Some r ∷ os) used_up reply = refl
-
--- the table that an admitted write names is there
-pub table_there : (h : CoreContents) (user t : List ℕ) (m : Mutation) → IsAdmitted (base_of h) user (act.Write t m) → is_some (table_at h.tables t) ≡ true
-table_there h user t m admitted = go (table_at h.tables t) (sym (ap is_some (settings_read h t)) ∙ admitted.1)
-  where
-    go : (o : Option TableState) → is_some (settings_at o) ≡ true → is_some o ≡ true
-    go None e = e
-    go (Some s) e = refl
 
 -- ---- the answer
 own_write : (h : CoreContents) (now : ℤ) (user t : List ℕ) (m : Mutation) (auths : List (List ℕ)) → auths_of h.policy user ≡ auths
@@ -48,6 +41,11 @@ own_write h now user t m auths held =
 -- the first check that fails, or want of memory
 abbrev pub Checks : List (List ℕ) → ℤ → List ℕ → Mutation → List TableContents → ℕ → Option Refusal → Type 0
 Checks auths now t m ts nx o = (o ≡ first_some (write_checks (settings_at (table_at ts t)) auths now m nx)) ⊎ (o ≡ Some NoMemory)
+
+-- what was found of the table that is there
+pub checked : (auths : List (List ℕ)) (now : ℤ) (t : List ℕ) (m : Mutation) (ts : List TableContents) (nx : ℕ) (o : Option Refusal) (s : TableState) → table_at ts t ≡ Some s
+    → (o ≡ first_some (write_checks (Some s.settings) auths now m nx)) ⊎ (o ≡ Some NoMemory) → Checks auths now t m ts nx o
+checked auths now t m ts nx o s had = subst (λ (x : Option TableState). (o ≡ first_some (write_checks (settings_at x) auths now m nx)) ⊎ (o ≡ Some NoMemory)) (sym had)
 
 write_refused : (h : CoreContents) (now : ℤ) (user t : List ℕ) (m : Mutation) (auths : List (List ℕ)) (r : Refusal) → IsCore h → auths_of h.policy user ≡ auths → Checks auths now t m h.tables h.next (Some r)
     → Acts (own_answer (base_of h) now user (act.Write t m)) h now None user (act.Write t m) (Refused r) h
@@ -62,10 +60,8 @@ abbrev pub written_at : Mutation → ℤ → ℕ → TableState → TableState
 written_at m now next = with_tablets (at_row m.row (λ x. written (mutation_records next now m) x ∷ []))
 
 -- what a write leaves of these tables
-pub record Wrote (t : List ℕ) (m : Mutation) (now : ℤ) (next : ℕ) (ts new : List TableContents) : Type 0 where
-  pub names : RiseByName new
-  pub count : length new ≡ length ts
-  pub changed : (q : List ℕ) → table_at new q ≡ changed_table t (written_at m now next) ts q
+abbrev pub Wrote : List ℕ → Mutation → ℤ → ℕ → List TableContents → List TableContents → Type 0
+Wrote t m now next = Alters t (written_at m now next)
 
 write_done : (h : CoreContents) (ts : List TableContents) (now : ℤ) (user t : List ℕ) (m : Mutation) (auths : List (List ℕ)) → IsCore h → auths_of h.policy user ≡ auths → Checks auths now t m h.tables h.next None → Wrote t m now h.next h.tables ts
     → Acts (own_answer (base_of h) now user (act.Write t m)) h now None user (act.Write t m) Done (record h { next = h.next + 1; tables = ts })

@@ -82,7 +82,9 @@ impl Store {
         ensures left { Act.SetConstraints table.now constraints.new ≡ left_of (Act.SetConstraints table.now constraints.old) (told_of result) }
     {
         let given = mem::replace(constraints, ConstraintSet::none());
-        self.tables.set(table, Setting::Constraints(given));
+        if let Some(table) = self.tables.get_mut(table) {
+            table.set(Setting::Constraints(given));
+        }
         Reply::Done
     }
 
@@ -97,10 +99,13 @@ impl Store {
         requires { IsCore (held self.old) }
         ensures { Does self.old now user.now (Act.SetVersions table.now versions) result self.new }
     {
-        if let Some(refusal) = versions_refusal(&self.tables, table, versions) {
+        let Some(table) = self.tables.get_mut(table) else {
+            return Reply::Done;
+        };
+        if let Some(refusal) = versions_refusal(table, versions) {
             return Reply::Refused(refusal);
         }
-        self.tables.set(table, Setting::Versions(versions));
+        table.set(Setting::Versions(versions));
         Reply::Done
     }
 
@@ -115,10 +120,13 @@ impl Store {
         requires { IsCore (held self.old) }
         ensures { Does self.old now user.now (Act.SetHorizon table.now horizon) result self.new }
     {
-        if let Some(refusal) = horizon_refusal(&self.tables, table, horizon) {
+        let Some(table) = self.tables.get_mut(table) else {
+            return Reply::Done;
+        };
+        if let Some(refusal) = horizon_refusal(table, horizon) {
             return Reply::Refused(refusal);
         }
-        self.tables.set(table, Setting::Horizon(horizon));
+        table.set(Setting::Horizon(horizon));
         Reply::Done
     }
 

@@ -2,7 +2,6 @@
 ghost use Rattle.std.specs.Prelude.{◌≡◌, ◌<◌, ◌≤◌, ◌⊎◌, ◌^◌, ℕ, Some, None, true, false, length, IsSome};
 ghost use Rattle.tab_mutation.specs.Shape.{first_some, shape_error};
 ghost use Rattle.tab_history.specs.Checks.{stamped, outdated, violated, mutation_checks, scan_checks, too_many_auths, shape_refusal, right_checks, version_checks, horizon_checks, many_checks, has_bad_range};
-ghost use Rattle.tab_store.specs.Tables.{table_at, settings_at};
 
 use crate::labels::malformed;
 use std::alloc::{AllocError, Global};
@@ -15,7 +14,7 @@ use tab_label::{AuthSet, KnownLabels};
 use tab_mutation::{Mutation, ShapeError};
 use tab_policy::{Permission, SystemPermission, is_root};
 use tab_rules::{Violation, check};
-use tab_store::{Table, Tables};
+use tab_store::Table;
 
 fn shape_refusal(error: ShapeError) -> Refusal
     ensures { result ≡ shape_refusal error }
@@ -99,13 +98,10 @@ pub fn mutation_refusal(
     }
 }
 
-/// Why the table, if it is there, isn't set to show so many versions.
-pub fn versions_refusal(tables: &Tables, name: &Name, versions: Versions) -> Option<Refusal>
-    ensures { result ≡ first_some (version_checks (settings_at (table_at tables.now name.now)) versions) }
+/// Why the table isn't set to show so many versions.
+pub fn versions_refusal(table: &Table, versions: Versions) -> Option<Refusal>
+    ensures { result ≡ first_some (version_checks (Some table.now.settings) versions) }
 {
-    let Some(table) = tables.get(name) else {
-        return None;
-    };
     let shown = table.versions().get();
     if versions.get() > shown {
         return Some(Refusal::VersionsRaised(shown));
@@ -113,13 +109,10 @@ pub fn versions_refusal(tables: &Tables, name: &Name, versions: Versions) -> Opt
     None
 }
 
-/// Why the table, if it is there, isn't set to this horizon.
-pub fn horizon_refusal(tables: &Tables, name: &Name, horizon: i64) -> Option<Refusal>
-    ensures { result ≡ first_some (horizon_checks (settings_at (table_at tables.now name.now)) horizon) }
+/// Why the table isn't set to this horizon.
+pub fn horizon_refusal(table: &Table, horizon: i64) -> Option<Refusal>
+    ensures { result ≡ first_some (horizon_checks (Some table.now.settings) horizon) }
 {
-    let Some(table) = tables.get(name) else {
-        return None;
-    };
     if table.time() == TimeMode::Server {
         return Some(Refusal::ServerTime);
     }

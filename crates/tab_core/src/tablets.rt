@@ -1,7 +1,7 @@
 //! Compactions, splits and jobs of a table's tablets, and what is told of them.
-ghost use Rattle.std.specs.Prelude.{◌≡◌, OnErr, OnOk, IfOk, [], Some, None};
+ghost use Rattle.std.specs.Prelude.{◌≡◌, ℕ, List, OnErr, OnOk, IfOk, [], Some, None};
 ghost use Rattle.tab_store.specs.Stores.{counts_of, base_of};
-ghost use Rattle.tab_store.specs.Stepping.{kind_of, told_split, told_job, told_install};
+ghost use Rattle.tab_store.specs.Stepping.{On, Splitting, kind_of, told_split, told_job, told_install, tablet_told, job_told};
 ghost use Rattle.tab_store.specs.Tables.{table_at, tablets_of};
 ghost use Rattle.tab_core.specs.Holding.{held};
 ghost use Rattle.tab_core.specs.Stepping.{Does, IsCore, Acts, Installs};
@@ -9,7 +9,7 @@ ghost use Rattle.tab_mutation.specs.Shape.{is_too_long};
 ghost use Rattle.tab_store.specs.ByRow.{ends_of};
 ghost use Rattle.tab_history.specs.Answers.{told_of, job_of, event_answer};
 
-use crate::numbering::{number_job, number_split};
+use crate::numbering::next_number;
 use crate::policing::refusal_of;
 use crate::reply::Answer;
 use crate::store::Store;
@@ -35,7 +35,10 @@ impl Store {
         requires { IsCore (held self.old) }
         ensures { Does self.old now user.now (Act.Flush table.now) result self.new }
     {
-        compacted(self.tables.compact(alloc, table, Compaction::Minor, now))
+        match self.tables.get_mut(table) {
+            Some(table) => compacted(table.compact(alloc, Compaction::Minor, now)),
+            None => Reply::Done,
+        }
     }
 
     // The sorted tables of a table that the extent names, merged in each of its tablets.
@@ -50,7 +53,10 @@ impl Store {
         requires { IsCore (held self.old) }
         ensures { Does self.old now user.now (Act.Compact table.now extent) result self.new }
     {
-        compacted(self.tables.compact(alloc, table, kind_of(extent), now))
+        match self.tables.get_mut(table) {
+            Some(table) => compacted(table.compact(alloc, kind_of(extent), now)),
+            None => Reply::Done,
+        }
     }
 }
 
@@ -105,13 +111,14 @@ impl Store {
         if is_too_long(row) {
             return Reply::Refused(Refusal::TooLarge(LimitedPart::Row));
         }
+        let Some(table) = self.tables.get_mut(table) else {
+            return told_split(Split::Done, &mut self.tablet);
+        };
         let end = match row.clone() {
             Ok(end) => end,
             Err(AllocError) => return Reply::Refused(Refusal::NoMemory),
         };
-        let told = split_reply(self.tables.split(alloc, table, end, self.tablet));
-        number_split(&mut self.tablet, &told);
-        told
+        split_reply(table.split(alloc, end, self.tablet), &mut self.tablet)
     }
 
     // A table's tablet that holds this row split in the middle of what it holds, where its sorted tables come to the limit, in bytes.
@@ -130,13 +137,11 @@ impl Store {
         if is_too_long(row) {
             return Reply::Refused(Refusal::TooLarge(LimitedPart::Row));
         }
-        let number = self.tablet;
-        let told = split_reply(
-            self.tables
-                .halve(alloc, table, row.as_bytes(), limit, number),
-        );
-        number_split(&mut self.tablet, &told);
-        told
+        let Some(table) = self.tables.get_mut(table) else {
+            return Reply::Refused(Refusal::BadSplit(SplitFault::OneRow));
+        };
+        let made = table.halve(alloc, row.as_bytes(), limit, self.tablet);
+        split_reply(made, &mut self.tablet)
     }
 
     // The rows at which a table is split.
@@ -168,23 +173,28 @@ fn ends_in(alloc: Global, tables: &Tables, name: &Name) -> Result<Items<ByteStri
     }
 }
 
-// What is told of a split, whether there was memory for it or not.
-fn split_reply(made: Result<Split, AllocError>) -> Answer
+// What is told of a split, whether there was memory for it or not. Its two tablets are numbered, if it is done.
+fn split_reply(made: Result<Split, AllocError>, tablet: &mut u64) -> Answer
     ensures ok { IfOk made (λ split. told_of result ≡ told_split Reply.Done split) }
     ensures err { OnErr made (result ≡ Reply.Refused Refusal.NoMemory) }
+    ensures numbers { (t row : List ℕ) → tablet.new ≡ tablet_told (told_of result) (On t (Splitting row)) tablet.old }
 {
     match made {
-        Ok(split) => told_split(split),
+        Ok(split) => told_split(split, tablet),
         Err(AllocError) => Reply::Refused(Refusal::NoMemory),
     }
 }
 
-// What is told of what became of a split.
-fn told_split(split: Split) -> Answer
-    ensures { told_of result ≡ told_split Reply.Done split }
+// What is told of what became of a split. Its two tablets are numbered, if it is done.
+fn told_split(split: Split, tablet: &mut u64) -> Answer
+    ensures told { told_of result ≡ told_split Reply.Done split }
+    ensures numbers { (t row : List ℕ) → tablet.new ≡ tablet_told (told_of result) (On t (Splitting row)) tablet.old }
 {
     match split {
-        Split::Done => Reply::Done,
+        Split::Done => {
+            *tablet = next_number(next_number(*tablet));
+            Reply::Done
+        }
         Split::Present => Reply::Refused(Refusal::BadSplit(SplitFault::Present)),
         Split::Small => Reply::Refused(Refusal::BadSplit(SplitFault::Small)),
         Split::OneRow => Reply::Refused(Refusal::BadSplit(SplitFault::OneRow)),
@@ -206,13 +216,14 @@ impl Store {
         requires { IsCore (held self.old) }
         ensures { Does self.old now user.now (Act.Begin table.now row.now kind) result self.new }
     {
+        let Some(table) = self.tables.get_mut(table) else {
+            return Reply::Nothing;
+        };
         let kept = match row.clone() {
             Ok(kept) => kept,
             Err(AllocError) => return Reply::Refused(Refusal::NoMemory),
         };
-        let told = begun_reply(self.tables.begin(alloc, table, kept, kind, now, self.job));
-        number_job(&mut self.job, &told);
-        told
+        begun_reply(table.begin(alloc, kept, kind, now, self.job), &mut self.job)
     }
 
     // Answers the user's Install of a merge that came, and does what the answer says; the clock is set afterwards.
@@ -246,7 +257,10 @@ impl Store {
         requires { IsCore (held self.old) }
         ensures { Installs self.old now user.now table.now finished result self.new }
     {
-        install_reply(self.tables.install(alloc, table, finished))
+        match self.tables.get_mut(table) {
+            Some(table) => install_reply(table.install(alloc, finished)),
+            None => Reply::Refused(Refusal::Stale(0)),
+        }
     }
 
     // What is told of an Install that came without its merge, if no check refuses it. It takes no memory.
@@ -258,14 +272,18 @@ impl Store {
     }
 }
 
-// What is told of a merge that began, with its job, whether there was memory for it or not.
-fn begun_reply(begun: Result<Option<TabletJob>, NoMemory>) -> Answer
+// What is told of a merge that began, with its job, whether there was memory for it or not. The job is numbered, if it is there.
+fn begun_reply(begun: Result<Option<TabletJob>, NoMemory>, number: &mut u64) -> Answer
     ensures told { IfOk begun (λ job. told_of result ≡ told_job job) }
     ensures hands { IfOk begun (λ job. job_of result ≡ job) }
     ensures err { OnErr begun (result ≡ Reply.Refused Refusal.NoMemory) }
+    ensures numbers { number.new ≡ job_told (told_of result) number.old }
 {
     match begun {
-        Ok(Some(job)) => Reply::Begun(job),
+        Ok(Some(job)) => {
+            *number = next_number(*number);
+            Reply::Begun(job)
+        }
         Ok(None) => Reply::Nothing,
         Err(AllocError) => Reply::Refused(Refusal::NoMemory),
     }

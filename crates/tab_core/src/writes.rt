@@ -3,7 +3,7 @@ ghost use Rattle.std.specs.Prelude.{◌≡◌, ◌<◌, ◌⊎◌, Some, None, t
 ghost use Rattle.tab_key.specs.Records.{Record};
 ghost use Rattle.tab_mutation.specs.Shape.{first_some, shape_error};
 ghost use Rattle.tab_store.specs.ByRow.{records_of_all};
-ghost use Rattle.tab_store.specs.Tables.{table_at, settings_at, tablets_of};
+ghost use Rattle.tab_store.specs.Tables.{table_at, tablets_of};
 ghost use Rattle.tab_core.specs.Stepping.{ActsOnTables, write_checks};
 
 use crate::checking::mutation_refusal;
@@ -13,7 +13,7 @@ use tab_history::{Act, Refusal, Reply};
 use tab_key::{LimitedPart, Name};
 use tab_label::{AuthSet, KnownLabels};
 use tab_mutation::Mutation;
-use tab_store::Tables;
+use tab_store::{Table, Tables};
 
 /// All updates of a mutation, or none, by a caller with these authorizations. The number is the one that the write gets.
 pub fn write(
@@ -30,20 +30,14 @@ pub fn write(
     requires unused { (u : Record) → Contains (records_of_all (tablets_of (table_at tables.old table.now))) u → u.seq < next.old }
     ensures { ActsOnTables authorizations.now now (Act.Write table.now mutation.now) tables.old next.old result tables.new next.new }
 {
-    let refusal = write_refusal(
-        alloc,
-        tables,
-        table,
-        authorizations,
-        known,
-        *next,
-        now,
-        mutation,
-    );
+    let Some(table) = tables.get_mut(table) else {
+        return Reply::Refused(Refusal::NoTable(*table));
+    };
+    let refusal = write_refusal(alloc, table, authorizations, known, *next, now, mutation);
     if let Some(refusal) = refusal {
         return Reply::Refused(refusal);
     }
-    match tables.write(table, mutation, *next, now) {
+    match table.write(mutation, *next, now) {
         Ok(()) => {
             *next += 1;
             Reply::Done
@@ -52,26 +46,21 @@ pub fn write(
     }
 }
 
-// Why a mutation of the table, which must be there, by a caller with these authorizations is refused, or that memory lacked; last of all
-// checks comes the number that the write would get.
+// Why a mutation of the table by a caller with these authorizations is refused, or that memory lacked; last of all checks comes the number
+// that the write would get.
 fn write_refusal(
     alloc: Global,
-    tables: &Tables,
-    name: &Name,
+    table: &Table,
     authorizations: &AuthSet,
     known: &mut KnownLabels,
     next: u64,
     now: i64,
     mutation: &Mutation,
 ) -> Option<Refusal>
-    requires { is_some (table_at tables.now name.now) ≡ true }
-    ensures answers { (result ≡ first_some (write_checks (settings_at (table_at tables.now name.now)) authorizations.now now mutation.now next)) ⊎ (result ≡ Some Refusal.NoMemory) }
+    ensures answers { (result ≡ first_some (write_checks (Some table.now.settings) authorizations.now now mutation.now next)) ⊎ (result ≡ Some Refusal.NoMemory) }
     ensures shape { result ≡ None → shape_error mutation.now ≡ None }
     ensures room { result ≡ None → next < 18446744073709551615 }
 {
-    let Some(table) = tables.get(name) else {
-        return Some(Refusal::NoTable(*name));
-    };
     if let Some(refusal) = mutation_refusal(alloc, table, authorizations, known, now, mutation) {
         return Some(refusal);
     }

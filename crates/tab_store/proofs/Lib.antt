@@ -21,10 +21,10 @@ pub mod Ends
 pub mod Staying
 pub mod ChainLaws
 pub mod Joining
-pub mod Missing
 pub mod DueTables
 pub mod DueList
 pub mod Named
+pub mod Lent
 pub mod Changed
 pub mod Fewer
 pub mod Numbered

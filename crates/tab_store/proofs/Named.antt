@@ -8,10 +8,10 @@ use Rattle.std.specs.List.Sorted.{IsStrictlySortedBy}
 use Rattle.std.proofs.lemmas.List.{length-map}
 use Rattle.std.proofs.lemmas.Slice.Eq.{bytes_eq-Decides}
 use Rattle.tab_key.specs.Bytes.{bytes_cmp}
-use Rattle.tab_policy.specs.Entries.{at_name, changed_at}
+use Rattle.tab_policy.specs.Entries.{at_name}
 use Rattle.tab_policy.proofs.NameLemmas.{same_name}
 use Rattle.tab_store.specs.Stores.{TableContents, RiseByName}
-use Rattle.tab_store.specs.Tables.{TableState, named_table, state_of, table_at, changed_table}
+use Rattle.tab_store.specs.Tables.{TableState, named_table, state_of, table_at}
 
 bytes_sym : (a b : List ℕ) → bytes_eq a b ≡ bytes_eq b a
 bytes_sym a b = elim (bytes_eq a b) as (λ v. bytes_eq a b ≡ v → v ≡ bytes_eq b a) [
@@ -43,11 +43,6 @@ table_found (e ∷ es) q = ap (λ b. option_map state_of (cond b (Some (named_ta
 pub table_renewed : (old new : Entries) (n : List ℕ) (o : Option TableState) → ((q : List ℕ) → at_name q new ≡ cond (bytes_eq n q) o (at_name q old))
     → (q : List ℕ) → table_at (map named_table new) q ≡ cond (bytes_eq n q) o (table_at (map named_table old) q)
 table_renewed old new n o f q = table_found new q ∙ f q ∙ ap (λ x. cond (bytes_eq n q) o x) (sym (table_found old q))
-
--- a table changed
-pub table_changed : (old new : Entries) (n : List ℕ) (f : TableState → TableState) → ((q : List ℕ) → at_name q new ≡ changed_at n f old q)
-    → (q : List ℕ) → table_at (map named_table new) q ≡ changed_table n f (map named_table old) q
-table_changed old new n f g q = table_found new q ∙ g q ∙ ap (λ o. cond (bytes_eq n q) (option_map f o) o) (sym (table_found old q))
 
 -- ---- how many tables there are
 there_is : (es : Entries) (q : List ℕ) → is_some (at_name q es) ≡ is_some (table_at (map named_table es) q)

@@ -6,6 +6,7 @@ pub mod Rightness
 pub mod Chains
 pub mod Examples
 pub mod Tables
+pub mod Lending
 pub mod Due
 pub mod Numbers
 pub mod Belonging

@@ -11,6 +11,7 @@
 //! | `specs/Chains` | chains of exact steps |
 //! | `specs/Examples` | worked examples, computed |
 //! | `specs/Tables` | tables by name, and what calls change of them |
+//! | `specs/Lending` | what is left of them once one of them, which was lent, has ended |
 //! | `specs/Due` | which work is due, and where it is to be done |
 //! | `specs/Numbers` | that a tablet's number identifies it |
 //! | `specs/Belonging` | to which table a merge belongs, and that it is installed in no other |
@@ -33,8 +34,7 @@
 //! | `proofs/Reading`, `Telling`, `Right` | exact steps are right ones, act by act |
 //! | `proofs/Passed`, `WellFormed`, `Ends`, `Staying` | what an event adds has passed its checks, so that limits are kept, and a store stays one |
 //! | `proofs/ChainLaws`, `Joining` | chains of exact steps, and two chains as one |
-//! | `proofs/Missing` | what is read of a table that is missing |
-//! | `proofs/Named` | tables by name, as the map has them |
+//! | `proofs/Named`, `Lent` | tables by name, as the map has them, and one that was lent |
 //! | `proofs/Changed` | a change of one table, as an exact step and as histories read it |
 //! | `proofs/DueTables`, `DueList` | work that is due, table by table, and lists of it |
 //! | `proofs/Numbered`, `Numbering` | no two tablets have one number, whatever is done to them |

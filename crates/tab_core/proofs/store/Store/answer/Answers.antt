@@ -6,9 +6,8 @@ use Rattle.tab_history.specs.declared.event.Act.TheVariants as act
 use Rattle.tab_history.specs.Checks.{denial, action_of}
 use Rattle.tab_store.proofs.Changed.{next_unused}
 use Rattle.tab_core.specs.Holding.{held}
-use Rattle.tab_core.proofs.Admitting.{denied, admitted, is_admitted}
+use Rattle.tab_core.proofs.Admitting.{denied, admitted, is_admitted, admitted_there}
 use Rattle.tab_core.proofs.Opening.{tablets_apart}
-use Rattle.tab_core.proofs.Writing.{table_there}
 use Rattle.tab_core.proofs.store.Store.answer.Goals as goal
 
 pub returns-in-Err-clause-acts : goal.returns-in-Err-clause-acts
@@ -29,10 +28,13 @@ pub write-requires-clause-unused : goal.write-requires-clause-unused
 write-requires-clause-unused c = next_unused (held c.args.self.now) c.requires.store c.in-Write.table
 
 pub write-requires-clause-there : goal.write-requires-clause-there
-write-requires-clause-there c = table_there (held c.args.self.now) c.args.user.now c.in-Write.table c.in-Write.mutation (is_admitted (held c.args.self.now) c.args.user.now c.args.act.now _ _ c.requires c.action_of.ensures c.in-Ok.ensures.decided c.in-Write.is)
+write-requires-clause-there c = admitted_there (held c.args.self.now) c.args.user.now c.in-Write.table _ refl (is_admitted (held c.args.self.now) c.args.user.now c.args.act.now _ _ c.requires c.action_of.ensures c.in-Ok.ensures.decided c.in-Write.is)
 
-pub open-requires : goal.open-requires
-open-requires c = tablets_apart (held c.args.self.now) c.requires.store c.in-Open.scan.table
+pub open-requires-clause-there : goal.open-requires-clause-there
+open-requires-clause-there c = admitted_there (held c.args.self.now) c.args.user.now c.in-Open.scan.table _ refl (is_admitted (held c.args.self.now) c.args.user.now c.args.act.now _ _ c.requires c.action_of.ensures c.in-Ok.ensures.decided c.in-Open.is)
+
+pub open-requires-clause-apart : goal.open-requires-clause-apart
+open-requires-clause-apart c = tablets_apart (held c.args.self.now) c.requires.store c.in-Open.scan.table
 
 pub returns-in-Open-clause-acts : goal.returns-in-Open-clause-acts
 returns-in-Open-clause-acts c =

@@ -1,16 +1,30 @@
-use Rattle.std.proofs.Common.{◌≡◌, ℤ, refl, subst, rules, to_z, of_z, w64}
+use Rattle.std.proofs.Common.{◌≡◌, ℤ, List, None, refl, subst, rules, to_z, of_z, w64}
 use Rattle.std.specs.Prelude.{OnOk}
-use Rattle.std.proofs.lemmas.Result.{on_ok_weaker}
 use Rattle.tab_cells.specs.declared.compaction.Compaction.TheVariants.{Minor}
 use Rattle.tab_history.specs.declared.event.Act.TheVariants as act
+use Rattle.tab_store.specs.Stores.{TableContents}
+use Rattle.tab_store.specs.Tables.{TableState, table_at}
 use Rattle.tab_core.specs.Holding.{held}
-use Rattle.tab_core.proofs.Compacting.{Compacted, compacts}
+use Rattle.tab_core.proofs.Compacting.{compacted_at, compaction_done, compacts}
+use Rattle.tab_core.proofs.Lent.{Lent, lent_so, alters_ok, alters_none, untouched_err}
 use Rattle.tab_core.proofs.store.Store.flush.Goals as goal
 
-pub returns : goal.returns
-returns c =
+pub returns-in-Some : goal.returns-in-Some
+returns-in-Some c =
+    let t = c.args.table.now in
+    let old : List TableContents = c.args.self.now.tables in
+    let was : TableState = c.in-Some.table.now in
+    let now : TableState = c.compact.new.self in
+    let lent : Lent t old (c.get_mut.follows.lender now) was now = lent_so t old _ now c.get_mut.result _ c.get_mut.ensures.value c.in-Some.is (c.get_mut.follows.holds now) in
     let trip : to_z w64 (of_z w64 c.args.now) ≡ c.args.now = search rules in
-    let done : OnOk c.compact.result (Compacted c.args.table.now Minor c.args.now c.args.self.now.tables c.compact.new.self) =
-    subst (λ (t : ℤ). OnOk c.compact.result (Compacted c.args.table.now Minor t c.args.self.now.tables c.compact.new.self)) trip
-    (on_ok_weaker c.compact.result (λ f. record { names = c.compact.ensures.names; count = c.compact.ensures.count; changed = f }) c.compact.ensures.ok) in
-    compacts (held c.args.self.now) c.compact.new.self c.args.now c.args.user.now c.args.table.now (act.Flush c.args.table.now) Minor c.compact.result c.compacted.result c.requires refl refl refl refl done c.compact.ensures.err c.compacted.ensures.ok c.compacted.ensures.err
+    let done : OnOk c.compact.result (now ≡ compacted_at Minor c.args.now was) = subst (λ (m : ℤ). OnOk c.compact.result (now ≡ compacted_at Minor m was)) trip c.compact.ensures.ok in
+    compacts (held c.args.self.now) _ c.args.now c.args.user.now t (act.Flush t) Minor c.compact.result c.compacted.result c.requires refl refl refl refl
+    (alters_ok (compacted_at Minor c.args.now) c.compact.result lent done) (untouched_err c.compact.result lent c.compact.ensures.err) c.compacted.ensures.ok c.compacted.ensures.err
+
+pub returns-in-None : goal.returns-in-None
+returns-in-None c =
+    let t = c.args.table.now in
+    let old : List TableContents = c.args.self.now.tables in
+    let none : table_at old t ≡ None = search rules in
+    let same : c.get_mut.follows.lender-at-none ≡ old = search rules in
+    compaction_done (held c.args.self.now) _ c.args.now c.args.user.now t (act.Flush t) Minor c.requires refl refl refl (alters_none t (compacted_at Minor c.args.now) old _ c.requires.store.names none same)
