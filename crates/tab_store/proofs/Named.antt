@@ -1,6 +1,6 @@
 -- Tables by name, as the map has them and as definitions see them.
 use Rattle.std.proofs.Common.{◌≡◌, ◌+◌, ◌-◌, ℕ, length, Bool, true, false, cond, List, [], ◌∷◌, refl, sym, ap, ◌∙◌, subst, arith, Option, Some}
-use Rattle.std.specs.Prelude.{map, find, bytes_eq, is_some, Result, Ok, Err, OnOk, OnErr}
+use Rattle.std.specs.Prelude.{map, find, bytes_eq, is_some}
 use Rattle.std.specs.Map.{keys_of}
 use Rattle.std.specs.Option.{option_map}
 use Rattle.std.specs.Ordering.{is_eq}
@@ -77,8 +77,3 @@ names_read (e ∷ es) = ap (λ ns. e.0 ∷ ns) (names_read es)
 -- the map's order is that of the names
 pub rises : (es : Entries) → IsStrictlySortedBy bytes_cmp (keys_of es) → RiseByName (map named_table es)
 rises es sorted = subst (IsStrictlySortedBy bytes_cmp) (sym (names_read es)) sorted
-
--- where an error changes nothing, the names stay in order either way
-pub ordered_after : {T E : Type 0} (r : Result T E) (old new : Entries) → IsStrictlySortedBy bytes_cmp (keys_of old) → OnOk r (IsStrictlySortedBy bytes_cmp (keys_of new)) → OnErr r (new ≡ old) → IsStrictlySortedBy bytes_cmp (keys_of new)
-ordered_after (Ok x) old new sorted ok err = ok
-ordered_after (Err x) old new sorted ok err = subst (λ es. IsStrictlySortedBy bytes_cmp (keys_of es)) (sym err) sorted

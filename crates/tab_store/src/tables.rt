@@ -5,7 +5,6 @@ ghost use Rattle.std.specs.Borrow.{sem};
 ghost use Rattle.std.specs.BTreeMap.{IsOrdered};
 ghost use Rattle.std.specs.Map.Iter.{ShowsInOrder, deref_pair};
 ghost use Rattle.tab_key.specs.Bytes.{bytes_cmp};
-ghost use Rattle.tab_policy.specs.Entries.{at_name};
 ghost use Rattle.tab_store.specs.Stores.{RiseByName};
 ghost use Rattle.tab_store.specs.Tables.{TableState, named_table, made_table, table_at};
 ghost use Rattle.tab_store.specs.Lending.{LendsTable};
@@ -120,7 +119,9 @@ impl Tables {
         ensures names { RiseByName self.new }
         ensures err { OnErr result (self.new ≡ self.old) }
     {
-        put(&mut self.by_name, self.alloc, name, table)
+        let key = NameKey::new(self.alloc, &name)?;
+        self.by_name.insert(key, table)?;
+        Ok(())
     }
 
     /// Takes the table of this name away, if there is one.
@@ -129,32 +130,6 @@ impl Tables {
         ensures count { length self.new ≡ cond (is_some (table_at self.old name.now)) (length self.old - 1) (length self.old) }
         ensures names { RiseByName self.new }
     {
-        take_away(&mut self.by_name, name);
+        let _ = self.by_name.remove(name);
     }
-}
-
-// Puts the table under the name. An error leaves the map as it was.
-fn put(
-    tables: &mut BTreeMap<NameKey, Table>,
-    alloc: Global,
-    name: Name,
-    table: Table,
-) -> Result<(), AllocError>
-    ensures ok { OnOk result ((q : List ℕ) → at_name q tables.new.entries ≡ cond (bytes_eq name q) (Some table) (at_name q tables.old.entries)) }
-    ensures count { OnOk result (length tables.new.entries ≡ cond (is_some (at_name name tables.old.entries)) (length tables.old.entries) (length tables.old.entries + 1)) }
-    ensures ordered { OnOk result (IsOrdered bytes_cmp tables.new) }
-    ensures err { OnErr result (tables.new.entries ≡ tables.old.entries) }
-{
-    let key = NameKey::new(alloc, &name)?;
-    tables.insert(key, table)?;
-    Ok(())
-}
-
-// Takes away what stands under the name.
-fn take_away(tables: &mut BTreeMap<NameKey, Table>, name: &Name)
-    ensures names { (q : List ℕ) → at_name q tables.new.entries ≡ cond (bytes_eq name.now q) None (at_name q tables.old.entries) }
-    ensures count { length tables.new.entries ≡ cond (is_some (at_name name.now tables.old.entries)) (length tables.old.entries - 1) (length tables.old.entries) }
-    ensures ordered { IsOrdered bytes_cmp tables.new }
-{
-    let _ = tables.remove(name);
 }
