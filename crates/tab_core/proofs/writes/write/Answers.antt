@@ -1,4 +1,4 @@
-use Rattle.std.proofs.Common.{◌≡◌, ◌⊎◌, inr, ℤ, List, Some, None, refl, sym, subst, rules, to_z, of_z, w64}
+use Rattle.std.proofs.Common.{◌≡◌, inr, ℤ, List, Some, None, refl, sym, subst, rules, to_z, of_z, w64}
 use Rattle.std.specs.Prelude.{Option, Contains}
 use Rattle.tab_history.specs.declared.event.Act.TheVariants as act
 use Rattle.tab_history.specs.declared.reply.Refusal.{Refusal}

@@ -28,10 +28,10 @@ pub write-requires-clause-unused : goal.write-requires-clause-unused
 write-requires-clause-unused c = next_unused (held c.args.self.now) c.requires.store c.in-Write.table
 
 pub write-requires-clause-there : goal.write-requires-clause-there
-write-requires-clause-there c = admitted_there (held c.args.self.now) c.args.user.now c.in-Write.table _ refl (is_admitted (held c.args.self.now) c.args.user.now c.args.act.now _ _ c.requires c.action_of.ensures c.in-Ok.ensures.decided c.in-Write.is)
+write-requires-clause-there c = admitted_there (held c.args.self.now) c.args.user.now c.in-Write.table (act.Write c.in-Write.table c.in-Write.mutation) refl (is_admitted (held c.args.self.now) c.args.user.now c.args.act.now _ _ c.requires c.action_of.ensures c.in-Ok.ensures.decided c.in-Write.is)
 
 pub open-requires-clause-there : goal.open-requires-clause-there
-open-requires-clause-there c = admitted_there (held c.args.self.now) c.args.user.now c.in-Open.scan.table _ refl (is_admitted (held c.args.self.now) c.args.user.now c.args.act.now _ _ c.requires c.action_of.ensures c.in-Ok.ensures.decided c.in-Open.is)
+open-requires-clause-there c = admitted_there (held c.args.self.now) c.args.user.now c.in-Open.scan.table (act.Open c.in-Open.scan) refl (is_admitted (held c.args.self.now) c.args.user.now c.args.act.now _ _ c.requires c.action_of.ensures c.in-Ok.ensures.decided c.in-Open.is)
 
 pub open-requires-clause-apart : goal.open-requires-clause-apart
 open-requires-clause-apart c = tablets_apart (held c.args.self.now) c.requires.store c.in-Open.scan.table
