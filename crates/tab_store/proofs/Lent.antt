@@ -1,6 +1,6 @@
 -- A table that was lent.
-use Rattle.std.proofs.Common.{◌≡◌, ℕ, length, Bool, true, false, cond, List, Some, None, refl, sym, ap, ◌∙◌, Option, OnSome, MutBor}
-use Rattle.std.specs.Prelude.{map, bytes_eq, is_some}
+use Rattle.std.proofs.Common.{◌≡◌, ℕ, length, true, cond, List, Some, None, sym, ap, ◌∙◌, Option, OnSome, MutBor}
+use Rattle.std.specs.Prelude.{map, is_some}
 use Rattle.std.specs.Map.{keys_of, set_value}
 use Rattle.std.specs.Option.{option_copied_mut}
 use Rattle.std.specs.Ordering.{is_eq}
@@ -9,8 +9,7 @@ use Rattle.std.proofs.lemmas.Map.Steps.{set_value_same}
 use Rattle.tab_key.specs.Bytes.{bytes_cmp}
 use Rattle.tab_policy.specs.Entries.{at_name}
 use Rattle.tab_policy.proofs.NameLemmas.{same_name}
-use Rattle.tab_store.specs.Stores.{TableContents}
-use Rattle.tab_store.specs.Tables.{TableState, named_table, table_at}
+use Rattle.tab_store.specs.Tables.{TableState, named_table}
 use Rattle.tab_store.specs.Lending.{Leaves}
 use Rattle.tab_store.proofs.Named.{Entries, table_found, table_renewed, count_kept, rises}
 
