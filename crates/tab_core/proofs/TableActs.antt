@@ -24,7 +24,7 @@ use Rattle.tab_store.specs.declared.setting.Setting.TheVariants.{Constraints, Ve
 use Rattle.tab_store.specs.Stores.{TableContents, CoreContents, RiseByName, base_of}
 use Rattle.tab_store.specs.Stepping.{Aside, Making, Dropping, work_of}
 use Rattle.tab_store.specs.Tablets.{next_number as next_tablet}
-use Rattle.tab_store.specs.Tables.{TableState, made_table, with_setting, table_at, settings_at}
+use Rattle.tab_store.specs.Tables.{made_table, with_setting, table_at, settings_at}
 use Rattle.tab_store.proofs.Changed.{read_so, settings_read, count_read, tablets_kept, settings_set, settings_made, settings_dropped}
 use Rattle.tab_store.proofs.Changed as changed
 use Rattle.tab_core.specs.Stepping.{Acts, Becomes, own_answer, IsAdmitted, IsCore}

@@ -1,5 +1,6 @@
 -- To be believed by whoever relies on it. What one step of a core does, seen from the core alone and from every history that it refined.
 use Rattle.std.specs.Prelude.{ℕ, ℤ, pos, ◌≡◌, ◌⊎◌, Bool, true, false, List, [], ◌∷◌, ◌++◌, nat_le, is_some, IfSome, Option, Some, None}
+use Rattle.tab_cells.specs.declared.compaction.Compaction.{Compaction}
 use Rattle.tab_key.specs.Records.{Cell}
 use Rattle.tab_key.specs.declared.limited_part.LimitedPart.TheVariants.{Sessions, Numbers}
 use Rattle.tab_mutation.specs.Shape.{first_some, when}
@@ -29,7 +30,7 @@ use Rattle.tab_history.specs.Refinement.{ReadsAlike, Refines}
 use Rattle.tab_history.specs.Chains.{GoesRight, HasRoom, NamesNoSlot}
 use Rattle.tab_store.specs.Parts.{TabletMerge}
 use Rattle.tab_store.specs.Stores.{TableContents, CoreContents, base_of}
-use Rattle.tab_store.specs.Stepping.{entry_of as entry}
+use Rattle.tab_store.specs.Stepping.{Compacting, On, work_of, entry_of as entry}
 pub use Rattle.tab_store.specs.Stepping.{LaysExactly, StepsExactly, now_at, plain_answer}
 use Rattle.tab_store.specs.Rightness.{IsStore}
 use Rattle.tab_core.specs.declared.store.Store.{Store}
@@ -133,6 +134,10 @@ IsAdmitted b user act = (has_user b [] user ≡ true) × IfSome (table_named (ac
 -- what an act that the policy admits does to a store
 abbrev pub Does : Store → ℤ → List ℕ → Act → Reply OpenSession TabletMerge → Store → Type 0
 Does old now user act reply new = Acts (own_answer (base_of (held old)) now user act) (held old) now None user act reply (held new)
+
+-- what an act does that compacts this table's tablets so
+abbrev pub Compacts : Store → ℤ → List ℕ → List ℕ → Compaction → Reply OpenSession TabletMerge → Store → Type 0
+Compacts old now user t kind reply new = (act : Act) → work_of None act ≡ On t (Compacting kind) → Does old now user act reply new
 
 -- the same of an Install into this table, with which this merge came
 abbrev pub Installs : Store → ℤ → List ℕ → List ℕ → TabletMerge → Reply OpenSession TabletMerge → Store → Type 0

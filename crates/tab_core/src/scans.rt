@@ -15,7 +15,7 @@ use crate::reply::Answer;
 use std::alloc::{AllocError, Global};
 use std::mem;
 use tab_history::{Act, Refusal, Reply, Scan};
-use tab_key::{Items, Name};
+use tab_key::Items;
 use tab_label::AuthSet;
 use tab_store::{Table, Tables};
 

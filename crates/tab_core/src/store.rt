@@ -10,8 +10,10 @@ use crate::acts::rights;
 use crate::policing::{action_of, horizon_asked, refusal_of};
 use crate::reply::Answer;
 use crate::scans::open;
+use crate::tablets::kind_of;
 use crate::writes::write;
 use std::alloc::Global;
+use tab_cells::Compaction;
 use tab_history::{Act, Reply, Scan};
 use tab_key::Name;
 use tab_label::KnownLabels;
@@ -60,26 +62,17 @@ impl Store {
         let horizon = horizon_asked(act);
         match act {
             Act::Open(scan) => open(alloc, &mut self.tables, caller.authorizations, scan),
-            Act::Write(table, mutation) => write(
-                alloc,
-                &mut self.tables,
-                &mut self.next,
-                caller.authorizations,
-                known,
-                now,
-                table,
-                mutation,
-            ),
+            Act::Write(table, mutation) => {
+                let tables = &mut self.tables;
+                let next = &mut self.next;
+                let auths = caller.authorizations;
+                write(alloc, tables, next, auths, known, now, table, mutation)
+            }
             Act::CreateTable(table, time, versions) => self.create_table(
                 now, user, table, *time, *versions,
             ),
             Act::DropTable(table) => self.drop_table(now, user, table),
-            Act::SetConstraints(table, constraints) => self.set_constraints(
-                now,
-                user,
-                table,
-                constraints,
-            ),
+            Act::SetConstraints(table, set) => self.set_constraints(now, user, table, set),
             Act::SetVersions(table, versions) => self.set_versions(now, user, table, *versions),
             Act::SetHorizon(table, _) => self.set_horizon(now, user, table, horizon),
             Act::CreateUser(name) => self.create_user(now, user, name),
@@ -89,12 +82,10 @@ impl Store {
             Act::Revoke(name, permission) => self.revoke(now, user, name, permission),
             Act::Rights(_) => rights(caller),
             Act::Status(table) => self.status(now, user, table),
-            Act::Flush(table) => self.flush(alloc, now, user, table),
-            Act::Compact(table, extent) => self.compact(alloc, now, user, table, *extent),
+            Act::Flush(table) => self.compact(alloc, now, user, table, Compaction::Minor),
+            Act::Compact(table, extent) => self.compact(alloc, now, user, table, kind_of(*extent)),
             Act::AddSplit(table, row) => self.add_split(alloc, now, user, table, row),
-            Act::SplitBySize(table, row, limit) => self.split_by_size(
-                alloc, now, user, table, row, *limit,
-            ),
+            Act::SplitBySize(table, row, limit) => self.halve(alloc, now, user, table, row, *limit),
             Act::Splits(table) => self.splits(alloc, now, user, table),
             Act::Save => self.save(now, user),
             Act::Load => self.load(now, user),

@@ -4,7 +4,7 @@ ghost use Rattle.tab_store.specs.Stores.{counts_of, base_of};
 ghost use Rattle.tab_store.specs.Stepping.{On, Splitting, kind_of, told_split, told_job, told_install, tablet_told, job_told};
 ghost use Rattle.tab_store.specs.Tables.{table_at, tablets_of};
 ghost use Rattle.tab_core.specs.Holding.{held};
-ghost use Rattle.tab_core.specs.Stepping.{Does, IsCore, Acts, Installs};
+ghost use Rattle.tab_core.specs.Stepping.{Does, IsCore, Acts, Compacts, Installs};
 ghost use Rattle.tab_mutation.specs.Shape.{is_too_long};
 ghost use Rattle.tab_store.specs.ByRow.{ends_of};
 ghost use Rattle.tab_history.specs.Answers.{told_of, job_of, event_answer};
@@ -30,31 +30,20 @@ impl Store {
         Reply::Counted(counts_in(&self.tables, table))
     }
 
-    // What was written to a table since the last flush, merged in each of its tablets.
-    pub(crate) fn flush(&mut self, alloc: Global, now: i64, user: &Name, table: &Name) -> Answer
-        requires { IsCore (held self.old) }
-        ensures { Does self.old now user.now (Act.Flush table.now) result self.new }
-    {
-        match self.tables.get_mut(table) {
-            Some(table) => compacted(table.compact(alloc, Compaction::Minor, now)),
-            None => Reply::Done,
-        }
-    }
-
-    // The sorted tables of a table that the extent names, merged in each of its tablets.
+    // What this kind names of a table's sources, merged in each of its tablets.
     pub(crate) fn compact(
         &mut self,
         alloc: Global,
         now: i64,
         user: &Name,
         table: &Name,
-        extent: Extent,
+        kind: Compaction,
     ) -> Answer
         requires { IsCore (held self.old) }
-        ensures { Does self.old now user.now (Act.Compact table.now extent) result self.new }
+        ensures { Compacts self.old now user.now table.now kind result self.new }
     {
         match self.tables.get_mut(table) {
-            Some(table) => compacted(table.compact(alloc, kind_of(extent), now)),
+            Some(table) => compacted(table.compact(alloc, kind, now)),
             None => Reply::Done,
         }
     }
@@ -74,8 +63,8 @@ fn counts_in(tables: &Tables, name: &Name) -> Counts
     }
 }
 
-// The compaction that an extent names.
-fn kind_of(extent: Extent) -> Compaction
+/// The compaction that an extent names.
+pub fn kind_of(extent: Extent) -> Compaction
     ensures { result ≡ kind_of extent }
 {
     match extent {
@@ -122,7 +111,7 @@ impl Store {
     }
 
     // A table's tablet that holds this row split in the middle of what it holds, where its sorted tables come to the limit, in bytes.
-    pub(crate) fn split_by_size(
+    pub(crate) fn halve(
         &mut self,
         alloc: Global,
         now: i64,

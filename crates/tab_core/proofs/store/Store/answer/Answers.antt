@@ -4,6 +4,7 @@ use Rattle.tab_policy.specs.Decisions.{decision}
 use Rattle.tab_policy.specs.State.{standing_of, IsCaller}
 use Rattle.tab_history.specs.declared.event.Act.TheVariants as act
 use Rattle.tab_history.specs.Checks.{denial, action_of}
+use Rattle.tab_store.specs.Stepping.{Compacting, On}
 use Rattle.tab_store.proofs.Changed.{next_unused}
 use Rattle.tab_core.specs.Holding.{held}
 use Rattle.tab_core.proofs.Admitting.{denied, admitted, is_admitted, admitted_there}
@@ -113,12 +114,14 @@ returns-in-Revoke-clause-acts c =
 pub returns-in-Flush-clause-acts : goal.returns-in-Flush-clause-acts
 returns-in-Flush-clause-acts c =
     let trip : to_z w64 (of_z w64 c.args.now) ≡ c.args.now = search rules in
-    admitted (held c.args.self.now) (held c.flush.new.self) c.args.now _ None c.args.user.now c.args.act.now _ _ c.flush.result c.requires c.action_of.ensures c.in-Ok.ensures.decided c.in-Flush.is trip c.flush.ensures
+    admitted (held c.args.self.now) (held c.compact.new.self) c.args.now _ None c.args.user.now c.args.act.now _ _ c.compact.result c.requires c.action_of.ensures c.in-Ok.ensures.decided c.in-Flush.is trip
+    (c.compact.ensures (act.Flush c.in-Flush.table) refl)
 
 pub returns-in-Compact-clause-acts : goal.returns-in-Compact-clause-acts
 returns-in-Compact-clause-acts c =
     let trip : to_z w64 (of_z w64 c.args.now) ≡ c.args.now = search rules in
-    admitted (held c.args.self.now) (held c.compact.new.self) c.args.now _ None c.args.user.now c.args.act.now _ _ c.compact.result c.requires c.action_of.ensures c.in-Ok.ensures.decided c.in-Compact.is trip c.compact.ensures
+    admitted (held c.args.self.now) (held c.compact-in-Compact.new.self) c.args.now _ None c.args.user.now c.args.act.now _ _ c.compact-in-Compact.result c.requires c.action_of.ensures c.in-Ok.ensures.decided c.in-Compact.is trip
+    (c.compact-in-Compact.ensures (act.Compact c.in-Compact.table c.in-Compact.extent) (ap (λ k. On c.in-Compact.table (Compacting k)) (sym c.kind_of.ensures)))
 
 pub returns-in-AddSplit-clause-acts : goal.returns-in-AddSplit-clause-acts
 returns-in-AddSplit-clause-acts c =
@@ -128,7 +131,7 @@ returns-in-AddSplit-clause-acts c =
 pub returns-in-SplitBySize-clause-acts : goal.returns-in-SplitBySize-clause-acts
 returns-in-SplitBySize-clause-acts c =
     let trip : to_z w64 (of_z w64 c.args.now) ≡ c.args.now = search rules in
-    admitted (held c.args.self.now) (held c.split_by_size.new.self) c.args.now _ None c.args.user.now c.args.act.now _ _ c.split_by_size.result c.requires c.action_of.ensures c.in-Ok.ensures.decided c.in-SplitBySize.is trip c.split_by_size.ensures
+    admitted (held c.args.self.now) (held c.halve.new.self) c.args.now _ None c.args.user.now c.args.act.now _ _ c.halve.result c.requires c.action_of.ensures c.in-Ok.ensures.decided c.in-SplitBySize.is trip c.halve.ensures
 
 pub returns-in-Splits-clause-acts : goal.returns-in-Splits-clause-acts
 returns-in-Splits-clause-acts c =

@@ -13,7 +13,7 @@ use Rattle.tab_store.specs.Tables.{TableState, table_at}
 use Rattle.tab_core.specs.Holding.{held}
 use Rattle.tab_core.proofs.Lent.{Lent, lent_so, untouched_err}
 use Rattle.tab_core.proofs.Splitting.{SplitSo, splits_by_size, split_done, split_none, splits_or_lacks, split_so, row_refused, halve_passes}
-use Rattle.tab_core.proofs.store.Store.split_by_size.Goals as goal
+use Rattle.tab_core.proofs.store.Store.halve.Goals as goal
 
 pub returns-then-is_too_long : goal.returns-then-is_too_long
 returns-then-is_too_long c =
