@@ -173,10 +173,7 @@ impl RecordedAct {
     {
         match self {
             RecordedAct::Write(_, _) => true,
-            RecordedAct::Open(_)
-            | RecordedAct::SetConstraints(_, _)
-            | RecordedAct::SetAuths(_, _) => false,
-            RecordedAct::Plain(_) => false,
+            _ => false,
         }
     }
 
