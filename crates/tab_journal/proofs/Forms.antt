@@ -185,10 +185,7 @@ front_long bytes f is =
 asked_act : (o : Option Request) (a : Act) → act_of o ≡ Some a → o ≡ Some (asks.Act a)
 asked_act (Some (asks.Act x)) a e = ap (λ (z : Act). Some (asks.Act z)) (some_inj x a e)
 asked_act None a e = absurd cc
-asked_act (Some (asks.Hello user)) a e = absurd cc
-asked_act (Some (asks.Next slot count)) a e = absurd cc
-asked_act (Some (asks.Many slot ranges)) a e = absurd cc
-asked_act (Some (asks.Close slot)) a e = absurd cc
+asked_act (Some request) a e = absurd cc
 
 abbrev EntryParts : List ℕ → Event → Type 0
 EntryParts = Follows IsI64 (λ moment. Follows IsNameField (λ user. Picks IsText (event_of moment user)))

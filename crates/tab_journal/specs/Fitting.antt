@@ -9,7 +9,7 @@ use Rattle.tab_policy.specs.declared.permission.Permission.{Permission}
 use Rattle.tab_policy.specs.declared.permission.Permission.TheVariants.{OfSystem, OfTable}
 use Rattle.tab_rules.specs.Constraints.{constraint_set_of}
 use Rattle.tab_history.specs.declared.event.Act.{Act}
-use Rattle.tab_history.specs.declared.event.Act.TheVariants.{Write, CreateTable, DropTable, SetConstraints, SetVersions, SetHorizon, CreateUser, DropUser, SetAuths, Grant, Revoke, AddSplit}
+use Rattle.tab_history.specs.declared.event.Act.TheVariants as act
 
 -- a timestamp, where there is one, has eight bytes
 abbrev pub FitsTime : Update → Type 0
@@ -30,16 +30,16 @@ FitsPermission (OfTable p t) = IsName t
 
 -- an act that leaves something
 abbrev pub FitsAct : Act → Type 0
-FitsAct (Write t m) = IsName t × FitsMutation m
-FitsAct (CreateTable t time n) = IsName t × FitsVersions n
-FitsAct (DropTable t) = IsName t
-FitsAct (SetConstraints t cs) = IsName t × (constraint_set_of cs ≡ cs)
-FitsAct (SetVersions t n) = IsName t × FitsVersions n
-FitsAct (SetHorizon t low) = IsName t × FitsSigned w64 low
-FitsAct (CreateUser n) = IsName n
-FitsAct (DropUser n) = IsName n
-FitsAct (SetAuths n auths) = IsName n × IsRising auths
-FitsAct (Grant n p) = IsName n × FitsPermission p
-FitsAct (Revoke n p) = IsName n × FitsPermission p
-FitsAct (AddSplit t row) = IsName t
+FitsAct (act.Write t m) = IsName t × FitsMutation m
+FitsAct (act.CreateTable t time n) = IsName t × FitsVersions n
+FitsAct (act.DropTable t) = IsName t
+FitsAct (act.SetConstraints t cs) = IsName t × (constraint_set_of cs ≡ cs)
+FitsAct (act.SetVersions t n) = IsName t × FitsVersions n
+FitsAct (act.SetHorizon t low) = IsName t × FitsSigned w64 low
+FitsAct (act.CreateUser n) = IsName n
+FitsAct (act.DropUser n) = IsName n
+FitsAct (act.SetAuths n auths) = IsName n × IsRising auths
+FitsAct (act.Grant n p) = IsName n × FitsPermission p
+FitsAct (act.Revoke n p) = IsName n × FitsPermission p
+FitsAct (act.AddSplit t row) = IsName t
 FitsAct act = Unit {0}

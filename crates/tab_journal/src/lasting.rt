@@ -13,10 +13,9 @@ pub fn leaves_trace(act: &RecordedAct) -> bool
     ensures { result ≡ leaves_trace (act_in act.now) }
 {
     match act {
-        RecordedAct::Write(..) | RecordedAct::SetConstraints(..) | RecordedAct::SetAuths(..) =>
-            true,
         RecordedAct::Open(_) => false,
         RecordedAct::Plain(plain) => plain_leaves_trace(plain),
+        _ => true,
     }
 }
 
@@ -34,17 +33,7 @@ fn plain_leaves_trace(act: &PlainAct) -> bool
         | PlainAct::Grant(..)
         | PlainAct::Revoke(..)
         | PlainAct::AddSplit(..) => true,
-        PlainAct::Rights(_)
-        | PlainAct::Status(_)
-        | PlainAct::Flush(_)
-        | PlainAct::Compact(..)
-        | PlainAct::SplitBySize(..)
-        | PlainAct::Splits(_)
-        | PlainAct::Save
-        | PlainAct::Load
-        | PlainAct::Rotate
-        | PlainAct::Begin(..)
-        | PlainAct::Install(..) => false,
+        _ => false,
     }
 }
 

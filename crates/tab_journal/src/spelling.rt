@@ -61,17 +61,7 @@ fn put_plain<W: Output>(output: &mut W, act: &PlainAct) -> Result<(), WriteFault
         PlainAct::Grant(user, permission) => put_right(output, 0x07, user.as_bytes(), permission),
         PlainAct::Revoke(user, permission) => put_right(output, 0x08, user.as_bytes(), permission),
         PlainAct::AddSplit(table, row) => put_row(output, table.as_bytes(), row.as_bytes()),
-        PlainAct::Rights(_)
-        | PlainAct::Status(_)
-        | PlainAct::Flush(_)
-        | PlainAct::Compact(..)
-        | PlainAct::SplitBySize(..)
-        | PlainAct::Splits(_)
-        | PlainAct::Save
-        | PlainAct::Load
-        | PlainAct::Rotate
-        | PlainAct::Begin(..)
-        | PlainAct::Install(..) => output.put(b""),
+        _ => output.put(b""),
     }
 }
 
