@@ -11,7 +11,7 @@ use std::alloc::Global;
 use std::thread::{Threads, available_parallelism, join};
 use tab_iter::{NoMemory, Verdicts};
 use tab_key::{Bounds, Cells};
-use tab_version::Version;
+use tab_version::{Caches, Version};
 
 /// How many ranges there are at least, where several threads may read them: fewer are read sooner by one.
 pub(crate) const LEAST_RANGES: usize = 500;
@@ -84,6 +84,8 @@ fn read_chunk(
     ensures { IfOk result (λ v. v.items
         ≡ map (λ rows. cells_within rows (map cell_of (shown version.now asked.now.versions asked.now.columns asked.now.auths))) chunk.now) }
 {
-    let mut source = unread(alloc, version, asked, Verdicts::none(alloc));
+    let verdicts = Verdicts::none(alloc);
+    let caches = Caches::of(alloc, 0);
+    let mut source = unread(alloc, version, asked, verdicts, caches);
     take_ranges(alloc, &mut source, chunk)
 }

@@ -56,6 +56,13 @@ impl OpenScan {
         }
     }
 
+    /// Drops the caches of tables; new ones are of so many blocks at most. The scan stays as it was.
+    pub(crate) fn set_cache(&mut self, blocks: usize)
+        ensures { self.new ≡ self.old }
+    {
+        self.scan.set_cache(blocks);
+    }
+
     /// The next `count` cells, fewer only at the end. Where memory lacks, the scan is as before.
     ///
     /// Each batch but the first makes one seek, and reads nothing before the column of its place. Nothing is copied but the cells, to

@@ -1,5 +1,5 @@
 //! An open scan that knows whether it is done.
-ghost use Rattle.std.specs.Prelude.{◌≡◌, ℕ, [], Bool, ◌||◌, IsTrue, length, IfOk, OnOk, OnErr};
+ghost use Rattle.std.specs.Prelude.{◌≡◌, ◌<◌, ◌≤◌, ℕ, [], Bool, ◌||◌, IsTrue, length, IfOk, OnOk, OnErr};
 ghost use Rattle.tab_cells.specs.Cells.{cells};
 ghost use Rattle.tab_cells.specs.SessionState.{batch, gave, in_ranges};
 ghost use Rattle.tab_iter.specs.Stack.{query_of};
@@ -60,6 +60,20 @@ impl Session {
         ensures ended { IsTrue result → (n : ℕ) → batch self.now.state n ≡ [] }
     {
         self.done
+    }
+
+    /// Drops the caches of tables, and lets each new one have so many blocks at most, 1 to 64; 8 where this was never called. The session
+    /// stays as it was, and so does what each batch gives.
+    ///
+    /// A batch leaves in the cache of a table what it decoded last of it, and no memory is taken before. A session has 64 caches at most;
+    /// ranges are read without them. It can't fail.
+    pub fn set_cache(&mut self, blocks: usize) -> Result<(), AllocError>
+        requires some { 0 < blocks }
+        requires few { blocks ≤ 64 }
+        ensures { self.new ≡ self.old }
+    {
+        self.scan.set_cache(blocks);
+        Ok(())
     }
 
     /// The next `count` cells, fewer only at the end: then the session is done. Where memory lacks, it is as before.

@@ -19,7 +19,10 @@ use std::thread::Threads;
 use tab_iter::{NoMemory, Source, Verdicts, taken_apart};
 use tab_key::{Bounds, Cells, Column, Items};
 use tab_label::AuthSet;
-use tab_version::{Stack, Version};
+use tab_version::{Caches, Stack, Version, caches_of};
+
+// Of how many blocks the cache of a table is at most, where nothing else was set.
+const BLOCKS: usize = 8;
 
 /// What is asked of a version: these columns, under these authorizations, so many versions of each column.
 #[derive(Drop)]
@@ -36,6 +39,8 @@ pub(crate) struct SnapshotScan {
     asked: Asked,
     // on the labels that were judged in what was read before
     verdicts: Verdicts,
+    // of the tables that were read before
+    caches: Caches,
     ghost sound: { IsSound asked.auths verdicts } by { IsSound-prop asked.auths verdicts },
 }
 
@@ -75,12 +80,20 @@ impl SnapshotScan {
                 versions,
             },
             verdicts: Verdicts::none(alloc),
+            caches: Caches::of(alloc, BLOCKS),
         }
+    }
+
+    /// Drops the caches of tables; new ones are of so many blocks at most.
+    pub(crate) fn set_cache(&mut self, blocks: usize)
+        ensures { self.new ≡ self.old }
+    {
+        self.caches.resize(blocks);
     }
 
     /// The cells of the next `count` records from the bookmark on, fewer only at the end. The room is asked for at once.
     ///
-    /// The verdicts on labels go with the batch and come back with it; after an error they are lost, and made anew.
+    /// The verdicts on labels and the caches of tables go with the batch and come back with it; after an error they are lost, and made anew.
     pub(crate) fn read(
         &mut self,
         alloc: Global,
@@ -93,12 +106,14 @@ impl SnapshotScan {
         ensures next { IfOk result (λ b. ahead_of b.next self.old ≡ drop count (from_mark from.now self.old)) }
     {
         let verdicts = mem::replace(&mut self.verdicts, Verdicts::none(alloc));
+        let caches = self.caches.take_all();
         let asked = &self.asked;
-        let mut source = source(alloc, &self.version, asked, from, verdicts)?;
+        let mut source = source(alloc, &self.version, asked, from, verdicts, caches)?;
         let cells = take(alloc, &mut source, count, room)?;
         let next = Bookmark::of(alloc, &source)?;
-        let (verdicts, _source) = taken_apart(alloc, source, &asked.auths);
+        let (verdicts, source) = taken_apart(alloc, source, &asked.auths);
         self.verdicts = verdicts;
+        self.caches = caches_of(source);
         Ok(Batch { cells, next })
     }
 
@@ -177,7 +192,8 @@ impl SnapshotScan {
     {
         let verdicts = mem::replace(&mut self.verdicts, Verdicts::none(alloc));
         let asked = &self.asked;
-        let mut source = unread(alloc, &self.version, asked, verdicts);
+        let caches = Caches::of(alloc, 0);
+        let mut source = unread(alloc, &self.version, asked, verdicts, caches);
         let answers = take_ranges(alloc, &mut source, ranges)?;
         let (verdicts, _source) = taken_apart(alloc, source, &asked.auths);
         self.verdicts = verdicts;
@@ -192,6 +208,7 @@ fn source<'a>(
     asked: &'a Asked,
     from: &Bookmark,
     verdicts: Verdicts,
+    caches: Caches,
 ) -> Result<Stack<'a>, NoMemory>
     requires { IsSound asked.now.auths verdicts }
     ensures whole { IfOk result (λ s. ⟦<Stack<'a> as Source>⟧.whole s ≡ shown version.now asked.now.versions asked.now.columns asked.now.auths) }
@@ -200,10 +217,17 @@ fn source<'a>(
     match from {
         Bookmark::Beginning => {
             let columns = asked.columns.as_slice();
-            version.stack(alloc, columns, &asked.auths, verdicts, asked.versions)
+            version.stack(
+                alloc,
+                columns,
+                &asked.auths,
+                verdicts,
+                caches,
+                asked.versions,
+            )
         }
         Bookmark::At(first) => {
-            let mut source = unread(alloc, version, asked, verdicts);
+            let mut source = unread(alloc, version, asked, verdicts, caches);
             source.seek(first.as_ref().key())?;
             pass_before(&mut source, first)?;
             Ok(source)
@@ -217,10 +241,18 @@ pub(crate) fn unread<'a>(
     version: &'a Version,
     asked: &'a Asked,
     verdicts: Verdicts,
+    caches: Caches,
 ) -> Stack<'a>
     requires { IsSound asked.now.auths verdicts }
     ensures { ⟦<Stack<'a> as Source>⟧.whole result ≡ shown version.now asked.now.versions asked.now.columns asked.now.auths }
 {
     let columns = asked.columns.as_slice();
-    version.unread_stack(alloc, columns, &asked.auths, verdicts, asked.versions)
+    version.unread_stack(
+        alloc,
+        columns,
+        &asked.auths,
+        verdicts,
+        caches,
+        asked.versions,
+    )
 }

@@ -14,7 +14,7 @@ use Rattle.tab_table.specs.declared.restarts.Restart.{Restart}
 use Rattle.tab_table.proofs.Laid.{next_base, entry_there, record_there}
 
 -- ---- what a part shares serves as its base
-kept_long : (c : ℕ) (base rest u : List ℕ) → c ≤ length base → take c base ++ rest ≡ u → take c u ≡ take c base
+pub kept_long : (c : ℕ) (base rest u : List ℕ) → c ≤ length base → take c base ++ rest ≡ u → take c u ≡ take c base
 kept_long c base rest u le is = ap (take c) (sym is) ∙ take_at (take c base) rest c (length-take-le c base le)
 
 pub serves : (c : ℕ) (base rest u : List ℕ) → c ≤ length base → take c base ++ rest ≡ u → c ≤ length (take c u)

@@ -26,18 +26,18 @@ middle xs p m a b i j inside e f up few =
     sym (tail_part xs p a b i j e f) ∙ same_part part (drop p xs) front i j up (omega (arith, few, long))
 
 module _ (xs ys : List ℕ) (p q m : ℕ) (same : slice_range xs p (p + m) ≡ slice_range ys q (q + m)) (here : p + m ≤ length xs) (there : q + m ≤ length ys) where
-  alike : (a b c d i j : ℕ) → a ≡ p + i → b ≡ p + j → c ≡ q + i → d ≡ q + j → i ≤ j → j ≤ m → slice_range xs a b ≡ slice_range ys c d
+  pub alike : (a b c d i j : ℕ) → a ≡ p + i → b ≡ p + j → c ≡ q + i → d ≡ q + j → i ≤ j → j ≤ m → slice_range xs a b ≡ slice_range ys c d
   alike a b c d i j e f g h up few = middle xs p m a b i j here e f up few ∙ ap (λ l. slice_range l i j) same ∙ sym (middle ys q m c d i j there g h up few)
 
   pub length_alike : (a c i : ℕ) → a ≡ p + i → c ≡ q + i → i + 4 ≤ m → length_at xs a ≡ length_at ys c
   unfolding length_at
   length_alike a c i e g few = ap (from_be_bytes w32) (alike a (a + 4) c (c + 4) i (i + 4) e (omega (arith, e)) g (omega (arith, g)) (omega arith) few)
 
-  number_alike : (a c i : ℕ) → a ≡ p + i → c ≡ q + i → i + 8 ≤ m → number_at xs a ≡ number_at ys c
+  pub number_alike : (a c i : ℕ) → a ≡ p + i → c ≡ q + i → i + 8 ≤ m → number_at xs a ≡ number_at ys c
   unfolding number_at
   number_alike a c i e g few = ap (from_be_bytes w64) (alike a (a + 8) c (c + 8) i (i + 8) e (omega (arith, e)) g (omega (arith, g)) (omega arith) few)
 
-  byte_alike : (a c i : ℕ) → a ≡ p + i → c ≡ q + i → i + 1 ≤ m → slice_index xs a ≡ slice_index ys c
+  pub byte_alike : (a c i : ℕ) → a ≡ p + i → c ≡ q + i → i + 1 ≤ m → slice_index xs a ≡ slice_index ys c
   byte_alike a c i e g few =
       let one : slice_range xs a (a + 1) ≡ slice_range ys c (c + 1) = alike a (a + 1) c (c + 1) i (i + 1) e (omega (arith, e)) g (omega (arith, g)) (omega arith) few in
       sym (first_byte xs a) ∙ ap (λ l. get_or l 0 0) one ∙ first_byte ys c

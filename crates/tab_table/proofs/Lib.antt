@@ -20,3 +20,5 @@ pub mod Rebuilt
 pub mod Spliced
 pub mod Based
 pub mod Longer
+pub mod Moved
+pub mod Recalled

@@ -26,6 +26,9 @@ coded_key = code_by (List ℕ × (List ℕ × (List ℕ × (List ℕ × ℤ)))) 
 abbrev coded_record : Coded Record
 coded_record = code_by (Key × (Kind × (List ℕ × (ℕ × ℕ)))) (coded× coded_key (coded× coded_kind (coded× (coded_list coded_ℕ) (coded× coded_ℕ coded_ℕ)))) (λ r. (r.key, (r.kind, (r.value, (r.seq, r.idx))))) (λ p. record { key = p.0; kind = p.1.0; value = p.1.1.0; seq = p.1.1.1.0; idx = p.1.1.1.1 }) (λ _. refl)
 
+pub key_set : (a b : Key) (p q : a ≡ b) → p ≡ q
+key_set = Coded-set coded_key
+
 pub record_set : (a b : Record) (p q : a ≡ b) → p ≡ q
 record_set = Coded-set coded_record
 

@@ -1,5 +1,5 @@
 -- For proofs. What is kept of the last entry that was decoded.
-use Rattle.std.specs.Prelude.{ℕ, pos, ◌≡◌, ◌≤◌, ◌<◌, ◌+◌, ◌-◌, List, ◌++◌, length, slice_index_or}
+use Rattle.std.specs.Prelude.{ℕ, pos, ◌≡◌, ◌≤◌, ◌<◌, ◌+◌, ◌-◌, List, [], ◌∷◌, ◌++◌, length, slice_index_or}
 use Rattle.std.specs.Coded.{Coded-set, coded_ℕ, le_prop}
 use mathlib.Core.HLevel.{Π_prop}
 use Rattle.std.specs.List.{slice_range}
@@ -7,7 +7,7 @@ use Rattle.tab_key.specs.Encoding.{length_at, span_at, record_at, records_at, Is
 use Rattle.tab_key.specs.Records.{Key, Record}
 use Rattle.tab_mem.specs.Lists.{part}
 use Rattle.tab_table.specs.Blocks.{entry_at, entry_end, block_records, place_behind, IsAt-prop, IsEntry, IsEntry-prop}
-use Rattle.tab_table.specs.Codes.{record_set, records_set}
+use Rattle.tab_table.specs.Codes.{key_set, record_set, records_set}
 
 -- a key without its timestamp
 abbrev pub untimed : Key → Key
@@ -52,10 +52,27 @@ pub record IsDecoded (out places : List ℕ) (base : Key) (at : ℕ) (body : Lis
   pub place : at ≡ place_behind body 0 (first + length places)
   pub next : (u : Record) → first + length places < count → IsNext base body at (slice_index_or (block_records body count) (first + length places) u)
 
--- .. and the record that the next entry shares bytes with lies there
+-- The records at some places of a body are those of the entries from one place of the blocks up to another: each is read on the key of
+-- the one before it, the first on this key, and the last has that one.
+abbrev pub AreRead : List ℕ → Key → List ℕ → List ℕ → ℕ → ℕ → Key → Type 0
+AreRead out key [] blocks p end last = (p ≡ end) × (key ≡ last)
+AreRead out key (x ∷ xs) blocks p end last = (record_at out x ≡ entry_at key blocks p) × AreRead out (key_at out x) xs blocks (entry_end blocks p) end last
+
+-- the same where the first is read on its own key, which has what it shares
+abbrev pub AreEntries : List ℕ → List ℕ → List ℕ → ℕ → ℕ → Key → Type 0
+AreEntries out [] blocks p end last = Unit {0}
+AreEntries out (x ∷ xs) blocks p end last = AreRead out (key_at out x) (x ∷ xs) blocks p end last
+
+-- .. and the record that the next entry shares bytes with lies there; the records are those of the entries up to that one
 pub record IsStanding (out places : List ℕ) (base at : ℕ) (body : List ℕ) (count first : ℕ) : Type 0 where
   pub decoded : IsDecoded out places (key_at out base) at body count first
   pub there : IsAt out base
+  pub read : AreEntries out places body (place_behind body 0 first) at (key_at out base)
+
+-- the same of records that are decoded of these bytes, whatever stood before and behind them
+pub record IsKept (out places : List ℕ) (base : ℕ) (bytes : List ℕ) : Type 0 where
+  pub there : IsAt out base
+  pub read : AreEntries out places bytes 0 (length bytes) (key_at out base)
 
 -- ---- these facts have one proof each
 IsNext-prop : (base : Key) (body : List ℕ) (p : ℕ) (r : Record) → IsProp (IsNext base body p r)
@@ -69,8 +86,23 @@ IsDecoded-prop out places base at body count first a b = λ i. record {
   next = Π_prop (λ u. Π_prop λ lt. IsNext-prop base body at (slice_index_or (block_records body count) (first + length places) u)) a.next b.next i;
 }
 
+AreRead-prop : (out : List ℕ) (key : Key) (places blocks : List ℕ) (p end : ℕ) (last : Key) → IsProp (AreRead out key places blocks p end last)
+AreRead-prop out key [] blocks p end last a b = λ i. (Coded-set coded_ℕ _ _ a.0 b.0 i, key_set _ _ a.1 b.1 i)
+AreRead-prop out key (x ∷ xs) blocks p end last a b = λ i. (record_set _ _ a.0 b.0 i, AreRead-prop out (key_at out x) xs blocks (entry_end blocks p) end last a.1 b.1 i)
+
+AreEntries-prop : (out places blocks : List ℕ) (p end : ℕ) (last : Key) → IsProp (AreEntries out places blocks p end last)
+AreEntries-prop out [] blocks p end last a b = λ i. tt
+AreEntries-prop out (x ∷ xs) blocks p end last a b = AreRead-prop out (key_at out x) (x ∷ xs) blocks p end last a b
+
 pub IsStanding-prop : (out places : List ℕ) (base at : ℕ) (body : List ℕ) (count first : ℕ) → IsProp (IsStanding out places base at body count first)
 IsStanding-prop out places base at body count first a b = λ i. record {
   decoded = IsDecoded-prop out places (key_at out base) at body count first a.decoded b.decoded i;
   there = IsAt-prop out base a.there b.there i;
+  read = AreEntries-prop out places body (place_behind body 0 first) at (key_at out base) a.read b.read i;
+}
+
+pub IsKept-prop : (out places : List ℕ) (base : ℕ) (bytes : List ℕ) → IsProp (IsKept out places base bytes)
+IsKept-prop out places base bytes a b = λ i. record {
+  there = IsAt-prop out base a.there b.there i;
+  read = AreEntries-prop out places bytes 0 (length bytes) (key_at out base) a.read b.read i;
 }

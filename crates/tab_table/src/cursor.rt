@@ -7,6 +7,8 @@ ghost use Rattle.tab_table.specs.Blocks.{block_records};
 ghost use Rattle.tab_table.specs.Windows.{IsWindow, IsWindow-prop, Has, Holds-prop, IsPassed};
 
 use crate::SortedTable;
+use crate::block_cache::BlockCache;
+use crate::kept::Kept;
 use crate::window::Window;
 use std::alloc::{AllocError, Global};
 use std::ops::Range;
@@ -53,6 +55,7 @@ pub struct TableCursor<T: HasSortedTable> {
     at: usize,
     end: usize,
     window: Window,
+    cache: BlockCache,
     // there is no top until a seek succeeds: it stands at the end
     unpositioned: bool,
     ghost ordered: { from ≤ at },
@@ -98,13 +101,19 @@ impl<T: HasSortedTable + Drop> TableCursor<T> {
         ensures whole { IfOk result (λ c. ⟦<TableCursor<T> as Source>⟧.whole c ≡ part from end (records (T.table table))) }
         ensures rest { IfOk result (λ c. ⟦<TableCursor<T> as Source>⟧.rest c ≡ part from end (records (T.table table))) }
     {
-        let mut cursor = TableCursor::unpositioned(alloc, table, from, end);
+        let mut cursor = TableCursor::unpositioned(alloc, table, from, end, BlockCache::of(0));
         cursor.go_to(from)?;
         Ok(cursor)
     }
 
-    /// The same, unpositioned: nothing is read before a seek. It takes no memory.
-    pub fn unpositioned(alloc: Global, table: T, from: usize, end: usize) -> TableCursor<T>
+    /// The same, unpositioned: nothing is read before a seek. A seek looks in the cache for what it would decode. It takes no memory.
+    pub fn unpositioned(
+        alloc: Global,
+        table: T,
+        from: usize,
+        end: usize,
+        cache: BlockCache,
+    ) -> TableCursor<T>
         requires ends { from ≤ end }
         requires inside { end ≤ length (records (T.table table)) }
         ensures whole { ⟦<TableCursor<T> as Source>⟧.whole result ≡ part from end (records (T.table table)) }
@@ -119,8 +128,24 @@ impl<T: HasSortedTable + Drop> TableCursor<T> {
             at: end,
             end,
             window: Window::new(alloc),
+            cache,
             unpositioned: true,
         }
+    }
+
+    /// Its cache, with what it had decoded last.
+    pub fn into_cache(self, alloc: Global) -> BlockCache {
+        let TableCursor {
+            table,
+            window,
+            cache,
+            ..
+        } = self;
+        let mut cache = cache;
+        if let Some(kept) = Kept::of(&table.table().packed, window) {
+            cache.keep(alloc, kept);
+        }
+        cache
     }
 }
 
@@ -164,6 +189,7 @@ impl<T: HasSortedTable> TableCursor<T> {
         self.at = self.end;
         self.unpositioned = true;
         let packed = &self.table.table().packed;
+        self.window.recall(&mut self.cache, packed, low);
         let index = self.window.find(packed, low, high, target)?;
         self.go_to(index)?;
         Ok(())

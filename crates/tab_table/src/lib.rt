@@ -14,15 +14,18 @@
 //! | `agreement`, `key_agreement` | how a record compares with a key, found from entry to entry |
 //! | `part_bytes`, `same` | single bytes of a record's parts, and whether two records are the same |
 //! | `window` | the records that are decoded, and which ones they are |
+//! | `kept`, `block_cache` | what cursors left of it, which the next one may take up |
 #![tactic(auto)]
 
 mod agreement;
+mod block_cache;
 mod blocks;
 mod building;
 mod cursor;
 mod decoded;
 mod entry;
 mod heads;
+mod kept;
 mod key_agreement;
 mod packed;
 mod part_bytes;
@@ -34,5 +37,6 @@ mod sorted_table;
 mod window;
 mod writing;
 
+pub use block_cache::BlockCache;
 pub use cursor::{Cursor, HasSortedTable, OwnedCursor, TableCursor};
 pub use sorted_table::SortedTable;

@@ -1,5 +1,5 @@
 //! The records of a table that are decoded, and which ones they are.
-ghost use Rattle.std.specs.Prelude.{◌≡◌, ◌+◌, ◌*◌, ◌<◌, ◌≤◌, ◌↔◌, true, false, IsTrue, List, [], IfOk, OnOk, ℕ, length, max, min};
+ghost use Rattle.std.specs.Prelude.{◌≡◌, ◌+◌, ◌*◌, ◌%◌, ◌<◌, ◌≤◌, ◌↔◌, true, false, IsTrue, List, [], IfOk, OnOk, ℕ, length, max, min};
 ghost use Rattle.std.specs.List.{slice_index_or, prefix_len};
 ghost use Rattle.tab_iter.specs.Lists.{IsRising};
 ghost use Rattle.tab_key.specs.Records.{Record as Fields};
@@ -7,11 +7,13 @@ ghost use Rattle.tab_mem.specs.Starts.{is_before};
 ghost use Rattle.tab_table.specs.Blocks.{block_records};
 ghost use Rattle.tab_table.specs.Windows.{IsWindow, Has};
 
+use crate::block_cache::BlockCache;
 use crate::decoded::Decoded;
 use crate::entry::BLOCK_LEN;
 use crate::packed::Packed;
 use crate::restarts::RESTART_LEN;
 use std::alloc::{AllocError, Global};
+use std::mem;
 use tab_key::RecordRef;
 use tab_mem::Target;
 
@@ -84,6 +86,33 @@ impl Window {
             self.one_more(packed)?;
         }
         Ok(())
+    }
+
+    /// Takes the records of the cache in the place of these, where those serve for this index and these don't.
+    pub(crate) fn recall(&mut self, cache: &mut BlockCache, packed: &Packed, index: usize)
+        requires { IsWindow self.old packed.now.bytes packed.now.count }
+        ensures { IsWindow self.new packed.now.bytes packed.now.count }
+    {
+        if self.serves(index) {
+            return;
+        }
+        if let Some(window) = cache.take(packed, index) {
+            let _ = mem::replace(self, window);
+        }
+    }
+
+    /// Whether the record with this index is there, or near behind: then it is had without a restart.
+    pub(crate) fn serves(&self, index: usize) -> bool {
+        self.has(index) || self.is_near(index)
+    }
+
+    /// Whether it has records, the first of them one at which decoding may begin.
+    pub(crate) fn begins_at_restart(&self) -> bool
+        ensures known { IsTrue result → self.now.known ≡ true }
+        ensures some { IsTrue result → 0 < length self.now.records.places.items }
+        ensures restart { IsTrue result → self.now.first % RESTART_LEN ≡ 0 }
+    {
+        self.known && self.records.len() != 0 && self.first % RESTART_LEN == 0
     }
 
     // Whether it ends before the index, at most some records. Only speed hangs on how far that may be.

@@ -15,7 +15,7 @@ use std::sync::Arc;
 use tab_iter::{NoMemory, Source};
 use tab_key::{Bounds, ByteString, Key};
 use tab_mem::{Run, RunCursor};
-use tab_table::{Cursor, SortedTable};
+use tab_table::{BlockCache, Cursor, SortedTable};
 
 /// The records of a shared run or table whose rows lie in bounds. A contract sees the list of these records.
 ///
@@ -219,10 +219,10 @@ impl ClipOf<SortedTable> {
     }
 
     /// The same, unpositioned: no record is read before a seek. It takes no memory.
-    pub(crate) fn unread_cursor<'a>(&'a self, alloc: Global) -> Cursor<'a>
+    pub(crate) fn unread_cursor<'a>(&'a self, alloc: Global, cache: BlockCache) -> Cursor<'a>
         ensures { ⟦<Cursor<'a> as Source>⟧.whole result ≡ self.now }
     {
         let table: &'a SortedTable = &self.whole;
-        Cursor::unpositioned(alloc, table, self.from, self.end)
+        Cursor::unpositioned(alloc, table, self.from, self.end, cache)
     }
 }

@@ -8,6 +8,7 @@ ghost use Rattle.tab_table.specs.SortedTables.{records};
 ghost use Rattle.tab_version.specs.Clips.{lists_of};
 ghost use Rattle.tab_version.specs.Sources.{no_sources, records_of, clipped, same_sources, left_by};
 
+use crate::caches::Caches;
 use crate::cutting::{runs_in, tables_in};
 use crate::has_records::{HasRecords, count_all};
 use crate::sought::pair_up;
@@ -217,19 +218,21 @@ impl Clips {
         Ok(cursors)
     }
 
-    /// The same, but those over tables are unpositioned: no record of these is read before a seek.
+    /// The same, but those over tables are unpositioned, and have the caches of this tablet: no record of these is read before a seek.
     ///
     /// It takes memory for the cursors alone. `AllocError` says that it lacked.
     pub(crate) fn unread_cursors<'a>(
         &'a self,
         alloc: Global,
+        caches: &mut Caches,
+        tablet: usize,
     ) -> Result<Vec<ClipCursor<'a>>, AllocError>
         ensures { IfOk result (λ v. flat (map ⟦<ClipCursor<'a> as Source>⟧.whole v.items) ≡ records_of self.now) }
     {
         let count = self.runs.len().saturating_add(self.tables.len());
         let mut cursors = Vec::with_capacity(alloc, count)?;
         put_runs(&mut cursors, &self.runs)?;
-        put_unread(alloc, &mut cursors, &self.tables)?;
+        put_unread(alloc, &mut cursors, &self.tables, caches, tablet)?;
         Ok(cursors)
     }
 
@@ -249,14 +252,23 @@ impl Clips {
         }
     }
 
-    /// The same, but over a table it is unpositioned: no record of it is read before a seek. It takes no memory.
-    pub(crate) fn only_unread<'a>(&'a self, alloc: Global) -> Option<ClipCursor<'a>>
+    /// The same, but over a table it is unpositioned, and has this tablet's cache: no record of it is read before a seek. It takes no
+    /// memory.
+    pub(crate) fn only_unread<'a>(
+        &'a self,
+        alloc: Global,
+        caches: &mut Caches,
+        tablet: usize,
+    ) -> Option<ClipCursor<'a>>
         ensures { IfSome result (λ c. ⟦<ClipCursor<'a> as Source>⟧.whole c ≡ sorted (records_of self.now)) }
     {
         let counts = (self.runs.len(), self.tables.len());
         match counts {
             (1, 0) => Some(OneOf::First(self.runs[0].cursor())),
-            (0, 1) => Some(OneOf::Second(self.tables[0].unread_cursor(alloc))),
+            (0, 1) => {
+                let cache = caches.take(tablet, 0);
+                Some(OneOf::Second(self.tables[0].unread_cursor(alloc, cache)))
+            }
             _ => None,
         }
     }
@@ -313,16 +325,19 @@ fn put_tables<'a>(
     Ok(())
 }
 
-// The same, unpositioned.
+// The same, unpositioned, each with its cache, by its place among the cursors.
 fn put_unread<'a>(
     alloc: Global,
     cursors: &mut Vec<ClipCursor<'a>>,
     clips: &'a [TableClip],
+    caches: &mut Caches,
+    tablet: usize,
 ) -> Result<(), AllocError>
     ensures { OnOk result (map ⟦<ClipCursor<'a> as Source>⟧.whole cursors.new.items ≡ map ⟦<ClipCursor<'a> as Source>⟧.whole cursors.old.items ++ map (λ t. t.records) clips.now) }
 {
     for clip in clips {
-        let cursor = clip.unread_cursor(alloc);
+        let cache = caches.take(tablet, cursors.len());
+        let cursor = clip.unread_cursor(alloc, cache);
         cursors.push(OneOf::Second(cursor))?;
     }
     Ok(())

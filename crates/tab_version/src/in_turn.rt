@@ -65,6 +65,21 @@ impl<L: Lists<S> + Drop, S: Source + Drop> InTurn<L, S> {
             unpositioned: true,
         }
     }
+
+    /// The lists, to which the source that was read last is given back.
+    pub fn into_lists(self) -> L {
+        let InTurn {
+            lists,
+            current,
+            next,
+            ..
+        } = self;
+        let mut lists = lists;
+        if let Some(source) = current {
+            lists.leave(next.saturating_sub(1), source);
+        }
+        lists
+    }
 }
 
 impl<L: Lists<S>, S: Source + Drop> Source for InTurn<L, S> {

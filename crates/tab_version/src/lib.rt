@@ -12,11 +12,13 @@
 //! | `has_records` | what is asked of the records that clips hold |
 //! | `lists` | lists of records, one behind the other |
 //! | `in_turn` | the records of such lists, of which one is read at a time |
+//! | `caches` | what scans leave behind of the tables that they read |
 //! | `tablets` | tablets as such lists |
 //! | `laws`, `specs/Choices` | that what is left behind sources that are taken out is what a choice of the inputs leaves |
 //! | `version` | the records of tablets, and the stack of layers over them that a scan reads |
 #![tactic(auto)]
 
+mod caches;
 mod clip;
 mod clips;
 mod cutting;
@@ -32,6 +34,7 @@ mod tablets;
 mod taking;
 mod version;
 
+pub use caches::Caches;
 pub use clip::{Clip, ClipOf};
 pub use clips::{ClipCursor, Clips};
 pub use frozen_records::FrozenRecords;
@@ -40,5 +43,5 @@ pub use laws::left_by_choice;
 pub use lists::Lists;
 pub use one_of::OneOf;
 pub use table_clip::TableClip;
-pub use tablets::TabletSource;
-pub use version::{Raw, Stack, Version};
+pub use tablets::{TabletSource, Tablets};
+pub use version::{Raw, Stack, Version, caches_of};

@@ -15,7 +15,7 @@ use std::marker::Model;
 use std::sync::Arc;
 use tab_iter::{NoMemory, Source};
 use tab_key::{Bounds, ByteString, Key};
-use tab_table::{Cursor, SortedTable};
+use tab_table::{BlockCache, Cursor, SortedTable};
 
 /// The records of a shared table whose rows lie in bounds, and the size of the whole table, in bytes.
 #[derive(Drop)]
@@ -129,10 +129,10 @@ impl TableClip {
     }
 
     // The same, unpositioned: no record is read before a seek. It takes no memory.
-    pub(crate) fn unread_cursor<'a>(&'a self, alloc: Global) -> Cursor<'a>
+    pub(crate) fn unread_cursor<'a>(&'a self, alloc: Global, cache: BlockCache) -> Cursor<'a>
         ensures { ⟦<Cursor<'a> as Source>⟧.whole result ≡ self.now.records }
     {
-        self.part.unread_cursor(alloc)
+        self.part.unread_cursor(alloc, cache)
     }
 
     /// The size of the whole table, in bytes, as `SortedTable::size` of `tab_table` counts them.

@@ -13,7 +13,7 @@ ghost use Rattle.tab_version.specs.Sources.{records_of};
 
 use crate::has_records::read_all;
 use crate::tablets::drop_empty;
-use crate::{Clips, InTurn, TabletSource};
+use crate::{Caches, Clips, InTurn, TabletSource, Tablets};
 use std::alloc::Global;
 use std::marker::Model;
 use tab_iter::{NoMemory, Source, Verdicts, stack_of, stack_unread};
@@ -24,7 +24,7 @@ use tab_label::AuthSet;
 pub type Stack<'a> = tab_iter::Stack<'a, Raw<'a>>;
 
 /// All records of a version, markers and hidden ones among them: one tablet after another.
-pub type Raw<'a> = InTurn<&'a [Clips], TabletSource<'a>>;
+pub type Raw<'a> = InTurn<Tablets<'a>, TabletSource<'a>>;
 
 /// What a session reads: the clips of tablets, as they stood. The tablets lie one behind the other, and no two records stand at one
 /// place. A contract sees the records of all clips, one clip after another.
@@ -67,7 +67,7 @@ impl Version {
     }
 
     /// The records that a scan of all rows shows: of these columns, under these authorizations, so many versions of each column. There
-    /// may be verdicts on labels under these authorizations, of an earlier batch.
+    /// may be verdicts on labels under these authorizations, and caches, of an earlier batch.
     ///
     /// NoMemory comes only from want of memory. The version stays as it is; the stack reads it for as long as it lives.
     pub fn stack<'a>(
@@ -76,6 +76,7 @@ impl Version {
         columns: &'a [Column],
         auths: &'a AuthSet,
         verdicts: Verdicts,
+        caches: Caches,
         versions: u32,
     ) -> Result<Stack<'a>, NoMemory>
         requires { IsSound auths.now verdicts }
@@ -83,7 +84,11 @@ impl Version {
         ensures cells { IfOk result (λ s. map cell_of (⟦<Stack<'a> as Source>⟧.whole s) ≡ cells self.now versions (query_of columns.now auths.now)) }
         ensures at_start { IfOk result (λ s. ⟦<Stack<'a> as Source>⟧.rest s ≡ ⟦<Stack<'a> as Source>⟧.whole s) }
     {
-        let all = InTurn::new(alloc, self.tablets.as_slice())?;
+        let tablets = Tablets {
+            tablets: self.tablets.as_slice(),
+            caches,
+        };
+        let all = InTurn::new(alloc, tablets)?;
         let stack = stack_of(alloc, all, columns, auths, verdicts, versions)?;
         Ok(stack)
     }
@@ -96,13 +101,18 @@ impl Version {
         columns: &'a [Column],
         auths: &'a AuthSet,
         verdicts: Verdicts,
+        caches: Caches,
         versions: u32,
     ) -> Stack<'a>
         requires { IsSound auths.now verdicts }
         ensures shown { ⟦<Stack<'a> as Source>⟧.whole result ≡ shown self.now versions columns.now auths.now }
         ensures unpositioned { ⟦<Stack<'a> as Source>⟧.is_unpositioned result ≡ true }
     {
-        let all = InTurn::unpositioned(alloc, self.tablets.as_slice());
+        let tablets = Tablets {
+            tablets: self.tablets.as_slice(),
+            caches,
+        };
+        let all = InTurn::unpositioned(alloc, tablets);
         stack_unread(alloc, all, columns, auths, verdicts, versions)
     }
 
@@ -114,7 +124,17 @@ impl Version {
         ensures rest { IfOk result (λ s. ⟦<Raw<'a> as Source>⟧.rest s ≡ ⟦<Raw<'a> as Source>⟧.whole s) }
         ensures short { OnOk result (HasShortParts self.now) }
     {
-        let all = InTurn::new(alloc, self.tablets.as_slice())?;
+        let tablets = Tablets {
+            tablets: self.tablets.as_slice(),
+            caches: Caches::of(alloc, 0),
+        };
+        let all = InTurn::new(alloc, tablets)?;
         Ok(all)
     }
+}
+
+/// The caches that a scan began with, with what it read last.
+pub fn caches_of(all: Raw<'_>) -> Caches {
+    let Tablets { caches, .. } = all.into_lists();
+    caches
 }

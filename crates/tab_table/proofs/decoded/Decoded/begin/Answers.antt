@@ -50,4 +50,4 @@ returns-clause-decoded c = λ count index laid lt is.
     let written : take c.grow.new.body.len (c.write_base-self.new.out ++ drop (length c.write_base-self.new.out) c.grow.new.body.items) ≡ c.write_base-self.new.out = back c.grow.new.body.items c.write_base-self.new.out c.grow.new.body.len items (c.write_base-self.ensures.length ∙ ap length all) in
     subst (λ (xs : List ℕ). IsStanding (take c.write_base-self.result xs) c.reserve.new.self.items 0 p blocks count index) (sym written)
     (subst (λ (ps : List ℕ). IsStanding whole ps 0 p blocks count index) (sym none)
-    (record { decoded = subst (λ k. IsDecoded whole [] k p blocks count index) (sym key) decoded; there = at }))
+    (record { decoded = subst (λ k. IsDecoded whole [] k p blocks count index) (sym key) decoded; there = at; read = tt }))

@@ -3,9 +3,10 @@ use Rattle.std.proofs.Common.{rules, ◌≡◌, ◌≤◌, ◌+◌, List, ℕ, [
 use Rattle.std.proofs.lemmas.List.{length-take-le}
 use Rattle.tab_key.specs.Encoding.{record_at, IsAt, AreAt}
 use Rattle.tab_key.proofs.Placed.{head_inside, pushed_at}
-use Rattle.tab_table.specs.Blocks.{entry_at, entry_end, IsEntry}
-use Rattle.tab_table.specs.Decoding.{untimed, key_at, IsDecoded, IsStanding}
+use Rattle.tab_table.specs.Blocks.{entry_at, entry_end, place_behind, IsEntry}
+use Rattle.tab_table.specs.Decoding.{untimed, key_at, AreEntries, IsDecoded, IsStanding}
 use Rattle.tab_table.proofs.Inside.{counts_inside, read_end}
+use Rattle.tab_table.proofs.Moved.{read_more}
 use Rattle.tab_table.proofs.Longer.{back}
 use Rattle.tab_table.proofs.Onward.{decoded_more}
 use Rattle.tab_table.proofs.decoded.Decoded.write_next.Goals as goal
@@ -76,4 +77,7 @@ returns-clause-decoded c = λ count first laid lt known.
     (record {
       decoded = subst (λ k. IsDecoded out2 (places ++ p ∷ []) k (at + c.size-more.result) blocks count first) (sym (ap (λ u. untimed u.key) reads)) (subst (λ q. IsDecoded out2 (places ++ p ∷ []) (untimed (entry_at base blocks at).key) q blocks count first) (sym next) more);
       there = c.write_record-self.ensures.within;
+      read =
+          subst (λ q. AreEntries out2 (places ++ p ∷ []) blocks (place_behind blocks 0 first) q (key_at out2 p)) (sym next)
+          (read_more out out2 places blocks first at p base self.within front known.decoded.place c.requires.entry known.read reads);
     }))

@@ -27,4 +27,4 @@ returns-clause-window c = λ _.
     let on : (u : _) → next < count → IsNext key bytes new.at (slice_index_or (block_records bytes count) next u) = λ u lt. subst (λ p. IsNext key bytes p (slice_index_or (block_records bytes count) next u)) (sym c.forget.ensures.place) (subst (λ (k : Key). IsNext k bytes old.at (slice_index_or (block_records bytes count) next u)) (sym c.forget.ensures.key) (known.decoded.next u lt)) in
     let none : IsDecoded out [] key new.at bytes count next = none_decoded out key new.at bytes count next known.decoded.inside (c.forget.ensures.place ∙ known.decoded.place) on in
     subst (λ n. IsStanding out new.places.items new.base new.at bytes count (first + n)) (sym c.len-count.ensures)
-    (subst (λ (ps : List ℕ). IsStanding out ps new.base new.at bytes count next) (sym c.forget.ensures.none) (record { decoded = none; there = c.forget.ensures.base }))
+    (subst (λ (ps : List ℕ). IsStanding out ps new.base new.at bytes count next) (sym c.forget.ensures.none) (record { decoded = none; there = c.forget.ensures.base; read = tt }))

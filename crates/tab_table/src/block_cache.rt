@@ -1,0 +1,61 @@
+//! What cursors over a table had decoded when they were left.
+ghost use Rattle.std.specs.Prelude.{IfSome};
+ghost use Rattle.tab_table.specs.Windows.{IsWindow};
+
+use crate::entry::BLOCK_LEN;
+use crate::kept::Kept;
+use crate::packed::Packed;
+use crate::window::Window;
+use lru::LruCache;
+use std::alloc::Global;
+use std::num::NonZeroUsize;
+
+/// What cursors over a table had decoded when they were left, by blocks: of so many blocks at most, of each what the last cursor there had
+/// read. It takes no memory before the first is put in.
+///
+/// What is taken out is compared with the table first: so it may be lent to a cursor over any table.
+#[derive(Drop)]
+pub struct BlockCache {
+    most: usize,
+    // none before the first is put in
+    blocks: Option<LruCache<usize, Kept>>,
+}
+
+impl BlockCache {
+    /// An empty one, of so many blocks at most; of 0 blocks it stays empty.
+    pub fn of(most: usize) -> BlockCache {
+        BlockCache { most, blocks: None }
+    }
+
+    /// Whether nothing was put in yet.
+    pub fn is_empty(&self) -> bool {
+        self.blocks.is_none()
+    }
+
+    /// Takes out what is kept of the block of the record with this index, where it is the table's and that record is in it or near behind.
+    pub(crate) fn take(&mut self, packed: &Packed, index: usize) -> Option<Window>
+        ensures { IfSome result (λ w. IsWindow w packed.now.bytes packed.now.count) }
+    {
+        let blocks = self.blocks.as_mut()?;
+        let kept = blocks.pop(&(index / BLOCK_LEN))?;
+        kept.into_window(packed, index)
+    }
+
+    /// Puts records in, in the place of those that were put in least lately. Where memory lacks they are dropped.
+    pub(crate) fn keep(&mut self, alloc: Global, kept: Kept) {
+        self.make(alloc);
+        if let Some(blocks) = &mut self.blocks {
+            let _ = blocks.push(kept.block(), kept);
+        }
+    }
+
+    // Makes room for blocks, where there is none yet.
+    fn make(&mut self, alloc: Global) {
+        if self.blocks.is_some() {
+            return;
+        }
+        if let Some(most) = NonZeroUsize::new(self.most) {
+            self.blocks = LruCache::sparse(alloc, most).ok();
+        }
+    }
+}
