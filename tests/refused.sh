@@ -1,6 +1,6 @@
 #!/usr/bin/env bash
-# Sees what the compiler refuses, beside what is like it and is accepted: a stack of layers that outlives the version which it reads,
-# and a receipt that is made elsewhere than by a book. No must-fail edit can say so, since those reach the prover.
+# Sees what the compiler refuses, beside what is like it and is accepted: a stack of layers that outlives the version which it reads, a
+# cursor that outlives its table, and a receipt that is made elsewhere than by a book. No must-fail edit can say so, since those reach the prover.
 # Usage: tests/refused.sh   (from anywhere; wants the kit, and the libraries that rt ci or build.sh LOG --keep built)
 set -eu
 top=$(cd "$(dirname -- "${BASH_SOURCE[0]}")/.." && pwd)
@@ -8,7 +8,7 @@ work=$(mktemp -d)
 trap 'rm -rf "$work"' EXIT
 . "$top/tests/needs" rt
 kit=$(dirname -- "$(rt doc)")
-libraries='tab_key tab_label tab_iter tab_version tab_book'
+libraries='tab_key tab_label tab_iter tab_table tab_version tab_book'
 for library in $libraries; do
     [ -d "$top/crates/$library/out/rlib" ] && continue
     printf '%s\n' 'skipped: the libraries are not built (build.sh LOG --keep builds them)' '0 passed, 0 failed, 1 skipped'
@@ -55,9 +55,15 @@ tells_apart() { # NAME IMPORTS ACCEPTED REFUSED REASON
 takes='alloc: Global, columns: &'\''a [Column], auths: &'\''a AuthSet'
 gives='Result<Stack<'\''a>, NoMemory>'
 tells_apart 'a stack that outlives its version' \
-    'use std::alloc::Global; use tab_iter::{NoMemory, Verdicts}; use tab_key::Column; use tab_label::AuthSet; use tab_version::{Stack, Version};' \
-    "pub fn lent<'a>(version: &'a Version, $takes) -> $gives { version.stack(alloc, columns, auths, Verdicts::none(alloc), 1) }" \
-    "pub fn kept<'a>(version: Version, $takes) -> $gives { version.stack(alloc, columns, auths, Verdicts::none(alloc), 1) }" \
+    'use std::alloc::Global; use tab_iter::{NoMemory, Verdicts}; use tab_key::Column; use tab_label::AuthSet; use tab_version::{Caches, Stack, Version};' \
+    "pub fn lent<'a>(version: &'a Version, $takes) -> $gives { version.stack(alloc, columns, auths, Verdicts::none(alloc), Caches::of(alloc, 8), 1) }" \
+    "pub fn kept<'a>(version: Version, $takes) -> $gives { version.stack(alloc, columns, auths, Verdicts::none(alloc), Caches::of(alloc, 8), 1) }" \
+    'error\[borrow'
+
+tells_apart 'a cursor that outlives its table' \
+    'use std::alloc::Global; use tab_iter::NoMemory; use tab_table::{Cursor, SortedTable};' \
+    "pub fn lent<'a>(alloc: Global, table: &'a SortedTable) -> Result<Cursor<'a>, NoMemory> { Cursor::new(alloc, table) }" \
+    "pub fn kept<'a>(alloc: Global, table: SortedTable) -> Result<Cursor<'a>, NoMemory> { Cursor::new(alloc, &table) }" \
     'error\[borrow'
 
 tells_apart 'a receipt with another number' \

@@ -5,25 +5,33 @@ use std::alloc::Global;
 use std::process::Abort;
 use tab_cells::Compaction;
 use tab_compact::{Job, merge_many};
-use tab_table::SortedTable;
+use tab_iter::Source;
+use tab_table::{Cursor, SortedTable};
 use tab_testing::{Holding, Random, Update, table_len};
 
+// The cursor has the records of these updates left, and no others.
+fn expect_left(rt: &impl Abort, cursor: &mut Cursor<'_>, want: &[Update]) {
+    for update in want {
+        let top = cursor.top();
+        let is_next = top.is_some_and(|record| update.is_record(&record));
+        assert!(rt; is_next);
+        cursor.advance().expect(rt, "memory");
+    }
+    assert!(rt; cursor.top().is_none());
+}
+
 // The table has the records of these updates, in their order, and their size.
-fn expect_table(rt: &impl Abort, table: &SortedTable, want: &[Update]) {
+fn expect_table(rt: &impl Abort, alloc: Global, table: &SortedTable, want: &[Update]) {
     assert!(rt; table.len() == want.len());
     assert!(rt; table.size() == table_len(want));
-    for index in 0..table.len() {
-        let entry = table.get(index);
-        if let Some(update) = want.get(index) {
-            assert!(rt; update.is_record(&entry));
-        }
-    }
+    let mut cursor = Cursor::new(alloc, table).expect(rt, "memory");
+    expect_left(rt, &mut cursor, want);
 }
 
 // The merge keeps these.
 fn expect_merged(rt: &impl Abort, alloc: Global, job: Job, want: &[Update]) {
     match job.merge(alloc) {
-        Ok(finished) => expect_table(rt, finished.table(), want),
+        Ok(finished) => expect_table(rt, alloc, finished.table(), want),
         Err(_) => panic!(rt; "memory"),
     }
 }
@@ -106,7 +114,7 @@ fn many_jobs_are_merged_as_each_is(rt: HostRuntime) {
     };
     assert!(rt; finished.len() == 8);
     for (merge, want) in finished.iter().zip(&wanted) {
-        expect_table(&rt, merge.table(), want);
+        expect_table(&rt, alloc, merge.table(), want);
     }
 }
 

@@ -6,8 +6,9 @@
 //! | File | What is tested |
 //! |---|---|
 //! | `layers` | a small table; `system_iterators`: each of them alone; `failing`: each layer and the stack of them, over a source of it that fails once |
-//! | `versions` | versions of runs and of a table; `cuts`: over many tablets; `copies`: runs built of these, and copied rows; `sessions`: when a session is done; `ranges`: many of them at once |
+//! | `versions` | versions of runs and of a table; `cuts`: over many tablets; `copies`: runs built of these, and copied rows; `sessions`: when a session is done; `ranges`: many of them at once; `caches`: batches with caches of each size |
 //! | `tablets` | scans of what was written, beside the model; `bodies`: few runs, however often one is frozen; `parts`: a merge that another one began |
+//! | `tables` | tables of no block, one and several, beside the list of their records |
 //! | `jobs` | merges of random sources of each kind, beside the model |
 //! | `sources` | helpers: sources of what is written, and random ones |
 //! | `writing`, `reading` | helpers: runs and versions of what is written, and what a source has left |
@@ -21,6 +22,8 @@ mod layers;
 mod reading;
 #[cfg(test)]
 mod sources;
+#[cfg(test)]
+mod tables;
 #[cfg(test)]
 mod tablets;
 #[cfg(test)]

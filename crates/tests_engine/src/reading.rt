@@ -7,7 +7,7 @@ use tab_iter::{Source, Verdicts};
 use tab_key::{Column, Record};
 use tab_label::AuthSet;
 use tab_testing::{Query, Update, from_key};
-use tab_version::Version;
+use tab_version::{Caches, Version};
 
 /// No verdicts on labels yet, under these authorizations.
 pub fn unjudged(alloc: Global, auths: &AuthSet) -> Verdicts
@@ -66,7 +66,9 @@ fn expect_stack<'a>(
     want: &[Update],
     sought: &Update,
 ) {
-    let stack = version.stack(alloc, columns, auths, unjudged(alloc, auths), versions);
+    let verdicts = unjudged(alloc, auths);
+    let caches = Caches::of(alloc, 8);
+    let stack = version.stack(alloc, columns, auths, verdicts, caches, versions);
     let mut stack = stack.expect(rt, "memory");
     expect_same(rt, &rest_of(rt, alloc, &mut stack), want);
     Source::seek(&mut stack, sought.key()).expect(rt, "memory");

@@ -3,6 +3,7 @@ ghost use Rattle.std.specs.Prelude.{◌≡◌, IfOk, map, option_to_list};
 ghost use Rattle.tab_iter.specs.Bags.{flat};
 ghost use Rattle.tab_version.specs.Sources.{records_of};
 
+mod caches;
 mod copies;
 mod cuts;
 mod ranges;

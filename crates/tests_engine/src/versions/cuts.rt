@@ -123,6 +123,29 @@ pub fn random_version(
     Version::of(tablets)
 }
 
+/// A table of 200 random mutations, cut into three tablets.
+pub fn tabled_version(rt: &impl Abort, alloc: Global) -> Version {
+    let mut table = Vec::new(alloc);
+    let mut writer = Writer::new(alloc);
+    let mut random = Random::new(37);
+    fill(
+        rt,
+        alloc,
+        &mut random,
+        &mut writer,
+        &ROWS,
+        0,
+        200,
+        &mut table,
+    );
+    let clip = Clip::whole(writer.freeze(rt, alloc));
+    let mut clips = Vec::new(alloc);
+    add(rt, alloc, &mut clips, clip, 0, 200).expect(rt, "memory");
+    let all = last_tabled(alloc, clips).expect(rt, "memory");
+    let tablets = cut(alloc, all, &[b"b", b"q"]).expect(rt, "memory");
+    Version::of(tablets)
+}
+
 /// Tablets without a record.
 pub fn bare_version(rt: &impl Abort, alloc: Global) -> Version {
     let none = Clips::of(Vec::new(alloc), Vec::new(alloc));
