@@ -251,9 +251,23 @@ def accumulo():
         made = b"createuser " + user["name"] in plain
         count("accumulo: users", made == (user["name"] != b"root"), user)
         auths = [line for line in plain if line.startswith(b"setauths -u %s " % user["name"])]
-        # one with a comma can't be told from two: docs/ACCUMULO.md says so
+        told = [line for line in plain if line.startswith(b"# authorizations %s " % user["name"])]
+        if any(b"," in term for term in user["auths"]):
+            count("accumulo: one with a comma", not auths and told == [b"# authorizations %s not set: one has a comma" % user["name"]], (auths, told))
+            continue
         wanted = b'-s "%s"' % b",".join(user["auths"]) if user["auths"] else b"-c"
-        count("accumulo: authorizations", len(auths) == 1 and shell_token(auths[0].split(b" ", 3)[3]) == wanted, auths)
+        count("accumulo: authorizations", len(auths) == 1 and not told and shell_token(auths[0].split(b" ", 3)[3]) == wanted, auths)
+
+
+def commas():
+    """An authorization with a comma makes no others there, whatever stands beside it; users without one get theirs."""
+    lines = [b"createuser " + name for name in (b"ann", b"bob", b"cy", b"dee")]
+    lines += [b"setauths ann a\\x2cb", b"setauths bob a,b", b"setauths cy A,z\\x2c,zz"]
+    saved("commas", b"\n".join(lines))
+    told = run(["export", "--accumulo", "commas"]).stdout.split(b"\n")
+    wanted = [b"# authorizations ann not set: one has a comma", b'setauths -u bob -s "a,b"', b"# authorizations cy not set: one has a comma",
+              b"setauths -u dee -c", b"setauths -u root -c"]
+    count("accumulo: commas", [line for line in told if b"auth" in line] == wanted, told)
 
 
 with tempfile.TemporaryDirectory() as work:
@@ -269,5 +283,6 @@ with tempfile.TemporaryDirectory() as work:
     versions()
     folder()
     accumulo()
+    commas()
 print("%d passed, %d failed" % (passed, failed))
 sys.exit(failed != 0)

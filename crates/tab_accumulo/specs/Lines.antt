@@ -1,6 +1,6 @@
 -- To be believed by whoever relies on it. The lines of Accumulo's shell that make what an image says.
-use Rattle.std.specs.Prelude.{ℕ, List, [], ◌∷◌, ◌++◌, reverse, codes, cond}
-use Rattle.std.specs.List.{flat_map}
+use Rattle.std.specs.Prelude.{ℕ, ◌==◌, Bool, List, [], ◌∷◌, ◌++◌, reverse, codes, cond}
+use Rattle.std.specs.List.{flat_map, list_any}
 use Rattle.std.specs.Fmt.{decimal, signed_decimal}
 use Rattle.tab_key.specs.Records.{Record}
 use Rattle.tab_key.specs.declared.key.Kind.{Kind}
@@ -23,6 +23,18 @@ use Rattle.tab_walk.specs.declared.tables.TablePart.TheVariants as table
 use Rattle.tab_accumulo.specs.declared.versions.Scope.{Scope}
 use Rattle.tab_accumulo.specs.declared.versions.Scope.TheVariants.{Scan, Minor, Major}
 use Rattle.tab_accumulo.specs.Words.{quoted, listed, shell_bytes}
+
+-- ---- the authorizations of a user
+-- whether one of them has a comma, at which `setauths` would part it
+abbrev pub has_comma : List (List ℕ) → Bool
+has_comma = list_any (list_any (λ b. b == 44))
+
+-- a comment, where they can't be set
+abbrev pub unset_text : List ℕ → List ℕ
+unset_text name = line_text (codes "#" ∷ codes "authorizations" ∷ name ∷ codes "not set: one has a comma" ∷ [])
+
+abbrev pub authorizations_text : List ℕ → List (List ℕ) → List ℕ
+authorizations_text name auths = cond (has_comma auths) (unset_text name) (line_text (codes "setauths" ∷ codes "-u" ∷ name ∷ listed shell_bytes auths ∷ []))
 
 -- ---- records
 abbrev pub put_text : Record → List ℕ
@@ -77,11 +89,11 @@ constraint_text h c = cond (is_set h.constraints c) (line_text (codes "constrain
 abbrev pub permission_text : List ℕ → List ℕ → TablePermission → List ℕ → List ℕ
 permission_text command holder p name = line_text (command ∷ (codes "Table" ++ 46 ∷ table_name p) ∷ codes "-t" ∷ name ∷ codes "-u" ∷ holder ∷ [])
 
--- ---- each thing: nothing there stands for a horizon, which is told in a comment; records of one key go from the older one to the newer one
+-- ---- each thing: nothing there stands for a horizon, or for an authorization with a comma, which is told in a comment; records of one key go from the older one to the newer one
 abbrev pub shell : Texts
 shell = record {
   user = λ name. line_text (codes "createuser" ∷ name ∷ []);
-  authorizations = λ name auths. line_text (codes "setauths" ∷ codes "-u" ∷ name ∷ listed shell_bytes auths ∷ []);
+  authorizations = authorizations_text;
   system = λ name p. line_text (codes "grant" ∷ (codes "System" ++ 46 ∷ system_name p) ∷ codes "-s" ∷ codes "-u" ∷ name ∷ []);
   table = λ h. line_text (codes "createtable" ∷ h.name ∷ []) ++ (bare_text h ++ flat_map (versions_text h) all_scopes);
   constraints = λ h. flat_map (constraint_text h) all_constraints;

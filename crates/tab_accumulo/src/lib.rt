@@ -7,12 +7,14 @@
 //! |---|---|
 //! | `shell` | the whole |
 //! | `lines` | the lines for each thing |
+//! | `authorizations` | those of a user's authorizations |
 //! | `versions`, `constraints`, `records` | those of a new table, of its constraints and of a record |
 //! | `word`, `quoting` | words on a line, and bytes between quotes |
 //!
 //! In `specs`, `Words` says how words are written, `Lines` which lines there are, `Parts` which part of them a value of the code stands for.
 #![tactic(auto)]
 
+mod authorizations;
 mod constraints;
 mod lines;
 mod quoting;

@@ -6,6 +6,7 @@ ghost use Rattle.tab_io.specs.Writing.{Puts};
 ghost use Rattle.tab_text.specs.Lines.{line_text};
 ghost use Rattle.tab_accumulo.specs.Lines.{permission_text};
 
+use crate::authorizations::put_authorized;
 use crate::constraints::put_each_constraint;
 use crate::records::Written;
 use crate::versions::put_settled;
@@ -33,15 +34,7 @@ impl Visitor for Shell {
         output: &mut W,
         user: &ImageUser,
     ) -> Result<(), WriteFault> {
-        put_words(
-            output,
-            b"setauths",
-            &[
-                ShellWord::Text(b"-u"),
-                ShellWord::Text(user.name.as_bytes()),
-                ShellWord::Authorizations(&user.authorizations),
-            ],
-        )
+        put_authorized(output, user)
     }
 
     fn put_system<W: Output>(
