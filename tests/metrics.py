@@ -250,15 +250,27 @@ def drained(stream):
     stream.close()
 
 
-def unread(server):
-    """Asks for more than the sockets hold, reads none of it, and is gone."""
+def unread(server, seconds=1):
+    """Asks for more than the sockets hold, reads none of it, and is gone after so long."""
     stream = server.connect()
     stream.sendall(HELLO + MAKE + frame(write(b"t", b"r", update(value=1000000 * b"v"))) + frame(opening(b"t")))
     for _ in range(4):
         read_frame(stream)
     for _ in range(64):
         stream.sendall(frame(b"\x0d" + u32(0) + u32(1) + b"\0\0"))
-    time.sleep(1)
+    time.sleep(seconds)
+    reset(stream)
+
+
+def slow(server):
+    """Sends a frame byte by byte for longer than a peer may be silent, and is gone within it."""
+    stream = server.connect()
+    stream.sendall(HELLO)
+    read_frame(stream)
+    for byte in MAKE[:4]:
+        time.sleep(0.4)
+        stream.sendall(bytes([byte]))
+    time.sleep(0.2)
     reset(stream)
 
 
@@ -280,9 +292,13 @@ def endings():
               (ended, str(frames), str(refused), user, "0"), line)
     line = log_of(unread)
     count("a fault of the writer", line.get("ended") == "write" and line.get("user") == "root", line)
-    if b"--idle" in run("serve", "--help").stdout:
-        line = log_of(sends(HELLO, replies=1, then=lambda stream: (time.sleep(2), stream.close())), "--idle", "1")
-        count("an idle peer", (line.get("ended"), line.get("frames")) == ("idle", "1") and float(line["seconds"]) >= 1, line)
+    # an end of time is told as that, though it may come some milliseconds before the server's clock says so; and no other fault is, however long a frame took
+    line = log_of(sends(HELLO, replies=1, then=lambda stream: (time.sleep(2), stream.close())), "--idle", "1")
+    count("an idle peer", (line.get("ended"), line.get("frames")) == ("idle", "1") and float(line["seconds"]) >= 0.9, line)
+    line = log_of(lambda server: unread(server, 4), "--idle", "1")
+    count("a peer that takes nothing", line.get("ended") == "idle" and line.get("user") == "root", line)
+    line = log_of(slow, "--idle", "1")
+    count("a fault behind a slow frame", (line.get("ended"), line.get("frames")) == ("read", "1") and float(line["seconds"]) >= 1.5, line)
 
 
 def off_by_default():

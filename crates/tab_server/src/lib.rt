@@ -10,6 +10,7 @@
 //! | `keeper` | who has the store make images |
 //! | `connections` | all connections, which can be ended at once |
 //! | `tally`, `counters`, `refused`, `watch` | what is counted of connections as they are served |
+//! | `waiting` | whether a connection's peer was waited for too long |
 //! | `connection`, `figures`, `reporting` | a connection in a line, what a server tells of itself, and who reports it |
 //! | `accepting`, `threads`, `workers`, `server` | who accepts, who is at work, the threads, and how a server begins and ends |
 #![tactic(auto)]
@@ -36,6 +37,7 @@ mod settled;
 mod store;
 mod tally;
 mod threads;
+mod waiting;
 mod watch;
 mod workers;
 

@@ -5,8 +5,9 @@ use crate::connection::{Connection, Ending, Peer};
 use crate::refused::{BAD_FRAME, NO_MEMORY, place_of};
 use crate::tally::{Counter, Tally};
 use std::alloc::AllocError;
+use std::cell::Cell;
 use std::sync::{Mutex, Wait};
-use std::time::{Clock, Duration, Instant};
+use std::time::{Clock, Instant};
 use tab_history::{Act, Reply};
 use tab_key::{Cells, Name};
 use tab_serve::{Moments, ServeFault};
@@ -22,10 +23,8 @@ pub(crate) struct Watch<'a, R, G> {
     // what the tally had as the connection began
     before: (u64, u64, u64),
     begun: Option<Instant>,
-    // how long the peer may say and take nothing, where that has an end
-    patience: Option<Duration>,
-    // how many milliseconds it had lasted when a frame was read last, where there is such an end
-    heard: Counter,
+    // whether the peer said nothing, or took nothing, for as long as it may
+    is_late: &'a Cell<bool>,
     user: Mutex<Option<Name>>,
     // how many updates the last request has
     updates: Counter,
@@ -34,12 +33,12 @@ pub(crate) struct Watch<'a, R, G> {
 }
 
 impl<'a, R: Wait + Clock, G> Watch<'a, R, G> {
-    /// A connection begins, whose reads and writes fail once they have waited for so long.
+    /// A connection begins. The cell says whether a read or a write of it has waited for as long as it may.
     pub(crate) fn new(
         rt: &'a R,
         requests: &'a G,
         tally: &'a Tally,
-        patience: Option<Duration>,
+        is_late: &'a Cell<bool>,
     ) -> Watch<'a, R, G> {
         tally.begun.add(1);
         Watch {
@@ -52,8 +51,7 @@ impl<'a, R: Wait + Clock, G> Watch<'a, R, G> {
                 tally.cells_read.get(),
             ),
             begun: Instant::now(rt).ok(),
-            patience,
-            heard: Counter::new(),
+            is_late,
             user: Mutex::new(None),
             updates: Counter::new(),
             broken: Mutex::new(None),
@@ -91,27 +89,18 @@ impl<'a, R: Wait + Clock, G> Watch<'a, R, G> {
         }
     }
 
-    // How it ended. A fault behind such a long silence is told as that.
+    // How it ended. A fault of one who was waited for too long is told as that.
     fn ending(&self, served: Result<Result<(), ServeFault>, AllocError>) -> Ending {
         match served {
             Ok(Ok(())) => match *self.broken.lock(self.rt) {
                 Some(reason) => Ending::Frame(reason),
                 None => Ending::End,
             },
-            Ok(Err(_)) if self.is_silent() => Ending::Idle,
+            Ok(Err(_)) if self.is_late.get() => Ending::Idle,
             Ok(Err(ServeFault::Read)) => Ending::Read,
             Ok(Err(ServeFault::Write)) => Ending::Write,
             Err(AllocError) => Ending::Memory,
         }
-    }
-
-    // Whether no frame was read for as long as the peer may say and take nothing.
-    fn is_silent(&self) -> bool {
-        let Some(patience) = self.patience else {
-            return false;
-        };
-        let silence = self.lasted().saturating_sub(self.heard.get());
-        patience.as_millis() <= silence as u128
     }
 
     // Remembers what is asked of it as far as its reply doesn't tell it.
@@ -145,9 +134,6 @@ impl<R: Wait + Clock, G: Gate> Gate for Watch<'_, R, G> {
 
     fn hear(&self, asked: &Asked) {
         self.tally.frames.add(1);
-        if self.patience.is_some() {
-            self.heard.set(self.lasted());
-        }
         match asked {
             Asked::Request(request) => self.hear_request(request),
             Asked::Bad(_) => self.tally.refuse(BAD_FRAME),

@@ -13,6 +13,7 @@ use crate::recorder::Recorder;
 use crate::settled::{Marking, Settled};
 use crate::tally::Tally;
 use crate::threads::{ServerThread, ServerThreads, ThreadRole};
+use crate::waiting::Waiting;
 use crate::watch::Watch;
 use crate::{History, Options, ServerFault, Store};
 use crossbeam_channel::Receiver;
@@ -186,25 +187,26 @@ fn serve_stream<L: Ledger, R: Threads + Wait + Clock + Sync, S: Stream, H: Histo
     log: &Log<'_, L, D>,
 ) {
     let peer = peer_of(stream);
-    let patience = stream.read_timeout().unwrap_or(None);
-    let watch = Watch::new(rt, requests, tally, patience);
-    let served = converse_over(rt, alloc, shared, seat, stream, &watch, log);
+    let is_late = Cell::new(false);
+    let watch = Watch::new(rt, requests, tally, &is_late);
+    let served = converse_over(rt, alloc, shared, seat, stream, &is_late, &watch, log);
     history.end(&watch.end(peer, served));
 }
 
-// Answers what the stream asks, to its end or its first fault.
+// Answers what the stream asks, to its end or its first fault. The cell is set where that is a read or a write that has waited too long.
 fn converse_over<L: Ledger, R: Threads + Wait + Clock + Sync, S: Stream, G: Gate, D: Store>(
     rt: &R,
     alloc: Global,
     shared: &Shared<L>,
     seat: &mut Seat<L>,
     stream: &S,
+    is_late: &Cell<bool>,
     gate: &G,
     log: &Log<'_, L, D>,
 ) -> Result<Result<(), ServeFault>, AllocError> {
-    let mut input = BlockReader::new(alloc, End::new(stream))?;
+    let mut input = BlockReader::new(alloc, Waiting::new(End::new(stream), is_late))?;
     let mark = Cell::new(0);
-    let settled = Settled::new(rt, log, &mark, End::new(stream));
+    let settled = Settled::new(rt, log, &mark, Waiting::new(End::new(stream), is_late));
     let mut output = BlockWriter::new(alloc, settled)?;
     let gate = Marking::new(gate, &mark);
     let mut moments = WallClock::new(rt);

@@ -45,13 +45,6 @@ impl Stream for Connection {
         }
     }
 
-    fn read_timeout(&self) -> io::Result<Option<Duration>> {
-        match self {
-            Connection::Port(stream) => Stream::read_timeout(stream),
-            Connection::File(stream) => Stream::read_timeout(stream),
-        }
-    }
-
     fn set_read_timeout(&self, time: Option<Duration>) -> io::Result<()> {
         match self {
             Connection::Port(stream) => Stream::set_read_timeout(stream, time),

@@ -25,10 +25,7 @@ pub trait Stream: Drop {
     /// The address that it came from; none where it came by a socket file.
     fn peer(&self) -> io::Result<Option<SocketAddr>>;
 
-    /// How long a read waits before it fails, where that has an end.
-    fn read_timeout(&self) -> io::Result<Option<Duration>>;
-
-    /// Has a read fail that waits for so long, above 0, or none.
+    /// Has a read fail by `WouldBlock` that waits for so long, above 0, or none.
     fn set_read_timeout(&self, time: Option<Duration>) -> io::Result<()>;
 
     /// The same of a write.
@@ -52,10 +49,6 @@ impl Stream for TcpStream {
 
     fn peer(&self) -> io::Result<Option<SocketAddr>> {
         Ok(Some(self.peer_addr()?))
-    }
-
-    fn read_timeout(&self) -> io::Result<Option<Duration>> {
-        TcpStream::read_timeout(self)
     }
 
     fn set_read_timeout(&self, time: Option<Duration>) -> io::Result<()> {
@@ -84,10 +77,6 @@ impl Stream for UnixStream {
 
     fn peer(&self) -> io::Result<Option<SocketAddr>> {
         Ok(None)
-    }
-
-    fn read_timeout(&self) -> io::Result<Option<Duration>> {
-        UnixStream::read_timeout(self)
     }
 
     fn set_read_timeout(&self, time: Option<Duration>) -> io::Result<()> {
