@@ -265,7 +265,12 @@ def files(folder, preloaded):
             control.set(least=3, most=1 << 20, which=kinds, how=errno.EIO, calls=at)
             process = start(PROGRAM, ["script", "--image", "new"], folder, preloaded, control)
             out, err = process.communicate(b"status t\n", timeout=PATIENCE)
-            if (process.returncode, out, err) != ((1, b"", b"fault: new: the image can't be read\n") if control.lift() else (0, b"tablets 1 sources 1 records 2\n", b"")):
+            if control.lift():
+                reason = err.startswith(b"fault: new: the image can't be read: ") and err.endswith(b"Input/output error (os error 5)\n")
+                good = (process.returncode, out, err.count(b"\n"), reason) == (1, b"", 1, True)
+            else:
+                good = (process.returncode, out, err) == (0, b"tablets 1 sources 1 records 2\n", b"")
+            if not good:
                 wrong.append((at, process.returncode, out, err))
         counted.tell(f"{at - 1} {name} of a load that fail", not wrong and at > 1, wrong[:1])
     script.close()

@@ -242,6 +242,11 @@ for pair in missing:io folder:io none:bad cut:bad longer:bad mixed:bad turned:ba
     [ "${PIPESTATUS[1]},$(cat out),$(cat err)" = "1,,fault: load ${pair#*:}" ] || { [ "${PIPESTATUS[1]:-1}" = 1 ] && [ ! -s out ] && [ "$(wc -l <err)" = 1 ] && [ "$(cut -d ' ' -f 1 err)" = 'fault:' ]; }
     count "--image ${pair%%:*} ends with 1 and a line that says why" $?
 done
+for pair in 'missing:No such file or directory (os error 2)' 'folder:Is a directory (os error 21)' 'one/more:Not a directory (os error 20)'; do
+    "$program" script --image "${pair%%:*}" >out 2>err </dev/null
+    [ "$?,$(cat out),$(cat err)" = "1,,fault: ${pair%%:*}: the image can't be read: ${pair#*:}" ]
+    count "--image ${pair%%:*} says the system's reason" $?
+done
 tells 'save where there is no folder' 'save missing/one\nscan t \\0\n' 'fault save io\nr f q \\e 5 v\nend\n' \
     "fault: missing/one: the image can't be written: No such file or directory (os error 2)" --image one
 tells 'save over a folder' 'save folder\nscan t \\0\n' 'fault save io\nr f q \\e 5 v\nend\n' \
@@ -286,6 +291,21 @@ count '--image of an image that differs' $?
 tells 'a checksum that is empty' 'load kept\n' 'fault load io\n' 'fault: kept: differs from its checksum'
 sha256sum kept one >kept.sha256
 answers 'a checksum that was made by hand' 'load kept\nscan t \\0\n' 'ok\nend\n'
+# the forms in which programs write one: the digits in capitals, a file read as bytes, and the name in front
+digits=$(sha256sum kept | cut -c 1-64)
+for line in "$digits  kept" "$digits *kept" "${digits^^}  kept" "\\$digits  a\\nb" "SHA256 (kept) = $digits" "SHA256 (kept) = ${digits^^}" "\\SHA256 (a) = b\\n) = $digits"; do
+    printf '%s\n' "$line" >kept.sha256
+    answers "a checksum as $line" 'load kept\nscan t \\0\n' 'ok\nend\n'
+    printf '%s\nmore' "$line" >kept.sha256
+    answers "and lines behind it" 'load kept\nscan t \\0\n' 'ok\nend\n'
+done
+sha256sum --tag kept >kept.sha256
+answers 'a checksum of sha256sum --tag' 'load kept\nscan t \\0\n' 'ok\nend\n'
+other=$(sha256sum one | cut -c 1-64)
+for line in "$other  kept" "SHA256 (kept) = $other" "SHA256 (kept) = ${digits%?}" "SHA256 (kept) $digits" "SHA512 (kept) = $digits" "${digits%?}  kept" "$digits" "${digits}0  kept"; do
+    printf '%s\n' "$line" >kept.sha256
+    tells "no checksum of it: $line" 'load kept\n' 'fault load io\n' 'fault: kept: differs from its checksum'
+done
 rm kept.sha256
 answers 'an image without a checksum' 'load kept\nscan t \\0\nsave kept\nload kept\n' 'ok\nend\nok\nok\n'
 sha256sum --quiet -c kept.sha256

@@ -143,7 +143,10 @@ rm kept/lock
 count "a copy without a lock gets none" $?
 
 # what is no image
-faults "no file" "fault: gone: the image can't be read" inspect gone
+faults "no file" "fault: gone: the image can't be read: No such file or directory (os error 2)" inspect gone
+mkdir y.image.sha256 && : >y.image
+faults "no file for a checksum" "fault: y.image: the image can't be read: its checksum: Is a directory (os error 21)" inspect y.image
+rmdir y.image.sha256
 printf 'TABIMG' >bad
 faults "a beginning" 'fault: bad: this is no image' inspect bad
 faults "a beginning, exported" 'fault: bad: this is no image' export --accumulo bad

@@ -36,7 +36,7 @@ def statuses():
               b"fault: port %d can't be listened on: Address already in use (os error 98)\n" % server.port, ran)
         ran = run("serve", "--port", str(server.port), "--image", "none/such")
         count("a failed image comes before a port in use", ran.returncode == 1 and ran.stdout == b"" and
-              ran.stderr == b"fault: none/such: the image can't be read\n", ran)
+              ran.stderr == b"fault: none/such: the image can't be read: No such file or directory (os error 2)\n", ran)
         server.connect().close()
         count("it ends after its one connection", server.ends() == 0, server.process.returncode)
     with open("/dev/full", "wb") as full:

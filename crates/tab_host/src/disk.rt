@@ -5,7 +5,7 @@ use crate::unfinished_files::{UnfinishedFile, begin};
 use std::alloc::{AllocError, Global};
 use std::fs;
 use std::fs::File;
-use std::io::{Error, ErrorKind, Write};
+use std::io::{Error, ErrorKind, Read, Write};
 use std::path::Path;
 use tab_core::Core;
 use tab_io::{BlockReader, BlockWriter, Output};
@@ -42,11 +42,14 @@ impl From<Error> for NotSaved {
 }
 
 /// Why no image is loaded.
-#[derive(Clone, Copy, Debug, PartialEq, Eq, thiserror::Error)]
+#[derive(Clone, Copy, Debug, thiserror::Error)]
 pub enum NotLoaded {
-    /// The file can't be read.
-    #[error("the image can't be read")]
-    Io,
+    /// The file can't be read, for this reason.
+    #[error("the image can't be read: {0}")]
+    Io(Error),
+    /// The file of the checksum beside it can't be read, for this reason.
+    #[error("the image can't be read: its checksum: {0}")]
+    NoSum(Error),
     /// There was no memory.
     #[error("there is no memory for the image")]
     NoMemory,
@@ -67,35 +70,40 @@ impl From<AllocError> for NotLoaded {
     }
 }
 
-impl From<LoadFault> for NotLoaded {
-    fn from(fault: LoadFault) -> NotLoaded {
-        match fault {
-            LoadFault::Io => NotLoaded::Io,
-            LoadFault::NoMemory => NotLoaded::NoMemory,
-            LoadFault::Version(version) => NotLoaded::Version(version),
-            LoadFault::Bad => NotLoaded::Bad,
-        }
+/// Why no image is loaded from a stream that has told this reason last, if any.
+pub(crate) fn not_loaded(fault: LoadFault, reason: Option<Error>) -> NotLoaded {
+    match fault {
+        LoadFault::Io => unread(reason),
+        LoadFault::NoMemory => NotLoaded::NoMemory,
+        LoadFault::Version(version) => NotLoaded::Version(version),
+        LoadFault::Bad => NotLoaded::Bad,
     }
+}
+
+/// A read that failed for this reason, if one is known.
+pub(crate) fn unread(reason: Option<Error>) -> NotLoaded {
+    NotLoaded::Io(reason.unwrap_or(Error::from(ErrorKind::Other)))
 }
 
 /// The core of which the file of this name holds an image. `Io` is told also where the file can't be opened.
 ///
 /// Where a file FILE.sha256 stands beside it the image is compared with that checksum first, and an image that differs isn't looked at.
 pub fn load(rt: &HostRuntime, name: &str) -> Result<Core, NotLoaded> {
-    let Ok(file) = File::open(rt, name) else {
-        return Err(NotLoaded::Io);
-    };
+    let file = File::open(rt, name).map_err(NotLoaded::Io)?;
     compare(rt, name, &file)?;
-    read(rt.alloc(), file)
+    let mut stream = Noting::new(file);
+    match read(rt.alloc(), &mut stream) {
+        Ok(core) => Ok(core),
+        Err(fault) => Err(not_loaded(fault, stream.failure())),
+    }
 }
 
-// The core of which the file holds an image.
-fn read(alloc: Global, file: File) -> Result<Core, NotLoaded> {
-    let mut input = BlockReader::new(alloc, file)?;
-    match tab_loading::load(alloc, &mut input) {
-        Ok(core) => Ok(core),
-        Err(fault) => Err(NotLoaded::from(fault)),
-    }
+// The core of which the stream holds an image.
+fn read<R: Read + Drop>(alloc: Global, stream: R) -> Result<Core, LoadFault> {
+    let Ok(mut input) = BlockReader::new(alloc, stream) else {
+        return Err(LoadFault::NoMemory);
+    };
+    tab_loading::load(alloc, &mut input)
 }
 
 /// Saves an image of the core under this name, for its owner alone, and its checksum beside it in a file FILE.sha256, as `sha256sum`
@@ -116,8 +124,8 @@ pub fn save(rt: &HostRuntime, name: &str, core: &Core) -> Result<(), NotSaved> {
     outcome
 }
 
-// Whether an image may be given this name: it is a file's, or nothing has it. A folder or a device keeps its own.
-fn may_be_given(rt: &HostRuntime, name: &str) -> bool {
+/// Whether a new file may be given this name: it is a file's, or nothing has it. A folder, a pipe or a device keeps its own, and so does a link to one.
+pub fn may_be_given(rt: &HostRuntime, name: &str) -> bool {
     match fs::metadata(rt, name) {
         Ok(holder) => holder.is_file(),
         Err(error) => error.kind() == ErrorKind::NotFound,

@@ -1,13 +1,17 @@
 //! The checksums of images, in files beside them.
-use crate::disk::NotLoaded;
+use crate::Noting;
+use crate::disk::{NotLoaded, unread};
 use sha2::{Digest, Sha256};
 use std::alloc::{AllocError, Global};
 use std::fmt::{Display, Formatter};
 use std::fs::File;
-use std::io::{ErrorKind, Seek, SeekFrom, Write};
+use std::io::{ErrorKind, Read, Seek, SeekFrom, Write};
 use std::path::Path;
 use std::{fmt, fs, io};
-use tab_io::{BlockReader, Input};
+use tab_io::{BlockReader, Input, ReadFault, length_before};
+
+// How many digits the text of a checksum has.
+const DIGITS: usize = 64;
 
 /// The SHA-256 of an image's bytes. Its text is 64 digits.
 #[derive(Clone, Copy, Debug, PartialEq, Eq)]
@@ -104,43 +108,58 @@ pub(crate) fn compare(rt: &HostRuntime, name: &str, file: &File) -> Result<(), N
         Ok(line) => line,
         Err(error) if error.kind() == ErrorKind::NotFound => return Ok(()),
         Err(error) if error.kind() == ErrorKind::OutOfMemory => return Err(NotLoaded::NoMemory),
-        Err(_) => return Err(NotLoaded::Io),
+        Err(error) => return Err(NotLoaded::NoSum(error)),
     };
     let sum = sum_of(rt.alloc(), file)?;
-    let Ok(text) = format!(in rt.alloc(); "{sum} ") else {
+    let Ok(text) = format!(in rt.alloc(); "{sum}") else {
         return Err(NotLoaded::NoMemory);
     };
-    let told = line.as_slice();
-    let told = told.strip_prefix(b"\\").unwrap_or(told);
-    if !told.starts_with(text.as_bytes()) {
-        return Err(NotLoaded::Differs);
+    match digits_in(line.as_slice()) {
+        Some(digits) if digits.eq_ignore_ascii_case(text.as_bytes()) => {}
+        _ => return Err(NotLoaded::Differs),
     }
     let mut file = file;
     match file.seek(SeekFrom::Start(0)) {
         Ok(_) => Ok(()),
-        Err(_) => Err(NotLoaded::Io),
+        Err(error) => Err(NotLoaded::Io(error)),
     }
+}
+
+// The digits of a checksum on the first line of a text: with the name behind them, as `sha256sum` writes it, or in front, as BSD's `sha256` does
+// and `sha256sum --tag`. None where it says none. The name doesn't matter.
+fn digits_in(text: &[u8]) -> Option<&[u8]> {
+    let line = text.split_at(length_before(b'\n', text)).0;
+    let line = line.strip_prefix(b"\\").unwrap_or(line);
+    if line.starts_with(b"SHA256 (") {
+        let (name, digits) = line.split_at_checked(line.len().checked_sub(DIGITS)?)?;
+        return name.ends_with(b") = ").then_some(digits);
+    }
+    let (digits, name) = line.split_at_checked(DIGITS)?;
+    name.starts_with(b" ").then_some(digits)
 }
 
 // The sum of what is left of the file.
 fn sum_of(alloc: Global, file: &File) -> Result<Sum, NotLoaded> {
+    let mut file = Noting::new(file);
+    match summed(alloc, &mut file)? {
+        Some(sum) => Ok(sum),
+        None => Err(unread(file.failure())),
+    }
+}
+
+// The same; none where it can't be read.
+fn summed<R: Read + Drop>(alloc: Global, file: R) -> Result<Option<Sum>, AllocError> {
     let mut hasher = Sha256::new();
     let mut input = BlockReader::new(alloc, file)?;
     for _ in 0..u64::MAX {
-        if !has_more(&mut input)? {
-            break;
+        match input.fill() {
+            Ok(true) => {}
+            Ok(false) => break,
+            Err(ReadFault) => return Ok(None),
         }
         let count = input.front().len();
         hasher.update(input.front());
         input.consume(count);
     }
-    Ok(Sum(hasher.finalize()))
-}
-
-// Reads where nothing is here. Whether there is more then.
-fn has_more<R: Input>(input: &mut R) -> Result<bool, NotLoaded> {
-    if !input.front().is_empty() {
-        return Ok(true);
-    }
-    input.fill().map_err(|_| NotLoaded::Io)
+    Ok(Some(Sum(hasher.finalize())))
 }

@@ -66,7 +66,7 @@ fn not_saved(rt: &HostRuntime, name: &str, fault: NotSaved) -> SaveFault {
 // What a line is told of a load that failed; standard error has it where the image isn't the one that was saved.
 fn not_loaded(rt: &HostRuntime, name: &str, fault: NotLoaded) -> LoadFault {
     match fault {
-        NotLoaded::Io => LoadFault::Io,
+        NotLoaded::Io(_) | NotLoaded::NoSum(_) => LoadFault::Io,
         NotLoaded::NoMemory => LoadFault::NoMemory,
         NotLoaded::Version(version) => LoadFault::Version(version),
         NotLoaded::Bad => LoadFault::Bad,
