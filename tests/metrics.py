@@ -324,8 +324,27 @@ def files():
         said = server.process.stderr.read()
         count("it is told once too", said.count(b"\n") == 1 and said.startswith(b"fault: folder.prom: the metrics can't be written: "), said)
         count("and leaves no part", not os.path.exists("folder.prom.part"))
+    # a pipe or a device is never replaced, nor is a link to one; a link to a file is
+    os.mkfifo("pipe.prom")
+    os.symlink("/dev/full", "device.prom")
+    os.symlink("pipe.prom", "piped.prom")
+    for name in ("folder", "pipe", "device", "piped"):
+        before = os.lstat(name + ".prom")
+        with Server("--metrics", name + ".prom", "--accept", "1") as server:
+            server.connect().close()
+            count(name + ": it ends", server.ends() == 0)
+            said = server.process.stderr.read()
+            wanted = "fault: %s.prom: the metrics can't be written: what has this name is no file\n" % name
+            count(name + ": it is told once", said == wanted.encode(), said)
+        after = os.lstat(name + ".prom")
+        count(name + ": it stands as it was", (before.st_ino, before.st_mode) == (after.st_ino, after.st_mode) and not os.path.lexists(name + ".prom.part"))
     with open("kept", "w") as file:
         file.write("kept\n")
+    os.symlink("kept", "linked.prom")
+    with Server("--metrics", "linked.prom", "--accept", "1") as server:
+        server.connect().close()
+        count("a link to a file: it ends", server.ends() == 0)
+    count("it is replaced", not os.path.islink("linked.prom") and Figures("linked.prom")["connections_total"] == 1)
     os.symlink("kept", "again.prom.part")
     for connections in (1, 2):
         with Server("--metrics", "again.prom", "--accept", str(connections)) as server:

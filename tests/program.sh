@@ -104,6 +104,24 @@ done
 [ "${PIPESTATUS[1]}" -eq 1 ] && [ "$(cat err)" = "fault: the output can't be written: Broken pipe (os error 32)" ]
 count 'an output that nobody reads' $?
 
+# ---- Names of files with control characters are told on one line, escaped; all others as they are.
+told() { # NAME TEXT WORD ..
+    local name=$1 text=$2
+    shift 2
+    printf 'save no\\x0asuch/\\x1b[1m\\x5c\\x7f\\xc2\\x9b\\xc3\\xa9\n' >lines
+    "$program" "$@" >out 2>err <lines
+    [ "$(cat err)" = "$text" ]
+    count "$name" $?
+}
+odd=$'no\nsuch/\e[1m\\\x7f\xc2\x9bé \t"' shown='no\nsuch/\u{1b}[1m\\u{7f}\u{9b}é \t"'
+none='No such file or directory (os error 2)'
+told 'an image with an odd name' "fault: $shown: the image can't be read: $none" script --image "$odd"
+told 'a store with an odd name' "fault: $shown: the folder can't be used: $none" script --store "$odd"
+told 'what is looked at, with an odd name' "fault: $shown: the image can't be read: $none" inspect "$odd"
+told 'a history with an odd name' "fault: $shown: $none" serve --port 1 --history "$odd"
+told 'an image with a plain name' "fault: é \\u{7f} \"x\": the image can't be read: $none" script --image 'é \u{7f} "x"'
+told 'a save to an odd name' "fault: no\\nsuch/\\u{1b}[1m\\\\u{7f}\\u{9b}é: the image can't be written: $none" script
+
 # ---- Closed streams: what is meant for them goes into no file and no socket that is opened later.
 printf 'createtable t\n' | "$program" script --store shut 2>err >&-
 fails 'a closed output beside a store' $? "the output can't be written: $bad"

@@ -197,6 +197,13 @@ def plain():
     count("the folder is its owner's alone", os.stat(store).st_mode & 0o077 == 0)
     out, status, told = run("", "--image", f"{store}/lock")
     count("an image is for an empty folder", status == 1 and "keeps something already" in told)
+    for words in (["script"], ["serve", "--port", "1"]):
+        for image, why in ((f"{store}/lock", "this is no image"), (f"{work}/gone", "the image can't be read: No such file or directory (os error 2)")):
+            for place in f"{work}/unmade", f"{work}/empty":
+                os.makedirs(f"{work}/empty", exist_ok=True)
+                done = subprocess.run([program, *words, "--store", place, "--image", image], stdin=subprocess.DEVNULL, capture_output=True, text=True)
+                count(f"{words[0]}: an image that can't be loaded is told", (done.returncode, done.stdout, done.stderr) == (1, "", f"fault: {image}: {why}\n"))
+                count("and nothing is left", not os.path.lexists(f"{work}/unmade") and os.listdir(f"{work}/empty") == [])
     open(f"{store}/image.99", "w").close()
     out, status, told = run("")
     count("a bad image is told by its name", status == 1 and told == f"fault: {store}: image.99: this is no image\n")

@@ -45,6 +45,14 @@ impl<'a> Folder<'a> {
         })
     }
 
+    /// Whether there is an image in the folder of this path, as far as the system tells. Nothing is made.
+    pub fn keeps_image(rt: &HostRuntime, path: &str) -> bool {
+        match numbers(rt, path) {
+            Ok((newest, _)) => newest.is_some(),
+            Err(_) => false,
+        }
+    }
+
     /// Whether there is an image in it.
     pub fn has_image(&self) -> bool {
         self.newest.is_some()

@@ -1,4 +1,5 @@
 //! Images in files, as lines and the command line name them.
+use crate::escaped::Escaped;
 use anyhow::Context;
 use tab_core::Core;
 use tab_host::{NotLoaded, NotSaved};
@@ -56,7 +57,7 @@ pub fn loaded(rt: &HostRuntime, image: Option<&str>) -> anyhow::Result<Option<Co
 
 // What a line is told of a save that failed; standard error has why.
 fn not_saved(rt: &HostRuntime, name: &str, fault: NotSaved) -> SaveFault {
-    let _ = eprintln!(rt; "fault: {name}: {fault}");
+    let _ = eprintln!(rt; "fault: {}: {fault}", Escaped(&name));
     match fault {
         NotSaved::NoMemory => SaveFault::NoMemory,
         NotSaved::NoFile | NotSaved::NoName | NotSaved::Refused(_) => SaveFault::Io,
@@ -71,7 +72,7 @@ fn not_loaded(rt: &HostRuntime, name: &str, fault: NotLoaded) -> LoadFault {
         NotLoaded::Version(version) => LoadFault::Version(version),
         NotLoaded::Bad => LoadFault::Bad,
         NotLoaded::Differs => {
-            let _ = eprintln!(rt; "fault: {name}: {fault}");
+            let _ = eprintln!(rt; "fault: {}: {fault}", Escaped(&name));
             LoadFault::Io
         }
     }

@@ -1,6 +1,7 @@
 //! What a server keeps in a folder.
 use crate::counts::DiskCounts;
-use crate::keeping::taken_up;
+use crate::escaped::Escaped;
+use crate::keeping::open_folder;
 use anyhow::Context;
 use std::process::ExitCode;
 use std::sync::atomic::{AtomicBool, AtomicU64, Ordering};
@@ -35,8 +36,7 @@ impl<'a> FolderStore<'a> {
         path: &'a str,
         serve: ServeRequest<'_>,
     ) -> anyhow::Result<(Core, FolderStore<'a>)> {
-        let mut folder = Folder::open(rt, path).with_context(|| path)?;
-        let core = taken_up(rt, &mut folder, path, serve.image)?;
+        let (folder, core) = open_folder(rt, path, serve.image)?;
         let kept = FolderStore::begin(rt, path, serve, folder, &core).with_context(|| path)?;
         Ok((core, kept))
     }
@@ -150,7 +150,7 @@ impl<'a> FolderStore<'a> {
             return Ok(());
         };
         if !self.has_failed.swap(true, Ordering::SeqCst) {
-            let _ = eprintln!(self.rt; "fault: {}: {fault}", self.path);
+            let _ = eprintln!(self.rt; "fault: {}: {fault}", Escaped(&self.path));
         }
         Err(NotKept)
     }

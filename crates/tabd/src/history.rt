@@ -1,4 +1,5 @@
 //! The history of a server, in a file.
+use crate::escaped::Escaped;
 use anyhow::Context;
 use std::alloc::{AllocError, Global};
 use std::fs::{File, OpenOptions};
@@ -72,7 +73,7 @@ impl History for LogFile<'_> {
             return;
         };
         if let Err(fault) = append(self.rt.alloc(), file, part) {
-            let _ = eprintln!(self.rt; "fault: {}: {fault}", self.name);
+            let _ = eprintln!(self.rt; "fault: {}: {fault}", Escaped(&self.name));
         }
     }
 }

@@ -1,4 +1,5 @@
 //! A script over a folder, which keeps what it does.
+use crate::escaped::Escaped;
 use crate::files::{Disk, core_of};
 use crate::replaying::entries_done;
 use crate::unheard::Unheard;
@@ -54,15 +55,36 @@ impl<'a> Keeping<'a> {
     }
 }
 
-/// The core that the folder keeps, or else the one of this image, or a new one. What a run that didn't end has read is done again.
-pub fn taken_up(
+/// Takes the folder of this path up, which is made where it isn't there, with the core that it keeps, or else the one of this image, or a new one.
+/// What a run that didn't end has read is done again. Where the image can't be loaded nothing is made.
+pub fn open_folder<'a>(
+    rt: &'a HostRuntime,
+    path: &'a str,
+    image: Option<&str>,
+) -> anyhow::Result<(Folder<'a>, Core)> {
+    let begins = if Folder::keeps_image(rt, path) {
+        None
+    } else {
+        Some(core_of(rt, image)?)
+    };
+    let mut folder = Folder::open(rt, path).with_context(|| path)?;
+    let core = taken_up(rt, &mut folder, path, image, begins)?;
+    Ok((folder, core))
+}
+
+// The core that the folder keeps, or else this one, or the one of this image, or a new one.
+fn taken_up(
     rt: &HostRuntime,
     folder: &mut Folder<'_>,
     path: &str,
     image: Option<&str>,
+    begins: Option<Core>,
 ) -> anyhow::Result<Core> {
     if !folder.has_image() {
-        let core = core_of(rt, image)?;
+        let core = match begins {
+            Some(core) => core,
+            None => core_of(rt, image)?,
+        };
         folder.keep(&core).with_context(|| path)?;
         return Ok(core);
     }
@@ -88,7 +110,8 @@ fn lines_done(
 ) -> anyhow::Result<Core> {
     if left.cut > 0 {
         let _ = eprintln!(rt;
-            "{path}: {} bytes at the end of the journal are cut off",
+            "{}: {} bytes at the end of the journal are cut off",
+            Escaped(&path),
             left.cut
         );
     }
@@ -98,7 +121,11 @@ fn lines_done(
     let mut script = Script::new(rt.alloc(), core);
     replay(rt, folder, &mut script, left).with_context(|| path)?;
     folder.keep(script.core()).with_context(|| path)?;
-    let _ = eprintln!(rt; "{path}: {} bytes of lines are done again", left.text.len());
+    let _ = eprintln!(rt;
+        "{}: {} bytes of lines are done again",
+        Escaped(&path),
+        left.text.len()
+    );
     folder.load().with_context(|| path)
 }
 

@@ -1,4 +1,5 @@
 //! `tabd inspect` and `tabd export`.
+use crate::escaped::Escaped;
 use anyhow::Context;
 use std::fs;
 use std::fs::File;
@@ -105,7 +106,8 @@ fn note_left(rt: &HostRuntime, path: &str, seen: &Seen) {
     };
     if !left.text.is_empty() || seen.later > 0 {
         let _ = eprintln!(rt;
-            "note: {path}: its journal holds more than this image: `tabd inspect` says how much"
+            "note: {}: its journal holds more than this image: `tabd inspect` says how much",
+            Escaped(&path)
         );
     }
 }

@@ -11,10 +11,12 @@
 //! | `telling`, `metrics`, `counts` | what a server tells beside its answers, what it tells of itself, in a file, and what it asks of the disk |
 //! | `looking` | `tabd inspect` and `tabd export` |
 //! | `files` | images in files, as lines and the command line name them |
+//! | `escaped` | what is told on a line of standard error |
 #![tactic(auto)]
 
 mod closed_streams;
 mod counts;
+mod escaped;
 mod files;
 mod folder_store;
 mod history;
@@ -32,6 +34,7 @@ mod watching;
 use anyhow::Context;
 use clap::Error;
 use closed_streams::ClosedStreams;
+use escaped::Escaped;
 use looking::{Form, run_look};
 use scripting::{Style, run_kept, run_script};
 use serving::run_serve;
@@ -61,7 +64,7 @@ fn main(rt: HostRuntime) -> ExitCode {
     match run(&rt, &rt) {
         Ok(status) => status,
         Err(fault) => {
-            let _ = eprintln!(rt; "fault: {fault:#}");
+            let _ = eprintln!(rt; "fault: {}", Escaped(&fault));
             ExitCode::FAILURE
         }
     }

@@ -1,16 +1,35 @@
 //! What a server tells of itself, in a file.
 use crate::counts::DiskCounts;
+use crate::escaped::Escaped;
 use std::fmt::{Display, Formatter};
 use std::fs::{OpenOptions, Permissions};
 use std::io::{Error, ErrorKind, Write};
 use std::os::unix::fs::{OpenOptionsExt, PermissionsExt};
 use std::sync::atomic::{AtomicBool, Ordering};
-use std::{fmt, fs, io};
+use std::{fmt, fs};
+use tab_host::may_be_given;
 use tab_prog::ProgramFault;
 use tab_server::Figures;
 
 // Who may read the file: everybody, since whoever collects it runs as another user.
 const MODE: u32 = 0o644;
+
+// Why the file isn't written. What has its name keeps it.
+#[derive(Clone, Copy, Debug, thiserror::Error)]
+enum NotWritten {
+    // The name is a folder's, a pipe's or a device's.
+    #[error("what has this name is no file")]
+    NoFile,
+    // The system refuses it, for this reason.
+    #[error("{0}")]
+    Refused(Error),
+}
+
+impl From<Error> for NotWritten {
+    fn from(error: Error) -> NotWritten {
+        NotWritten::Refused(error)
+    }
+}
 
 /// A file that is written anew each time, and gets its name once it is whole.
 #[derive(Drop)]
@@ -45,22 +64,25 @@ impl<'a> MetricsFile<'a> {
     pub fn write(&self, figures: &Figures<'_>) {
         match self.replace(figures) {
             Ok(()) => self.has_failed.store(false, Ordering::SeqCst),
-            Err(error) => self.tell(error),
+            Err(fault) => self.tell(fault),
         }
     }
 
     // Tells why it can't be written, unless it was told last time.
-    fn tell(&self, error: Error) {
+    fn tell(&self, fault: NotWritten) {
         if !self.has_failed.swap(true, Ordering::SeqCst) {
             let _ = eprintln!(self.rt;
-                "fault: {}: the metrics can't be written: {error}",
-                self.name
+                "fault: {}: the metrics can't be written: {fault}",
+                Escaped(&self.name)
             );
         }
     }
 
     // Writes a new file, and gives it the name of the old one.
-    fn replace(&self, figures: &Figures<'_>) -> io::Result<()> {
+    fn replace(&self, figures: &Figures<'_>) -> Result<(), NotWritten> {
+        if !may_be_given(self.rt, self.name) {
+            return Err(NotWritten::NoFile);
+        }
         let resident = Resident(resident_bytes(self.rt));
         let counts = Counted(self.counts);
         let text = format!(in self.rt.alloc(); "{figures}{counts}{resident}");
@@ -73,7 +95,7 @@ impl<'a> MetricsFile<'a> {
     }
 
     // Writes these bytes to a new file, and gives it the name. What has its name before that is what a dead run has left.
-    fn put(&self, bytes: &[u8]) -> io::Result<()> {
+    fn put(&self, bytes: &[u8]) -> Result<(), NotWritten> {
         let part = self.part.as_str();
         let _ = fs::remove_file(self.rt, part);
         let mut file = OpenOptions::new()
@@ -83,7 +105,7 @@ impl<'a> MetricsFile<'a> {
             .open(self.rt, part)?;
         file.set_permissions(Permissions::from_mode(MODE))?;
         file.write_all(bytes)?;
-        fs::rename(self.rt, part, self.name)
+        Ok(fs::rename(self.rt, part, self.name)?)
     }
 }
 

@@ -1,4 +1,5 @@
 //! What a server left in its journals, done again.
+use crate::escaped::Escaped;
 use anyhow::Context;
 use tab_core::Core;
 use tab_folder::{Folder, Left};
@@ -63,6 +64,7 @@ fn done(
 
 // Says on standard error what was found, if that is anything.
 fn tell(rt: &HostRuntime, path: &str, found: Found) {
+    let path = Escaped(&path);
     let _ = match (found.count, found.cut) {
         (0, 0) => Ok(()),
         (0, cut) => eprintln!(rt; "{path}: {cut} bytes at the end of the journal are cut off"),

@@ -1,12 +1,12 @@
 //! `tabd script`.
 use crate::files::{Disk, loaded};
-use crate::keeping::{Keeping, taken_up};
+use crate::keeping::{Keeping, open_folder};
 use crate::watching::ended;
 use anyhow::Context;
 use std::io::{IsTerminal, Read, Write};
 use std::process::ExitCode;
 use tab_core::Core;
-use tab_folder::{Folder, Format, ScriptLog};
+use tab_folder::{Format, ScriptLog};
 use tab_help::{Asks, Explaining, Prompting};
 use tab_host::Noting;
 use tab_io::{BlockReader, BlockWriter};
@@ -60,8 +60,7 @@ pub fn run_kept(
     style: Style,
     watch: RunOptions,
 ) -> anyhow::Result<ExitCode> {
-    let mut folder = Folder::open(rt, path).with_context(|| path)?;
-    let core = taken_up(rt, &mut folder, path, image)?;
+    let (mut folder, core) = open_folder(rt, path, image)?;
     let journal = folder.begin(&core, Format::Lines).with_context(|| path)?;
     let log = ScriptLog::new(journal);
     let mut script = Script::new(rt.alloc(), core);

@@ -1,5 +1,6 @@
 //! `tabd serve`.
 use crate::counts::DiskCounts;
+use crate::escaped::Escaped;
 use crate::files::core_of;
 use crate::folder_store::FolderStore;
 use crate::history::LogFile;
@@ -135,7 +136,8 @@ fn tell_clock(rt: &HostRuntime, name: &str, clock: i64) {
     let years = clock.saturating_sub(WallClock::new(rt).next()) / YEAR;
     if years > 1 {
         let _ = eprintln!(rt;
-            "note: {name}: its clock is {years} years ahead of this machine's, and stands still until then"
+            "note: {}: its clock is {years} years ahead of this machine's, and stands still until then",
+            Escaped(&name)
         );
     }
 }
