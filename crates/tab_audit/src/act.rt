@@ -9,6 +9,7 @@ ghost use Rattle.tab_lines.specs.Forms.{time_name, extent_name, compaction_name}
 ghost use Rattle.tab_audit.specs.Pieces.{piece_text};
 ghost use Rattle.tab_audit.specs.Words.{job_number, right_words, act_words};
 
+use crate::piece::Piece::{Bytes, Constraints, Number, Signed, Terms, Text};
 use crate::piece::{Piece, put_line};
 use crate::updates::put_mutation;
 use tab_cells::Compaction;
@@ -27,46 +28,36 @@ pub fn put_act<W: Output>(output: &mut W, act: &Act) -> Result<(), WriteFault>
         Act::Write(table, mutation) => put_mutation(output, table, mutation),
         Act::CreateTable(table, time, many) => put_table(output, table, *time, *many),
         Act::DropTable(table) => put_name(output, b"droptable", table),
-        Act::SetConstraints(table, set) => {
-            put_two(output, b"constraints", table, Piece::Constraints(set))
-        }
+        Act::SetConstraints(table, set) => put_two(output, b"constraints", table, Constraints(set)),
         Act::SetVersions(table, many) => {
-            put_two(output, b"versions", table, Piece::Number(many.get() as u64))
+            put_two(output, b"versions", table, Number(many.get() as u64))
         }
-        Act::SetHorizon(table, low) => put_two(output, b"horizon", table, Piece::Signed(*low)),
+        Act::SetHorizon(table, low) => put_two(output, b"horizon", table, Signed(*low)),
         Act::CreateUser(user) => put_name(output, b"createuser", user),
         Act::DropUser(user) => put_name(output, b"dropuser", user),
-        Act::SetAuths(user, auths) => put_two(output, b"setauths", user, Piece::Terms(auths)),
+        Act::SetAuths(user, auths) => put_two(output, b"setauths", user, Terms(auths)),
         Act::Grant(user, permission) => put_right(output, b"grant", user, permission),
         Act::Revoke(user, permission) => put_right(output, b"revoke", user, permission),
         Act::Rights(table) => put_name(output, b"rights", table),
         Act::Status(table) => put_name(output, b"status", table),
         Act::Flush(table) => put_name(output, b"flush", table),
         Act::Compact(table, extent) => {
-            put_two(output, b"compact", table, Piece::Text(extent_name(*extent)))
+            put_two(output, b"compact", table, Text(extent_name(*extent)))
         }
-        Act::AddSplit(table, row) => {
-            put_two(output, b"addsplit", table, Piece::Bytes(row.as_bytes()))
-        }
+        Act::AddSplit(table, row) => put_two(output, b"addsplit", table, Bytes(row.as_bytes())),
         Act::SplitBySize(table, row, limit) => {
-            put_three(
-                output,
-                b"splitsize",
-                table,
-                row.as_bytes(),
-                Piece::Number(*limit),
-            )
+            put_three(output, b"splitsize", table, row.as_bytes(), Number(*limit))
         }
         Act::Splits(table) => put_name(output, b"splits", table),
         Act::Save => put_line(output, b"save", &[]),
         Act::Load => put_line(output, b"load", &[]),
         Act::Rotate => put_line(output, b"rotate", &[]),
         Act::Begin(table, row, kind) => {
-            let kind = Piece::Text(compaction_name(*kind));
+            let kind = Text(compaction_name(*kind));
             put_three(output, b"begin", table, row.as_bytes(), kind)
         }
         Act::Install(table, given) => {
-            put_two(output, b"install", table, Piece::Number(job_number(*given)))
+            put_two(output, b"install", table, Number(job_number(*given)))
         }
     }
 }
