@@ -250,15 +250,15 @@ def drained(stream):
     stream.close()
 
 
-def unread(server, seconds=1):
-    """Asks for more than the sockets hold, reads none of it, and is gone after so long."""
+def unread(server, wait=lambda server: time.sleep(1)):
+    """Asks for more than the sockets hold, reads none of it, waits so, and is gone."""
     stream = server.connect()
     stream.sendall(HELLO + MAKE + frame(write(b"t", b"r", update(value=1000000 * b"v"))) + frame(opening(b"t")))
     for _ in range(4):
         read_frame(stream)
     for _ in range(64):
         stream.sendall(frame(b"\x0d" + u32(0) + u32(1) + b"\0\0"))
-    time.sleep(seconds)
+    wait(server)
     reset(stream)
 
 
@@ -293,9 +293,9 @@ def endings():
     line = log_of(unread)
     count("a fault of the writer", line.get("ended") == "write" and line.get("user") == "root", line)
     # an end of time is told as that, though it may come some milliseconds before the server's clock says so; and no other fault is, however long a frame took
-    line = log_of(sends(HELLO, replies=1, then=lambda stream: (time.sleep(2), stream.close())), "--idle", "1")
+    line = log_of(sends(HELLO, replies=1, then=lambda stream: (stream.recv(1), stream.close())), "--idle", "1")
     count("an idle peer", (line.get("ended"), line.get("frames")) == ("idle", "1") and float(line["seconds"]) >= 0.9, line)
-    line = log_of(lambda server: unread(server, 4), "--idle", "1")
+    line = log_of(lambda server: unread(server, Server.ends), "--idle", "1")
     count("a peer that takes nothing", line.get("ended") == "idle" and line.get("user") == "root", line)
     line = log_of(slow, "--idle", "1")
     count("a fault behind a slow frame", (line.get("ended"), line.get("frames")) == ("read", "1") and float(line["seconds"]) >= 1.5, line)
