@@ -152,7 +152,7 @@ fn summed<R: Read + Drop>(alloc: Global, file: R) -> Result<Option<Sum>, AllocEr
     let mut hasher = Sha256::new();
     let mut input = BlockReader::new(alloc, file)?;
     for _ in 0..u64::MAX {
-        match input.fill() {
+        match has_more(&mut input) {
             Ok(true) => {}
             Ok(false) => break,
             Err(ReadFault) => return Ok(None),
@@ -162,4 +162,12 @@ fn summed<R: Read + Drop>(alloc: Global, file: R) -> Result<Option<Sum>, AllocEr
         input.consume(count);
     }
     Ok(Some(Sum(hasher.finalize())))
+}
+
+// Reads where nothing is here. Whether there is more then.
+fn has_more<R: Input>(input: &mut R) -> Result<bool, ReadFault> {
+    if !input.front().is_empty() {
+        return Ok(true);
+    }
+    input.fill()
 }
