@@ -7,7 +7,8 @@
 #   CLOCK   in the environment: processor, for the processor's time in place of that which elapsed
 #   ENGINE  in the environment: a file that keeps the built program; where it is there already, it is measured and nothing is proved
 #   BUILT   in the environment: a folder that keeps the programs beside it, for more runs of the same sources
-#   SHAPES, MODES in the environment: those of tall and wide, of freeze and compact that are measured; all where unsaid
+#   SHAPES  in the environment: those of tall, wide and long that are measured; tall and wide where unsaid
+#   MODES   in the environment: those of freeze and compact; both where unsaid
 #   PEERS   in the environment: those of rocksdb and leveldb beside which it is measured; both where unsaid
 #   FIGURES in the environment: a file to which a line is added for each program and shape that has ranges: the cells, the program, ns of a
 #           write (W and F), µs of a range of ten, bytes a cell at rest

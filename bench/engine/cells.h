@@ -57,25 +57,49 @@ static void add_big_endian64(std::string &text, uint64_t number) {
     text.append(reinterpret_cast<const char *>(&turned), sizeof turned);
 }
 
-// The key of the cell of this number, which lies in this row.
-static void set_key(std::string &key, uint64_t row, uint64_t number) {
+// So many letters of one word, behind what the text holds.
+static void add_letters(std::string &text, uint64_t rest, int count) {
+    for (int i = 0; i < count; i++, rest /= 8) text.push_back(static_cast<char>('a' + rest % 8));
+}
+
+// Whether rows are long: plain.rs says how.
+static bool is_long = false;
+
+// Where a row begins, up to its number.
+static void add_front(std::string &text, uint64_t row) {
+    if (is_long) text.append("customers/north/town/");
+    add_digits(text, row, 10);
+}
+
+static void set_long_key(std::string &key, uint64_t row, uint64_t number) {
+    add_front(key, row);
+    add_letters(key, word(5, row), 9);
+    key.append(1, '\0').append("shipping").append(1, '\0').append("regionq0");
+    add_digits(key, number % 100, 2);
+    key.append(1, '\0').append("A&(B|CD)").append(1, '\0');
+}
+
+static void set_short_key(std::string &key, uint64_t row, uint64_t number) {
     const uint64_t w = word(2, number);
-    key.clear();
-    add_digits(key, row, 10);
+    add_front(key, row);
     key.append(1, '\0').append(1, 'f');
     add_digits(key, w / 8 % 4, 3);
     key.append(1, '\0').append(1, 'q');
     add_digits(key, w / 32 % 10 * 100 + number % 100, 3);
     key.append(1, '\0').append(LABELS[w % 8]).append(1, '\0');
+}
+
+// The key of the cell of this number, which lies in this row.
+static void set_key(std::string &key, uint64_t row, uint64_t number) {
+    key.clear();
+    is_long ? set_long_key(key, row, number) : set_short_key(key, row, number);
     const uint64_t timestamp = 1;
     add_big_endian64(key, static_cast<uint64_t>(INT64_MAX) - timestamp);
 }
 
-// Twenty letters of one word.
 static void set_value(std::string &value, uint64_t number) {
-    uint64_t rest = word(3, number);
     value.clear();
-    for (int i = 0; i < 20; i++, rest /= 8) value.push_back(static_cast<char>('a' + rest % 8));
+    add_letters(value, word(3, number), 20);
 }
 
 // A key or a value as it lies in the store.
@@ -193,7 +217,7 @@ template <class Store> static Frames scan_ranges(Store &store, uint64_t cells) {
     for (uint64_t range = 0; range < cells / 10; range++) {
         const uint64_t row = word(4, range) % (cells - NEIGHBOURS + 1);
         low.clear(), high.clear();
-        add_digits(low, row, 10), add_digits(high, row + NEIGHBOURS, 10);
+        add_front(low, row), add_front(high, row + NEIGHBOURS);
         for (at->Seek(low); at->Valid() && at->key().compare(high) < 0; at->Next()) show(*at, judge, frames);
     }
     frames.empty();
@@ -243,8 +267,9 @@ static std::string given(const Frames &frames) {
 
 template <class Store> static int run(int count, char **words) {
     if (count != 5) return 2;
-    const bool is_tall = strcmp(words[1], "tall") == 0, compacts = strcmp(words[2], "compact") == 0;
-    const uint64_t cells = strtoull(words[3], nullptr, 10), width = is_tall ? 1 : 100;
+    is_long = strcmp(words[1], "long") == 0;
+    const bool is_wide = strcmp(words[1], "wide") == 0, compacts = strcmp(words[2], "compact") == 0;
+    const uint64_t cells = strtoull(words[3], nullptr, 10), width = is_wide ? 100 : 1;
     const std::vector<uint64_t> order = shuffled(cells / width);
     Store store(words[4]);
     print_memory("base");
@@ -252,7 +277,7 @@ template <class Store> static int run(int count, char **words) {
     timed("F", [&] { return compacts ? store.compact() : void(), std::string(); });
     print_memory("rest");
     timed("S", [&] { return given(scan(store)); });
-    if (is_tall) timed("R", [&] { return given(scan_ranges(store, cells)); });
+    if (!is_wide) timed("R", [&] { return given(scan_ranges(store, cells)); });
     print_memory("end");
     return 0;
 }

@@ -1,4 +1,4 @@
-// The same cells in LevelDB. Usage: leveldb tall|wide freeze|compact CELLS FOLDER   (what is printed: engine/plain.rs)
+// The same cells in LevelDB. Usage: leveldb tall|wide|long freeze|compact CELLS FOLDER   (what is printed: engine/plain.rs)
 //
 // Keys are row, family, qualifier and label, a byte 0 behind each, and the inverted timestamp. Nothing is compressed; its log is
 // written, since it can't be left out; all else is as LevelDB has it.

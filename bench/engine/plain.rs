@@ -1,7 +1,7 @@
 //! A plain table beside which the engine is measured: std's `BTreeMap` from keys of four `Vec`s and a falling timestamp to values.
 //!
-//! Usage: plain tall|wide freeze|compact CELLS. It writes the cells, reads all of them in order, and, if tall, ten neighbouring rows
-//! at a time, and prints a line for each part: nanoseconds elapsed and of the processor, and behind a scan the cells and bytes that
+//! Usage: plain tall|wide|long freeze|compact CELLS. It writes the cells, reads all of them in order, and, but if wide, ten neighbouring
+//! rows at a time, and prints a line for each part: nanoseconds elapsed and of the processor, and behind a scan the cells and bytes that
 //! it gave. Lines of /proc/self/status stand between, behind the name of the moment. In a map there is nothing to freeze or to compact.
 use std::cmp::Reverse;
 use std::collections::{BTreeMap, HashMap};
@@ -62,6 +62,31 @@ fn letters(word: u64) -> [u8; 20] {
     text
 }
 
+/// A hundred cells a row in `Wide`, else one; in `Long` a row has 40 bytes, of which it shares 30 with the row before, and families,
+/// labels and most of qualifiers are the same.
+#[derive(Clone, Copy, PartialEq, Eq)]
+enum Shape {
+    Tall,
+    Wide,
+    Long,
+}
+
+impl Shape {
+    /// Where a row begins, up to its number.
+    fn front(self, row: u64) -> Vec<u8> {
+        let front: &[u8] = if self == Shape::Long { b"customers/north/town/" } else { b"" };
+        [front, &digits(row)].concat()
+    }
+
+    fn row(self, row: u64) -> Vec<u8> {
+        let mut text = self.front(row);
+        if self == Shape::Long {
+            text.extend_from_slice(&letters(word(5, row))[..9]);
+        }
+        text
+    }
+}
+
 #[derive(PartialEq, Eq, PartialOrd, Ord)]
 struct Key {
     row: Vec<u8>,
@@ -73,24 +98,26 @@ struct Key {
 
 impl Key {
     /// The least key of a row.
-    fn first_of(row: u64) -> Key {
+    fn first_of(row: Vec<u8>) -> Key {
         let empty = Vec::new;
-        Key { row: digits(row).to_vec(), family: empty(), qualifier: empty(), label: empty(), timestamp: Reverse(i64::MAX) }
+        Key { row, family: empty(), qualifier: empty(), label: empty(), timestamp: Reverse(i64::MAX) }
     }
 }
 
 type Table = BTreeMap<Key, Vec<u8>>;
 
 /// Puts the cell of this number, which lies in this row.
-fn put(table: &mut Table, row: u64, number: u64) {
+fn put(table: &mut Table, shape: Shape, row: u64, number: u64) {
     let word_of = word(2, number);
-    let key = Key {
-        row: digits(row).to_vec(),
-        family: short_name(b'f', word_of / 8 % 4).to_vec(),
-        qualifier: short_name(b'q', word_of / 32 % 10 * 100 + number % 100).to_vec(),
-        label: LABELS[(word_of % 8) as usize].to_vec(),
-        timestamp: Reverse(1),
+    let (family, qualifier, label) = match shape {
+        Shape::Long => (b"shipping".to_vec(), [&b"region"[..], &short_name(b'q', number % 100)].concat(), b"A&(B|CD)".to_vec()),
+        _ => (
+            short_name(b'f', word_of / 8 % 4).to_vec(),
+            short_name(b'q', word_of / 32 % 10 * 100 + number % 100).to_vec(),
+            LABELS[(word_of % 8) as usize].to_vec(),
+        ),
     };
+    let key = Key { row: shape.row(row), family, qualifier, label, timestamp: Reverse(1) };
     table.insert(key, letters(word(3, number)).to_vec());
 }
 
@@ -186,12 +213,12 @@ fn scan(table: &Table) -> Frames {
 }
 
 /// So many neighbouring rows from random places, for each ten cells once.
-fn scan_ranges(table: &Table, cells: u64) -> Frames {
+fn scan_ranges(table: &Table, shape: Shape, cells: u64) -> Frames {
     let mut judge = Judge::default();
     let mut frames = Frames::default();
     for range in 0..cells / 10 {
         let low = word(4, range) % (cells - NEIGHBOURS + 1);
-        let rows = (Included(Key::first_of(low)), Excluded(Key::first_of(low + NEIGHBOURS)));
+        let rows = (Included(Key::first_of(shape.front(low))), Excluded(Key::first_of(shape.front(low + NEIGHBOURS))));
         for (key, value) in table.range(rows) {
             if judge.admits(&key.label) {
                 frames.put(key, value);
@@ -239,20 +266,24 @@ fn print_memory(moment: &str) {
 
 fn main() {
     let words: Vec<String> = std::env::args().collect();
-    let is_tall = words[1] == "tall";
+    let shape = match words[1].as_str() {
+        "tall" => Shape::Tall,
+        "long" => Shape::Long,
+        _ => Shape::Wide,
+    };
     let cells: u64 = words[3].parse().unwrap();
-    let width = if is_tall { 1 } else { 100 };
+    let width = if shape == Shape::Wide { 100 } else { 1 };
     let order = shuffled(cells / width);
     print_memory("base");
     let mut table = Table::new();
-    let write = || order.iter().for_each(|row| (0..width).for_each(|at| put(&mut table, *row, row * width + at)));
+    let write = || order.iter().for_each(|row| (0..width).for_each(|at| put(&mut table, shape, *row, row * width + at)));
     timed("W", write, |_| String::new());
     timed("F", || (), |_| String::new());
     print_memory("rest");
     let given = |frames: &Frames| format!(" {} {}", frames.cells, frames.bytes);
     timed("S", || scan(&table), given);
-    if is_tall {
-        timed("R", || scan_ranges(&table, cells), given);
+    if shape != Shape::Wide {
+        timed("R", || scan_ranges(&table, shape, cells), given);
     }
     print_memory("end");
 }

@@ -1,4 +1,4 @@
-// The same cells in RocksDB. Usage: rocksdb tall|wide freeze|compact CELLS FOLDER   (what is printed: engine/plain.rs)
+// The same cells in RocksDB. Usage: rocksdb tall|wide|long freeze|compact CELLS FOLDER   (what is printed: engine/plain.rs)
 //
 // Keys are row, family, qualifier and label, a byte 0 behind each, and the inverted timestamp. Nothing is logged or compressed;
 // all else is as RocksDB has it.
