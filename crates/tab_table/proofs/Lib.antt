@@ -15,6 +15,7 @@ pub mod Seen
 pub mod Reversed
 pub mod ByteWise
 pub mod Spotted
+pub mod RowsRead
 pub mod Headed
 pub mod Rebuilt
 pub mod Spliced

@@ -3,7 +3,7 @@
 -- An entry of a block has four numbers of 4 bytes each, the most significant byte first: how many first bytes of row, family, qualifier and
 -- label are those of the record before it in its block. What the record has beyond these bytes follows as a record lies in a body
 -- (`tab_key`, `Encoding`): a head of 41 bytes, the rests of the four parts, and the value. A block's first record shares nothing.
-use Rattle.std.specs.Prelude.{ℕ, zero, suc, pos, ◌≡◌, ◌≤◌, ◌+◌, ◌-◌, ◌%◌, ◌==◌, List, [], ◌∷◌, ◌++◌, length, take, drop, cond}
+use Rattle.std.specs.Prelude.{ℕ, zero, suc, pos, ◌≡◌, ◌≤◌, ◌+◌, List, [], ◌∷◌, ◌++◌, length, take, drop}
 use Rattle.std.specs.Coded.{le_prop}
 use Rattle.tab_key.specs.Encoding.{length_at, span_at, record_at, IsAt, IsShort, AreAt-prop}
 use Rattle.tab_key.specs.Records.{Key, Record}

@@ -25,6 +25,11 @@ pub record IsFound (body : List ℕ) (count byte place index : ℕ) (part : KeyP
   pub here : place ≡ place_behind body 0 index
   pub read : (u : Record) → byte ≡ get_or (part_of part (slice_index_or (block_records body count) index u).key) at 0
 
+-- where the entry of the record with an index begins, and the record's row
+pub record IsRowFound (body : List ℕ) (count : ℕ) (row : List ℕ) (place index : ℕ) : Type 0 where
+  pub here : place ≡ place_behind body 0 index
+  pub read : (u : Record) → row ≡ (slice_index_or (block_records body count) index u).key.row
+
 -- all but the four parts are the record's
 pub record IsRestOf (rest r : Record) : Type 0 where
   pub timestamp : rest.key.timestamp ≡ r.key.timestamp

@@ -13,6 +13,7 @@
 //! | `packed` | records in blocks that no longer change, and the searches among them |
 //! | `agreement`, `key_agreement` | how a record compares with a key, found from entry to entry |
 //! | `part_bytes`, `same` | single bytes of a record's parts, and whether two records are the same |
+//! | `rows` | the row of a record, without its value |
 //! | `window` | the records that are decoded, and which ones they are |
 //! | `kept`, `block_cache` | what cursors left of it, which the next one may take up |
 #![tactic(auto)]
@@ -31,6 +32,7 @@ mod packed;
 mod part_bytes;
 mod rebuilding;
 mod restarts;
+mod rows;
 mod same;
 mod sharing;
 mod sorted_table;

@@ -17,7 +17,6 @@ ghost use Rattle.tab_table.specs.Blocks.{block_records};
 ghost use Rattle.tab_table.specs.Sizes.{encoded_size};
 
 use crate::packed::Packed;
-use crate::window::Window;
 use std::alloc::{AllocError, Global};
 use std::ops::Range;
 use tab_key::{Bounds, ByteString, Key};
@@ -108,10 +107,7 @@ impl SortedTable {
         requires { index < length (records self.now) }
         ensures { (u : Fields) → IfOk result (λ row. row ≡ (slice_index_or (records self.now) index u).key.row) }
     {
-        let mut window = Window::new(alloc);
-        window.reach(&self.packed, index)?;
-        let copy = ByteString::from_slice(alloc, window.get(index).row())?;
-        Ok(copy)
+        self.packed.row_of(alloc, index)
     }
 
     /// How much room to ask for, in bytes, where the records from one index up to another are copied: what they take in the body. Only
