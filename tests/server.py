@@ -104,7 +104,7 @@ def frames():
             stream.sendall(HELLO)
             begun = time.monotonic()
             count("a lone request is answered at once", read_frame(stream) == OK)
-            count("within a second", time.monotonic() - begun < 1)
+            count("within five seconds", time.monotonic() - begun < 5)
             stream.sendall(MAKE + MAKE + 2000 * frame(b"\x13" + field(b"t")))
             told = [read_frame(stream) for _ in range(2002)]
             count("pipelined requests are answered in order", told[0] == OK and told[1][4:6] == b"\x81\x0a" and
