@@ -23,3 +23,4 @@ pub mod Based
 pub mod Longer
 pub mod Moved
 pub mod Recalled
+pub mod Ends

@@ -9,6 +9,7 @@ pub mod Decoding
 pub mod Reading
 pub mod Restarts
 pub mod Indexed
+pub mod LastRows
 pub mod SortedTables
 pub mod Windows
 pub mod PartBytes

@@ -2,6 +2,7 @@
 ghost use Rattle.std.specs.Prelude.{IfSome};
 ghost use Rattle.tab_table.specs.Windows.{IsWindow};
 
+use crate::decoded::Decoded;
 use crate::entry::BLOCK_LEN;
 use crate::kept::Kept;
 use crate::packed::Packed;
@@ -13,23 +14,49 @@ use std::num::NonZeroUsize;
 /// What cursors over a table had decoded when they were left, by blocks: of so many blocks at most, of each what the last cursor there had
 /// read. It takes no memory before the first is put in.
 ///
-/// What is taken out is compared with the table first: so it may be lent to a cursor over any table.
+/// What is taken out is compared with the table first: so it may be lent to a cursor over any table. One of no blocks keeps the memory
+/// alone into which the last cursor decoded.
 #[derive(Drop)]
 pub struct BlockCache {
     most: usize,
     // none before the first is put in
     blocks: Option<LruCache<usize, Kept>>,
+    // what the next cursor may decode into
+    room: Option<Decoded>,
 }
 
 impl BlockCache {
-    /// An empty one, of so many blocks at most; of 0 blocks it stays empty.
+    /// An empty one, of so many blocks at most; of 0 blocks it keeps none.
     pub fn of(most: usize) -> BlockCache {
-        BlockCache { most, blocks: None }
+        BlockCache {
+            most,
+            blocks: None,
+            room: None,
+        }
     }
 
     /// Whether nothing was put in yet.
     pub fn is_empty(&self) -> bool {
         self.blocks.is_none()
+    }
+
+    /// Takes out the memory into which a cursor may decode: none yet, where no cursor left any.
+    pub(crate) fn take_room(&mut self, alloc: Global) -> Decoded {
+        match self.room.take() {
+            Some(room) => room,
+            None => Decoded::new(alloc),
+        }
+    }
+
+    /// Keeps what a cursor over the table had decoded, where it is of some blocks; else its memory.
+    pub(crate) fn leave(&mut self, alloc: Global, packed: &Packed, window: Window)
+        requires { IsWindow window packed.now.bytes packed.now.count }
+    {
+        if self.most == 0 {
+            self.room = Some(window.records);
+        } else if let Some(kept) = Kept::of(packed, window) {
+            self.keep(alloc, kept);
+        }
     }
 
     /// Takes out what is kept of the block of the record with this index, where it is the table's and that record is in it or near behind.
@@ -41,8 +68,8 @@ impl BlockCache {
         kept.into_window(packed, index)
     }
 
-    /// Puts records in, in the place of those that were put in least lately. Where memory lacks they are dropped.
-    pub(crate) fn keep(&mut self, alloc: Global, kept: Kept) {
+    // Puts records in, in the place of those that were put in least lately. Where memory lacks they are dropped.
+    fn keep(&mut self, alloc: Global, kept: Kept) {
         self.make(alloc);
         if let Some(blocks) = &mut self.blocks {
             let _ = blocks.push(kept.block(), kept);

@@ -47,14 +47,19 @@ impl SortedTable {
         restarts.shrink_to_fit();
         row_index.shrink_to_fit();
         match Bytes::from_vec(body) {
-            Ok(bytes) => Ok(SortedTable {
-                packed: Packed {
+            Ok(bytes) => {
+                let packed = Packed {
                     bytes,
                     count,
                     restarts,
-                },
-                row_index,
-            }),
+                };
+                let last_row = packed.last_row(alloc)?;
+                Ok(SortedTable {
+                    packed,
+                    row_index,
+                    last_row,
+                })
+            }
             Err(_) => Err(AllocError),
         }
     }

@@ -8,7 +8,6 @@ ghost use Rattle.tab_table.specs.Windows.{IsWindow, IsWindow-prop, Has, Holds-pr
 
 use crate::SortedTable;
 use crate::block_cache::BlockCache;
-use crate::kept::Kept;
 use crate::window::Window;
 use std::alloc::{AllocError, Global};
 use std::ops::Range;
@@ -122,18 +121,20 @@ impl<T: HasSortedTable + Drop> TableCursor<T> {
         ensures end { result.end ≡ end }
         ensures table { T.table result.table ≡ T.table table }
     {
+        let mut cache = cache;
+        let window = Window::over(cache.take_room(alloc));
         TableCursor {
             table,
             from,
             at: end,
             end,
-            window: Window::new(alloc),
+            window,
             cache,
             unpositioned: true,
         }
     }
 
-    /// Its cache, with what it had decoded last.
+    /// Its cache, with what it had decoded last, or the memory for it.
     pub fn into_cache(self, alloc: Global) -> BlockCache {
         let TableCursor {
             table,
@@ -142,9 +143,7 @@ impl<T: HasSortedTable + Drop> TableCursor<T> {
             ..
         } = self;
         let mut cache = cache;
-        if let Some(kept) = Kept::of(&table.table().packed, window) {
-            cache.keep(alloc, kept);
-        }
+        cache.leave(alloc, &table.table().packed, window);
         cache
     }
 }

@@ -4,6 +4,7 @@ ghost use Rattle.std.specs.List.{slice_index_or};
 ghost use Rattle.tab_key.specs.Encoding.{IsAt};
 ghost use Rattle.tab_key.specs.Records.{Key, Record as Fields};
 ghost use Rattle.tab_table.specs.Blocks.{block_records, entry_at, entry_end, IsEntry};
+ghost use Rattle.tab_table.specs.LastRows.{row_at_end};
 ghost use Rattle.tab_table.specs.PartBytes.{IsRowFound};
 
 use crate::packed::Packed;
@@ -60,5 +61,14 @@ impl Packed {
             place = self.next_row(&mut row, place)?;
         }
         Ok(ByteString::from_vec(row))
+    }
+    /// A copy of the last record's row; an empty one where there is no record.
+    pub(crate) fn last_row(&self, alloc: Global) -> Result<ByteString, AllocError>
+        ensures { IfOk result (λ row. row ≡ row_at_end (block_records self.now.bytes self.now.count)) }
+    {
+        if self.count == 0 {
+            return Ok(ByteString::new(alloc));
+        }
+        self.row_of(alloc, self.count - 1)
     }
 }

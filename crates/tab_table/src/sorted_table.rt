@@ -14,13 +14,15 @@ ghost use Rattle.tab_mem.specs.RowIndex.{IsRowIndex, IsRowIndex-prop};
 ghost use Rattle.tab_mem.specs.Lists.{part, HasShortParts};
 ghost use Rattle.tab_mem.specs.Starts.{is_before};
 ghost use Rattle.tab_table.specs.Blocks.{block_records};
+ghost use Rattle.tab_table.specs.LastRows.{row_at_end};
 ghost use Rattle.tab_table.specs.Sizes.{encoded_size};
 
 use crate::packed::Packed;
 use std::alloc::{AllocError, Global};
+use std::cmp::Ordering;
 use std::ops::Range;
 use tab_key::{Bounds, ByteString, Key};
-use tab_mem::{Ordered, RowIndex, Target, rows_in};
+use tab_mem::{Ordered, RowIndex, Start, Target, rows_in};
 
 // A search decodes so many records one by one; more it halves first.
 const FEW: usize = 24;
@@ -37,10 +39,13 @@ const NEAR: usize = 16;
 pub struct SortedTable {
     pub(crate) packed: Packed,
     pub(crate) row_index: RowIndex,
+    // the last record's, by which a tablet is passed that lies before a key
+    pub(crate) last_row: ByteString,
     ghost rising: { IsRising (block_records packed.bytes packed.count) } by { IsStrictlySortedBy-prop record_cmp (block_records packed.bytes packed.count) },
     ghost timestamps: { HasI64Timestamps (block_records packed.bytes packed.count) } by { HasI64Timestamps-prop (block_records packed.bytes packed.count) },
     ghost sized: { length packed.bytes ≡ encoded_size (block_records packed.bytes packed.count) },
     ghost indexed: { IsRowIndex row_index.numbers.items (block_records packed.bytes packed.count) } by { IsRowIndex-prop row_index.numbers.items (block_records packed.bytes packed.count) },
+    ghost last: { last_row ≡ row_at_end (block_records packed.bytes packed.count) },
 }
 
 impl SortedTable {
@@ -71,11 +76,46 @@ impl SortedTable {
         self.len() == 0
     }
 
-    /// Whether the record at an index stands before the key. It takes no memory.
+    /// Whether the record at an index stands before the key. It takes no memory, and reads no record where the row of the last one or the
+    /// index of rows tells.
     pub fn is_before(&self, index: usize, key: Key<'_>) -> bool
         requires { index < length (records self.now) }
         ensures { (u : Fields) → result ≡ is_lt (key_cmp (slice_index_or (records self.now) index u).key (key_of key.entry)) }
     {
+        let count = self.len();
+        if index + 1 == count {
+            self.is_last_before(index, key)
+        } else {
+            self.is_inner_before(index, key)
+        }
+    }
+
+    // The same of the last record.
+    fn is_last_before(&self, last: usize, key: Key<'_>) -> bool
+        requires { last + 1 ≡ length (records self.now) }
+        ensures { (u : Fields) → result ≡ is_lt (key_cmp (slice_index_or (records self.now) last u).key (key_of key.entry)) }
+    {
+        match self.last_row.as_bytes().cmp(key.row) {
+            Ordering::Less => true,
+            Ordering::Equal => self.packed.cmp_key(last, key).is_lt(),
+            Ordering::Greater => false,
+        }
+    }
+
+    // The same by the index of rows: where it tells, a search for the key from this record on stops here, or doesn't.
+    fn is_inner_before(&self, index: usize, key: Key<'_>) -> bool
+        requires { index < length (records self.now) }
+        ensures { (u : Fields) → result ≡ is_lt (key_cmp (slice_index_or (records self.now) index u).key (key_of key.entry)) }
+    {
+        let target = Target::of(Start::AtKey(key));
+        let near = self.len().min(index.saturating_add(NEAR));
+        let part = self.narrowed(index, near, &target);
+        if part.end <= index {
+            return false;
+        }
+        if index < part.start {
+            return true;
+        }
         self.packed.cmp_key(index, key).is_lt()
     }
 

@@ -12,7 +12,7 @@ use crate::decoded::Decoded;
 use crate::entry::BLOCK_LEN;
 use crate::packed::Packed;
 use crate::restarts::RESTART_LEN;
-use std::alloc::{AllocError, Global};
+use std::alloc::AllocError;
 use std::mem;
 use tab_key::RecordRef;
 use tab_mem::Target;
@@ -39,12 +39,12 @@ pub(crate) struct Window {
 }
 
 impl Window {
-    /// Over nothing. It takes no memory.
-    pub(crate) fn new(alloc: Global) -> Window
+    /// Over nothing, with the memory of these records. It takes none.
+    pub(crate) fn over(records: Decoded) -> Window
         ensures { result.known ≡ false }
     {
         Window {
-            records: Decoded::new(alloc),
+            records,
             first: 0,
             known: false,
         }

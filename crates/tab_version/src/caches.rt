@@ -19,15 +19,18 @@ pub struct Caches {
     blocks: usize,
     // by the index of the tablet, and that of the table among its clips
     each: BTreeMap<(usize, usize), BlockCache>,
+    // those of no blocks, which serve any table
+    rooms: Vec<BlockCache>,
 }
 
 impl Caches {
-    /// None yet, each to be of so many blocks at most; where these are 0, none ever.
+    /// None yet, each to be of so many blocks at most; where these are 0, they hold memory alone.
     pub fn of(alloc: Global, blocks: usize) -> Caches {
         Caches {
             alloc,
             blocks,
             each: BTreeMap::new(alloc),
+            rooms: Vec::new(alloc),
         }
     }
 
@@ -45,7 +48,12 @@ impl Caches {
 
     /// Takes out the cache of a table; an empty one, where it has none yet.
     pub(crate) fn take(&mut self, tablet: usize, table: usize) -> BlockCache {
-        match self.each.remove(&(tablet, table)) {
+        let kept = if self.blocks == 0 {
+            self.rooms.pop()
+        } else {
+            self.each.remove(&(tablet, table))
+        };
+        match kept {
             Some(cache) => cache,
             None => BlockCache::of(self.blocks),
         }
@@ -53,9 +61,6 @@ impl Caches {
 
     /// Keeps what a cursor over a table's clip had decoded last. Where memory lacks it is dropped.
     pub(crate) fn keep(&mut self, tablet: usize, table: usize, cursor: ClipCursor<'_>) {
-        if self.blocks == 0 {
-            return;
-        }
         if let OneOf::Second(cursor) = cursor {
             let cache = cursor.into_cache(self.alloc);
             self.put(tablet, table, cache);
@@ -64,6 +69,10 @@ impl Caches {
 
     // Puts in a table's cache, unless it is empty.
     fn put(&mut self, tablet: usize, table: usize, cache: BlockCache) {
+        if self.blocks == 0 {
+            self.put_room(cache);
+            return;
+        }
         if cache.is_empty() {
             return;
         }
@@ -71,5 +80,12 @@ impl Caches {
             self.each.clear();
         }
         let _ = self.each.insert((tablet, table), cache);
+    }
+
+    // Puts in one of no blocks.
+    fn put_room(&mut self, cache: BlockCache) {
+        if self.rooms.len() < MOST {
+            let _ = self.rooms.push(cache);
+        }
     }
 }

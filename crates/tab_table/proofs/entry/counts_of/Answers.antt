@@ -1,5 +1,5 @@
 -- The parts lie where the lengths say.
-use Rattle.std.proofs.Common.{◌≡◌, ◌≤◌, ◌+◌, ℕ, List, ◌∙◌, length, arith}
+use Rattle.std.proofs.Common.{◌≡◌, ◌+◌, ◌∙◌, arith}
 use Rattle.std.specs.List.{slice_range}
 use Rattle.tab_key.specs.Encoding.{span_at}
 use Rattle.tab_key.proofs.Placed.{head_inside}

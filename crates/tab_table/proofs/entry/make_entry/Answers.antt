@@ -1,5 +1,5 @@
 -- There is room for the parts.
-use Rattle.std.proofs.Common.{rules, ◌≡◌, ◌≤◌, ◌+◌, List, ℕ, sym, ◌∙◌, ap, subst, length, take, arith}
+use Rattle.std.proofs.Common.{rules, ◌≡◌, ap, length, arith}
 use Rattle.tab_key.proofs.Placed.{head_inside}
 use Rattle.tab_table.proofs.Headed.{row_width, family_width, qualifier_width, label_width}
 use Rattle.tab_table.proofs.entry.make_entry.Goals as goal

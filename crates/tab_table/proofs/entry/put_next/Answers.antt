@@ -1,9 +1,8 @@
 -- One record more fills the body.
-use Rattle.std.proofs.Common.{◌≡◌, ◌≤◌, refl, length, arith}
+use Rattle.std.proofs.Common.{refl, arith}
 use Rattle.tab_key.specs.Encoding.{record_at}
 use Rattle.tab_table.specs.Blocks.{base_of, last_key}
 use Rattle.tab_table.specs.Counts.{AreShared}
-use Rattle.tab_table.specs.EntryBytes.{IsPut}
 use Rattle.tab_table.proofs.Blocked.{blocks_more, records_more, there_still, counts_there}
 use Rattle.tab_table.proofs.Shares.{shared_second}
 use Rattle.tab_table.proofs.entry.put_next.Goals as goal

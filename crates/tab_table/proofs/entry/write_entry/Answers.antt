@@ -1,7 +1,7 @@
 -- The counts, the head and the rests, one behind the other.
-use Rattle.std.proofs.Common.{◌≡◌, ◌≤◌, ◌<◌, ◌+◌, ◌-◌, ◌^◌, List, ℕ, ◌++◌, sym, ◌∙◌, ap, length, take, arith}
+use Rattle.std.proofs.Common.{◌≡◌, ◌-◌, ◌++◌, ◌∙◌, ap, arith}
 use Rattle.std.specs.List.{slice_range}
-use Rattle.tab_key.specs.Encoding.{length_at, four_bytes, span_at, record_at}
+use Rattle.tab_key.specs.Encoding.{length_at, four_bytes}
 use Rattle.tab_table.specs.EntryBytes.{rests_of}
 use Rattle.tab_table.proofs.Headed.{row_width, family_width, qualifier_width, label_width}
 use Rattle.tab_key.proofs.Placed.{head_inside}

@@ -1,7 +1,7 @@
 -- One rest behind the other.
-use Rattle.std.proofs.Common.{◌≡◌, ◌≤◌, ◌+◌, ◌-◌, List, ℕ, ◌++◌, ◌∙◌, ap, take, arith}
+use Rattle.std.proofs.Common.{◌≡◌, ◌+◌, List, ℕ, ◌++◌, ◌∙◌, take, arith}
 use Rattle.std.specs.List.{slice_range}
-use Rattle.tab_key.specs.Encoding.{length_at, span_at}
+use Rattle.tab_key.specs.Encoding.{span_at}
 use Rattle.tab_table.proofs.Spliced.{chained}
 use Rattle.tab_key.proofs.Placed.{head_inside}
 use Rattle.tab_table.proofs.entry.write_rests.Goals as goal

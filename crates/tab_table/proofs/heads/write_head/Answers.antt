@@ -1,5 +1,5 @@
 -- The lengths, and behind them what the other head has.
-use Rattle.std.proofs.Common.{◌≡◌, ◌≤◌, ◌+◌, length, List, ℕ, ◌++◌, sym, ◌∙◌, ap, take, arith}
+use Rattle.std.proofs.Common.{◌≡◌, ◌+◌, List, ℕ, ◌++◌, sym, ◌∙◌, ap, take, arith}
 use Rattle.std.specs.List.{slice_range}
 use Rattle.tab_key.specs.Encoding.{four_bytes}
 use Rattle.tab_table.proofs.Spliced.{chained}

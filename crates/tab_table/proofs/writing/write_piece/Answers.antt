@@ -1,5 +1,5 @@
 -- Of the step as many bytes as the piece has join those before it.
-use Rattle.std.proofs.Common.{rules, ◌≡◌, ◌≤◌, ◌+◌, ◌++◌, ◌∙◌, ap, length, take, arith}
+use Rattle.std.proofs.Common.{rules, ◌≡◌, ◌≤◌, ◌+◌, ◌∙◌, ap, length, take, arith}
 use Rattle.tab_table.proofs.Spliced.{of_front}
 use Rattle.tab_table.proofs.writing.write_piece.Goals as goal
 

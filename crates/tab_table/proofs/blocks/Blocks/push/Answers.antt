@@ -3,7 +3,7 @@ use Rattle.std.proofs.Common.{◌≡◌, ◌∙◌, ◌+◌, List, ℕ, ◌++◌
 use Rattle.tab_key.specs.Encoding.{record_at}
 use Rattle.tab_key.specs.Records.{Record}
 use Rattle.tab_mem.specs.RowIndex.{IsRowIndex}
-use Rattle.tab_table.specs.Blocks.{no_key, block_records, last_key, AreBlocks}
+use Rattle.tab_table.specs.Blocks.{no_key, block_records, last_key}
 use Rattle.tab_table.specs.Restarts.{AreRestarts}
 use Rattle.tab_table.proofs.Indexes.{few_records}
 use Rattle.tab_table.proofs.Laid.{still_listed, length_listed}

@@ -7,8 +7,8 @@ use Rattle.tab_table.specs.Blocks.{block_records}
 use Rattle.tab_table.specs.Sizes.{encoded_size}
 use Rattle.tab_table.proofs.sorted_table.SortedTable.build.Goals as goal
 
-pub invariant_of-result-in-Ok : goal.invariant_of-result-in-Ok
-invariant_of-result-in-Ok g c =
+pub invariant_of-result : goal.invariant_of-result
+invariant_of-result g c =
     let source = c.see_positioned.new.source in
     let rest = g.S.Source.rest source in
     let whole = g.S.Source.whole source in
@@ -24,4 +24,5 @@ invariant_of-result-in-Ok g c =
       timestamps = subst HasI64Timestamps (sym is) (λ u h. g.met.S.Source.has_i64_timestamps source u (in_end rest whole suffix u h));
       sized = ap length bytes ∙ known.blocks.size ∙ sym (ap (λ (xs : List ℕ). encoded_size (block_records xs count)) bytes);
       indexed = subst (λ (ns : List ℕ). IsRowIndex ns (block_records c.in-Ok.bytes count)) (sym numbers) (subst (λ (xs : List ℕ). IsRowIndex made.row_index.numbers.items (block_records xs count)) (sym bytes) known.row_index);
+      last = c.in_ok-last_row-in-Ok.ensures;
     }
