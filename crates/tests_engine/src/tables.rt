@@ -261,6 +261,23 @@ fn records_are_looked_up(rt: HostRuntime) {
     assert!(rt; table.room(0, 129) as u64 == table.size());
 }
 
+// Those with a lower index are before the key of this record.
+fn expect_before(rt: &impl Abort, table: &SortedTable, place: usize, key: Key<'_>) {
+    for index in 0..table.len() {
+        assert!(rt; table.is_before(index, key) == (index < place));
+    }
+}
+
+#[test]
+fn records_stand_before_the_keys_of_later_ones(rt: HostRuntime) {
+    let alloc = rt.alloc();
+    let want = long_records(&rt, alloc, 129);
+    let table = table_of(&rt, alloc, long_records(&rt, alloc, 129));
+    for (place, record) in want.iter().enumerate() {
+        expect_before(&rt, &table, place, record.as_ref().key());
+    }
+}
+
 #[test]
 fn rows_are_found(rt: HostRuntime) {
     let alloc = rt.alloc();
