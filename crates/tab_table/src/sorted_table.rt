@@ -206,6 +206,13 @@ impl SortedTable {
         if self.is_far(at, target) {
             return self.around(next, end, target);
         }
+        let part = self.narrowed(next, near, target);
+        if part.end < near {
+            return part;
+        }
+        if next < part.start {
+            return self.around(next, end, target);
+        }
         if self.packed.precedes(near, target.start()) {
             return self.around(next, end, target);
         }
