@@ -2,4 +2,5 @@ pub mod Marks
 pub mod Taken
 pub mod Batches
 pub mod InRange
+pub mod Placing
 pub mod Shares

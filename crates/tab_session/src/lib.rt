@@ -12,6 +12,7 @@
 //! | `bookmark` | where a session goes on |
 //! | `taking` | the cells of a batch |
 //! | `room` | how much memory a batch asks for at once |
+//! | `order` | the order in which ranges are read |
 //! | `rows` | the cells of a range of rows |
 //! | `chunks` | many ranges, read by several threads |
 #![tactic(auto)]
@@ -19,6 +20,7 @@
 mod bookmark;
 mod chunks;
 mod open_scan;
+mod order;
 mod room;
 mod rows;
 mod session;

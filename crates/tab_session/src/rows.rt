@@ -1,11 +1,12 @@
 //! The cells of a range of rows.
-ghost use Rattle.std.specs.Prelude.{◌≡◌, ◌++◌, ◌∷◌, [], map, IfOk, OnOk};
+ghost use Rattle.std.specs.Prelude.{◌≡◌, ◌<◌, ◌++◌, ◌∷◌, [], map, length, slice_set, IfOk, OnOk};
 ghost use Rattle.tab_key.specs.KeyOf.{key_of};
 ghost use Rattle.tab_key.specs.Records.{cell_of};
 ghost use Rattle.tab_cells.specs.SessionState.{cells_within};
 ghost use Rattle.tab_iter.specs.NamedColumns.{row_start};
 ghost use Rattle.tab_session.specs.LowEnds.{from_low};
 
+use crate::order::by_low_ends;
 use crate::room::Room;
 use std::alloc::{AllocError, Global};
 use tab_iter::{NoMemory, Source};
@@ -76,8 +77,42 @@ pub(crate) fn take_rows<S: Source>(
     Ok(cells)
 }
 
-/// The cells of the source's records with a row in each of the ranges. What is read of a range begins at its low end, and ends with
-/// the first record behind its high one. The memory for an answer is asked for at once, about as much as the one before it took.
+// The cells of the source's records with a row in the range, read from its low end on.
+fn take_range<S: Source>(
+    alloc: Global,
+    source: &mut S,
+    rows: &Bounds,
+    room: Room,
+) -> Result<Cells, NoMemory>
+    ensures whole { S.whole source.new ≡ S.whole source.old }
+    ensures cells { IfOk result (λ v. v ≡ cells_within rows.now (map cell_of (S.whole source.old))) }
+{
+    seek_low(alloc, source, &rows.low)?;
+    take_rows(alloc, source, rows, room)
+}
+
+// So many answers without a cell. They take no memory of their own.
+fn empty_answers(alloc: Global, count: usize) -> Result<Vec<Cells>, AllocError>
+    ensures { IfOk result (λ v. length v.items ≡ count) }
+{
+    let mut answers = Vec::with_capacity(alloc, count)?;
+    for _ in 0..count {
+        answers.push(Cells::new(alloc))?;
+    }
+    Ok(answers)
+}
+
+// Puts the cells of an answer in its place.
+fn put(answers: &mut Vec<Cells>, place: usize, cells: Cells)
+    requires { place < length answers.old.items }
+    ensures { answers.new.items ≡ slice_set answers.old.items place cells }
+{
+    answers[place] = cells;
+}
+
+/// The cells of the source's records with a row in each of the ranges. The ranges are read in the order of their low ends. What is read of
+/// one begins there, and ends with the first record behind its high one. The memory for an answer is asked for at once, about as much as
+/// the one before it took.
 pub(crate) fn take_ranges<S: Source>(
     alloc: Global,
     source: &mut S,
@@ -85,14 +120,13 @@ pub(crate) fn take_ranges<S: Source>(
 ) -> Result<Vec<Cells>, NoMemory>
     ensures { IfOk result (λ v. v.items ≡ map (λ rows. cells_within rows (map cell_of (S.whole source.old))) ranges.now) }
 {
-    let mut answers = Vec::with_capacity(alloc, ranges.len())?;
+    let order = by_low_ends(alloc, ranges)?;
+    let mut answers = empty_answers(alloc, ranges.len())?;
     let mut room = Room::unknown();
-    for rows in ranges {
-        answers.reserve(1)?;
-        seek_low(alloc, source, &rows.low)?;
-        let cells = take_rows(alloc, source, rows, room)?;
+    for placed in order.as_slice() {
+        let cells = take_range(alloc, source, placed.rows(), room)?;
         room = Room::of(&cells).for_next(u32::MAX);
-        answers.push_reserved(cells);
+        put(&mut answers, placed.place(), cells);
     }
     Ok(answers)
 }

@@ -96,8 +96,9 @@ impl Session {
     /// The whole answer in each of these ranges of rows, in their order, whatever batches were taken. The session stays as it was; its
     /// verdicts on labels are kept for what is read next, as behind a batch.
     ///
-    /// A range is read from its low end to the first row above its high one, by a seek in what the ranges before it were read from. A
-    /// range that is none has no cell. The error comes only from want of memory.
+    /// They are read in the order of their low ends, each from there to the first row above its high one, by a seek in what the ranges
+    /// before it were read from; that order takes 16 bytes a range. A range that is none has no cell. The error comes only from want of
+    /// memory.
     pub fn scan_each(
         &mut self,
         alloc: Global,
