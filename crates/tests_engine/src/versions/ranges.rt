@@ -66,7 +66,19 @@ fn ranges_for_threads(
     ranges
 }
 
-// The ranges have the same cells in the same order, whoever reads them; how many.
+// Whether the one range has these cells where nothing else is asked for.
+fn are_those_alone(
+    rt: &impl Abort,
+    alloc: Global,
+    session: &mut Session,
+    range: &[Bounds],
+    cells: &Cells,
+) -> bool {
+    let alone = session.scan_each(alloc, range).expect(rt, "memory");
+    alone.len() == 1 && are_same(&alone.as_slice()[0], cells)
+}
+
+// The ranges have the same cells in the same order, whoever reads them, and each has those that it has alone; how many.
 fn compare(
     rt: &(impl Abort + Threads + Sync),
     alloc: Global,
@@ -78,8 +90,9 @@ fn compare(
     assert!(rt; many.len() == ranges.len());
     assert!(rt; each.len() == ranges.len());
     let mut cells = 0usize;
-    for (some, others) in many.as_slice().iter().zip(each.as_slice()) {
-        assert!(rt; are_same(some, others));
+    for (index, some) in many.as_slice().iter().enumerate() {
+        assert!(rt; are_same(some, &each.as_slice()[index]));
+        assert!(rt; are_those_alone(rt, alloc, session, &ranges[index..index + 1], some));
         cells = cells.saturating_add(some.len());
     }
     cells
