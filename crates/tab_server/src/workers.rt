@@ -31,6 +31,24 @@ use tab_serve::ServeFault;
 use tab_socket::{Connection, End, Listener, Stream};
 use tab_work::{Claims, Compactor, Gate, Requests, Shared, serve_forgetting};
 
+// What all threads of a server are lent.
+#[derive(Drop)]
+struct Context<'a, 'l, L: Ledger, R, H, D> {
+    rt: &'a R,
+    alloc: Global,
+    shared: &'a Shared<L>,
+    // where the connections come that were accepted
+    from: &'a Receiver<Connection>,
+    inbox: &'a Inbox,
+    claims: &'a Claims,
+    counters: &'a Counters,
+    history: &'a H,
+    log: &'a Log<'l, L, D>,
+    connections: &'a Connections,
+    // how many entries of the history are handed on at once
+    many: u64,
+}
+
 /// Runs all threads: the workers serve the connections that are accepted, the compactors compact beside them, and the recorder
 /// hands the history on. Gives the seats back.
 pub(crate) fn serve_all<
@@ -61,20 +79,22 @@ pub(crate) fn serve_all<
         let mut threads = Vec::new(alloc);
         for member in members {
             threads.reserve(1)?;
-            match scope.spawn(move || work(
-                rt,
-                alloc,
-                shared,
-                member,
-                from,
-                inbox,
-                claims,
-                counters,
-                history,
-                log,
-                connections,
-                many,
-            )) {
+            match scope.spawn(move || {
+                let context = Context {
+                    rt,
+                    alloc,
+                    shared,
+                    from,
+                    inbox,
+                    claims,
+                    counters,
+                    history,
+                    log,
+                    connections,
+                    many,
+                };
+                work(&context, member)
+            }) {
                 Ok(thread) => threads.push_reserved(thread),
                 Err(_) => return Err(ServerFault::NoThread),
             }
@@ -100,38 +120,18 @@ fn seats_of<L: Ledger>(
 
 // What one of the threads does, to its end.
 fn work<L: Ledger, R: Threads + Wait + Clock + Sync, H: History, D: Store>(
-    rt: &R,
-    alloc: Global,
-    shared: &Shared<L>,
+    context: &Context<'_, '_, L, R, H, D>,
     member: ServerThread<'_, L, R>,
-    from: &Receiver<Connection>,
-    inbox: &Inbox,
-    claims: &Claims,
-    counters: &Counters,
-    history: &H,
-    log: &Log<'_, L, D>,
-    connections: &Connections,
-    many: u64,
 ) -> Seat<L> {
     let ServerThread { role, seat, life } = member;
     let seat = match role {
-        ThreadRole::Worker(number, requests) => {
-            let tally = counters.take();
-            let place = (connections, number);
-            serve(
-                rt, alloc, shared, seat, from, requests, tally, history, log, place,
-            )
-        }
-        ThreadRole::Compactor => compact(rt, alloc, shared, seat, inbox, claims, counters),
+        ThreadRole::Worker(number, requests) => serve(context, seat, number, requests),
+        ThreadRole::Compactor => compact(context, seat),
         ThreadRole::Keeper(others) => {
-            keep_images(rt, log, &others);
+            keep_images(context.rt, context.log, &others);
             seat
         }
-        ThreadRole::Recorder(others) => {
-            record(
-                rt, alloc, shared, history, log, counters, seat, many, others,
-            )
-        }
+        ThreadRole::Recorder(others) => record(context, seat, others),
     };
     drop(life);
     seat
@@ -140,73 +140,76 @@ fn work<L: Ledger, R: Threads + Wait + Clock + Sync, H: History, D: Store>(
 // Serves one connection after another, until the channel is closed, as the worker of this number. Nothing that happens to one of them stops the
 // next.
 fn serve<L: Ledger, R: Threads + Wait + Clock + Sync, H: History, D: Store>(
-    rt: &R,
-    alloc: Global,
-    shared: &Shared<L>,
+    context: &Context<'_, '_, L, R, H, D>,
     seat: Seat<L>,
-    from: &Receiver<Connection>,
+    number: usize,
     requests: Requests<'_, R>,
-    tally: &Tally,
-    history: &H,
-    log: &Log<'_, L, D>,
-    place: (&Connections, usize),
 ) -> Seat<L> {
     let mut seat = seat;
-    for _ in rt.forever() {
-        let Ok(stream) = from.recv(rt) else {
+    let tally = context.counters.take();
+    for _ in context.rt.forever() {
+        let Ok(stream) = context.from.recv(context.rt) else {
             break;
         };
-        if enters(rt, place, &stream) {
-            serve_stream(
-                rt, alloc, shared, &mut seat, &stream, &requests, tally, history, log,
-            );
+        if enters(context, number, &stream) {
+            serve_stream(context, &mut seat, &stream, &requests, tally);
         }
-        place.0.leave(rt, place.1);
+        context.connections.leave(context.rt, number);
     }
     seat
 }
 
-// Whether the worker at this place may serve the stream. One that couldn't be closed is dropped.
-fn enters<R: Wait, S: Stream>(rt: &R, place: (&Connections, usize), stream: &S) -> bool {
+// Whether the worker of this number may serve the stream. One that couldn't be closed is dropped.
+fn enters<L: Ledger, R: Wait, S: Stream, H, D>(
+    context: &Context<'_, '_, L, R, H, D>,
+    number: usize,
+    stream: &S,
+) -> bool {
     match stream.closer() {
-        Ok(closer) => place.0.enter(rt, place.1, closer),
+        Ok(closer) => context.connections.enter(context.rt, number, closer),
         Err(_) => false,
     }
 }
 
 // Serves a connection to its end or its first fault, and tells of it.
 fn serve_stream<L: Ledger, R: Threads + Wait + Clock + Sync, S: Stream, H: History, D: Store>(
-    rt: &R,
-    alloc: Global,
-    shared: &Shared<L>,
+    context: &Context<'_, '_, L, R, H, D>,
     seat: &mut Seat<L>,
     stream: &S,
     requests: &Requests<'_, R>,
     tally: &Tally,
-    history: &H,
-    log: &Log<'_, L, D>,
 ) {
     let peer = peer_of(stream);
     let is_late = Cell::new(false);
-    let watch = Watch::new(rt, requests, tally, &is_late);
-    let served = converse_over(rt, alloc, shared, seat, stream, &is_late, &watch, log);
-    history.end(&watch.end(peer, served));
+    let watch = Watch::new(context.rt, requests, tally, &is_late);
+    let served = converse_over(context, seat, stream, &is_late, &watch);
+    context.history.end(&watch.end(peer, served));
 }
 
 // Answers what the stream asks, to its end or its first fault. The cell is set where that is a read or a write that has waited too long.
-fn converse_over<L: Ledger, R: Threads + Wait + Clock + Sync, S: Stream, G: Gate, D: Store>(
-    rt: &R,
-    alloc: Global,
-    shared: &Shared<L>,
+fn converse_over<
+    L: Ledger,
+    R: Threads + Wait + Clock + Sync,
+    S: Stream,
+    G: Gate,
+    H: History,
+    D: Store,
+>(
+    context: &Context<'_, '_, L, R, H, D>,
     seat: &mut Seat<L>,
     stream: &S,
     is_late: &Cell<bool>,
     gate: &G,
-    log: &Log<'_, L, D>,
 ) -> Result<Result<(), ServeFault>, AllocError> {
+    let (rt, alloc) = (context.rt, context.alloc);
     let mut input = BlockReader::new(alloc, Waiting::new(End::new(stream), is_late))?;
     let mark = Cell::new(0);
-    let settled = Settled::new(rt, log, &mark, Waiting::new(End::new(stream), is_late));
+    let settled = Settled::new(
+        rt,
+        context.log,
+        &mark,
+        Waiting::new(End::new(stream), is_late),
+    );
     let mut output = BlockWriter::new(alloc, settled)?;
     let gate = Marking::new(gate, &mark);
     let mut moments = WallClock::new(rt);
@@ -216,7 +219,7 @@ fn converse_over<L: Ledger, R: Threads + Wait + Clock + Sync, S: Stream, G: Gate
         &mut input,
         &mut output,
         &mut moments,
-        shared,
+        context.shared,
         seat,
         &gate,
     ))
@@ -232,23 +235,19 @@ fn peer_of<S: Stream>(stream: &S) -> Peer {
 }
 
 // Compacts what is due at each request, as root, and in idle time what isn't, until nobody can send any more.
-fn compact<L: Ledger, R: Threads + Wait + Clock + Sync>(
-    rt: &R,
-    alloc: Global,
-    shared: &Shared<L>,
+fn compact<L: Ledger, R: Threads + Wait + Clock + Sync, H, D>(
+    context: &Context<'_, '_, L, R, H, D>,
     seat: Seat<L>,
-    inbox: &Inbox,
-    claims: &Claims,
-    counters: &Counters,
 ) -> Seat<L> {
+    let (rt, inbox) = (context.rt, context.inbox);
     let mut seat = seat;
-    let mut idler = Idler::new(rt, alloc, shared, root(), counters);
+    let mut idler = Idler::new(rt, context.alloc, context.shared, root(), context.counters);
     let mut woken = inbox.wait(rt);
     for _ in rt.forever() {
         if woken == Woken::Closed {
             break;
         }
-        seat = compact_due(rt, alloc, shared, seat, claims, counters);
+        seat = compact_due(context, seat);
         woken = if woken == Woken::Idle {
             compact_idle(rt, inbox, &mut idler, &mut seat)
         } else {
@@ -260,16 +259,21 @@ fn compact<L: Ledger, R: Threads + Wait + Clock + Sync>(
 }
 
 // Compacts what is due.
-fn compact_due<L: Ledger, R: Threads + Wait + Clock + Sync>(
-    rt: &R,
-    alloc: Global,
-    shared: &Shared<L>,
+fn compact_due<L: Ledger, R: Threads + Wait + Clock + Sync, H, D>(
+    context: &Context<'_, '_, L, R, H, D>,
     seat: Seat<L>,
-    claims: &Claims,
-    counters: &Counters,
 ) -> Seat<L> {
-    let moments = WallClock::new(rt);
-    let mut compactor = Compactor::new(rt, alloc, shared, seat, root(), moments, claims, counters);
+    let moments = WallClock::new(context.rt);
+    let mut compactor = Compactor::new(
+        context.rt,
+        context.alloc,
+        context.shared,
+        seat,
+        root(),
+        moments,
+        context.claims,
+        context.counters,
+    );
     compactor.compact();
     compactor.into_parts().0
 }
@@ -289,28 +293,22 @@ fn compact_idle<L: Ledger, R: Wait + Clock>(
 
 // Hands the history on, as root, until nobody else is at work.
 fn record<L: Ledger, R: Wait + Clock, H: History, D: Store>(
-    rt: &R,
-    alloc: Global,
-    shared: &Shared<L>,
-    history: &H,
-    log: &Log<'_, L, D>,
-    counters: &Counters,
+    context: &Context<'_, '_, L, R, H, D>,
     seat: Seat<L>,
-    many: u64,
     others: Receiver<()>,
 ) -> Seat<L> {
     let recorder = Recorder {
-        rt,
-        alloc,
-        shared,
+        rt: context.rt,
+        alloc: context.alloc,
+        shared: context.shared,
         seat,
         user: root(),
-        history,
-        log,
+        history: context.history,
+        log: context.log,
         synced: None,
-        counters,
+        counters: context.counters,
     };
-    recorder.record(many, &others)
+    recorder.record(context.many, &others)
 }
 
 // Who compacts, and who rotates.
