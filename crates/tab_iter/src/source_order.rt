@@ -51,6 +51,7 @@ pub(crate) fn put<S: Source>(
 }
 
 // Whether no source of the order stands before this one.
+#[inline(always)]
 fn is_first<S: Source>(sources: &[S], order: &[usize], place: usize) -> bool
     requires { IsDescending (map S.rest sources.now) order.now }
     ensures { OnTrue result (AllByRecursion (λ o. is_ahead_at (map S.rest sources.now) o place ≡ false) order.now) }
@@ -62,6 +63,7 @@ fn is_first<S: Source>(sources: &[S], order: &[usize], place: usize) -> bool
 }
 
 // How many sources of the order don't stand before this one. They are its first ones.
+#[inline(always)]
 fn count_behind<S: Source>(sources: &[S], order: &[usize], place: usize) -> usize
     requires { IsDescending (map S.rest sources.now) order.now }
     ensures within { result ≤ length order.now }
@@ -72,6 +74,7 @@ fn count_behind<S: Source>(sources: &[S], order: &[usize], place: usize) -> usiz
 
 // Whether the first record of one source stands before that of the other. One that is empty stands last. Only where the two prefixes
 // are one number are the records read.
+#[inline(always)]
 fn is_ahead<S: Source>(sources: &[S], place: usize, other: usize) -> bool
     ensures { result ≡ is_ahead_at (map S.rest sources.now) place other }
 {
@@ -85,6 +88,7 @@ fn is_ahead<S: Source>(sources: &[S], place: usize, other: usize) -> bool
 }
 
 // The same, by the records themselves.
+#[inline(never)]
 fn is_record_ahead<S: Source>(sources: &[S], place: usize, other: usize) -> bool
     ensures { result ≡ is_ahead_at (map S.rest sources.now) place other }
 {
@@ -98,6 +102,7 @@ fn is_record_ahead<S: Source>(sources: &[S], place: usize, other: usize) -> bool
 }
 
 // The row prefix of the first record that the source at this place has left; the largest number where there is none.
+#[inline(always)]
 fn prefix_at<S: Source>(sources: &[S], place: usize) -> u128
     ensures { IsTopPrefix result (first_in (map S.rest sources.now) place) }
 {
@@ -108,6 +113,7 @@ fn prefix_at<S: Source>(sources: &[S], place: usize) -> u128
 }
 
 /// The first record that the source at this place has left, if there is such a source.
+#[inline]
 pub(crate) fn top_at<S: Source>(sources: &[S], place: usize) -> Option<RecordRef<'_>>
     ensures { result ≡ first_in (map S.rest sources.now) place }
 {

@@ -62,6 +62,7 @@ impl Packed {
         }
         Ok(ByteString::from_vec(row))
     }
+
     /// A copy of the last record's row; an empty one where there is no record.
     pub(crate) fn last_row(&self, alloc: Global) -> Result<ByteString, AllocError>
         ensures { IfOk result (λ row. row ≡ row_at_end (block_records self.now.bytes self.now.count)) }

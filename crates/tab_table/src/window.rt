@@ -50,9 +50,9 @@ impl Window {
         }
     }
 
-    /// Decodes so far that the record with this index is there: from where the window ends if it is near, and else from the restart
-    /// before it. After an error, which only want of memory gives, nothing is known of the window.
-    #[inline]
+    /// Decodes so far that the record with this index is there. After an error, which only want of memory gives, nothing is known of the
+    /// window.
+    #[inline(always)]
     pub(crate) fn reach(&mut self, packed: &Packed, index: usize) -> Result<(), AllocError>
         requires inside { index < packed.now.count }
         requires window { IsWindow self.old packed.now.bytes packed.now.count }
@@ -62,6 +62,17 @@ impl Window {
         if self.has(index) {
             return Ok(());
         }
+        self.decode_to(packed, index)
+    }
+
+    // The same of one that isn't there: from where the window ends if it is near, and else from the restart before it.
+    #[inline(never)]
+    fn decode_to(&mut self, packed: &Packed, index: usize) -> Result<(), AllocError>
+        requires inside { index < packed.now.count }
+        requires window { IsWindow self.old packed.now.bytes packed.now.count }
+        ensures window { IsWindow self.new packed.now.bytes packed.now.count }
+        ensures has { OnOk result (Has self.new index) }
+    {
         if self.is_near(index) {
             return self.read_on(packed, index);
         }
