@@ -4,3 +4,4 @@ pub mod Batches
 pub mod InRange
 pub mod Placing
 pub mod Shares
+pub mod Begun

@@ -1,7 +1,8 @@
 //! The order in which ranges are read.
 ghost use Rattle.std.specs.Prelude.{◌≡◌, IfOk};
 ghost use Rattle.std.specs.List.{enumerate_from};
-ghost use Rattle.std.specs.List.Sorted.{IsPermutation};
+ghost use Rattle.std.specs.List.Sorted.{IsPermutation, IsSortedBy};
+ghost use Rattle.tab_session.specs.LowEnds.{low_row, begins_before};
 
 use std::alloc::{AllocError, Global};
 use std::marker::Model;
@@ -39,7 +40,9 @@ impl<'a> Placed<'a> {
     }
 
     // The row of the low end, the first one where there is none.
-    fn low(&self) -> &'a [u8] {
+    fn low(&self) -> &'a [u8]
+        ensures { result.now ≡ low_row self.now.1.low }
+    {
         match &self.rows.low {
             Bound::Unbounded => b"",
             Bound::Inclusive(row) | Bound::Exclusive(row) => row.as_bytes(),
@@ -49,7 +52,8 @@ impl<'a> Placed<'a> {
 
 /// The ranges in the order of their low ends: what lies together in the table is read one behind the other. It takes 16 bytes for each.
 pub(crate) fn by_low_ends(alloc: Global, ranges: &[Bounds]) -> Result<Vec<Placed<'_>>, AllocError>
-    ensures { IfOk result (λ order. IsPermutation (enumerate_from 0 ranges.now) order.items) }
+    ensures all { IfOk result (λ order. IsPermutation (enumerate_from 0 ranges.now) order.items) }
+    ensures rises { IfOk result (λ order. IsSortedBy begins_before order.items) }
 {
     let mut order = as_asked(alloc, ranges)?;
     order.sort_unstable_by(|a, b| a.low().cmp(b.low()));

@@ -13,7 +13,7 @@ put-requires g c =
     let item = c.placed-item.result in
     let inside : n < length order = search rules in
     let found : item ≡ get_or order n item = c.placed-item.is ∙ ap (λ items. get_or items n item) c.as_slice-placed-items.ensures.value in
-    let here : IsPlaced ranges item = subst (IsPlaced ranges) (sym found) (are_placed ranges order c.in_ok-order.ensures n item inside) in
+    let here : IsPlaced ranges item = subst (IsPlaced ranges) (sym found) (are_placed ranges order c.in_ok-order.ensures.all n item inside) in
     let place : c.place.result ≡ item.0 = search rules in
     omega (arith, place, here.0, c.loop-placed.invariant.long)
 
@@ -31,7 +31,7 @@ loop-placed-preserved g c =
     let cells : c.in_ok-cells.cells ≡ f item.1 = search rules in
     let written : c.put.new.answers.items ≡ set c.loop-placed.answers.items item.0 (f item.1) = search rules in
     record {
-      answered = λ k d below. subst (λ xs. IsAnswered f [] c.put.new.answers.items (get_or xs k d)) (sym items) (subst (λ ys. IsAnswered f [] ys (get_or order k d)) (sym written) (put_more f [] ranges c.loop-placed.answers.items order n item c.loop-placed.invariant.long (are_placed ranges order c.in_ok-order.ensures) inside found (λ j e lt. subst (λ xs. IsAnswered f [] c.loop-placed.answers.items (get_or xs j e)) items (c.loop-placed.invariant.answered j e lt)) k d below));
+      answered = λ k d below. subst (λ xs. IsAnswered f [] c.put.new.answers.items (get_or xs k d)) (sym items) (subst (λ ys. IsAnswered f [] ys (get_or order k d)) (sym written) (put_more f [] ranges c.loop-placed.answers.items order n item c.loop-placed.invariant.long (are_placed ranges order c.in_ok-order.ensures.all) inside found (λ j e lt. subst (λ xs. IsAnswered f [] c.loop-placed.answers.items (get_or xs j e)) items (c.loop-placed.invariant.answered j e lt)) k d below));
       long = search rules;
       whole = search rules;
     }
@@ -42,4 +42,4 @@ returns g c =
     let order = c.in_ok-order.order.items in
     let items : c.as_slice-placed-items.result.now ≡ order = c.as_slice-placed-items.ensures.value in
     let end : c.loop-placed.placed-index ≡ length order = search rules in
-    all_answered f [] c.args.ranges.now c.loop-placed.answers.items order c.loop-placed.invariant.long c.in_ok-order.ensures (λ k d below. subst (λ xs. IsAnswered f [] c.loop-placed.answers.items (get_or xs k d)) items (c.loop-placed.invariant.answered k d (subst (λ m. k < m) (sym end) below)))
+    all_answered f [] c.args.ranges.now c.loop-placed.answers.items order c.loop-placed.invariant.long c.in_ok-order.ensures.all (λ k d below. subst (λ xs. IsAnswered f [] c.loop-placed.answers.items (get_or xs k d)) items (c.loop-placed.invariant.answered k d (subst (λ m. k < m) (sym end) below)))
