@@ -13,7 +13,6 @@ use std::mem;
 const BLOCK: usize = 1024;
 
 /// Entries, the oldest first. They lie in blocks, so that one more moves at most those of one block, and none once a block is full.
-#[derive(Drop)]
 pub struct Blocks {
     // blocks of as many entries as one has
     full: Vec<Vec<RecordedEntry>>,
@@ -21,6 +20,17 @@ pub struct Blocks {
     last: Vec<RecordedEntry>,
     // how many there are
     count: u64,
+}
+
+// Written out, so that a crate above needn't prove anew how the parts are dropped.
+impl Drop for Blocks {
+    fn drop(self) {
+        let Blocks {
+            full: _,
+            last: _,
+            count: _,
+        } = self;
+    }
 }
 
 impl Model for Blocks {

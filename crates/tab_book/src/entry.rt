@@ -66,11 +66,21 @@ const _: () = prove!(
 );
 
 /// An entry at rest: 32 bytes in the book, and 184 for the event. The event is shared with the entry's receipt.
-#[derive(Drop)]
 pub struct RecordedEntry {
     seat: u32,
     event: Arc<EventRecord>,
     reply: RecordedReply,
+}
+
+// Written out, so that a crate above needn't prove anew how the parts are dropped.
+impl Drop for RecordedEntry {
+    fn drop(self) {
+        let RecordedEntry {
+            seat: _,
+            event: _,
+            reply: _,
+        } = self;
+    }
 }
 
 impl Model for RecordedEntry {

@@ -9,10 +9,16 @@ use std::sync::Arc;
 use tab_table::SortedTable;
 
 /// A job with the table that its merge made. Only [`Job::merge`] and [`merge_many`](crate::merge_many) make one. A contract sees the job's `Merge`.
-#[derive(Drop)]
 pub struct Finished {
     job: Job,
     table: Arc<SortedTable>,
+}
+
+// Written out, so that a crate above needn't prove anew how the parts are dropped.
+impl Drop for Finished {
+    fn drop(self) {
+        let Finished { job: _, table: _ } = self;
+    }
 }
 
 impl Model for Finished {
@@ -54,7 +60,7 @@ impl Finished {
     pub fn into_table(self) -> Arc<SortedTable>
         ensures { records result.value ≡ output self }
     {
-        let Finished { table, .. } = self;
+        let Finished { job: _, table } = self;
         table
     }
 }

@@ -17,7 +17,6 @@ use tab_version::Clips;
 /// A merge of some sources of a tablet that isn't made yet. A contract sees it as a `Merge`.
 ///
 /// It shares its sources, so it can be made whatever becomes of the tablet meanwhile.
-#[derive(Drop)]
 pub struct Job {
     tablet: u64,
     number: u64,
@@ -25,6 +24,20 @@ pub struct Job {
     inputs: Clips,
     floor: i64,
     versions: u32,
+}
+
+// Written out, so that a crate above needn't prove anew how the parts are dropped.
+impl Drop for Job {
+    fn drop(self) {
+        let Job {
+            tablet: _,
+            number: _,
+            kind: _,
+            inputs: _,
+            floor: _,
+            versions: _,
+        } = self;
+    }
 }
 
 impl Model for Job {

@@ -19,9 +19,15 @@ use tab_label::KnownLabels;
 ///
 /// Beside what a contract sees it has all that makes a core of it: the end rows of the tablets, their numbers, and the merges under way.
 /// It lies apart, so that few bytes are moved where it is handed on.
-#[derive(Drop)]
 pub struct Base {
     store: Box<Store>,
+}
+
+// Written out, so that a crate above needn't prove anew how the parts are dropped.
+impl Drop for Base {
+    fn drop(self) {
+        let Base { store: _ } = self;
+    }
 }
 
 impl Model for Base {
@@ -52,7 +58,8 @@ impl Base {
         ensures same { base_of (held result) ≡ self }
         ensures core { IsCore (held result) }
     {
-        Box::into_inner(self.store)
+        let Base { store } = self;
+        Box::into_inner(store)
     }
 
     /// The greatest moment of all events so far.

@@ -30,10 +30,16 @@ pub enum JobSlot {
 }
 
 /// All jobs by their numbers: the k-th one begun, counted from 0, has the slot k. A number is given out once.
-#[derive(Drop)]
 pub struct JobSlots {
     // by number
     slots: Vec<JobSlot>,
+}
+
+// Written out, so that a crate above needn't prove anew how the parts are dropped.
+impl Drop for JobSlots {
+    fn drop(self) {
+        let JobSlots { slots: _ } = self;
+    }
 }
 
 impl Model for JobSlots {

@@ -59,9 +59,15 @@ fn all_given(numbered: usize, scanned: u32) -> bool
 }
 
 /// What is kept for each user, by his name. For who isn't there nothing was opened.
-#[derive(Drop)]
 pub struct Sessions {
     by_user: BTreeMap<NameKey, UserSessions>,
+}
+
+// Written out, so that a crate above needn't prove anew how the parts are dropped.
+impl Drop for Sessions {
+    fn drop(self) {
+        let Sessions { by_user: _ } = self;
+    }
 }
 
 impl Model for Sessions {

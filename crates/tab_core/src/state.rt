@@ -27,11 +27,17 @@ use tab_store::{Due, FinishedJob, Tables};
 
 /// Users with their rights, tables with their cells, the clock, and the numbers that the next accepted write, the next tablet and the next
 /// job get.
-#[derive(Drop)]
 pub struct Core {
     pub(crate) store: Store,
     // short labels that were written
     pub(crate) known: KnownLabels,
+}
+
+// Written out, so that a crate above needn't prove anew how the parts are dropped.
+impl Drop for Core {
+    fn drop(self) {
+        let Core { store: _, known: _ } = self;
+    }
 }
 
 impl Model for Core {

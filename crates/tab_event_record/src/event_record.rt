@@ -12,11 +12,21 @@ use tab_key::Name;
 
 /// An event as a history keeps it: 176 bytes, beside those of its names, rows and mutation. Where a mutation's first update lies is
 /// told among them, so one of one update takes memory for its bytes alone. A contract sees the event.
-#[derive(Drop)]
 pub struct EventRecord {
     user: RecordedName,
     moment: i64,
     act: RecordedAct,
+}
+
+// Written out, so that a crate above needn't prove anew how the parts are dropped.
+impl Drop for EventRecord {
+    fn drop(self) {
+        let EventRecord {
+            user: _,
+            moment: _,
+            act: _,
+        } = self;
+    }
 }
 
 impl Model for EventRecord {

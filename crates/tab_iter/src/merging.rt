@@ -21,7 +21,6 @@ pub type Merging<S> = MergingOf<Prefixed<S>>;
 ///
 /// It keeps its sources in the order of their first records. An advance mostly compares two of these; where another source
 /// comes first, it finds the new place by halves, and a source that has ended leaves the order.
-#[derive(Drop)]
 pub struct MergingOf<S: Source> {
     sources: Vec<S>,
     // the places of the sources that have records left; the one whose first record stands before the others is the last
@@ -32,6 +31,17 @@ pub struct MergingOf<S: Source> {
     ghost synced: { unpositioned ≡ false → IsEnding (sorted (flat (map S.rest sources.items))) (sorted (flat (map S.whole sources.items))) },
     ghost descending: { unpositioned ≡ false → IsDescending (map S.rest sources.items) order.items } by { λ p q. IsDescending-prop unpositioned (map S.rest sources.items) order.items p q },
     ghost covers: { unpositioned ≡ false → Covers (map S.rest sources.items) order.items } by { λ p q. Covers-prop unpositioned (map S.rest sources.items) order.items p q },
+}
+
+// Written out, so that a crate above needn't prove anew how the parts are dropped.
+impl<S: Source + Drop> Drop for MergingOf<S> {
+    fn drop(self) {
+        let MergingOf {
+            sources: _,
+            order: _,
+            unpositioned: _,
+        } = self;
+    }
 }
 
 impl<S: Source + Drop> MergingOf<Prefixed<S>> {
@@ -96,7 +106,11 @@ impl<S: Source + Drop> MergingOf<S> {
     pub fn into_sources(self) -> Vec<S>
         ensures { sorted (flat (map S.whole result.items)) ≡ ⟦<MergingOf<S> as Source>⟧.whole self }
     {
-        let MergingOf { sources, .. } = self;
+        let MergingOf {
+            sources,
+            order: _,
+            unpositioned: _,
+        } = self;
         sources
     }
 }
@@ -156,6 +170,7 @@ impl<S: Source> Source for MergingOf<S> {
 }
 
 // Advances the source at this place.
+#[inline(always)]
 fn advance_at<S: Source>(sources: &mut [S], place: usize) -> Result<(), NoMemory>
     requires { place < length sources.old }
     ensures whole { map S.whole sources.new ≡ map S.whole sources.old }

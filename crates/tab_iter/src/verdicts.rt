@@ -50,7 +50,6 @@ pub(crate) struct Verdict {
 /// The labels lie one after another in one body: none has memory of its own. The last verdicts on short labels are found by their
 /// numbers too, and where those on longer ones were found last is remembered. A label that isn't found so may have been judged all the
 /// same.
-#[derive(Drop)]
 pub struct Verdicts {
     pub(crate) body: Vec<u8>,
     // in the order of the labels' bytes
@@ -61,6 +60,19 @@ pub struct Verdicts {
     places: Vec<u8>,
     // a bit for each guess: whether the last label held at which it was made
     guesses: [u64; GUESS_NUMBERS],
+}
+
+// Written out, so that a crate above needn't prove anew how the parts are dropped.
+impl Drop for Verdicts {
+    fn drop(self) {
+        let Verdicts {
+            body: _,
+            kept: _,
+            numbers: _,
+            places: _,
+            guesses: _,
+        } = self;
+    }
 }
 
 impl Verdicts {

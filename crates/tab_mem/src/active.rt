@@ -22,11 +22,20 @@ const _: () = prove!(size_of::<Active>() <= 56);
 /// The records that were written since the last freeze, in the order in which they were written. A contract sees their list.
 ///
 /// No two have one number and one place in its mutation.
-#[derive(Drop)]
 pub struct Active {
     written: WriteBuffer,
     // what a freeze made, until this is frozen in its place, or had sorted when memory lacked
     kept: SortedRecords,
+}
+
+// Written out, so that a crate above needn't prove anew how the parts are dropped.
+impl Drop for Active {
+    fn drop(self) {
+        let Active {
+            written: _,
+            kept: _,
+        } = self;
+    }
 }
 
 impl Model for Active {

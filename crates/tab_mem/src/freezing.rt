@@ -118,8 +118,7 @@ fn keep(made: Arc<Run>, kept: &mut SortedRecords) -> Result<Arc<Run>, AllocError
 fn put_back(run: Run, place: Box<Records>) -> Box<Records>
     ensures { result.value ≡ run }
 {
-    let Run { records } = run;
     let mut place = place;
-    *place = records;
+    *place = run.into_records();
     place
 }

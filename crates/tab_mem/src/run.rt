@@ -16,9 +16,15 @@ use tab_key::{Bounds, RecordRef};
 /// Records that no longer change, in their order. A contract sees their list.
 ///
 /// Their parts lie in one body, one record after another.
-#[derive(Drop)]
 pub struct Run {
     pub(crate) records: Records,
+}
+
+// Written out, so that a crate above needn't prove anew how the parts are dropped.
+impl Drop for Run {
+    fn drop(self) {
+        let Run { records: _ } = self;
+    }
 }
 
 impl Model for Run {
@@ -41,6 +47,14 @@ impl Run {
     {
         let _count = records.len();
         Run { records }
+    }
+
+    /// The records, as they lie in it.
+    pub(crate) fn into_records(self) -> Records
+        ensures { result ≡ self }
+    {
+        let Run { records } = self;
+        records
     }
 
     /// How many records there are, markers and hidden ones among them.

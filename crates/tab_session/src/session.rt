@@ -17,10 +17,16 @@ use tab_version::Version;
 ///
 /// Nothing that happens afterwards changes it. It holds none of its cells: each batch is read anew from the version that it owns.
 /// (Accumulo user manual: scanner)
-#[derive(Drop)]
 pub struct Session {
     scan: OpenScan,
     done: bool,
+}
+
+// Written out, so that a crate above needn't prove anew how the parts are dropped.
+impl Drop for Session {
+    fn drop(self) {
+        let Session { scan: _, done: _ } = self;
+    }
 }
 
 impl Model for Session {

@@ -35,9 +35,15 @@ use tab_tablets::{DueKind, FinishedJob, Installed, Split, TabletJob, Tablets, Ve
 const _: () = prove!(size_of::<Table>() <= 16);
 
 /// What a table is set to, and its tablets. Both lie apart, so that a table takes few bytes where it is kept.
-#[derive(Drop)]
 pub struct Table {
     contents: Box<Contents>,
+}
+
+// Written out, so that a crate above needn't prove anew how the parts are dropped.
+impl Drop for Table {
+    fn drop(self) {
+        let Table { contents: _ } = self;
+    }
 }
 
 #[derive(Drop)]

@@ -19,10 +19,19 @@ use tab_key::Name;
 use tab_policy::NameKey;
 
 /// The tables that there are, in the order of their names. A contract sees them as definitions have them, with their tablets.
-#[derive(Drop)]
 pub struct Tables {
     alloc: Global,
     by_name: BTreeMap<NameKey, Table>,
+}
+
+// Written out, so that a crate above needn't prove anew how the parts are dropped.
+impl Drop for Tables {
+    fn drop(self) {
+        let Tables {
+            alloc: _,
+            by_name: _,
+        } = self;
+    }
 }
 
 impl Model for Tables {

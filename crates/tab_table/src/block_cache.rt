@@ -16,13 +16,23 @@ use std::num::NonZeroUsize;
 ///
 /// What is taken out is compared with the table first: so it may be lent to a cursor over any table. One of no blocks keeps the memory
 /// alone into which the last cursor decoded.
-#[derive(Drop)]
 pub struct BlockCache {
     most: usize,
     // none before the first is put in
     blocks: Option<LruCache<usize, Kept>>,
     // what the next cursor may decode into
     room: Option<Decoded>,
+}
+
+// Written out, so that a crate above needn't prove anew how the parts are dropped.
+impl Drop for BlockCache {
+    fn drop(self) {
+        let BlockCache {
+            most: _,
+            blocks: _,
+            room: _,
+        } = self;
+    }
 }
 
 impl BlockCache {

@@ -47,7 +47,6 @@ impl HasSortedTable for Arc<SortedTable> {
 /// these records, and those that are left.
 ///
 /// It holds the records that it decoded, of one block at most and as far as they were read.
-#[derive(Drop)]
 pub struct TableCursor<T: HasSortedTable> {
     table: T,
     from: usize,
@@ -63,6 +62,21 @@ pub struct TableCursor<T: HasSortedTable> {
     ghost decoded: { IsWindow window (T.table table).packed.bytes (T.table table).packed.count } by { IsWindow-prop window (T.table table).packed.bytes (T.table table).packed.count },
     ghost here: { at < end → Has window at } by { Holds-prop window at end },
     ghost lost: { unpositioned ≡ true → at ≡ end },
+}
+
+// Written out, so that a crate above needn't prove anew how the parts are dropped.
+impl<T: HasSortedTable + Drop> Drop for TableCursor<T> {
+    fn drop(self) {
+        let TableCursor {
+            table: _,
+            from: _,
+            at: _,
+            end: _,
+            window: _,
+            cache: _,
+            unpositioned: _,
+        } = self;
+    }
 }
 
 /// A cursor that borrows its table.
@@ -138,9 +152,12 @@ impl<T: HasSortedTable + Drop> TableCursor<T> {
     pub fn into_cache(self, alloc: Global) -> BlockCache {
         let TableCursor {
             table,
+            from: _,
+            at: _,
+            end: _,
             window,
             cache,
-            ..
+            unpositioned: _,
         } = self;
         let mut cache = cache;
         cache.leave(alloc, &table.table().packed, window);

@@ -35,7 +35,6 @@ const NEAR: usize = 16;
 /// They lie in one piece of bytes, in blocks of 64 records, in which a record shares its first bytes with the one before it; beside it a
 /// table takes some two bytes a record for where decoding may begin and for a sparse index of their rows. (Accumulo user manual: a file
 /// that a compaction writes)
-#[derive(Drop)]
 pub struct SortedTable {
     pub(crate) packed: Packed,
     pub(crate) row_index: RowIndex,
@@ -46,6 +45,17 @@ pub struct SortedTable {
     ghost sized: { length packed.bytes ≡ encoded_size (block_records packed.bytes packed.count) },
     ghost indexed: { IsRowIndex row_index.numbers.items (block_records packed.bytes packed.count) } by { IsRowIndex-prop row_index.numbers.items (block_records packed.bytes packed.count) },
     ghost last: { last_row ≡ row_at_end (block_records packed.bytes packed.count) },
+}
+
+// Written out, so that a crate above needn't prove anew how the parts are dropped.
+impl Drop for SortedTable {
+    fn drop(self) {
+        let SortedTable {
+            packed: _,
+            row_index: _,
+            last_row: _,
+        } = self;
+    }
 }
 
 impl SortedTable {

@@ -10,10 +10,16 @@ use tab_tablet::{Finished, Job, MadeTable, Pending};
 
 /// A merge that was begun in one of the tablets of a table, with the row for which that was found. It is made apart from the table,
 /// which goes on meanwhile. A contract sees it as a `TabletMerge`. (Accumulo user manual: minor and major compactions)
-#[derive(Drop)]
 pub struct TabletJob {
     row: ByteString,
     job: Job,
+}
+
+// Written out, so that a crate above needn't prove anew how the parts are dropped.
+impl Drop for TabletJob {
+    fn drop(self) {
+        let TabletJob { row: _, job: _ } = self;
+    }
 }
 
 impl Model for TabletJob {
@@ -78,10 +84,19 @@ impl Pending for TabletJob {
 
 /// A merge that was made, to be installed in its tablet. Only [`TabletJob::merge`] and [`merge_all`](tab_tablet::merge_all) make one. A
 /// contract sees it as a `TabletMerge`.
-#[derive(Drop)]
 pub struct FinishedJob {
     row: ByteString,
     finished: Finished,
+}
+
+// Written out, so that a crate above needn't prove anew how the parts are dropped.
+impl Drop for FinishedJob {
+    fn drop(self) {
+        let FinishedJob {
+            row: _,
+            finished: _,
+        } = self;
+    }
 }
 
 impl Model for FinishedJob {
@@ -118,7 +133,7 @@ impl FinishedJob {
     pub(crate) fn into_finished(self) -> Finished
         ensures { result ≡ self.merge }
     {
-        let FinishedJob { finished, .. } = self;
+        let FinishedJob { row: _, finished } = self;
         finished
     }
 }

@@ -24,12 +24,21 @@ use tab_tablet::{DueKind, Installed};
 use tab_version::Version;
 
 /// The tablets of a table, by their end rows: each row has one. A contract sees them in the order of rows.
-#[derive(Drop)]
 pub struct Tablets {
     pub(crate) tablet_list: TabletList,
     // the places of the tablets that were written to since they were frozen, each once, and of no others: so what goes through them takes as
     // long as there are such tablets, however many writes there were
     pub(crate) written: Vec<usize>,
+}
+
+// Written out, so that a crate above needn't prove anew how the parts are dropped.
+impl Drop for Tablets {
+    fn drop(self) {
+        let Tablets {
+            tablet_list: _,
+            written: _,
+        } = self;
+    }
 }
 
 impl Model for Tablets {

@@ -12,7 +12,6 @@ const MOST: usize = 64;
 /// What scans of a version leave behind for the next one: of each table that they left, what was decoded last.
 ///
 /// No contract speaks of them: what is taken up is compared first. They take no memory before a table is left.
-#[derive(Drop)]
 pub struct Caches {
     alloc: Global,
     // of how many blocks each is at most
@@ -21,6 +20,18 @@ pub struct Caches {
     each: BTreeMap<(usize, usize), BlockCache>,
     // those of no blocks, which serve any table
     rooms: Vec<BlockCache>,
+}
+
+// Written out, so that a crate above needn't prove anew how the parts are dropped.
+impl Drop for Caches {
+    fn drop(self) {
+        let Caches {
+            alloc: _,
+            blocks: _,
+            each: _,
+            rooms: _,
+        } = self;
+    }
 }
 
 impl Caches {

@@ -27,10 +27,16 @@ use tab_table::{Cursor, SortedTable};
 pub type ClipCursor<'a> = OneOf<RunCursor<'a>, Cursor<'a>>;
 
 /// What a tablet reads beside its active part: clips of runs and clips of tables, each in the order in which they came.
-#[derive(Drop)]
 pub struct Clips {
     runs: Vec<Clip>,
     tables: Vec<TableClip>,
+}
+
+// Written out, so that a crate above needn't prove anew how the parts are dropped.
+impl Drop for Clips {
+    fn drop(self) {
+        let Clips { runs: _, tables: _ } = self;
+    }
 }
 
 impl Model for Clips {

@@ -28,10 +28,16 @@ pub type Raw<'a> = InTurn<Tablets<'a>, TabletSource<'a>>;
 
 /// What a session reads: the clips of tablets, as they stood. The tablets lie one behind the other, and no two records stand at one
 /// place. A contract sees the records of all clips, one clip after another.
-#[derive(Drop)]
 pub struct Version {
     // without those that hold no record
     tablets: Vec<Clips>,
+}
+
+// Written out, so that a crate above needn't prove anew how the parts are dropped.
+impl Drop for Version {
+    fn drop(self) {
+        let Version { tablets: _ } = self;
+    }
 }
 
 impl Model for Version {
