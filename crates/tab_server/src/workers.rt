@@ -45,7 +45,7 @@ struct Context<'a, 'l, L: Ledger, R, H, D> {
     history: &'a H,
     log: &'a Log<'l, L, D>,
     connections: &'a Connections,
-    // how many entries of the history are handed on at once
+    // from how many entries on the history is handed on
     many: u64,
 }
 
