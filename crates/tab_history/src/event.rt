@@ -39,7 +39,7 @@ pub enum Given {
 }
 
 /// What a scan asks for. (Accumulo user manual: scanner, fetching columns, authorizations)
-#[derive(Clone, Drop)]
+#[derive(Clone)]
 pub struct Scan {
     /// The table that is read.
     pub table: Name,
@@ -49,6 +49,19 @@ pub struct Scan {
     pub columns: Items<Column>,
     /// The authorizations that the labels are judged by: at most 1,024, each of at most 1,024 bytes, and all of them held by the caller.
     pub authorizations: AuthSet,
+}
+
+// Written out, so that a crate above needn't prove anew how the parts are dropped.
+impl Drop for Scan {
+    #[inline(always)]
+    fn drop(self) {
+        let Scan {
+            table: _,
+            bounds: _,
+            columns: _,
+            authorizations: _,
+        } = self;
+    }
 }
 
 /// What an event asks. An unknown caller, a table that doesn't exist and a missing permission refuse it before the checks named here.

@@ -7,11 +7,21 @@ use std::alloc::Global;
 use tab_key::{Key, Kind, RecordRef};
 
 /// Holds back the puts that a marker of their column hides, and the markers unless they are kept.
-#[derive(Drop)]
 pub struct DeletingRule {
     keeps: bool,
     // the column of the last marker that was passed
     column: LastColumn,
+}
+
+// Written out, so that a crate above needn't prove anew how the parts are dropped.
+impl Drop for DeletingRule {
+    #[inline(always)]
+    fn drop(self) {
+        let DeletingRule {
+            keeps: _,
+            column: _,
+        } = self;
+    }
 }
 
 impl DeletingRule {

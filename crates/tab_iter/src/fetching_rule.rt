@@ -8,12 +8,23 @@ use std::alloc::Global;
 use tab_key::{Column, Key, RecordRef, is_selected};
 
 /// Lets the records of the named columns through, and all where none is named.
-#[derive(Drop)]
 pub struct FetchingRule<'a> {
     columns: &'a [Column],
     // where the rule aims: a row, and a named column in it, or the row's start
     row: Vec<u8>,
     column: Option<&'a Column>,
+}
+
+// Written out, so that a crate above needn't prove anew how the parts are dropped.
+impl<'a> Drop for FetchingRule<'a> {
+    #[inline(always)]
+    fn drop(self) {
+        let FetchingRule {
+            columns: _,
+            row: _,
+            column: _,
+        } = self;
+    }
 }
 
 impl<'a> FetchingRule<'a> {

@@ -9,7 +9,6 @@ use std::alloc::AllocError;
 use tab_key::{Key, RecordRef};
 
 /// The records of a source that pass a rule.
-#[derive(Drop)]
 pub struct Filtered<S: Source, R: Rule> {
     source: S,
     rule: R,
@@ -17,6 +16,18 @@ pub struct Filtered<S: Source, R: Rule> {
     unpositioned: bool,
     ghost settled: { unpositioned ≡ false → is_settled (R.admits rule (S.whole source)) (S.rest source) ≡ true },
     ghost observed: { unpositioned ≡ false → ∥ R.HasObserved rule (S.whole source) (tail (S.rest source)) ∥₁ },
+}
+
+// Written out, so that a crate above needn't prove anew how the parts are dropped.
+impl<S: Source + Drop, R: Rule + Drop> Drop for Filtered<S, R> {
+    #[inline(always)]
+    fn drop(self) {
+        let Filtered {
+            source: _,
+            rule: _,
+            unpositioned: _,
+        } = self;
+    }
 }
 
 impl<S: Source + Drop, R: Rule + Drop> Filtered<S, R> {
@@ -53,7 +64,11 @@ impl<S: Source + Drop, R: Rule + Drop> Filtered<S, R> {
     pub(crate) fn into_parts(self) -> (S, R)
         ensures { result.1 ≡ self.rule }
     {
-        let Filtered { source, rule, .. } = self;
+        let Filtered {
+            source,
+            rule,
+            unpositioned: _,
+        } = self;
         (source, rule)
     }
 }

@@ -8,12 +8,23 @@ use std::alloc::Global;
 use tab_key::{Key, Kind, RecordRef};
 
 /// Lets puts through, and of each column the first marker: what the others hide, that one hides too.
-#[derive(Drop)]
 pub struct FirstMarkersRule {
     full: bool,
     floor: i64,
     // the column of the last marker that was passed
     column: LastColumn,
+}
+
+// Written out, so that a crate above needn't prove anew how the parts are dropped.
+impl Drop for FirstMarkersRule {
+    #[inline(always)]
+    fn drop(self) {
+        let FirstMarkersRule {
+            full: _,
+            floor: _,
+            column: _,
+        } = self;
+    }
 }
 
 impl FirstMarkersRule {

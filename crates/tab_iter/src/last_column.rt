@@ -31,13 +31,24 @@ pub struct ColumnEnds {
 }
 
 /// A column, or none. The columns remembered one after another take the same memory.
-#[derive(Drop)]
 pub struct LastColumn {
     // the column's parts, and a zero byte behind its label: with that it is the next column. What else lies behind has no meaning
     body: Vec<u8>,
     ends: Option<ColumnEnds>,
     // the column's mark: a record with another one is of another column
     mark: u64,
+}
+
+// Written out, so that a crate above needn't prove anew how the parts are dropped.
+impl Drop for LastColumn {
+    #[inline(always)]
+    fn drop(self) {
+        let LastColumn {
+            body: _,
+            ends: _,
+            mark: _,
+        } = self;
+    }
 }
 
 impl Model for LastColumn {

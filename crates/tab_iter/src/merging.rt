@@ -35,6 +35,7 @@ pub struct MergingOf<S: Source> {
 
 // Written out, so that a crate above needn't prove anew how the parts are dropped.
 impl<S: Source + Drop> Drop for MergingOf<S> {
+    #[inline(always)]
     fn drop(self) {
         let MergingOf {
             sources: _,

@@ -8,11 +8,21 @@ use tab_key::{Key, RecordRef};
 
 /// A source, and the row prefix of its first record, which is read once for each. So the first records of two sources are mostly told
 /// apart without being read again.
-#[derive(Drop)]
 pub struct Prefixed<S: Source> {
     source: S,
     top_prefix: u128,
     ghost own: { IsTopPrefix top_prefix (first_of (S.rest source)) } by { IsTopPrefix-prop top_prefix (first_of (S.rest source)) },
+}
+
+// Written out, so that a crate above needn't prove anew how the parts are dropped.
+impl<S: Source + Drop> Drop for Prefixed<S> {
+    #[inline(always)]
+    fn drop(self) {
+        let Prefixed {
+            source: _,
+            top_prefix: _,
+        } = self;
+    }
 }
 
 impl<S: Source> Prefixed<S> {
@@ -31,7 +41,10 @@ impl<S: Source + Drop> Prefixed<S> {
     pub fn into_source(self) -> S
         ensures { S.whole result ≡ ⟦<Prefixed<S> as Source>⟧.whole self }
     {
-        let Prefixed { source, .. } = self;
+        let Prefixed {
+            source,
+            top_prefix: _,
+        } = self;
         source
     }
 }

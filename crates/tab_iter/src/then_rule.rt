@@ -8,12 +8,23 @@ use tab_key::{Key, RecordRef};
 /// Lets through what the second rule lets through of what the first one does, as a layer of the second over one of the first.
 ///
 /// The second rule doesn't observe what the first one holds back. The one that holds a record back is the one that aims.
-#[derive(Drop)]
 pub struct ThenRule<A: Rule, B: Rule> {
     first: A,
     second: B,
     // whether the first rule let the last record observed through, if any was since the reset
     passed: Option<bool>,
+}
+
+// Written out, so that a crate above needn't prove anew how the parts are dropped.
+impl<A: Rule + Drop, B: Rule + Drop> Drop for ThenRule<A, B> {
+    #[inline(always)]
+    fn drop(self) {
+        let ThenRule {
+            first: _,
+            second: _,
+            passed: _,
+        } = self;
+    }
 }
 
 impl<A: Rule, B: Rule> ThenRule<A, B> {
@@ -33,7 +44,11 @@ impl<A: Rule, B: Rule> ThenRule<A, B> {
         ensures first { result.0 ≡ self.first }
         ensures second { result.1 ≡ self.second }
     {
-        let ThenRule { first, second, .. } = self;
+        let ThenRule {
+            first,
+            second,
+            passed: _,
+        } = self;
         (first, second)
     }
 }

@@ -64,6 +64,7 @@ pub struct Verdicts {
 
 // Written out, so that a crate above needn't prove anew how the parts are dropped.
 impl Drop for Verdicts {
+    #[inline(always)]
     fn drop(self) {
         let Verdicts {
             body: _,

@@ -7,13 +7,25 @@ use std::alloc::Global;
 use tab_key::{Key, Kind, RecordRef};
 
 /// Lets the newest puts of each column through, and holds the markers back unless they are kept.
-#[derive(Drop)]
 pub struct VersioningRule {
     most: u32,
     keeps: bool,
     // the column of the last put that was passed, and how many more of it pass
     column: LastColumn,
     left: u32,
+}
+
+// Written out, so that a crate above needn't prove anew how the parts are dropped.
+impl Drop for VersioningRule {
+    #[inline(always)]
+    fn drop(self) {
+        let VersioningRule {
+            most: _,
+            keeps: _,
+            column: _,
+            left: _,
+        } = self;
+    }
 }
 
 impl VersioningRule {

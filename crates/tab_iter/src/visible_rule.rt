@@ -14,12 +14,22 @@ use tab_label::{AuthSet, is_visible};
 /// Lets the records through whose label holds under a set of authorizations.
 ///
 /// It judges no label on which it has a verdict.
-#[derive(Drop)]
 pub struct VisibleRule<'a> {
     auths: &'a AuthSet,
     // the verdicts on the labels observed, and on those of batches before
     verdicts: Verdicts,
     ghost sound: { IsSound auths.now verdicts } by { IsSound-prop auths.now verdicts },
+}
+
+// Written out, so that a crate above needn't prove anew how the parts are dropped.
+impl<'a> Drop for VisibleRule<'a> {
+    #[inline(always)]
+    fn drop(self) {
+        let VisibleRule {
+            auths: _,
+            verdicts: _,
+        } = self;
+    }
 }
 
 impl<'a> VisibleRule<'a> {
@@ -39,7 +49,6 @@ impl<'a> VisibleRule<'a> {
         let VisibleRule {
             auths: own,
             verdicts,
-            ..
         } = self;
         if own.terms() == auths.terms() {
             verdicts

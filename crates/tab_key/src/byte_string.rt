@@ -14,9 +14,16 @@ use std::fmt;
 use std::marker::Model;
 
 /// A string of bytes. A contract sees it as the list of its bytes.
-#[derive(Drop)]
 pub struct ByteString {
     bytes: Vec<u8>,
+}
+
+// Written out, so that a crate above needn't prove anew how the parts are dropped.
+impl Drop for ByteString {
+    #[inline(always)]
+    fn drop(self) {
+        let ByteString { bytes: _ } = self;
+    }
 }
 
 impl Model for ByteString {

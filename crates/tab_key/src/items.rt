@@ -5,9 +5,17 @@ use std::alloc::{AllocError, Global};
 use std::marker::Model;
 
 /// A list. A contract sees it as the list of its items, wherever it stands in another value.
-#[derive(Debug, Drop)]
+#[derive(Debug)]
 pub struct Items<T> {
     items: Vec<T>,
+}
+
+// Written out, so that a crate above needn't prove anew how the parts are dropped.
+impl<T: Drop> Drop for Items<T> {
+    #[inline(always)]
+    fn drop(self) {
+        let Items { items: _ } = self;
+    }
 }
 
 impl<T> Model for Items<T> {

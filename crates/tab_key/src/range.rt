@@ -20,7 +20,7 @@ pub enum Bound {
 }
 
 /// Two ends of a range, as someone asks for them: they may leave no range.
-#[derive(Debug, PartialEq, Eq, Drop)]
+#[derive(Debug, PartialEq, Eq)]
 pub struct Bounds {
     /// The low end.
     pub low: Bound,
@@ -28,10 +28,26 @@ pub struct Bounds {
     pub high: Bound,
 }
 
+// Written out, so that a crate above needn't prove anew how the parts are dropped.
+impl Drop for Bounds {
+    #[inline(always)]
+    fn drop(self) {
+        let Bounds { low: _, high: _ } = self;
+    }
+}
+
 /// A range of rows whose low end isn't above its high one.
-#[derive(Debug, Drop)]
+#[derive(Debug)]
 pub struct Range {
     bounds: Bounds,
+}
+
+// Written out, so that a crate above needn't prove anew how the parts are dropped.
+impl Drop for Range {
+    #[inline(always)]
+    fn drop(self) {
+        let Range { bounds: _ } = self;
+    }
 }
 
 impl Model for Range {

@@ -14,9 +14,16 @@ use std::marker::Model;
 /// A put or a delete marker, with the number of its mutation and its place in it.
 ///
 /// It lies in a body of its own, as `append` puts it there. Its parts are read through [`Record::as_ref`].
-#[derive(Drop)]
 pub struct Record {
     body: Vec<u8>,
+}
+
+// Written out, so that a crate above needn't prove anew how the parts are dropped.
+impl Drop for Record {
+    #[inline(always)]
+    fn drop(self) {
+        let Record { body: _ } = self;
+    }
 }
 
 impl Model for Record {

@@ -30,6 +30,7 @@ pub struct Active {
 
 // Written out, so that a crate above needn't prove anew how the parts are dropped.
 impl Drop for Active {
+    #[inline(always)]
     fn drop(self) {
         let Active {
             written: _,

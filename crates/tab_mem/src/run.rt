@@ -22,6 +22,7 @@ pub struct Run {
 
 // Written out, so that a crate above needn't prove anew how the parts are dropped.
 impl Drop for Run {
+    #[inline(always)]
     fn drop(self) {
         let Run { records: _ } = self;
     }

@@ -19,12 +19,23 @@ const FIRST_ROOM: usize = 64;
 ///
 /// All bytes lie in one buffer: the row, and then of each update its family, qualifier, label and
 /// value. Of two updates of one column the later added is the newer.
-#[derive(Drop)]
 pub struct Mutation {
     body: Vec<u8>,
     row_end: usize,
     // one lies in the mutation itself: most that are sent one by one have no more
     spans: SmallVec<UpdateSpan, 1>,
+}
+
+// Written out, so that a crate above needn't prove anew how the parts are dropped.
+impl Drop for Mutation {
+    #[inline(always)]
+    fn drop(self) {
+        let Mutation {
+            body: _,
+            row_end: _,
+            spans: _,
+        } = self;
+    }
 }
 
 impl Model for Mutation {

@@ -19,11 +19,22 @@ use tab_key::Name;
 use tab_label::AuthSet;
 
 // The life that a user is in, the system permissions that were granted to him, and his authorizations.
-#[derive(Drop)]
 pub struct Account {
     pub life: u64,
     pub system: SystemPermissions,
     pub auths: AuthSet,
+}
+
+// Written out, so that a crate above needn't prove anew how the parts are dropped.
+impl Drop for Account {
+    #[inline(always)]
+    fn drop(self) {
+        let Account {
+            life: _,
+            system: _,
+            auths: _,
+        } = self;
+    }
 }
 
 impl Account {

@@ -15,9 +15,16 @@ use std::marker::Model;
 use tab_key::{ByteString, Name};
 
 /// A name that takes no more memory than its bytes need, to be searched for by a `Name`. A contract sees its bytes.
-#[derive(Drop)]
 pub struct NameKey {
     bytes: ByteString,
+}
+
+// Written out, so that a crate above needn't prove anew how the parts are dropped.
+impl Drop for NameKey {
+    #[inline(always)]
+    fn drop(self) {
+        let NameKey { bytes: _ } = self;
+    }
 }
 
 impl Model for NameKey {

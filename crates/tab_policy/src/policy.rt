@@ -27,12 +27,24 @@ use tab_label::AuthSet;
 ///
 /// Each user is in a life of his own, and rights on a table are those of a life. A user who is dropped takes his life with him,
 /// so no change looks at other users or tables than those that it names.
-#[derive(Drop)]
 pub struct Policy {
     alloc: Global,
     users: BTreeMap<NameKey, Account>,
     tables: BTreeMap<NameKey, TableRights>,
     lives: Lives,
+}
+
+// Written out, so that a crate above needn't prove anew how the parts are dropped.
+impl Drop for Policy {
+    #[inline(always)]
+    fn drop(self) {
+        let Policy {
+            alloc: _,
+            users: _,
+            tables: _,
+            lives: _,
+        } = self;
+    }
 }
 
 impl Model for Policy {

@@ -25,7 +25,6 @@ use tab_key::Name;
 const FEW: usize = 15;
 
 // The rights on one table, by the lives of those who have them. Rights of lives that ended may be among them: nobody reads them.
-#[derive(Drop)]
 pub struct TableRights {
     // The life of the table's creator, and his rights.
     maker: u64,
@@ -33,6 +32,19 @@ pub struct TableRights {
     others: BTreeMap<u64, TablePermissions>,
     // With more rights of others than this, those of ended lives are taken away.
     room: usize,
+}
+
+// Written out, so that a crate above needn't prove anew how the parts are dropped.
+impl Drop for TableRights {
+    #[inline(always)]
+    fn drop(self) {
+        let TableRights {
+            maker: _,
+            own: _,
+            others: _,
+            room: _,
+        } = self;
+    }
 }
 
 impl Model for TableRights {

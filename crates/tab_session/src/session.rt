@@ -24,6 +24,7 @@ pub struct Session {
 
 // Written out, so that a crate above needn't prove anew how the parts are dropped.
 impl Drop for Session {
+    #[inline(always)]
     fn drop(self) {
         let Session { scan: _, done: _ } = self;
     }

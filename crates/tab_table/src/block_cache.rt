@@ -26,6 +26,7 @@ pub struct BlockCache {
 
 // Written out, so that a crate above needn't prove anew how the parts are dropped.
 impl Drop for BlockCache {
+    #[inline(always)]
     fn drop(self) {
         let BlockCache {
             most: _,

@@ -66,6 +66,7 @@ pub struct TableCursor<T: HasSortedTable> {
 
 // Written out, so that a crate above needn't prove anew how the parts are dropped.
 impl<T: HasSortedTable + Drop> Drop for TableCursor<T> {
+    #[inline(always)]
     fn drop(self) {
         let TableCursor {
             table: _,

@@ -49,6 +49,7 @@ pub struct SortedTable {
 
 // Written out, so that a crate above needn't prove anew how the parts are dropped.
 impl Drop for SortedTable {
+    #[inline(always)]
     fn drop(self) {
         let SortedTable {
             packed: _,

@@ -24,6 +24,7 @@ pub struct Caches {
 
 // Written out, so that a crate above needn't prove anew how the parts are dropped.
 impl Drop for Caches {
+    #[inline(always)]
     fn drop(self) {
         let Caches {
             alloc: _,

@@ -34,6 +34,7 @@ pub struct Clips {
 
 // Written out, so that a crate above needn't prove anew how the parts are dropped.
 impl Drop for Clips {
+    #[inline(always)]
     fn drop(self) {
         let Clips { runs: _, tables: _ } = self;
     }

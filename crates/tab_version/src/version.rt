@@ -35,6 +35,7 @@ pub struct Version {
 
 // Written out, so that a crate above needn't prove anew how the parts are dropped.
 impl Drop for Version {
+    #[inline(always)]
     fn drop(self) {
         let Version { tablets: _ } = self;
     }
