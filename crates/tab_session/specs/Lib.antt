@@ -1,3 +1,4 @@
 pub mod Bookmarks
+pub mod KeptVerdicts
 pub mod LowEnds
 pub mod OpenSession

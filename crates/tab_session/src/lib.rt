@@ -9,6 +9,7 @@
 //! | `session` | an open scan, which gives its cells batch by batch and knows whether it is done |
 //! | `open_scan` | the same as its list and how far it has come |
 //! | `snapshot_scan` | what a session reads: a version, and what is asked of it |
+//! | `kept_verdicts` | the verdicts on labels that it keeps from batch to batch |
 //! | `bookmark` | where a session goes on |
 //! | `taking` | the cells of a batch |
 //! | `room` | how much memory a batch asks for at once |
@@ -19,6 +20,7 @@
 
 mod bookmark;
 mod chunks;
+mod kept_verdicts;
 mod open_scan;
 mod order;
 mod room;

@@ -2,19 +2,19 @@
 ghost use Rattle.std.specs.Prelude.{◌≡◌, map, take, drop, IfOk};
 ghost use Rattle.tab_key.specs.Records.{cell_of};
 ghost use Rattle.tab_cells.specs.SessionState.{cells_within};
-ghost use Rattle.tab_iter.specs.Propositions.{IsSound-prop};
 ghost use Rattle.tab_iter.specs.Verdicts.{IsSound};
 ghost use Rattle.tab_session.specs.Bookmarks.{from_mark, ahead_of};
+ghost use Rattle.tab_session.specs.KeptVerdicts.{AreSound, AreSound-prop};
 ghost use Rattle.tab_version.specs.Shown.{shown};
 
 use crate::bookmark::{Bookmark, pass_before};
 use crate::chunks::{FIRST_RANGES, are_worth_threads, read_by_threads, thread_count};
+use crate::kept_verdicts::KeptVerdicts;
 use crate::room::Room;
 use crate::rows::take_ranges;
 use crate::taking::take;
 use std::alloc::Global;
 use std::marker::Model;
-use std::mem;
 use std::thread::Threads;
 use tab_iter::{NoMemory, Source, Verdicts, taken_apart};
 use tab_key::{Bounds, Cells, Column, Items};
@@ -38,10 +38,10 @@ pub(crate) struct SnapshotScan {
     version: Version,
     asked: Asked,
     // on the labels that were judged in what was read before
-    verdicts: Verdicts,
+    verdicts: KeptVerdicts,
     // of the tables that were read before
     caches: Caches,
-    ghost sound: { IsSound asked.auths verdicts } by { IsSound-prop asked.auths verdicts },
+    ghost sound: { AreSound asked.auths verdicts } by { AreSound-prop asked.auths verdicts },
 }
 
 impl Model for SnapshotScan {
@@ -79,7 +79,7 @@ impl SnapshotScan {
                 auths,
                 versions,
             },
-            verdicts: Verdicts::none(alloc),
+            verdicts: KeptVerdicts::none(),
             caches: Caches::of(alloc, BLOCKS),
         }
     }
@@ -105,14 +105,14 @@ impl SnapshotScan {
         ensures cells { IfOk result (λ b. b.cells ≡ take count (map cell_of (from_mark from.now self.old))) }
         ensures next { IfOk result (λ b. ahead_of b.next self.old ≡ drop count (from_mark from.now self.old)) }
     {
-        let verdicts = mem::replace(&mut self.verdicts, Verdicts::none(alloc));
+        let verdicts = self.verdicts.take(alloc);
         let caches = self.caches.take_all();
         let asked = &self.asked;
         let mut source = source(alloc, &self.version, asked, from, verdicts, caches)?;
         let cells = take(alloc, &mut source, count, room)?;
         let next = Bookmark::of(alloc, &source)?;
         let (verdicts, source) = taken_apart(alloc, source, &asked.auths);
-        self.verdicts = verdicts;
+        self.verdicts.put(alloc, verdicts);
         self.caches = caches_of(source);
         Ok(Batch { cells, next })
     }
@@ -190,13 +190,13 @@ impl SnapshotScan {
         ensures same { self.new ≡ self.old }
         ensures cells { IfOk result (λ v. v.items ≡ map (λ rows. cells_within rows (map cell_of self.old)) ranges.now) }
     {
-        let verdicts = mem::replace(&mut self.verdicts, Verdicts::none(alloc));
+        let verdicts = self.verdicts.take(alloc);
         let asked = &self.asked;
         let caches = Caches::of(alloc, 0);
         let mut source = unread(alloc, &self.version, asked, verdicts, caches);
         let answers = take_ranges(alloc, &mut source, ranges)?;
-        let (verdicts, _source) = taken_apart(alloc, source, &asked.auths);
-        self.verdicts = verdicts;
+        let verdicts = verdicts_of(alloc, source, &asked.auths);
+        self.verdicts.put(alloc, verdicts);
         Ok(answers)
     }
 }
@@ -255,4 +255,11 @@ pub(crate) fn unread<'a>(
         caches,
         asked.versions,
     )
+}
+
+// The verdicts that the source made or began with.
+fn verdicts_of(alloc: Global, source: Stack<'_>, auths: &AuthSet) -> Verdicts
+    ensures { IsSound auths.now result }
+{
+    taken_apart(alloc, source, auths).0
 }
