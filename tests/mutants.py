@@ -24,7 +24,6 @@ import time
 from stubs import copy_proof, finish, functions_of, stubs_in, touched_in, twin_in
 
 TOP = os.path.dirname(os.path.dirname(os.path.abspath(__file__)))
-KIT = os.path.dirname(subprocess.run(["rt", "doc"], capture_output=True, text=True, check=True).stdout.strip())
 # The sums of the mutants that were refused, and where each run leaves those of today: whoever commits them copies them there.
 SEEN, SEEN_NOW = f"{TOP}/tests/mutants.seen", f"{TOP}/tests/out/mutants.seen"
 # What a copy of a crate gets, so that the prover reads a file of examples or lemmas.
@@ -47,7 +46,7 @@ class Mutant:
         """Returns where the texts that it replaces stand in the file's, and what comes there."""
         for old, _ in self.pairs:
             if text.count(old) != 1:
-                raise ValueError(f"{self}: the text is there {text.count(old)} times: {old}")
+                raise ValueError(f"the text is there {text.count(old)} times: {old}")
         return [(text.index(old), text.index(old) + len(old), new) for old, new in self.pairs]
 
     def asked(self):
@@ -81,6 +80,12 @@ class Mutant:
 
     def __str__(self):
         return f"{self.crate}/{self.name}"
+
+
+@functools.lru_cache(maxsize=None)
+def kit():
+    """Returns the folder of the kit."""
+    return os.path.dirname(subprocess.run(["rt", "doc"], capture_output=True, text=True, check=True).stdout.strip())
 
 
 def folder(crate):
@@ -123,11 +128,11 @@ def sum_of(texts):
     return hashlib.sha256("\0".join(texts).encode()).hexdigest()[:24]
 
 
-def sum_for(mutant, named, kit):
+def sum_for(mutant, named, version):
     """Returns the sum of all that the refusal of a mutant stands on. What a crate below states is in its src and specs."""
     entry = [str(mutant), str(mutant.function), str(mutant.file), *(text for pair in mutant.pairs for text in pair)]
     states = [text_of(it, ("src", "specs")) for it in sorted(below(mutant.crate, named))]
-    return sum_of([kit, *entry, text_of(mutant.crate, ("src", "specs", "proofs")), *states])
+    return sum_of([version, *entry, text_of(mutant.crate, ("src", "specs", "proofs")), *states])
 
 
 def seen_before():
@@ -161,6 +166,17 @@ def mutants_of(crate):
     return found
 
 
+def misfits(mutants):
+    """Returns of those mutants that can't be applied why: a file is gone, or a text that they replace doesn't stand there once."""
+    found = []
+    for mutant in mutants:
+        try:
+            mutant.spans(read(f"{folder(mutant.crate)}/{mutant.file}"))
+        except (OSError, ValueError) as error:
+            found.append(f"{mutant}: {error}")
+    return found
+
+
 def batches_of(mutants):
     """Parts mutants into batches. One that turns a definition is alone in its batch. Of several of one function, those behind the first
     are applied to copies of it under other names, or where there can be none, stand in batches of their own."""
@@ -179,11 +195,11 @@ def batches_of(mutants):
 
 def words_of(crate, named):
     """Returns the command that checks the crate over the libraries that are built."""
-    words = [f"{KIT}/bin/rattle", "check", "--crate-name", crate, "src/lib.rt", "--jobs", "1"]
-    words += ["--antt-project", f"{KIT}/rattle/logic/antt-project.json", "--logic-built", f"{KIT}/logic_built"]
+    words = [f"{kit()}/bin/rattle", "check", "--crate-name", crate, "src/lib.rt", "--jobs", "1"]
+    words += ["--antt-project", f"{kit()}/rattle/logic/antt-project.json", "--logic-built", f"{kit()}/logic_built"]
     for name in ["std", *named]:
-        words += ["--extern", f"{name}={library(name) if os.path.isdir(folder(name)) else f'{KIT}/rlibs/{name}.rlib'}"]
-    words += ["-L", f"dependency={KIT}/rlibs"]
+        words += ["--extern", f"{name}={library(name) if os.path.isdir(folder(name)) else f'{kit()}/rlibs/{name}.rlib'}"]
+    words += ["-L", f"dependency={kit()}/rlibs"]
     for name in sorted(os.listdir(f"{TOP}/crates")):
         if os.path.isdir(f"{folder(name)}/out/rlib"):
             words += ["-L", f"dependency={folder(name)}/out/rlib"]
@@ -392,10 +408,20 @@ def tell(found):
     return refused, len(found) - refused
 
 
+def fit():
+    """Prints which mutants can't be applied, and how many can."""
+    listed = [it for crate in dependencies() for it in mutants_of(crate)]
+    strays = misfits(listed)
+    print("\n".join([*strays, f"{len(listed) - len(strays)} passed, {len(strays)} failed"]))
+    return 1 if strays else 0
+
+
 def main(crates, log, tries_all):
     named, seen = dependencies(), {} if tries_all else seen_before()
-    kit = subprocess.run(["rt", "version"], capture_output=True, text=True, check=True).stdout
-    sums = {it: sum_for(it, named, kit) for crate in crates or named for it in mutants_of(crate)}
+    version = subprocess.run(["rt", "version"], capture_output=True, text=True, check=True).stdout
+    sums = {it: sum_for(it, named, version) for crate in crates or named for it in mutants_of(crate)}
+    if strays := misfits(sums):
+        sys.exit("\n".join(strays))
     known = {str(it): of for it, of in sums.items() if seen.get(str(it)) == of}
     left = [found for crate in crates or named if (found := [it for it in sums if it.crate == crate and str(it) not in known])]
     begun = list(left)
@@ -426,4 +452,4 @@ def main(crates, log, tries_all):
 if __name__ == "__main__":
     words = [it for it in sys.argv[1:] if it != "--all"]
     behind = words[:1] == ["--behind"]
-    sys.exit(main(words[2:] if behind else words, words[1] if behind else None, "--all" in sys.argv))
+    sys.exit(fit() if words == ["--fit"] else main(words[2:] if behind else words, words[1] if behind else None, "--all" in sys.argv))
