@@ -12,21 +12,10 @@ use tab_replies::{put_cells, put_refusal};
 /// How many cells a full batch has.
 const BATCH_LENGTH: u32 = 1000;
 
-/// Writes all cells of a session in batches of 1,000, and an end, and drops it. Where memory lacks for a batch, the refusal
-/// that says so stands in place of the cells that are left and the end.
-pub fn put_session<W: Output>(
-    alloc: Global,
-    mut session: Session,
-    output: &mut W,
-) -> Result<(), WriteFault>
-    ensures { PutsReading W.Output output.old output.new (left_of session.state) result }
-{
-    put_rest(alloc, &mut session, output)
-}
-
-// The same with what is left of a session.
+/// Writes all cells that are left of a session in batches of 1,000, and an end. Where memory lacks for a batch, the refusal that says so
+/// stands in place of the cells that are left and the end.
 #[tactic(auto, using(crate::proofs::Batching::read_none))]
-fn put_rest<W: Output>(
+pub fn put_session<W: Output>(
     alloc: Global,
     session: &mut Session,
     output: &mut W,

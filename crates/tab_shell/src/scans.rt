@@ -1,11 +1,15 @@
 //! The sessions that lines open: read at once, or kept.
+ghost use Rattle.std.specs.Prelude.{◌≡◌, false};
+ghost use Rattle.tab_core.specs.Sessions.{is_spent};
 ghost use Rattle.tab_history.specs.Answers.{told_of};
 ghost use Rattle.tab_io.specs.Writing.{Puts};
 ghost use Rattle.tab_replies.specs.Texts.{refusal_text, reply_text};
 ghost use Rattle.tab_shell.specs.Progress.{PrintsFor};
+ghost use Rattle.tab_shell.specs.Batches.{PutsScan};
 
 use crate::batches::put_session;
 use std::alloc::Global;
+use std::mem;
 use tab_core::{Answer, Core, UserSessions, told};
 use tab_history::{Refusal, Reply, Scan};
 use tab_io::{Output, WriteFault};
@@ -29,12 +33,26 @@ pub fn scan_now<W: Output>(
     if kept.is_spent() {
         return write_refused(output, Refusal::TooLarge(LimitedPart::Sessions));
     }
-    match core.open_lent(alloc, user, moment, scan) {
+    let mut reply = core.open_lent(alloc, user, moment, scan);
+    put_scan(alloc, kept, &mut reply, output)
+}
+
+// Writes what a scan is answered. A session that it opened is read to its end where it lies, and counts as one of the user's.
+fn put_scan<W: Output>(
+    alloc: Global,
+    kept: &mut UserSessions,
+    reply: &mut Answer,
+    output: &mut W,
+) -> Result<(), WriteFault>
+    requires room { is_spent kept.old ≡ false }
+    ensures { PutsScan W.Output output.old output.new kept.old kept.new reply.old result }
+{
+    match reply {
         Reply::Opened(session) => {
             kept.count_scan();
             put_session(alloc, session, output)
         }
-        reply => write_told(output, reply),
+        reply => write_told(output, mem::replace(reply, Reply::Done)),
     }
 }
 

@@ -1,7 +1,7 @@
 use Rattle.std.proofs.Common.{rules}
 use Rattle.tab_shell.specs.Batches.{left_of}
 use Rattle.tab_shell.proofs.Batching.{read_on, read_last, read_part}
-use Rattle.tab_shell.proofs.batches.put_rest.Goals as goal
+use Rattle.tab_shell.proofs.batches.put_session.Goals as goal
 
 pub loop-fault-preserved : goal.loop-fault-preserved
 loop-fault-preserved g c =
