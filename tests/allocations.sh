@@ -3,7 +3,8 @@
 # Where one fails, the program prints what it always prints, or one line is refused for memory and all others are answered
 # as if that line were not there (a long scan stands up to the batch that is refused), or it ends with status 1 before the
 # first line. Where a freeze is refused in the middle of what it takes one by one, nothing of what was written is lost. Lines that drop,
-# revoke, set a number or count are never refused. A save that is refused leaves no part of an image behind.
+# revoke, set a number or count are never refused. A save that is refused leaves no part of an image behind. A scan of a table without cells
+# makes no request.
 # Usage: tests/allocations.sh   (from anywhere; wants a C compiler; TABD names another program)
 set -eu
 top=$(cd "$(dirname -- "${BASH_SOURCE[0]}")/.." && pwd)
@@ -164,6 +165,14 @@ narrow rows-that-begin-alike- >"$work/alike"
     printf '%s\n' 'scan t \0 [~ [~~' 'scan t \0'
 } >"$work/wide"
 
+# Scans of a table without cells.
+scans() { # COUNT
+    echo 'createtable t'
+    for _ in $(seq "$1"); do echo 'scan t \0'; done
+}
+scans 1 >"$work/one"
+scans 100 >"$work/hundred"
+
 # Runs lines in a folder without an image.
 run() { # FOLDER
     rm -rf "$1/image"
@@ -290,6 +299,12 @@ refused=$(grep -c '^refused' "$work/said" || true)
 passed=$(($(wc -l <"$work/said") - failed))
 if [ "$refused" -eq 0 ]; then
     echo 'no line was refused for memory'
+    failed=$((failed + 1))
+fi
+if [ "$(requests "$work/one" 2>/dev/null)" -eq "$(requests "$work/hundred" 2>/dev/null)" ]; then
+    passed=$((passed + 1))
+else
+    echo 'failed: a scan of a table without cells asks for memory'
     failed=$((failed + 1))
 fi
 echo "in $refused runs a line was refused for memory"
