@@ -1,9 +1,9 @@
-//! The order of names, ranges, and what is printed for a reader of a test.
+//! The order of names, ranges, the numbers of rows, and what is printed for a reader of a test.
 use std::alloc::Global;
 use std::cmp::Ordering;
 use std::fmt::{Debug, Display};
 use std::process::Abort;
-use tab_key::{BadRange, Bound, ByteString, Name, Range};
+use tab_key::{BadRange, Bound, ByteString, Name, Range, row_prefix};
 
 fn named(rt: &impl Abort, bytes: &[u8]) -> Name {
     Name::new(bytes).expect(rt, "a name")
@@ -40,6 +40,34 @@ fn ranges_hold_rows(rt: HostRuntime) {
     assert!(rt; inner == Some([false, true, false]));
     let low = Bound::Inclusive(bytes(&rt, rt.alloc(), b"a"));
     assert!(rt; between(low, Bound::Exclusive(bytes(&rt, rt.alloc(), b"a"))).is_none());
+}
+
+// Rows of no byte, on both sides of eight and of sixteen, and their numbers.
+const NUMBERED: [(&[u8], u128); 8] = [
+    (b"", 0),
+    (b"\xff", 0xff00_0000_0000_0000_0000_0000_0000_0000),
+    (b"abcdefg", 0x6162_6364_6566_6700_0000_0000_0000_0000),
+    (b"abcdefgh", 0x6162_6364_6566_6768_0000_0000_0000_0000),
+    (b"abcdefghi", 0x6162_6364_6566_6768_6900_0000_0000_0000),
+    (
+        b"abcdefghijklmno",
+        0x6162_6364_6566_6768_696a_6b6c_6d6e_6f00,
+    ),
+    (
+        b"abcdefghijklmnop",
+        0x6162_6364_6566_6768_696a_6b6c_6d6e_6f70,
+    ),
+    (
+        b"abcdefghijklmnopq",
+        0x6162_6364_6566_6768_696a_6b6c_6d6e_6f70,
+    ),
+];
+
+#[test]
+fn rows_have_numbers(rt: HostRuntime) {
+    for (row, number) in &NUMBERED {
+        assert!(rt; row_prefix(row) == *number);
+    }
 }
 
 // The value is printed so for a reader of a test.
