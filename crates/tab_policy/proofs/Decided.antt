@@ -1,6 +1,6 @@
 -- What the sets of a caller say of the permissions that admit an action.
 use Rattle.std.proofs.Common.{◌≡◌, ℕ, Bool, true, false, cond, ◌||◌, List, [], ◌∷◌, Some, None, refl, sym, ap, ◌∙◌, subst, Option, unwrap_or, Result, Ok, Err}
-use Rattle.std.specs.Prelude.{IfOk}
+use Rattle.std.specs.Prelude.{IfOk, IfSome}
 use Rattle.std.specs.List.{list_any}
 use Rattle.tab_policy.specs.declared.permission.SystemPermission.{SystemPermission}
 use Rattle.tab_policy.specs.declared.permission.TablePermission.{TablePermission}
@@ -92,3 +92,14 @@ pub found : (r : Result Caller Denial) (caller : Caller) (state : State) (user :
     → IfOk r (λ admitted. IsCaller admitted state user named)
 found (Ok admitted) caller state user named is holds = subst (λ x. IsCaller x state user named) (sym is) holds
 found (Err denial) caller state user named is holds = is
+
+pub found_there : (r : Option Caller) (caller : Caller) (state : State) (user : List ℕ) (named : Option (List ℕ)) → IfSome r (λ admitted. admitted ≡ caller) → IsCaller caller state user named
+    → IfSome r (λ admitted. IsCaller admitted state user named)
+found_there (Some admitted) caller state user named is holds = subst (λ x. IsCaller x state user named) (sym is) holds
+found_there None caller state user named is holds = is
+
+-- nothing stops him who holds one of the permissions
+pub admitted_by : (r : Option Caller) (met : Bool) (first : Option Permission) (decided : Option Denial) → IfSome r (λ admitted. met ≡ true) → judged None (cond met None first) ≡ decided
+    → IfSome r (λ admitted. decided ≡ None)
+admitted_by (Some admitted) met first decided is e = sym e ∙ ap (λ b. judged None (cond b None first)) is
+admitted_by None met first decided is e = is

@@ -1,5 +1,5 @@
 //! Which permissions admit which action. (This server's own profile of Accumulo's rules.)
-ghost use Rattle.std.specs.Prelude.{◌≡◌, [], IfOk, unwrap_or, option_copied, if◌then◌else◌};
+ghost use Rattle.std.specs.Prelude.{◌≡◌, [], true, IfOk, IfSome, unwrap_or, option_copied, if◌then◌else◌};
 ghost use Rattle.std.specs.Result.{result_err};
 ghost use Rattle.tab_policy.specs.Actions.{asked_for, needs, needs_on, server_permission, table_named, hands_out, table_of};
 ghost use Rattle.tab_policy.specs.Needs.{listed, is_met, first_of_needs};
@@ -123,6 +123,18 @@ impl Needs {
         self.on_table
             .iter()
             .any(|permission| rights.contains(*permission))
+    }
+
+    // The caller, if he has one of them.
+    #[inline(always)]
+    pub fn admitted<'a>(&self, caller: Caller<'a>) -> Option<Caller<'a>>
+        ensures met { IfSome result (λ admitted. is_met self.now.system self.now.on_table.now caller.entry.system caller.entry.on_table ≡ true) }
+        ensures caller { IfSome result (λ admitted. admitted ≡ caller.entry) }
+    {
+        if self.are_met(caller.system, caller.on_table) {
+            return Some(caller);
+        }
+        None
     }
 
     // The caller if he has one of them or none is needed, else denied by the first. Those for a table are for this one.

@@ -7,7 +7,7 @@ use Rattle.tab_policy.specs.Entries.{at_name}
 use Rattle.tab_policy.specs.Actions.{asked_for, table_named}
 use Rattle.tab_policy.specs.State.{user_exists, auths_of, system_granted, table_granted, table_exists, account_auths, account_system, account_life, table_gives}
 use Rattle.tab_policy.proofs.Decided.{decided_unknown, decided_on_none, decided_on_server, decided_on_table, found}
-use Rattle.tab_policy.proofs.policy.Policy.decide.Goals as goal
+use Rattle.tab_policy.proofs.policy.Policy.judged.Goals as goal
 
 pub returns-in_default-clause-decided : goal.returns-in_default-clause-decided
 unfolding user_exists
