@@ -1,5 +1,5 @@
 -- Records that lie parted by their rows.
-use Rattle.std.proofs.Common.{◌≡◌, ◌⊎◌, inl, inr, ℕ, zero, suc, ◌+◌, ◌<◌, ◌≤◌, List, [], ◌∷◌, ◌++◌, Bool, true, false, cond, refl, sym, ◌∙◌, ap, subst, length, take, drop, ◌-◌, arith, append_assoc, append-nil, get_or, set}
+use Rattle.std.proofs.Common.{◌≡◌, ◌⊎◌, inl, inr, ℕ, zero, suc, ◌+◌, ◌<◌, ◌≤◌, List, [], ◌∷◌, ◌++◌, refl, sym, ◌∙◌, ap, subst, length, take, drop, ◌-◌, arith, append_assoc, append-nil, get_or, set}
 use Rattle.std.specs.Prelude.{nat_lt, ⊤, Result, Ok, Err, OnOk, OnErr}
 use Rattle.std.specs.List.{AllByRecursion, slice_range}
 use Rattle.std.specs.List.Sorted.{IsPermutation}
@@ -18,50 +18,15 @@ use Rattle.tab_cells.specs.Written.{TimedUpdate, records_of}
 use Rattle.tab_cells.proofs.Lists.{by_bool, in_append}
 use Rattle.tab_iter.specs.Bags.{flat}
 use Rattle.tab_iter.proofs.BagLaws.{apart_right, apart_join}
-use Rattle.tab_mem.specs.Partitions.{row_number, count_under, place_of, IsPlaced, ArePlaced, ArePartitions}
+use Rattle.tab_mem.specs.Numbers.{count_below}
+use Rattle.tab_mem.specs.Partitions.{row_number, place_of, IsPlaced, ArePlaced, ArePartitions}
 use Rattle.tab_mem.proofs.Columned.{lower_row}
 use Rattle.tab_mem.proofs.Regrouped.{sorted_apart}
-use mir.Val.{bool_byte}
-
--- ---- places
-under_more : (m n low c d : ℕ) → m ≤ n → c ≤ d → cond (nat_lt low m) (suc c) c ≤ cond (nat_lt low n) (suc d) d
-under_more m n low c d le more = grind (arith, nat_tests)
-
--- a lesser number has no greater place
-under_rises : (m n : ℕ) (lows : List ℕ) → m ≤ n → count_under m lows ≤ count_under n lows
-under_rises m n [] le = omega arith
-under_rises m n (low ∷ lows) le = under_more m n low (count_under m lows) (count_under n lows) le (under_rises m n lows le)
-
-under_one : (n low c k : ℕ) → c ≤ k → cond (nat_lt low n) (suc c) c ≤ suc k
-under_one n low c k le = grind (arith, nat_tests)
-
-pub under_few : (n : ℕ) (lows : List ℕ) → count_under n lows ≤ length lows
-under_few n [] = omega arith
-under_few n (low ∷ lows) = under_one n low (count_under n lows) (length lows) (under_few n lows)
-
-pub under_next : (n : ℕ) (lows : List ℕ) (i d : ℕ) → i < length lows → count_under n (take (i + 1) lows) ≡ count_under n (take i lows) + bool_byte (nat_lt (get_or lows i d) n)
-under_next n [] i d lt = absurd (omega (arith, lt))
-under_next n (low ∷ lows) zero d lt = go (nat_lt low n)
-  where
-    go : (v : Bool) → cond v (suc 0) 0 ≡ 0 + bool_byte v
-    go true = refl
-    go false = refl
-under_next n (low ∷ lows) (suc i) d lt =
-    let next : suc i + 1 ≡ suc (i + 1) = omega arith in
-    ap (λ k. count_under n (take k (low ∷ lows))) next ∙ go (nat_lt low n) (under_next n lows i d (omega (arith, lt)))
-  where
-    go : (v : Bool) → count_under n (take (i + 1) lows) ≡ count_under n (take i lows) + bool_byte (nat_lt (get_or lows i d) n)
-        → cond v (suc (count_under n (take (i + 1) lows))) (count_under n (take (i + 1) lows)) ≡ cond v (suc (count_under n (take i lows))) (count_under n (take i lows)) + bool_byte (nat_lt (get_or lows i d) n)
-    go true ih = omega (arith, ih)
-    go false ih = ih
-
-pub bool_few : (v : Bool) → bool_byte v ≤ 1
-bool_few true = omega arith
-bool_few false = omega arith
+use Rattle.tab_mem.proofs.Searched.{below_within, below_rises}
 
 -- ---- rows in their places
-pub placed_by : (lows : List ℕ) (place : ℕ) (row : List ℕ) (number : ℕ) → place ≡ count_under number lows → IsRowPrefix number row → IsPlaced lows place row
-placed_by lows place row number at p = record { at = ap (λ n. count_under n lows) (sym p.value) ∙ sym at; bytes = λ some. p.bytes }
+pub placed_by : (lows : List ℕ) (place : ℕ) (row : List ℕ) (number : ℕ) → place ≡ count_below number lows → IsRowPrefix number row → IsPlaced lows place row
+placed_by lows place row number at p = record { at = ap (λ n. count_below n lows) (sym p.value) ∙ sym at; bytes = λ some. p.bytes }
 
 record IsBeyond (lows : List ℕ) (place : ℕ) (row : List ℕ) : Type 0 where
   pub at : place ≤ place_of lows row
@@ -81,15 +46,15 @@ less_number m n lt = grind (arith, nat_tests)
 -- rows of a greater place stand behind
 across : (lows : List ℕ) (place : ℕ) (a b : List ℕ) → IsPlaced lows place a → IsBeyond lows (suc place) b → bytes_cmp a b ≡ Less
 across lows place a b p q =
-    let some : 0 < length lows = omega (arith, q.at, under_few (row_number b) lows) in
+    let some : 0 < length lows = omega (arith, q.at, below_within (row_number b) lows) in
     let lt : row_number a < row_number b = less (row_number a) (row_number b) p.at q.at in
     sym (prefix_orders a b (row_number a) (row_number b) Less (record { value = refl; bytes = p.bytes some }) (record { value = refl; bytes = q.bytes some }) (less_number (row_number a) (row_number b) lt) (λ e. cc))
   where
-    less : (m n : ℕ) → count_under m lows ≡ place → suc place ≤ count_under n lows → m < n
+    less : (m n : ℕ) → count_below m lows ≡ place → suc place ≤ count_below n lows → m < n
     less m n at more =
         by_bool (nat_lt m n)
         (λ t. grind (arith, nat_tests, t))
-        (λ f. let le : n ≤ m = grind (arith, nat_tests, f) in absurd (omega (arith, at, more, under_rises n m lows le)))
+        (λ f. let le : n ≤ m = grind (arith, nat_tests, f) in absurd (omega (arith, at, more, below_rises n m lows le)))
 
 pub rows_rise : (lows : List ℕ) (place : ℕ) (us : List Record) (wss : List (List Record)) → ArePlaced lows place (us ∷ wss) → (x y : Record) → IsIn us x → IsIn (flat wss) y → record_cmp x y ≡ Less
 rows_rise lows place us wss a x y h k = lower_row x y (across lows place x.key.row y.key.row (a.0 x h) (beyond lows (suc place) wss a.1 y k))
@@ -213,7 +178,7 @@ pub record IsPut {E : Type 0} (r : Result ⊤ E) (lows : List ℕ) (lowest : Lis
 pub lowest_put : {E : Type 0} (r : Result ⊤ E) (lows : List ℕ) (lowest : List Record) (higher : List (List Record)) (row : List ℕ) (us now : List Record) (place : ℕ) → ArePartitions lows lowest higher → ((u : Record) → IsIn us u → u.key.row ≡ row) → IsPlaced lows place row → place ≡ 0 → OnOk r (now ≡ lowest ++ us) → OnErr r (now ≡ lowest) → IsPut r lows lowest higher us now higher
 lowest_put (Ok x) lows lowest higher row us now place a own p none ok err =
     let w = went_in lows 0 0 (lowest ∷ higher) row us lowest now own (subst (λ n. IsPlaced lows n row) none p) (omega arith) refl ok a.placed in
-    record { moved = w.moved; parted = record { many = a.many; few = a.few; placed = w.placed } }
+    record { moved = w.moved; parted = record { many = a.many; few = a.few; rising = a.rising; placed = w.placed } }
 lowest_put (Err e) lows lowest higher row us now place a own p none ok err =
     record { moved = tt; parted = subst (λ (l : List Record). ArePartitions lows l higher) (sym err) a }
 
@@ -221,7 +186,7 @@ pub higher_put : {E : Type 0} (r : Result ⊤ E) (lows : List ℕ) (lowest : Lis
 higher_put (Ok x) lows lowest higher row us g now place a own p some few is ok err =
     let there : place ≡ suc (place - 1) = omega (arith, some) in
     let w = went_in lows 0 (suc (place - 1)) (lowest ∷ higher) row us g now own (subst (λ n. IsPlaced lows n row) (there ∙ omega arith) p) (omega (arith, some, few, a.many)) is ok a.placed in
-    record { moved = w.moved; parted = record { many = length-set higher (place - 1) now ∙ a.many; few = a.few; placed = w.placed } }
+    record { moved = w.moved; parted = record { many = length-set higher (place - 1) now ∙ a.many; few = a.few; rising = a.rising; placed = w.placed } }
 higher_put (Err e) lows lowest higher row us g now place a own p some few is ok err =
     record { moved = tt; parted = subst (ArePartitions lows lowest) (sym (put_back higher (place - 1) g now is err)) a }
 

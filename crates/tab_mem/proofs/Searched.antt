@@ -22,13 +22,16 @@ pub none_below : (bound : ℕ) (ns : List ℕ) (k d : ℕ) → IsNonDecreasing n
 none_below bound ns k d rise le lt = let at = not_below bound ns d (omega arith) in let up = rise (count_below bound ns) k d le lt in omega arith
 
 -- as many are below a higher bound
-pub below_next : (bound : ℕ) (ns : List ℕ) → count_below bound ns ≤ count_below (bound + 1) ns
-below_next bound ns = by_bool (nat_lt (count_below (bound + 1) ns) (count_below bound ns))
+pub below_rises : (m n : ℕ) (ns : List ℕ) → m ≤ n → count_below m ns ≤ count_below n ns
+below_rises m n ns le = by_bool (nat_lt (count_below n ns) (count_below m ns))
     (λ e.
-    let lt : count_below (bound + 1) ns < count_below bound ns = grind (arith, nat_tests) in
-    let within = below_within bound ns in let at = not_below (bound + 1) ns 0 (omega (arith, within)) in let under = below_first bound ns (count_below (bound + 1) ns) 0 lt in
+    let lt : count_below n ns < count_below m ns = grind (arith, nat_tests) in
+    let within = below_within m ns in let at = not_below n ns 0 (omega (arith, within)) in let under = below_first m ns (count_below n ns) 0 lt in
     omega arith)
     (λ e. grind (arith, nat_tests))
+
+pub below_next : (bound : ℕ) (ns : List ℕ) → count_below bound ns ≤ count_below (bound + 1) ns
+below_next bound ns = below_rises bound (bound + 1) ns (omega arith)
 
 -- so a number is below the bound exactly where it is one of the first
 pub below_at : (bound : ℕ) (ns : List ℕ) (k d : ℕ) → IsNonDecreasing ns → k < length ns → nat_lt (get_or ns k d) bound ≡ nat_lt k (count_below bound ns)

@@ -7,7 +7,6 @@ use Rattle.tab_mem.specs.declared.sorted_records.Form.{Form}
 use Rattle.tab_mem.specs.declared.sorted_records.Form.TheVariants.{Nothing, Sorted, Made}
 use Rattle.tab_mem.specs.declared.partitions.layout.Layout.{Layout}
 use Rattle.tab_mem.specs.declared.partitions.layout.Layout.TheVariants.{One, Several}
-use Rattle.tab_mem.specs.declared.partitions.Partitions.{Partitions}
 
 -- what lies in one partition, or in several
 abbrev pub written_in : Layout → List Record

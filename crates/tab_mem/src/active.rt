@@ -79,7 +79,7 @@ impl Active {
 
     /// Adds the updates of a mutation, whose shape was accepted: each with this number, its place in the mutation counted from 0,
     /// and the clock where it gives no timestamp. It takes time linear in the mutation, however much was written before; but the write by
-    /// which the records become many, 4,096 of them in a mebibyte, spreads them by their rows over eight partitions.
+    /// which the records become many, 4,096 of them in a mebibyte, spreads them by their rows over 16 partitions.
     ///
     /// `AllocError` leaves all as it was: the mutation goes in whole or not at all.
     pub fn write(&mut self, mutation: &Mutation, seq: u64, clock: i64) -> Result<(), AllocError>
@@ -106,8 +106,8 @@ impl Active {
 
     /// The records as a run, in their order. They are kept here too: a contract sees nothing that changes.
     ///
-    /// The run holds the only copy, and a share of it is kept here. Where the records are many, they lie in eight partitions by their rows, which
-    /// are sorted one after another, and each gives its memory back then: at once the records take about one and an eighth times their bytes,
+    /// The run holds the only copy, and a share of it is kept here. Where the records are many, they lie in 16 partitions by their rows, which
+    /// are sorted one after another, and each gives its memory back then: at once the records take about one and a 16th times their bytes,
     /// beside the run's places and 32 bytes for each record of one body. Where more than a quarter of all lies in one body, as it does where
     /// the first mebibyte has other rows than what came later, it is sorted in four parts, none of which cuts a row, and shrinks with each.
     /// Fewer than 4,096 records, or less than a mebibyte, take memory as `to_run` does. Where rows have four records or more, as the first

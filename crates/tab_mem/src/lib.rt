@@ -1,13 +1,13 @@
 //! The memory part of a table: records as they are written, and frozen runs of them in their order.
 //!
-//! A write goes to the end of a partition, and nothing is ordered by it but which one that is: once records are many, each of eight
+//! A write goes to the end of a partition, and nothing is ordered by it but which one that is: once records are many, each of 16
 //! partitions has a range of rows. Whoever wants to read freezes first: the records are sorted once and written anew, one after another, as a
 //! run that nothing changes.
 //!
 //! | File | What |
 //! |---|---|
 //! | `active` | what is written, until it is frozen |
-//! | `write_buffer`, `partitions::layout`, `partitions` | records as they were written, in one partition and, once they are many, in eight by their rows |
+//! | `write_buffer`, `partitions::layout`, `partitions` | records as they were written, in one partition and, once they are many, in 16 by their rows |
 //! | `records` | records in their places in one body |
 //! | `sorting::item`, `sorting` | what a freeze sorts, and the sort |
 //! | `freezing`, `sorted_records` | the steps of a freeze, and what is kept until it has its place |

@@ -1,9 +1,9 @@
 //! Records that lie in one body, spread over several by their rows.
-ghost use Rattle.std.specs.Prelude.{◌≡◌, ◌<◌, ◌≤◌, ◌+◌, ◌++◌, ◌∷◌, [], IfOk, OnOk, length};
+ghost use Rattle.std.specs.Prelude.{◌≡◌, ◌<◌, ◌+◌, ◌++◌, ◌∷◌, [], IfOk, OnOk, length};
 ghost use Rattle.std.specs.List.{AllByRecursion, slice_range};
-ghost use Rattle.std.specs.List.Sorted.{IsPermutation};
+ghost use Rattle.std.specs.List.Sorted.{IsNonDecreasing, IsPermutation};
 ghost use Rattle.tab_iter.specs.Bags.{flat};
-ghost use Rattle.tab_mem.specs.Partitions.{count_under, ArePartitions};
+ghost use Rattle.tab_mem.specs.Partitions.{ArePartitions};
 
 pub(crate) mod appending;
 pub(crate) mod draining;
@@ -16,11 +16,17 @@ pub(crate) mod sampling;
 pub(crate) mod unsorted;
 
 use crate::partitions::unsorted::Unsorted;
+use crate::rising::count_below;
+use crate::sorting::give_back;
 use crate::sorting::item::Item;
 use std::alloc::{AllocError, Global};
 
 /// Over so many partitions records are spread.
-const MOST: usize = 8;
+const MOST: usize = 16;
+
+/// A partition has room for so many bytes from the first: the C library takes a block of that size, and all that it grows to, from the system
+/// and not from the heap, where what smaller blocks leave behind would be kept.
+const ROOM: usize = 163_840;
 
 /// Records in several partitions by their rows: a row's place is how many of these numbers are below that of its first 16 bytes.
 #[derive(Drop)]
@@ -32,15 +38,16 @@ pub(crate) struct Partitions {
     pub(crate) higher: Vec<Unsorted>,
 }
 
-/// Copies of the records, spread over eight partitions of about one size. It takes memory for the copies, and until it returns for 32 bytes
+/// Copies of the records, spread over 16 partitions of about one size. It takes memory for the copies, and until it returns for 32 bytes
 /// a record.
 pub(crate) fn spread(alloc: Global, written: &Unsorted) -> Result<Box<Partitions>, AllocError>
     ensures moved { IfOk result (λ s. IsPermutation written.now (flat (s.value.lowest ∷ s.value.higher.items))) }
     ensures parted { IfOk result (λ s. ArePartitions s.value.lows.items s.value.lowest s.value.higher.items) }
 {
     let mut partitions = begun(alloc, written)?;
-    let items = written.items(alloc, 0)?;
+    let mut items = written.items(alloc)?;
     put_all(&mut partitions, &items)?;
+    give_back(&mut items);
     Ok(Box::new(alloc, partitions)?)
 }
 
@@ -50,19 +57,30 @@ fn begun(alloc: Global, written: &Unsorted) -> Result<Partitions, AllocError>
     ensures parted { IfOk result (λ s. ArePartitions s.lows.items s.lowest s.higher.items) }
 {
     let bounds = written.bounds(alloc)?;
-    let lent = bounds.items(alloc, 0)?;
+    let lent = bounds.items(alloc)?;
     let lows = numbers_of(alloc, &lent)?;
+    let lowest = Unsorted::with_capacity(alloc, ROOM)?;
     let higher = empty_partitions(alloc, lows.len())?;
     Ok(Partitions {
         lows,
-        lowest: Unsorted::new(alloc),
+        lowest,
         higher,
     })
 }
 
-// The numbers of some of these records at even distances, seven at most.
+// The numbers of some of these records at even distances, 15 at most, rising.
 fn numbers_of(alloc: Global, bounds: &[Item<'_>]) -> Result<Vec<u128>, AllocError>
-    ensures { IfOk result (λ v. length v.items < 8) }
+    ensures few { IfOk result (λ v. length v.items < 16) }
+    ensures rising { IfOk result (λ v. IsNonDecreasing v.items) }
+{
+    let mut lows = picked(alloc, bounds)?;
+    lows.sort_unstable();
+    Ok(lows)
+}
+
+// The same, in the order of the records.
+fn picked(alloc: Global, bounds: &[Item<'_>]) -> Result<Vec<u128>, AllocError>
+    ensures { IfOk result (λ v. length v.items < 16) }
 {
     let mut lows = Vec::with_capacity(alloc, MOST)?;
     let mut at = 1;
@@ -83,7 +101,7 @@ fn empty_partitions(alloc: Global, count: usize) -> Result<Vec<Unsorted>, AllocE
     let mut partitions = Vec::with_capacity(alloc, count)?;
     let mut left = count;
     while left > 0 {
-        partitions.push(Unsorted::new(alloc))?;
+        partitions.push(Unsorted::with_capacity(alloc, ROOM)?)?;
         left -= 1;
     }
     Ok(partitions)
@@ -110,23 +128,10 @@ fn put_one(partitions: &mut Partitions, items: &[Item<'_>], index: usize) -> Res
     ensures moved { OnOk result (IsPermutation (flat (partitions.old.lowest ∷ partitions.old.higher.items) ++ slice_range items.now index (index + 1)) (flat (partitions.new.lowest ∷ partitions.new.higher.items))) }
     ensures parted { ArePartitions partitions.new.lows.items partitions.new.lowest partitions.new.higher.items }
 {
-    let place = place_of(&partitions.lows, items[index].prefix());
+    let place = count_below(&partitions.lows, items[index].prefix());
     let one = &items[index..index + 1];
     if place == 0 {
         return partitions.lowest.push_all(one);
     }
     partitions.higher[place - 1].push_all(one)
-}
-
-/// How many of the numbers are below this one. No branch depends on what a comparison tells: the processor would foresee half of such
-/// branches wrongly.
-pub(crate) fn place_of(lows: &[u128], number: u128) -> usize
-    ensures place { result ≡ count_under number lows.now }
-    ensures few { result ≤ length lows.now }
-{
-    let mut place = 0;
-    for low in lows {
-        place += (*low < number) as usize;
-    }
-    place
 }

@@ -16,12 +16,28 @@ use tab_key::{Key, Kind, RecordRef, append, append_copy};
 
 /// Records, one after another in one body, in the order in which they were put. A record takes there what `tab_key` puts, 8 bytes for
 /// its place, and one for a sparse index of their rows. A contract sees their list.
-#[derive(Drop)]
 pub struct Records {
     body: Vec<u8>,
     // where the records' heads begin
     places: Vec<usize>,
     row_index: RowIndex,
+}
+
+// Each large block shrinks before it is freed: the C library gives back at once what a block shrinks by, and keeps more for later the larger
+// the blocks are that it saw freed whole.
+impl Drop for Records {
+    fn drop(self) {
+        let Records {
+            mut body,
+            mut places,
+            mut row_index,
+        } = self;
+        body.clear();
+        body.shrink_to(1);
+        places.clear();
+        places.shrink_to(1);
+        row_index.clear();
+    }
 }
 
 impl Model for Records {

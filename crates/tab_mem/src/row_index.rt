@@ -46,6 +46,14 @@ impl RowIndex {
         })
     }
 
+    /// Leaves no record, and gives the memory back, as `Records` does.
+    pub(crate) fn clear(&mut self)
+        ensures { self.new.numbers.items ≡ [] }
+    {
+        self.numbers.clear();
+        self.numbers.shrink_to(1);
+    }
+
     /// Takes memory for one more record.
     pub fn make_room(&mut self) -> Result<(), AllocError>
         ensures same { self.new.numbers.items ≡ self.old.numbers.items }

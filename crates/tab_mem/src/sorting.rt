@@ -22,6 +22,15 @@ pub(crate) fn sort_items(items: &mut Vec<Item<'_>>)
     items.sort_unstable_by(|a, b| a.cmp(b));
 }
 
+/// Gives back the memory that lent records took, and leaves none.
+///
+/// They shrink first: the C library gives back at once what a large block shrinks by, and keeps more for later the larger the blocks are that
+/// it saw freed whole.
+pub(crate) fn give_back(items: &mut Vec<Item<'_>>) {
+    items.clear();
+    items.shrink_to(1);
+}
+
 /// Copies of the records, one after another in one body that has room for this many bytes.
 pub(crate) fn copied(alloc: Global, items: &[Item<'_>], bytes: usize) -> Result<Records, AllocError>
     ensures { IfOk result (λ p. p ≡ items.now) }

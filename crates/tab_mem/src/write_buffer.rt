@@ -17,7 +17,7 @@ use tab_mutation::Mutation;
 
 /// Records as they were written.
 ///
-/// Once there are many, they are spread over eight partitions by their rows, between the quantiles of those that there are by then, and what is
+/// Once there are many, they are spread over 16 partitions by their rows, between the quantiles of those that there are by then, and what is
 /// written later goes to the partition of its row. So a freeze sorts one partition after another, and gives each back. A contract sees the list of
 /// all records.
 #[derive(Drop)]
@@ -52,7 +52,7 @@ impl WriteBuffer {
     /// How many records there are.
     pub(crate) fn len(&self) -> usize
         ensures len { result ≡ length self.now }
-        ensures few { 4 * result < 2 ^ 63 }
+        ensures few { 41 * result < 2 ^ 67 }
     {
         self.layout.len()
     }

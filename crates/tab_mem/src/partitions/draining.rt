@@ -12,7 +12,7 @@ use crate::partitions::unsorted::Unsorted;
 use crate::records::Records;
 use crate::sorting::classes::put_groups;
 use crate::sorting::item::Item;
-use crate::sorting::sort_items;
+use crate::sorting::{give_back, sort_items};
 use std::alloc::{AllocError, Global};
 
 /// How many records are drained in all, and what they take in their partitions, in bytes. Only speed and memory hang on it.
@@ -24,9 +24,6 @@ pub(crate) struct Totals {
 
 /// In how many parts a body is sorted whose records are many, and more than that part of all.
 const PARTS: usize = 4;
-
-/// In so many partitions many records lie, as a rule.
-const PARTITIONS: usize = 8;
 
 /// Puts the records behind the others, sorted, and leaves none.
 ///
@@ -47,7 +44,7 @@ pub(crate) fn drain(
     ensures within { (u : Fields) → IsIn written.new u → IsIn written.old u }
 {
     take_parts(alloc, records, written, totals)?;
-    take_rest(alloc, records, written, totals)
+    take_rest(alloc, records, written)
 }
 
 // Puts all parts but the last one behind the others, where there are several.
@@ -69,7 +66,7 @@ fn take_parts(
         return Ok(());
     }
     let bounds = written.bounds(alloc)?;
-    let lent = bounds.items(alloc, 0)?;
+    let lent = bounds.items(alloc)?;
     take_below(alloc, records, written, &lent, totals)
 }
 
@@ -113,16 +110,6 @@ fn take_part(
     put_part(alloc, records, written, bound, totals)?;
     written.keep_from(bound);
     Ok(())
-}
-
-// For how many items of a part to ask at once: how many they are isn't known before. It is more for each part than for the one before,
-// since the C library gives memory back to the system at once only if it is more than any that it gave back before.
-fn room_for(records: &Records, totals: Totals, parts: usize) -> usize
-    requires { 0 < parts }
-{
-    (totals.records / parts)
-        .saturating_add(totals.records / 16)
-        .saturating_add(records.len() / 64)
 }
 
 // Puts copies of those whose rows stand before the bound's behind the others, sorted. `AllocError` leaves all as it was.
@@ -170,36 +157,25 @@ fn put_items_before(
     ensures ok { OnOk result (records.new ≡ records.old ++ sorted (before bound.now written.now)) }
     ensures err { OnErr result (records.new ≡ records.old) }
 {
-    let mut items = written.items_before(alloc, bound, room_for(records, totals, PARTS))?;
-    sort_items(&mut items);
-    records.push_all(&items)
+    let mut items = written.items_before(alloc, bound, totals.records / PARTS)?;
+    put_items(records, &mut items)
 }
 
 // Puts all records behind the others, sorted, and leaves none. `AllocError` leaves all as it was.
-fn take_rest(
-    alloc: Global,
-    records: &mut Records,
-    written: &mut Unsorted,
-    totals: Totals,
-) -> Result<(), AllocError>
+fn take_rest(alloc: Global, records: &mut Records, written: &mut Unsorted) -> Result<(), AllocError>
     requires { IsDistinct written.old }
     ensures ok { OnOk result (records.new ≡ records.old ++ sorted written.old) }
     ensures empty { OnOk result (written.new ≡ []) }
     ensures err { OnErr result (records.new ≡ records.old) }
     ensures left { OnErr result (written.new ≡ written.old) }
 {
-    put_rest(alloc, records, written, totals)?;
+    put_rest(alloc, records, written)?;
     written.clear();
     Ok(())
 }
 
 // Puts copies of all records behind the others, sorted. `AllocError` leaves all as it was.
-fn put_rest(
-    alloc: Global,
-    records: &mut Records,
-    written: &Unsorted,
-    totals: Totals,
-) -> Result<(), AllocError>
+fn put_rest(alloc: Global, records: &mut Records, written: &Unsorted) -> Result<(), AllocError>
     requires { IsDistinct written.now }
     ensures ok { OnOk result (records.new ≡ records.old ++ sorted written.now) }
     ensures err { OnErr result (records.new ≡ records.old) }
@@ -207,7 +183,7 @@ fn put_rest(
     if written.are_wide() {
         return put_all_groups(alloc, records, written);
     }
-    put_all_items(alloc, records, written, totals)
+    put_all_items(alloc, records, written)
 }
 
 // The same, whose records are sorted row by row.
@@ -225,17 +201,23 @@ fn put_all_groups(
 }
 
 // The same, whose records are sorted one by one.
-fn put_all_items(
-    alloc: Global,
-    records: &mut Records,
-    written: &Unsorted,
-    totals: Totals,
-) -> Result<(), AllocError>
+fn put_all_items(alloc: Global, records: &mut Records, written: &Unsorted) -> Result<(), AllocError>
     requires { IsDistinct written.now }
     ensures ok { OnOk result (records.new ≡ records.old ++ sorted written.now) }
     ensures err { OnErr result (records.new ≡ records.old) }
 {
-    let mut items = written.items(alloc, room_for(records, totals, PARTITIONS))?;
-    sort_items(&mut items);
-    records.push_all(&items)
+    let mut items = written.items(alloc)?;
+    put_items(records, &mut items)
+}
+
+// Puts copies of lent records behind the others, sorted, and gives back what these took. `AllocError` leaves the others as they were.
+fn put_items(records: &mut Records, items: &mut Vec<Item<'_>>) -> Result<(), AllocError>
+    requires { IsDistinct items.old.items }
+    ensures ok { OnOk result (records.new ≡ records.old ++ sorted items.old.items) }
+    ensures err { OnErr result (records.new ≡ records.old) }
+{
+    sort_items(items);
+    records.push_all(items)?;
+    give_back(items);
+    Ok(())
 }

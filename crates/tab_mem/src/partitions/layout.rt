@@ -12,8 +12,9 @@ ghost use Rattle.tab_mem.specs.Partitions.{ArePartitions};
 use crate::partitions::draining::{Totals, drain};
 use crate::partitions::emptying::drain_all;
 use crate::partitions::unsorted::Unsorted;
-use crate::partitions::{Partitions, place_of, spread};
+use crate::partitions::{Partitions, spread};
 use crate::records::Records;
+use crate::rising::count_below;
 use crate::sorting::item::Item;
 use std::alloc::{AllocError, Global};
 use tab_key::row_prefix;
@@ -34,7 +35,7 @@ impl Layout {
     pub(crate) fn len(&self) -> usize
         requires { AreParted self.now }
         ensures len { result ≡ length (written_in self.now) }
-        ensures few { 4 * result < 2 ^ 63 }
+        ensures few { 41 * result < 2 ^ 67 }
     {
         match self {
             Layout::One(records) => records.len(),
@@ -91,6 +92,7 @@ impl Layout {
             return;
         };
         if let Ok(partitions) = spread(alloc, records) {
+            records.clear();
             *self = Layout::Several(partitions);
         }
     }
@@ -120,9 +122,9 @@ impl Layout {
 
 // How many records there are in all.
 fn count_all(lowest: &Unsorted, higher: &[Unsorted]) -> usize
-    requires { length higher.now < 8 }
+    requires { length higher.now < 16 }
     ensures count { result ≡ length (flat (lowest.now ∷ higher.now)) }
-    ensures few { 4 * result < 2 ^ 63 }
+    ensures few { 41 * result < 2 ^ 67 }
 {
     let mut count = lowest.len();
     for records in higher {
@@ -206,7 +208,7 @@ fn write_to(
     ensures err { OnErr result (flat (partitions.new.lowest ∷ partitions.new.higher.items) ≡ flat (partitions.old.lowest ∷ partitions.old.higher.items)) }
     ensures parted { ArePartitions partitions.new.lows.items partitions.new.lowest partitions.new.higher.items }
 {
-    let place = place_of(&partitions.lows, row_prefix(mutation.row()));
+    let place = count_below(&partitions.lows, row_prefix(mutation.row()));
     if place == 0 {
         return partitions.lowest.write(mutation, seq, clock);
     }

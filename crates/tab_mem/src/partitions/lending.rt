@@ -6,17 +6,16 @@ use crate::sorting::item::Item;
 use std::alloc::{AllocError, Global};
 use tab_key::end_of;
 
-/// So many records from the beginning of the body on. Memory is asked for once, for this many at least.
+/// So many records from the beginning of the body on. Memory is asked for once.
 pub(crate) fn items_in(
     alloc: Global,
     body: &[u8],
     count: usize,
-    room: usize,
 ) -> Result<Vec<Item<'_>>, AllocError>
     requires { AreAt body.now (places_from body.now 0 count) }
     ensures { IfOk result (λ v. v.items ≡ records_at body.now (places_from body.now 0 count)) }
 {
-    let mut items = Vec::with_capacity(alloc, count.max(room))?;
+    let mut items = Vec::with_capacity(alloc, count)?;
     lend_in(&mut items, body, count)?;
     Ok(items)
 }

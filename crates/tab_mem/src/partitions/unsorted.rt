@@ -57,6 +57,16 @@ impl Unsorted {
         }
     }
 
+    /// No records, with memory for so many bytes of them.
+    pub(crate) fn with_capacity(alloc: Global, bytes: usize) -> Result<Unsorted, AllocError>
+        ensures { IfOk result (λ u. u ≡ []) }
+    {
+        Ok(Unsorted {
+            body: Vec::with_capacity(alloc, bytes)?,
+            count: 0,
+        })
+    }
+
     /// How many records there are.
     pub(crate) fn len(&self) -> usize
         ensures len { result ≡ length self.now }
@@ -77,11 +87,11 @@ impl Unsorted {
         self.body.len()
     }
 
-    /// The records, lent, as they lie. Memory is asked for once, for this many at least.
-    pub(crate) fn items(&self, alloc: Global, room: usize) -> Result<Vec<Item<'_>>, AllocError>
+    /// The records, lent, as they lie. Memory is asked for once.
+    pub(crate) fn items(&self, alloc: Global) -> Result<Vec<Item<'_>>, AllocError>
         ensures { IfOk result (λ v. v.items ≡ self.now) }
     {
-        items_in(alloc, &self.body, self.count, room)
+        items_in(alloc, &self.body, self.count)
     }
 
     /// Puts the records, lent, behind others, in their order. After an error, which only want of memory gives, some may stand there.

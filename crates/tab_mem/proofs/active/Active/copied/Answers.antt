@@ -1,7 +1,6 @@
-use Rattle.std.proofs.Common.{◌≡◌, ◌∙◌, [], ◌++◌, List, ap, sym, subst}
-use Rattle.tab_key.specs.Records.{Record}
+use Rattle.std.proofs.Common.{◌≡◌, ◌∙◌, ◌++◌, ap, sym}
 use Rattle.tab_key.specs.Sorted.{sorted}
-use Rattle.tab_mem.specs.Writing.{as_written, IsHeld}
+use Rattle.tab_mem.specs.Writing.{as_written}
 use Rattle.tab_mem.proofs.Writing.{run_held, run_written}
 use Rattle.tab_mem.proofs.active.Active.copied.Goals as goal
 

@@ -4,5 +4,5 @@ use Rattle.tab_key.specs.Sorted.{IsDistinct}
 use Rattle.tab_key.proofs.Rising.{distinct_filter}
 use Rattle.tab_mem.proofs.partitions.draining.put_items_before.Goals as goal
 
-pub sort_items-requires : goal.sort_items-requires
-sort_items-requires c = subst IsDistinct (sym c.in_ok-items.ensures) (distinct_filter (λ u. row_below u c.args.bound.now) c.args.written.now c.requires)
+pub put_items-requires : goal.put_items-requires
+put_items-requires c = subst IsDistinct (sym c.in_ok-items.ensures) (distinct_filter (λ u. row_below u c.args.bound.now) c.args.written.now c.requires)

@@ -23,7 +23,7 @@ loop-place-init c =
       none = append-nil c.drain.new.written ∙ c.in_ok-drain.ensures.empty;
       kept = first.kept;
       distinct = first.distinct;
-      parted = record { many = c.requires.parted.many; few = c.requires.parted.few; placed = first.placed };
+      parted = record { many = c.requires.parted.many; few = c.requires.parted.few; rising = c.requires.parted.rising; placed = first.placed };
     }
 
 pub drain-requires-in-loop-place : goal.drain-requires-in-loop-place
@@ -52,6 +52,7 @@ returns-in_err-drain-2-clause-parted c =
     record {
       many = length-set b.higher.items c.loop-place.place d.new.written ∙ inv.parted.many;
       few = inv.parted.few;
+      rising = inv.parted.rising;
       placed = (drained_at b.lows.items 0 (suc c.loop-place.place) (b.lowest ∷ b.higher.items) c.index_mut.result.now d.new.written c.loop-place.records d.new.records inv.parted.placed inv.distinct
           (subst (λ n. flat (take n (b.lowest ∷ b.higher.items)) ≡ []) more inv.none) lt c.index_mut.ensures.value d.ensures.within d.ensures.distinct d.ensures.kept).placed;
     }
@@ -73,5 +74,5 @@ loop-place-preserved c =
       none = subst (λ n. flat (take n (b.lowest ∷ slice_set b.higher.items c.loop-place.place d.new.written)) ≡ []) past (emptied (b.lowest ∷ b.higher.items) (suc c.loop-place.place) d.new.written none lt c.in_ok-drain-2.ensures.empty);
       kept = next.kept ∙ inv.kept;
       distinct = next.distinct;
-      parted = record { many = long ∙ inv.parted.many; few = inv.parted.few; placed = next.placed };
+      parted = record { many = long ∙ inv.parted.many; few = inv.parted.few; rising = inv.parted.rising; placed = next.placed };
     }

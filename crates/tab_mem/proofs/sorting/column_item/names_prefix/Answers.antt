@@ -1,4 +1,4 @@
-use Rattle.std.proofs.Common.{◌≡◌, ◌-◌, ◌∙◌, ℕ, ap, subst, length}
+use Rattle.std.proofs.Common.{◌≡◌, ◌-◌, ap, subst, length}
 use Rattle.tab_key.specs.RowPrefix.{IsRowPrefix}
 use Rattle.tab_mem.proofs.Columned.{names_onward}
 use Rattle.tab_mem.proofs.sorting.column_item.names_prefix.Goals as goal
