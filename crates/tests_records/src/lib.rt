@@ -8,7 +8,7 @@
 //! | `keys` | `tab_key`: the order of names, ranges, the numbers of rows, and what is printed |
 //! | `records` | `tab_key`: owned records, and copies of byte strings and lists |
 //! | `labels` | `tab_label`: trees and depths, and what is printed |
-//! | `policies` | `tab_policy`: a copy, which changes apart from its source |
+//! | `policies` | `tab_policy`: a copy, which changes apart from its source, and who is admitted |
 #![tactic(auto)]
 
 #[cfg(test)]

@@ -1,9 +1,9 @@
-//! Copies of a policy: alike at first, and apart from then on.
+//! Copies of a policy: alike at first, and apart from then on. Who is admitted, at once or by the whole decision.
 use std::alloc::Global;
 use std::process::Abort;
 use tab_key::Name;
 use tab_label::AuthSet;
-use tab_policy::{Permission, Policy, SystemPermission, TablePermission};
+use tab_policy::{Action, Permission, Policy, SystemPermission, TableAction, TablePermission};
 
 // The name of these bytes.
 fn name(rt: &impl Abort, bytes: &[u8]) -> Name {
@@ -136,4 +136,63 @@ fn a_change_of_the_copy(rt: HostRuntime) {
     people(&rt, rt.alloc(), &mut policy);
     let mut copy = policy.clone().expect(&rt, "memory");
     expect_apart(&rt, rt.alloc(), &mut copy, &mut policy)
+}
+
+// Whether the policy admits the user's action on the table at once, and whether it does at all.
+fn expect_admitted(
+    rt: &impl Abort,
+    policy: &Policy,
+    user: &[u8],
+    table: &[u8],
+    action: TableAction,
+    at_once: bool,
+    at_all: bool,
+) {
+    let user = name(rt, user);
+    let table = name(rt, table);
+    let asked = Action::OnTable(action, &table);
+    assert!(rt; policy.admitted(&user, &asked).is_some() == at_once);
+    assert!(rt; policy.decide(&user, &asked).is_ok() == at_all)
+}
+
+// Whether an admitted caller holds the authorization `a`.
+fn holds_a(rt: &impl Abort, policy: &Policy, user: &[u8]) -> bool {
+    let table = name(rt, b"logs");
+    let asked = Action::OnTable(TableAction::Open, &table);
+    match policy.admitted(&name(rt, user), &asked) {
+        Some(caller) => caller.authorizations.contains(b"a"),
+        None => false,
+    }
+}
+
+#[test]
+fn who_is_admitted(rt: HostRuntime) {
+    let mut policy = Policy::new(rt.alloc()).expect(&rt, "memory");
+    people(&rt, rt.alloc(), &mut policy);
+    let opens = TableAction::Open;
+    expect_admitted(&rt, &policy, b"root", b"logs", opens, true, true);
+    expect_admitted(&rt, &policy, b"ada", b"logs", opens, true, true);
+    expect_admitted(
+        &rt,
+        &policy,
+        b"ada",
+        b"logs",
+        TableAction::Write,
+        false,
+        false,
+    );
+    expect_admitted(
+        &rt,
+        &policy,
+        b"ada",
+        b"logs",
+        TableAction::Rights,
+        false,
+        true,
+    );
+    expect_admitted(&rt, &policy, b"ada", b"none", opens, false, false);
+    expect_admitted(&rt, &policy, b"bob", b"logs", opens, false, false);
+    expect_admitted(&rt, &policy, b"eve", b"logs", opens, false, false);
+    assert!(rt; holds_a(&rt, &policy, b"ada"));
+    assert!(rt; !holds_a(&rt, &policy, b"root"))
 }
