@@ -1,5 +1,5 @@
 -- From what an act does to a core to what a step does to every history that the core refined.
-use Rattle.std.proofs.Common.{◌≡◌, ◌⊎◌, inl, inr, List, [], ◌∷◌, ◌++◌, true, false, cond, refl, sym, ◌∙◌, ap, subst, Option, Some, None}
+use Rattle.std.proofs.Common.{◌≡◌, inl, inr, List, [], ◌∷◌, ◌++◌, false, cond, refl, sym, ◌∙◌, ap, subst, Option}
 use Rattle.std.specs.Prelude.{ℤ, ℕ, is_some, find, bytes_eq}
 use Rattle.std.specs.Int.{int_max}
 use Rattle.std.proofs.lemmas.List.{append-nil}
@@ -36,7 +36,7 @@ use Rattle.tab_store.specs.Rightness.{LeavesExactly}
 use Rattle.tab_store.proofs.ChainLaws.{new_stores_are_stores, stores_are_sound}
 use Rattle.tab_store.proofs.Right.{steps_are_right}
 use Rattle.tab_store.proofs.Staying.{stores_stay}
-use Rattle.tab_core.specs.Stepping.{HandsOut, Steps, StepsWith, IsBySlot, changes_told, moves_clock, Acts, IsCore}
+use Rattle.tab_core.specs.Stepping.{HandsOut, Steps, StepsWith, changes_told, moves_clock, Acts, IsCore}
 use Rattle.tab_core.specs.Bounded.{WritesBare}
 use Rattle.tab_core.proofs.Bounded.{limits_stay, new_is_bounded}
 

@@ -97,14 +97,22 @@ impl Sessions {
         if self.ready(alloc, user).is_err() {
             return None;
         }
-        self.find(user)
+        self.get_mut(user)
+    }
+
+    /// What is kept for the user, if he is one of those for whom something is kept. It takes no memory.
+    pub fn get_mut(&mut self, user: &Name) -> Option<&mut UserSessions>
+        ensures* lends { sem 𝓛 (LendsFound self.entry user.now result) }
+        ensures value { option_copied_mut result ≡ at_name user.now self.old }
+    {
+        self.by_user.get_mut(user)
     }
 
     /// The next cells of the user's session of this number.
     pub fn next(&mut self, alloc: Global, user: &Name, number: u32, count: u32) -> Reply
         ensures { NextIn self.old user.now number count result self.new }
     {
-        match self.find(user) {
+        match self.get_mut(user) {
             Some(kept) => kept.numbered.next(alloc, number, count),
             None => Reply::Refused(Refusal::NoSession(number)),
         }
@@ -115,7 +123,7 @@ impl Sessions {
         ensures answers { ManyIn self.old user.now number ranges.now result }
         ensures same { self.new ≡ self.old }
     {
-        match self.find(user) {
+        match self.get_mut(user) {
             Some(kept) => kept.numbered.many(alloc, number, ranges),
             None => Reply::Refused(Refusal::NoSession(number)),
         }
@@ -125,7 +133,7 @@ impl Sessions {
     pub fn close(&mut self, user: &Name, number: u32) -> Reply
         ensures { CloseIn self.old user.now number result self.new }
     {
-        match self.find(user) {
+        match self.get_mut(user) {
             Some(kept) => kept.numbered.close(number),
             None => Reply::Refused(Refusal::NoSession(number)),
         }
@@ -142,13 +150,5 @@ impl Sessions {
         let key = NameKey::new(alloc, user)?;
         self.by_user.insert(key, UserSessions::new(alloc))?;
         Ok(())
-    }
-
-    // What is kept for the user, if he is there.
-    fn find(&mut self, user: &Name) -> Option<&mut UserSessions>
-        ensures* lends { sem 𝓛 (LendsFound self.entry user.now result) }
-        ensures value { option_copied_mut result ≡ at_name user.now self.old }
-    {
-        self.by_user.get_mut(user)
     }
 }

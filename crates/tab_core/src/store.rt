@@ -103,6 +103,21 @@ impl Store {
         ensures left { Act.Open scan.new ≡ left_of (Act.Open scan.old) (told_of result) }
     {
         let action = Action::OnTable(TableAction::Open, &scan.table);
+        match self.policy.admitted(user, &action) {
+            Some(caller) => open(alloc, &mut self.tables, caller.authorizations, scan),
+            None => self.judge_open(alloc, now, user, scan),
+        }
+    }
+
+    // The same by the whole decision.
+    #[cold]
+    #[inline(never)]
+    fn judge_open(&mut self, alloc: Global, now: i64, user: &Name, scan: &mut Scan) -> Answer
+        requires { IsCore (held self.old) }
+        ensures acts { Acts (event_answer (base_of (held self.old)) [] now user.now (Act.Open scan.old)) (held self.old) now None user.now (Act.Open scan.old) result (held self.new) }
+        ensures left { Act.Open scan.new ≡ left_of (Act.Open scan.old) (told_of result) }
+    {
+        let action = Action::OnTable(TableAction::Open, &scan.table);
         match self.policy.decide(user, &action) {
             Ok(caller) => open(alloc, &mut self.tables, caller.authorizations, scan),
             Err(denial) => Reply::Refused(refusal_of(*user, denial)),

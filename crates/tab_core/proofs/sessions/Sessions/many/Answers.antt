@@ -21,7 +21,7 @@ returns-in-Some-clause-same c =
     let now : UserSessions = record { numbered = c.many.new.self; scanned = was.scanned } in
     let had : at_name user old ≡ Some was = search rules in
     let same : now ≡ was = λ i. record { numbered = c.many.ensures.same i; scanned = was.scanned } in
-    let left = subst (λ (r : Option (MutBor UserSessions)). OnSome r (Leaves user old now (c.find.follows.lender now))) c.in-Some.is (c.find.follows.holds now) in
+    let left = subst (λ (r : Option (MutBor UserSessions)). OnSome r (Leaves user old now (c.get_mut.follows.lender now))) c.in-Some.is (c.get_mut.follows.holds now) in
     left.same (had ∙ ap Some (sym same))
 
 pub returns-in-None-clause-answers : goal.returns-in-None-clause-answers

@@ -13,11 +13,11 @@ returns-in-Some c =
     let was : UserSessions = c.in-Some.kept.now in
     let now : UserSessions = record { numbered = c.next.new.self; scanned = was.scanned } in
     let had : at_name user old ≡ Some was = search rules in
-    let left = subst (λ (r : Option (MutBor UserSessions)). OnSome r (Leaves user old now (c.find.follows.lender now))) c.in-Some.is (c.find.follows.holds now) in
+    let left = subst (λ (r : Option (MutBor UserSessions)). OnSome r (Leaves user old now (c.get_mut.follows.lender now))) c.in-Some.is (c.get_mut.follows.holds now) in
     next_kept old _ user c.args.number c.args.count c.next.result was c.next.new.self had c.next.ensures left.keeps
 
 pub returns-in-None : goal.returns-in-None
 returns-in-None c =
     let none : at_name c.args.user.now c.args.self.now ≡ None = search rules in
-    let same : c.find.follows.lender-at-none ≡ c.args.self.now = search rules in
+    let same : c.get_mut.follows.lender-at-none ≡ c.args.self.now = search rules in
     next_nowhere c.args.self.now _ c.args.user.now c.args.number c.args.count none same

@@ -5,7 +5,7 @@ use Rattle.tab_core.specs.declared.sessions.UserSessions.{UserSessions}
 use Rattle.tab_core.specs.Sessions.{Keeping}
 use Rattle.tab_core.specs.Lending.{Leaves}
 use Rattle.tab_core.proofs.KeptLemmas.{leaves}
-use Rattle.tab_core.proofs.sessions.Sessions.find.Goals as goal
+use Rattle.tab_core.proofs.sessions.Sessions.get_mut.Goals as goal
 
 pub returns : goal.returns
 returns c =
