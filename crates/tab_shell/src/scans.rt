@@ -19,6 +19,7 @@ use tab_replies::{put_opened, put_refusal, write_reply};
 
 /// A scan: one line and several steps, an Open, batches until one isn't full, and a Close. Its session is read to the end, or until memory
 /// lacks, and dropped.
+#[inline(always)]
 pub fn scan_now<W: Output>(
     alloc: Global,
     core: &mut Core,

@@ -301,6 +301,25 @@ impl Script {
     fn scan<W: Output>(&mut self, scan: &mut Scan, output: &mut W) -> Result<(), WriteFault>
         ensures { PrintsAnswer W.Output self.old (Ok (Line.Scan scan.old)) self.new output.old output.new result }
     {
+        match self.sessions.get_mut(&self.user) {
+            Some(kept) => scan_now(
+                self.alloc,
+                &mut self.core,
+                kept,
+                &self.user,
+                self.moment,
+                scan,
+                output,
+            ),
+            None => self.first_scan(scan, output),
+        }
+    }
+
+    // The same where nothing is kept for the user yet.
+    #[inline(never)]
+    fn first_scan<W: Output>(&mut self, scan: &mut Scan, output: &mut W) -> Result<(), WriteFault>
+        ensures { PrintsAnswer W.Output self.old (Ok (Line.Scan scan.old)) self.new output.old output.new result }
+    {
         match self.sessions.kept_for(self.alloc, &self.user) {
             Some(kept) => scan_now(
                 self.alloc,
