@@ -1,6 +1,6 @@
 -- What the policy decides of an act, and who is admitted.
 use Rattle.std.proofs.Common.{◌≡◌, inl, ℕ, List, [], Bool, true, false, cond, ◌||◌, refl, sym, ◌∙◌, ap, subst, Option, Some, None}
-use Rattle.std.specs.Prelude.{ℤ, bytes_eq, is_some, IfSome}
+use Rattle.std.specs.Prelude.{ℤ, bytes_eq, is_some, is_none, IfSome}
 use Rattle.tab_policy.specs.declared.decision.Denial.{Denial}
 use Rattle.tab_policy.specs.declared.decision.Denial.TheVariants as policy
 use Rattle.tab_policy.specs.declared.permission.Permission.{Permission}
@@ -57,6 +57,11 @@ pub admitted : (old new : CoreContents) (now t : ℤ) (given : Option TabletMerg
 admitted old new now t given user act named asked reply core asks e is trip acts =
     subst (λ a. Acts a old now given user act reply new) (sym (answer_is (base_of old) now user act None (sym (decided old core user act) ∙ undenied old user act asked asks e)))
     (subst (λ (x : Act). Acts (own_answer (base_of old) now user x) old now given user x reply new) (sym is) (subst (λ (c : ℤ). Acts (own_answer (base_of old) c user named) old c given user named reply new) trip acts))
+
+-- nothing stops him whom the policy admits
+pub nothing_stops : (d : Option Denial) → true ≡ is_none d → None ≡ d
+nothing_stops None e = refl
+nothing_stops (Some d) e = absurd (cc)
 
 -- ---- who is admitted is known, and the table that he names is there
 none_denied : (user : List ℕ) (d : Option Denial) → denial user d ≡ None → d ≡ None

@@ -1,6 +1,6 @@
 -- What the sets of a caller say of the permissions that admit an action.
 use Rattle.std.proofs.Common.{◌≡◌, ℕ, Bool, true, false, cond, ◌||◌, List, [], ◌∷◌, Some, None, refl, sym, ap, ◌∙◌, subst, Option, unwrap_or, Result, Ok, Err}
-use Rattle.std.specs.Prelude.{IfOk, IfSome}
+use Rattle.std.specs.Prelude.{IfOk, IfSome, is_none}
 use Rattle.std.specs.List.{list_any}
 use Rattle.tab_policy.specs.declared.permission.SystemPermission.{SystemPermission}
 use Rattle.tab_policy.specs.declared.permission.TablePermission.{TablePermission}
@@ -13,7 +13,7 @@ use Rattle.tab_policy.specs.declared.decision.Denial.{Denial}
 use Rattle.tab_policy.specs.declared.decision.Denial.TheVariants.{UnknownUser, NoTable}
 use Rattle.tab_policy.specs.Sets.{system_contains, table_contains}
 use Rattle.tab_policy.specs.Actions.{Action, needs, table_named}
-use Rattle.tab_policy.specs.Needs.{on_table, listed, is_met, first_of_needs}
+use Rattle.tab_policy.specs.Needs.{on_table, listed, is_met, are_none, first_of_needs}
 use Rattle.tab_policy.specs.Decisions.{Standing, holds_permission, unless_any, permission_missing, table_missing, judged, decision}
 use Rattle.tab_policy.specs.State.{State, IsCaller, standing_of, user_exists, table_exists, table_granted, has_system}
 
@@ -98,8 +98,18 @@ pub found_there : (r : Option Caller) (caller : Caller) (state : State) (user : 
 found_there (Some admitted) caller state user named is holds = subst (λ x. IsCaller x state user named) (sym is) holds
 found_there None caller state user named is holds = is
 
--- nothing stops him who holds one of the permissions
-pub admitted_by : (r : Option Caller) (met : Bool) (first : Option Permission) (decided : Option Denial) → IfSome r (λ admitted. met ≡ true) → judged None (cond met None first) ≡ decided
-    → IfSome r (λ admitted. decided ≡ None)
-admitted_by (Some admitted) met first decided is e = sym e ∙ ap (λ b. judged None (cond b None first)) is
-admitted_by None met first decided is e = is
+-- nothing stops him who holds one of the permissions, or of whom none is needed
+pub stops : (met : Bool) (system : Option SystemPermission) (ps : List TablePermission) (t : List ℕ)
+    → (met || are_none system ps) ≡ is_none (judged None (cond met None (first_of_needs system ps (Some t))))
+stops true system ps t = refl
+stops false None [] t = refl
+stops false None (p ∷ ps) t = refl
+stops false (Some p) ps t = refl
+
+-- the same of an action that names no table
+pub stops_on_server : (met : Bool) (system : Option SystemPermission) (ps : List TablePermission) → ps ≡ []
+    → (met || are_none system ps) ≡ is_none (judged None (cond met None (first_of_needs system ps None)))
+stops_on_server true system ps none = refl
+stops_on_server false None [] none = refl
+stops_on_server false None (p ∷ ps) none = absurd (cc)
+stops_on_server false (Some p) ps none = refl

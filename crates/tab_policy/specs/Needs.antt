@@ -1,5 +1,5 @@
 -- For proofs. The permissions that admit an action, as one for the whole server and some for one table.
-use Rattle.std.specs.Prelude.{ℕ, List, [], ◌∷◌, ◌||◌, Bool, false, Option, Some, None}
+use Rattle.std.specs.Prelude.{ℕ, List, [], ◌∷◌, ◌||◌, Bool, true, false, Option, Some, None}
 use Rattle.std.specs.List.{list_any}
 use Rattle.std.specs.Option.{option_map_or}
 use Rattle.tab_policy.specs.declared.permission.SystemPermission.{SystemPermission}
@@ -30,3 +30,9 @@ first_of_needs None (p ∷ ps) (Some t) = Some (OfTable p t)
 -- whether one of them is in these sets
 abbrev pub is_met : Option SystemPermission → List TablePermission → SystemPermissions → TablePermissions → Bool
 is_met system ps held rights = option_map_or (system_contains held) system false || list_any (table_contains rights) ps
+
+-- whether there is none
+abbrev pub are_none : Option SystemPermission → List TablePermission → Bool
+are_none None [] = true
+are_none None (p ∷ ps) = false
+are_none (Some p) ps = false

@@ -1,8 +1,8 @@
 //! Which permissions admit which action. (This server's own profile of Accumulo's rules.)
-ghost use Rattle.std.specs.Prelude.{◌≡◌, [], true, IfOk, IfSome, unwrap_or, option_copied, if◌then◌else◌};
+ghost use Rattle.std.specs.Prelude.{◌≡◌, ◌||◌, [], true, is_some, IfOk, IfSome, unwrap_or, option_copied, if◌then◌else◌};
 ghost use Rattle.std.specs.Result.{result_err};
 ghost use Rattle.tab_policy.specs.Actions.{asked_for, needs, needs_on, server_permission, table_named, hands_out, table_of};
-ghost use Rattle.tab_policy.specs.Needs.{listed, is_met, first_of_needs};
+ghost use Rattle.tab_policy.specs.Needs.{listed, is_met, are_none, first_of_needs};
 ghost use Rattle.tab_policy.specs.Sets.{table_contains};
 ghost use Rattle.tab_policy.specs.Decisions.{judged};
 ghost use Rattle.std.specs.List.{list_any};
@@ -125,16 +125,23 @@ impl Needs {
             .any(|permission| rights.contains(*permission))
     }
 
-    // The caller, if he has one of them.
+    // The caller, if he has one of them or none is needed.
     #[inline(always)]
     pub fn admitted<'a>(&self, caller: Caller<'a>) -> Option<Caller<'a>>
-        ensures met { IfSome result (λ admitted. is_met self.now.system self.now.on_table.now caller.entry.system caller.entry.on_table ≡ true) }
+        ensures admits { is_some result ≡ (is_met self.now.system self.now.on_table.now caller.entry.system caller.entry.on_table || are_none self.now.system self.now.on_table.now) }
         ensures caller { IfSome result (λ admitted. admitted ≡ caller.entry) }
     {
-        if self.are_met(caller.system, caller.on_table) {
+        if self.are_met(caller.system, caller.on_table) || self.are_none() {
             return Some(caller);
         }
         None
+    }
+
+    // Whether none is needed.
+    fn are_none(&self) -> bool
+        ensures { result ≡ are_none self.now.system self.now.on_table.now }
+    {
+        self.system.is_none() && self.on_table.is_empty()
     }
 
     // The caller if he has one of them or none is needed, else denied by the first. Those for a table are for this one.

@@ -1,5 +1,5 @@
 //! The users and tables, and what may be done.
-ghost use Rattle.std.specs.Prelude.{◌≡◌, ◌+◌, ◌-◌, [], ℕ, List, None, IfOk, OnOk, OnErr, IfSome, true, false, bytes_eq, is_some, ◌&&◌, if◌then◌else◌};
+ghost use Rattle.std.specs.Prelude.{◌≡◌, ◌+◌, ◌-◌, [], ℕ, List, None, IfOk, OnOk, OnErr, IfSome, true, false, bytes_eq, is_some, is_none, ◌&&◌, if◌then◌else◌};
 ghost use Rattle.std.specs.Result.{result_err};
 ghost use Rattle.tab_policy.specs.Roots.{root};
 ghost use Rattle.tab_policy.specs.Sets.{system_contains, table_contains};
@@ -75,14 +75,16 @@ impl Policy {
         }
     }
 
-    /// What this user holds, where the action is on a table that exists and he has a permission that admits it. Of any other action nothing
-    /// is said: [`decide`](Policy::decide) says all. No place is made here for why he isn't admitted, which takes 152 bytes.
+    /// What this user holds, where the action is admitted; [`decide`](Policy::decide) says of any other why it isn't. No place is made here for
+    /// that, which takes 152 bytes.
     pub fn admitted(&self, user: &Name, action: &Action<'_>) -> Option<Caller<'_>>
-        ensures admits { IfSome result (λ caller. decision (standing_of self.now user.now) (asked_for action.now) ≡ None) }
+        ensures admits { is_some result ≡ is_none (decision (standing_of self.now user.now) (asked_for action.now)) }
         ensures caller { IfSome result (λ caller. IsCaller caller self.now user.now (table_named (asked_for action.now))) }
     {
         let account = self.users.get(user)?;
-        let table = action.table()?;
+        let Some(table) = action.table() else {
+            return Needs::of(action).admitted(account.caller(user, TablePermissions::none()));
+        };
         let rights = self.tables.get(table)?;
         Needs::of(action).admitted(account.caller(user, rights.of(account.life)))
     }

@@ -3,7 +3,9 @@ use std::alloc::Global;
 use std::process::Abort;
 use tab_key::Name;
 use tab_label::AuthSet;
-use tab_policy::{Action, Permission, Policy, SystemPermission, TableAction, TablePermission};
+use tab_policy::{
+    Action, Permission, Policy, ServerAction, SystemPermission, TableAction, TablePermission,
+};
 
 // The name of these bytes.
 fn name(rt: &impl Abort, bytes: &[u8]) -> Name {
@@ -138,21 +140,20 @@ fn a_change_of_the_copy(rt: HostRuntime) {
     expect_apart(&rt, rt.alloc(), &mut copy, &mut policy)
 }
 
-// Whether the policy admits the user's action on the table at once, and whether it does at all.
+// Whether the policy admits the user's action on the table, and whether it decides the same.
 fn expect_admitted(
     rt: &impl Abort,
     policy: &Policy,
     user: &[u8],
     table: &[u8],
     action: TableAction,
-    at_once: bool,
-    at_all: bool,
+    admits: bool,
 ) {
     let user = name(rt, user);
     let table = name(rt, table);
     let asked = Action::OnTable(action, &table);
-    assert!(rt; policy.admitted(&user, &asked).is_some() == at_once);
-    assert!(rt; policy.decide(&user, &asked).is_ok() == at_all)
+    assert!(rt; policy.admitted(&user, &asked).is_some() == admits);
+    assert!(rt; policy.decide(&user, &asked).is_ok() == admits)
 }
 
 // Whether an admitted caller holds the authorization `a`.
@@ -170,29 +171,18 @@ fn who_is_admitted(rt: HostRuntime) {
     let mut policy = Policy::new(rt.alloc()).expect(&rt, "memory");
     people(&rt, rt.alloc(), &mut policy);
     let opens = TableAction::Open;
-    expect_admitted(&rt, &policy, b"root", b"logs", opens, true, true);
-    expect_admitted(&rt, &policy, b"ada", b"logs", opens, true, true);
-    expect_admitted(
-        &rt,
-        &policy,
-        b"ada",
-        b"logs",
-        TableAction::Write,
-        false,
-        false,
-    );
-    expect_admitted(
-        &rt,
-        &policy,
-        b"ada",
-        b"logs",
-        TableAction::Rights,
-        false,
-        true,
-    );
-    expect_admitted(&rt, &policy, b"ada", b"none", opens, false, false);
-    expect_admitted(&rt, &policy, b"bob", b"logs", opens, false, false);
-    expect_admitted(&rt, &policy, b"eve", b"logs", opens, false, false);
+    let writes = TableAction::Write;
+    let rights = TableAction::Rights;
+    expect_admitted(&rt, &policy, b"root", b"logs", opens, true);
+    expect_admitted(&rt, &policy, b"ada", b"logs", opens, true);
+    expect_admitted(&rt, &policy, b"ada", b"logs", writes, false);
+    expect_admitted(&rt, &policy, b"ada", b"logs", rights, true);
+    expect_admitted(&rt, &policy, b"ada", b"none", opens, false);
+    expect_admitted(&rt, &policy, b"bob", b"logs", opens, false);
+    expect_admitted(&rt, &policy, b"eve", b"logs", opens, false);
+    let creates = Action::OnServer(ServerAction::CreateTable);
+    assert!(rt; policy.admitted(&name(&rt, b"root"), &creates).is_some());
+    assert!(rt; policy.admitted(&name(&rt, b"ada"), &creates).is_none());
     assert!(rt; holds_a(&rt, &policy, b"ada"));
     assert!(rt; !holds_a(&rt, &policy, b"root"))
 }
