@@ -19,7 +19,7 @@ use Rattle.std.proofs.lemmas.Map.Keys.{IsDistinct-from_sorted, IsDistinct-IsPerm
 use Rattle.std.proofs.lemmas.Map.Made.{is_some-lookup}
 use mathlib.Core.Bool.{true≢false}
 use Rattle.tab_key.specs.Bytes.{bytes_cmp}
-use Rattle.tab_label.specs.Sets.{IsRising, has}
+use Rattle.tab_label.specs.Sets.{IsRising}
 use Rattle.tab_policy.specs.declared.permission.TablePermission.{TablePermission}
 use Rattle.tab_policy.specs.declared.permission.TablePermission.TheVariants as table
 use Rattle.tab_policy.specs.declared.sets.TablePermissions.{TablePermissions}
