@@ -10,6 +10,7 @@
 //! | `runs` | runs of steps, and their sessions |
 //! | `comparing` | pairs of runs that look alike to one user, and what he is told |
 //! | `jobs` | compactions in three parts, in runs and in cores |
+//! | `keeping` | what is kept for a user |
 //! | `modelling` | random writes, scans, compactions and settings, beside the model |
 //! | `settings` | numbers of versions that are lowered, and horizons that are raised |
 //! | `steps` | helpers: steps from the lines of a script, and replies as text |
@@ -23,6 +24,8 @@ mod comparing;
 mod due;
 #[cfg(test)]
 mod jobs;
+#[cfg(test)]
+mod keeping;
 #[cfg(test)]
 mod modelling;
 #[cfg(test)]
