@@ -181,8 +181,8 @@ fn who_is_admitted(rt: HostRuntime) {
     expect_admitted(&rt, &policy, b"bob", b"logs", opens, false);
     expect_admitted(&rt, &policy, b"eve", b"logs", opens, false);
     let creates = Action::OnServer(ServerAction::CreateTable);
-    assert!(rt; policy.admitted(&name(&rt, b"root"), &creates).is_some());
-    assert!(rt; policy.admitted(&name(&rt, b"ada"), &creates).is_none());
+    assert!(rt; policy.admitted(&name(&rt, b"ada"), &creates).is_some());
+    assert!(rt; policy.admitted(&name(&rt, b"bob"), &creates).is_none());
     assert!(rt; holds_a(&rt, &policy, b"ada"));
     assert!(rt; !holds_a(&rt, &policy, b"root"))
 }
