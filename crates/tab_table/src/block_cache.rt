@@ -8,7 +8,7 @@ use crate::kept::Kept;
 use crate::packed::Packed;
 use crate::window::Window;
 use lru::LruCache;
-use std::alloc::Global;
+use std::alloc::{AllocError, Global};
 use std::num::NonZeroUsize;
 
 /// What cursors over a table had decoded when they were left, by blocks: of so many blocks at most, of each what the last cursor there had
@@ -19,7 +19,7 @@ use std::num::NonZeroUsize;
 pub struct BlockCache {
     most: usize,
     // none before the first is put in
-    blocks: Option<LruCache<usize, Kept>>,
+    blocks: Option<Box<LruCache<usize, Kept>>>,
     // what the next cursor may decode into
     room: Option<Decoded>,
 }
@@ -93,7 +93,12 @@ impl BlockCache {
             return;
         }
         if let Some(most) = NonZeroUsize::new(self.most) {
-            self.blocks = LruCache::sparse(alloc, most).ok();
+            self.blocks = made(alloc, most).ok();
         }
     }
+}
+
+// A cache of so many blocks.
+fn made(alloc: Global, most: NonZeroUsize) -> Result<Box<LruCache<usize, Kept>>, AllocError> {
+    Ok(Box::new(alloc, LruCache::sparse(alloc, most)?)?)
 }
