@@ -8,7 +8,7 @@ use std::fmt::{Display, Formatter};
 use tab_help::{Asks, forms};
 
 /// The version that `tabd --version` tells.
-const VERSION: &str = "0.17.5";
+const VERSION: &str = "0.17.6";
 
 /// What help says of lines: the texts of `tab_help`.
 #[derive(Drop)]
