@@ -157,16 +157,22 @@ def others():
     count("nobody else connects while a server begins", ended(watching) == 1 and began > 5, began)
 
 
+def which(name):
+    """Which file it is, and since when. A connection may renew its access time, which isn't compared."""
+    found = os.lstat(name)
+    return found.st_ino, found.st_ctime_ns
+
+
 def one_server_a_file():
     with FileServer("one") as server:
-        held = os.lstat("one")
+        held = which("one")
         ran = run("serve", "--socket", "one")
         count("a second server is refused", (ran.returncode, ran.stdout, ran.stderr) == (1, b"", b"fault: one: another server has it\n"), ran)
-        count("and the first goes on", os.lstat("one") == held and answers("one"))
+        count("and the first goes on", which("one") == held and answers("one"))
         server.kill()
         count("a dead server's file is left", os.path.lexists("one"))
         with FileServer("one", "--accept", "1"):
-            count("and replaced", os.lstat("one").st_ino != held.st_ino or os.lstat("one").st_ctime_ns != held.st_ctime_ns)
+            count("and replaced", which("one") != held)
             count("by one that answers", answers("one"))
     for _ in range(20):
         FileServer("many").kill()
