@@ -56,3 +56,11 @@ shaped_few m e =
     let many : nat_lt 1000 (length m.updates) ≡ false = unmet (nat_lt 1000 (length m.updates)) (TooLarge part.Updates)
     (none_left (when (nat_lt 1000 (length m.updates)) (TooLarge part.Updates)) (first_some (when (is_too_long m.row) (TooLarge part.Row) ∷ first_found long_name 0 m.updates ∷ first_found long_value 0 m.updates ∷ [])) size) in
     grind (arith, nat_tests)
+
+has_update : (us : List Update) → empty us ≡ None → 0 < length us
+has_update [] e = absurd (cc)
+has_update (u ∷ us) e = omega (arith)
+
+pub shaped_some : (m : Mutation) → shape_error m ≡ None → 0 < length m.updates
+unfolding shape_error
+shaped_some m e = has_update m.updates (none_left (empty m.updates) (oversize m) e)

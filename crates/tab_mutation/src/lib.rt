@@ -10,6 +10,7 @@
 //! | `update`, `updates` | one update, lent, and going over all of them |
 //! | `update_span` | where an update's parts lie in the buffer |
 //! | `shape_error` | why a mutation is refused for its shape |
+//! | `shaped` | a mutation whose shape was accepted, lent |
 //!
 //! `specs/Mutations` has mutations as contracts see them, `specs/Shape` the limits, `specs/UpdateSpans` and
 //! `specs/MutationFields` the updates and the mutation that lie in a buffer. In `proofs`, `Bodies` is on buffers that grow,
@@ -18,11 +19,13 @@
 
 mod mutation;
 mod shape_error;
+mod shaped;
 mod update;
 mod update_span;
 mod updates;
 
 pub use mutation::Mutation;
 pub use shape_error::ShapeError;
+pub use shaped::Shaped;
 pub use update::UpdateRef;
 pub use updates::Updates;

@@ -1,12 +1,13 @@
 //! A row and the updates for it.
 ghost use Rattle.std.specs.Prelude.{◌≡◌, ◌<◌, ◌==◌, [], IfOk, OnOk, OnErr, None, length};
 ghost use Rattle.std.specs.List.{AllByRecursion, slice_index_or};
+ghost use Rattle.std.specs.Result.{result_err};
 ghost use Rattle.tab_mutation.specs.Mutations.{IsBare, with_update, put_update, delete_update};
 ghost use Rattle.tab_mutation.specs.Shape.{first_found, long_name, long_value, shape_error};
 
 use crate::shape_error::is_too_long;
 use crate::update_span::{UpdateSpan, append};
-use crate::{ShapeError, UpdateRef, Updates};
+use crate::{ShapeError, Shaped, UpdateRef, Updates};
 use smallvec::SmallVec;
 use std::alloc::{AllocError, Global};
 use std::marker::Model;
@@ -224,6 +225,21 @@ impl Mutation {
         match self.long_name() {
             Some(found) => Some(found),
             None => self.long_value(),
+        }
+    }
+
+    /// The mutation, lent as one whose shape was accepted.
+    ///
+    /// # Errors
+    ///
+    /// What `shape` says of it, if it says anything.
+    pub fn shaped(&self) -> Result<Shaped<'_>, ShapeError>
+        ensures ok { IfOk result (λ s. s ≡ self.now) }
+        ensures err { result_err result ≡ shape_error self.now }
+    {
+        match self.shape() {
+            Some(error) => Err(error),
+            None => Ok(Shaped::of(self)),
         }
     }
 }
