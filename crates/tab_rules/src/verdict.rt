@@ -1,8 +1,8 @@
 //! The check of a mutation against a table's constraints.
-ghost use Rattle.std.specs.Prelude.{◌≡◌, None, IfOk, not};
+ghost use Rattle.std.specs.Prelude.{◌≡◌, IfOk, not};
 ghost use Rattle.std.specs.Char.{is_ascii_alphanumeric};
 ghost use Rattle.std.specs.List.{filter_map, list_all};
-ghost use Rattle.tab_mutation.specs.Shape.{first_index, shape_error};
+ghost use Rattle.tab_mutation.specs.Shape.{first_index};
 ghost use Rattle.tab_rules.specs.Verdict.{fails, violation, violations};
 
 use crate::fails::fails;
@@ -12,7 +12,7 @@ use crate::{Constraint, ConstraintSet, Verdict, Violation};
 use std::alloc::{AllocError, Global};
 use tab_key::Items;
 use tab_label::AuthSet;
-use tab_mutation::Mutation;
+use tab_mutation::Shaped;
 
 /// All pairs of constraint and code, rising.
 const TESTS: [Test; 6] = [
@@ -42,14 +42,12 @@ const TESTS: [Test; 6] = [
     },
 ];
 
-// The first update, where there is one and the row isn't all letters and digits.
-fn first_by_row(mutation: &Mutation) -> Option<u32>
+// The first update, where the row isn't all letters and digits.
+fn first_by_row(mutation: &Shaped<'_>) -> Option<u32>
     ensures { result ≡ first_index (λ u. not (list_all is_ascii_alphanumeric mutation.now.row)) 0
         mutation.now.updates }
 {
-    if mutation.is_empty() {
-        return None;
-    }
+    mutation.keeps();
     if is_all_alphanumeric(mutation.row()) {
         None
     } else {
@@ -59,11 +57,11 @@ fn first_by_row(mutation: &Mutation) -> Option<u32>
 
 // The first update that fails the test.
 #[tactic(auto, using(tab_mutation::proofs::Shapes::shaped_few))]
-fn first_failing(mutation: &Mutation, auths: &AuthSet, test: Test) -> Option<u32>
-    requires { shape_error mutation.now ≡ None }
+fn first_failing(mutation: &Shaped<'_>, auths: &AuthSet, test: Test) -> Option<u32>
     ensures { result ≡ first_index (fails auths.now mutation.now.row test.constraint test.code) 0
         mutation.now.updates }
 {
+    mutation.keeps();
     for index in 0..mutation.len() {
         if fails(auths, mutation.row(), test, &mutation.update(index)) {
             return Some(index as u32);
@@ -77,10 +75,9 @@ fn first_failing(mutation: &Mutation, auths: &AuthSet, test: Test) -> Option<u32
 fn violation(
     constraints: &ConstraintSet,
     auths: &AuthSet,
-    mutation: &Mutation,
+    mutation: &Shaped<'_>,
     test: Test,
 ) -> Option<Violation>
-    requires { shape_error mutation.now ≡ None }
     ensures { result ≡ violation constraints.now auths.now mutation.now test }
 {
     if !constraints.contains(test.constraint) {
@@ -106,9 +103,8 @@ fn violations_among(
     tests: &[Test],
     constraints: &ConstraintSet,
     auths: &AuthSet,
-    mutation: &Mutation,
+    mutation: &Shaped<'_>,
 ) -> Result<Vec<Violation>, AllocError>
-    requires { shape_error mutation.now ≡ None }
     ensures { IfOk result (λ v. v.items ≡
         filter_map (violation constraints.now auths.now mutation.now) tests.now) }
 {
@@ -126,10 +122,9 @@ fn violations_among(
 pub fn check(
     alloc: Global,
     constraints: &ConstraintSet,
-    mutation: &Mutation,
+    mutation: &Shaped<'_>,
     auths: &AuthSet,
 ) -> Result<Verdict, AllocError>
-    requires { shape_error mutation.now ≡ None }
     ensures { IfOk result (λ v. v ≡ violations constraints.now auths.now mutation.now) }
 {
     let violations = violations_among(alloc, &TESTS, constraints, auths, mutation)?;
