@@ -1,8 +1,7 @@
 //! What is written to a table, until it is frozen.
-ghost use Rattle.std.specs.Prelude.{◌≡◌, ◌<◌, ◌++◌, ◌==◌, [], None, length, IfOk, IfSome, OnOk, OnErr, Contains};
+ghost use Rattle.std.specs.Prelude.{◌≡◌, ◌<◌, ◌++◌, ◌==◌, [], length, IfOk, IfSome, OnOk, OnErr, Contains};
 ghost use Rattle.tab_key.specs.Records.{Record as Fields};
 ghost use Rattle.tab_key.specs.Sorted.{IsDistinct, sorted};
-ghost use Rattle.tab_mutation.specs.Shape.{shape_error};
 ghost use Rattle.tab_cells.specs.Written.{mutation_records};
 
 use crate::Run;
@@ -14,7 +13,7 @@ use std::alloc::{AllocError, Global};
 use std::marker::Model;
 use std::mem::size_of;
 use std::sync::Arc;
-use tab_mutation::Mutation;
+use tab_mutation::Shaped;
 
 // An active part takes at most 56 bytes until its records are many: it lies in each tablet, and so in each empty table.
 const _: () = prove!(size_of::<Active>() <= 56);
@@ -82,8 +81,7 @@ impl Active {
     /// which the records become many, 4,096 of them in a mebibyte, spreads them by their rows over 16 partitions.
     ///
     /// `AllocError` leaves all as it was: the mutation goes in whole or not at all.
-    pub fn write(&mut self, mutation: &Mutation, seq: u64, clock: i64) -> Result<(), AllocError>
-        requires shape { shape_error mutation.now ≡ None }
+    pub fn write(&mut self, mutation: &Shaped<'_>, seq: u64, clock: i64) -> Result<(), AllocError>
         requires unused { (u : Fields) → Contains self.old u → u.seq < seq }
         ensures ok { OnOk result (self.new ≡ self.old ++ mutation_records seq clock mutation.now) }
         ensures err { OnErr result (self.new ≡ self.old) }

@@ -1,8 +1,7 @@
 //! Records as they were written: at first all in one partition, and in several by their rows once they are many.
-ghost use Rattle.std.specs.Prelude.{◌≡◌, ◌<◌, ◌*◌, ◌^◌, ◌++◌, ◌==◌, [], None, IfOk, OnOk, OnErr, length};
+ghost use Rattle.std.specs.Prelude.{◌≡◌, ◌<◌, ◌*◌, ◌^◌, ◌++◌, ◌==◌, [], IfOk, OnOk, OnErr, length};
 ghost use Rattle.std.specs.List.Sorted.{IsPermutation};
 ghost use Rattle.tab_key.specs.Sorted.{IsDistinct, sorted};
-ghost use Rattle.tab_mutation.specs.Shape.{shape_error};
 ghost use Rattle.tab_cells.specs.Written.{mutation_records};
 ghost use Rattle.tab_iter.specs.Lists.{HasI64Timestamps};
 
@@ -13,7 +12,7 @@ use crate::records::Records;
 use crate::sorting::item::Item;
 use std::alloc::{AllocError, Global};
 use std::marker::Model;
-use tab_mutation::Mutation;
+use tab_mutation::Shaped;
 
 /// Records as they were written.
 ///
@@ -83,11 +82,10 @@ impl WriteBuffer {
     /// Where they become many by it, they are spread. Where memory lacks for that they aren't, and what is written later isn't either.
     pub(crate) fn write(
         &mut self,
-        mutation: &Mutation,
+        mutation: &Shaped<'_>,
         seq: u64,
         clock: i64,
     ) -> Result<(), AllocError>
-        requires { shape_error mutation.now ≡ None }
         ensures ok { OnOk result (IsPermutation (self.old ++ mutation_records seq clock mutation.now) self.new) }
         ensures timestamps { OnOk result (HasI64Timestamps (mutation_records seq clock mutation.now)) }
         ensures err { OnErr result (self.new ≡ self.old) }

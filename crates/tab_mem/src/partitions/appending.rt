@@ -1,7 +1,6 @@
 //! Records that are put behind others in a body: those of an accepted mutation, and copies.
-ghost use Rattle.std.specs.Prelude.{◌≡◌, ◌++◌, ◌<◌, ◌^◌, true, int_le, length, map, take, unwrap_or, None, IfOk, OnOk};
+ghost use Rattle.std.specs.Prelude.{◌≡◌, ◌++◌, ◌<◌, true, int_le, length, take, unwrap_or, IfOk, OnOk};
 ghost use Rattle.tab_key.specs.Encoding.{span_at, record_at, records_at, places_from, IsAt, IsShort};
-ghost use Rattle.tab_mutation.specs.Shape.{shape_error};
 ghost use Rattle.tab_cells.specs.Written.{timed, record_of, mutation_records};
 ghost use Rattle.tab_iter.specs.Lists.{latest, HasI64Timestamps};
 ghost use Rattle.tab_mem.specs.Lists.{IsFilled};
@@ -10,7 +9,7 @@ ghost use Rattle.tab_mem.specs.Parting.{records_in};
 use crate::sorting::item::Item;
 use std::alloc::AllocError;
 use tab_key::{Key, append_joined};
-use tab_mutation::{Mutation, UpdateRef};
+use tab_mutation::{Shaped, UpdateRef};
 
 /// Puts the record of an update at the end of the body, with the number of its mutation, its place there and, where it
 /// gives no timestamp, the clock.
@@ -54,17 +53,17 @@ fn append_one(
 pub(crate) fn append_all(
     body: &mut Vec<u8>,
     mut count: usize,
-    mutation: &Mutation,
+    mutation: &Shaped<'_>,
     seq: u64,
     clock: i64,
 ) -> Result<usize, AllocError>
     requires filled { IsFilled body.old.items count }
-    requires shape { shape_error mutation.now ≡ None }
     ensures bytes { take (length body.old.items) body.new.items ≡ body.old.items }
     ensures filled { IfOk result (λ n. IsFilled body.new.items n) }
     ensures timestamps { OnOk result (HasI64Timestamps (mutation_records seq clock mutation.now)) }
     ensures records { IfOk result (λ n. records_at body.new.items (places_from body.new.items 0 n) ≡ records_at body.old.items (places_from body.old.items 0 count) ++ mutation_records seq clock mutation.now) }
 {
+    mutation.keeps();
     let mut index = mutation.len();
     while index > 0 {
         index -= 1;

@@ -1,8 +1,7 @@
 //! Where records lie as they were written: in one partition, or in several by their rows.
-ghost use Rattle.std.specs.Prelude.{◌≡◌, ◌<◌, ◌*◌, ◌^◌, ◌++◌, ◌∷◌, [], None, OnOk, OnErr, length};
+ghost use Rattle.std.specs.Prelude.{◌≡◌, ◌<◌, ◌*◌, ◌^◌, ◌++◌, ◌∷◌, [], OnOk, OnErr, length};
 ghost use Rattle.std.specs.List.Sorted.{IsPermutation};
 ghost use Rattle.tab_key.specs.Sorted.{IsDistinct, sorted};
-ghost use Rattle.tab_mutation.specs.Shape.{shape_error};
 ghost use Rattle.tab_cells.specs.Written.{mutation_records};
 ghost use Rattle.tab_iter.specs.Bags.{flat};
 ghost use Rattle.tab_iter.specs.Lists.{HasI64Timestamps};
@@ -18,7 +17,7 @@ use crate::rising::count_below;
 use crate::sorting::item::Item;
 use std::alloc::{AllocError, Global};
 use tab_key::row_prefix;
-use tab_mutation::Mutation;
+use tab_mutation::Shaped;
 
 /// Where records lie: in one partition, and once they are many in several by their rows. The several lie apart, so that it takes 40 bytes
 /// where records are few.
@@ -65,11 +64,10 @@ impl Layout {
     /// records as they were.
     pub(crate) fn write(
         &mut self,
-        mutation: &Mutation,
+        mutation: &Shaped<'_>,
         seq: u64,
         clock: i64,
     ) -> Result<bool, AllocError>
-        requires shape { shape_error mutation.now ≡ None }
         requires parted { AreParted self.old }
         ensures ok { OnOk result (IsPermutation (written_in self.old ++ mutation_records seq clock mutation.now) (written_in self.new)) }
         ensures timestamps { OnOk result (HasI64Timestamps (mutation_records seq clock mutation.now)) }
@@ -161,11 +159,10 @@ fn lend_all<'a>(
 // records as they were.
 fn write_one(
     records: &mut Unsorted,
-    mutation: &Mutation,
+    mutation: &Shaped<'_>,
     seq: u64,
     clock: i64,
 ) -> Result<bool, AllocError>
-    requires { shape_error mutation.now ≡ None }
     ensures ok { OnOk result (records.new ≡ records.old ++ mutation_records seq clock mutation.now) }
     ensures timestamps { OnOk result (HasI64Timestamps (mutation_records seq clock mutation.now)) }
     ensures err { OnErr result (records.new ≡ records.old) }
@@ -179,11 +176,10 @@ fn write_one(
 // records as they were.
 fn write_several(
     partitions: &mut Partitions,
-    mutation: &Mutation,
+    mutation: &Shaped<'_>,
     seq: u64,
     clock: i64,
 ) -> Result<bool, AllocError>
-    requires shape { shape_error mutation.now ≡ None }
     requires parted { ArePartitions partitions.old.lows.items partitions.old.lowest partitions.old.higher.items }
     ensures ok { OnOk result (IsPermutation (flat (partitions.old.lowest ∷ partitions.old.higher.items) ++ mutation_records seq clock mutation.now) (flat (partitions.new.lowest ∷ partitions.new.higher.items))) }
     ensures timestamps { OnOk result (HasI64Timestamps (mutation_records seq clock mutation.now)) }
@@ -197,11 +193,10 @@ fn write_several(
 // Puts the records of an accepted mutation in the place of its row. `AllocError` leaves the records as they were.
 fn write_to(
     partitions: &mut Partitions,
-    mutation: &Mutation,
+    mutation: &Shaped<'_>,
     seq: u64,
     clock: i64,
 ) -> Result<(), AllocError>
-    requires shape { shape_error mutation.now ≡ None }
     requires parted { ArePartitions partitions.old.lows.items partitions.old.lowest partitions.old.higher.items }
     ensures ok { OnOk result (IsPermutation (flat (partitions.old.lowest ∷ partitions.old.higher.items) ++ mutation_records seq clock mutation.now) (flat (partitions.new.lowest ∷ partitions.new.higher.items))) }
     ensures timestamps { OnOk result (HasI64Timestamps (mutation_records seq clock mutation.now)) }

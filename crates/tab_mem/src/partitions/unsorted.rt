@@ -1,7 +1,6 @@
 //! Records as they were written, one after another.
-ghost use Rattle.std.specs.Prelude.{◌≡◌, ◌<◌, ◌*◌, ◌^◌, ◌++◌, ◌==◌, [], None, IfOk, OnOk, OnErr, length};
+ghost use Rattle.std.specs.Prelude.{◌≡◌, ◌<◌, ◌*◌, ◌^◌, ◌++◌, ◌==◌, [], IfOk, OnOk, OnErr, length};
 ghost use Rattle.std.specs.List.{AllByRecursion};
-ghost use Rattle.tab_mutation.specs.Shape.{shape_error};
 ghost use Rattle.tab_cells.specs.Written.{mutation_records};
 ghost use Rattle.tab_iter.specs.Bags.{flat};
 ghost use Rattle.tab_iter.specs.Lists.{HasI64Timestamps};
@@ -17,7 +16,7 @@ use crate::sorting::grouping::{are_wide, groups_before, groups_in};
 use crate::sorting::item::Item;
 use std::alloc::{AllocError, Global};
 use std::marker::Model;
-use tab_mutation::Mutation;
+use tab_mutation::Shaped;
 
 /// Fewer records than that are sorted in one part.
 const MANY: usize = 4_096;
@@ -179,11 +178,10 @@ impl Unsorted {
     /// Puts the records of an accepted mutation at the end. `AllocError` leaves the records as they were.
     pub(crate) fn write(
         &mut self,
-        mutation: &Mutation,
+        mutation: &Shaped<'_>,
         seq: u64,
         clock: i64,
     ) -> Result<(), AllocError>
-        requires { shape_error mutation.now ≡ None }
         ensures ok { OnOk result (self.new ≡ self.old ++ mutation_records seq clock mutation.now) }
         ensures timestamps { OnOk result (HasI64Timestamps (mutation_records seq clock mutation.now)) }
         ensures err { OnErr result (self.new ≡ self.old) }

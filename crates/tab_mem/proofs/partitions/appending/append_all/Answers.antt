@@ -16,7 +16,7 @@ append_one-requires c =
     let clock = to_z w64 (of_z w64 c.args.clock) in
     let before = c.loop-index.index - 1 in
     let low : before < length c.args.mutation.now.updates = omega (arith, c.loop-index.invariant.left, c.loop-index-test.true) in
-    subst (λ r. IsShort (record_of c.args.seq r before (timed clock c.update-update.result))) (sym c.row.ensures) (record_short c.args.seq clock c.args.mutation.now before c.update-update.result c.requires.shape low c.update-update.ensures)
+    subst (λ r. IsShort (record_of c.args.seq r before (timed clock c.update-update.result))) (sym c.row.ensures) (record_short c.args.seq clock c.args.mutation.now before c.update-update.result c.keeps.ensures low c.update-update.ensures)
 
 pub overflow_add-count : goal.overflow_add-count
 overflow_add-count c =
