@@ -6,7 +6,6 @@ ghost use Rattle.tab_key.specs.Ranges.{is_in_range};
 ghost use Rattle.tab_key.specs.Records.{Record as Fields};
 ghost use Rattle.tab_key.specs.Sorted.{sorted, IsDistinct};
 ghost use Rattle.tab_iter.specs.Bags.{flat};
-ghost use Rattle.tab_mutation.specs.Shape.{shape_error};
 ghost use Rattle.tab_cells.specs.Written.{mutation_records};
 ghost use Rattle.tab_version.specs.Sources.{clipped, count_of, left_by, records_of, size_of};
 ghost use Rattle.tab_compact.specs.Merges.{captured};
@@ -37,7 +36,7 @@ use tab_compact::{Finished, Job, capture};
 use tab_iter::NoMemory;
 use tab_key::{Bounds, ByteString};
 use tab_mem::Active;
-use tab_mutation::Mutation;
+use tab_mutation::Shaped;
 use tab_version::{Clip, Clips, Version};
 
 /// So many records that were written or lie in runs are to be flushed.
@@ -123,8 +122,7 @@ impl Tablet {
     /// and the clock where it gives no timestamp. It takes time linear in the mutation, however much was written before.
     ///
     /// `AllocError` leaves all as it was: the mutation goes in whole or not at all.
-    pub fn write(&mut self, mutation: &Mutation, seq: u64, clock: i64) -> Result<(), AllocError>
-        requires shape { shape_error mutation.now ≡ None }
+    pub fn write(&mut self, mutation: &Shaped<'_>, seq: u64, clock: i64) -> Result<(), AllocError>
         requires unused { (u : Fields) → Contains (records_in self.old) u → u.seq < seq }
         ensures ok { OnOk result (self.new ≡ written (mutation_records seq clock mutation.now) self.old) }
         ensures err { OnErr result (self.new ≡ self.old) }

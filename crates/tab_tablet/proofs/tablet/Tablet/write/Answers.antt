@@ -9,9 +9,11 @@ use Rattle.tab_tablet.proofs.Gathered.{active_below, distinct_after}
 use Rattle.tab_tablet.proofs.Clipped.{below_sorted}
 use Rattle.tab_tablet.proofs.tablet.Tablet.write.Goals as goal
 
-pub write-requires-clause-unused : goal.write-requires-clause-unused
-write-requires-clause-unused c = active_below c.args.seq c.args.mutation.now.row [] c.self.inside.active (records_of c.self.inside.sources)
-    (below_sorted c.args.seq _ (subst (λ t. (u : Record) → Contains (records_in t) u → u.seq < c.args.seq) (sym c.self.view_is) c.requires.unused)) c.self.invariant
+pub write-requires : goal.write-requires
+write-requires c = record {
+  unused = active_below c.args.seq c.args.mutation.now.row [] c.self.inside.active (records_of c.self.inside.sources)
+      (below_sorted c.args.seq _ (subst (λ t. (u : Record) → Contains (records_in t) u → u.seq < c.args.seq) (sym c.self.view_is) c.requires.unused)) c.self.invariant;
+}
 
 pub invariant_of-self : goal.invariant_of-self
 invariant_of-self c = distinct_after c.args.seq c.args.mutation.now.row _ c.self.inside.active (records_of c.self.inside.sources)
