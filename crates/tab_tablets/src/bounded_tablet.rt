@@ -1,7 +1,6 @@
 //! Tablets with an end row.
-ghost use Rattle.std.specs.Prelude.{◌≡◌, ◌<◌, None, Some, Contains, IfOk, OnOk, OnErr, length, map, min, sum, ◌≤◌, vec_len, vec_capacity};
+ghost use Rattle.std.specs.Prelude.{◌≡◌, ◌<◌, Some, Contains, IfOk, OnOk, OnErr, length, map, min, sum, ◌≤◌, vec_len, vec_capacity};
 ghost use Rattle.tab_key.specs.Records.{Record as Fields};
-ghost use Rattle.tab_mutation.specs.Shape.{shape_error};
 ghost use Rattle.tab_cells.specs.Written.{mutation_records};
 ghost use Rattle.tab_tablet.specs.Tablets.{is_up_to, frozen, records_in, written, capture, begins, installed};
 ghost use Rattle.tab_tablet.specs.MergedRuns.{IsFreezeOf};
@@ -17,7 +16,7 @@ use std::marker::Model;
 use tab_cells::Compaction;
 use tab_iter::NoMemory;
 use tab_key::{ByteString, row_prefix};
-use tab_mutation::Mutation;
+use tab_mutation::Shaped;
 use tab_tablet::{Finished, Freeze, Installed, Job, Tablet};
 
 /// A tablet that isn't the last of its table, with the last row that it may hold. A contract sees the tablet with its end row. The
@@ -114,11 +113,10 @@ impl BoundedTablet {
     /// Writes a mutation, whose shape was accepted, as `Tablet::write` does.
     pub(crate) fn write(
         &mut self,
-        mutation: &Mutation,
+        mutation: &Shaped<'_>,
         seq: u64,
         clock: i64,
     ) -> Result<(), AllocError>
-        requires shape { shape_error mutation.now ≡ None }
         requires unused { (u : Fields) → Contains (records_in self.old) u → u.seq < seq }
         ensures ok { OnOk result (self.new ≡ written (mutation_records seq clock mutation.now) self.old) }
         ensures err { OnErr result (self.new ≡ self.old) }

@@ -2,7 +2,6 @@
 ghost use Rattle.std.specs.Prelude.{◌≡◌, ◌==◌, ℕ, ◌+◌, ◌<◌, [], ◌∷◌, ◌++◌, None, Some, false, length, map, min, sum, Contains, IfOk, IfSome, OnOk, OnErr};
 ghost use Rattle.std.specs.List.{AllByRecursion, insert};
 ghost use Rattle.tab_key.specs.Records.{Record as Fields};
-ghost use Rattle.tab_mutation.specs.Shape.{shape_error};
 ghost use Rattle.tab_cells.specs.Written.{mutation_records};
 ghost use Rattle.tab_tablet.specs.Tablets.{new_tablet, frozen, records_in, written, capture, begins, installed as installed_by};
 ghost use Rattle.tab_tablet.specs.MergedRuns.{IsFreezeOf};
@@ -24,7 +23,7 @@ use tab_cells::Compaction;
 use tab_iter::NoMemory;
 use tab_key::{ByteString, row_prefix};
 use tab_mem::{count_below, count_up_to};
-use tab_mutation::Mutation;
+use tab_mutation::Shaped;
 use tab_tablet::{DueKind, Finished, Freeze, Installed, Job, Tablet};
 
 /// The most end rows that a table may have.
@@ -143,12 +142,11 @@ impl TabletList {
     pub(crate) fn write(
         &mut self,
         place: usize,
-        mutation: &Mutation,
+        mutation: &Shaped<'_>,
         seq: u64,
         clock: i64,
     ) -> Result<(), AllocError>
         requires inside { place < length self.old }
-        requires shape { shape_error mutation.now ≡ None }
         requires unused { (u : Fields) → Contains (records_in (tablet_at self.old place)) u → u.seq < seq }
         ensures ok { OnOk result (self.new ≡ at_place place (λ t. written (mutation_records seq clock mutation.now) t ∷ []) self.old) }
         ensures err { OnErr result (self.new ≡ self.old) }

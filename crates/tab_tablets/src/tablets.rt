@@ -1,7 +1,6 @@
 //! The tablets of a table.
 ghost use Rattle.std.specs.Prelude.{◌≡◌, ◌<◌, [], ◌∷◌, None, length, map, min, sum, Contains, IfOk, OnOk, OnErr, ℕ, true, ◌==◌, not, filter};
 ghost use Rattle.tab_key.specs.Records.{Record as Fields};
-ghost use Rattle.tab_mutation.specs.Shape.{shape_error};
 ghost use Rattle.tab_cells.specs.Written.{mutation_records};
 ghost use Rattle.tab_version.specs.Sources.{count_of};
 ghost use Rattle.tab_tablet.specs.Tablets.{new_tablet, written, records_in, frozen, compacted};
@@ -19,7 +18,7 @@ use std::marker::Model;
 use tab_cells::Compaction;
 use tab_iter::NoMemory;
 use tab_key::{ByteString, Items};
-use tab_mutation::Mutation;
+use tab_mutation::Shaped;
 use tab_tablet::{DueKind, Installed};
 use tab_version::Version;
 
@@ -68,8 +67,7 @@ impl Tablets {
     /// gives no timestamp, the clock. It takes time logarithmic in the tablets and linear in the mutation.
     ///
     /// `AllocError` leaves all as it was: the mutation goes in whole or not at all.
-    pub fn write(&mut self, mutation: &Mutation, seq: u64, clock: i64) -> Result<(), AllocError>
-        requires shape { shape_error mutation.now ≡ None }
+    pub fn write(&mut self, mutation: &Shaped<'_>, seq: u64, clock: i64) -> Result<(), AllocError>
         requires unused { (u : Fields) → Contains (records_of_all self.old) u → u.seq < seq }
         ensures ok { OnOk result (self.new ≡ at_row mutation.now.row (λ t. written (mutation_records seq clock mutation.now) t ∷ []) self.old) }
         ensures err { OnErr result (self.new ≡ self.old) }
@@ -85,17 +83,17 @@ impl Tablets {
     fn write_first(
         &mut self,
         place: usize,
-        mutation: &Mutation,
+        mutation: &Shaped<'_>,
         seq: u64,
         clock: i64,
     ) -> Result<(), AllocError>
         requires place { IsPlaceOf mutation.now.row self.old place }
         requires idle { (tablet_at self.old place).active ≡ [] }
-        requires shape { shape_error mutation.now ≡ None }
         requires unused { (u : Fields) → Contains (records_of_all self.old) u → u.seq < seq }
         ensures ok { OnOk result (self.new ≡ at_row mutation.now.row (λ t. written (mutation_records seq clock mutation.now) t ∷ []) self.old) }
         ensures err { OnErr result (self.new ≡ self.old) }
     {
+        mutation.keeps();
         self.written.reserve(1)?;
         self.tablet_list.write(place, mutation, seq, clock)?;
         self.written.push_reserved(place);

@@ -8,6 +8,5 @@ use Rattle.tab_tablets.proofs.bounded_tablet.BoundedTablet.write.Goals as goal
 abbrev AreBelow : ℕ → Tablet → Type 0
 AreBelow seq t = (u : Record) → Contains (records_in t) u → u.seq < seq
 
-pub write-requires-clause-unused : goal.write-requires-clause-unused
-write-requires-clause-unused c =
-    subst (AreBelow c.args.seq) (sym c.deref_mut.ensures.value) (subst (AreBelow c.args.seq) (sym c.self.view_is) c.requires.unused)
+pub write-requires : goal.write-requires
+write-requires c = record { unused = subst (AreBelow c.args.seq) (sym c.deref_mut.ensures.value) (subst (AreBelow c.args.seq) (sym c.self.view_is) c.requires.unused) }

@@ -14,13 +14,13 @@ either_end : {A E : Type 0} (r : Result A E) (old new : Tablet) (us : List Recor
 either_end (Ok x) old new us ok err = ap (λ (t : Tablet). t.end) ok
 either_end (Err e) old new us ok err = ap (λ (t : Tablet). t.end) err
 
-pub write-requires-clause-unused : goal.write-requires-clause-unused
-write-requires-clause-unused c =
+pub write-requires : goal.write-requires
+write-requires c =
     let last : Tablet = ended None c.self.inside.last in
     let lower : List Tablet = c.self.inside.lower.items in
     let lt : c.args.place < length lower = search rules in
     let is : tablet_at c.args.self.now c.args.place ≡ c.index_mut.result.now = ap (λ ts. tablet_at ts c.args.place) (sym c.self.view_is) ∙ lower_is lower last c.args.place c.index_mut.result.now lt c.index_mut.ensures.value in
-    λ u k. c.requires.unused u (subst (λ (t : Tablet). Contains (records_in t) u) (sym is) k)
+    record { unused = λ u k. c.requires.unused u (subst (λ (t : Tablet). Contains (records_in t) u) (sym is) k) }
 
 pub returns-then-place-len-clause-ok : goal.returns-then-place-len-clause-ok
 returns-then-place-len-clause-ok c =
@@ -35,14 +35,14 @@ returns-then-place-len-clause-ok c =
     ∙ ap (at_place c.args.place (one (written us))) c.self.view_is)
     c.write.ensures.ok
 
-pub write-requires-2-clause-unused : goal.write-requires-2-clause-unused
-write-requires-2-clause-unused c =
+pub write-requires-2 : goal.write-requires-2
+write-requires-2 c =
     let last : Tablet = ended None c.self.inside.last in
     let lower : List Tablet = c.self.inside.lower.items in
     let ge : length lower ≤ c.args.place = search rules in
     let lt : c.args.place < length (lower ++ last ∷ []) = subst (λ (ts : List Tablet). c.args.place < length ts) (sym c.self.view_is) c.requires.inside in
     let is : tablet_at c.args.self.now c.args.place ≡ last = ap (λ ts. tablet_at ts c.args.place) (sym c.self.view_is) ∙ last_is lower last c.args.place ge lt in
-    λ u k. c.requires.unused u (subst (λ (t : Tablet). Contains (records_in t) u) (sym is) k)
+    record { unused = λ u k. c.requires.unused u (subst (λ (t : Tablet). Contains (records_in t) u) (sym is) k) }
 
 pub returns-clause-ok : goal.returns-clause-ok
 returns-clause-ok c =

@@ -23,7 +23,7 @@ invariant_of-self-2 c =
     subst (λ ts. AreKept ts c.push_reserved.new.self.items) (sym c.in_ok-write.ensures.ok)
     (subst (AreKept (at_place c.args.place (one (written us)) tablet_list)) (sym (c.push_reserved.ensures.items ∙ ap (λ ws. ws ++ c.args.place ∷ []) c.in_ok-reserve.ensures.items))
     (kept_first tablet_list c.self.inside.written.items c.self.invariant c.args.mutation.now.row us (own_rows c.args.seq (to_z w64 (of_z w64 c.args.clock)) c.args.mutation.now) c.args.place place
-    idle (some_records c.args.seq (to_z w64 (of_z w64 c.args.clock)) c.args.mutation.now c.requires.shape)))
+    idle (some_records c.args.seq (to_z w64 (of_z w64 c.args.clock)) c.args.mutation.now c.keeps.ensures)))
 
 pub returns-clause-ok : goal.returns-clause-ok
 returns-clause-ok c =
