@@ -2,7 +2,6 @@
 ghost use Rattle.std.specs.Prelude.{◌≡◌, ◌<◌, [], ◌∷◌, None, length, map, Contains, IfOk, OnOk, OnErr};
 ghost use Rattle.tab_key.specs.Records.{Record as Fields};
 ghost use Rattle.tab_key.specs.Sorted.{sorted};
-ghost use Rattle.tab_mutation.specs.Shape.{shape_error};
 ghost use Rattle.tab_cells.specs.Written.{mutation_records};
 ghost use Rattle.tab_iter.specs.Lists.{IsRising};
 ghost use Rattle.tab_tablets.specs.Opened.{ShowsRowsOf};
@@ -27,7 +26,7 @@ use tab_history::{Counts, TimeMode, Versions};
 use tab_iter::NoMemory;
 use tab_key::{Bounds, ByteString, Items};
 use tab_mem::Records;
-use tab_mutation::Mutation;
+use tab_mutation::Shaped;
 use tab_rules::ConstraintSet;
 use tab_tablets::{DueKind, FinishedJob, Installed, Split, TabletJob, Tablets, Version};
 
@@ -196,8 +195,7 @@ impl Table {
     /// gives no timestamp, this moment. It takes time linear in the mutation, and logarithmic in the number of tablets.
     ///
     /// `AllocError` leaves the table as it was.
-    pub fn write(&mut self, mutation: &Mutation, seq: u64, now: i64) -> Result<(), AllocError>
-        requires shape { shape_error mutation.now ≡ None }
+    pub fn write(&mut self, mutation: &Shaped<'_>, seq: u64, now: i64) -> Result<(), AllocError>
         requires unused { (u : Fields) → Contains (records_of_all self.old.tablets) u → u.seq < seq }
         ensures ok { OnOk result (self.new ≡ with_tablets (at_row mutation.now.row (λ t. written (mutation_records seq now mutation.now) t ∷ [])) self.old) }
         ensures err { OnErr result (self.new ≡ self.old) }

@@ -5,6 +5,7 @@ use Rattle.tab_store.specs.Tables.{TableState}
 use Rattle.tab_store.specs.declared.table.Contents.{Contents}
 use Rattle.tab_store.proofs.table.Table.write.Goals as goal
 
-pub write-requires-clause-unused : goal.write-requires-clause-unused
-write-requires-clause-unused c =
-    λ u h. c.requires.unused u (subst (λ (t : TableState). Contains (records_of_all t.tablets) u) c.self.view_is (subst (λ (x : Contents). Contains (records_of_all x.tablets) u) c.deref_mut.ensures.value h))
+pub write-requires : goal.write-requires
+write-requires c = record {
+  unused = λ u h. c.requires.unused u (subst (λ (t : TableState). Contains (records_of_all t.tablets) u) c.self.view_is (subst (λ (x : Contents). Contains (records_of_all x.tablets) u) c.deref_mut.ensures.value h));
+}
