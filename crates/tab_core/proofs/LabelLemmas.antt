@@ -1,5 +1,5 @@
 -- The refusal of a malformed label is none just where the label reads as one.
-use Rattle.std.proofs.Common.{◌≡◌, ℕ, Result, Ok, Err, Some, None, is_ok, true, refl}
+use Rattle.std.proofs.Common.{◌≡◌, ℕ, Result, Ok, Err, None, is_ok, true, refl}
 use Rattle.tab_history.specs.Checks.{malformed_at}
 
 pub ok_none : {X : Type 0} (i : ℕ) (read : Result X ℕ) → is_ok read ≡ true → None ≡ malformed_at i read

@@ -1,6 +1,7 @@
 //! The checks that are an event's own, and those of a request for ranges.
-ghost use Rattle.std.specs.Prelude.{◌≡◌, ◌<◌, ◌≤◌, ◌⊎◌, ◌^◌, ℕ, Some, None, true, false, length, IsSome};
-ghost use Rattle.tab_mutation.specs.Shape.{first_some, shape_error};
+ghost use Rattle.std.specs.Prelude.{◌≡◌, ◌⊎◌, Some, IfOk};
+ghost use Rattle.std.specs.Result.{result_err};
+ghost use Rattle.tab_mutation.specs.Shape.{first_some};
 ghost use Rattle.tab_history.specs.Checks.{stamped, outdated, violated, mutation_checks, scan_checks, too_many_auths, shape_refusal, right_checks, version_checks, horizon_checks, many_checks, has_bad_range};
 
 use crate::labels::malformed;
@@ -11,7 +12,7 @@ use tab_key::{
     MAX_RANGES, Name, is_bad_range,
 };
 use tab_label::{AuthSet, KnownLabels};
-use tab_mutation::{Mutation, ShapeError};
+use tab_mutation::{Mutation, ShapeError, Shaped};
 use tab_policy::{Permission, SystemPermission, is_root};
 use tab_rules::{Violation, check};
 use tab_store::Table;
@@ -27,13 +28,13 @@ fn shape_refusal(error: ShapeError) -> Refusal
 
 // The first update with a timestamp, where the table gives them.
 #[tactic(auto, unfolding(tab_history::specs::Checks::stamped), using(tab_mutation::proofs::Shapes::shaped_few))]
-fn stamped(table: &Table, mutation: &Mutation) -> Option<Refusal>
-    requires { shape_error mutation.now ≡ None }
+fn stamped(table: &Table, mutation: &Shaped<'_>) -> Option<Refusal>
     ensures { result ≡ stamped table.now.settings mutation.now }
 {
     if table.time() == TimeMode::Any {
         return None;
     }
+    mutation.keeps();
     for index in 0..mutation.len() {
         if mutation.update(index).timestamp().is_some() {
             return Some(Refusal::TimestampNotAllowed(index as u32));
@@ -44,11 +45,11 @@ fn stamped(table: &Table, mutation: &Mutation) -> Option<Refusal>
 
 // The first update below the table's horizon.
 #[tactic(auto, unfolding(tab_history::specs::Checks::outdated), using(tab_mutation::proofs::Shapes::shaped_few))]
-fn outdated(table: &Table, now: i64, mutation: &Mutation) -> Option<Refusal>
-    requires { shape_error mutation.now ≡ None }
+fn outdated(table: &Table, now: i64, mutation: &Shaped<'_>) -> Option<Refusal>
     ensures { result ≡ outdated table.now.settings now mutation.now }
 {
     let horizon = table.horizon();
+    mutation.keeps();
     for index in 0..mutation.len() {
         if mutation.update(index).timestamp().unwrap_or(now) < horizon {
             return Some(Refusal::BelowHorizon(index as u32));
@@ -67,34 +68,39 @@ fn violated(failing: Items<Violation>) -> Option<Refusal>
     }
 }
 
-/// Why a mutation of this table by a caller with these authorizations is refused, or that memory lacked. Short labels that are found to be
-/// labels are known afterwards.
-pub fn mutation_refusal(
+/// The mutation, lent as one whose shape was accepted, where nothing of this table refuses it of a caller with these authorizations. Short
+/// labels that are found to be labels are known afterwards.
+///
+/// # Errors
+///
+/// Why it is refused, or that memory lacked.
+pub fn checked<'a>(
     alloc: Global,
     table: &Table,
     auths: &AuthSet,
     known: &mut KnownLabels,
     now: i64,
-    mutation: &Mutation,
-) -> Option<Refusal>
-    ensures answers { (result ≡ first_some (mutation_checks (Some table.now.settings) auths.now now mutation.now)) ⊎ (result ≡ Some Refusal.NoMemory) }
-    ensures shape { result ≡ None → shape_error mutation.now ≡ None }
+    mutation: &'a Mutation,
+) -> Result<Shaped<'a>, Refusal>
+    ensures answers { (result_err result ≡ first_some (mutation_checks (Some table.now.settings) auths.now now mutation.now)) ⊎ (result_err result ≡ Some Refusal.NoMemory) }
+    ensures same { IfOk result (λ s. s ≡ mutation.now) }
 {
-    if let Some(error) = mutation.shape() {
-        return Some(shape_refusal(error));
+    let shaped = mutation.shaped().map_err(shape_refusal)?;
+    if let Some(refusal) = malformed(&shaped, auths, known) {
+        return Err(refusal);
     }
-    if let Some(refusal) = malformed(mutation, auths, known) {
-        return Some(refusal);
+    if let Some(refusal) = stamped(table, &shaped) {
+        return Err(refusal);
     }
-    if let Some(refusal) = stamped(table, mutation) {
-        return Some(refusal);
+    if let Some(refusal) = outdated(table, now, &shaped) {
+        return Err(refusal);
     }
-    if let Some(refusal) = outdated(table, now, mutation) {
-        return Some(refusal);
-    }
-    match check(alloc, table.constraints(), mutation, auths) {
-        Ok(failing) => violated(failing),
-        Err(AllocError) => Some(Refusal::NoMemory),
+    match check(alloc, table.constraints(), &shaped, auths) {
+        Ok(failing) => match violated(failing) {
+            Some(refusal) => Err(refusal),
+            None => Ok(shaped),
+        },
+        Err(AllocError) => Err(Refusal::NoMemory),
     }
 }
 

@@ -1,23 +1,22 @@
 //! The labels of a mutation.
-ghost use Rattle.std.specs.Prelude.{◌≡◌, ◌<◌, ◌^◌, None, length};
-ghost use Rattle.tab_mutation.specs.Shape.{shape_error};
+ghost use Rattle.std.specs.Prelude.{◌≡◌, ◌<◌, ◌^◌, length};
 ghost use Rattle.tab_label.specs.Reading.{label_of};
 ghost use Rattle.tab_history.specs.Checks.{malformed_at, malformed};
 
 use tab_history::Refusal;
 use tab_label::{AuthSet, KnownLabels, judge};
-use tab_mutation::{Mutation, UpdateRef};
+use tab_mutation::{Shaped, UpdateRef};
 
 /// The first update whose label is malformed. It takes no memory, and judges a short label that is known no more.
 #[tactic(auto, unfolding(tab_history::specs::Checks::malformed), using(tab_mutation::proofs::Shapes::shaped_few))]
 pub(crate) fn malformed(
-    mutation: &Mutation,
+    mutation: &Shaped<'_>,
     auths: &AuthSet,
     known: &mut KnownLabels,
 ) -> Option<Refusal>
-    requires { shape_error mutation.now ≡ None }
     ensures { result ≡ malformed mutation.now }
 {
+    mutation.keeps();
     for index in 0..mutation.len() {
         let update = mutation.update(index);
         if let Some(refusal) = unknown_malformed_at(&update, index as u32, auths, known) {

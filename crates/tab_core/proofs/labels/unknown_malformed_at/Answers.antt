@@ -1,5 +1,5 @@
 -- A label that is known isn't malformed, and one that isn't malformed is known by its number.
-use Rattle.std.proofs.Common.{◌≡◌, None, rules, sym, ◌∙◌}
+use Rattle.std.proofs.Common.{◌≡◌, None, rules}
 use Rattle.tab_label.specs.Reading.{label_of}
 use Rattle.tab_label.proofs.KnownLabelLemmas.{by_word}
 use Rattle.tab_history.specs.Checks.{malformed_at}
