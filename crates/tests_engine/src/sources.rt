@@ -125,10 +125,10 @@ fn tabled(alloc: Global, run: &Run) -> Result<TableClip, AllocError>
 /// A run of the mutation, whose shape must be accepted.
 #[tactic(auto, using(crate::proofs::Later::nothing_older))]
 pub fn run_of(rt: &impl Abort, alloc: Global, mutation: &Mutation, seq: u8) -> Arc<Run> {
-    assert!(rt; mutation.shape().is_none());
+    let shaped = mutation.shaped().expect(rt, "an accepted shape");
     let mut active = Active::new(alloc);
     active
-        .write(mutation, u64::from(seq), CLOCK)
+        .write(&shaped, u64::from(seq), CLOCK)
         .expect(rt, "memory");
     active.freeze(alloc).expect(rt, "memory")
 }

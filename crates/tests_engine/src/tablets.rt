@@ -25,9 +25,9 @@ fn random_update(random: &mut Random) -> Update {
 // A tablet with this number, of one mutation, whose shape must be accepted.
 #[tactic(auto, using(crate::proofs::Later::nothing_older))]
 fn written(rt: &impl Abort, alloc: Global, number: u64, mutation: &Mutation) -> Tablet {
-    assert!(rt; mutation.shape().is_none());
+    let shaped = mutation.shaped().expect(rt, "an accepted shape");
     let mut tablet = Tablet::new(alloc, number);
-    tablet.write(mutation, 0, CLOCK).expect(rt, "memory");
+    tablet.write(&shaped, 0, CLOCK).expect(rt, "memory");
     tablet
 }
 

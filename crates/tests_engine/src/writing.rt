@@ -52,8 +52,8 @@ impl Writer {
     pub fn write(&mut self, rt: &impl Abort, mutation: &Mutation, seq: u64) {
         assert!(rt; seq >= self.next);
         assert!(rt; seq < u64::MAX);
-        assert!(rt; mutation.shape().is_none());
-        self.active.write(mutation, seq, CLOCK).expect(rt, "memory");
+        let shaped = mutation.shaped().expect(rt, "an accepted shape");
+        self.active.write(&shaped, seq, CLOCK).expect(rt, "memory");
         self.next = seq + 1;
     }
 

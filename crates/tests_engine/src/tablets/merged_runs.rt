@@ -43,10 +43,10 @@ impl Numbered {
 
     // Writes the mutation, whose shape must be accepted, with the next number.
     fn write(&mut self, rt: &impl Abort, mutation: &Mutation) {
-        assert!(rt; mutation.shape().is_none());
+        let shaped = mutation.shaped().expect(rt, "an accepted shape");
         assert!(rt; self.next < u64::MAX);
         self.tablet
-            .write(mutation, self.next, CLOCK)
+            .write(&shaped, self.next, CLOCK)
             .expect(rt, "memory");
         self.next += 1;
     }
