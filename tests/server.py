@@ -114,6 +114,25 @@ def frames():
             count("and ends the connection", stream.recv(1) == b"")
 
 
+def bytes_behind_the_end():
+    """What was told before what is no frame arrives, whatever a client still sends."""
+    with Server() as server:
+        lines = b"".join(b"insert t r%d f q \\e %s 1\n" % (number, 500_000 * b"v") for number in range(4))
+        server.shell(b"createtable t\n" + lines)
+        with server.connect() as stream:
+            stream.sendall(HELLO + open_range(b"t"))
+            opened = [read_frame(stream) for _ in range(2)]
+            stream.sendall(frame(b"\x0c" + struct.pack(">II", 0, 100)) + bytes(4) + 300_000 * b"x")
+            stream.shutdown(socket.SHUT_WR)
+            time.sleep(0.5)
+            try:
+                told = [read_frame(stream) for _ in range(6)]
+            except OSError as error:
+                told = [repr(error).encode()]
+            count("all that was told before what is no frame arrives", opened[0] == OK and [len(it) > 500_000 for it in told] == 4 * [True] + 2 * [False]
+                  and told[5] == frame(b"\x81\x10\x01"), [it[:40] for it in told])
+
+
 def moments():
     """The timestamp of a write without one is the machine's clock, in milliseconds."""
     with Server("--compactors", "0") as server:
@@ -485,5 +504,5 @@ def goes_away():
                   (process.returncode, out, err))
 
 
-run_parts(refused_command_lines, statuses, watched_shells, this_machine_alone, frames, moments, side_by_side, stuck_peers, own_write_is_read,
+run_parts(refused_command_lines, statuses, watched_shells, this_machine_alone, frames, bytes_behind_the_end, moments, side_by_side, stuck_peers, own_write_is_read,
           compacted_beside, shell_over_loopback, shells, each_reply, scans_close_sessions)

@@ -10,7 +10,7 @@
 //! | `keeper` | who has the store make images |
 //! | `connections` | all connections, which can be ended at once |
 //! | `tally`, `counters`, `refused`, `watch` | what is counted of connections as they are served |
-//! | `waiting` | whether a connection's peer was waited for too long |
+//! | `waiting`, `lingering` | whether a connection's peer was waited for too long, and what it sends behind its last frame |
 //! | `connection`, `figures`, `reporting` | a connection in a line, what a server tells of itself, and who reports it |
 //! | `accepting`, `threads`, `workers`, `server` | who accepts, who is at work, the threads, and how a server begins and ends |
 #![tactic(auto)]
@@ -26,6 +26,7 @@ mod history;
 mod idle;
 mod inbox;
 mod keeper;
+mod lingering;
 mod log;
 mod lull;
 mod recorder;

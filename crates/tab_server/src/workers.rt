@@ -2,12 +2,13 @@
 
 use crate::accepting::accept_all;
 use crate::clock::WallClock;
-use crate::connection::Peer;
+use crate::connection::{Ending, Peer};
 use crate::connections::Connections;
 use crate::counters::Counters;
 use crate::idle::Idler;
 use crate::inbox::{Inbox, Woken};
 use crate::keeper::keep_images;
+use crate::lingering::linger;
 use crate::log::Log;
 use crate::recorder::Recorder;
 use crate::settled::{Marking, Settled};
@@ -183,7 +184,11 @@ fn serve_stream<L: Ledger, R: Threads + Wait + Clock + Sync, S: Stream, H: Histo
     let is_late = Cell::new(false);
     let watch = Watch::new(context.rt, requests, tally, &is_late);
     let served = converse_over(context, seat, stream, &is_late, &watch);
-    context.history.end(&watch.end(peer, served));
+    let ended = watch.end(peer, served);
+    context.history.end(&ended);
+    if let Ending::Frame(_) = ended.ending {
+        linger(stream);
+    }
 }
 
 // Answers what the stream asks, to its end or its first fault. The cell is set where that is a read or a write that has waited too long.
