@@ -82,6 +82,13 @@ answers 'a horizon is kept, which a marker went by' 'delete t r f q \\e 5\nhoriz
 rm first.empty second.one second.empty x
 answers 'a loaded core shows what was saved' 'load one\nscan t \\0\nload new\nscan t \\0\n' 'ok\nr f q \\e 5 v\nend\nok\nrefused 2 NoTable t\n'
 answers 'the image of the command line' 'scan t \\0\n' 'r f q \\e 5 v\nend\n' --image one
+cp one ./-odd
+answers 'an image whose name begins with -' 'scan t \\0\n' 'r f q \\e 5 v\nend\n' --image -odd
+rm ./-odd
+longest=$(printf 'n%.0s' $(seq 255))
+cp one "$longest"
+answers 'an image of the longest name' 'scan t \\0\n' 'r f q \\e 5 v\nend\n' --image "$longest"
+rm "$longest"
 answers 'the image of the command line, explained' 'scan t \\0\n' 'r f q \\e 5 v\nend\n' --explain --image one
 answers 'sessions begin anew' 'open t \\0\nopen t \\0\nload one\nnext 0 1\nopen t \\0\nnext 0 9\n' 'session 0\nsession 1\nok\nrefused 15 NoSession 0\nsession 0\nr f q \\e 5 v\nend\n' --image one
 answers 'jobs begin anew' 'begin t r full\nbegin t r full\nmerge 1\nload one\nmerge 0\ninstall t 1\nbegin t r full\ninstall t 1\nmerge 0\ninstall t 0\n' 'job 0\njob 1\nok\nok\nrefused 15 NoSession 0\nrefused 15 NoSession 1\njob 0\nrefused 15 NoSession 1\nok\nok\n' --image one

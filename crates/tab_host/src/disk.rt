@@ -178,7 +178,7 @@ fn place(
 // Writes the image of the core, down to the disk, and tells its checksum.
 fn write(alloc: Global, file: &File, core: &Core) -> Result<Sum, NotSaved> {
     let mut stream = Summing::new(Noting::new(file));
-    match put(alloc, &mut stream, core) {
+    match put_image(alloc, &mut stream, core) {
         Ok(()) => {}
         Err(SaveFault::NoMemory) => return Err(NotSaved::NoMemory),
         Err(SaveFault::Write) => return Err(refused(stream.get_ref().failure())),
@@ -187,8 +187,8 @@ fn write(alloc: Global, file: &File, core: &Core) -> Result<Sum, NotSaved> {
     Ok(stream.into_sum())
 }
 
-// Writes the image of the core.
-fn put<W: Write + Drop>(alloc: Global, stream: W, core: &Core) -> Result<(), SaveFault> {
+/// Writes the image of the core to this stream. After an error a part of it is written.
+pub fn put_image<W: Write + Drop>(alloc: Global, stream: W, core: &Core) -> Result<(), SaveFault> {
     let Ok(mut output) = BlockWriter::new(alloc, stream) else {
         return Err(SaveFault::NoMemory);
     };

@@ -23,7 +23,7 @@ mod progress;
 mod sums;
 mod unfinished_files;
 
-pub use disk::{NotLoaded, NotSaved, load, may_be_given, save};
+pub use disk::{NotLoaded, NotSaved, load, may_be_given, put_image, save};
 pub use first_wait::FirstWait;
 pub use looking::{Looked, look, look_at};
 pub use net_fault::NetFault;

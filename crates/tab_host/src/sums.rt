@@ -106,7 +106,14 @@ pub(crate) fn compare(rt: &HostRuntime, name: &str, file: &File) -> Result<(), N
     let beside = name_of_sum(rt.alloc(), name)?;
     let line = match fs::read(rt, beside.as_str()) {
         Ok(line) => line,
-        Err(error) if error.kind() == ErrorKind::NotFound => return Ok(()),
+        // (where the name is as long as one may be, nothing can stand beside it)
+        Err(error)
+            if matches!(
+                error.kind(),
+                ErrorKind::NotFound | ErrorKind::InvalidFilename
+            ) => {
+            return Ok(());
+        }
         Err(error) if error.kind() == ErrorKind::OutOfMemory => return Err(NotLoaded::NoMemory),
         Err(error) => return Err(NotLoaded::NoSum(error)),
     };
