@@ -388,10 +388,10 @@ def intervals():
     count("all is there behind its end", rows_of_server()[0] == ASKED)
 
 
-def limited():
-    """No file may grow beyond some bytes."""
+def limited(most=60_000):
+    """No file may grow beyond so many bytes."""
     signal.signal(signal.SIGXFSZ, signal.SIG_IGN)
-    resource.setrlimit(resource.RLIMIT_FSIZE, (60_000, 60_000))
+    resource.setrlimit(resource.RLIMIT_FSIZE, (most, most))
 
 
 def full_disk():
@@ -416,6 +416,11 @@ def full_disk():
         idle.settimeout(PATIENCE)
         count("and each connection", read_exactly(idle, 1) == b"")
         idle.close()
+    before = sorted(os.listdir(STORE))
+    for _ in range(2):
+        done = subprocess.run([PROGRAM, "script", "--store", STORE], stdin=subprocess.DEVNULL, capture_output=True, text=True, preexec_fn=lambda: limited(5_000))
+        count("a start says why it can't write its image", (done.returncode, done.stderr) == (1, f"fault: {STORE}: the image can't be written: File too large (os error 27)\n"), done)
+        count("and leaves no part of it", sorted(os.listdir(STORE)) == before, os.listdir(STORE))
     found, _ = rows_of_server()
     count("what was answered is kept", found is not None and found == ["w%05d" % number for number in range(len(found))] and answered <= len(found) <= answered + 1 and answered > 100, (answered, found and len(found)))
 

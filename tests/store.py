@@ -195,6 +195,7 @@ def plain():
     count("a script that ends keeps what it did", (out, status, told) == ("ok\nok\nok\n", 0, "") and rows()[0] == ["r00"])
     count("no more than an image and a lock is left", sorted(name.split(".")[0] for name in os.listdir(store)) == ["image", "lock"])
     count("the folder is its owner's alone", os.stat(store).st_mode & 0o077 == 0)
+    saved_image = f"{store}/{next(name for name in os.listdir(store) if name.startswith('image.'))}"
     out, status, told = run("", "--image", f"{store}/lock")
     count("an image is for an empty folder", status == 1 and "keeps something already" in told)
     for words in (["script"], ["serve", "--port", "1"]):
@@ -204,6 +205,22 @@ def plain():
                 done = subprocess.run([program, *words, "--store", place, "--image", image], stdin=subprocess.DEVNULL, capture_output=True, text=True)
                 count(f"{words[0]}: an image that can't be loaded is told", (done.returncode, done.stdout, done.stderr) == (1, "", f"fault: {image}: {why}\n"))
                 count("and nothing is left", not os.path.lexists(f"{work}/unmade") and os.listdir(f"{work}/empty") == [])
+    for name in "journal.7", "loaded.7.0":
+        lone = f"{work}/lone"
+        os.mkdir(lone)
+        with open(f"{lone}/{name}", "w") as file:
+            file.write("kept")
+        for words in (["script"], ["serve", "--port", "1"], ["script", "--image", saved_image]):
+            done = subprocess.run([program, *words, "--store", lone], stdin=subprocess.DEVNULL, capture_output=True, text=True)
+            told = f"fault: {lone}: there is no image in it, but what goes with image.7\n"
+            count(f"{words}: a folder that has lost its image is refused", (done.returncode, done.stdout, done.stderr) == (1, "", told))
+            with open(f"{lone}/{name}") as file:
+                count("and keeps the rest", file.read() == "kept" and sorted(os.listdir(lone)) == sorted([name, "lock"]))
+        shutil.rmtree(lone)
+    os.mkdir(lone)
+    open(f"{lone}/image.0.part", "w").close()
+    done = subprocess.run([program, "script", "--store", lone], input="createtable t\n", capture_output=True, text=True)
+    count("a part of the first image is none", (done.returncode, done.stdout, done.stderr) == (0, "ok\n", "") and not os.path.lexists(f"{lone}/image.0.part"))
     open(f"{store}/image.99", "w").close()
     out, status, told = run("")
     count("a bad image is told by its name", status == 1 and told == f"fault: {store}: image.99: this is no image\n")

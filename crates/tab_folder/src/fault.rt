@@ -3,7 +3,6 @@ use std::alloc::AllocError;
 use std::io::{Error, ErrorKind};
 use tab_journal::{DeviceError, WriteError};
 use tab_loading::LoadFault;
-use tab_saving::SaveFault;
 
 /// Why a folder can't be taken up, or nothing is kept in it. What it had before, it has still.
 #[derive(Clone, Copy, Debug, thiserror::Error)]
@@ -14,6 +13,9 @@ pub enum FolderFault {
     /// There is no image in it.
     #[error("there is no image in it")]
     Empty,
+    /// There is no image in it, but what goes with the one of this number.
+    #[error("there is no image in it, but what goes with image.{0}")]
+    NoImage(u64),
     /// There was no memory.
     #[error("there is no memory")]
     NoMemory,
@@ -29,9 +31,9 @@ pub enum FolderFault {
     /// The journal of this number ends in bytes that are no whole batch, though it was whole on the disk when the next one was begun.
     #[error("journal.{0} is cut, and isn't the last one")]
     Torn(u64),
-    /// The next image isn't written.
-    #[error("the image can't be written")]
-    Write,
+    /// The next image isn't written, for this reason.
+    #[error("the image can't be written: {0}")]
+    Write(Error),
     /// There is an image of the greatest number.
     #[error("there is no greater number for an image")]
     Full,
@@ -49,15 +51,6 @@ impl From<AllocError> for FolderFault {
 impl From<Error> for FolderFault {
     fn from(error: Error) -> FolderFault {
         FolderFault::Refused(error)
-    }
-}
-
-impl From<SaveFault> for FolderFault {
-    fn from(fault: SaveFault) -> FolderFault {
-        match fault {
-            SaveFault::Write => FolderFault::Write,
-            SaveFault::NoMemory => FolderFault::NoMemory,
-        }
     }
 }
 

@@ -5,15 +5,17 @@ use crate::names::{FileKind, PART, image_path, journal_path, kind_of, loaded_pat
 use crate::taking_up::{FILE_MODE, emptied, has_header, taken_up};
 use crate::{FolderFault, Left};
 use std::fs::{DirBuilder, File, OpenOptions, TryLockError};
-use std::io::{ErrorKind, Read};
+use std::io::{Error, ErrorKind, Read};
 use std::ops::Range;
 use std::os::unix::fs::{DirBuilderExt, OpenOptionsExt};
 use std::path::Path;
 use std::random::RandomSource;
 use std::{fs, io};
 use tab_core::Core;
-use tab_io::{BlockReader, BlockWriter, Output};
+use tab_host::{Noting, put_image};
+use tab_io::BlockReader;
 use tab_journal::{Format, Header};
+use tab_saving::SaveFault;
 
 // Who may use the folder: whoever runs the program.
 const FOLDER_MODE: u32 = 0o700;
@@ -31,24 +33,28 @@ pub struct Folder<'a> {
 }
 
 impl<'a> Folder<'a> {
-    /// Takes the folder of this path up, which is made where it isn't there, for its owner alone.
+    /// Takes the folder of this path up, which is made where it isn't there, for its owner alone. One that has no image, but what goes with one, is
+    /// damaged, since an image always stands before its journal: it is refused, and stays as it is.
     pub fn open(rt: &'a HostRuntime, path: &'a str) -> Result<Folder<'a>, FolderFault> {
         make(rt, path)?;
         let lock = locked(rt, path)?;
-        let (newest, last) = numbers(rt, path)?;
+        let numbers = numbers(rt, path)?;
+        if let (None, Some(number)) = (numbers.newest, numbers.with) {
+            return Err(FolderFault::NoImage(number));
+        }
         Ok(Folder {
             rt,
             path,
             _lock: lock,
-            newest,
-            last,
+            newest: numbers.newest,
+            last: numbers.last,
         })
     }
 
     /// Whether there is an image in the folder of this path, as far as the system tells. Nothing is made.
     pub fn keeps_image(rt: &HostRuntime, path: &str) -> bool {
         match numbers(rt, path) {
-            Ok((newest, _)) => newest.is_some(),
+            Ok(numbers) => numbers.newest.is_some(),
             Err(_) => false,
         }
     }
@@ -181,10 +187,13 @@ impl<'a> Folder<'a> {
         }
     }
 
-    // Writes the image of the core under this name, down to the disk.
+    // Writes the image of the core under this name, down to the disk. Where that fails nothing of it is left, so that it takes no room.
     fn write(&self, name: &str, core: &Core) -> Result<(), FolderFault> {
         let part = format!(in self.rt.alloc(); "{name}{PART}")?;
-        write(self.rt, part.as_str(), core)?;
+        if let Err(fault) = write(self.rt, part.as_str(), core) {
+            let _ = fs::remove_file(self.rt, part.as_str());
+            return Err(fault);
+        }
         fs::rename(self.rt, part.as_str(), name)?;
         sync_folder(self.rt, self.path)
     }
@@ -255,24 +264,31 @@ fn locked(rt: &HostRuntime, path: &str) -> Result<File, FolderFault> {
     }
 }
 
-// The greatest number of an image in the folder, and of whatever has one.
-pub(crate) fn numbers(
-    rt: &HostRuntime,
-    path: &str,
-) -> Result<(Option<u64>, Option<u64>), FolderFault> {
-    let (mut newest, mut last) = (None, None);
+/// The greatest numbers of the files in a folder.
+#[derive(Clone, Copy)]
+pub(crate) struct FileNumbers {
+    /// Of an image.
+    pub(crate) newest: Option<u64>,
+    /// Of what goes with an image.
+    pub(crate) with: Option<u64>,
+    /// Of whatever has one.
+    pub(crate) last: Option<u64>,
+}
+
+/// The greatest numbers of the files in the folder of this path.
+pub(crate) fn numbers(rt: &HostRuntime, path: &str) -> Result<FileNumbers, FolderFault> {
+    let (mut newest, mut with, mut parts) = (None, None, None);
     for entry in fs::read_dir(rt, path)? {
         let entry = entry?;
         match kind_of(entry.file_name()) {
-            FileKind::Image(number) => {
-                newest = newest.max(Some(number));
-                last = last.max(Some(number));
-            }
-            FileKind::With(number) => last = last.max(Some(number)),
+            FileKind::Image(number) => newest = newest.max(Some(number)),
+            FileKind::With(number) => with = with.max(Some(number)),
+            FileKind::Part(number) => parts = parts.max(Some(number)),
             FileKind::Other => {}
         }
     }
-    Ok((newest, last))
+    let last = newest.max(with).max(parts);
+    Ok(FileNumbers { newest, with, last })
 }
 
 // An empty file of this name, for its owner alone.
@@ -288,12 +304,18 @@ fn created(rt: &HostRuntime, name: &str) -> Result<File, FolderFault> {
 
 // Writes the image of the core, down to the disk, in the place of what was left of one that was cut off.
 fn write(rt: &HostRuntime, part: &str, core: &Core) -> Result<(), FolderFault> {
-    let mut output = BlockWriter::new(rt.alloc(), created(rt, part)?)?;
-    tab_saving::save(rt.alloc(), &mut output, core)?;
-    if output.flush().is_err() {
-        return Err(FolderFault::Write);
+    let file = created(rt, part)?;
+    let mut stream = Noting::new(&file);
+    match put_image(rt.alloc(), &mut stream, core) {
+        Ok(()) => Ok(file.sync_all()?),
+        Err(SaveFault::NoMemory) => Err(FolderFault::NoMemory),
+        Err(SaveFault::Write) => Err(unwritten(stream.failure())),
     }
-    Ok(output.get_ref().sync_all()?)
+}
+
+// An image that isn't written for this reason, if one is known.
+fn unwritten(reason: Option<Error>) -> FolderFault {
+    FolderFault::Write(reason.unwrap_or(Error::from(ErrorKind::Other)))
 }
 
 fn sync_folder(rt: &HostRuntime, path: &str) -> Result<(), FolderFault> {
@@ -319,7 +341,8 @@ fn sweep(rt: &HostRuntime, path: &str, number: u64) {
             return;
         };
         match kind_of(entry.file_name()) {
-            FileKind::Image(older) | FileKind::With(older) if older < number => {
+            FileKind::Image(older) | FileKind::With(older) | FileKind::Part(older)
+                if older < number => {
                 let _ = fs::remove_file(rt, entry.path());
             }
             _ => {}

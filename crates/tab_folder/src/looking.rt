@@ -21,7 +21,8 @@ impl<'a> Look<'a> {
     /// Looks into the folder of this path, which no process may have taken up. Nothing in it is changed or made.
     pub fn open(rt: &'a HostRuntime, path: &'a str) -> Result<Look<'a>, FolderFault> {
         let lock = held(rt, path)?;
-        match numbers(rt, path)? {
+        let numbers = numbers(rt, path)?;
+        match (numbers.newest, numbers.last) {
             (Some(newest), Some(last)) => Ok(Look {
                 rt,
                 path,

@@ -9,8 +9,10 @@ pub const PART: &str = ".part";
 pub enum FileKind {
     /// An image, which is whole.
     Image(u64),
-    /// What goes with an image: its journal, an image that was loaded since, or a part of one.
+    /// What goes with an image: its journal, or an image that was loaded since.
     With(u64),
+    /// A part of an image, or of one that was loaded since.
+    Part(u64),
     /// Something else.
     Other,
 }
@@ -20,21 +22,19 @@ pub fn kind_of(name: &str) -> FileKind {
     if let Some(number) = number_behind(name, "image.") {
         return FileKind::Image(number);
     }
-    match goes_with(name) {
-        Some(number) => FileKind::With(number),
+    if let Some(number) = number_behind(name, "journal.").or(loaded_behind(name)) {
+        return FileKind::With(number);
+    }
+    match part_of(name) {
+        Some(number) => FileKind::Part(number),
         None => FileKind::Other,
     }
 }
 
-// The number of the image that the file of this name goes with.
-fn goes_with(name: &str) -> Option<u64> {
-    if let Some(number) = number_behind(name, "journal.") {
-        return Some(number);
-    }
-    if let Some(whole) = name.strip_suffix(PART) {
-        return number_behind(whole, "image.").or(loaded_behind(whole));
-    }
-    loaded_behind(name)
+// The number of the image of which, or of what goes with which, the file of this name has a part.
+fn part_of(name: &str) -> Option<u64> {
+    let whole = name.strip_suffix(PART)?;
+    number_behind(whole, "image.").or(loaded_behind(whole))
 }
 
 // The number in the name of an image that was loaded since.
