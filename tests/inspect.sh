@@ -135,9 +135,13 @@ wait "$script" 2>/dev/null
 "$program" inspect kept >out 2>err
 [ "$?" -eq 0 ] && grep -qx 'journal lines 1 bytes 22 cut 0' out && grep -q '^file kept/image\.' out
 count "what a journal holds beyond" $?
-"$program" export kept >lines 2>err
-[ "$?,$(cat err)" = "0,note: kept: its journal holds more than this image: \`tabd inspect\` says how much" ] && "$program" export x.image | cmp -s - lines
-count "what a journal holds beyond is told, and isn't exported" $?
+for flag in '' --accumulo; do
+    "$program" export $flag kept >lines 2>err
+    [ "$?,$(cat err)" = "1,fault: kept: its journal holds more than its image: \`tabd script --store FOLDER </dev/null\` makes one of both" ] && [ ! -s lines ]
+    count "a folder whose journal holds more isn't exported $flag" $?
+done
+cp -r kept both && "$program" script --store both </dev/null 2>err && "$program" export both >lines && grep -q '^mutate t z put f q ' lines
+count "it is, once a script has made one image of both" $?
 rm kept/lock
 "$program" inspect kept >out 2>err && [ ! -e kept/lock ]
 count "a copy without a lock gets none" $?

@@ -1,5 +1,4 @@
 //! `tabd inspect` and `tabd export`.
-use crate::escaped::Escaped;
 use anyhow::Context;
 use std::fs;
 use std::fs::File;
@@ -25,6 +24,13 @@ pub enum Form {
     Accumulo,
 }
 
+// Why what a folder keeps isn't written as lines.
+#[derive(Clone, Copy, Debug, thiserror::Error)]
+enum ExportFault {
+    #[error("its journal holds more than its image: `tabd script --store FOLDER </dev/null` makes one of both")]
+    Journal,
+}
+
 // What an image says, which file it stands in, what stands in the journal behind it, where there may be one, and how many journals follow.
 #[derive(Drop)]
 struct Seen {
@@ -41,8 +47,8 @@ pub fn run_look(rt: &HostRuntime, path: &str, form: Form, asked: bool) -> anyhow
     let outcome = seen_at(rt, path, &reading);
     reading.end();
     let seen = outcome.with_context(|| path)?;
-    if form != Form::Facts {
-        note_left(rt, path, &seen);
+    if form != Form::Facts && holds_more(&seen) {
+        return Err(ExportFault::Journal).with_context(|| path);
     }
     let mut stream = Noting::new(rt.stdout());
     let writing = Progress::new(rt, asked && !rt.stdout().is_terminal());
@@ -99,16 +105,11 @@ fn seen_in(rt: &HostRuntime, path: &str, progress: &Progress<'_>) -> anyhow::Res
     })
 }
 
-// Says on standard error what isn't written: what a journal holds beyond the image.
-fn note_left(rt: &HostRuntime, path: &str, seen: &Seen) {
-    let Some(left) = &seen.left else {
-        return;
-    };
-    if !left.text.is_empty() || seen.later > 0 {
-        let _ = eprintln!(rt;
-            "note: {}: its journal holds more than this image: `tabd inspect` says how much",
-            Escaped(&path)
-        );
+// Whether a journal holds anything beyond the image.
+fn holds_more(seen: &Seen) -> bool {
+    match &seen.left {
+        Some(left) => !left.text.is_empty() || seen.later > 0,
+        None => false,
     }
 }
 
