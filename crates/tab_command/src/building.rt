@@ -8,7 +8,7 @@ use std::fmt::{Display, Formatter};
 use tab_help::{Asks, forms};
 
 /// The version that `tabd --version` tells.
-const VERSION: &str = "0.17.6";
+const VERSION: &str = "0.17.7";
 
 /// What help says of lines: the texts of `tab_help`.
 #[derive(Drop)]
@@ -126,6 +126,7 @@ fn image<'a>(alloc: Global) -> Arg<'a> {
         .long("image")
         .value_name("FILE")
         .action(ArgAction::Set)
+        .allow_hyphen_values(true)
         .help("Begins with what this image holds, and not with nothing")
 }
 
@@ -337,6 +338,7 @@ fn shell_command<'a>(alloc: Global, lines: &'a LineHelp) -> Result<Command<'a>, 
         .long("user")
         .value_name("U")
         .action(ArgAction::Set)
+        .allow_hyphen_values(true)
         .required(true)
         .help("Who asks");
     let shell = Command::new(alloc, "shell")
