@@ -116,6 +116,12 @@ for words in --help --version 'script --help' nonsense 'script nonsense' serve '
     [ "$builds" -eq 0 ] && [ "$status" -ne 1 ]
     count "\`$words\` is answered without a build" $?
 done
+for words in 'serve --socket s' 'shell --socket s --user u' 'shell --user u --port 1'; do
+    # shellcheck disable=SC2086
+    STAND_IN=fails start $words
+    [ "$builds" -eq 1 ] && [ "$status" -eq 1 ]
+    count "\`$words\` is answered by no program of other sources" $?
+done
 start one 'two words'
 ran built && [ "$builds" -eq 1 ]
 count 'what failed is built at the next start' $?
@@ -184,6 +190,9 @@ if command -v python3 >/dev/null; then
     mv "$bin/wrap" "$bin/rlwrap"
     typed && grep -q '^edited: -C tabd' "$work/out"
     count 'rlwrap stands between them' $?
+    (cd "$caller" && PATH=$bin:$PATH python3 -c 'import pty, sys; pty.spawn(sys.argv[1:])' "$here/tabd" inspect -- -odd </dev/null) >"$work/out" 2>"$work/err"
+    grep -q '^built with inspect --progress -- -odd' "$work/out"
+    count 'behind -- stands what stood there' $?
     rm -rf "$bin/rlwrap" "$here/crates/tabd/out"
 fi
 
