@@ -63,7 +63,7 @@ from .errors import (
 )
 from .session import Session
 
-__version__ = "0.17.6"
+__version__ = "0.17.7"
 """The version of the program that it was released with."""
 
 __all__ = [

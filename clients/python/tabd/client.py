@@ -4,6 +4,7 @@ from __future__ import annotations
 import socket
 from contextlib import contextmanager
 from io import BufferedReader, BufferedWriter
+from os import PathLike, fspath
 from types import TracebackType
 from typing import Any, BinaryIO, Callable, Dict, Iterable, Iterator, List, Literal, Optional, Type, TypeVar, Union, overload
 
@@ -20,18 +21,20 @@ R = TypeVar("R", bound=Reply)
 BUFFER = 1 << 16
 TIMEOUT = 60.0
 """Seconds that a client waits for its server, unless told otherwise."""
+MAX_TIMEOUT = 1_000_000_000
+"""More seconds than that no socket takes."""
 
 
-def connect(port: Union[int, str], user: Text, host: str = "127.0.0.1", timeout: Optional[float] = TIMEOUT) -> Client:
+def connect(port: Union[int, str, PathLike[str]], user: Text, host: str = "127.0.0.1", timeout: Optional[float] = TIMEOUT) -> Client:
     """A client of the server on this port, or at the socket file of this path, or an OSError.
 
     Where the server lets it wait for longer than the timeout (seconds; None is no bound), TimedOut closes the client. A first scan behind
     millions of writes and a full compaction can take seconds.
     """
-    if timeout is not None and not timeout > 0:
-        raise ValueError(f"timeout: {timeout} isn't above 0")
+    if timeout is not None and not 0 < timeout <= MAX_TIMEOUT:
+        raise ValueError(f"timeout: {timeout} isn't above 0 and at most {MAX_TIMEOUT}; None is no bound")
     checks.name(user, "user")
-    with _at_file(port, timeout) if isinstance(port, str) else _at_port(port, host, timeout) as link:
+    with _at_file(fspath(port), timeout) if isinstance(port, (str, PathLike)) else _at_port(port, host, timeout) as link:
         reader, writer = BufferedReader(link.makefile("rb", 0), BUFFER), BufferedWriter(link.makefile("wb", 0), BUFFER)
         # the two streams keep the socket open
         return Client(reader, writer, user, break_off=lambda: link.shutdown(socket.SHUT_RDWR))
@@ -47,7 +50,11 @@ def _at_file(path: str, timeout: Optional[float]) -> socket.socket:
     link = socket.socket(socket.AF_UNIX)
     try:
         link.settimeout(timeout)
-        link.connect(path)
+        try:
+            link.connect(path)
+        except FileNotFoundError as error:
+            # (the system doesn't say which)
+            raise FileNotFoundError(error.errno, error.strerror, path) from error
     except BaseException:
         link.close()
         raise

@@ -141,6 +141,6 @@ class Timeouts(unittest.TestCase):
         self.assertEqual(tabd.TIMEOUT, 60)
 
     def test_what_is_no_timeout(self) -> None:
-        for timeout in (0, -1, float("nan")):
+        for timeout in (0, -1, float("nan"), float("inf"), 1e20):
             with self.assertRaises(ValueError):
                 tabd.connect(1, "root", timeout=timeout)

@@ -36,6 +36,24 @@ class Sessions(Case):
             self.assertEqual(session.fetch(4), ([], False))
             self.assertEqual(len(session.ranges([Range()])[0]), 4)
 
+    def test_an_iteration_goes_on(self) -> None:
+        with self.root.scan("t", batch=3) as session:
+            self.assertEqual(next(iter(session)).row, b"a")
+            self.assertEqual(([found.row for found in session.fetch(1)[0]], session.fetch(0)), ([b"b"], ([], True)))
+            self.assertEqual([found.row for found in session], [b"c", b"d"])
+        with self.root.scan("t", batch=4) as session:
+            self.assertEqual(next(iter(session)).row, b"a")
+            found, more = session.fetch(9)
+            self.assertEqual(([cell.row for cell in found], more), ([b"b", b"c", b"d"], False))
+        session = self.root.scan("t", batch=2)
+        cells = iter(session)
+        next(cells)
+        session.close()
+        self.assertEqual(list(session), [])
+        self.assertRaises(tabd.NoSession, session.fetch, 1)
+        # an iteration that was under way says that it isn't the end
+        self.assertRaises(tabd.NoSession, list, cells)
+
     def test_it_closes_behind_the_last_cell(self) -> None:
         session = self.root.scan("t", batch=3)
         self.assertEqual((session.number, len(list(session))), (0, 4))

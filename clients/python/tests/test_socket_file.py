@@ -2,6 +2,7 @@
 import subprocess
 import tempfile
 import unittest
+from pathlib import Path
 
 from running import MIB, PROGRAM, ServerCase, tabd
 from tabd import Put
@@ -23,12 +24,14 @@ class SocketFile(unittest.TestCase):
     def test_a_client_at_a_file(self) -> None:
         self.serve()
         value = bytes(range(256)) * (MIB // 256)
-        with tabd.connect(self.path, "root") as root, tabd.connect(self.path, "root", timeout=None) as other:
+        with tabd.connect(Path(self.path), "root") as root, tabd.connect(self.path, "root", timeout=None) as other:
             root.create_table("t")
             root.write("t", "r", [Put("f", "q", value=value)])
             self.assertEqual([found.value for found in other.scan("t")], [value])
         self.assertEqual(self.server.wait(timeout=60), 0)
-        self.assertRaises(FileNotFoundError, tabd.connect, self.path, "root")
+        with self.assertRaises(FileNotFoundError) as caught:
+            tabd.connect(self.path, "root")
+        self.assertEqual(caught.exception.filename, self.path)
 
     def test_many_closes_at_once(self) -> None:
         self.serve()
