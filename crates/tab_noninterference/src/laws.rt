@@ -6,7 +6,7 @@ pub fn noninterference()
     ensures { Noninterference }
 {}
 
-/// The same from any sound base, as what a core holds is.
+/// Noninterference from any sound base, as what a core holds is.
 pub fn noninterference_from_a_base()
     ensures { NoninterferenceFromABase }
 {}

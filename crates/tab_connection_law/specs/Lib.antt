@@ -1,0 +1,2 @@
+pub mod SameReplies
+pub mod Examples

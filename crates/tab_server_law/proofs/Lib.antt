@@ -1,0 +1,9 @@
+pub mod ReplayAlone
+pub mod OwnStep
+pub mod EqualEvents
+pub mod Sound
+pub mod Same
+pub mod TwoBases
+pub mod LastAlike
+pub mod Playing
+pub mod Uses

@@ -1,0 +1,2 @@
+pub mod ServerNoninterference
+pub mod Examples
