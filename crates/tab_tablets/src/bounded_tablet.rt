@@ -92,7 +92,7 @@ impl BoundedTablet {
         &self.tablet
     }
 
-    /// The same tablet up to the same end row once more, as `Tablet::copied` has it.
+    /// A copy of the tablet up to its end row, as `Tablet::copied` has it.
     ///
     /// It takes memory as that does, for its place and for the end row. `AllocError` says that it lacked.
     pub(crate) fn copied(&self, alloc: Global) -> Result<BoundedTablet, AllocError>

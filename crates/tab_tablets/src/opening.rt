@@ -41,7 +41,7 @@ impl Tablets {
         self.open_all(alloc, bounds)
     }
 
-    // The same, where several tablets were written to, or none: a new one is made for each that was.
+    // `open` where several tablets were written to, or none: a new one is made for each that was.
     fn open_all(&mut self, alloc: Global, bounds: &Bounds) -> Result<Version, AllocError>
         requires { LieApart self.old }
         ensures ok { OnOk result (self.new ≡ map frozen self.old) }
@@ -65,7 +65,7 @@ impl Tablets {
         Ok(Version::of(clips))
     }
 
-    // The same, where the tablet at this place was written to and no other one was: it is frozen in its place.
+    // `open` where the tablet at this place was written to and no other one was: it is frozen in its place.
     fn open_one(
         &mut self,
         alloc: Global,
@@ -142,7 +142,7 @@ fn add_clips_at(
     push_clips_at(alloc, tablet_list, bounds, place, clips, made)
 }
 
-// The same, of one that may hold something.
+// `add_clips_at` of a tablet that may hold something.
 #[inline(never)]
 fn push_clips_at(
     alloc: Global,
@@ -172,7 +172,8 @@ fn holds_nothing(tablet: &Tablet) -> bool
     tablet.count_sources() == 0
 }
 
-// What a scan reads of them once the one at a place is frozen, for which that was prepared. Nothing was written to another one.
+// What a scan reads of them once the one at a place is frozen, for which that was prepared, but for those that hold nothing. Nothing was
+// written to another one.
 fn clips_with(
     alloc: Global,
     tablet_list: &TabletList,
@@ -186,13 +187,43 @@ fn clips_with(
     requires inside { end ≤ length tablet_list.now }
     requires idle { (k : ℕ) → k ≢ written → (tablet_at tablet_list.now k).active ≡ [] }
     requires freeze { IsFreezeOf (tablet_at tablet_list.now written) freeze.now }
-    ensures { IfOk result (λ v. map (λ c. sorted (records_of c)) v.items ≡ map (λ t. sorted (part_in bounds.now t)) (slice_range tablet_list.now from end)) }
+    ensures { IfOk result (λ v. flat (map (λ c. sorted (records_of c)) v.items) ≡ flat (map (λ t. sorted (part_in bounds.now t)) (slice_range tablet_list.now from end))) }
 {
     let mut clips = Vec::new(alloc);
     for place in from..end {
-        clips.push(clips_beside(alloc, tablet_list, bounds, place, written, freeze)?)?;
+        add_clips_beside(
+            alloc,
+            tablet_list,
+            bounds,
+            place,
+            written,
+            freeze,
+            &mut clips,
+        )?;
     }
     Ok(clips)
+}
+
+// Puts what a scan reads of the tablet at a place behind the others, unless the tablet holds nothing.
+fn add_clips_beside(
+    alloc: Global,
+    tablet_list: &TabletList,
+    bounds: &Bounds,
+    place: usize,
+    written: usize,
+    freeze: &Freeze,
+    clips: &mut Vec<Clips>,
+) -> Result<(), AllocError>
+    requires inside { place < length tablet_list.now }
+    requires idle { (k : ℕ) → k ≢ written → (tablet_at tablet_list.now k).active ≡ [] }
+    requires freeze { IsFreezeOf (tablet_at tablet_list.now written) freeze.now }
+    ensures { OnOk result (flat (map (λ c. sorted (records_of c)) clips.new.items) ≡ flat (map (λ c. sorted (records_of c)) clips.old.items) ++ sorted (part_in bounds.now (tablet_at tablet_list.now place))) }
+{
+    if holds_nothing(tablet_list.tablet(place)) {
+        return Ok(());
+    }
+    clips.push(clips_beside(alloc, tablet_list, bounds, place, written, freeze)?)?;
+    Ok(())
 }
 
 // What a scan reads of the tablet at a place.
@@ -225,7 +256,7 @@ impl Tablets {
         make_runs(alloc, &mut self.tablet_list, &self.written)
     }
 
-    /// The same, of the tablet at a place alone.
+    /// Makes that run of the tablet at a place alone.
     pub(crate) fn make_run(&mut self, alloc: Global, place: usize) -> Result<(), AllocError>
         requires { place < length self.old }
         ensures { self.new ≡ self.old }

@@ -115,7 +115,7 @@ impl TabletList {
         &self.last
     }
 
-    /// The same tablets once more, each as `Tablet::copied` has it.
+    /// A copy of the tablets, each as `Tablet::copied` has it.
     ///
     /// It takes memory as that does, for each. `AllocError` says that it lacked.
     pub(crate) fn copied(&self, alloc: Global) -> Result<TabletList, AllocError>

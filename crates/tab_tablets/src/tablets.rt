@@ -79,7 +79,7 @@ impl Tablets {
         self.tablet_list.write(place, mutation, seq, clock)
     }
 
-    // The same, to the tablet at this place, to which nothing was written since it was frozen.
+    // Writes it to the tablet at this place, to which nothing was written since it was frozen.
     fn write_first(
         &mut self,
         place: usize,
@@ -132,8 +132,8 @@ impl Tablets {
 }
 
 impl Tablets {
-    /// The same tablets once more. What is done to one of the two later doesn't change the other. They share the sources, what scans read,
-    /// and the merges under way.
+    /// A copy of the tablets. What is done to one of the two later doesn't change the other. They share the sources, what scans read, and
+    /// the merges under way.
     ///
     /// It takes memory for each tablet and its end row, for a share of what it holds, and for a copy of what was written to it since its
     /// last freeze. `AllocError` says that it lacked.
@@ -240,7 +240,7 @@ impl Tablets {
         self.compact_made(alloc, kind, floor, versions)
     }
 
-    // The same, where the runs of what was written are made.
+    // `compact` where the runs of what was written are made.
     fn compact_made(
         &mut self,
         alloc: Global,

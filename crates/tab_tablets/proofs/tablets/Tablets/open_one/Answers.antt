@@ -15,7 +15,7 @@ pub of-requires : goal.of-requires
 of-requires c =
     let order : c.first_met-from.result ≤ c.max-end.result = search rules in
     let reach : c.end_met.result ≤ c.max-end.result = search rules in
-    clips_rise c.args.bounds.now c.self.inside.tablet_list c.self.invariant.rows (subst LieApart (sym c.self.view_is) c.requires.apart) c.first_met-from.result c.end_met.result c.max-end.result order reach c.first_met-from.ensures.low c.end_met.ensures.high c.in_ok-clips.clips.items (ap flat c.in_ok-clips.ensures)
+    clips_rise c.args.bounds.now c.self.inside.tablet_list c.self.invariant.rows (subst LieApart (sym c.self.view_is) c.requires.apart) c.first_met-from.result c.end_met.result c.max-end.result order reach c.first_met-from.ensures.low c.end_met.ensures.high c.in_ok-clips.clips.items c.in_ok-clips.ensures
 
 pub prepare-requires : goal.prepare-requires
 prepare-requires c = busy (tablet_at c.self.inside.tablet_list c.args.place) c.tablet.result.now c.tablet.ensures (subst (λ ts. (tablet_at ts c.args.place).active ≢ []) (sym c.self.view_is) c.requires.waits)
@@ -43,4 +43,4 @@ returns-clause-answers c =
     let order : c.first_met-from.result ≤ c.max-end.result = search rules in
     let reach : c.end_met.result ≤ c.max-end.result = search rules in
     subst (λ ts. ShowsRowsOf c.args.bounds.now (sorted (records_of_all ts)) c.of.result) c.self.view_is
-    (clips_show c.args.bounds.now c.self.inside.tablet_list c.self.invariant.rows (subst LieApart (sym c.self.view_is) c.requires.apart) c.first_met-from.result c.end_met.result c.max-end.result order reach c.first_met-from.ensures.low c.end_met.ensures.high c.in_ok-clips.clips.items (ap flat c.in_ok-clips.ensures) c.of.result c.of.ensures)
+    (clips_show c.args.bounds.now c.self.inside.tablet_list c.self.invariant.rows (subst LieApart (sym c.self.view_is) c.requires.apart) c.first_met-from.result c.end_met.result c.max-end.result order reach c.first_met-from.ensures.low c.end_met.ensures.high c.in_ok-clips.clips.items c.in_ok-clips.ensures c.of.result c.of.ensures)
