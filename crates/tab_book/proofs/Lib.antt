@@ -5,3 +5,4 @@ pub mod Growing
 pub mod Handing
 pub mod Anew
 pub mod OneHistory
+pub mod Alike

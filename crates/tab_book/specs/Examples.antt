@@ -15,6 +15,7 @@ use Rattle.tab_book.specs.Entries.{Posted, Record, past, next_of}
 use Rattle.tab_book.specs.Receipts.{Slip, StandsIn, Has}
 use Rattle.tab_book.specs.Rotating.{Portion, rotation, Leaves}
 use Rattle.tab_book.specs.Slices.{shown, stretch_of}
+use Rattle.tab_book.specs.Telling.{AreInTurn, entries_in}
 
 -- what root asks at 0
 abbrev asks : Act → Event
@@ -36,6 +37,10 @@ holding base core first entries = record { base = base; first = first; entries =
 
 abbrev three : Base → CoreContents → Record
 three base core = holding base core 0 (made ∷ dropped ∷ refused ∷ [])
+
+-- what is handed out of it: these entries, from this number on
+abbrev portion : Base → ℕ → List Posted → Portion
+portion base first entries = record { first = first; base = base; entries = entries }
 
 -- the history has the newest first
 order : (base : Base) (core : CoreContents) → past (three base core).entries ≡ entry_of refused.event refused.reply ∷ entry_of dropped.event Done ∷ entry_of made.event Done ∷ []
@@ -97,6 +102,15 @@ not_in_the_book base core has = omega (arith, has.0)
 kept : (base : Base) (core : CoreContents) (left : Record) → Leaves (three base core) (pos 5) (slip 3 unknown) None left
     → left ≡ holding base left.core 0 (made ∷ dropped ∷ refused ∷ unknown ∷ [])
 kept base core left leaves = leaves.1
+
+-- ---- parts in turn
+-- the entries of three parts, of which the last has none
+in_turn : (base later : Base) → entries_in (portion base 0 (made ∷ [])) (portion later 1 (dropped ∷ refused ∷ []) ∷ portion later 3 [] ∷ []) ≡ made ∷ dropped ∷ refused ∷ []
+in_turn base later = refl
+
+-- the last of them begins where the second ends, and not where the first does
+follows : (base later : Base) → AreInTurn (portion base 0 (made ∷ [])) (portion later 1 (dropped ∷ refused ∷ []) ∷ portion later 1 [] ∷ []) → ⊥
+follows base later turn = omega (arith, turn.1.0.number)
 
 -- ---- slices
 -- of three entries that are numbered from 4 on, at most two from 5 on are the last two; from 0 on they begin at 4, and there are none at 9

@@ -9,3 +9,4 @@ pub mod Wholeness
 pub mod Examples
 pub use Rattle.tab_event_record.specs.Acts
 pub mod Rotating
+pub mod Telling

@@ -33,7 +33,7 @@ impl<L: Ledger> Book<L> {
         }
     }
 
-    /// The same with the memory that was found before. It copies nothing of the event.
+    /// Installs as [`Book::install`] does, with memory that was found before. It copies nothing of the event.
     pub fn install_reserved(
         &mut self,
         alloc: Global,

@@ -10,7 +10,11 @@
 //! A history grows with every event, and lies in memory until it is handed out. [`Book::rotate`] does that: it writes its own entry, gives
 //! all entries up to that one as a [`Part`], with what the core held before the first of them, and the book goes on without entries, on what
 //! the core holds. Numbers go on, and so do sessions and jobs. A part is legal from its own base ([`part_is_legal`]) and settles its own
-//! receipts ([`Part::settle`]); two parts of which the second follows on the first are one history ([`parts_are_one_history`]).
+//! receipts ([`Part::settle`]); two parts of which the second follows on the first are one history ([`parts_are_one_history`]), and so are
+//! any number of parts in turn ([`parts_in_turn_are_one_history`]).
+//!
+//! Two books whose histories look alike to a user told the user the same ([`books_tell_alike`]), and so did all parts that two books handed
+//! out ([`parts_tell_alike`]).
 //!
 //! Who writes a history elsewhere takes its entries in a row ([`Book::slice`], [`Part::slice`]): they are shared, not copied.
 //!
@@ -33,11 +37,12 @@
 //! | `reservation` | the memory of an entry, which can be found before the book is locked |
 //! | `recorded_reply`, `outcome` | replies at rest, and how the events ended that were told so |
 //! | `slice` | entries of a history in a row, shared |
+//! | `telling` | histories that look alike to a user, and parts in turn |
 //!
 //! Of the definitions in `specs`, `Entries` says what a book is and what each keeps, `Receipts` what a receipt is and what an event does to
 //! a book, `Rotating` what a rotation does, and `Examples` computes them for a small history; `Wholeness` says when receipts are all that a
 //! book gave, `HandedOut` and `Installs` say what goes with a reply and which event a finished
-//! merge comes with, `RecordedReplies` which replies are kept, `Slices` which entries a slice shares, and `Blocks` how entries lie. Events at rest are `tab_event_record`'s.
+//! merge comes with, `RecordedReplies` which replies are kept, `Slices` which entries a slice shares, `Telling` when two histories tell the same, and `Blocks` how entries lie. Events at rest are `tab_event_record`'s.
 #![tactic(auto)]
 
 mod blocks;
@@ -55,6 +60,7 @@ mod reservation;
 mod rotating;
 mod seat;
 mod slice;
+mod telling;
 
 pub use book::{Book, SeatsOut, book_is_legal, receipts_are_whole, settle};
 pub use entry::{Entry, RecordedEntry};
@@ -68,6 +74,7 @@ pub use reservation::Reservation;
 pub use seat::Seat;
 pub use slice::{SharedEntry, Slice};
 pub use tab_event_record::EventRecord;
+pub use telling::{books_tell_alike, parts_in_turn_are_one_history, parts_tell_alike};
 
 #[cfg(test)]
 mod tests;

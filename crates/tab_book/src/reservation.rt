@@ -41,7 +41,7 @@ impl Reservation {
         Reservation::of_lent(alloc, &event.user, event.moment, &event.act)
     }
 
-    /// The same for what the user asks at the moment, an event whose parts are lent.
+    /// Finds the memory for what the user asks at the moment, an event whose parts are lent.
     pub fn of_lent(
         alloc: Global,
         user: &Name,

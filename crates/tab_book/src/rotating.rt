@@ -40,7 +40,7 @@ impl<L: Ledger> Book<L> {
         self.rotate_reserved(alloc, seat, user, moment, reservation)
     }
 
-    /// The same with the memory for the entry that was found before.
+    /// Rotates as [`Book::rotate`] does, with memory for the entry that was found before.
     pub fn rotate_reserved(
         &mut self,
         alloc: Global,
