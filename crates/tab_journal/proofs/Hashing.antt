@@ -6,6 +6,7 @@ use Rattle.std.specs.Hash.DefaultHasher.{initial, write, write_byte, finish}
 use Rattle.std.proofs.lemmas.List.Sums.{fold-append}
 use Rattle.tab_wire.specs.Replies.{u32, u64, i64}
 use Rattle.tab_journal.specs.declared.format.Format.{Format}
+use Rattle.tab_journal.specs.declared.seal.Seal.{Seal}
 use Rattle.tab_journal.specs.Journals.{sum_of, mark, header_summed, batch_summed}
 
 module _ {S : Type 0} (f : S → ℕ → S) where
@@ -19,9 +20,9 @@ module _ {S : Type 0} (f : S → ℕ → S) where
       ∙ after (fold f s a) b (c ++ (d ++ e))
       ∙ after s a (b ++ (c ++ (d ++ e)))
 
-pub header_sums : (format : Format) (generation next : ℕ) (clock : ℤ) (salt : ℕ) → finish (write (write (write (write (write initial (mark format)) (to_be_bytes w64 generation)) (to_be_bytes w64 next)) (to_be_bytes w64 (cast_unsigned w64 clock))) (to_be_bytes w64 salt)) ≡ sum_of (header_summed format generation next clock salt)
+pub header_sums : (format : Format) (generation next : ℕ) (clock : ℤ) (seal : Seal) → finish (write (write (write (write (write initial (mark format seal.form)) (to_be_bytes w64 generation)) (to_be_bytes w64 next)) (to_be_bytes w64 (cast_unsigned w64 clock))) (to_be_bytes w64 seal.salt)) ≡ sum_of (header_summed format generation next clock seal)
 unfolding sum_of header_summed write u64 i64
-header_sums format generation next clock salt = ap finish (five write_byte initial (mark format) (u64 generation) (u64 next) (i64 clock) (u64 salt))
+header_sums format generation next clock seal = ap finish (five write_byte initial (mark format seal.form) (u64 generation) (u64 next) (i64 clock) (u64 seal.salt))
 
 pub batch_sums : (salt before settled : ℕ) (body : List ℕ) → finish (write (write (write (write (write initial (to_be_bytes w64 salt)) (to_be_bytes w64 before)) (to_be_bytes w64 settled)) (to_be_bytes w32 (length body))) body) ≡ sum_of (batch_summed salt before settled body)
 unfolding sum_of batch_summed write u32 u64

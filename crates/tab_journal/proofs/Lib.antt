@@ -15,5 +15,11 @@ pub mod Calling
 pub mod Lengths
 pub mod Timely
 pub mod Damaging
+pub mod Three
+pub mod Taken
+pub mod Tags
+pub mod Windows
 pub mod Tearing
 pub mod Telling
+pub mod Resuming
+pub mod Advancing

@@ -1,15 +1,15 @@
--- What is left behind a batch is shorter, and a journal is read batch by batch.
-use Rattle.std.proofs.Common.{◌≡◌, ℕ, zero, suc, ◌≤◌, ◌<◌, Bool, true, false, cond, ltb, List, [], ◌∷◌, ◌++◌, length, take, drop, Option, Some, None, refl, sym, ap, subst, ◌∙◌, append_assoc, append-nil, arith}
-use Rattle.std.specs.Prelude.{unwrap_or}
-use Rattle.std.specs.List.{flat_map}
+-- What is left behind a batch is shorter.
+use Rattle.std.proofs.Common.{◌≡◌, ℕ, ◌≤◌, ◌<◌, Bool, true, false, cond, ltb, List, length, take, drop, Some, None, refl, ap, arith}
 use Rattle.std.specs.Int.{w64, w32, from_be_bytes}
 use Rattle.std.proofs.lemmas.Bool.{ltb-false}
 use Rattle.std.proofs.lemmas.List.{length-drop}
 use Rattle.tab_parts.specs.Reading.{◌>>=◌, u32_at, u64_at, bytes_at, field_at}
 use Rattle.tab_parts.proofs.Exact.{some_inj, on_bind}
-use Rattle.tab_journal.specs.Journals.{Header, Batch}
-use Rattle.tab_journal.specs.Reading.{batch_of, batch_at, batches_within, journal_from}
-use Rattle.tab_journal.specs.Said.{last_of, kept_of}
+use Rattle.tab_journal.specs.declared.seal.Form.{Form}
+use Rattle.tab_journal.specs.declared.seal.Form.TheVariants.{Plain, Tagged}
+use Rattle.tab_journal.specs.declared.seal.Seal.{Seal}
+use Rattle.tab_journal.specs.Journals.{Batch}
+use Rattle.tab_journal.specs.Reading.{batch_of, summed_at, tag_of, tag_in, batch_at}
 
 guarded : {A : Type 0} (b : Bool) (x y : A) (P : Type 0) → cond b None (Some x) ≡ Some y → (b ≡ false → x ≡ y → P) → P
 guarded true x y P is then = absurd cc
@@ -34,65 +34,23 @@ unfolding field_at
 behind_field bytes x is = on_bind (u32_at bytes) (λ n. bytes_at n.0 n.1) x (length x.1 ≤ length bytes) is (λ n read more.
     omega (arith, behind_number bytes n read, behind_bytes n.0 n.1 x more))
 
-pub batch_shorter : (salt before : ℕ) (bytes : List ℕ) (x : Batch × List ℕ) → batch_at salt before bytes ≡ Some x → length x.1 < length bytes
-unfolding batch_at
-batch_shorter salt before bytes x is =
+summed_shorter : (salt before : ℕ) (bytes : List ℕ) (x : Batch × List ℕ) → summed_at salt before bytes ≡ Some x → length x.1 < length bytes
+unfolding summed_at
+summed_shorter salt before bytes x is =
     on_bind (u64_at bytes) (λ s. field_at s.1 >>= λ f. u64_at f.1 >>= λ m. batch_of salt before s.0 f.0 m.0 >>= λ b. Some (b, m.1)) x (length x.1 < length bytes) is (λ s read_s more_s.
     on_bind (field_at s.1) (λ f. u64_at f.1 >>= λ m. batch_of salt before s.0 f.0 m.0 >>= λ b. Some (b, m.1)) x (length x.1 < length bytes) more_s (λ f read_f more_f.
     on_bind (u64_at f.1) (λ m. batch_of salt before s.0 f.0 m.0 >>= λ b. Some (b, m.1)) x (length x.1 < length bytes) more_f (λ m read_m more_m.
     on_bind (batch_of salt before s.0 f.0 m.0) (λ b. Some (b, m.1)) x (length x.1 < length bytes) more_m (λ b made e.
     omega (arith, behind_long bytes s read_s, behind_field s.1 f read_f, behind_long f.1 m read_m, ap (λ (p : Batch × List ℕ). length p.1) (some_inj (b, m.1) x e))))))
 
--- ---- batch after batch
--- of what stands in these bytes behind a sum, this text was read, up to this sum, and the rest is to be read; with enough fuel all of it
-pub record Reads (salt before : ℕ) (bytes text : List ℕ) (sum : ℕ) (rest : List ℕ) : Type 0 where
-  pub fuel : ℕ
-  pub enough : length rest ≤ fuel
-  pub texts : flat_map (λ (b : Batch). b.body) (batches_within salt before (length bytes) bytes).0 ≡ text ++ flat_map (λ (b : Batch). b.body) (batches_within salt sum fuel rest).0
-  pub left : (batches_within salt before (length bytes) bytes).1 ≡ (batches_within salt sum fuel rest).1
-  pub sums : last_of before (batches_within salt before (length bytes) bytes).0 ≡ last_of sum (batches_within salt sum fuel rest).0
+tag_shorter : (form : Form) (salt : ℕ) (bytes : List ℕ) (x : Unit {0} × List ℕ) → tag_in form salt bytes ≡ Some x → length x.1 ≤ length bytes
+unfolding tag_in
+tag_shorter Plain salt bytes x is = omega (arith, ap (λ (p : Unit {0} × List ℕ). length p.1) (some_inj (tt, bytes) x is))
+tag_shorter Tagged salt bytes x is = on_bind (u64_at bytes) (λ n. tag_of salt n.0 >>= λ u. Some (u, n.1)) x (length x.1 ≤ length bytes) is (λ n read more.
+    on_bind (tag_of salt n.0) (λ u. Some (u, n.1)) x (length x.1 ≤ length bytes) more (λ u made e.
+    omega (arith, behind_long bytes n read, ap (λ (p : Unit {0} × List ℕ). length p.1) (some_inj (u, n.1) x e))))
 
-pub reads_none : (salt before : ℕ) (bytes text : List ℕ) → text ≡ [] → Reads salt before bytes text before bytes
-reads_none salt before bytes text is =
-    subst (λ (z : List ℕ). Reads salt before bytes z before bytes) (sym is) (record { fuel = length bytes; enough = omega arith; texts = refl; left = refl; sums = refl })
-
--- nothing is left to be read where no batch begins
-ends_there : (salt sum fuel : ℕ) (rest : List ℕ) → batch_at salt sum rest ≡ None → batches_within salt sum fuel rest ≡ ([], rest)
-ends_there salt sum zero rest none = refl
-ends_there salt sum (suc k) rest none = ap (λ (o : Option (Batch × List ℕ)). unwrap_or (o >>= λ x. let behind = batches_within salt x.0.sum k x.1 in Some (x.0 ∷ behind.0, behind.1)) ([], rest)) none
-
-pub reads_end : (salt before : ℕ) (bytes text : List ℕ) (sum : ℕ) (rest : List ℕ) → Reads salt before bytes text sum rest → batch_at salt sum rest ≡ None
-    → (flat_map (λ (b : Batch). b.body) (batches_within salt before (length bytes) bytes).0 ≡ text) × ((batches_within salt before (length bytes) bytes).1 ≡ rest) × (last_of before (batches_within salt before (length bytes) bytes).0 ≡ sum)
-reads_end salt before bytes text sum rest r none =
-    let e = ends_there salt sum r.fuel rest none in (
-      r.texts ∙ ap (λ (p : List Batch × List ℕ). text ++ flat_map (λ (b : Batch). b.body) p.0) e ∙ append-nil text,
-      r.left ∙ ap (λ (p : List Batch × List ℕ). p.1) e,
-      r.sums ∙ ap (λ (p : List Batch × List ℕ). last_of sum p.0) e,
-    )
-
-pub reads_more : (salt before : ℕ) (bytes text : List ℕ) (sum : ℕ) (rest : List ℕ) (b : Batch) (behind after : List ℕ) → Reads salt before bytes text sum rest → batch_at salt sum rest ≡ Some (b, behind) → after ≡ text ++ b.body
-    → Reads salt before bytes after b.sum behind
-reads_more salt before bytes text sum rest b behind after r is now = subst (λ (z : List ℕ). Reads salt before bytes z b.sum behind) (sym now) (go r.fuel r.enough r.texts r.left r.sums)
-  where
-    go : (fuel : ℕ) → length rest ≤ fuel
-        → flat_map (λ (x : Batch). x.body) (batches_within salt before (length bytes) bytes).0 ≡ text ++ flat_map (λ (x : Batch). x.body) (batches_within salt sum fuel rest).0
-        → (batches_within salt before (length bytes) bytes).1 ≡ (batches_within salt sum fuel rest).1
-        → last_of before (batches_within salt before (length bytes) bytes).0 ≡ last_of sum (batches_within salt sum fuel rest).0
-        → Reads salt before bytes (text ++ b.body) b.sum behind
-    go zero enough texts left sums = absurd (omega (arith, enough, batch_shorter salt sum rest (b, behind) is))
-    go (suc k) enough texts left sums =
-        let step : batches_within salt sum (suc k) rest ≡ (b ∷ (batches_within salt b.sum k behind).0, (batches_within salt b.sum k behind).1) =
-        ap (λ (o : Option (Batch × List ℕ)). unwrap_or (o >>= λ x. let more = batches_within salt x.0.sum k x.1 in Some (x.0 ∷ more.0, more.1)) ([], rest)) is in
-        record {
-          fuel = k;
-          enough = omega (arith, enough, batch_shorter salt sum rest (b, behind) is);
-          texts = texts ∙ ap (λ (p : List Batch × List ℕ). text ++ flat_map (λ (x : Batch). x.body) p.0) step ∙ sym (append_assoc text b.body (flat_map (λ (x : Batch). x.body) (batches_within salt b.sum k behind).0));
-          left = left ∙ ap (λ (p : List Batch × List ℕ). p.1) step;
-          sums = sums ∙ ap (λ (p : List Batch × List ℕ). last_of sum p.0) step;
-        }
-
-pub content_is : (header : Header) (bytes text : List ℕ) (sum : ℕ) (rest : List ℕ) (left : ℕ) → Reads header.salt header.sum bytes text sum rest → batch_at header.salt sum rest ≡ None → left ≡ length rest
-    → record { header = header; text = text; left = left; sum = sum } ≡ kept_of (journal_from (header, bytes))
-content_is header bytes text sum rest left r none is =
-    let e = reads_end header.salt header.sum bytes text sum rest r none in
-    λ i. record { header = header; text = sym e.0 i; left = (is ∙ ap (λ (z : List ℕ). length z) (sym e.1)) i; sum = sym e.2 i }
+pub batch_shorter : (seal : Seal) (before : ℕ) (bytes : List ℕ) (x : Batch × List ℕ) → batch_at seal before bytes ≡ Some x → length x.1 < length bytes
+unfolding batch_at
+batch_shorter seal before bytes x is = on_bind (tag_in seal.form seal.salt bytes) (λ u. summed_at seal.salt before u.1) x (length x.1 < length bytes) is (λ u read more.
+    omega (arith, tag_shorter seal.form seal.salt bytes u read, summed_shorter seal.salt before u.1 x more))

@@ -7,6 +7,7 @@ use Rattle.tab_parts.specs.Reading.{◌>>=◌}
 use Rattle.tab_parts.proofs.Exact.{bind_some}
 use Rattle.tab_journal.specs.Crashes.{HasFirst}
 use Rattle.tab_journal.specs.Damage.{StandsAt, IsDamaged, read_of, CrashesLeaveTornEnds, CutsAreTorn}
+use Rattle.tab_journal.specs.declared.seal.Seal.{Seal}
 use Rattle.tab_journal.specs.Journals.{Header, Batch, IsJournal}
 use Rattle.tab_journal.specs.Reading.{header_at, batch_at, batches_within, Journal, journal_from, journal_of}
 use Rattle.tab_journal.proofs.Crashing.{read_first}
@@ -15,17 +16,17 @@ use Rattle.tab_journal.proofs.Steps.{batch_shorter}
 use Rattle.tab_journal.proofs.Timely.{timely_contains}
 
 -- ---- what is left behind batches that are read is no longer than what was there
-left_short : (salt k before : ℕ) (bytes : List ℕ) → length (batches_within salt before k bytes).1 ≤ length bytes
-left_short salt zero before bytes = omega arith
-left_short salt (suc k) before bytes = go (λ sum rest. left_short salt k sum rest) (batch_at salt before bytes) refl
+left_short : (seal : Seal) (k before : ℕ) (bytes : List ℕ) → length (batches_within seal before k bytes).1 ≤ length bytes
+left_short seal zero before bytes = omega arith
+left_short seal (suc k) before bytes = go (λ sum rest. left_short seal k sum rest) (batch_at seal before bytes) refl
   where
     step : Option (Batch × List ℕ) → List Batch × List ℕ
-    step o = unwrap_or (o >>= λ b. let behind = batches_within salt b.0.sum k b.1 in Some (b.0 ∷ behind.0, behind.1)) ([], bytes)
+    step o = unwrap_or (o >>= λ b. let behind = batches_within seal b.0.sum k b.1 in Some (b.0 ∷ behind.0, behind.1)) ([], bytes)
 
-    go : ((sum : ℕ) (rest : List ℕ) → length (batches_within salt sum k rest).1 ≤ length rest) → (o : Option (Batch × List ℕ)) → batch_at salt before bytes ≡ o → length (batches_within salt before (suc k) bytes).1 ≤ length bytes
+    go : ((sum : ℕ) (rest : List ℕ) → length (batches_within seal sum k rest).1 ≤ length rest) → (o : Option (Batch × List ℕ)) → batch_at seal before bytes ≡ o → length (batches_within seal before (suc k) bytes).1 ≤ length bytes
     go later None is = subst (λ (p : List Batch × List ℕ). length p.1 ≤ length bytes) (sym (ap step is)) (omega arith)
     go later (Some (b, rest)) is =
-        let less = batch_shorter salt before bytes (b, rest) is in
+        let less = batch_shorter seal before bytes (b, rest) is in
         let more = later b.sum rest in
         subst (λ (p : List Batch × List ℕ). length p.1 ≤ length bytes) (sym (ap step is)) (omega (arith, less, more))
 
@@ -43,9 +44,9 @@ reads_all_first bytes c header bs n is has =
     let parts : c ≡ take n bytes ++ rest = sym (take-append-drop n c) ∙ ap (λ (z : List ℕ). z ++ rest) has.1 in
     let whole : c ≡ is.0 ++ (is.1 ++ rest) = parts ∙ ap (λ (z : List ℕ). z ++ rest) is.2 ∙ append_assoc is.0 is.1 rest in
     let read : header_at c ≡ Some (header, is.1 ++ rest) = ap header_at whole ∙ exact_front.complete is.0 (is.1 ++ rest) header is.3 in
-    let first = read_first header.salt bs (length (is.1 ++ rest)) header.sum is.1 rest is.4 (omega arith) in
-    let short = left_short header.salt first.0 (fold (λ (sum : ℕ) (x : Batch). x.sum) header.sum bs) rest in
-    let left : length (journal_from (header, is.1 ++ rest)).left ≡ length (batches_within header.salt (fold (λ (sum : ℕ) (x : Batch). x.sum) header.sum bs) first.0 rest).1 =
+    let first = read_first header.seal bs (length (is.1 ++ rest)) header.sum is.1 rest is.4 (omega arith) in
+    let short = left_short header.seal first.0 (fold (λ (sum : ℕ) (x : Batch). x.sum) header.sum bs) rest in
+    let left : length (journal_from (header, is.1 ++ rest)).left ≡ length (batches_within header.seal (fold (λ (sum : ℕ) (x : Batch). x.sum) header.sum bs) first.0 rest).1 =
     ap (λ (p : List Batch × List ℕ). length p.1) first.2 in
     record {
       journal = journal_from (header, is.1 ++ rest);
@@ -55,19 +56,19 @@ reads_all_first bytes c header bs n is has =
     }
 
 pub crashes_leave_torn_ends : CrashesLeaveTornEnds
-crashes_leave_torn_ends bytes c salt sum n k header bs w has none =
+crashes_leave_torn_ends bytes c seal sum n k header bs w has none =
     let r = reads_all_first bytes c header (take k bs) n w.first has in
-    let never : IsDamaged header.salt (read_of c r.journal) c → ⊥ = λ d.
+    let never : IsDamaged header.seal (read_of c r.journal) c → ⊥ = λ d.
     let b = d.1.0 in
-    let is : StandsAt salt d.0 c b = subst (λ (s : ℕ). StandsAt s d.0 c b) (sym w.salted) d.1.1 in
+    let is : StandsAt seal d.0 c b = subst (λ (s : Seal). StandsAt s d.0 c b) (sym w.sealed) d.1.1 in
     let more : length c - length r.journal.left < b.settled = d.1.2 in
-    let low = timely_contains n 48 bs b w.timely (none d.0 b is (omega (arith, r.kept, more)) d.1.3) in
+    let low = timely_contains header.seal.form n 48 bs b w.timely (none d.0 b is (omega (arith, r.kept, more)) d.1.3) in
     omega (arith, low, r.kept, more) in
     (r.journal, r.read, r.same, r.kept, never)
 
 -- ---- what stands in a cut stands in the whole
-stands_within : (salt p m : ℕ) (bytes : List ℕ) (b : Batch) → StandsAt salt p (take m bytes) b → StandsAt salt p bytes b
-stands_within salt p m bytes b s =
+stands_within : (seal : Seal) (p m : ℕ) (bytes : List ℕ) (b : Batch) → StandsAt seal p (take m bytes) b → StandsAt seal p bytes b
+stands_within seal p m bytes b s =
     let more = s.behind ++ drop m bytes in
     record {
       ahead = s.ahead;
@@ -85,5 +86,5 @@ stands_within salt p m bytes b s =
     }
 
 pub cuts_are_torn : CutsAreTorn
-cuts_are_torn bytes salt sum n k m header bs w le low none =
-    crashes_leave_torn_ends bytes (take m bytes) salt sum n k header bs w (omega (arith, le, low, length-take m bytes), take-take n m bytes le) (λ p b is. none p b (stands_within salt p m bytes b is))
+cuts_are_torn bytes seal sum n k m header bs w le low none =
+    crashes_leave_torn_ends bytes (take m bytes) seal sum n k header bs w (omega (arith, le, low, length-take m bytes), take-take n m bytes le) (λ p b is. none p b (stands_within seal p m bytes b is))

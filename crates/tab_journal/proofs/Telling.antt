@@ -5,42 +5,53 @@ use Rattle.std.proofs.lemmas.Bool.{cases_lt}
 use Rattle.std.proofs.lemmas.List.{take_at, drop_at, take-append-le, length-take, length-drop}
 use Rattle.tab_parts.specs.Parts.{IsU64}
 use Rattle.tab_journal.specs.Damage.{StandsAt, read_of, place_behind, DamageIsTold}
-use Rattle.tab_journal.specs.Journals.{mark, Header, IsHeader, Batch, IsBatch, AreBatches, IsJournal}
+use Rattle.tab_journal.specs.declared.seal.Form.{Form}
+use Rattle.tab_journal.specs.declared.seal.Form.TheVariants.{Plain, Tagged}
+use Rattle.tab_journal.specs.declared.seal.Seal.{Seal}
+use Rattle.tab_journal.specs.Journals.{mark, Header, IsHeader, Batch, IsTagOf, IsBatch, AreBatches, IsJournal}
 use Rattle.tab_journal.specs.Laws.{last_sum}
 use Rattle.tab_journal.specs.Reading.{Journal}
-use Rattle.tab_journal.specs.Writing.{AreTimely}
+use Rattle.tab_journal.specs.Writing.{around, AreTimely}
 use Rattle.tab_journal.proofs.Crashing.{crashes_leave_beginnings}
 use Rattle.tab_journal.proofs.Forms.{front_long}
 use Rattle.tab_journal.proofs.Timely.{batch_length, both}
 use Rattle.tab_journal.proofs.Whole.{whole_batches_are_kept}
 
 -- ---- batches have one text
-batch_once : (salt before : ℕ) (t u : List ℕ) (b : Batch) → IsBatch salt before t b → IsBatch salt before u b → t ≡ u
-batch_once salt before t u b i j =
+tag_once : (form : Form) (salt : ℕ) (t u : List ℕ) → IsTagOf form salt t → IsTagOf form salt u → t ≡ u
+tag_once Plain salt t u i j = i ∙ sym j
+tag_once Tagged salt t u i j = i.0 ∙ sym j.0
+
+batch_once : (seal : Seal) (before : ℕ) (t u : List ℕ) (b : Batch) → IsBatch seal before t b → IsBatch seal before u b → t ≡ u
+batch_once seal before t u b x y =
+    let i = x.summed in
+    let j = y.summed in
+    let g : x.t ≡ y.t = tag_once seal.form seal.salt x.t y.t x.tag y.tag in
     let s : i.s ≡ j.s = i.settled.0 ∙ sym j.settled.0 in
     let f : i.f ≡ j.f = i.body.0 ∙ sym j.body.0 in
     let m : i.m ≡ j.m = i.sum.0 ∙ sym j.sum.0 in
-    i.spelled ∙ (λ k. s k ++ (f k ++ m k)) ∙ sym j.spelled
+    let r : x.r ≡ y.r = i.spelled ∙ (λ k. s k ++ (f k ++ m k)) ∙ sym j.spelled in
+    x.whole ∙ (λ k. g k ++ r k) ∙ sym y.whole
 
-batches_once : (salt before : ℕ) (t u : List ℕ) (bs : List Batch) → AreBatches salt before t bs → AreBatches salt before u bs → t ≡ u
-batches_once salt before t u [] a b = a ∙ sym b
-batches_once salt before t u (x ∷ bs) a b =
-    let first = batch_once salt before a.0 b.0 x a.3 b.3 in
-    let others = batches_once salt x.sum a.1 b.1 bs a.4 b.4 in
+batches_once : (seal : Seal) (before : ℕ) (t u : List ℕ) (bs : List Batch) → AreBatches seal before t bs → AreBatches seal before u bs → t ≡ u
+batches_once seal before t u [] a b = a ∙ sym b
+batches_once seal before t u (x ∷ bs) a b =
+    let first = batch_once seal before a.0 b.0 x a.3 b.3 in
+    let others = batches_once seal x.sum a.1 b.1 bs a.4 b.4 in
     a.2 ∙ (λ k. first k ++ others k) ∙ sym b.2
 
 -- ---- the first ones, and those behind them
-record Split (salt before : ℕ) (text : List ℕ) (xs ys : List Batch) : Type 0 where
+record Split (seal : Seal) (before : ℕ) (text : List ℕ) (xs ys : List Batch) : Type 0 where
   ahead : List ℕ
   back : List ℕ
   parts : text ≡ ahead ++ back
-  first : AreBatches salt before ahead xs
-  others : AreBatches salt (fold (λ (sum : ℕ) (b : Batch). b.sum) before xs) back ys
+  first : AreBatches seal before ahead xs
+  others : AreBatches seal (fold (λ (sum : ℕ) (b : Batch). b.sum) before xs) back ys
 
-split : (salt before : ℕ) (text : List ℕ) (xs ys : List Batch) → AreBatches salt before text (xs ++ ys) → Split salt before text xs ys
-split salt before text [] ys are = record { ahead = []; back = text; parts = refl; first = refl; others = are }
-split salt before text (x ∷ xs) ys are =
-    let r = split salt x.sum are.1 xs ys are.4 in
+split : (seal : Seal) (before : ℕ) (text : List ℕ) (xs ys : List Batch) → AreBatches seal before text (xs ++ ys) → Split seal before text xs ys
+split seal before text [] ys are = record { ahead = []; back = text; parts = refl; first = refl; others = are }
+split seal before text (x ∷ xs) ys are =
+    let r = split seal x.sum are.1 xs ys are.4 in
     record {
       ahead = are.0 ++ r.ahead;
       back = r.back;
@@ -50,53 +61,61 @@ split salt before text (x ∷ xs) ys are =
     }
 
 -- ---- where the next one stands
-place_is : (salt before at : ℕ) (text : List ℕ) (bs : List Batch) → AreBatches salt before text bs → at + length text ≡ place_behind at bs
-place_is salt before at text [] are = omega (arith, ap (λ (z : List ℕ). length z) are)
-place_is salt before at text (x ∷ bs) are = both salt before at text x bs are ∙ place_is salt x.sum (at + (20 + length x.body)) are.1 bs are.4
+place_is : (seal : Seal) (before at : ℕ) (text : List ℕ) (bs : List Batch) → AreBatches seal before text bs → at + length text ≡ place_behind seal.form at bs
+place_is seal before at text [] are = omega (arith, ap (λ (z : List ℕ). length z) are)
+place_is seal before at text (x ∷ bs) are = both seal before at text x bs are ∙ place_is seal x.sum (at + (around seal.form + length x.body)) are.1 bs are.4
 
-timely_there : (n at : ℕ) (xs ys : List Batch) (b : Batch) → AreTimely n at (xs ++ b ∷ ys) → b.settled ≤ place_behind at xs
-timely_there n at [] ys b timely = timely.1
-timely_there n at (x ∷ xs) ys b timely = timely_there n (at + (20 + length x.body)) xs ys b timely.2
+timely_there : (form : Form) (n at : ℕ) (xs ys : List Batch) (b : Batch) → AreTimely form n at (xs ++ b ∷ ys) → b.settled ≤ place_behind form at xs
+timely_there form n at [] ys b timely = timely.1
+timely_there form n at (x ∷ xs) ys b timely = timely_there form n (at + (around form + length x.body)) xs ys b timely.2
 
 -- ---- the sum before it
-abbrev EndsWith : List ℕ → ℕ → Type 0
+abbrev pub EndsWith : List ℕ → ℕ → Type 0
 EndsWith bytes n = (a : List ℕ) × (s : List ℕ) × (bytes ≡ a ++ s) × IsU64 s n
 
-header_ends : (bytes : List ℕ) (h : Header) → IsHeader bytes h → EndsWith bytes h.sum
+pub header_ends : (bytes : List ℕ) (h : Header) → IsHeader bytes h → EndsWith bytes h.sum
 header_ends bytes h is =
-    let all = append_assoc (mark h.format) (is.g ++ (is.n ++ (is.c ++ is.s))) is.m
-    ∙ ap (λ (z : List ℕ). mark h.format ++ z) (append_assoc is.g (is.n ++ (is.c ++ is.s)) is.m ∙ ap (λ (z : List ℕ). is.g ++ z) (append_assoc is.n (is.c ++ is.s) is.m ∙ ap (λ (z : List ℕ). is.n ++ z) (append_assoc is.c is.s is.m))) in
-    (mark h.format ++ (is.g ++ (is.n ++ (is.c ++ is.s))), is.m, is.spelled ∙ sym all, is.sum)
+    let all = append_assoc (mark h.format h.seal.form) (is.g ++ (is.n ++ (is.c ++ is.s))) is.m
+    ∙ ap (λ (z : List ℕ). mark h.format h.seal.form ++ z) (append_assoc is.g (is.n ++ (is.c ++ is.s)) is.m ∙ ap (λ (z : List ℕ). is.g ++ z) (append_assoc is.n (is.c ++ is.s) is.m ∙ ap (λ (z : List ℕ). is.n ++ z) (append_assoc is.c is.s is.m))) in
+    (mark h.format h.seal.form ++ (is.g ++ (is.n ++ (is.c ++ is.s))), is.m, is.spelled ∙ sym all, is.sum)
 
-batches_end : (salt before : ℕ) (pre text : List ℕ) (bs : List Batch) → EndsWith pre before → AreBatches salt before text bs → EndsWith (pre ++ text) (fold (λ (sum : ℕ) (b : Batch). b.sum) before bs)
-batches_end salt before pre text [] e are = (e.0, e.1, ap (λ (z : List ℕ). pre ++ z) are ∙ append-nil pre ∙ e.2, e.3)
-batches_end salt before pre text (x ∷ bs) e are =
-    let is = are.3 in
-    let next : EndsWith (pre ++ are.0) x.sum =
-    (pre ++ (is.s ++ is.f), is.m, ap (λ (z : List ℕ). pre ++ z) (is.spelled ∙ sym (append_assoc is.s is.f is.m)) ∙ sym (append_assoc pre (is.s ++ is.f) is.m), is.sum) in
-    let r = batches_end salt x.sum (pre ++ are.0) are.1 bs next are.4 in
+pub batch_ends : (seal : Seal) (before : ℕ) (text : List ℕ) (b : Batch) → IsBatch seal before text b → EndsWith text b.sum
+batch_ends seal before text b is =
+    let x = is.summed in (
+      is.t ++ (x.s ++ x.f),
+      x.m,
+      is.whole ∙ ap (λ (z : List ℕ). is.t ++ z) (x.spelled ∙ sym (append_assoc x.s x.f x.m)) ∙ sym (append_assoc is.t (x.s ++ x.f) x.m),
+      x.sum,
+    )
+
+batches_end : (seal : Seal) (before : ℕ) (pre text : List ℕ) (bs : List Batch) → EndsWith pre before → AreBatches seal before text bs → EndsWith (pre ++ text) (fold (λ (sum : ℕ) (b : Batch). b.sum) before bs)
+batches_end seal before pre text [] e are = (e.0, e.1, ap (λ (z : List ℕ). pre ++ z) are ∙ append-nil pre ∙ e.2, e.3)
+batches_end seal before pre text (x ∷ bs) was are =
+    let e = batch_ends seal before are.0 x are.3 in
+    let next : EndsWith (pre ++ are.0) x.sum = (pre ++ e.0, e.1, ap (λ (z : List ℕ). pre ++ z) e.2 ∙ sym (append_assoc pre e.0 e.1), e.3) in
+    let r = batches_end seal x.sum (pre ++ are.0) are.1 bs next are.4 in
     (r.0, r.1, ap (λ (z : List ℕ). pre ++ z) are.2 ∙ sym (append_assoc pre are.0 are.1) ∙ r.2, r.3)
 
 -- ---- a batch that still stands
 module _ (bytes c : List ℕ) (header : Header) (xs ys : List Batch) (b : Batch) (j : IsJournal bytes header (xs ++ b ∷ ys)) where
   abbrev p : ℕ
-  p = place_behind 48 xs
+  p = place_behind header.seal.form 48 xs
 
   abbrev len : ℕ
-  len = 28 + length b.body
+  len = 8 + (around header.seal.form + length b.body)
 
-  still_stands : take len (drop (p - 8) c) ≡ take len (drop (p - 8) bytes) → StandsAt header.salt p c b
+  still_stands : take len (drop (p - 8) c) ≡ take len (drop (p - 8) bytes) → StandsAt header.seal p c b
   still_stands still =
-      let r = split header.salt header.sum j.1 xs (b ∷ ys) j.4 in
+      let r = split header.seal header.sum j.1 xs (b ∷ ys) j.4 in
       let t = r.others.0 in
       let o = r.others.1 in
-      let e = batches_end header.salt header.sum j.0 r.ahead xs (header_ends j.0 header j.3) r.first in
+      let e = batches_end header.seal header.sum j.0 r.ahead xs (header_ends j.0 header j.3) r.first in
       let s = e.1 in
       let eight : length s ≡ 8 = ap (λ (z : List ℕ). length z) e.3.0 in
       let pre : length (j.0 ++ r.ahead) ≡ length e.0 + length s = ap (λ (z : List ℕ). length z) e.2 ∙ length-append e.0 s in
-      let place : 48 + length r.ahead ≡ p = place_is header.salt header.sum 48 r.ahead xs r.first in
+      let place : 48 + length r.ahead ≡ p = place_is header.seal header.sum 48 r.ahead xs r.first in
       let here : length e.0 ≡ p - 8 = omega (arith, eight, pre, place, length-append j.0 r.ahead, front_long j.0 header j.3) in
-      let long : length t ≡ 20 + length b.body = batch_length header.salt (last_sum header xs) t b r.others.3 in
+      let long : length t ≡ around header.seal.form + length b.body = batch_length header.seal (last_sum header xs) t b r.others.3 in
       let parts : bytes ≡ e.0 ++ (s ++ (t ++ o)) =
       j.2
       ∙ ap (λ (z : List ℕ). j.0 ++ z) (r.parts ∙ ap (λ (z : List ℕ). r.ahead ++ z) r.others.2)
@@ -122,17 +141,17 @@ module _ (bytes c : List ℕ) (header : Header) (xs ys : List Batch) (b : Batch)
 -- ---- what is read is what was put
 read_is_put : (bytes c kept left : List ℕ) (header : Header) (xs ys : List Batch) (n : ℕ) → IsJournal bytes header (xs ++ ys) → c ≡ kept ++ left → IsJournal kept header xs → take 48 c ≡ take 48 bytes → n ≤ length kept → take n c ≡ take n bytes
 read_is_put bytes c kept left header xs ys n j parts k same le =
-    let r = split header.salt header.sum j.1 xs ys j.4 in
+    let r = split header.seal header.sum j.1 xs ys j.4 in
     let c_is : c ≡ k.0 ++ (k.1 ++ left) = parts ∙ ap (λ (z : List ℕ). z ++ left) k.2 ∙ append_assoc k.0 k.1 left in
     let first : k.0 ≡ j.0 =
     sym (take_at k.0 (k.1 ++ left) 48 (front_long k.0 header k.3)) ∙ ap (λ (z : List ℕ). take 48 z) (sym c_is) ∙ same ∙ ap (λ (z : List ℕ). take 48 z) j.2 ∙ take_at j.0 j.1 48 (front_long j.0 header j.3) in
-    let others : k.1 ≡ r.ahead = batches_once header.salt header.sum k.1 r.ahead xs k.4 r.first in
+    let others : k.1 ≡ r.ahead = batches_once header.seal header.sum k.1 r.ahead xs k.4 r.first in
     let kept_is : kept ≡ j.0 ++ r.ahead = k.2 ∙ (λ i. first i ++ others i) in
     let bytes_are : bytes ≡ kept ++ r.back = j.2 ∙ ap (λ (z : List ℕ). j.0 ++ z) r.parts ∙ sym (append_assoc j.0 r.ahead r.back) ∙ ap (λ (z : List ℕ). z ++ r.back) (sym kept_is) in
     ap (λ (z : List ℕ). take n z) parts ∙ take-append-le n kept left le ∙ sym (take-append-le n kept r.back le) ∙ sym (ap (λ (z : List ℕ). take n z) bytes_are)
 
 pub damage_is_told : DamageIsTold
-damage_is_told bytes c salt sum n k header xs ys b fits w has none still changed =
+damage_is_told bytes c seal sum n k header xs ys b fits w has none still changed =
     let bs = xs ++ b ∷ ys in
     let j = w.journal in
     let beginning : take 48 bytes ≡ j.0 ++ [] = ap (λ (z : List ℕ). take 48 z) j.2 ∙ take_at j.0 j.1 48 (front_long j.0 header j.3) ∙ sym (append-nil j.0) in
@@ -141,9 +160,9 @@ damage_is_told bytes c salt sum n k header xs ys b fits w has none still changed
     let kept = whole_batches_are_kept c read fits r.3 in
     let stands = still_stands bytes c header xs ys b j still in
     let long : length c ≡ length kept.kept + length r.1 = ap (λ (z : List ℕ). length z) kept.parts ∙ length-append kept.kept r.1 in
-    let place = timely_there n 48 xs ys b w.timely in
+    let place = timely_there header.seal.form n 48 xs ys b w.timely in
     elim (cases_lt (read_of c read) b.settled) [
-      | inl less ↦ (read, r.3, refl, (place_behind 48 xs, (b, stands, less, place)))
+      | inl less ↦ (read, r.3, refl, (place_behind header.seal.form 48 xs, (b, stands, less, place)))
       | inr le ↦
           let whole : IsJournal bytes header (take r.0 bs ++ drop r.0 bs) = subst (λ (z : List Batch). IsJournal bytes header z) (sym (take-append-drop r.0 bs)) j in
           absurd (changed (read_is_put bytes c kept.kept r.1 header (take r.0 bs) (drop r.0 bs) b.settled whole kept.parts kept.journal has.1 (omega (arith, le, long))))

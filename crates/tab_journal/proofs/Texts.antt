@@ -1,7 +1,10 @@
 -- Texts that are put together piece by piece.
 use Rattle.std.proofs.Common.{◌≡◌, ℕ, List, ◌++◌, ap, ◌∙◌, append_assoc}
 
-pub built_of_four : (a b c d t2 t3 t4 : List ℕ) → t2 ≡ a ++ b → t3 ≡ t2 ++ c → t4 ≡ t3 ++ d → t4 ≡ a ++ (b ++ (c ++ d))
+pub built_of_three : (a b c t2 t3 : List ℕ) → t2 ≡ a ++ b → t3 ≡ t2 ++ c → t3 ≡ a ++ (b ++ c)
+built_of_three a b c t2 t3 e2 e3 = e3 ∙ ap (λ (z : List ℕ). z ++ c) e2 ∙ append_assoc a b c
+
+built_of_four : (a b c d t2 t3 t4 : List ℕ) → t2 ≡ a ++ b → t3 ≡ t2 ++ c → t4 ≡ t3 ++ d → t4 ≡ a ++ (b ++ (c ++ d))
 built_of_four a b c d t2 t3 t4 e2 e3 e4 =
     e4 ∙ ap (λ (z : List ℕ). z ++ d) (e3 ∙ ap (λ (z : List ℕ). z ++ c) e2 ∙ append_assoc a b c) ∙ append_assoc a (b ++ c) d ∙ ap (λ (z : List ℕ). a ++ z) (append_assoc b c d)
 

@@ -17,7 +17,7 @@ IsAsBefore n outcomes c = (d : List ℕ) × outcomes d × (take n c ≡ take n d
 -- first m batches that were put, it is the next one that was put.
 abbrev pub NoneByChance : Header → List Batch → List ℕ → Type 0
 NoneByChance header bs c =
-    (m : ℕ) (kept left rest : List ℕ) (b : Batch) → c ≡ kept ++ left → IsJournal kept header (take m bs) → batch_at header.salt (last_sum header (take m bs)) left ≡ Some (b, rest)
+    (m : ℕ) (kept left rest : List ℕ) (b : Batch) → c ≡ kept ++ left → IsJournal kept header (take m bs) → batch_at header.seal (last_sum header (take m bs)) left ≡ Some (b, rest)
     → take (suc m) bs ≡ take m bs ++ b ∷ []
 
 -- what is read is the header, and of the batches that were put the first ones, k of them at least

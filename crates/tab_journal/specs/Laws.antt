@@ -4,6 +4,9 @@ use Rattle.std.specs.Int.{w64, cast_unsigned}
 use Rattle.std.specs.List.{fold}
 use Rattle.tab_history.specs.declared.event.Event.{Event}
 use Rattle.tab_parts.specs.Parts.{IsBytes}
+use Rattle.tab_journal.specs.declared.seal.Form.{Form}
+use Rattle.tab_journal.specs.declared.seal.Form.TheVariants.{Plain, Tagged}
+use Rattle.tab_journal.specs.declared.seal.Seal.{Seal}
 use Rattle.tab_journal.specs.Journals.{sum_of, Header, header_summed, IsHeader, AreEntries, Batch, batch_summed, IsBatch, IsJournal}
 use Rattle.tab_journal.specs.Spelling.{header_bytes, batch_bytes}
 use Rattle.tab_journal.specs.Reading.{entries_in, batch_at, Journal, journal_of}
@@ -21,7 +24,7 @@ pub record IsKept (bytes : List ℕ) (j : Journal) : Type 0 where
   pub kept : List ℕ
   pub parts : bytes ≡ kept ++ j.left
   pub journal : IsJournal kept j.header j.batches
-  pub ends : batch_at j.header.salt (last_sum j.header j.batches) j.left ≡ None
+  pub ends : batch_at j.header.seal (last_sum j.header j.batches) j.left ≡ None
 
 abbrev pub WholeBatchesAreKept : Type 0
 WholeBatchesAreKept = (bytes : List ℕ) (j : Journal) → IsBytes bytes → journal_of bytes ≡ Some j → IsKept bytes j
@@ -42,12 +45,17 @@ pub record FitsFront (f : Header) : Type 0 where
   pub next : f.next < 2 ^ 64
   pub clock : FitsSigned w64 f.clock
   pub bits : cast_unsigned w64 f.clock < 2 ^ 64
-  pub salt : f.salt < 2 ^ 64
+  pub salt : f.seal.salt < 2 ^ 64
   pub sum : f.sum < 2 ^ 64
-  pub right : f.sum ≡ sum_of (header_summed f.format f.generation f.next f.clock f.salt)
+  pub right : f.sum ≡ sum_of (header_summed f.format f.generation f.next f.clock f.seal)
+
+-- a tag says a salt of eight bytes
+abbrev pub FitsTag : Form → ℕ → Type 0
+FitsTag Plain salt = Unit {0}
+FitsTag Tagged salt = salt < 2 ^ 64
 
 abbrev pub TextsHaveForm : Type 0
 TextsHaveForm =
     ((f : Header) → FitsFront f → IsHeader (header_bytes f) f)
-    × ((salt before settled : ℕ) (body : List ℕ) → settled < 2 ^ 64 → length body < 2 ^ 32 → sum_of (batch_summed salt before settled body) < 2 ^ 64
-    → IsBatch salt before (batch_bytes salt before settled body) (record { settled = settled; body = body; sum = sum_of (batch_summed salt before settled body) }))
+    × ((seal : Seal) (before settled : ℕ) (body : List ℕ) → FitsTag seal.form seal.salt → settled < 2 ^ 64 → length body < 2 ^ 32 → sum_of (batch_summed seal.salt before settled body) < 2 ^ 64
+    → IsBatch seal before (batch_bytes seal before settled body) (record { settled = settled; body = body; sum = sum_of (batch_summed seal.salt before settled body) }))

@@ -6,6 +6,8 @@ pub mod Stretches
 pub mod Gathering
 pub mod Laws
 pub mod Said
+pub mod Cursors
+pub mod Readers
 pub mod Examples
 pub mod Device
 pub mod Crashes

@@ -2,39 +2,61 @@
 use Rattle.std.specs.Prelude.{ℕ, ℤ, zero, suc, ◌==◌, List, [], ◌∷◌, length, bytes_eq, Option, Some, None, unwrap_or, if◌then◌else◌}
 use Rattle.tab_history.specs.declared.event.Act.{Act}
 use Rattle.tab_history.specs.declared.event.Event.{Event}
-use Rattle.tab_parts.specs.Reading.{◌>>=◌, Reader, and_then, mapped, picked, only_if, whole, u64_at, i64_at, bytes_at, field_at, is_name, name_at}
+use Rattle.tab_parts.specs.Reading.{◌>>=◌, Reader, and_then, mapped, picked, given, only_if, whole, u64_at, i64_at, bytes_at, field_at, is_name, name_at}
 use Rattle.tab_wire.specs.Requests.{request_in}
 use Rattle.tab_wire.specs.declared.request.Request.{Request}
 use Rattle.tab_wire.specs.declared.request.Request.TheVariants as asks
 use Rattle.tab_journal.specs.declared.format.Format.{Format}
 use Rattle.tab_journal.specs.declared.format.Format.TheVariants.{Lines, Events}
+use Rattle.tab_journal.specs.declared.seal.Form.{Form}
+use Rattle.tab_journal.specs.declared.seal.Form.TheVariants.{Plain, Tagged}
+use Rattle.tab_journal.specs.declared.seal.Seal.{Seal}
 use Rattle.tab_journal.specs.Journals.{sum_of, mark, Header, header_summed, Batch, batch_summed}
 
 -- ---- the header
-abbrev pub header_of : Format → ℕ → ℕ → ℤ → ℕ → ℕ → Option Header
-header_of format generation next clock salt sum = only_if (λ (f : Header). f.sum == sum_of (header_summed f.format f.generation f.next f.clock f.salt)) (record { format = format; generation = generation; next = next; clock = clock; salt = salt; sum = sum })
+abbrev pub header_of : Format × Form → ℕ → ℕ → ℤ → ℕ → ℕ → Option Header
+header_of kind generation next clock salt sum =
+    only_if (λ (f : Header). f.sum == sum_of (header_summed f.format f.generation f.next f.clock f.seal))
+    (record { format = kind.0; generation = generation; next = next; clock = clock; seal = record { form = kind.1; salt = salt }; sum = sum })
 
--- the format whose mark this is
-abbrev pub format_of : List ℕ → Option Format
-format_of text = if bytes_eq text (mark Lines) then Some Lines else if bytes_eq text (mark Events) then Some Events else None
+-- the format and the form whose mark this is
+abbrev pub kind_of : List ℕ → Option (Format × Form)
+kind_of text =
+    if bytes_eq text (mark Lines Plain) then Some (Lines, Plain)
+    else if bytes_eq text (mark Events Plain) then Some (Events, Plain)
+    else if bytes_eq text (mark Lines Tagged) then Some (Lines, Tagged)
+    else if bytes_eq text (mark Events Tagged) then Some (Events, Tagged)
+    else None
 
-unfoldable pub mark_at : Reader Format
-mark_at bytes = picked format_of (bytes_at 8) bytes
+unfoldable pub mark_at : Reader (Format × Form)
+mark_at bytes = picked kind_of (bytes_at 8) bytes
 
 unfoldable pub header_at : Reader Header
-header_at bytes = and_then mark_at (λ format. and_then u64_at (λ generation. and_then u64_at (λ next. and_then i64_at (λ clock. and_then u64_at (λ salt. picked (header_of format generation next clock salt) u64_at))))) bytes
+header_at bytes = and_then mark_at (λ kind. and_then u64_at (λ generation. and_then u64_at (λ next. and_then i64_at (λ clock. and_then u64_at (λ salt. picked (header_of kind generation next clock salt) u64_at))))) bytes
 
 -- ---- batches
 abbrev pub batch_of : ℕ → ℕ → ℕ → List ℕ → ℕ → Option Batch
 batch_of salt before settled body sum = only_if (λ (b : Batch). b.sum == sum_of (batch_summed salt before b.settled b.body)) (record { settled = settled; body = body; sum = sum })
 
-unfoldable pub batch_at : ℕ → ℕ → Reader Batch
-batch_at salt before bytes = and_then u64_at (λ settled. and_then field_at (λ body. picked (batch_of salt before settled body) u64_at)) bytes
+-- one without its tag
+unfoldable pub summed_at : ℕ → ℕ → Reader Batch
+summed_at salt before bytes = and_then u64_at (λ settled. and_then field_at (λ body. picked (batch_of salt before settled body) u64_at)) bytes
+
+abbrev pub tag_of : ℕ → ℕ → Option (Unit {0})
+tag_of salt n = if n == salt then Some tt else None
+
+-- the tag, of which nothing is to be known but that it stands there
+unfoldable pub tag_in : Form → ℕ → Reader (Unit {0})
+tag_in Plain salt bytes = given tt bytes
+tag_in Tagged salt bytes = picked (tag_of salt) u64_at bytes
+
+unfoldable pub batch_at : Seal → ℕ → Reader Batch
+batch_at seal before bytes = and_then (tag_in seal.form seal.salt) (λ tag. summed_at seal.salt before) bytes
 
 -- at most so many batches, and what stands behind them
-abbrev pub batches_within : ℕ → ℕ → ℕ → List ℕ → List Batch × List ℕ
-batches_within salt before zero bytes = ([], bytes)
-batches_within salt before (suc k) bytes = unwrap_or (batch_at salt before bytes >>= λ b. let behind = batches_within salt b.0.sum k b.1 in Some (b.0 ∷ behind.0, behind.1)) ([], bytes)
+abbrev pub batches_within : Seal → ℕ → ℕ → List ℕ → List Batch × List ℕ
+batches_within seal before zero bytes = ([], bytes)
+batches_within seal before (suc k) bytes = unwrap_or (batch_at seal before bytes >>= λ b. let behind = batches_within seal b.0.sum k b.1 in Some (b.0 ∷ behind.0, behind.1)) ([], bytes)
 
 -- ---- journals
 -- the header, the whole batches behind it, and what is left behind these
@@ -44,7 +66,7 @@ pub record Journal : Type 0 where
   pub left : List ℕ
 
 abbrev pub journal_from : Header × List ℕ → Journal
-journal_from f = let read = batches_within f.0.salt f.0.sum (length f.1) f.1 in record { header = f.0; batches = read.0; left = read.1 }
+journal_from f = let read = batches_within f.0.seal f.0.sum (length f.1) f.1 in record { header = f.0; batches = read.0; left = read.1 }
 
 -- what these bytes say; nothing, where they don't begin with a header
 unfoldable pub journal_of : List ℕ → Option Journal

@@ -6,12 +6,13 @@ use Rattle.tab_journal.specs.declared.device.DeviceError.TheVariants.{Failed}
 use Rattle.tab_journal.specs.declared.write_error.WriteError.{WriteError}
 use Rattle.tab_journal.specs.declared.write_error.WriteError.TheVariants.{NoMemory, TooLong, Full, Stopped, Device as OfDevice}
 use Rattle.tab_journal.specs.declared.writer.Writer.{Writer}
+use Rattle.tab_journal.specs.declared.seal.Seal.{Seal}
 use Rattle.tab_journal.specs.Journals.{Header, Batch}
-use Rattle.tab_journal.specs.Writing.{IsWritten}
+use Rattle.tab_journal.specs.Writing.{around, IsWritten}
 
--- the salt and the last sum; how many bytes are written, and how many of them are on the disk; and whether a call has failed
+-- the seal and the last sum; how many bytes are written, and how many of them are on the disk; and whether a call has failed
 pub record Place : Type 0 where
-  pub salt : ℕ
+  pub seal : Seal
   pub sum : ℕ
   pub written : ℕ
   pub settled : ℕ
@@ -22,17 +23,17 @@ module _ {D : Type 0} {g : Ghosts D} where
   device_of w = w.device
 
   abbrev pub place_of : Writer D g → Place
-  place_of w = record { salt = w.salt; sum = w.sum; written = w.written; settled = w.settled; has_failed = w.has_failed }
+  place_of w = record { seal = w.seal; sum = w.sum; written = w.written; settled = w.settled; has_failed = w.has_failed }
 
   -- what it has written is this header and these batches, of which the first k are on the disk
   abbrev pub Writes : (D → List ℕ) → Writer D g → Header → List Batch → ℕ → Type 0
-  Writes seen w = IsWritten (seen w.device) w.salt w.sum w.settled
+  Writes seen w = IsWritten (seen w.device) w.seal w.sum w.settled
 
   -- why these bytes aren't put, and what stands afterwards
   abbrev pub Refuses : (D → ℕ) → Writer D g → Writer D g → List ℕ → WriteError → Type 0
   Refuses faults old new body NoMemory = new ≡ old
   Refuses faults old new body TooLong = (2 ^ 32 ≤ length body) × (new ≡ old)
-  Refuses faults old new body Full = (2 ^ 64 ≤ old.written + (20 + length body)) × (new ≡ old)
+  Refuses faults old new body Full = (2 ^ 64 ≤ old.written + (around old.seal.form + length body)) × (new ≡ old)
   Refuses faults old new body Stopped = (old.has_failed ≡ true) × (new ≡ old)
   Refuses faults old new body (OfDevice reason) = (new.has_failed ≡ true) × ((e : Error) → reason ≡ Failed e → faults old.device < faults new.device)
 

@@ -26,7 +26,7 @@ pub fn put_header<D: Device>(
     ensures failed { IfErr result (HasReason (D.faults device.old) (D.faults device.new)) }
 {
     let text = header_text(alloc, header)?;
-    device.append(text)?;
+    device.append(text.as_slice())?;
     device.sync()?;
     Ok(())
 }

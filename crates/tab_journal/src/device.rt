@@ -63,11 +63,11 @@ pub trait Device {
     ghost is_usable: { Self → Bool };
 
     /// Puts these bytes behind those that are there. Until a sync, a crash may leave any bytes in their place.
-    fn append(&mut self, bytes: Vec<u8>) -> Result<(), DeviceError>
+    fn append(&mut self, bytes: &[u8]) -> Result<(), DeviceError>
         requires { is_usable self.old ≡ true }
-        ensures written { OnOk result (seen self.new ≡ seen self.old ++ bytes.items) }
+        ensures written { OnOk result (seen self.new ≡ seen self.old ++ bytes.now) }
         ensures usable { OnOk result (is_usable self.new ≡ true) }
-        ensures crash { Follows (Torn (length (seen self.old)) (length bytes.items)) (may_leave self.old) (may_leave self.new) }
+        ensures crash { Follows (Torn (length (seen self.old)) (length bytes.now)) (may_leave self.old) (may_leave self.new) }
         ensures time { Elapses (moment self.old) (moment self.new) (left_since self.old) (left_since self.new) (may_leave self.new) }
         ensures cause { HasCause (faults self.old) (faults self.new) result };
 

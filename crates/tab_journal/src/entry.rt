@@ -47,7 +47,7 @@ fn whole_entry<'a>(
     }
 }
 
-// The same where the user's name is known.
+// The entry of these parts, where the user's name is known, and what stands behind it.
 fn named_entry<'a>(
     alloc: Global,
     moment: i64,

@@ -31,7 +31,7 @@ pub fn act_fits(act: &RecordedAct)
     }
 }
 
-// The same of an act of names, rows and numbers.
+// The act, one of names, rows and numbers, fits.
 fn plain_fits(act: &PlainAct)
     ensures { FitsAct (plain_in act.now) }
 {

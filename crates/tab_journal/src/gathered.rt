@@ -122,6 +122,13 @@ impl Gathered {
         self.text.bytes()
     }
 
+    /// How many bytes these are.
+    pub fn len(&self) -> usize
+        ensures { result ≡ length self.now.bytes }
+    {
+        self.text.bytes().len()
+    }
+
     /// Whether nothing is kept.
     pub fn is_empty(&self) -> bool
         ensures { result ≡ (length self.now.bytes == 0) }

@@ -19,7 +19,7 @@ pub fn leaves_trace(act: &RecordedAct) -> bool
     }
 }
 
-// The same of an act of names, rows and numbers.
+// `leaves_trace` of an act of names, rows and numbers.
 fn plain_leaves_trace(act: &PlainAct) -> bool
     ensures { result ≡ leaves_trace (plain_in act.now) }
 {
@@ -54,7 +54,7 @@ pub fn moves_clock(reply: &Reply) -> bool
     }
 }
 
-// The same of a refusal.
+// `moves_clock` of an event that was refused.
 fn refusal_moves_clock(refusal: &Refusal) -> bool
     ensures { result ≡ moves_clock (Reply.Refused refusal.now) }
 {

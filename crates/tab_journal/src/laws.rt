@@ -39,7 +39,7 @@ pub fn damage_is_told()
     ensures { DamageIsTold }
 {}
 
-/// The same of the entries that the bytes of a batch may be.
+/// Bytes are read as a batch's entries exactly where they are these entries.
 pub fn entries_are_read()
     ensures { EntriesAreRead }
 {}

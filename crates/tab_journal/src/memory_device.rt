@@ -63,14 +63,15 @@ impl Device for MemoryDevice {
 
     ghost only_now = { λ d. only_now (history d.calls.items) };
 
-    fn append(&mut self, bytes: Vec<u8>) -> Result<(), DeviceError> {
+    fn append(&mut self, bytes: &[u8]) -> Result<(), DeviceError> {
+        let kept = bytes.to_vec(self.alloc)?;
         if self.good == 0 {
-            push_call(&mut self.calls, false, false, bytes)?;
+            push_call(&mut self.calls, false, false, kept)?;
             return Err(DeviceError::Failed(Error::from(ErrorKind::Other)));
         }
         let mut next = self.bytes.to_vec(self.alloc)?;
-        next.extend_from_slice(bytes.as_slice())?;
-        push_call(&mut self.calls, false, true, bytes)?;
+        next.extend_from_slice(bytes)?;
+        push_call(&mut self.calls, false, true, kept)?;
         self.bytes = next;
         self.good -= 1;
         Ok(())

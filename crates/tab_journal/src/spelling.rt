@@ -45,7 +45,7 @@ pub fn put_act<W: Output>(output: &mut W, act: &RecordedAct) -> Result<(), Write
     }
 }
 
-// The same of an act of names, rows and numbers.
+// `put_act` of an act of names, rows and numbers.
 fn put_plain<W: Output>(output: &mut W, act: &PlainAct) -> Result<(), WriteFault>
     ensures { Puts W.Output output.old output.new (trace_bytes (plain_in act.now)) result }
 {

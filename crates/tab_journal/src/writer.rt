@@ -1,26 +1,34 @@
 //! A journal that is being written.
-ghost use Rattle.std.specs.Prelude.{◌≡◌, ◌≤◌, ◌++◌, ◌∷◌, [], ℕ, List, true, false, length, IfOk, IfErr, OnOk, IsErrOf, MatchResult};
+ghost use Rattle.std.specs.Prelude.{◌≡◌, ◌≤◌, ◌++◌, ◌∷◌, [], ℕ, List, true, false, length, Some, IfOk, IfErr, OnOk, IsErrOf, MatchResult};
 ghost use Rattle.tab_journal.specs.Device.{Only, LeavesOnly};
 ghost use Rattle.tab_journal.specs.Crashes.{HasFirst, IsAsBefore};
 ghost use Rattle.tab_journal.specs.Journals.{sum_of, header_summed, batch_summed, Header as TheFront, Batch};
 ghost use Rattle.tab_journal.specs.Reasons.{HasReason};
+ghost use Rattle.tab_journal.specs.Reading.{Journal, journal_of};
+ghost use Rattle.tab_journal.specs.Readers.{Ends};
 ghost use Rattle.tab_journal.specs.Said.{header_in};
 ghost use Rattle.tab_journal.specs.Spelling.{header_bytes, batch_bytes};
 ghost use Rattle.tab_journal.specs.Writing.{KeepFirst, IsSomeJournal};
 ghost use Rattle.tab_journal.specs.declared.write_error.WriteError.TheVariants.{Stopped};
 
-use crate::batch::batch_text;
+use crate::batch::batch_head;
 use crate::beginning::put_header;
 use crate::device::Device;
 use crate::header::Header;
+use crate::journal_end::JournalEnd;
+use crate::putting::put_three;
+use crate::seal::Seal;
+use crate::sums::batch_sum;
 use crate::write_error::WriteError;
 use std::alloc::Global;
 
 // The most bytes in a batch.
 const MOST: usize = 0xffff_ffff;
 
-// How many bytes a header has.
+// How many bytes a header has, and a sum.
 const FRONT: u64 = 48;
+
+const SUM: u64 = 8;
 
 /// A journal that is being written into a device: batch after batch, each behind the sum of the one before.
 ///
@@ -30,7 +38,7 @@ const FRONT: u64 = 48;
 pub struct Writer<D: Device> {
     alloc: Global,
     device: D,
-    salt: u64,
+    seal: Seal,
     // the sum that the next batch has before it
     sum: u64,
     // how many bytes are written, and how many of them are on the disk
@@ -41,7 +49,7 @@ pub struct Writer<D: Device> {
     ghost counted: { has_failed ≡ false → written ≡ length (D.Device.seen device) },
     ghost ordered: { settled ≤ written },
     ghost kept: { has_failed ≡ false → KeepFirst settled (D.Device.seen device) (D.Device.may_leave device) },
-    ghost journal: { has_failed ≡ false → ∥ IsSomeJournal (D.Device.seen device) salt sum settled ∥₁ },
+    ghost journal: { has_failed ≡ false → ∥ IsSomeJournal (D.Device.seen device) seal sum settled ∥₁ },
 }
 
 impl<D: Device> Writer<D> {
@@ -53,10 +61,10 @@ impl<D: Device> Writer<D> {
         requires empty { D.seen device ≡ [] }
         requires settled { Only [] (D.may_leave device) }
         requires usable { D.is_usable device ≡ true }
-        requires right { header.sum ≡ sum_of (header_summed header.format header.generation header.next header.clock header.salt) }
+        requires right { header.sum ≡ sum_of (header_summed header.format header.generation header.next header.clock header.seal) }
         ensures begun { IfOk result (λ w. D.seen (device_of w) ≡ header_bytes (header_in header)) }
         ensures durable { IfOk result (λ w. Only (D.seen (device_of w)) (D.may_leave (device_of w))) }
-        ensures place { IfOk result (λ w. place_of w ≡ record { salt = header.salt; sum = header.sum; written = 48; settled = 48; has_failed = false }) }
+        ensures place { IfOk result (λ w. place_of w ≡ record { seal = header.seal; sum = header.sum; written = 48; settled = 48; has_failed = false }) }
         ensures none { IfOk result (λ w. Writes D.seen w (header_in header) [] 0) }
         ensures any_moment { MatchResult result
             (λ w. LeavesOnly D.moment D.left_since device (device_of w) (λ c. length c ≤ 48))
@@ -68,7 +76,7 @@ impl<D: Device> Writer<D> {
             Ok(()) => Ok(Writer {
                 alloc,
                 device,
-                salt: header.salt,
+                seal: header.seal,
                 sum: header.sum,
                 written: FRONT,
                 settled: FRONT,
@@ -76,6 +84,33 @@ impl<D: Device> Writer<D> {
             }),
             Err(error) => Err((error, device)),
         }
+    }
+
+    /// Goes on in a journal that was read from this device to its end, of which nothing else is left there, and which is on the disk. `Err`: what it
+    /// says of the disk can't be so, which nothing that was written by a writer does; the device is handed back.
+    pub fn resume(alloc: Global, device: D, end: &JournalEnd) -> Result<Writer<D>, D>
+        requires read { Ends (D.seen device) end.now }
+        requires whole { end.now.left ≡ 0 }
+        requires durable { Only (D.seen device) (D.may_leave device) }
+        requires usable { D.is_usable device ≡ true }
+        ensures device { IfOk result (λ w. device_of w ≡ device) }
+        ensures place { IfOk result (λ w. place_of w ≡ record { seal = end.now.header.seal; sum = end.now.sum; written = end.now.length; settled = end.now.length; has_failed = false }) }
+        // what it has written is what was read, all of it on the disk
+        ensures batches { (j : Journal) → journal_of (D.seen device) ≡ Some j → IfOk result (λ w. Writes D.seen w j.header j.batches (length j.batches)) }
+        ensures refused { IfErr result (λ d. (d ≡ device) × (end.now.is_timely ≡ false)) }
+    {
+        if !end.is_timely {
+            return Err(device);
+        }
+        Ok(Writer {
+            alloc,
+            device,
+            seal: end.header.seal,
+            sum: end.sum,
+            written: end.length,
+            settled: end.length,
+            has_failed: false,
+        })
     }
 
     /// How many bytes the journal has.
@@ -106,11 +141,17 @@ impl<D: Device> Writer<D> {
         &self.device
     }
 
-    /// Puts these bytes as one batch. They needn't be on the disk yet. Memory is taken for the text of the batch.
+    /// Puts these bytes as one batch. They needn't be on the disk yet. They aren't copied: memory is taken for what stands before them, at most 20
+    /// bytes.
+    ///
+    /// # Errors
+    ///
+    /// `NoMemory`, `TooLong`, `Full`: nothing is put, and nothing has changed, so that the next call may go well. `Device`: the device failed, and
+    /// nothing more is put; `Stopped` from then on.
     pub fn put(&mut self, body: &[u8]) -> Result<(), WriteError>
-        ensures written { OnOk result (D.seen (device_of self.new) ≡ D.seen (device_of self.old) ++ batch_bytes (place_of self.old).salt (place_of self.old).sum (place_of self.old).settled body.now) }
+        ensures written { OnOk result (D.seen (device_of self.new) ≡ D.seen (device_of self.old) ++ batch_bytes (place_of self.old).seal (place_of self.old).sum (place_of self.old).settled body.now) }
         ensures place { OnOk result (place_of self.new ≡ record (place_of self.old) {
-          sum = sum_of (batch_summed (place_of self.old).salt (place_of self.old).sum (place_of self.old).settled body.now);
+          sum = sum_of (batch_summed (place_of self.old).seal.salt (place_of self.old).sum (place_of self.old).settled body.now);
           written = length (D.seen (device_of self.new));
         }) }
         // one batch more stands there
@@ -128,12 +169,15 @@ impl<D: Device> Writer<D> {
         if body.len() > MOST {
             return Err(WriteError::TooLong);
         }
-        let (text, sum) = batch_text(self.alloc, self.salt, self.sum, self.settled, body)?;
-        let Some(written) = self.written.checked_add(text.len() as u64) else {
+        let length = body.len() as u32;
+        let head = batch_head(self.alloc, self.seal, self.settled, length)?;
+        let beside = head.len() as u64 + SUM;
+        let Some(written) = self.written.checked_add(beside + body.len() as u64) else {
             return Err(WriteError::Full);
         };
+        let sum = batch_sum(self.seal.salt, self.sum, self.settled, body);
         self.has_failed = true;
-        self.device.append(text)?;
+        put_three(&mut self.device, head.as_slice(), body, &sum.to_be_bytes())?;
         self.has_failed = false;
         self.sum = sum;
         self.written = written;

@@ -19,11 +19,11 @@ invariant_of-self-2 g c =
       counted = λ good. long;
       ordered = omega arith;
       kept = λ good. subst (λ (n : ℕ). KeepFirst n now (g.D.Device.may_leave c.sync.new.self)) (sym long) (only_keeps now (g.D.Device.may_leave c.sync.new.self) durable);
-      journal = λ good. ∥∥₁_map (w.journal ok) (λ j. (j.0, j.1, length j.1, settled_as file now w.salt w.sum w.settled w.written j.0 j.1 j.2 same (w.counted ok) j.3));
+      journal = λ good. ∥∥₁_map (w.journal ok) (λ j. (j.0, j.1, length j.1, settled_as file now w.seal w.sum w.settled w.written j.0 j.1 j.2 same (w.counted ok) j.3));
     }
 
 pub returns-clause-batches : goal.returns-clause-batches
 returns-clause-batches g c header bs k is =
     let w = c.args.self.now in
     let ok : w.has_failed ≡ false = search rules in
-    settled_as (g.D.Device.seen w.device) (g.D.Device.seen c.sync.new.self) w.salt w.sum w.settled w.written header bs k c.in_ok-sync.ensures.seen (w.counted ok) is
+    settled_as (g.D.Device.seen w.device) (g.D.Device.seen c.sync.new.self) w.seal w.sum w.settled w.written header bs k c.in_ok-sync.ensures.seen (w.counted ok) is
