@@ -1,17 +1,20 @@
 -- What is read of a beginning of a journal's bytes.
-use Rattle.std.proofs.Common.{◌≡◌, ℕ, ◌+◌, ◌-◌, ◌≤◌, ◌<◌, List, ◌++◌, length, take, drop, Option, Some, None, option_map, inl, inr, refl, sym, ap, subst, ◌∙◌, append_assoc, take-append-drop, length-append, arith}
+use Rattle.std.proofs.Common.{◌≡◌, ℕ, ◌+◌, ◌-◌, ◌≤◌, true, false, List, ◌++◌, length, take, drop, Option, Some, None, option_map, inl, inr, refl, sym, ap, subst, ◌∙◌, append_assoc, take-append-drop, length-append, arith}
 use Rattle.std.specs.Prelude.{unwrap_or}
-use Rattle.std.proofs.lemmas.List.{drop_at, length-take, take_min}
+use Rattle.std.proofs.lemmas.List.{drop_at, length-take, take_min, take_all}
 use Rattle.tab_parts.specs.Parts.{IsBytes}
 use Rattle.tab_parts.specs.Reading.{◌>>=◌, Reader}
 use Rattle.tab_parts.specs.Exactness.{Exact}
 use Rattle.tab_parts.proofs.Exact.{bytes-drop, bytes-take, some_inj, bind_some}
 use Rattle.tab_journal.specs.Damage.{IsDamaged, read_of}
-use Rattle.tab_journal.specs.Journals.{Header, Batch, IsHeader, IsBatch}
+use Rattle.tab_journal.specs.Journals.{Header, Batch, IsHeader, IsBatch, IsJournal}
 use Rattle.tab_journal.specs.Laws.{last_sum}
 use Rattle.tab_journal.specs.Reading.{header_at, batch_at, batches_within, Journal, journal_from, journal_of}
-use Rattle.tab_journal.specs.Said.{Content, kept_of}
-use Rattle.tab_journal.proofs.Forms.{exact_front, exact_batch}
+use Rattle.tab_journal.specs.Readers.{Ends}
+use Rattle.tab_journal.specs.Said.{End}
+use Rattle.tab_journal.specs.declared.journal_end.JournalEnd.{JournalEnd}
+use Rattle.tab_journal.specs.declared.seal.Seal.{Seal}
+use Rattle.tab_journal.proofs.Forms.{exact_front, exact_batch, batch_long}
 use Rattle.tab_journal.proofs.Whole.{take_beyond, batches_complete, whole_batches_are_kept}
 use Rattle.tab_recovery.specs.Cutting.{Cut}
 use Rattle.tab_recovery.specs.TakingUp.{end_of, without_left, IsDamagedAt, IsSound, KeepsAll, CutsKeepAll}
@@ -36,8 +39,8 @@ module _ {A : Type 0} (reads : Reader A) (Says : List ℕ → A → Type 0) (e :
   none_before none = by_read (reads (take m bytes)) refl none
 
 -- ---- damage in a beginning is damage
-damage_on : (salt n m : ℕ) (bytes : List ℕ) → IsDamaged salt n (take m bytes) → IsDamaged salt n bytes
-damage_on salt n m bytes d =
+damage_on : (seal : Seal) (n m : ℕ) (bytes : List ℕ) → IsDamaged seal n (take m bytes) → IsDamaged seal n bytes
+damage_on seal n m bytes d =
     let s = d.1.1 in
     let more : bytes ≡ s.ahead ++ (s.sum ++ (s.text ++ (s.behind ++ drop m bytes))) =
     sym (take-append-drop m bytes) ∙ ap (λ (z : List ℕ). z ++ drop m bytes) s.spelled ∙ append_assoc s.ahead (s.sum ++ (s.text ++ s.behind)) (drop m bytes)
@@ -49,6 +52,7 @@ pub record ReadOn (bytes : List ℕ) (j : Journal) (m : ℕ) : Type 0 where
   left : List ℕ
   read : journal_of (take m bytes) ≡ Some (record { header = j.header; batches = j.batches; left = left })
   place : length (take m bytes) - length left ≡ read_of bytes j
+  within : length left ≤ length (take m bytes)
 
 read_on : (bytes : List ℕ) (j : Journal) (m : ℕ) → IsBytes bytes → journal_of bytes ≡ Some j → read_of bytes j ≤ m → ReadOn bytes j m
 unfolding journal_of
@@ -57,20 +61,21 @@ read_on bytes j m fits is le =
     let f = k.journal in
     let n = length k.kept in
     let left = take (m - n) j.left in
-    let salt = j.header.salt in
+    let seal = j.header.seal in
     let last = last_sum j.header j.batches in
     let long : length bytes ≡ n + length j.left = ap (λ (z : List ℕ). length z) k.parts ∙ length-append k.kept j.left in
     let part : take m bytes ≡ k.kept ++ left = ap (λ (z : List ℕ). take m z) k.parts ∙ take_beyond m (m - n) k.kept j.left (omega (arith, le, long)) in
     let rest : IsBytes j.left = subst IsBytes (ap (λ (z : List ℕ). drop n z) k.parts ∙ drop_at k.kept j.left n refl) (bytes-drop n bytes fits) in
     let whole : take m bytes ≡ f.0 ++ (f.1 ++ left) = part ∙ ap (λ (z : List ℕ). z ++ left) f.2 ∙ append_assoc f.0 f.1 left in
     let front : header_at (take m bytes) ≡ Some (j.header, f.1 ++ left) = ap header_at whole ∙ exact_front.complete f.0 (f.1 ++ left) j.header f.3 in
-    let ends : batch_at salt last left ≡ None = none_before (batch_at salt last) (IsBatch salt last) (exact_batch salt last) j.left (m - n) rest k.ends in
-    let all : batches_within salt j.header.sum (length (f.1 ++ left)) (f.1 ++ left) ≡ (j.batches, left) = batches_complete salt j.batches (length (f.1 ++ left)) j.header.sum f.1 left f.4 (omega arith) ends in
+    let ends : batch_at seal last left ≡ None = none_before (batch_at seal last) (IsBatch seal last) (exact_batch seal last) j.left (m - n) rest k.ends in
+    let all : batches_within seal j.header.sum (length (f.1 ++ left)) (f.1 ++ left) ≡ (j.batches, left) = batches_complete seal j.batches (length (f.1 ++ left)) j.header.sum f.1 left f.4 (omega arith) ends in
     record {
       left = left;
       read = bind_some (header_at (take m bytes)) (j.header, f.1 ++ left) (λ h. Some (journal_from h)) (Some (record { header = j.header; batches = j.batches; left = left })) front
           (ap (λ (p : List Batch × List ℕ). Some (record { header = j.header; batches = p.0; left = p.1 })) all);
       place = omega (arith, long, ap (λ (z : List ℕ). length z) part, length-append k.kept left);
+      within = omega (arith, ap (λ (z : List ℕ). length z) part, length-append k.kept left);
     }
 
 -- nothing is read of a beginning of bytes of which nothing is read
@@ -92,39 +97,26 @@ end_at_most bytes (Some j) = omega arith
 pub end_within : (bytes : List ℕ) → end_of bytes ≤ length bytes
 end_within bytes = end_at_most bytes (journal_of bytes)
 
-pub end_behind : (bytes : List ℕ) (kept : Content) (o : Option Journal) → Some kept ≡ option_map kept_of o → length bytes - kept.left ≡ unwrap_or (option_map (read_of bytes) o) 0
-end_behind bytes kept None is = absurd cc
-end_behind bytes kept (Some j) is = ap (λ (k : Content). length bytes - k.left) (some_inj kept (kept_of j) is)
+-- ---- an end that is told
+module _ (bytes : List ℕ) (e : JournalEnd) (ends : Ends bytes e) where
+  pub end_told : e.length ≡ end_of bytes
+  end_told = ap (λ (x : End). x.length) ends.end ∙ ap (λ (o : Option Journal). unwrap_or (option_map (read_of bytes) o) 0) (sym ends.read)
 
-pub end_nowhere : (bytes : List ℕ) (o : Option Journal) → option_map kept_of o ≡ None → 0 ≡ unwrap_or (option_map (read_of bytes) o) 0
-end_nowhere bytes None is = refl
-end_nowhere bytes (Some j) is = absurd cc
+  pub all_counted : e.length + e.left ≡ length bytes
+  all_counted =
+      let k = whole_batches_are_kept bytes ends.journal ends.fits ends.read in
+      let long : length bytes ≡ length k.kept + length ends.journal.left = ap (λ (z : List ℕ). length z) k.parts ∙ length-append k.kept ends.journal.left in
+      omega (arith, long, ap (λ (x : End). x.length) ends.end, ap (λ (x : End). x.left) ends.end)
 
--- ---- what is kept is sound, or damaged
-pub damaged_behind : (bytes : List ℕ) (kept : Content) (o : Option Journal) → journal_of bytes ≡ o → Some kept ≡ option_map kept_of o → IsDamaged kept.header.salt (length bytes - kept.left) bytes
-    → IsDamagedAt bytes (length bytes - kept.left)
-damaged_behind bytes kept None read is damaged = absurd cc
-damaged_behind bytes kept (Some j) read is damaged =
-    let same : kept ≡ kept_of j = some_inj kept (kept_of j) is in
-    inr (j, read, ap (λ (k : Content). length bytes - k.left) same, subst (λ (k : Content). IsDamaged k.header.salt (length bytes - kept.left) bytes) same damaged)
+  pub damaged_told : IsDamaged e.header.seal e.length bytes → IsDamagedAt bytes e.length
+  damaged_told damaged = inr (ends.journal, ends.read, ap (λ (x : End). x.length) ends.end, subst (λ (x : End). IsDamaged x.header.seal e.length bytes) ends.end damaged)
 
-pub sound_behind : (bytes : List ℕ) (kept : Content) → Some kept ≡ option_map kept_of (journal_of bytes) → (IsDamaged kept.header.salt (length bytes - kept.left) bytes → ⊥) → IsSound bytes
-sound_behind bytes kept is not n (inl (none, long, zero)) = both kept (option_map kept_of (journal_of bytes)) (sym is) (ap (option_map kept_of) none)
-sound_behind bytes kept is not n (inr (j, read, place, damaged)) =
-    let same : kept ≡ kept_of j = some_inj kept (kept_of j) (is ∙ ap (option_map kept_of) read) in
-    let here : n ≡ length bytes - kept.left = place ∙ sym (ap (λ (k : Content). length bytes - k.left) same) in
-    not (subst (λ (k : ℕ). IsDamaged kept.header.salt k bytes) here (subst (λ (k : Content). IsDamaged k.header.salt n bytes) (sym same) damaged))
-
-pub sound_headless : (bytes : List ℕ) → option_map kept_of (journal_of bytes) ≡ None → length bytes ≤ 48 → IsSound bytes
-sound_headless bytes is short n (inl (none, long, zero)) = absurd (omega (arith, short, long))
-sound_headless bytes is short n (inr (j, read, place, damaged)) = both (kept_of j) (option_map kept_of (journal_of bytes)) (ap (option_map kept_of) read) is
-
-no_journal : (o : Option Journal) → option_map kept_of o ≡ None → o ≡ None
-no_journal None is = refl
-no_journal (Some j) is = absurd cc
-
-pub damaged_headless : (bytes : List ℕ) → option_map kept_of (journal_of bytes) ≡ None → 48 < length bytes → IsDamagedAt bytes 0
-damaged_headless bytes is long = inl (no_journal (journal_of bytes) is, long, refl)
+  pub sound_told : (IsDamaged e.header.seal e.length bytes → ⊥) → IsSound bytes
+  sound_told not n (inl (none, long, zero)) = both ends.journal (journal_of bytes) ends.read none
+  sound_told not n (inr (j, read, place, damaged)) =
+      let same : j ≡ ends.journal = some_inj j ends.journal (sym read ∙ ends.read) in
+      let here : n ≡ e.length = place ∙ ap (λ (x : Journal). length bytes - length x.left) same ∙ sym (ap (λ (x : End). x.length) ends.end) in
+      not (subst (λ (k : ℕ). IsDamaged e.header.seal k bytes) here (subst (λ (s : Seal). IsDamaged s n bytes) (ap (λ (x : Journal). x.header.seal) same ∙ sym (ap (λ (x : End). x.header.seal) ends.end)) damaged))
 
 -- ---- a beginning that has all that is read
 module _ (bytes : List ℕ) (m : ℕ) (fits : IsBytes bytes) where
@@ -158,8 +150,8 @@ module _ (bytes : List ℕ) (m : ℕ) (fits : IsBytes bytes) where
       some_sound r sound n (inr (x, read, place, damaged)) =
           let same : x ≡ record { header = j.header; batches = j.batches; left = r.left } = some_inj _ _ (sym read ∙ r.read) in
           let here : n ≡ read_of bytes j = place ∙ ap (λ (y : Journal). length (take m bytes) - length y.left) same ∙ r.place in
-          let there : IsDamaged j.header.salt n (take m bytes) = subst (λ (y : Journal). IsDamaged y.header.salt n (take m bytes)) same damaged in
-          sound n (inr (j, is, here, damage_on j.header.salt n m bytes there))
+          let there : IsDamaged j.header.seal n (take m bytes) = subst (λ (y : Journal). IsDamaged y.header.seal n (take m bytes)) same damaged in
+          sound n (inr (j, is, here, damage_on j.header.seal n m bytes there))
 
   keeps_by : (o : Option Journal) → journal_of bytes ≡ o → unwrap_or (option_map (read_of bytes) o) 0 ≤ m → KeepsAll bytes (take m bytes)
   keeps_by None is le = keeps_none is
@@ -167,6 +159,40 @@ module _ (bytes : List ℕ) (m : ℕ) (fits : IsBytes bytes) where
 
 pub cuts_keep_all : CutsKeepAll
 cuts_keep_all bytes m fits le = keeps_by bytes m fits (journal_of bytes) refl le
+
+-- ---- what is left of a journal that is cut to its whole batches
+pub ends_cut : (bytes : List ℕ) (e made : JournalEnd) → Ends bytes e → made ≡ record e { left = 0; is_damaged = false } → Ends (take e.length bytes) made
+ends_cut bytes e made ends is = subst (Ends (take e.length bytes)) (sym is) cut
+  where
+    j : Journal
+    j = ends.journal
+
+    place : e.length ≡ read_of bytes j
+    place = ap (λ (x : End). x.length) ends.end
+
+    long : length (take e.length bytes) ≡ e.length
+    long = omega (arith, place, length-take e.length bytes)
+
+    -- no batch stands behind the end
+    nothing_behind : IsDamaged e.header.seal e.length (take e.length bytes) → ⊥
+    nothing_behind d =
+        let s = d.1.1 in
+        let all : length (take e.length bytes) ≡ length s.ahead + length (s.sum ++ (s.text ++ s.behind)) = ap (λ (z : List ℕ). length z) s.spelled ∙ length-append s.ahead (s.sum ++ (s.text ++ s.behind)) in
+        omega (arith, all, long, s.place, d.1.2, d.1.3, length-append s.sum (s.text ++ s.behind), length-append s.text s.behind, batch_long e.header.seal s.before s.text d.1.0 s.whole)
+
+    cut : Ends (take e.length bytes) (record e { left = 0; is_damaged = false })
+    cut =
+        let r = read_on bytes j e.length ends.fits ends.read (omega (arith, place)) in
+        let none : 0 ≡ length r.left = omega (arith, r.place, place, long, r.within) in
+        let all : e.length ≡ length (take e.length bytes) - length r.left = omega (arith, long, none) in
+        record {
+          journal = record { header = j.header; batches = j.batches; left = r.left };
+          fits = bytes-take e.length bytes ends.fits;
+          read = r.read;
+          end = λ i. record { header = (ends.end i).header; sum = (ends.end i).sum; length = all i; left = none i; is_timely = (ends.end i).is_timely };
+          whole = subst (λ (z : List ℕ). IsJournal z j.header j.batches) (sym (take_all e.length (take e.length bytes) (omega (arith, long)))) ends.whole;
+          judged = (λ (t : false ≡ true). absurd cc, λ d. absurd (nothing_behind d));
+        }
 
 pub cut_keeps : (bytes c : List ℕ) → IsBytes bytes → Cut (end_of bytes) bytes c → KeepsAll bytes c
 cut_keeps bytes c fits cut =

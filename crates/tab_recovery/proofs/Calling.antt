@@ -1,11 +1,12 @@
 -- A file of which the calls are known is one that may be cut.
-use Rattle.std.proofs.Common.{◌≡◌, ◌⊎◌, ℕ, ◌+◌, ◌≤◌, Bool, true, false, ◌&&◌, List, [], ◌∷◌, ◌++◌, length, take, inl, inr, refl, sym, ap, subst, ◌∙◌, length-append, arith}
+use Rattle.std.proofs.Common.{◌≡◌, ◌⊎◌, ℕ, ◌+◌, ◌≤◌, ◌<◌, Bool, true, false, ◌&&◌, ◌||◌, List, [], ◌∷◌, ◌++◌, length, take, inl, inr, refl, sym, ap, subst, ◌∙◌, length-append, arith}
+use Rattle.std.proofs.lemmas.Bool.{lt-ltb}
 use Rattle.std.proofs.lemmas.List.{take_all, drop_all, take-append-le, length-take, take_min}
 use Rattle.tab_journal.specs.Device.{Torn, Follows, Only, Elapses}
 use Rattle.tab_recovery.specs.Cutting.{Cut}
-use Rattle.tab_recovery.specs.Calls.{Call, seen_after, left_after, seen_behind, MayLeave, is_usable_behind, LeftSince}
+use Rattle.tab_recovery.specs.Calls.{Call, seen_after, left_after, seen_behind, MayLeave, is_usable_behind, is_read_behind, LeftSince}
 use Rattle.tab_recovery.specs.declared.file_call.Asked.{Asked}
-use Rattle.tab_recovery.specs.declared.file_call.Asked.TheVariants.{Found, Append, Cut as CutTo, Sync}
+use Rattle.tab_recovery.specs.declared.file_call.Asked.TheVariants.{Found, Read, Append, Cut as CutTo, Sync}
 
 -- ---- what is there is what a crash may leave, as long as no call has failed
 not_usable : (a : Bool) → (a && false) ≡ true → ⊥
@@ -33,6 +34,7 @@ cut_whole n seen =
 
 left_by : (asked : Asked) (ok : Bool) (bytes seen : List ℕ) (old : List ℕ → Type 0) (usable : Bool) → old seen → (usable && ok) ≡ true → left_after asked ok bytes seen old (seen_after asked ok bytes seen)
 left_by Found ok bytes seen old usable was is = tt
+left_by (Read n) ok bytes seen old usable was is = tt
 left_by Append true bytes seen old usable was is = (seen, was, put_whole seen bytes)
 left_by Append false bytes seen old usable was is = absurd (not_usable usable is)
 left_by (CutTo n) true bytes seen old usable was is = (seen, was, cut_whole n seen)
@@ -91,3 +93,10 @@ module _ (old new : List Call) where
 
   pub settled_by : (bytes file : List ℕ) → new ≡ (Sync, true, bytes) ∷ old → file ≡ seen_behind old → Only file (MayLeave new)
   settled_by bytes file more is c left = subst (λ (z : List Call). MayLeave z c) more left ∙ sym is
+
+  -- what was read is known behind what was known
+  pub read_by : (n : ℕ) (bytes file : List ℕ) → new ≡ (Read n, true, bytes) ∷ old → file ≡ seen_behind old → file ++ bytes ≡ seen_behind new
+  read_by n bytes file more is = ap (λ (z : List ℕ). z ++ bytes) is ∙ ap seen_behind (sym more)
+
+  pub end_by : (n : ℕ) (bytes : List ℕ) → new ≡ (Read n, true, bytes) ∷ old → length bytes < n → is_read_behind new ≡ true
+  end_by n bytes more less = ap is_read_behind more ∙ ap (λ (b : Bool). b || is_read_behind old) (lt-ltb (length bytes) n less)

@@ -3,6 +3,7 @@ use Rattle.std.proofs.Common.{◌≡◌, ℕ, List, [], take, Option, Some, None
 use Rattle.tab_parts.proofs.Exact.{some_inj}
 use Rattle.tab_journal.specs.Crashes.{IsReadFrom}
 use Rattle.tab_journal.specs.Damage.{IsDamaged, read_of, EndsTorn}
+use Rattle.tab_journal.specs.declared.seal.Seal.{Seal}
 use Rattle.tab_journal.specs.Journals.{Header, Batch}
 use Rattle.tab_journal.specs.Reading.{Journal, journal_of}
 use Rattle.tab_journal.proofs.Crashing.{crashes_leave_beginnings}
@@ -16,8 +17,8 @@ sound_torn n header c t m (inl (none, long, zero)) = both t.0 (journal_of c) t.1
 sound_torn n header c t m (inr (j, read, place, damaged)) =
     let same : j ≡ t.0 = some_inj j t.0 (sym read ∙ t.1) in
     let here : m ≡ read_of c t.0 = place ∙ ap (read_of c) same in
-    let salt : j.header.salt ≡ header.salt = ap (λ (x : Journal). x.header.salt) same ∙ ap (λ (h : Header). h.salt) t.2 in
-    t.4 (subst (λ (k : ℕ). IsDamaged header.salt k c) here (subst (λ (s : ℕ). IsDamaged s m c) salt damaged))
+    let seals : j.header.seal ≡ header.seal = ap (λ (x : Journal). x.header.seal) same ∙ ap (λ (h : Header). h.seal) t.2 in
+    t.4 (subst (λ (k : ℕ). IsDamaged header.seal k c) here (subst (λ (s : Seal). IsDamaged s m c) seals damaged))
 
 -- of what keeps all, the same is read
 read_by : (header : Header) (bs : List Batch) (d : List ℕ) (o : Option Journal) → journal_of d ≡ o → option_map without_left o ≡ Some (record { header = header; batches = bs; left = [] })
@@ -33,7 +34,7 @@ reads_same k header bs c d keeps r =
     (r.0, t.0, r.2, t.1)
 
 pub crashes_are_taken_up : CrashesAreTakenUp
-crashes_are_taken_up bytes c d salt sum n k header bs fits written has none later keeps =
-    let torn = crashes_leave_torn_ends bytes c salt sum n k header bs written has later in
+crashes_are_taken_up bytes c d seal sum n k header bs fits written has none later keeps =
+    let torn = crashes_leave_torn_ends bytes c seal sum n k header bs written has later in
     let read = crashes_leave_beginnings bytes c header bs n k fits written.first has none in
     (keeps.sound (sound_torn n header c torn), reads_same k header bs c d keeps read)

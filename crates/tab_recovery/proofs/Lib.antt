@@ -5,3 +5,4 @@ pub mod Beginnings
 pub mod Calling
 pub mod Taking
 pub mod Crashed
+pub mod Leaving

@@ -1,19 +1,11 @@
 -- What is left where a journal is taken up.
-use Rattle.std.proofs.Common.{◌≡◌, ℕ, List, length, take, inl, inr, ⊎_elim, refl, sym, ap, subst, ◌∙◌, arith}
+use Rattle.std.proofs.Common.{◌≡◌, ℕ, List, length, take, refl, sym, ap, subst, ◌∙◌, arith}
 use Rattle.std.proofs.lemmas.List.{take_all}
 use Rattle.tab_parts.specs.Parts.{IsBytes}
-use Rattle.tab_journal.specs.Device.{Only, LeavesOnly}
+use Rattle.tab_journal.specs.Device.{Only}
 use Rattle.tab_recovery.specs.Cutting.{Cut}
 use Rattle.tab_recovery.specs.TakingUp.{end_of, KeepsAll}
 use Rattle.tab_recovery.proofs.Beginnings.{cuts_keep_all, cut_keeps}
-
--- a crash leaves what has P, and so what has Q
-pub weaker : {D : Type 0} (moment : D → ℕ) (left_since : D → ℕ → List ℕ → Type 0) (old new : D) (P Q : List ℕ → Type 0) → ((c : List ℕ) → P c → Q c) → LeavesOnly moment left_since old new P → LeavesOnly moment left_since old new Q
-weaker moment left_since old new P Q to only = record {
-  later = only.later;
-  each = λ c left. to c (only.each c left);
-  before = λ t c le left. ⊎_elim (λ was. inl was) (λ now. inr (to c now)) (only.before t c le left);
-}
 
 -- before anything is cut
 pub keeps_still : (bytes seen : List ℕ) (may_leave : List ℕ → Type 0) → seen ≡ bytes → Only seen may_leave → (c : List ℕ) → may_leave c → KeepsAll bytes c

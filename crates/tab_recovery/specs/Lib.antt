@@ -4,6 +4,7 @@ pub mod Answering
 pub mod Cutting
 pub mod Calls
 pub mod Past
-pub mod LeftDevices
+pub mod CallLogs
 pub mod TakingUp
+pub mod Leaving
 pub mod LeftFiles

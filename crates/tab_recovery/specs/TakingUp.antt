@@ -1,15 +1,16 @@
 -- To be believed by whoever relies on it. What is left where a journal is taken up that a crash left, and what another crash leaves of that.
-use Rattle.std.specs.Prelude.{⊤, ℕ, ◌≡◌, ◌⊎◌, ◌<◌, ◌≤◌, List, [], length, take, Option, Some, None, option_map, unwrap_or}
+use Rattle.std.specs.Prelude.{ℕ, ◌≡◌, ◌⊎◌, ◌<◌, ◌≤◌, List, [], length, take, Option, Some, None, option_map, unwrap_or}
 use Rattle.std.specs.declared.io.Error.{Error}
 use Rattle.tab_parts.specs.Parts.{IsBytes}
 use Rattle.tab_journal.specs.Crashes.{HasFirst, NoneByChance, IsReadFrom}
 use Rattle.tab_journal.specs.Damage.{IsDamaged, read_of, NoneLaterByChance}
+use Rattle.tab_journal.specs.declared.seal.Seal.{Seal}
 use Rattle.tab_journal.specs.Journals.{Header, Batch}
 use Rattle.tab_journal.specs.Reading.{Journal, journal_of}
 use Rattle.tab_journal.specs.Writing.{IsWritten}
 use Rattle.tab_journal.specs.declared.device.DeviceError.TheVariants.{Failed}
 use Rattle.tab_recovery.specs.declared.take_up_fault.TakeUpFault.{TakeUpFault}
-use Rattle.tab_recovery.specs.declared.take_up_fault.TakeUpFault.TheVariants.{NoMemory, Damaged, Device as OfDevice}
+use Rattle.tab_recovery.specs.declared.take_up_fault.TakeUpFault.TheVariants.{Damaged, Device as OfDevice}
 
 -- how many bytes are read: those of the header and of the whole batches, or none, where there is no header
 abbrev pub end_of : List ℕ → ℕ
@@ -26,7 +27,7 @@ whole_in bytes = option_map without_left (journal_of bytes)
 abbrev pub IsDamagedAt : List ℕ → ℕ → Type 0
 IsDamagedAt bytes n =
     ((journal_of bytes ≡ None) × (48 < length bytes) × (n ≡ 0))
-    ⊎ ((j : Journal) × (journal_of bytes ≡ Some j) × (n ≡ read_of bytes j) × IsDamaged j.header.salt n bytes)
+    ⊎ ((j : Journal) × (journal_of bytes ≡ Some j) × (n ≡ read_of bytes j) × IsDamaged j.header.seal n bytes)
 
 -- they aren't damaged, wherever
 abbrev pub IsSound : List ℕ → Type 0
@@ -38,15 +39,8 @@ pub record KeepsAll (bytes c : List ℕ) : Type 0 where
   pub same : whole_in c ≡ whole_in bytes
   pub sound : IsSound bytes → IsSound c
 
--- why bytes can't be read
-abbrev pub CannotBeRead : List ℕ → TakeUpFault → Type 0
-CannotBeRead bytes NoMemory = ⊤
-CannotBeRead bytes (Damaged n) = IsDamagedAt bytes n
-CannotBeRead bytes (OfDevice reason) = ⊥
-
 -- why bytes aren't taken up, and what stands then: nothing has changed, or the device has failed
 abbrev pub Refuses : {D : Type 0} → (D → ℕ) → D → D → List ℕ → TakeUpFault → Type 0
-Refuses faults old new bytes NoMemory = new ≡ old
 Refuses faults old new bytes (Damaged n) = IsDamagedAt bytes n × (new ≡ old)
 Refuses faults old new bytes (OfDevice reason) = (e : Error) → reason ≡ Failed e → faults old < faults new
 
@@ -59,5 +53,5 @@ CutsKeepAll = (bytes : List ℕ) (m : ℕ) → IsBytes bytes → end_of bytes �
 -- a beginning of what was put, with all that was on the disk before the first crash; unless bytes that this one left look by chance like a batch.
 abbrev pub CrashesAreTakenUp : Type 0
 CrashesAreTakenUp =
-    (bytes c d : List ℕ) (salt sum n k : ℕ) (header : Header) (bs : List Batch) → IsBytes c → IsWritten bytes salt sum n header bs k → HasFirst n bytes c
-    → NoneByChance header bs c → NoneLaterByChance salt n bs c → KeepsAll c d → IsSound d × IsReadFrom k header bs d
+    (bytes c d : List ℕ) (seal : Seal) (sum n k : ℕ) (header : Header) (bs : List Batch) → IsBytes c → IsWritten bytes seal sum n header bs k → HasFirst n bytes c
+    → NoneByChance header bs c → NoneLaterByChance seal n bs c → KeepsAll c d → IsSound d × IsReadFrom k header bs d

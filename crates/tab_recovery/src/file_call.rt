@@ -3,8 +3,10 @@
 /// What was asked of a file.
 #[derive(Clone, Copy, Debug, PartialEq, Eq)]
 pub enum Asked {
-    /// Nothing: some bytes were found in it.
+    /// Nothing: it was found, with bytes of which nothing is known.
     Found,
+    /// To read the next of them, so many.
+    Read(usize),
     /// To put some bytes behind those that are there.
     Append,
     /// To cut it to its first bytes, so many.

@@ -1,93 +1,115 @@
 //! A device in memory that has bytes from the beginning.
-ghost use Rattle.std.specs.Prelude.{◌≡◌, true, length, IfOk};
-ghost use Rattle.tab_journal.specs.Device.{Only};
-ghost use Rattle.tab_recovery.specs.Calls.{seen_behind, is_usable_behind, faults_behind, MayLeave, LeftSince};
-ghost use Rattle.tab_recovery.specs.LeftDevices.{history};
+ghost use Rattle.std.specs.Prelude.{◌≡◌, [], true, length};
+ghost use Rattle.tab_recovery.specs.CallLogs.{calls_in};
+ghost use Rattle.tab_recovery.specs.Calls.{seen_behind, is_usable_behind, is_read_behind, faults_behind, MayLeave, LeftSince};
 ghost use Rattle.tab_recovery.specs.Past.{counts_now, only_now};
 
+use crate::call_log::CallLog;
 use crate::file_call::Asked;
-use crate::kept_call::{KeptCall, push_call};
 use crate::recoverable::Recoverable;
-use std::alloc::{AllocError, Global};
+use std::alloc::Global;
 use std::io::{Error, ErrorKind};
-use tab_journal::{Device, DeviceError};
+use tab_journal::{Device, DeviceError, Source};
 
-/// A device in memory that a crash left with some bytes, and which keeps each call.
+/// A device in memory that a crash left with some bytes.
 #[derive(Drop)]
 pub struct LeftDevice {
     alloc: Global,
     // how many more calls go well
     good: usize,
-    calls: Vec<KeptCall>,
-    bytes: Vec<u8>,
-    ghost same: { bytes.items ≡ seen_behind (history calls.items) },
+    calls: CallLog,
+    // the bytes that were read or put, and behind them those that aren't read yet
+    seen: Vec<u8>,
+    unread: Vec<u8>,
+    ghost same: { seen.items ≡ seen_behind (calls_in calls) },
 }
 
 impl LeftDevice {
     ghost use Rattle.tab_recovery.specs.LeftFiles.{calls_of, bytes_of};
 
-    /// A device that was left with these bytes, all of them on the disk, of which so many calls go well and all others fail.
-    pub fn new(alloc: Global, good: usize, bytes: Vec<u8>) -> Result<LeftDevice, AllocError>
-        ensures found { IfOk result (λ device. bytes_of device ≡ bytes.items) }
-        ensures settled { IfOk result (λ device. Only bytes.items (MayLeave (calls_of device))) }
-        ensures usable { IfOk result (λ device. is_usable_behind (calls_of device) ≡ true) }
+    /// A device that was left with these bytes, of which so many calls go well and all others fail.
+    pub fn new(alloc: Global, good: usize, bytes: Vec<u8>) -> LeftDevice
+        ensures found { bytes_of result ≡ [] }
+        ensures usable { is_usable_behind (calls_of result) ≡ true }
     {
-        let mut calls = Vec::new(alloc);
-        let found = bytes.as_slice().to_vec(alloc)?;
-        push_call(&mut calls, Asked::Found, true, found)?;
-        push_call(&mut calls, Asked::Sync, true, Vec::new(alloc))?;
-        Ok(LeftDevice {
+        LeftDevice {
             alloc,
             good,
-            calls,
-            bytes,
-        })
+            calls: CallLog::new().and(Asked::Found, true, b""),
+            seen: Vec::new(alloc),
+            unread: bytes,
+        }
     }
 
-    /// The bytes that are there.
-    pub fn bytes(&self) -> &[u8]
+    /// The bytes that were read or put.
+    pub fn seen(&self) -> &[u8]
         ensures { result.now ≡ bytes_of self.now }
     {
-        self.bytes.as_slice()
+        self.seen.as_slice()
+    }
+
+    /// Those that aren't read yet.
+    pub fn unread(&self) -> &[u8] {
+        self.unread.as_slice()
     }
 }
 
 impl Device for LeftDevice {
-    ghost seen = { λ d. d.bytes.items };
+    ghost seen = { λ d. d.seen.items };
 
-    ghost may_leave = { λ d. MayLeave (history d.calls.items) };
+    ghost may_leave = { λ d. MayLeave (calls_in d.calls) };
 
-    ghost moment = { λ d. length (history d.calls.items) };
+    ghost moment = { λ d. length (calls_in d.calls) };
 
-    ghost left_since = { λ d. LeftSince (history d.calls.items) };
+    ghost left_since = { λ d. LeftSince (calls_in d.calls) };
 
-    ghost faults = { λ d. faults_behind (history d.calls.items) };
+    ghost faults = { λ d. faults_behind (calls_in d.calls) };
 
-    ghost is_usable = { λ d. is_usable_behind (history d.calls.items) };
+    ghost is_usable = { λ d. is_usable_behind (calls_in d.calls) };
 
-    ghost counts_now = { λ d. counts_now (history d.calls.items) };
+    ghost counts_now = { λ d. counts_now (calls_in d.calls) };
 
-    ghost only_now = { λ d. only_now (history d.calls.items) };
+    ghost only_now = { λ d. only_now (calls_in d.calls) };
 
-    fn append(&mut self, bytes: Vec<u8>) -> Result<(), DeviceError> {
+    fn append(&mut self, bytes: &[u8]) -> Result<(), DeviceError> {
         if self.good == 0 {
-            push_call(&mut self.calls, Asked::Append, false, bytes)?;
+            self.calls = self.calls.and(Asked::Append, false, bytes);
             return Err(DeviceError::Failed(Error::from(ErrorKind::Other)));
         }
-        let mut next = self.bytes.to_vec(self.alloc)?;
-        next.extend_from_slice(bytes.as_slice())?;
-        push_call(&mut self.calls, Asked::Append, true, bytes)?;
-        self.bytes = next;
+        self.seen.extend_from_slice(bytes)?;
+        self.calls = self.calls.and(Asked::Append, true, bytes);
         self.good -= 1;
         Ok(())
     }
 
     fn sync(&mut self) -> Result<(), DeviceError> {
         if self.good == 0 {
-            push_call(&mut self.calls, Asked::Sync, false, Vec::new(self.alloc))?;
+            self.calls = self.calls.and(Asked::Sync, false, b"");
             return Err(DeviceError::Failed(Error::from(ErrorKind::Other)));
         }
-        push_call(&mut self.calls, Asked::Sync, true, Vec::new(self.alloc))?;
+        self.calls = self.calls.and(Asked::Sync, true, b"");
+        self.good -= 1;
+        Ok(())
+    }
+}
+
+impl Source for LeftDevice {
+    ghost is_read = { λ d. is_read_behind (calls_in d.calls) };
+
+    fn read(&mut self, most: usize, into: &mut Vec<u8>) -> Result<(), DeviceError> {
+        let asked = Asked::Read(most);
+        if self.good == 0 {
+            self.calls = self.calls.and(asked, false, b"");
+            return Err(DeviceError::Failed(Error::from(ErrorKind::Other)));
+        }
+        let (more, rest) = self.unread.split_at(most.min(self.unread.len()));
+        let left = rest.to_vec(self.alloc)?;
+        let mut seen = self.seen.to_vec(self.alloc)?;
+        seen.extend_from_slice(more)?;
+        into.extend_from_slice(more)?;
+        self.calls = self.calls.and(asked, true, more);
+        self.seen = seen;
+        self.unread = left;
         self.good -= 1;
         Ok(())
     }
@@ -97,11 +119,12 @@ impl Recoverable for LeftDevice {
     fn cut(&mut self, count: usize) -> Result<(), DeviceError> {
         let asked = Asked::Cut(count);
         if self.good == 0 {
-            push_call(&mut self.calls, asked, false, Vec::new(self.alloc))?;
+            self.calls = self.calls.and(asked, false, b"");
             return Err(DeviceError::Failed(Error::from(ErrorKind::Other)));
         }
-        push_call(&mut self.calls, asked, true, Vec::new(self.alloc))?;
-        self.bytes.truncate(count);
+        self.calls = self.calls.and(asked, true, b"");
+        self.seen.truncate(count);
+        self.unread.clear();
         self.good -= 1;
         Ok(())
     }

@@ -1,12 +1,12 @@
 //! A file that a crash may have left, as recovery sees it.
-ghost use Rattle.std.specs.Prelude.{◌≡◌, ◌≤◌, ℕ, List, true, length, take, OnOk};
+ghost use Rattle.std.specs.Prelude.{◌≡◌, ◌≤◌, true, length, take, OnOk};
 ghost use Rattle.tab_journal.specs.Device.{Follows, Elapses, HasCause};
 ghost use Rattle.tab_recovery.specs.Cutting.{Cut};
 
-use tab_journal::{Device, DeviceError};
+use tab_journal::{DeviceError, Source};
 
 /// A file that a crash may have left: its end can be cut off.
-pub trait Recoverable: Device {
+pub trait Recoverable: Source {
     /// Cuts it to its first bytes, so many. Until a sync, a crash may leave more of those that were there.
     fn cut(&mut self, count: usize) -> Result<(), DeviceError>
         requires usable { Self.is_usable self.old ≡ true }
