@@ -2,7 +2,7 @@
 use Rattle.std.specs.Prelude.{List}
 use Rattle.tab_folder.specs.declared.file_device.FileDevice.{FileDevice}
 use Rattle.tab_recovery.specs.Calls.{Call}
-use Rattle.tab_folder.specs.Calls.{history}
+use Rattle.tab_recovery.specs.CallLogs.{calls_in}
 
 abbrev pub calls_of : FileDevice → List Call
-calls_of d = history d.calls.items
+calls_of d = calls_in d.calls

@@ -1,8 +1,10 @@
 //! Why a folder can't be taken up, and why nothing is kept in it.
-use std::alloc::AllocError;
+use crate::names::StoreFile;
+use std::alloc::{AllocError, AllocFailed};
 use std::io::{Error, ErrorKind};
+use tab_host::{NotLoaded, NotSaved};
 use tab_journal::{DeviceError, WriteError};
-use tab_loading::LoadFault;
+use tab_recovery::ReplayFault;
 
 /// Why a folder can't be taken up, or nothing is kept in it. What it had before, it has still.
 #[derive(Clone, Copy, Debug, thiserror::Error)]
@@ -10,6 +12,12 @@ pub enum FolderFault {
     /// Another process has taken it up.
     #[error("another process has it")]
     Taken,
+    /// It belongs to another user than the one who runs the program, whom the files that are made there would belong to.
+    #[error("it belongs to another user")]
+    Owner,
+    /// Others than its owner may change it: its mode is this one.
+    #[error("others may change it: its mode is {0:o}")]
+    Writable(u32),
     /// There is no image in it.
     #[error("there is no image in it")]
     Empty,
@@ -19,18 +27,28 @@ pub enum FolderFault {
     /// There was no memory.
     #[error("there is no memory")]
     NoMemory,
-    /// The image of this number isn't loaded, for this reason.
-    #[error("image.{0}: {1}")]
-    Load(u64, LoadFault),
-    /// The journal of this number was begun on another image than the one of its number.
-    #[error("journal.{0} doesn't follow on image.{0}")]
+    /// This file isn't there, but what can't be without it.
+    #[error("{0} is missing")]
+    Missing(StoreFile),
+    /// The image in this file isn't loaded, for this reason.
+    #[error("{0}: {1}")]
+    Load(StoreFile, NotLoaded),
+    /// The journal of this number was begun on another core than the one that the files before it give.
+    #[error("journal.{0} doesn't follow on what is before it")]
     Strange(u64),
     /// The journal of this number has wrong bytes, from the place on or behind it, before others that had come to the disk.
     #[error("journal.{0} is damaged at {1}")]
     Damaged(u64, u64),
-    /// The journal of this number ends in bytes that are no whole batch, though it was whole on the disk when the next one was begun.
+    /// The journal of this number ends in bytes that are no whole batch, or has no header, though it was whole on the disk when the
+    /// next one was begun.
     #[error("journal.{0} is cut, and isn't the last one")]
     Torn(u64),
+    /// The journal of this number has no header, though it had one before its image was given its name.
+    #[error("journal.{0} has no header")]
+    Headless(u64),
+    /// The entries of the journal of this number aren't replayed, for this reason.
+    #[error("journal.{0}: {1}")]
+    Unfit(u64, ReplayFault),
     /// The next image isn't written, for this reason.
     #[error("the image can't be written: {0}")]
     Write(Error),
@@ -48,9 +66,30 @@ impl From<AllocError> for FolderFault {
     }
 }
 
+impl<T: Drop> From<AllocFailed<T>> for FolderFault {
+    fn from(_lack: AllocFailed<T>) -> FolderFault {
+        FolderFault::NoMemory
+    }
+}
+
 impl From<Error> for FolderFault {
     fn from(error: Error) -> FolderFault {
-        FolderFault::Refused(error)
+        match error.kind() {
+            ErrorKind::OutOfMemory => FolderFault::NoMemory,
+            _ => FolderFault::Refused(error),
+        }
+    }
+}
+
+impl From<NotSaved> for FolderFault {
+    fn from(fault: NotSaved) -> FolderFault {
+        match fault {
+            NotSaved::NoMemory => FolderFault::NoMemory,
+            NotSaved::Refused(error) => FolderFault::Write(error),
+            NotSaved::NoFile | NotSaved::NoName => FolderFault::Write(Error::from(
+                ErrorKind::Other,
+            )),
+        }
     }
 }
 

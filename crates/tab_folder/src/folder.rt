@@ -1,351 +1,213 @@
 //! The folder: taken up, read, and left with the next image.
+use crate::FolderFault;
+use crate::beginning::{NotBegun, begin_journal};
+use crate::contents::Contents;
+use crate::fronts::chain_in;
+use crate::hold::Hold;
+use crate::images::{place, remove_part, write_part};
 use crate::journal::Journal;
-use crate::left::left_in;
-use crate::names::{FileKind, PART, image_path, journal_path, kind_of, loaded_path};
-use crate::taking_up::{FILE_MODE, emptied, has_header, taken_up};
-use crate::{FolderFault, Left};
-use std::fs::{DirBuilder, File, OpenOptions, TryLockError};
-use std::io::{Error, ErrorKind, Read};
-use std::ops::Range;
-use std::os::unix::fs::{DirBuilderExt, OpenOptionsExt};
-use std::path::Path;
-use std::random::RandomSource;
-use std::{fs, io};
+use crate::listing::{Chain, Listing};
+use crate::loads::{KeptLoad, keep_failed, keep_loaded};
+use crate::names::StoreFile;
+use crate::sweeping::sweep;
+use crate::taking_up::{Place, TakenUp, opened, replayed, taken_up};
+use std::fs::File;
+use std::io::Error;
 use tab_core::Core;
-use tab_host::{Noting, put_image};
-use tab_io::BlockReader;
-use tab_journal::{Format, Header};
-use tab_saving::SaveFault;
-
-// Who may use the folder: whoever runs the program.
-const FOLDER_MODE: u32 = 0o700;
+use tab_journal::Format;
 
 /// A folder that was taken up. No other process takes it up until this is dropped.
 #[derive(Drop)]
 pub struct Folder<'a> {
     rt: &'a HostRuntime,
     path: &'a str,
-    // locked for as long as it is open
-    _lock: File,
-    // the greatest number of an image, and of an image or a journal
-    newest: Option<u64>,
-    last: Option<u64>,
+    hold: Hold,
+    // the newest image, and the last journal behind it that has a header
+    chain: Option<Chain>,
+    // whether an image was given the last journal's number, and may not be on the disk under it
+    is_in_doubt: bool,
 }
 
 impl<'a> Folder<'a> {
-    /// Takes the folder of this path up, which is made where it isn't there, for its owner alone. One that has no image, but what goes with one, is
-    /// damaged, since an image always stands before its journal: it is refused, and stays as it is.
+    /// Takes the folder of this path up, which is made where it isn't there, for its owner alone. It is refused where it belongs to
+    /// somebody else, or others may change it, and where a file is missing: it stays as it is then.
     pub fn open(rt: &'a HostRuntime, path: &'a str) -> Result<Folder<'a>, FolderFault> {
-        make(rt, path)?;
-        let lock = locked(rt, path)?;
-        let numbers = numbers(rt, path)?;
-        if let (None, Some(number)) = (numbers.newest, numbers.with) {
-            return Err(FolderFault::NoImage(number));
-        }
+        let hold = Hold::take(rt, path)?;
+        let chain = chain_in(rt, path)?;
         Ok(Folder {
             rt,
             path,
-            _lock: lock,
-            newest: numbers.newest,
-            last: numbers.last,
+            hold,
+            chain,
+            is_in_doubt: false,
         })
     }
 
     /// Whether there is an image in the folder of this path, as far as the system tells. Nothing is made.
     pub fn keeps_image(rt: &HostRuntime, path: &str) -> bool {
-        match numbers(rt, path) {
-            Ok(numbers) => numbers.newest.is_some(),
+        match Listing::of(rt, path) {
+            Ok(listing) => listing.has_image(),
             Err(_) => false,
         }
     }
 
     /// Whether there is an image in it.
     pub fn has_image(&self) -> bool {
-        self.newest.is_some()
+        self.chain.is_some()
     }
 
-    /// The core of its image. One that can't be loaded is told by its name, and no older one is taken in its place.
-    pub fn load(&self) -> Result<Core, FolderFault> {
-        let number = self.number()?;
-        let name = image_path(self.rt.alloc(), self.path, number)?;
-        self.read(number, name.as_str())
+    /// What it keeps.
+    pub fn contents(&self) -> Result<Contents<'_>, FolderFault> {
+        Ok(Contents::new(self.rt, self.path, self.chain()?))
     }
 
-    /// The core that a `load` of a run that didn't end has given, at this place among its loads.
-    pub fn loaded(&self, place: u64) -> Result<Core, FolderFault> {
-        let number = self.number()?;
-        let name = loaded_path(self.rt.alloc(), self.path, number, place)?;
-        self.read(number, name.as_str())
+    /// Its mode, where others than its owner may look into it.
+    pub fn seen_by_others(&self) -> Option<u32> {
+        self.hold.seen_by_others
     }
 
-    /// Keeps the core that a `load` gives, at this place among those of the run.
-    pub fn keep_loaded(&self, place: u64, core: &Core) -> Result<(), FolderFault> {
-        let number = self.number()?;
-        let name = loaded_path(self.rt.alloc(), self.path, number, place)?;
-        self.write(name.as_str(), core)
+    /// Why the system can't see the names of its files on the disk, where it can't.
+    pub fn unsynced(&self) -> Option<Error> {
+        self.hold.unsynced
     }
 
-    /// The numbers of the journals that stand behind its image, the first of which is the image's own: of an image that was being made the
-    /// journal may be there already.
-    pub fn journals(&self) -> Result<Range<u64>, FolderFault> {
-        let number = self.number()?;
-        let last = self.last.unwrap_or(number);
-        Ok(number..last.saturating_add(1))
+    /// Replays the entries of the journal of this number on this core, which it goes on from, and takes it up: what stands at the end
+    /// of the last one that is no whole batch is cut off, down to the disk; another one that is cut is refused, and so is one that is
+    /// damaged. The last one goes on where that is asked. After an error no file has changed.
+    pub fn replay(
+        &self,
+        number: u64,
+        core: &mut Core,
+        goes_on: bool,
+    ) -> Result<TakenUp, FolderFault> {
+        let place = self.place(number, core)?;
+        let file = self.journal_file(number)?;
+        replayed(self.rt.alloc(), file, place, core, goes_on && place.is_last)
     }
 
-    /// Takes up what a run that didn't end left in the journal of this number, which goes on from this core. What stands at its end that is no whole
-    /// batch is cut off, down to the disk; that is refused where a later journal was begun, and the file stays as it is. Memory is taken for the
-    /// whole journal.
-    pub fn take_up(&self, number: u64, core: &Core) -> Result<Left, FolderFault> {
-        let is_first = self.newest == Some(number);
+    /// Takes up the journal of this number, whose lines were replayed, as [`Folder::replay`] does. Tells how many bytes are cut off.
+    pub fn take_up(&self, number: u64) -> Result<u64, FolderFault> {
+        let place = self.chain()?.place(number, None);
+        taken_up(self.rt.alloc(), self.journal_file(number)?, place)
+    }
+
+    // The place of the journal of this number, which goes on from this core.
+    fn place(&self, number: u64, core: &Core) -> Result<Place, FolderFault> {
         let base = (core.next(), core.clock());
-        if !self.is_followed(number)? {
-            let name = journal_path(self.rt.alloc(), self.path, number)?;
-            return taken_up(self.rt, name.as_str(), number, is_first, base);
-        }
-        let left = left_behind(self.rt, self.path, number, is_first, base)?;
-        if left.cut > 0 {
-            return Err(FolderFault::Torn(number));
-        }
-        Ok(left)
+        Ok(self.chain()?.place(number, Some(base)))
     }
 
-    // Whether a journal behind this one has a header.
-    fn is_followed(&self, number: u64) -> Result<bool, FolderFault> {
-        let last = self.last.unwrap_or(number);
-        for later in number.saturating_add(1)..last.saturating_add(1) {
-            let name = journal_path(self.rt.alloc(), self.path, later)?;
-            if has_header(self.rt, name.as_str())? {
-                return Ok(true);
+    // The file of the journal of this number, to be read and changed.
+    fn journal_file(&self, number: u64) -> Result<File, FolderFault> {
+        let file = StoreFile::Journal(number);
+        let name = file.path(self.rt.alloc(), self.path)?;
+        opened(self.rt, name.as_str())?.ok_or(FolderFault::Missing(file))
+    }
+
+    /// Begins the next journal, which goes on from this core, once what was put into those before is on the disk.
+    pub fn begin_next(&mut self, core: &Core, format: Format) -> Result<Journal, NotBegun> {
+        let chain = self.chain()?;
+        let number = next_of(chain)?;
+        let journal = begin_journal(self.rt, self.path, &self.hold, number, core, format)?;
+        self.chain = Some(Chain {
+            image: chain.image,
+            last: Some(number),
+        });
+        self.is_in_doubt = false;
+        Ok(journal)
+    }
+
+    /// Whether no image stands yet right before the last journal, and none may.
+    pub fn lacks_image(&self) -> bool {
+        match self.chain {
+            Some(chain) => chain.last > Some(chain.image) && !self.is_in_doubt,
+            None => false,
+        }
+    }
+
+    /// Leaves an image of the core that the last journal goes on from as the newest one, on the disk, and removes what was there before
+    /// that. After an error the image before stands, with all journals behind it.
+    pub fn keep_image(&mut self, core: &Core) -> Result<(), FolderFault> {
+        let chain = self.chain()?;
+        let number = chain.last.ok_or(FolderFault::Empty)?;
+        write_part(self.rt, self.path, StoreFile::Image(number), core)?;
+        self.give_name(number)
+    }
+
+    /// Leaves an image of the core as the newest one, on the disk, with the next journal behind it, and removes what was there before.
+    /// After an error what was kept stands.
+    pub fn renew(&mut self, core: &Core, format: Format) -> Result<Journal, FolderFault> {
+        let number = match self.chain {
+            Some(chain) => next_of(chain)?,
+            None => 0,
+        };
+        write_part(self.rt, self.path, StoreFile::Image(number), core)?;
+        // (a folder that has a journal and no image is one that was begun where a part of the image is there)
+        self.hold.sync()?;
+        match begin_journal(self.rt, self.path, &self.hold, number, core, format) {
+            Ok(journal) => {
+                self.give_name(number)?;
+                Ok(journal)
+            }
+            Err(fault) => {
+                self.give_up(number);
+                Err(FolderFault::from(fault))
             }
         }
-        Ok(false)
     }
 
-    /// Begins the journal behind this image, whose core this is, for lines or events. What stood there is lost.
-    pub fn begin(&self, core: &Core, format: Format) -> Result<Journal, FolderFault> {
-        self.begin_at(self.number()?, core, format)
+    /// Keeps what a load of the script gives whose lines go into the last journal, at this place among its loads; or, where that lacks
+    /// room, that it failed. After an error it isn't known what a start finds.
+    pub fn keep_loaded(&self, place: u64, core: &Core) -> Result<KeptLoad, FolderFault> {
+        keep_loaded(self.rt, self.path, &self.hold, self.loaded_at(place)?, core)
     }
 
-    /// Begins the next journal of events, behind an image of this core that [`Folder::keep_next`] will make. What was put into the journals before
-    /// is to be on the disk.
-    pub fn begin_next(&mut self, core: &Core) -> Result<Journal, FolderFault> {
-        let number = self.next_number()?;
-        let journal = self.begin_at(number, core, Format::Events)?;
-        self.last = Some(number);
-        Ok(journal)
+    /// Keeps that the load at this place failed. After an error it isn't known what a start finds.
+    pub fn keep_failed(&self, place: u64) -> Result<(), FolderFault> {
+        keep_failed(self.rt, self.path, &self.hold, self.loaded_at(place)?)
     }
 
-    // Begins the journal of this number.
-    fn begin_at(&self, number: u64, core: &Core, format: Format) -> Result<Journal, FolderFault> {
-        let mut salt = [0; 8];
-        self.rt.fill_bytes(&mut salt)?;
-        let name = journal_path(self.rt.alloc(), self.path, number)?;
-        let device = emptied(self.rt, name.as_str())?;
-        let salt = u64::from_be_bytes(salt);
-        let header = Header::new(format, number, core.next(), core.clock(), salt);
-        let journal = Journal::begin(self.rt.alloc(), device, header)?;
-        sync_folder(self.rt, self.path)?;
-        Ok(journal)
+    // The file of the load at this place, of the last journal.
+    fn loaded_at(&self, place: u64) -> Result<StoreFile, FolderFault> {
+        let chain = self.chain()?;
+        let journal = chain.last.ok_or(FolderFault::Empty)?;
+        Ok(StoreFile::Loaded(journal, place))
     }
 
-    /// Leaves an image of the core as the newest one, on the disk, and removes what was there before. After an error the image before stands.
-    pub fn keep(&mut self, core: &Core) -> Result<(), FolderFault> {
-        let number = self.next_number()?;
-        self.keep_at(number, core)?;
-        self.last = Some(number);
-        Ok(())
-    }
-
-    /// Leaves an image of the core behind which the last journal was begun, and removes what was there before that.
-    pub fn keep_next(&mut self, core: &Core) -> Result<(), FolderFault> {
-        let number = self.last.ok_or(FolderFault::Empty)?;
-        self.keep_at(number, core)
-    }
-
-    /// How many bytes its image has.
-    pub fn image_length(&self) -> Result<u64, FolderFault> {
-        let number = self.number()?;
-        let name = image_path(self.rt.alloc(), self.path, number)?;
-        Ok(fs::metadata(self.rt, name.as_str())?.len())
-    }
-
-    // Leaves an image of the core under this number as the newest one.
-    fn keep_at(&mut self, number: u64, core: &Core) -> Result<(), FolderFault> {
-        let name = image_path(self.rt.alloc(), self.path, number)?;
-        self.write(name.as_str(), core)?;
-        self.newest = Some(number);
+    // Gives the image of this number, which was written, its name, as the newest one.
+    fn give_name(&mut self, number: u64) -> Result<(), FolderFault> {
+        if let Err(fault) = place(self.rt, self.path, StoreFile::Image(number)) {
+            self.give_up(number);
+            return Err(fault);
+        }
+        self.is_in_doubt = true;
+        self.hold.sync()?;
+        self.is_in_doubt = false;
+        self.chain = Some(Chain {
+            image: number,
+            last: Some(number),
+        });
         sweep(self.rt, self.path, number);
         Ok(())
     }
 
-    // The number above all that are there.
-    fn next_number(&self) -> Result<u64, FolderFault> {
-        match self.last {
-            None => Ok(0),
-            Some(last) => last.checked_add(1).ok_or(FolderFault::Full),
+    // Takes away what was written of the image of this number, where another one stands.
+    fn give_up(&self, number: u64) {
+        if self.has_image() {
+            let _ = remove_part(self.rt, self.path, StoreFile::Image(number));
         }
     }
 
-    // Writes the image of the core under this name, down to the disk. Where that fails nothing of it is left, so that it takes no room.
-    fn write(&self, name: &str, core: &Core) -> Result<(), FolderFault> {
-        let part = format!(in self.rt.alloc(); "{name}{PART}")?;
-        if let Err(fault) = write(self.rt, part.as_str(), core) {
-            let _ = fs::remove_file(self.rt, part.as_str());
-            return Err(fault);
-        }
-        fs::rename(self.rt, part.as_str(), name)?;
-        sync_folder(self.rt, self.path)
-    }
-
-    // The core of the image in the file of this name.
-    fn read(&self, number: u64, name: &str) -> Result<Core, FolderFault> {
-        let file = File::open(self.rt, name)?;
-        let mut input = BlockReader::new(self.rt.alloc(), file)?;
-        match tab_loading::load(self.rt.alloc(), &mut input) {
-            Ok(core) => Ok(core),
-            Err(fault) => Err(FolderFault::Load(number, fault)),
-        }
-    }
-
-    // The number of its image.
-    fn number(&self) -> Result<u64, FolderFault> {
-        self.newest.ok_or(FolderFault::Empty)
+    // The newest image, and the journals behind it.
+    fn chain(&self) -> Result<Chain, FolderFault> {
+        self.chain.ok_or(FolderFault::Empty)
     }
 }
 
-// What stands in the journal of this number, the first one behind an image or a later one, which goes on from a core of which `base` has the
-// number of the next mutation and the clock.
-pub(crate) fn left_behind(
-    rt: &HostRuntime,
-    path: &str,
-    number: u64,
-    is_first: bool,
-    base: (u64, i64),
-) -> Result<Left, FolderFault> {
-    let mut bytes = Vec::new(rt.alloc());
-    let name = journal_path(rt.alloc(), path, number)?;
-    match File::open(rt, name.as_str()) {
-        Ok(mut file) => {
-            file.read_to_end(&mut bytes)?;
-        }
-        Err(error) if error.kind() == ErrorKind::NotFound => {}
-        Err(error) => return Err(FolderFault::Refused(error)),
-    }
-    left_in(rt.alloc(), number, is_first, base, bytes.as_slice())
-}
-
-// Makes the folder where it isn't there, down to the disk.
-fn make(rt: &HostRuntime, path: &str) -> Result<(), FolderFault> {
-    match DirBuilder::new().mode(FOLDER_MODE).create(rt, path) {
-        Ok(()) => {}
-        Err(error) if error.kind() == ErrorKind::AlreadyExists => return Ok(()),
-        Err(error) => return Err(FolderFault::Refused(error)),
-    }
-    let above = match Path::new(path).parent() {
-        Some(parent) if !parent.as_os_str().is_empty() => parent,
-        _ => Path::new("."),
-    };
-    Ok(synced(File::open(rt, above)?.sync_all())?)
-}
-
-// The lock of the folder, held from now on.
-fn locked(rt: &HostRuntime, path: &str) -> Result<File, FolderFault> {
-    let name = format!(in rt.alloc(); "{path}/lock")?;
-    let file = OpenOptions::new()
-        .write(true)
-        .create(true)
-        .mode(FILE_MODE)
-        .open(rt, name.as_str())?;
-    match file.try_lock() {
-        Ok(()) => Ok(file),
-        Err(TryLockError::WouldBlock) => Err(FolderFault::Taken),
-        Err(TryLockError::Error(error)) => Err(FolderFault::Refused(error)),
-    }
-}
-
-/// The greatest numbers of the files in a folder.
-#[derive(Clone, Copy)]
-pub(crate) struct FileNumbers {
-    /// Of an image.
-    pub(crate) newest: Option<u64>,
-    /// Of what goes with an image.
-    pub(crate) with: Option<u64>,
-    /// Of whatever has one.
-    pub(crate) last: Option<u64>,
-}
-
-/// The greatest numbers of the files in the folder of this path.
-pub(crate) fn numbers(rt: &HostRuntime, path: &str) -> Result<FileNumbers, FolderFault> {
-    let (mut newest, mut with, mut parts) = (None, None, None);
-    for entry in fs::read_dir(rt, path)? {
-        let entry = entry?;
-        match kind_of(entry.file_name()) {
-            FileKind::Image(number) => newest = newest.max(Some(number)),
-            FileKind::With(number) => with = with.max(Some(number)),
-            FileKind::Part(number) => parts = parts.max(Some(number)),
-            FileKind::Other => {}
-        }
-    }
-    let last = newest.max(with).max(parts);
-    Ok(FileNumbers { newest, with, last })
-}
-
-// An empty file of this name, for its owner alone.
-fn created(rt: &HostRuntime, name: &str) -> Result<File, FolderFault> {
-    let mut options = OpenOptions::new();
-    options
-        .write(true)
-        .create(true)
-        .truncate(true)
-        .mode(FILE_MODE);
-    Ok(options.open(rt, name)?)
-}
-
-// Writes the image of the core, down to the disk, in the place of what was left of one that was cut off.
-fn write(rt: &HostRuntime, part: &str, core: &Core) -> Result<(), FolderFault> {
-    let file = created(rt, part)?;
-    let mut stream = Noting::new(&file);
-    match put_image(rt.alloc(), &mut stream, core) {
-        Ok(()) => Ok(file.sync_all()?),
-        Err(SaveFault::NoMemory) => Err(FolderFault::NoMemory),
-        Err(SaveFault::Write) => Err(unwritten(stream.failure())),
-    }
-}
-
-// An image that isn't written for this reason, if one is known.
-fn unwritten(reason: Option<Error>) -> FolderFault {
-    FolderFault::Write(reason.unwrap_or(Error::from(ErrorKind::Other)))
-}
-
-fn sync_folder(rt: &HostRuntime, path: &str) -> Result<(), FolderFault> {
-    Ok(synced(File::open(rt, path)?.sync_all())?)
-}
-
-// What came of a folder's sync. Some file systems sync no folder, and say so.
-fn synced(outcome: io::Result<()>) -> io::Result<()> {
-    match outcome {
-        Err(error) if error.kind() == ErrorKind::InvalidInput => Ok(()),
-        Err(error) if error.kind() == ErrorKind::Unsupported => Ok(()),
-        outcome => outcome,
-    }
-}
-
-// Removes the images before this one and what goes with them, and parts of this one. What can't be removed now is removed another time.
-fn sweep(rt: &HostRuntime, path: &str, number: u64) {
-    let Ok(entries) = fs::read_dir(rt, path) else {
-        return;
-    };
-    for entry in entries {
-        let Ok(entry) = entry else {
-            return;
-        };
-        match kind_of(entry.file_name()) {
-            FileKind::Image(older) | FileKind::With(older) | FileKind::Part(older)
-                if older < number => {
-                let _ = fs::remove_file(rt, entry.path());
-            }
-            _ => {}
-        }
+// The number of the next journal.
+fn next_of(chain: Chain) -> Result<u64, FolderFault> {
+    match chain.last {
+        Some(last) => last.checked_add(1).ok_or(FolderFault::Full),
+        None => Ok(chain.image),
     }
 }

@@ -7,16 +7,54 @@ ghost use Rattle.tab_folder.specs.Files.{calls_of};
 
 use crate::FolderFault;
 use crate::file_device::FileDevice;
-use std::alloc::Global;
+use std::alloc::{AllocError, Global};
 use std::fs::File;
-use tab_journal::{Header, WriteError, Writer};
+use tab_journal::{DeviceError, Header, WriteError, Writer};
 
-/// A journal that is being written: batch after batch, each behind the sum of the one before. After an error nothing more is put into it, and each
-/// call answers with that error.
+// How many bytes a header has.
+const HEADER: u64 = 48;
+
+/// A journal that is being written: batch after batch, each behind the sum of the one before. Once its file has failed nothing more is
+/// put into it, and each call answers with that error; where memory lacks alone nothing has changed.
 #[derive(Drop)]
 pub struct Journal {
     writer: Writer<FileDevice>,
+    // another handle of its file, by which the disk may be asked for what was put while more is put
+    beside: Option<File>,
     failure: Option<FolderFault>,
+}
+
+/// Why a journal isn't begun in an empty file.
+#[derive(Clone, Copy, Debug)]
+pub(crate) enum Unbegun {
+    /// Nothing was put into it.
+    Empty(FolderFault),
+    /// Its header may be there.
+    Unknown(FolderFault),
+}
+
+impl From<AllocError> for Unbegun {
+    fn from(_lack: AllocError) -> Unbegun {
+        Unbegun::Empty(FolderFault::NoMemory)
+    }
+}
+
+impl From<WriteError> for Unbegun {
+    fn from(error: WriteError) -> Unbegun {
+        let fault = FolderFault::from(error);
+        match error {
+            WriteError::NoMemory | WriteError::Device(DeviceError::NoMemory) => {
+                Unbegun::Empty(fault)
+            }
+            _ => Unbegun::Unknown(fault),
+        }
+    }
+}
+
+impl From<FolderFault> for Unbegun {
+    fn from(fault: FolderFault) -> Unbegun {
+        Unbegun::Empty(fault)
+    }
 }
 
 impl Journal {
@@ -25,24 +63,36 @@ impl Journal {
         alloc: Global,
         device: FileDevice,
         header: Header,
-    ) -> Result<Journal, FolderFault>
+    ) -> Result<Journal, Unbegun>
         requires empty { seen_behind (calls_of device) ≡ [] }
         requires settled { Only [] (MayLeave (calls_of device)) }
         requires usable { is_usable_behind (calls_of device) ≡ true }
-        requires right { header.sum ≡ sum_of (header_summed header.format header.generation header.next header.clock header.salt) }
+        requires right { header.sum ≡ sum_of (header_summed header.format header.generation header.next header.clock header.seal) }
     {
+        let beside = device.beside().map_err(FolderFault::from)?;
         match Writer::begin(alloc, device, header) {
-            Ok(writer) => Ok(Journal {
-                writer,
-                failure: None,
-            }),
-            Err((error, _device)) => Err(FolderFault::from(error)),
+            Ok(writer) => Ok(Journal::over(writer, beside)),
+            Err((error, _device)) => Err(Unbegun::from(error)),
+        }
+    }
+
+    /// A journal over this writer, whose file has this handle besides.
+    pub(crate) fn over(writer: Writer<FileDevice>, beside: File) -> Journal {
+        Journal {
+            writer,
+            beside: Some(beside),
+            failure: None,
         }
     }
 
     /// How many bytes it has.
     pub fn length(&self) -> u64 {
         self.writer.written()
+    }
+
+    /// Whether nothing was put into it.
+    pub fn is_empty(&self) -> bool {
+        self.length() <= HEADER
     }
 
     /// Whether all that was put is known to be on the disk, so that a sync asks it for nothing.
@@ -55,13 +105,9 @@ impl Journal {
         self.failure
     }
 
-    /// Another handle of its file, by which the disk may be asked for what was put while more is put; none, where all of it is on the disk.
-    pub fn beside(&self) -> Result<Option<File>, FolderFault> {
-        self.ready()?;
-        if self.is_settled() {
-            return Ok(None);
-        }
-        Ok(Some(self.writer.device().beside()?))
+    /// The other handle of its file, by which the disk may be asked for what was put while more is put; none, where it was taken before.
+    pub fn take_beside(&mut self) -> Option<File> {
+        self.beside.take()
     }
 
     /// Puts these bytes as one batch. They needn't be on the disk yet.
@@ -78,7 +124,7 @@ impl Journal {
         self.noted(outcome)
     }
 
-    /// Fails as asking the disk beside it has failed.
+    /// Fails as something beside it has failed, as asking the disk.
     pub fn fail(&mut self, fault: FolderFault) {
         self.failure = self.failure.or(Some(fault));
     }
@@ -91,13 +137,15 @@ impl Journal {
         }
     }
 
-    // Keeps why something failed.
+    // Keeps why something failed, where nothing more is put after that.
     fn noted(&mut self, outcome: Result<(), WriteError>) -> Result<(), FolderFault> {
         match outcome {
             Ok(()) => Ok(()),
             Err(error) => {
                 let fault = FolderFault::from(error);
-                self.fail(fault);
+                if self.writer.has_failed() {
+                    self.fail(fault);
+                }
                 Err(fault)
             }
         }

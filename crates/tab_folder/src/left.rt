@@ -1,102 +1,74 @@
-//! What a run that didn't end left in its journal.
+//! What a run that didn't end left in a journal, for who looks into a folder.
 use crate::FolderFault;
-use std::alloc::Global;
-use tab_journal::{Format, Header, JournalContents, take_header};
-use tab_recovery::{TakeUpFault, read_left};
+use crate::file_device::FileDevice;
+use crate::journal_lines::JournalLines;
+use crate::listing::Chain;
+use crate::names::StoreFile;
+use crate::taking_up::{begun, check_end, read_out};
+use std::fs::File;
+use tab_journal::Format;
 
-/// What a run that didn't end left in its journal.
-#[derive(Drop)]
+/// What a run that didn't end left in a journal.
+#[derive(Clone, Copy, Debug, PartialEq, Eq)]
 pub struct Left {
     /// What the journal keeps.
     pub format: Format,
-    /// The lines that a script read, up to the last one that ends, or the entries of a server's history.
-    pub text: Vec<u8>,
-    /// How many bytes stand behind them that are no whole batch: what the crash cut off.
-    pub cut: usize,
-    /// Whether the journal has a header: nothing was kept in it otherwise.
-    pub has_header: bool,
+    /// How many bytes of lines, or of entries, it keeps.
+    pub bytes: u64,
+    /// How many lines.
+    pub lines: u64,
+    /// How many bytes stand at its end that are no whole batch.
+    pub cut: u64,
 }
 
-/// What these bytes of the journal of this number left to a core, of which `base` has the number of the next mutation and the clock: the first
-/// journal behind an image, or a later one.
+/// What is left in the journal of this number, which goes on from a core of which `base` has the number of the next mutation and the
+/// clock, if that is known.
 pub(crate) fn left_in(
-    alloc: Global,
+    rt: &HostRuntime,
+    folder: &str,
+    chain: Chain,
     number: u64,
-    is_first: bool,
-    base: (u64, i64),
-    bytes: &[u8],
+    base: Option<(u64, i64)>,
 ) -> Result<Left, FolderFault> {
-    check_header(number, is_first, base, bytes)?;
-    match read_left(alloc, bytes) {
-        Ok(kept) => Ok(left_of(alloc, kept, bytes.len())),
-        Err(fault) => Err(fault_at(number, fault)),
-    }
+    let place = chain.place(number, base);
+    let name = StoreFile::Journal(number).path(rt.alloc(), folder)?;
+    let mut device = FileDevice::found(File::open(rt, name.as_str())?);
+    let reader = begun(rt.alloc(), &mut device, place)?;
+    let format = reader.header().format;
+    let lines = JournalLines::new(device, reader);
+    let left = kept_by(lines, format)?;
+    let mut again = FileDevice::found(File::open(rt, name.as_str())?);
+    let mut reader = begun(rt.alloc(), &mut again, place)?;
+    let end = read_out(&mut again, &mut reader)?;
+    check_end(place, &end)?;
+    Ok(Left {
+        cut: end.left,
+        ..left
+    })
 }
 
-/// What is left of a journal that had so many bytes, of which these contents were read.
-pub(crate) fn left_of(alloc: Global, kept: Option<JournalContents>, count: usize) -> Left {
-    let Some(kept) = kept else {
-        return Left {
-            format: Format::Events,
-            text: Vec::new(alloc),
-            cut: count,
-            has_header: false,
-        };
-    };
-    let JournalContents {
-        header,
-        mut text,
-        left,
-        ..
-    } = kept;
-    if header.format == Format::Lines {
-        end_with_line(&mut text);
-    }
-    Left {
-        format: header.format,
-        text,
-        cut: left,
-        has_header: true,
-    }
-}
-
-// Leaves what comes before the last line that doesn't end.
-fn end_with_line(text: &mut Vec<u8>) {
-    let whole = text.as_slice().iter().rposition(|byte| *byte == b'\n');
-    text.truncate(whole.map_or(0, |last| last.saturating_add(1)));
-}
-
-/// Sees that the journal of this number, if it has a header, was begun on a core of which `base` has the number of the next mutation and the clock.
-pub(crate) fn check_header(
-    number: u64,
-    is_first: bool,
-    base: (u64, i64),
-    bytes: &[u8],
-) -> Result<(), FolderFault> {
-    match take_header(bytes) {
-        Some((header, _)) if !follows_on(&header, number, is_first, base) => {
-            Err(FolderFault::Strange(number))
+// What the batches of a journal of this format keep. Of lines the last one counts only where it ends.
+fn kept_by(batches: JournalLines, format: Format) -> Result<Left, FolderFault> {
+    let mut batches = batches;
+    let (mut bytes, mut whole, mut lines) = (0u64, 0u64, 0u64);
+    for _ in 0..u64::MAX {
+        if !batches.advance()? {
+            break;
         }
-        _ => Ok(()),
+        let body = batches.body();
+        if let Some(last) = body.iter().rposition(|byte| *byte == b'\n') {
+            whole = bytes.saturating_add(last as u64).saturating_add(1);
+            lines = lines.saturating_add(body.iter().filter(|byte| **byte == b'\n').count() as u64);
+        }
+        bytes = bytes.saturating_add(body.len() as u64);
     }
-}
-
-// Whether the journal of this number was begun on a core of which `base` has the number of the next mutation and the clock: the one of the image
-// of its number, or one that did what stands in the journals before, and whose clock may be lower.
-fn follows_on(header: &Header, number: u64, is_first: bool, base: (u64, i64)) -> bool {
-    let is_at = if is_first {
-        header.clock == base.1
-    } else {
-        header.clock >= base.1
-    };
-    header.generation == number && header.next == base.0 && is_at
-}
-
-/// Why the journal of this number isn't taken up.
-pub(crate) fn fault_at(number: u64, fault: TakeUpFault) -> FolderFault {
-    match fault {
-        TakeUpFault::NoMemory => FolderFault::NoMemory,
-        TakeUpFault::Damaged(place) => FolderFault::Damaged(number, place as u64),
-        TakeUpFault::Device(error) => FolderFault::from(error),
-    }
+    Ok(Left {
+        format,
+        bytes: match format {
+            Format::Lines => whole,
+            Format::Events => bytes,
+        },
+        lines,
+        cut: 0,
+    })
 }

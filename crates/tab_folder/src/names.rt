@@ -1,74 +1,96 @@
 //! The names of the files in a folder.
 use std::alloc::{AllocError, Global};
+use std::fmt;
+use std::fmt::{Display, Formatter};
 
-/// What stands behind the name of an image that isn't whole yet.
-pub const PART: &str = ".part";
+// What stands behind the name of an image that isn't whole yet, and behind that of a checksum.
+const PART: &str = ".part";
 
-/// What a file of a folder is, by its name. The number is that of an image.
+const SUM: &str = ".sha256";
+
+/// A file of a folder that keeps something, by its numbers. Its text is its name.
 #[derive(Clone, Copy, Debug, PartialEq, Eq)]
-pub enum FileKind {
-    /// An image, which is whole.
+pub enum StoreFile {
+    /// The image of this number.
     Image(u64),
-    /// What goes with an image: its journal, or an image that was loaded since.
-    With(u64),
-    /// A part of an image, or of one that was loaded since.
-    Part(u64),
+    /// The journal that follows on the image of this number.
+    Journal(u64),
+    /// What a `load` has given, by the number of its journal and its place among the loads of that one.
+    Loaded(u64, u64),
+}
+
+impl StoreFile {
+    /// The number of the image that it is, or goes with.
+    pub(crate) fn number(self) -> u64 {
+        match self {
+            StoreFile::Image(number) | StoreFile::Journal(number) | StoreFile::Loaded(number, _) =>
+                { number }
+        }
+    }
+
+    /// Its path in this folder.
+    pub(crate) fn path(self, alloc: Global, folder: &str) -> Result<String, AllocError> {
+        format!(in alloc; "{folder}/{self}")
+    }
+
+    /// The path that it has there until it is whole.
+    pub(crate) fn part(self, alloc: Global, folder: &str) -> Result<String, AllocError> {
+        format!(in alloc; "{folder}/{self}{PART}")
+    }
+}
+
+impl Display for StoreFile {
+    fn fmt<W: fmt::Write>(&self, f: &mut Formatter<W>) -> fmt::Result {
+        match self {
+            StoreFile::Image(number) => write!(f, "image.{number}"),
+            StoreFile::Journal(number) => write!(f, "journal.{number}"),
+            StoreFile::Loaded(number, place) => write!(f, "loaded.{number}.{place}"),
+        }
+    }
+}
+
+/// What a file of a folder is, by its name.
+#[derive(Clone, Copy, Debug, PartialEq, Eq)]
+pub(crate) enum FileKind {
+    /// This one, whole.
+    Whole(StoreFile),
+    /// The checksum of this one.
+    Sum(StoreFile),
+    /// A part of this one.
+    Part(StoreFile),
     /// Something else.
     Other,
 }
 
 /// What the file of this name is.
-pub fn kind_of(name: &str) -> FileKind {
-    if let Some(number) = number_behind(name, "image.") {
-        return FileKind::Image(number);
-    }
-    if let Some(number) = number_behind(name, "journal.").or(loaded_behind(name)) {
-        return FileKind::With(number);
-    }
-    match part_of(name) {
-        Some(number) => FileKind::Part(number),
-        None => FileKind::Other,
-    }
+pub(crate) fn kind_of(name: &str) -> FileKind {
+    let kind = if let Some(whole) = name.strip_suffix(PART) {
+        file_of(whole).map(FileKind::Part)
+    } else if let Some(whole) = name.strip_suffix(SUM) {
+        file_of(whole).map(FileKind::Sum)
+    } else {
+        file_of(name).map(FileKind::Whole)
+    };
+    kind.unwrap_or(FileKind::Other)
 }
 
-// The number of the image of which, or of what goes with which, the file of this name has a part.
-fn part_of(name: &str) -> Option<u64> {
-    let whole = name.strip_suffix(PART)?;
-    number_behind(whole, "image.").or(loaded_behind(whole))
+// The file of this name.
+fn file_of(name: &str) -> Option<StoreFile> {
+    if let Some(digits) = name.strip_prefix("image.") {
+        return Some(StoreFile::Image(number_of(digits)?));
+    }
+    if let Some(digits) = name.strip_prefix("journal.") {
+        return Some(StoreFile::Journal(number_of(digits)?));
+    }
+    let (number, place) = name.strip_prefix("loaded.")?.split_once('.')?;
+    Some(StoreFile::Loaded(number_of(number)?, number_of(place)?))
 }
 
-// The number in the name of an image that was loaded since.
-fn loaded_behind(name: &str) -> Option<u64> {
-    let (first, _place) = name.rsplit_once('.')?;
-    number_behind(first, "loaded.")
-}
-
-// The number behind this word: decimal digits, without a zero before others.
-fn number_behind(name: &str, word: &str) -> Option<u64> {
-    let digits = name.strip_prefix(word)?;
+// The number of these decimal digits, of which none is a zero before others.
+fn number_of(digits: &str) -> Option<u64> {
     let padded = digits.len() > 1 && digits.starts_with('0');
     if padded || !digits.as_bytes().iter().all(|byte| byte.is_ascii_digit()) {
         return None;
     }
     digits.parse::<u64>().ok()
-}
-
-/// The path of the image of this number.
-pub fn image_path(alloc: Global, folder: &str, number: u64) -> Result<String, AllocError> {
-    format!(in alloc; "{folder}/image.{number}")
-}
-
-/// The path of the journal that follows on the image of this number.
-pub fn journal_path(alloc: Global, folder: &str, number: u64) -> Result<String, AllocError> {
-    format!(in alloc; "{folder}/journal.{number}")
-}
-
-/// The path of the image that was loaded at this place of the journal.
-pub fn loaded_path(
-    alloc: Global,
-    folder: &str,
-    number: u64,
-    place: u64,
-) -> Result<String, AllocError> {
-    format!(in alloc; "{folder}/loaded.{number}.{place}")
 }

@@ -4,8 +4,8 @@ use crate::log::ScriptLog;
 use std::io;
 use std::io::{Error, ErrorKind, Read, Write};
 
-/// A reader whose bytes are put into a journal before anybody sees them. What it reads ends with a line feed there: where the last line lacks
-/// one, it is put as the reader ends.
+/// A reader whose bytes are put into a journal before anybody sees them. What it reads ends with a line feed there: where the last line
+/// lacks one, it is put as the reader ends.
 #[derive(Drop)]
 pub struct Logged<'a, R> {
     reader: R,

@@ -139,7 +139,7 @@ fn finish(
     part: &UnfinishedFile,
     core: &Core,
 ) -> Result<(), NotSaved> {
-    let sum = write(rt.alloc(), &part.file, core)?;
+    let sum = write_image(rt.alloc(), &part.file, core)?;
     let line = line_of_sum(rt.alloc(), name, sum)?;
     let beside = name_of_sum(rt.alloc(), name)?;
     let small = begin(rt, beside.as_str())?;
@@ -175,8 +175,8 @@ fn place(
     Ok(())
 }
 
-// Writes the image of the core, down to the disk, and tells its checksum.
-fn write(alloc: Global, file: &File, core: &Core) -> Result<Sum, NotSaved> {
+/// Writes an image of the core to this file, down to the disk, and gives its checksum. After an error a part of it is written.
+pub fn write_image(alloc: Global, file: &File, core: &Core) -> Result<Sum, NotSaved> {
     let mut stream = Summing::new(Noting::new(file));
     match put_image(alloc, &mut stream, core) {
         Ok(()) => {}
@@ -187,8 +187,8 @@ fn write(alloc: Global, file: &File, core: &Core) -> Result<Sum, NotSaved> {
     Ok(stream.into_sum())
 }
 
-/// Writes the image of the core to this stream. After an error a part of it is written.
-pub fn put_image<W: Write + Drop>(alloc: Global, stream: W, core: &Core) -> Result<(), SaveFault> {
+// Writes the image of the core to this stream.
+fn put_image<W: Write + Drop>(alloc: Global, stream: W, core: &Core) -> Result<(), SaveFault> {
     let Ok(mut output) = BlockWriter::new(alloc, stream) else {
         return Err(SaveFault::NoMemory);
     };

@@ -23,9 +23,10 @@ mod progress;
 mod sums;
 mod unfinished_files;
 
-pub use disk::{NotLoaded, NotSaved, load, may_be_given, put_image, save};
+pub use disk::{NotLoaded, NotSaved, load, may_be_given, save, write_image};
 pub use first_wait::FirstWait;
-pub use looking::{Looked, look, look_at};
+pub use looking::{Looked, look};
 pub use net_fault::NetFault;
 pub use noting::Noting;
 pub use progress::{Progress, ProgressStream};
+pub use sums::{Sum, line_of_sum, name_of_sum};

@@ -34,8 +34,8 @@ pub fn look(rt: &HostRuntime, name: &str, progress: &Progress<'_>) -> Result<Loo
     look_at(rt, file, progress)
 }
 
-/// Reads the image in the file.
-pub fn look_at(rt: &HostRuntime, file: File, progress: &Progress<'_>) -> Result<Looked, NotLoaded> {
+// Reads the image in the file.
+fn look_at(rt: &HostRuntime, file: File, progress: &Progress<'_>) -> Result<Looked, NotLoaded> {
     let bytes = file.metadata().map_err(NotLoaded::Io)?.len();
     let mut stream = Noting::new(ProgressStream::new(file, progress, "reading", bytes));
     match read(rt.alloc(), &mut stream, bytes) {

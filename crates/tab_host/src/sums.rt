@@ -15,7 +15,7 @@ const DIGITS: usize = 64;
 
 /// The SHA-256 of an image's bytes. Its text is 64 digits.
 #[derive(Clone, Copy, Debug, PartialEq, Eq)]
-pub(crate) struct Sum([u8; 32]);
+pub struct Sum([u8; 32]);
 
 impl Display for Sum {
     fn fmt<W: fmt::Write>(&self, f: &mut Formatter<W>) -> fmt::Result {
@@ -68,12 +68,12 @@ impl<W: Write> Write for Summing<W> {
 }
 
 /// The name of the file in which the checksum of the image of this name stands.
-pub(crate) fn name_of_sum(alloc: Global, name: &str) -> Result<String, AllocError> {
+pub fn name_of_sum(alloc: Global, name: &str) -> Result<String, AllocError> {
     format!(in alloc; "{name}.sha256").map_err(|_| AllocError)
 }
 
 /// The line that stands there, as `sha256sum` writes it.
-pub(crate) fn line_of_sum(alloc: Global, name: &str, sum: Sum) -> Result<String, AllocError> {
+pub fn line_of_sum(alloc: Global, name: &str, sum: Sum) -> Result<String, AllocError> {
     let last = Path::new(name).file_name().unwrap_or(name);
     let line = if last.contains(['\\', '\n', '\r']) {
         format!(in alloc; "\\{sum}  {}\n", Escaped(last))
@@ -154,7 +154,7 @@ fn sum_of(alloc: Global, file: &File) -> Result<Sum, NotLoaded> {
     }
 }
 
-// The same; none where it can't be read.
+// The sum of the file; none where it can't be read.
 fn summed<R: Read + Drop>(alloc: Global, file: R) -> Result<Option<Sum>, AllocError> {
     let mut hasher = Sha256::new();
     let mut input = BlockReader::new(alloc, file)?;
