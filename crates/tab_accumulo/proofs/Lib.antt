@@ -1,1 +1,5 @@
 pub mod Listing
+pub mod Capped
+pub mod Tests
+pub mod Reading
+pub mod Taking

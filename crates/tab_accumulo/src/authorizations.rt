@@ -1,50 +1,47 @@
 //! The authorizations of a user.
 #![tactic(auto, using(tab_io::proofs::Putting::putting))]
 
-ghost use Rattle.std.specs.Prelude.{◌≡◌, ◌==◌, [], ◌∷◌, codes};
-ghost use Rattle.std.specs.List.{list_any};
+ghost use Rattle.std.specs.Prelude.{◌≡◌, ◌==◌, ◌&&◌, [], ◌∷◌, length, bytes_eq, codes};
 ghost use Rattle.tab_io.specs.Writing.{Puts};
-ghost use Rattle.tab_text.specs.Lines.{line_text};
-ghost use Rattle.tab_accumulo.specs.Words.{listed, shell_bytes};
-ghost use Rattle.tab_accumulo.specs.Lines.{has_comma, unset_text, authorizations_text};
+ghost use Rattle.tab_policy.specs.Roots.{root};
+ghost use Rattle.tab_accumulo.specs.Words.{listed, term_bytes};
+ghost use Rattle.tab_accumulo.specs.Carried.{terms_obstacle};
+ghost use Rattle.tab_accumulo.specs.Lines.{told, terms_text};
 
-use crate::word::{ShellWord, put_words};
+use crate::obstacle::terms_obstacle;
+use crate::telling::put_told;
+use crate::word::ShellWord;
 use tab_image::ImageUser;
 use tab_io::{Output, WriteFault};
-use tab_key::Name;
-use tab_label::AuthSet;
+use tab_policy::is_root;
 
-/// Puts the line that gives the user his authorizations. Where one of them has a comma a comment says that they aren't set: the shell would part
-/// it there, and give him others.
+/// Puts the line that gives the user their authorizations: a comment where the shell would read others, and of root's, since they would take
+/// the place of those that the cluster's root has.
 pub(crate) fn put_authorized<W: Output>(output: &mut W, user: &ImageUser) -> Result<(), WriteFault>
-    ensures { Puts W.Output output.old output.new (authorizations_text user.now.name user.now.authorizations) result }
+    ensures { Puts W.Output output.old output.new (terms_text user.now.name user.now.authorizations) result }
 {
-    if has_comma(&user.authorizations) {
-        put_unset(output, &user.name)
+    if is_bare_root(user) {
+        output.put(b"")
     } else {
         put_set(output, user)
     }
 }
 
-fn put_unset<W: Output>(output: &mut W, name: &Name) -> Result<(), WriteFault>
-    ensures { Puts W.Output output.old output.new (unset_text name.now) result }
+/// Whether this is root, and has none.
+pub(crate) fn is_bare_root(user: &ImageUser) -> bool
+    ensures { result ≡ (bytes_eq user.now.name root && (length user.now.authorizations == 0)) }
 {
-    put_words(
-        output,
-        b"#",
-        &[
-            ShellWord::Text(b"authorizations"),
-            ShellWord::Text(name.as_bytes()),
-            ShellWord::Text(b"not set: one has a comma"),
-        ],
-    )
+    is_root(&user.name) && user.authorizations.is_empty()
 }
 
 fn put_set<W: Output>(output: &mut W, user: &ImageUser) -> Result<(), WriteFault>
-    ensures { Puts W.Output output.old output.new (line_text (codes "setauths" ∷ codes "-u" ∷ user.now.name ∷ listed shell_bytes user.now.authorizations ∷ [])) result }
+    ensures { Puts W.Output output.old output.new
+        (told (terms_obstacle user.now.name user.now.authorizations)
+        (codes "setauths" ∷ codes "-u" ∷ user.now.name ∷ listed term_bytes user.now.authorizations ∷ [])) result }
 {
-    put_words(
+    put_told(
         output,
+        terms_obstacle(user),
         b"setauths",
         &[
             ShellWord::Text(b"-u"),
@@ -52,24 +49,4 @@ fn put_set<W: Output>(output: &mut W, user: &ImageUser) -> Result<(), WriteFault
             ShellWord::Authorizations(&user.authorizations),
         ],
     )
-}
-
-// Whether one of them has a comma.
-fn has_comma(authorizations: &AuthSet) -> bool
-    ensures { result ≡ has_comma authorizations.now }
-{
-    some_has_comma(authorizations.terms())
-}
-
-fn some_has_comma(terms: &[Vec<u8>]) -> bool
-    ensures { result ≡ list_any (λ v. list_any (λ b. b == 44) v.items) terms.now }
-{
-    terms.iter().any(|term| is_parted(term.as_slice()))
-}
-
-// Whether these bytes have a comma.
-fn is_parted(bytes: &[u8]) -> bool
-    ensures { result ≡ list_any (λ b. b == 44) bytes.now }
-{
-    bytes.iter().any(|byte| *byte == b',')
 }

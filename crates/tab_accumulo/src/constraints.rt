@@ -1,13 +1,16 @@
 //! The constraints of a table.
 #![tactic(auto, using(tab_io::proofs::Putting::putting))]
 
-ghost use Rattle.std.specs.Prelude.{◌≡◌, [], ◌∷◌, codes};
+ghost use Rattle.std.specs.Prelude.{◌≡◌, [], ◌∷◌, None, codes};
 ghost use Rattle.std.specs.List.{flat_map};
 ghost use Rattle.tab_io.specs.Writing.{Puts};
-ghost use Rattle.tab_text.specs.Lines.{line_text};
-ghost use Rattle.tab_accumulo.specs.Lines.{class_name, constraint_text, all_constraints};
+ghost use Rattle.tab_accumulo.specs.Carried.{in_table};
+ghost use Rattle.tab_accumulo.specs.Lines.{told, class_name, constraint_text, all_constraints};
 
-use crate::word::{ShellWord, put_words};
+use crate::carried::is_table_name;
+use crate::obstacle::in_table;
+use crate::telling::put_told;
+use crate::word::ShellWord;
 use tab_image::TableHead;
 use tab_io::{Output, WriteFault};
 use tab_key::Name;
@@ -47,7 +50,11 @@ impl<'a> PutItem<Constraint> for Constrained<'a> {
         constraint: &Constraint,
     ) -> Result<(), WriteFault> {
         if self.head.constraints.contains(*constraint) {
-            put_constraint(output, &self.head.name, *constraint)
+            put_constraint(
+                output,
+                is_table_name(self.head.name.as_bytes()),
+                *constraint,
+            )
         } else {
             output.put(b"")
         }
@@ -56,17 +63,17 @@ impl<'a> PutItem<Constraint> for Constrained<'a> {
 
 fn put_constraint<W: Output>(
     output: &mut W,
-    name: &Name,
+    is_made: bool,
     constraint: Constraint,
 ) -> Result<(), WriteFault>
-    ensures { Puts W.Output output.old output.new (line_text (codes "constraint" ∷ codes "-t" ∷ name.now ∷ codes "-a" ∷ class_name constraint ∷ [])) result }
+    ensures { Puts W.Output output.old output.new
+        (told (in_table is_made None) (codes "constraint" ∷ codes "-a" ∷ class_name constraint ∷ [])) result }
 {
-    put_words(
+    put_told(
         output,
+        in_table(is_made, None),
         b"constraint",
         &[
-            ShellWord::Text(b"-t"),
-            ShellWord::Text(name.as_bytes()),
             ShellWord::Text(b"-a"),
             ShellWord::Text(class_name(constraint)),
         ],

@@ -1,16 +1,17 @@
 //! The lines for each thing that an image says.
 #![tactic(auto, using(tab_io::proofs::Putting::putting))]
 
-ghost use Rattle.std.specs.Prelude.{[], ◌∷◌};
 ghost use Rattle.tab_io.specs.Writing.{Puts};
-ghost use Rattle.tab_text.specs.Lines.{line_text};
 ghost use Rattle.tab_accumulo.specs.Lines.{permission_text};
 
 use crate::authorizations::put_authorized;
+use crate::carried::is_table_name;
 use crate::constraints::put_each_constraint;
+use crate::making::put_new;
+use crate::obstacle::{Obstacle, in_table, name_obstacle, user_obstacle};
 use crate::records::Written;
-use crate::versions::put_settled;
-use crate::word::{ShellWord, put_words};
+use crate::telling::put_told;
+use crate::word::ShellWord;
 use tab_image::{ImageTable, ImageUser, TableHead};
 use tab_io::{Output, WriteFault};
 use tab_key::Name;
@@ -26,7 +27,12 @@ impl Visitor for Shell {
     ghost texts = { λ _. shell };
 
     fn put_user<W: Output>(&self, output: &mut W, name: &Name) -> Result<(), WriteFault> {
-        put_named(output, b"createuser", name)
+        put_told(
+            output,
+            name_obstacle(name.as_bytes()),
+            b"createuser",
+            &[ShellWord::Text(name.as_bytes())],
+        )
     }
 
     fn put_authorizations<W: Output>(
@@ -43,8 +49,9 @@ impl Visitor for Shell {
         name: &Name,
         permission: &SystemPermission,
     ) -> Result<(), WriteFault> {
-        put_words(
+        put_told(
             output,
+            user_obstacle(name.as_bytes()),
             b"grant",
             &[
                 ShellWord::Qualified(b"System", permission.name()),
@@ -56,8 +63,7 @@ impl Visitor for Shell {
     }
 
     fn put_table<W: Output>(&self, output: &mut W, head: &TableHead) -> Result<(), WriteFault> {
-        put_named(output, b"createtable", &head.name)?;
-        put_settled(output, head)
+        put_new(output, head)
     }
 
     fn put_constraints<W: Output>(
@@ -74,14 +80,11 @@ impl Visitor for Shell {
         table: &Name,
         horizon: i64,
     ) -> Result<(), WriteFault> {
-        put_words(
+        put_told(
             output,
-            b"#",
-            &[
-                ShellWord::Text(b"horizon"),
-                ShellWord::Text(table.as_bytes()),
-                ShellWord::Signed(horizon),
-            ],
+            in_table(is_table_name(table.as_bytes()), Some(Obstacle::Setting)),
+            b"horizon",
+            &[ShellWord::Signed(horizon)],
         )
     }
 
@@ -91,15 +94,11 @@ impl Visitor for Shell {
         table: &'a Name,
         row: &'a [u8],
     ) -> Result<(), WriteFault> {
-        put_words(
+        put_told(
             output,
+            in_table(is_table_name(table.as_bytes()), None),
             b"addsplits",
-            &[
-                ShellWord::Text(b"-t"),
-                ShellWord::Text(table.as_bytes()),
-                ShellWord::Text(b"--"),
-                ShellWord::Quoted(row),
-            ],
+            &[ShellWord::Text(b"--"), ShellWord::Quoted(row)],
         )
     }
 
@@ -112,42 +111,35 @@ impl Visitor for Shell {
         is_held: bool,
     ) -> Result<(), WriteFault> {
         if is_held {
-            put_permission(output, b"grant", user, permission, table)
+            put_permission(output, b"grant", table, user, permission)
         } else {
-            put_permission(output, b"revoke", user, permission, table)
+            put_permission(output, b"revoke", table, user, permission)
         }
     }
 
     fn put_records<W: Output>(&self, output: &mut W, table: &ImageTable) -> Result<(), WriteFault> {
-        put_named(output, b"table", &table.head.name)?;
-        put_last_first(output, &table.records, &Written)
+        let is_made = is_table_name(table.head.name.as_bytes());
+        put_last_first(output, &table.records, &Written { is_made })
     }
 }
 
-// A command and a name.
-fn put_named<W: Output>(output: &mut W, command: &[u8], name: &Name) -> Result<(), WriteFault>
-    ensures { Puts W.Output output.old output.new (line_text (command.now ∷ name.now ∷ [])) result }
-{
-    put_words(output, command, &[ShellWord::Text(name.as_bytes())])
-}
-
-// A command, a permission, a table and a user.
+// A command, a permission on the table and a user.
 fn put_permission<'a, W: Output>(
     output: &mut W,
     command: &[u8],
+    table: &'a Name,
     user: &'a [u8],
     permission: &TablePermission,
-    table: &'a Name,
 ) -> Result<(), WriteFault>
-    ensures { Puts W.Output output.old output.new (permission_text command.now user.now permission.now table.now) result }
+    ensures { Puts W.Output output.old output.new (permission_text command.now table.now user.now permission.now) result }
 {
-    put_words(
+    let is_made = is_table_name(table.as_bytes());
+    put_told(
         output,
+        in_table(is_made, user_obstacle(user)),
         command,
         &[
             ShellWord::Qualified(b"Table", permission.name()),
-            ShellWord::Text(b"-t"),
-            ShellWord::Text(table.as_bytes()),
             ShellWord::Text(b"-u"),
             ShellWord::Text(user),
         ],

@@ -3,7 +3,7 @@
 
 ghost use Rattle.std.specs.Prelude.{◌∷◌, codes};
 ghost use Rattle.tab_io.specs.Writing.{Puts};
-ghost use Rattle.tab_accumulo.specs.Words.{shell_byte, shell_bytes, quoted, listed};
+ghost use Rattle.tab_accumulo.specs.Words.{shell_byte, shell_bytes, term_byte, term_bytes, quoted, listed};
 ghost use Rattle.tab_accumulo.specs.Parts.{quoted_part};
 
 use tab_io::{Output, WriteFault, put_byte};
@@ -17,6 +17,8 @@ pub(crate) enum QuotedPart<'a> {
     Fixed(&'a [u8]),
     /// Bytes of it.
     Bytes(&'a [u8]),
+    /// An authorization.
+    Term(&'a [u8]),
     /// Authorizations, each behind a comma.
     Later(&'a [Vec<u8>]),
 }
@@ -38,13 +40,13 @@ pub(crate) fn put_authorizations<W: Output>(
     output: &mut W,
     auths: &AuthSet,
 ) -> Result<(), WriteFault>
-    ensures { Puts W.Output output.old output.new (listed shell_bytes auths.now) result }
+    ensures { Puts W.Output output.old output.new (listed term_bytes auths.now) result }
 {
     put_terms(output, auths.terms())
 }
 
 fn put_terms<W: Output>(output: &mut W, terms: &[Vec<u8>]) -> Result<(), WriteFault>
-    ensures { Puts W.Output output.old output.new (listed (λ v. shell_bytes v.items) terms.now) result }
+    ensures { Puts W.Output output.old output.new (listed (λ v. term_bytes v.items) terms.now) result }
 {
     if terms.is_empty() {
         return output.put(b"-c");
@@ -57,11 +59,11 @@ fn put_some<'a, W: Output>(
     first: &'a Vec<u8>,
     later: &'a [Vec<u8>],
 ) -> Result<(), WriteFault>
-    ensures { Puts W.Output output.old output.new (listed (λ v. shell_bytes v.items) (first.now ∷ later.now)) result }
+    ensures { Puts W.Output output.old output.new (listed (λ v. term_bytes v.items) (first.now ∷ later.now)) result }
 {
     let parts = [
         QuotedPart::Fixed(b"-s \""),
-        QuotedPart::Bytes(first.as_slice()),
+        QuotedPart::Term(first.as_slice()),
         QuotedPart::Later(later),
         QuotedPart::Fixed(b"\""),
     ];
@@ -86,6 +88,7 @@ fn put_part<W: Output>(output: &mut W, part: &QuotedPart<'_>) -> Result<(), Writ
     match *part {
         QuotedPart::Fixed(text) => output.put(text),
         QuotedPart::Bytes(bytes) => put_bytes(output, bytes),
+        QuotedPart::Term(term) => put_term(output, term),
         QuotedPart::Later(terms) => put_each(output, terms, &AfterComma),
     }
 }
@@ -113,14 +116,37 @@ fn put_shell_byte<W: Output>(output: &mut W, byte: u8) -> Result<(), WriteFault>
     }
 }
 
+// A byte of an authorization.
+struct TermByte;
+
+impl PutItem<u8> for TermByte {
+    ghost use Rattle.tab_accumulo.specs.Words.{term_byte};
+
+    ghost text = { λ _ byte. term_byte byte };
+
+    fn put_item<W: Output>(&self, output: &mut W, byte: &u8) -> Result<(), WriteFault> {
+        put_term_byte(output, *byte)
+    }
+}
+
+fn put_term_byte<W: Output>(output: &mut W, byte: u8) -> Result<(), WriteFault>
+    ensures { Puts W.Output output.old output.new (term_byte byte) result }
+{
+    if byte == b',' {
+        output.put(b"\\x2c")
+    } else {
+        put_shell_byte(output, byte)
+    }
+}
+
 // An authorization behind a comma.
 struct AfterComma;
 
 impl PutItem<Vec<u8>> for AfterComma {
     ghost use Rattle.std.specs.Prelude.{◌∷◌};
-    ghost use Rattle.tab_accumulo.specs.Words.{shell_bytes};
+    ghost use Rattle.tab_accumulo.specs.Words.{term_bytes};
 
-    ghost text = { λ _ term. 44 ∷ shell_bytes term.items };
+    ghost text = { λ _ term. 44 ∷ term_bytes term.items };
 
     fn put_item<W: Output>(&self, output: &mut W, term: &Vec<u8>) -> Result<(), WriteFault> {
         put_after_comma(output, term.as_slice())
@@ -128,10 +154,16 @@ impl PutItem<Vec<u8>> for AfterComma {
 }
 
 fn put_after_comma<W: Output>(output: &mut W, term: &[u8]) -> Result<(), WriteFault>
-    ensures { Puts W.Output output.old output.new (44 ∷ shell_bytes term.now) result }
+    ensures { Puts W.Output output.old output.new (44 ∷ term_bytes term.now) result }
 {
     put_byte(output, b',')?;
-    put_bytes(output, term)
+    put_term(output, term)
+}
+
+fn put_term<W: Output>(output: &mut W, term: &[u8]) -> Result<(), WriteFault>
+    ensures { Puts W.Output output.old output.new (term_bytes term.now) result }
+{
+    put_each(output, term, &TermByte)
 }
 
 fn put_bytes<W: Output>(output: &mut W, bytes: &[u8]) -> Result<(), WriteFault>

@@ -11,7 +11,8 @@ use tab_image::Image;
 use tab_io::{Output, WriteFault};
 use tab_walk::{TablePart, ToldRights, UserPart, put_tables, put_users};
 
-/// Puts lines of Accumulo's shell that make what the image says, as far as there is the like: `specs/Lines` says which.
+/// Puts lines of Accumulo's shell that make what the image says, as far as there is the like: `specs/Lines` says which. What isn't carried
+/// over exactly is a comment; `left_out` says how many things are.
 ///
 /// It takes no memory, and fails where the output does; then it has put a beginning of the lines.
 #[tactic(auto, using(tab_io::proofs::Putting::putting), unfolding(crate::specs::Lines::shell_text))]

@@ -1,14 +1,11 @@
-//! What is set on a new table: no constraint, and how many versions it shows, as settings of its iterator.
+//! How many versions a new table shows, as settings of its iterator.
 #![tactic(auto, using(tab_io::proofs::Putting::putting))]
 
-ghost use Rattle.std.specs.Prelude.{◌≡◌, ◌++◌};
-ghost use Rattle.std.specs.List.{flat_map};
+ghost use Rattle.std.specs.Prelude.{◌≡◌, ◌++◌, decimal};
 ghost use Rattle.tab_io.specs.Writing.{Puts};
-ghost use Rattle.tab_accumulo.specs.Lines.{bare_text, version_key, versions_text, all_scopes};
+ghost use Rattle.tab_accumulo.specs.Words.{version_key, versions_word};
 
-use crate::word::{ShellWord, put_words};
-use tab_image::TableHead;
-use tab_io::{Output, WriteFault};
+use tab_io::{Output, WriteFault, put_decimal};
 use tab_text::{PutItem, put_each};
 
 /// Where versions beyond the number are left out.
@@ -22,74 +19,45 @@ pub(crate) enum Scope {
     Major,
 }
 
-/// Takes the constraint that a new table has, and sets how many versions it shows, and keeps in each kind of a compaction.
-pub(crate) fn put_settled<W: Output>(output: &mut W, head: &TableHead) -> Result<(), WriteFault>
-    ensures { Puts W.Output output.old output.new (bare_text head.now ++ flat_map (versions_text head.now) all_scopes) result }
-{
-    put_bare(output, head)?;
-    put_versions(output, head)
-}
-
-fn put_bare<W: Output>(output: &mut W, head: &TableHead) -> Result<(), WriteFault>
-    ensures { Puts W.Output output.old output.new (bare_text head.now) result }
-{
-    put_words(
-        output,
-        b"constraint",
-        &[
-            ShellWord::Text(b"-t"),
-            ShellWord::Text(head.name.as_bytes()),
-            ShellWord::Text(b"-d"),
-            ShellWord::Number(1),
-        ],
-    )
-}
-
-fn put_versions<W: Output>(output: &mut W, head: &TableHead) -> Result<(), WriteFault>
-    ensures { Puts W.Output output.old output.new (flat_map (versions_text head.now) all_scopes) result }
+/// Puts the settings by which a table shows this many versions, and keeps as many in each kind of a compaction, as one word.
+pub(crate) fn put_versions<W: Output>(output: &mut W, number: u64) -> Result<(), WriteFault>
+    ensures { Puts W.Output output.old output.new (versions_word number) result }
 {
     let scopes = [Scope::Scan, Scope::Minor, Scope::Major];
-    put_each(output, &scopes, &Shown { head })
+    put_each(output, &scopes, &Shown { number })
 }
 
-// A setting of the table.
+// As many in each scope.
 #[derive(Clone, Copy)]
-struct Shown<'a> {
-    head: &'a TableHead,
+struct Shown {
+    number: u64,
 }
 
-impl<'a> PutItem<Scope> for Shown<'a> {
-    ghost use Rattle.tab_accumulo.specs.Lines.{versions_text};
+impl PutItem<Scope> for Shown {
+    ghost use Rattle.std.specs.Prelude.{◌++◌, decimal};
+    ghost use Rattle.tab_accumulo.specs.Words.{version_key};
 
-    ghost text = { λ shown scope. versions_text shown.head.now scope };
+    ghost text = { λ shown scope. version_key scope ++ decimal shown.number };
 
     fn put_item<W: Output>(&self, output: &mut W, scope: &Scope) -> Result<(), WriteFault> {
-        put_shown(output, self.head, *scope)
+        put_setting(output, *scope, self.number)
     }
 }
 
-fn put_shown<W: Output>(output: &mut W, head: &TableHead, scope: Scope) -> Result<(), WriteFault>
-    ensures { Puts W.Output output.old output.new (versions_text head.now scope) result }
+fn put_setting<W: Output>(output: &mut W, scope: Scope, number: u64) -> Result<(), WriteFault>
+    ensures { Puts W.Output output.old output.new (version_key scope ++ decimal number) result }
 {
-    put_words(
-        output,
-        b"config",
-        &[
-            ShellWord::Text(b"-t"),
-            ShellWord::Text(head.name.as_bytes()),
-            ShellWord::Text(b"-s"),
-            ShellWord::Setting(version_key(scope), head.versions.get() as u64),
-        ],
-    )
+    output.put(version_key(scope))?;
+    put_decimal(output, number)
 }
 
-// The name of the setting.
+// The name of the setting, and an equals sign; behind the first one a comma before it.
 fn version_key(scope: Scope) -> &'static [u8]
     ensures { result.now ≡ version_key scope }
 {
     match scope {
-        Scope::Scan => b"table.iterator.scan.vers.opt.maxVersions",
-        Scope::Minor => b"table.iterator.minc.vers.opt.maxVersions",
-        Scope::Major => b"table.iterator.majc.vers.opt.maxVersions",
+        Scope::Scan => b"table.iterator.scan.vers.opt.maxVersions=",
+        Scope::Minor => b",table.iterator.minc.vers.opt.maxVersions=",
+        Scope::Major => b",table.iterator.majc.vers.opt.maxVersions=",
     }
 }

@@ -2,13 +2,13 @@
 #![tactic(auto, using(tab_io::proofs::Putting::putting))]
 
 ghost use Rattle.std.specs.Prelude.{◌++◌, [], ◌∷◌, map};
-ghost use Rattle.std.specs.Fmt.{decimal};
 ghost use Rattle.tab_io.specs.Writing.{Puts};
 ghost use Rattle.tab_text.specs.Lines.{line_text, after_spaces};
 ghost use Rattle.tab_accumulo.specs.Words.{shell_word};
 
 use crate::quoting::{put_authorizations, put_quoted};
-use tab_io::{Output, WriteFault, put_byte, put_decimal, put_signed_decimal};
+use crate::versions::put_versions;
+use tab_io::{Output, WriteFault, put_byte, put_signed_decimal};
 use tab_label::AuthSet;
 use tab_text::{PutItem, put_each};
 
@@ -17,21 +17,19 @@ use tab_text::{PutItem, put_each};
 pub(crate) enum ShellWord<'a> {
     /// A word that stands as it is.
     Text(&'a [u8]),
-    /// A name with its kind, parted by a dot: `Table.READ`.
+    /// A name with its kind, separated by a dot: `Table.READ`.
     Qualified(&'a [u8], &'a [u8]),
     /// Bytes between double quotes.
     Quoted(&'a [u8]),
-    /// A setting and its number, parted by an equals sign.
-    Setting(&'a [u8], u64),
-    /// A number in decimal.
-    Number(u64),
+    /// The settings by which a new table shows this many versions.
+    Versions(u64),
     /// A number in decimal, with a `-` before it if it is negative.
     Signed(i64),
     /// The option that says which authorizations there are.
     Authorizations(&'a AuthSet),
 }
 
-/// Puts the command and the words, parted by one space, and a line feed.
+/// Puts the command and the words, separated by one space, and a line feed.
 pub(crate) fn put_words<W: Output>(
     output: &mut W,
     command: &[u8],
@@ -78,8 +76,7 @@ fn put_one<W: Output>(output: &mut W, word: &ShellWord<'_>) -> Result<(), WriteF
         ShellWord::Text(text) => output.put(text),
         ShellWord::Qualified(kind, name) => put_qualified(output, kind, name),
         ShellWord::Quoted(bytes) => put_quoted(output, bytes),
-        ShellWord::Setting(key, number) => put_setting(output, key, number),
-        ShellWord::Number(number) => put_decimal(output, number),
+        ShellWord::Versions(number) => put_versions(output, number),
         ShellWord::Signed(number) => put_signed_decimal(output, number),
         ShellWord::Authorizations(auths) => put_authorizations(output, auths),
     }
@@ -97,18 +94,4 @@ fn put_after_dot<W: Output>(output: &mut W, name: &[u8]) -> Result<(), WriteFaul
 {
     put_byte(output, b'.')?;
     output.put(name)
-}
-
-fn put_setting<W: Output>(output: &mut W, key: &[u8], number: u64) -> Result<(), WriteFault>
-    ensures { Puts W.Output output.old output.new (key.now ++ 61 ∷ decimal number) result }
-{
-    output.put(key)?;
-    put_after_equals(output, number)
-}
-
-fn put_after_equals<W: Output>(output: &mut W, number: u64) -> Result<(), WriteFault>
-    ensures { Puts W.Output output.old output.new (61 ∷ decimal number) result }
-{
-    put_byte(output, b'=')?;
-    put_decimal(output, number)
 }
