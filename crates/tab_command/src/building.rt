@@ -3,12 +3,10 @@ use crate::looking::{export_command, inspect_command};
 use clap::builder::ValueParser;
 use clap::{Arg, ArgAction, ArgGroup, Command, Error, value_parser};
 use std::alloc::{AllocError, Global};
-use std::fmt;
-use std::fmt::{Display, Formatter};
-use tab_help::{Asks, forms};
+use tab_help::{Asks, Forms, Kinds, forms};
 
 /// The version that `tabd --version` tells.
-const VERSION: &str = "0.17.7";
+const VERSION: &str = "0.18.0";
 
 /// What help says of lines: the texts of `tab_help`.
 #[derive(Drop)]
@@ -29,42 +27,18 @@ impl LineHelp {
 // What it says of these lines.
 fn help_of(alloc: Global, asks: Asks) -> Result<String, AllocError> {
     let of = match asks {
-        Asks::Script => "a script",
+        Asks::Script | Asks::KeptScript => "a script",
         Asks::Shell => "a shell",
     };
     let text = format!(in alloc;
-        "The lines of {of}. Words are parted by spaces; a line that begins with # says nothing.\n{}\n\
-         The updates of a mutate:\n{}\n\nThe words:\n{}\n\n\
+        "The lines of {of}. Words are separated by spaces; a line that begins with # says nothing.\n{}\n\
+         The updates of a mutate:\n{}\n\nThe words:\n{}\n\
          docs/SCRIPT.md says what each line does, and what it answers.",
-        Rows(asks),
+        Forms(asks),
         forms::UPDATES,
-        forms::KINDS
+        Kinds(asks)
     );
     text.map_err(|_| AllocError)
-}
-
-// The forms of these lines, a row each.
-#[derive(Clone, Copy)]
-struct Rows(Asks);
-
-impl Display for Rows {
-    fn fmt<W: fmt::Write>(&self, f: &mut Formatter<W>) -> fmt::Result {
-        for row in forms::LINES.lines() {
-            if self.0.has(command_of(row).as_bytes()) {
-                writeln!(f, "{row}")?;
-            }
-        }
-        Ok(())
-    }
-}
-
-// The command of a form.
-fn command_of(row: &str) -> &str {
-    let words = row.trim_start();
-    match words.split_once(' ') {
-        Some((command, _)) => command,
-        None => words,
-    }
 }
 
 /// The command line, with this help of lines.
@@ -206,7 +180,7 @@ fn socket_mode<'a>(alloc: Global) -> Result<Arg<'a>, AllocError> {
         .long("socket-mode")
         .value_name("MODE")
         .action(ArgAction::Set)
-        .help("The socket file's mode in octal digits, 600 where unsaid")
+        .help("The socket file's mode in octal digits, 600 by default")
         .conflicts_with("port")
 }
 

@@ -22,16 +22,18 @@ pub enum Explanation {
     NoMemory,
 }
 
-/// Puts one line that says why the line with this number, counted from 1, is a line fault, if it is one.
+/// Puts one line that says why the line with this number, counted from 1, is a line fault, if it is one. What is expected in its place is
+/// one of these lines.
 pub fn explain<W: Output>(
     alloc: Global,
+    asks: Asks,
     number: u64,
     line: &[u8],
     output: &mut W,
 ) -> Result<Explanation, WriteFault>
     ensures { Explains W.Output output.old output.new number line.now result }
 {
-    match fault(alloc, line, number == 1) {
+    match fault(alloc, asks, line, number == 1) {
         Ok(Some(reason)) => match format!(in alloc; ": {reason}\n") {
             Ok(text) => {
                 match put_numbered(output, b"line ", number, text.as_bytes()) {
@@ -46,7 +48,7 @@ pub fn explain<W: Output>(
     }
 }
 
-/// The same for a line of those that are asked for: one that only a script has is no line of a shell.
+/// Explains one of the lines that are asked for: one that only a script has is no line of a shell.
 pub(crate) fn explain_asked<W: Output>(
     alloc: Global,
     asks: Asks,
@@ -57,7 +59,7 @@ pub(crate) fn explain_asked<W: Output>(
     let mut words = Words::of(line);
     match words.next() {
         Some(command) if !asks.has(command) => put_script_only(output, number, command),
-        _ => match explain(alloc, number, line, output) {
+        _ => match explain(alloc, asks, number, line, output) {
             Ok(_) => Ok(()),
             Err(fault) => Err(fault),
         },

@@ -9,11 +9,13 @@
 //! |---|---|
 //! | `forms` | the table: the forms of lines and of updates, and the kinds of words |
 //! | `asks` | which lines are asked for: a script's, or a shell's |
+//! | `listing` | what of the table is for these |
 //! | `near` | the command that a word is likely meant to be |
 //! | `kinds` | whether a word is of a kind |
 //! | `fitting` | the word at which a line stops to fit a form |
 //! | `reason` | why a line is a fault |
 //! | `wording` | the text of a reason |
+//! | `helping` | what is said at a prompt: at the beginning, and to lines that ask for help |
 //! | `prompting` | a reader that asks for each line by a prompt, and answers lines that ask for help |
 //! | `explaining` | a reader that passes bytes along, and explains each line fault on the way |
 //!
@@ -24,7 +26,9 @@ mod asks;
 mod explaining;
 mod fitting;
 pub mod forms;
+mod helping;
 mod kinds;
+mod listing;
 mod near;
 mod prompting;
 mod reason;
@@ -32,4 +36,5 @@ mod wording;
 
 pub use asks::Asks;
 pub use explaining::{Explaining, Explanation, explain};
-pub use prompting::Prompting;
+pub use listing::{Forms, Kinds};
+pub use prompting::{PromptEnd, Prompting};

@@ -1,4 +1,5 @@
 //! The command that a word is likely meant to be.
+use crate::asks::Asks;
 use crate::forms::{LINES, parted};
 use std::alloc::{AllocError, Global};
 use std::str;
@@ -10,8 +11,12 @@ const LONGEST: usize = 32;
 // How many letters may be left out, added, changed or turned round.
 const SLIPS: usize = 2;
 
-/// The command that differs from the word by a slip or two, and by less than half of its letters; or by capitals alone.
-pub(crate) fn near_command(alloc: Global, word: &[u8]) -> Result<Option<&'static str>, AllocError> {
+/// The command of these lines that differs from the word by a slip or two, and by less than half of its letters; or by capitals alone.
+pub(crate) fn near_command(
+    alloc: Global,
+    asks: Asks,
+    word: &[u8],
+) -> Result<Option<&'static str>, AllocError> {
     let Ok(text) = str::from_utf8(word) else {
         return Ok(None);
     };
@@ -22,6 +27,9 @@ pub(crate) fn near_command(alloc: Global, word: &[u8]) -> Result<Option<&'static
     let mut near = None;
     for row in LINES.lines() {
         let (command, _) = parted(row);
+        if !asks.has(command.as_bytes()) {
+            continue;
+        }
         let slips = slips_to(alloc, text, command)?;
         if slips < least {
             least = slips;

@@ -3,7 +3,7 @@ ghost use Rattle.std.specs.Prelude.{◌≤◌, length};
 
 use crate::asks::Asks;
 use crate::explaining::explain_asked;
-use crate::forms::{DEEDS, KINDS, LINES, UPDATES, behind, parted, row_of};
+use crate::helping::{put_beginning, put_help};
 use std::alloc::Global;
 use std::io;
 use std::io::{Error, ErrorKind, Read};
@@ -12,34 +12,72 @@ use tab_key::Name;
 use tab_lines::{Line, Words, read_line};
 use tab_terminal::{Misquote, Unsent, sent_line};
 
-// What is said at the beginning.
-const SCRIPT_BEGINS: &[u8] =
-    b"tabd: a sorted store in memory. What it holds is gone at the end, unless you save it.\n";
+// The byte that drops what was typed of a line: Ctrl-C, where a terminal hands it on.
+const DROPS: u8 = 3;
 
-const SHELL_BEGINS: &[u8] =
-    b"tabd: lines for a server, which keeps what they write until it ends.\n";
+/// Why no further line is asked for.
+#[derive(Clone, Copy, Debug, PartialEq, Eq)]
+pub enum PromptEnd {
+    /// There is none, or none was wanted.
+    Input,
+    /// A line wasn't sent, and that ends the lines.
+    Unsent,
+    /// What is said at a prompt can't be written.
+    Unwritten,
+}
 
-const WAYS: &[u8] = b"help lists the lines, help LINE tells what one does, quit ends.\n";
+// Why there is no line now: none follows, or reading failed.
+#[derive(Clone, Copy, Debug)]
+enum Stop {
+    End(PromptEnd),
+    Read(Error),
+}
+
+impl From<WriteFault> for Stop {
+    fn from(_fault: WriteFault) -> Stop {
+        Stop::End(PromptEnd::Unwritten)
+    }
+}
+
+impl From<Error> for Stop {
+    fn from(error: Error) -> Stop {
+        Stop::Read(error)
+    }
+}
+
+// What is here of a line.
+#[derive(Clone, Copy, Debug, PartialEq, Eq)]
+enum Part {
+    // A beginning of it.
+    Begun,
+    // All of it.
+    Ended,
+    // What was typed before it was dropped.
+    Dropped,
+}
 
 /// A reader that passes the lines of another one along, one by one, each behind a prompt: the name of who asks, and `>`.
 ///
 /// A line is passed along as `sent_line` has it, with the words that stood in quotes and what isn't ASCII in escapes; one whose quotes say
-/// nothing isn't, and it is put to the notes why.
+/// nothing isn't, and it is put to the notes why; a strict reader ends there. A byte 3, as Ctrl-C may be, drops what was typed before it, and
+/// the prompt comes again.
 ///
 /// First it is said what this is, and how to get help and out. A line `help` or `help LINE`, or with `?` in its place, isn't passed along: what lines
-/// do is put behind the prompt in its place. A line `quit` or `exit` is the end. Why a line is a line fault is put to the notes once the next line is
-/// asked for, so behind the reply. Faults of both outputs are passed over.
+/// do is put behind the prompt in its place. A line `quit` or `exit` is the end, and so is a prompt that can't be written. Why a line is a line
+/// fault is put to the notes once the next line is asked for, so behind the reply. Faults of the notes are passed over.
 #[derive(Drop)]
 pub struct Prompting<R, W, N> {
     alloc: Global,
     inner: R,
     asks: Asks,
     user: Name,
+    strict: bool,
     block: Vec<u8>,
     taken: usize,
     line: Vec<u8>,
     given: usize,
     number: u64,
+    end: PromptEnd,
     prompts: W,
     notes: N,
 }
@@ -51,6 +89,7 @@ impl<R: Read, W: Output, N: Output> Prompting<R, W, N> {
         inner: R,
         asks: Asks,
         user: Name,
+        strict: bool,
         prompts: W,
         notes: N,
     ) -> Prompting<R, W, N> {
@@ -59,42 +98,74 @@ impl<R: Read, W: Output, N: Output> Prompting<R, W, N> {
             inner,
             asks,
             user,
+            strict,
             block: Vec::new(alloc),
             taken: 0,
             line: Vec::new(alloc),
             given: 0,
             number: 0,
+            end: PromptEnd::Input,
             prompts,
             notes,
         }
     }
 
-    // Asks for lines until one is no question for help. Whether there is one.
+    /// How many lines were asked for, those among them that weren't passed along.
+    pub fn number(&self) -> u64 {
+        self.number
+    }
+
+    /// Says why the last line was a line fault, if it was one and no further one was asked for. Tells why none is.
+    pub fn finish(&mut self) -> PromptEnd {
+        let _ = self.explain();
+        self.line.clear();
+        self.end
+    }
+
+    // Asks for the next line to be passed along. Whether there is one.
     fn ask(&mut self) -> io::Result<bool> {
+        let stop = match self.next_line() {
+            Ok(()) => return Ok(true),
+            Err(stop) => stop,
+        };
+        self.line.clear();
+        match stop {
+            Stop::Read(error) => Err(error),
+            Stop::End(end) => {
+                self.end = end;
+                Ok(false)
+            }
+        }
+    }
+
+    // Asks for lines until one is no question for help.
+    fn next_line(&mut self) -> Result<(), Stop> {
         if self.number == 0 {
-            let _ = put_beginning(&mut self.prompts, self.asks);
+            put_beginning(&mut self.prompts, self.asks)?;
         }
         for _ in 0..u64::MAX {
-            let _ = self.put_prompt();
+            self.put_prompt()?;
             if !self.take_line()? {
+                self.prompts.put(b"\n")?;
+                self.prompts.flush()?;
                 break;
             }
             if !self.spell()? {
+                if self.strict {
+                    return Err(Stop::End(PromptEnd::Unsent));
+                }
                 continue;
             }
             match own_of(self.text()) {
-                Own::Quit => return Ok(false),
-                Own::Help => {}
+                Own::Quit => break,
+                Own::Help => put_help(&mut self.prompts, self.asks, self.line.as_slice())?,
                 Own::None => {
                     self.follow();
-                    return Ok(true);
+                    return Ok(());
                 }
             }
-            let _ = put_help(&mut self.prompts, self.asks, self.line.as_slice());
         }
-        let _ = self.prompts.put(b"\n");
-        let _ = self.prompts.flush();
-        Ok(false)
+        Err(Stop::End(PromptEnd::Input))
     }
 
     // The line without its line feed.
@@ -110,16 +181,22 @@ impl<R: Read, W: Output, N: Output> Prompting<R, W, N> {
     }
 
     // Takes the next line in place of the last one. Whether there is one.
-    fn take_line(&mut self) -> io::Result<bool> {
+    fn take_line(&mut self) -> Result<bool, Stop> {
         self.line.clear();
         self.given = 0;
         self.number = self.number.saturating_add(1);
         for _ in 0..u64::MAX {
             if self.taken >= self.block.len() && !self.fill()? {
-                return self.end_line();
+                return Ok(self.end_line()?);
             }
-            if self.take_part()? {
-                break;
+            match self.take_part()? {
+                Part::Begun => {}
+                Part::Ended => break,
+                Part::Dropped => {
+                    self.line.clear();
+                    self.prompts.put(b"\n")?;
+                    self.put_prompt()?;
+                }
             }
         }
         Ok(!self.line.is_empty())
@@ -152,19 +229,25 @@ impl<R: Read, W: Output, N: Output> Prompting<R, W, N> {
         Ok(count > 0)
     }
 
-    // Takes what is here of the line. Whether it ends.
-    fn take_part(&mut self) -> io::Result<bool> {
-        let here = match self.block.get(self.taken..) {
-            Some(here) => here,
-            None => b"",
-        };
-        let at = length_before(b'\n', here);
-        let count = (at + 1).min(here.len());
+    // Takes what is here of the line.
+    fn take_part(&mut self) -> io::Result<Part> {
+        let here = self.block.get(self.taken..).unwrap_or(b"");
+        let text = here.split_at(length_before(b'\n', here)).0;
+        let typed = length_before(DROPS, text);
+        if typed < text.len() {
+            self.taken = self.taken.saturating_add(typed).saturating_add(1);
+            return Ok(Part::Dropped);
+        }
+        let count = (text.len() + 1).min(here.len());
         if self.line.extend_from_slice(here.split_at(count).0).is_err() {
             return Err(Error::from(ErrorKind::OutOfMemory));
         }
         self.taken = self.taken.saturating_add(count);
-        Ok(at < count)
+        Ok(if text.len() < count {
+            Part::Ended
+        } else {
+            Part::Begun
+        })
     }
 
     // Puts what is sent for the line in its place. Whether its quotes say something: else it is told why they don't.
@@ -282,97 +365,4 @@ fn own_of(line: &[u8]) -> Own {
         Some(b"help" | b"?") => Own::Help,
         _ => Own::None,
     }
-}
-
-// Says what this is, and how to get help and out.
-fn put_beginning<W: Output>(output: &mut W, asks: Asks) -> Result<(), WriteFault> {
-    output.put(match asks {
-        Asks::Script => SCRIPT_BEGINS,
-        Asks::Shell => SHELL_BEGINS,
-    })?;
-    output.put(WAYS)
-}
-
-// Puts the forms of the line that the second word names, or of all.
-fn put_help<W: Output>(output: &mut W, asks: Asks, line: &[u8]) -> Result<(), WriteFault> {
-    let text = line.split_at(length_before(b'\n', line)).0;
-    let mut words = Words::of(text);
-    let _ = words.next();
-    match words.next() {
-        Some(command) => put_forms(output, asks, command)?,
-        None => put_all(output, asks)?,
-    }
-    output.flush()
-}
-
-// Puts the forms of all lines.
-fn put_all<W: Output>(output: &mut W, asks: Asks) -> Result<(), WriteFault> {
-    for row in LINES.lines() {
-        let (command, _) = parted(row);
-        if asks.has(command.as_bytes()) {
-            put_row(output, row)?;
-        }
-    }
-    output.put(b"  help [LINE]\n  quit\n")
-}
-
-// Puts what one line does, its forms, and what their words are.
-fn put_forms<W: Output>(output: &mut W, asks: Asks, command: &[u8]) -> Result<(), WriteFault> {
-    if !asks.has(command) || !LINES.lines().any(|row| behind(row, command).is_some()) {
-        return output.put(b"  there is no such line: help lists them\n");
-    }
-    put_deed(output, command)?;
-    for row in LINES.lines() {
-        if behind(row, command).is_some() {
-            put_row(output, row)?;
-        }
-    }
-    if command == b"mutate".as_slice() {
-        put_row(output, UPDATES)?;
-    }
-    for row in KINDS.lines() {
-        let (kind, _) = parted(row);
-        if is_named(command, kind) {
-            put_row(output, row)?;
-        }
-    }
-    Ok(())
-}
-
-// Puts what the line does.
-fn put_deed<W: Output>(output: &mut W, command: &[u8]) -> Result<(), WriteFault> {
-    let deed = row_of(DEEDS, command).unwrap_or("");
-    output.put(deed.trim_start().as_bytes())?;
-    output.put(b"\n")
-}
-
-// Whether a form of the line has a word of this kind.
-fn is_named(command: &[u8], kind: &str) -> bool {
-    for row in LINES.lines() {
-        if let Some(rest) = behind(row, command)
-            && has_kind(rest, kind)
-        {
-            return true;
-        }
-    }
-    command == b"mutate".as_slice() && UPDATES.lines().any(|row| has_kind(row, kind))
-}
-
-// Whether the form has a word of this kind.
-fn has_kind(form: &str, kind: &str) -> bool {
-    for word in form.split(' ') {
-        let name = word
-            .trim_start_matches('[')
-            .trim_end_matches('.')
-            .trim_end_matches(']');
-        if name == kind {
-            return true;
-        }
-    }
-    false
-}
-
-fn put_row<W: Output>(output: &mut W, row: &str) -> Result<(), WriteFault> {
-    output.put(row.as_bytes())?;
-    output.put(b"\n")
 }

@@ -3,6 +3,7 @@ ghost use Rattle.std.specs.Prelude.{◌≡◌, None, IfOk, MatchOption};
 ghost use Rattle.tab_lines.specs.Lines.{line_of};
 ghost use Rattle.tab_help.specs.Explaining.{IsLine};
 
+use crate::asks::Asks;
 use crate::fitting::{Misfit, furthest_misfit};
 use crate::forms::{LINES, behind};
 use crate::near::near_command;
@@ -16,9 +17,9 @@ pub enum LineReason<'a> {
     Mark(&'a [u8]),
     /// The line ends in a carriage return.
     Return(u64, &'a [u8]),
-    /// The first word is no command.
-    Command(&'a [u8]),
-    /// The first word is no command, but near to this one.
+    /// The first word is none of the commands of these lines.
+    Command(Asks, &'a [u8]),
+    /// No line begins with its first word, but it is near to this one.
     Near(&'a [u8], &'static str),
     /// A word doesn't fit, or is missing.
     Word(Misfit<'a>),
@@ -45,16 +46,17 @@ fn is_command(word: &[u8]) -> bool {
 }
 
 // That the word is no command.
-fn unknown_command(alloc: Global, word: &[u8]) -> Result<LineReason<'_>, AllocError> {
-    Ok(match near_command(alloc, word)? {
+fn unknown_command(alloc: Global, asks: Asks, word: &[u8]) -> Result<LineReason<'_>, AllocError> {
+    Ok(match near_command(alloc, asks, word)? {
         Some(command) => LineReason::Near(word, command),
-        None => LineReason::Command(word),
+        None => LineReason::Command(asks, word),
     })
 }
 
 // Why the line is a fault, which it is. A mark and a carriage return come first: they are in the way of all else.
 fn reason_for<'a>(
     alloc: Global,
+    asks: Asks,
     line: &'a [u8],
     is_first: bool,
 ) -> Result<LineReason<'a>, AllocError> {
@@ -70,7 +72,7 @@ fn reason_for<'a>(
         return Ok(LineReason::Return(place, word));
     }
     if !is_command(command) {
-        return unknown_command(alloc, command);
+        return unknown_command(alloc, asks, command);
     }
     match furthest_misfit(alloc, command, words)? {
         Some(found) => Ok(LineReason::Word(found)),
@@ -78,9 +80,11 @@ fn reason_for<'a>(
     }
 }
 
-/// Why the line is a fault: none exactly where it is a line. An error says only that memory lacked.
+/// Why the line is a fault: none exactly where it is a line of a script. What is expected in its place is one of these lines. An error says
+/// only that memory lacked.
 pub fn fault<'a>(
     alloc: Global,
+    asks: Asks,
     line: &'a [u8],
     is_first: bool,
 ) -> Result<Option<LineReason<'a>>, AllocError>
@@ -88,7 +92,7 @@ pub fn fault<'a>(
 {
     match read_line(alloc, line) {
         Ok(_) => Ok(None),
-        Err(ParseError::Malformed) => Ok(Some(reason_for(alloc, line, is_first)?)),
+        Err(ParseError::Malformed) => Ok(Some(reason_for(alloc, asks, line, is_first)?)),
         Err(ParseError::NoMemory) => Err(AllocError),
     }
 }

@@ -1,4 +1,5 @@
 //! The text of a reason.
+use crate::asks::Asks;
 use crate::fitting::Misfit;
 use crate::forms::{LINES, meaning, parted};
 use crate::reason::LineReason;
@@ -25,16 +26,16 @@ impl Display for Shown<'_> {
     }
 }
 
-// The commands, each once.
+// The commands of these lines, each once.
 #[derive(Clone, Copy)]
-struct Commands;
+struct Commands(Asks);
 
 impl Display for Commands {
     fn fmt<W: fmt::Write>(&self, f: &mut Formatter<W>) -> fmt::Result {
         let mut last = b"".as_slice();
         for row in LINES.lines() {
             let (command, _) = parted(row);
-            if command.as_bytes() != last {
+            if command.as_bytes() != last && self.0.has(command.as_bytes()) {
                 write!(f, " {command}")?;
             }
             last = command.as_bytes();
@@ -84,11 +85,11 @@ impl Display for LineReason<'_> {
                 "word {place}, \"{}\": expected no carriage return (\\x0d) at the end of the line",
                 Shown(word)
             ),
-            LineReason::Command(word) => write!(
+            LineReason::Command(asks, word) => write!(
                 f,
                 "word 1, \"{}\": expected a command, one of{}",
                 Shown(word),
-                Commands
+                Commands(*asks)
             ),
             LineReason::Near(word, command) => write!(
                 f,

@@ -48,7 +48,7 @@ AnswersToFile old bytes file new left Holds = (mid : ScriptState) × AnswersWhol
 abbrev pub PrintsAnswer : {W E : Type 0} → Ghosts W → ScriptState → Result Line ParseError → ScriptState → W → W → Result (Unit {0}) E → Type 0
 PrintsAnswer g old said new o o' r = (text : List ℕ) × ScriptAnswersLine old said text new × Puts g o o' text r
 
--- The same in parts, for whatever script has this core, is asked so, and keeps this for the asker: now the core is the new one, and this is kept for him.
+-- PrintsAnswer in parts, for whatever script has this core, is asked so, and keeps this for the asker: now the core is the new one, and this is kept for him.
 abbrev pub PrintsFor : {W E : Type 0} → Ghosts W → CoreContents → UserSessions → List ℕ → ℤ → Result Line ParseError → CoreContents → UserSessions → W → W → Result (Unit {0}) E → Type 0
 PrintsFor g core kept user moment said core' kept' o o' r = (keeping keeping' : Keeping) (jobs : List JobSlot) → kept_of keeping user ≡ kept → KeepsFor user kept' keeping keeping'
     → PrintsAnswer g (record { core = core; asker = record { user = user; moment = moment }; kept = keeping; jobs = jobs }) said (record { core = core'; asker = record { user = user; moment = moment }; kept = keeping'; jobs = jobs }) o o' r

@@ -94,6 +94,14 @@ impl Script {
         &self.core
     }
 
+    /// The core, without the script: its sessions and jobs are dropped.
+    pub fn into_core(self) -> Core
+        ensures { result ≡ self.core }
+    {
+        let Script { core, .. } = self;
+        core
+    }
+
     /// Puts this core in place of the script's. Its sessions and jobs are dropped, and their numbers begin anew; who asks, and when, stays.
     pub fn replace(&mut self, core: Core)
         ensures { self.new ≡ replaced self.old core }
@@ -120,7 +128,7 @@ impl Script {
         self.answer_text(part, output)
     }
 
-    // The same for a line that is gathered whole.
+    // `answer` for a line that is gathered whole.
     fn answer_pending<W: Output>(
         &mut self,
         pending: &Pending,
@@ -134,7 +142,7 @@ impl Script {
         }
     }
 
-    // The same for a line that is here whole.
+    // `answer` for a line that is here whole.
     fn answer_text<W: Output>(
         &mut self,
         text: &[u8],
@@ -148,7 +156,7 @@ impl Script {
         }
     }
 
-    // The same for a whole scan, of which these words are left. It is read into no room for what other lines say.
+    // `answer` for a whole scan, of which these words are left. It is read into no room for what other lines say.
     #[inline(never)]
     fn answer_scan<W: Output>(
         &mut self,
@@ -160,7 +168,7 @@ impl Script {
         self.answer_asked(&mut read_scan(self.alloc, &mut words), output)
     }
 
-    // The same for what was read of a whole scan.
+    // `answer` for what was read of a whole scan.
     fn answer_asked<W: Output>(
         &mut self,
         asked: &mut Result<Scan, ParseError>,
@@ -175,7 +183,7 @@ impl Script {
         }
     }
 
-    // The same for any line.
+    // `answer` for any line.
     #[inline(never)]
     fn answer_other<W: Output>(
         &mut self,
@@ -187,7 +195,7 @@ impl Script {
         self.answer_read(&mut read_line(self.alloc, text), output)
     }
 
-    // The same for what was read of it.
+    // `answer` for what was read of any line.
     fn answer_read<W: Output>(
         &mut self,
         said: &mut Result<Line, ParseError>,
@@ -203,7 +211,7 @@ impl Script {
         }
     }
 
-    // The same for a line of the grammar.
+    // `answer` for a line of the grammar.
     fn does<W: Output>(
         &mut self,
         line: &mut Line,
@@ -315,7 +323,7 @@ impl Script {
         }
     }
 
-    // The same where nothing is kept for the user yet.
+    // `scan` where nothing is kept for the user yet.
     #[inline(never)]
     fn first_scan<W: Output>(&mut self, scan: &mut Scan, output: &mut W) -> Result<(), WriteFault>
         ensures { PrintsAnswer W.Output self.old (Ok (Line.Scan scan.old)) self.new output.old output.new result }

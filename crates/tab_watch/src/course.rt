@@ -30,7 +30,8 @@ pub struct LineCounts {
 impl Display for LineCounts {
     fn fmt<W: fmt::Write>(&self, f: &mut Formatter<W>) -> fmt::Result {
         let (done, refused, faults) = (self.done, self.refused, self.faults);
-        write!(f, "{done} ok, {refused} refused, {faults} faults")
+        let ending = if faults == 1 { "" } else { "s" };
+        write!(f, "{done} ok, {refused} refused, {faults} fault{ending}")
     }
 }
 
@@ -67,13 +68,18 @@ impl Course {
         self.stopped.get()
     }
 
-    /// The next line is read.
-    pub(crate) fn step(&self) {
-        self.line.set(self.line.get().saturating_add(1));
+    /// The line that is being answered has this number, as whoever asks for lines counts them: not each of them is handed on.
+    pub fn set_line(&self, number: u64) {
+        self.line.set(number);
     }
 
     /// The run stops at this line.
-    pub(crate) fn stop(&self) {
+    pub fn stop(&self) {
         self.stopped.set(true);
+    }
+
+    /// The next line is read.
+    pub(crate) fn step(&self) {
+        self.line.set(self.line.get().saturating_add(1));
     }
 }

@@ -51,7 +51,7 @@ impl<'a, W: Write> Replies<'a, W> {
         self.tally
     }
 
-    /// The refusal or the fault at which the run has stopped, and nothing else where it hasn't.
+    /// The refusal or the fault at which the run has stopped, and nothing where it hasn't, or has for another reason.
     pub fn stop(&self) -> &[u8] {
         self.line.as_slice()
     }
