@@ -1,7 +1,7 @@
-//! Moments of the machine's clock.
+//! Moments of the machine's clock, and how long it is since one.
 ghost use Rattle.std.specs.Prelude.{◌≡◌};
 
-use std::time::{Clock, SystemTime, UNIX_EPOCH};
+use std::time::{Clock, Duration, Instant, SystemTime, UNIX_EPOCH};
 use tab_serve::Moments;
 
 /// Moments of the machine's clock: milliseconds since the beginning of 1970, and 0 where it gives none.
@@ -28,5 +28,13 @@ impl<'a, C: Clock> Moments for WallClock<'a, C> {
             Ok(since) => i64::try_from(since.as_millis()).unwrap_or(i64::MAX),
             Err(_) => 0,
         }
+    }
+}
+
+/// Whether so long has passed since then; not where the clock doesn't tell.
+pub(crate) fn has_passed(clock: &impl Clock, since: Instant, long: Duration) -> bool {
+    match since.elapsed(clock) {
+        Ok(passed) => passed >= long,
+        Err(_) => false,
     }
 }

@@ -12,8 +12,8 @@ struct WorkerConnection {
     stream: Mutex<Option<Closer>>,
 }
 
-/// The connections of a server: those that are served, each at the place of its worker, and those to come. All of them can be closed: then nothing
-/// more is read or written there, and whoever waits for one goes on.
+/// The connections of a server: those that are served, each at the place of its worker, and those to come. All of them can be closed: then
+/// nothing more is read or written there, and whoever waits for one goes on.
 #[derive(Drop)]
 pub(crate) struct Connections {
     listener: Closer,

@@ -17,8 +17,8 @@ pub(crate) struct Crowded {
 
 /// The tablets of several sources in a core that holds this, those that have most of them last.
 ///
-/// It takes time linear in the tablets and their sources, and memory for a share of each source. What is there is seen by merges that are begun
-/// and not made, in a core of its own that is dropped.
+/// It takes time linear in the tablets and their sources, and memory for a share of each source. What is there is seen by merges that are
+/// begun and not made, in a core of its own that is dropped.
 pub(crate) fn crowded_in(
     alloc: Global,
     user: &Name,

@@ -15,6 +15,7 @@ use tab_work::Holdings;
 #[derive(Clone, Copy)]
 pub struct Figures<'a> {
     pub(crate) counters: &'a Counters,
+    pub(crate) waiting: u64,
     pub(crate) holdings: Holdings,
     pub(crate) uptime: Duration,
 }
@@ -38,9 +39,14 @@ impl Figures<'_> {
         let uptime = gauge("uptime_seconds", "For how long the server runs.", uptime);
         let workers = gauge("workers", "Connections served at once.", workers);
         let now = gauge("connections", "Connections that are served now.", now);
+        let waiting = gauge(
+            "connections_waiting",
+            "Connections that wait for a worker now.",
+            self.waiting,
+        );
         let begun = counter("connections_total", "Connections served so far.", begun);
         let frames = counter("frames_total", "Frames that were read.", frames);
-        write!(f, "{uptime}{workers}{now}{begun}{frames}")
+        write!(f, "{uptime}{workers}{now}{waiting}{begun}{frames}")
     }
 
     // Refusals, those of each name.

@@ -52,8 +52,8 @@ impl<'a, L: Ledger, R: Wait + Clock> Idler<'a, L, R> {
         }
     }
 
-    /// Compacts the next tablet of several sources, at this seat, the merge outside of the book's lock. How long that took; none where there is no
-    /// such tablet, or where none of those that were found last could be compacted.
+    /// Compacts the next tablet of several sources, at this seat, the merge outside of the book's lock. How long that took; none where
+    /// there is no such tablet, or where none of those that were found last could be compacted.
     ///
     /// To find them no event is asked. What the history holds beside what was merged is handed on once there is none.
     pub(crate) fn compact_next(&mut self, seat: &mut Seat<L>) -> Option<Duration> {

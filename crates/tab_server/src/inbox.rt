@@ -41,8 +41,8 @@ impl Inbox {
         }
     }
 
-    /// Waits until no other compactor waits here, then for a millisecond, then for a request, and takes those that wait with it. So a request
-    /// that comes behind a millisecond without one is taken at once, and requests are taken once in a millisecond at most.
+    /// Waits until no other compactor waits here, then for a millisecond, then for a request, and takes those that wait with it. So a
+    /// request that comes behind a millisecond without one is taken at once, and requests are taken once in a millisecond at most.
     ///
     /// Where tablets may be left to compact on which nothing is due it waits for so long as [`Lull`] says, and is idle then; else without
     /// end.
@@ -97,7 +97,7 @@ impl Inbox {
         }
     }
 
-    // The same, for so long.
+    // Waits for a request, for so long.
     fn wait_for<R: Wait + Clock>(&self, rt: &R, quiet: Duration) -> Option<Woken> {
         match self.from.recv_timeout(rt, quiet) {
             Ok(()) => Some(self.hear(rt)),
@@ -112,7 +112,7 @@ impl Inbox {
         }
     }
 
-    // The same, without end.
+    // Waits for a request, without end.
     fn wait_on<R: Wait>(&self, rt: &R) -> Woken {
         if self.from.recv(rt).is_err() {
             return Woken::Closed;

@@ -61,8 +61,8 @@ impl Lull {
         self.busy = self.busy.saturating_sub(1);
     }
 
-    /// Nobody has written for so long. Whether whoever asks is at it from now on: there may be something to do, nobody else is at it, and nobody is
-    /// at work on what is due.
+    /// Nobody has written for so long. Whether whoever asks is at it from now on: there may be something to do, nobody else is at it, and
+    /// nobody is at work on what is due.
     pub(crate) fn begin(&mut self) -> bool {
         let begins = self.busy == 0 && matches!(self.state, State::Open);
         if begins {

@@ -1,7 +1,9 @@
 //! Who reports what a server tells of itself.
 
+use crate::accepting::Accepted;
 use crate::counters::Counters;
 use crate::{Figures, History};
+use crossbeam_channel::Receiver;
 use std::sync::Wait;
 use std::sync::ledger::Ledger;
 use std::time::{Clock, Duration, Instant};
@@ -15,6 +17,8 @@ const PERIOD: u64 = 10;
 pub(crate) struct Reporter<'a, R> {
     rt: &'a R,
     counters: &'a Counters,
+    // where connections wait for a worker
+    queue: &'a Receiver<Accepted>,
     begun: Option<Instant>,
     // how long the server had run when it reported last
     last: Option<Duration>,
@@ -22,10 +26,15 @@ pub(crate) struct Reporter<'a, R> {
 
 impl<'a, R: Wait + Clock> Reporter<'a, R> {
     /// The server begins.
-    pub(crate) fn new(rt: &'a R, counters: &'a Counters) -> Reporter<'a, R> {
+    pub(crate) fn new(
+        rt: &'a R,
+        counters: &'a Counters,
+        queue: &'a Receiver<Accepted>,
+    ) -> Reporter<'a, R> {
         Reporter {
             rt,
             counters,
+            queue,
             begun: Instant::now(rt).ok(),
             last: None,
         }
@@ -49,6 +58,7 @@ impl<'a, R: Wait + Clock> Reporter<'a, R> {
         if history.wants_figures() {
             history.report(&Figures {
                 counters: self.counters,
+                waiting: self.queue.len() as u64,
                 holdings: shared.holdings(self.rt),
                 uptime: self.uptime(),
             });

@@ -2,9 +2,12 @@
 
 use std::alloc::{AllocError, Global};
 use std::sync::ledger::Ledger;
-use tab_book::{Outcome, SharedEntry, Slice};
+use tab_book::{Outcome, SharedEntry};
 use tab_history::{Refusal, Reply};
 use tab_journal::Gathered;
+
+// From how many bytes on what was gathered is kept before more is.
+const BATCH: usize = 8 << 20;
 
 /// What of a history was gathered for a store and isn't kept yet, and the number of the entry that is next.
 #[derive(Drop)]
@@ -32,16 +35,13 @@ impl Round {
         self.gathered.body()
     }
 
-    /// Gathers the entries of the slice, which begins with the next one. Where memory lacks, those in front were gathered.
-    pub(crate) fn add<L: Ledger>(&mut self, slice: &Slice<L>) -> Result<(), AllocError> {
-        for entry in slice.entries() {
-            self.add_entry(entry)?;
-        }
-        Ok(())
+    /// Whether it's to be kept before more is gathered: so no batch has more than 8 MiB and an entry.
+    pub(crate) fn is_full(&self) -> bool {
+        self.entries().len() >= BATCH
     }
 
-    // Gathers the next entry.
-    fn add_entry(&mut self, entry: &SharedEntry) -> Result<(), AllocError> {
+    /// Gathers the next entry, which this is. Where memory lacks it isn't.
+    pub(crate) fn add(&mut self, entry: &SharedEntry) -> Result<(), AllocError> {
         self.gathered.add(entry.event(), &told(entry.outcome()))?;
         self.next = self.next.saturating_add(1);
         Ok(())

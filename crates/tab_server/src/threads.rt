@@ -1,4 +1,4 @@
-//! Who is at work in a server: workers, compactors, and one who hands the history on, each with a seat for its life.
+//! Who is at work in a server: workers, compactors, and those who keep what they did, each with a seat for its life.
 
 use crate::inbox::Inbox;
 use crate::{Options, ServerFault};
@@ -20,10 +20,12 @@ pub(crate) enum ThreadRole<'a, R> {
     Recorder(Receiver<()>),
     /// It has the store make images, as long as the others are at work.
     Keeper(Receiver<()>),
+    /// It has the disk hold what the store keeps, as long as the others are at work.
+    Syncer(Receiver<()>),
 }
 
-/// One thread of a server: its part, and its seat. Unless it is the recorder or the keeper it holds a sender to that one's channel, to which nothing is sent:
-/// it's dropped when the thread ends.
+/// One thread of a server: its part, and its seat. Unless it is the recorder, the keeper or the syncer it holds a sender to their channel,
+/// to which nothing is sent: it's dropped when the thread ends.
 #[derive(Drop)]
 pub(crate) struct ServerThread<'a, L: Ledger, R> {
     pub(crate) role: ThreadRole<'a, R>,
@@ -38,24 +40,26 @@ pub(crate) struct ServerThreads<'a, L: Ledger, R> {
     pub(crate) inbox: Inbox,
 }
 
-/// So many workers and compactors, a recorder, and a keeper. Only the workers can send to the inbox: its channel is closed once all of them are gone.
+/// So many workers and compactors, a recorder, a keeper, and a syncer where one is wanted. Only the workers can send to the inbox: its
+/// channel is closed once all of them are gone.
 pub(crate) fn threads_of<'a, L: Ledger, R: Wait>(
     rt: &'a R,
     alloc: Global,
     shared: &Shared<L>,
     options: Options,
+    wants_sync: bool,
 ) -> Result<ServerThreads<'a, L, R>, ServerFault> {
     let (to, from) = crossbeam_channel::unbounded(alloc)?;
     let (life, others) = crossbeam_channel::unbounded(alloc)?;
     let mut members = Vec::new(alloc);
     add_workers(rt, shared, &mut members, options.workers, &to, &life)?;
     add_compactors(rt, shared, &mut members, options.compactors, &life)?;
-    add_alone(
-        rt,
-        shared,
-        &mut members,
-        ThreadRole::Keeper(others.clone()?),
-    )?;
+    let keeper = ThreadRole::Keeper(others.clone()?);
+    add_alone(rt, shared, &mut members, keeper)?;
+    if wants_sync {
+        let syncer = ThreadRole::Syncer(others.clone()?);
+        add_alone(rt, shared, &mut members, syncer)?;
+    }
     add_alone(rt, shared, &mut members, ThreadRole::Recorder(others))?;
     let inbox = Inbox::new(from);
     Ok(ServerThreads { members, inbox })

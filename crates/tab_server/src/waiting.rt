@@ -4,8 +4,8 @@ use std::cell::Cell;
 use std::io;
 use std::io::{ErrorKind, Read, Write};
 
-/// A reader or a writer of a connection, which sees whether a call failed since it had waited for as long as the connection lets it. The system says
-/// so by `WouldBlock`, and no other fault by that. No clock is asked: one may have it that the time isn't quite over.
+/// A reader or a writer of a connection, which sees whether a call failed since it had waited for as long as the connection lets it. The
+/// system says so by `WouldBlock`, and no other fault by that. No clock is asked: one may have it that the time isn't quite over.
 #[derive(Drop)]
 pub(crate) struct Waiting<'a, S> {
     stream: S,

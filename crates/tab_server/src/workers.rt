@@ -1,17 +1,19 @@
 //! The threads of a server.
 
-use crate::accepting::accept_all;
+use crate::accepting::{Accepted, accept_all};
 use crate::clock::WallClock;
 use crate::connection::{Ending, Peer};
 use crate::connections::Connections;
 use crate::counters::Counters;
+use crate::handed::Handed;
 use crate::idle::Idler;
 use crate::inbox::{Inbox, Woken};
-use crate::keeper::keep_images;
+use crate::keeper::{keep_images, sync_often};
 use crate::lingering::linger;
 use crate::log::Log;
+use crate::opening::Opening;
 use crate::recorder::Recorder;
-use crate::settled::{Marking, Settled};
+use crate::settled::{Marking, Marks, Settled};
 use crate::tally::Tally;
 use crate::threads::{ServerThread, ServerThreads, ThreadRole};
 use crate::waiting::Waiting;
@@ -20,6 +22,7 @@ use crate::{History, Options, ServerFault, Store};
 use crossbeam_channel::Receiver;
 use std::alloc::{AllocError, Global};
 use std::cell::Cell;
+use std::io::{Read, Write};
 use std::sync::Wait;
 use std::sync::ledger::Ledger;
 use std::thread;
@@ -29,7 +32,7 @@ use tab_book::Seat;
 use tab_io::{BlockReader, BlockWriter};
 use tab_key::Name;
 use tab_serve::ServeFault;
-use tab_socket::{Connection, End, Listener, Stream};
+use tab_socket::{End, Listener, Stream};
 use tab_work::{Claims, Compactor, Gate, Requests, Shared, serve_forgetting};
 
 // What all threads of a server are lent.
@@ -39,11 +42,12 @@ struct Context<'a, 'l, L: Ledger, R, H, D> {
     alloc: Global,
     shared: &'a Shared<L>,
     // where the connections come that were accepted
-    from: &'a Receiver<Connection>,
+    from: &'a Receiver<Accepted>,
     inbox: &'a Inbox,
     claims: &'a Claims,
     counters: &'a Counters,
     history: &'a H,
+    handed: &'a Handed,
     log: &'a Log<'l, L, D>,
     connections: &'a Connections,
     // from how many entries on the history is handed on
@@ -73,8 +77,9 @@ pub(crate) fn serve_all<
     let (to, from) = crossbeam_channel::bounded(alloc, options.workers as usize)?;
     let claims = Claims::new(alloc);
     let counters = Counters::new(alloc, options.workers)?;
+    let handed = Handed::new(history.keeps());
     let ServerThreads { members, inbox } = threads;
-    let (from, inbox, claims, counters) = (&from, &inbox, &claims, &counters);
+    let (from, inbox, claims, counters, handed) = (&from, &inbox, &claims, &counters, &handed);
     let many = options.rotate_at.max(1);
     thread::scope(thread::scope_env(), rt, |scope| {
         let mut threads = Vec::new(alloc);
@@ -90,6 +95,7 @@ pub(crate) fn serve_all<
                     claims,
                     counters,
                     history,
+                    handed,
                     log,
                     connections,
                     many,
@@ -129,7 +135,11 @@ fn work<L: Ledger, R: Threads + Wait + Clock + Sync, H: History, D: Store>(
         ThreadRole::Worker(number, requests) => serve(context, seat, number, requests),
         ThreadRole::Compactor => compact(context, seat),
         ThreadRole::Keeper(others) => {
-            keep_images(context.rt, context.log, &others);
+            keep_images(context.rt, context.log, context.history, &others);
+            seat
+        }
+        ThreadRole::Syncer(others) => {
+            sync_often(context.rt, context.log, &others);
             seat
         }
         ThreadRole::Recorder(others) => record(context, seat, others),
@@ -138,8 +148,8 @@ fn work<L: Ledger, R: Threads + Wait + Clock + Sync, H: History, D: Store>(
     seat
 }
 
-// Serves one connection after another, until the channel is closed, as the worker of this number. Nothing that happens to one of them stops the
-// next.
+// Serves one connection after another, until the channel is closed, as the worker of this number. Nothing that happens to one of them
+// stops the next.
 fn serve<L: Ledger, R: Threads + Wait + Clock + Sync, H: History, D: Store>(
     context: &Context<'_, '_, L, R, H, D>,
     seat: Seat<L>,
@@ -149,11 +159,11 @@ fn serve<L: Ledger, R: Threads + Wait + Clock + Sync, H: History, D: Store>(
     let mut seat = seat;
     let tally = context.counters.take();
     for _ in context.rt.forever() {
-        let Ok(stream) = context.from.recv(context.rt) else {
+        let Ok(accepted) = context.from.recv(context.rt) else {
             break;
         };
-        if enters(context, number, &stream) {
-            serve_stream(context, &mut seat, &stream, &requests, tally);
+        if enters(context, number, &accepted.stream) {
+            serve_stream(context, &mut seat, &accepted, &requests, tally);
         }
         context.connections.leave(context.rt, number);
     }
@@ -173,50 +183,51 @@ fn enters<L: Ledger, R: Wait, S: Stream, H, D>(
 }
 
 // Serves a connection to its end or its first fault, and tells of it.
-fn serve_stream<L: Ledger, R: Threads + Wait + Clock + Sync, S: Stream, H: History, D: Store>(
+fn serve_stream<L: Ledger, R: Threads + Wait + Clock + Sync, H: History, D: Store>(
     context: &Context<'_, '_, L, R, H, D>,
     seat: &mut Seat<L>,
-    stream: &S,
+    accepted: &Accepted,
     requests: &Requests<'_, R>,
     tally: &Tally,
 ) {
+    let stream = &accepted.stream;
     let peer = peer_of(stream);
+    let reader = Opening::new(stream, accepted.may_have_waited(context.rt));
     let is_late = Cell::new(false);
     let watch = Watch::new(context.rt, requests, tally, &is_late);
-    let served = converse_over(context, seat, stream, &is_late, &watch);
+    let served = converse_over(context, seat, reader, End::new(stream), &is_late, &watch);
     let ended = watch.end(peer, served);
     context.history.end(&ended);
     if let Ending::Frame(_) = ended.ending {
-        linger(stream);
+        linger(context.rt, stream);
     }
 }
 
-// Answers what the stream asks, to its end or its first fault. The cell is set where that is a read or a write that has waited too long.
+// Answers on the writer what the reader asks, to its end or its first fault. The cell is set where that is a read or a write that has
+// waited too long.
 fn converse_over<
     L: Ledger,
     R: Threads + Wait + Clock + Sync,
-    S: Stream,
+    I: Read + Drop,
+    W: Write + Drop,
     G: Gate,
     H: History,
     D: Store,
 >(
     context: &Context<'_, '_, L, R, H, D>,
     seat: &mut Seat<L>,
-    stream: &S,
+    reader: I,
+    writer: W,
     is_late: &Cell<bool>,
     gate: &G,
 ) -> Result<Result<(), ServeFault>, AllocError> {
     let (rt, alloc) = (context.rt, context.alloc);
-    let mut input = BlockReader::new(alloc, Waiting::new(End::new(stream), is_late))?;
-    let mark = Cell::new(0);
-    let settled = Settled::new(
-        rt,
-        context.log,
-        &mark,
-        Waiting::new(End::new(stream), is_late),
-    );
+    let mut input = BlockReader::new(alloc, Waiting::new(reader, is_late))?;
+    let marks = Marks::new();
+    let writer = Waiting::new(writer, is_late);
+    let settled = Settled::new(rt, context.log, context.handed, &marks, writer);
     let mut output = BlockWriter::new(alloc, settled)?;
-    let gate = Marking::new(gate, &mark);
+    let gate = Marking::new(gate, context.handed, &marks);
     let mut moments = WallClock::new(rt);
     Ok(serve_forgetting(
         rt,
@@ -309,9 +320,11 @@ fn record<L: Ledger, R: Wait + Clock, H: History, D: Store>(
         seat,
         user: root(),
         history: context.history,
-        log: context.log,
-        synced: None,
+        handed: context.handed,
         counters: context.counters,
+        log: context.log,
+        queue: context.from,
+        last: None,
     };
     recorder.record(context.many, &others)
 }
