@@ -7,7 +7,8 @@ use std::time::Duration;
 // How many microseconds a second has.
 const SECOND: u64 = 1_000_000;
 
-/// What a server has asked of the disk since it began, for the folder that it keeps. It is shown as metrics, in the text form of Prometheus.
+/// What a server has asked of the disk since it began, for the folder that it keeps. It is shown as metrics, in the text form of
+/// Prometheus.
 ///
 /// Any thread may count at any time. A count goes by no other one, and none is shown at the same moment as another.
 #[derive(Drop)]

@@ -1,16 +1,15 @@
 //! `tabd inspect` and `tabd export`.
+use crate::replayed_image::replayed_image;
 use anyhow::Context;
 use std::fs;
-use std::fs::File;
 use std::io::{IsTerminal, Write};
-use tab_accumulo::put_shell_lines;
+use tab_accumulo::{left_out, put_shell_lines};
 use tab_export::{put_script, server_records};
-use tab_folder::{FolderFault, Left, Look};
-use tab_host::{Looked, Noting, Progress, ProgressStream, look, look_at};
+use tab_folder::{FolderFault, Format, Left, Look};
+use tab_host::{Looked, Noting, Progress, ProgressStream, look};
 use tab_image::Image;
 use tab_inspect::put_facts;
 use tab_io::{BlockWriter, Output};
-use tab_journal::Format;
 use tab_prog::ProgramFault;
 
 /// What an image is written as.
@@ -24,32 +23,21 @@ pub enum Form {
     Accumulo,
 }
 
-// Why what a folder keeps isn't written as lines.
-#[derive(Clone, Copy, Debug, thiserror::Error)]
-enum ExportFault {
-    #[error("its journal holds more than its image: `tabd script --store FOLDER </dev/null` makes one of both")]
-    Journal,
-}
-
-// What an image says, which file it stands in, what stands in the journal behind it, where there may be one, and how many journals follow.
+// What an image says, which file it stands in, and of a folder what stands in the journals behind it, which the image has done then.
 #[derive(Drop)]
 struct Seen {
     looked: Looked,
     name: String,
-    left: Option<Left>,
-    later: u64,
+    left: Option<Vec<Left>>,
 }
 
-/// Writes the image in this file, or the newest one in this folder, to standard output. `asked` says whether standard error has how far it
-/// has come. A fault names the file or the folder, and tells why.
-pub fn run_look(rt: &HostRuntime, path: &str, form: Form, asked: bool) -> anyhow::Result<()> {
+/// Writes the image in this file, or what this folder keeps, to standard output, and tells how many things of it the lines leave out.
+/// `asked` says whether standard error has how far it has come. A fault names the file or the folder, and tells why.
+pub fn run_look(rt: &HostRuntime, path: &str, form: Form, asked: bool) -> anyhow::Result<u64> {
     let reading = Progress::new(rt, asked);
     let outcome = seen_at(rt, path, &reading);
     reading.end();
     let seen = outcome.with_context(|| path)?;
-    if form != Form::Facts && holds_more(&seen) {
-        return Err(ExportFault::Journal).with_context(|| path);
-    }
     let mut stream = Noting::new(rt.stdout());
     let writing = Progress::new(rt, asked && !rt.stdout().is_terminal());
     let outcome = write(
@@ -60,7 +48,7 @@ pub fn run_look(rt: &HostRuntime, path: &str, form: Form, asked: bool) -> anyhow
     );
     writing.end();
     match (outcome, stream.failure()) {
-        (Ok(()), _) => Ok(()),
+        (Ok(()), _) => Ok(omitted(&seen.looked.image, form)),
         (Err(ProgramFault::Write), Some(reason)) => {
             Err(anyhow::Error::from(reason).context(ProgramFault::Write))
         }
@@ -68,7 +56,15 @@ pub fn run_look(rt: &HostRuntime, path: &str, form: Form, asked: bool) -> anyhow
     }
 }
 
-// The image in the file of this name, or the newest one in the folder.
+// How many things of the image can't be written in this form.
+fn omitted(image: &Image, form: Form) -> u64 {
+    match form {
+        Form::Facts | Form::Script => 0,
+        Form::Accumulo => left_out(image),
+    }
+}
+
+// The image in the file of this name, or of what the folder keeps.
 fn seen_at(rt: &HostRuntime, path: &str, progress: &Progress<'_>) -> anyhow::Result<Seen> {
     if is_folder(rt, path) {
         return seen_in(rt, path, progress);
@@ -79,7 +75,6 @@ fn seen_at(rt: &HostRuntime, path: &str, progress: &Progress<'_>) -> anyhow::Res
         looked,
         name,
         left: None,
-        later: 0,
     })
 }
 
@@ -90,36 +85,51 @@ fn is_folder(rt: &HostRuntime, path: &str) -> bool {
     }
 }
 
-// The newest image in the folder, and what its journal holds beyond.
+// The image of what the folder keeps, with what its journals hold replayed.
 fn seen_in(rt: &HostRuntime, path: &str, progress: &Progress<'_>) -> anyhow::Result<Seen> {
     let folder = Look::open(rt, path)?;
-    let name = folder.image()?;
-    let file = File::open(rt, name.as_str()).map_err(FolderFault::Refused)?;
-    let looked = look_at(rt, file, progress)?;
-    let left = folder.left(looked.image.next, looked.image.clock)?;
+    let name = folder.contents().image()?;
+    let looked = folder.read(progress)?;
+    let left = left_in(rt, &folder, (looked.image.next, looked.image.clock))?;
+    let looked = if left.as_slice().iter().any(|left| left.bytes > 0) {
+        replayed(rt, &folder, looked)?
+    } else {
+        looked
+    };
     Ok(Seen {
         looked,
         name,
         left: Some(left),
-        later: folder.later_journals(),
     })
 }
 
-// Whether a journal holds anything beyond the image.
-fn holds_more(seen: &Seen) -> bool {
-    match &seen.left {
-        Some(left) => !left.text.is_empty() || seen.later > 0,
-        None => false,
-    }
+// The image with what the folder's journals hold replayed.
+fn replayed(rt: &HostRuntime, folder: &Look<'_>, looked: Looked) -> Result<Looked, FolderFault> {
+    let (version, bytes) = (looked.version, looked.bytes);
+    drop(looked);
+    Ok(Looked {
+        image: replayed_image(rt, folder.contents())?,
+        version,
+        bytes,
+    })
 }
 
-// How many lines a script has left.
-fn lines_in(left: &Left) -> usize {
-    left.text
-        .as_slice()
-        .iter()
-        .filter(|byte| **byte == b'\n')
-        .count()
+// What the folder's journals keep, of those that keep something. The first one goes on from an image of which `base` has the number of
+// the next mutation and the clock.
+fn left_in(
+    rt: &HostRuntime,
+    folder: &Look<'_>,
+    base: (u64, i64),
+) -> Result<Vec<Left>, FolderFault> {
+    let mut all = Vec::new(rt.alloc());
+    let mut base = Some(base);
+    for number in folder.contents().journals() {
+        let left = folder.left(number, base.take())?;
+        if left.bytes > 0 || left.cut > 0 {
+            all.push(left)?;
+        }
+    }
+    Ok(all)
 }
 
 // Writes what was seen.
@@ -154,21 +164,32 @@ fn put_file<W: Output>(rt: &HostRuntime, output: &mut W, seen: &Seen) -> Result<
         |_| ProgramFault::NoMemory,
     )?;
     put_text(output, head.as_str())?;
-    let Some(left) = &seen.left else {
-        return Ok(());
-    };
-    let (bytes, cut, later) = (left.text.len(), left.cut, seen.later);
-    // A journal without a header keeps nothing, whoever began it.
-    let beyond = match left.format {
-        Format::Events if left.has_header => format!(in rt.alloc();
-            "journal events bytes {bytes} cut {cut} later {later}\n"
-        ),
-        _ => {
-            let lines = lines_in(left);
-            format!(in rt.alloc(); "journal lines {lines} bytes {bytes} cut {cut}\n")
-        }
-    };
-    put_text(output, beyond.map_err(|_| ProgramFault::NoMemory)?.as_str())
+    match &seen.left {
+        Some(left) => put_journals(rt, output, left.as_slice()),
+        None => Ok(()),
+    }
+}
+
+// What journals keep beyond an image, a line each.
+fn put_journals<W: Output>(
+    rt: &HostRuntime,
+    output: &mut W,
+    left: &[Left],
+) -> Result<(), ProgramFault> {
+    if left.is_empty() {
+        return put_text(output, "journal lines 0 bytes 0 cut 0\n");
+    }
+    for journal in left {
+        let (bytes, lines, cut) = (journal.bytes, journal.lines, journal.cut);
+        let line = match journal.format {
+            Format::Events => format!(in rt.alloc(); "journal events bytes {bytes} cut {cut}\n"),
+            Format::Lines => format!(in rt.alloc();
+                "journal lines {lines} bytes {bytes} cut {cut}\n"
+            ),
+        };
+        put_text(output, line.map_err(|_| ProgramFault::NoMemory)?.as_str())?;
+    }
+    Ok(())
 }
 
 fn put_text<W: Output>(output: &mut W, text: &str) -> Result<(), ProgramFault> {

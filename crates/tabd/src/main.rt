@@ -5,11 +5,14 @@
 //! | `closed_streams` | standard streams that are closed |
 //! | `scripting`, `serving`, `shell` | `tabd script`, `tabd serve` and `tabd shell` |
 //! | `watching` | how a run of lines ends that is watched |
-//! | `keeping`, `unheard` | a script over a folder, which keeps what it does, and the answers to lines that are done again |
-//! | `folder_store`, `replaying` | what a server keeps in a folder, and what one left there, done again |
+//! | `opening`, `replaying` | a store's folder, taken up, and what runs left there, replayed |
+//! | `line_replay`, `unheard` | the lines of a script, replayed, and the answers to them |
+//! | `keeping` | a script over a folder, which keeps what it does |
+//! | `folder_store` | what a server keeps in a folder |
 //! | `history` | the history of a server, in a file |
 //! | `telling`, `metrics`, `counts` | what a server tells beside its answers, what it tells of itself, in a file, and what it asks of the disk |
-//! | `looking` | `tabd inspect` and `tabd export` |
+//! | `status` | what the system tells of the program itself |
+//! | `looking`, `replayed_image` | `tabd inspect` and `tabd export`, and what a folder keeps for them |
 //! | `files` | images in files, as lines and the command line name them |
 //! | `escaped` | what is told on a line of standard error |
 #![tactic(auto)]
@@ -21,12 +24,16 @@ mod files;
 mod folder_store;
 mod history;
 mod keeping;
+mod line_replay;
 mod looking;
 mod metrics;
+mod opening;
+mod replayed_image;
 mod replaying;
 mod scripting;
 mod serving;
 mod shell;
+mod status;
 mod telling;
 mod unheard;
 mod watching;
@@ -39,6 +46,7 @@ use looking::{Form, run_look};
 use scripting::{Style, run_kept, run_script};
 use serving::run_serve;
 use shell::{Way, run_shell};
+use status::tell_file_limit;
 use std::io::ErrorKind;
 use std::process::ExitCode;
 use std::sync::Wait;
@@ -58,6 +66,9 @@ const ROTATE_AT: u64 = 16_384;
 
 // Who may connect to a server's socket file, unless the command line says otherwise: whoever runs the server.
 const SOCKET_MODE: &str = "600";
+
+// The status of an export that left something out.
+const LEFT_OUT: u8 = 3;
 
 fn main(rt: HostRuntime) -> ExitCode {
     let _closed = ClosedStreams::hold(&rt);
@@ -128,15 +139,19 @@ fn asked<R: Threads + Wait + Clock + Sync>(
     }
 }
 
-// Writes an image as lines.
+// Writes an image as lines; says on standard error how many things they leave out, if any, and that is a status of its own.
 fn exported(rt: &HostRuntime, export: ExportRequest<'_>) -> anyhow::Result<ExitCode> {
     let form = if export.accumulo {
         Form::Accumulo
     } else {
         Form::Script
     };
-    run_look(rt, export.path, form, export.progress)?;
-    Ok(ExitCode::SUCCESS)
+    let left = run_look(rt, export.path, form, export.progress)?;
+    if left == 0 {
+        return Ok(ExitCode::SUCCESS);
+    }
+    let _ = eprintln!(rt; "left out: {left}; each is a comment that begins \"# left out\"");
+    Ok(ExitCode::from(LEFT_OUT))
 }
 
 // Runs a script.
@@ -147,7 +162,10 @@ fn scripted(rt: &HostRuntime, script: ScriptRequest<'_>) -> anyhow::Result<ExitC
     };
     let style = style_of(script.prompted, script.explained);
     match script.store {
-        Some(folder) => run_kept(rt, folder, script.image, style, watch),
+        Some(folder) => {
+            tell_file_limit(rt);
+            run_kept(rt, folder, script.image, style, watch)
+        }
         None => run_script(rt, script.image, style, watch),
     }
 }
@@ -170,6 +188,7 @@ fn served<R: Threads + Wait + Clock + Sync>(
     let Some(mode) = mode_of(serve.socket_mode.unwrap_or(SOCKET_MODE)) else {
         return Ok(refused(rt, "the mode isn't octal digits: 0 to 777"));
     };
+    tell_file_limit(rt);
     let options = Options {
         workers: serve.workers,
         compactors: serve.compactors,

@@ -1,6 +1,7 @@
 //! What a server tells of itself, in a file.
 use crate::counts::DiskCounts;
 use crate::escaped::Escaped;
+use crate::status::status_word;
 use std::fmt::{Display, Formatter};
 use std::fs::{OpenOptions, Permissions};
 use std::io::{Error, ErrorKind, Write};
@@ -142,11 +143,6 @@ impl Display for Resident {
 
 // How many bytes of memory the program has; none where the system doesn't tell.
 fn resident_bytes(rt: &HostRuntime) -> Option<u64> {
-    let status = fs::read_to_string(rt, "/proc/self/status").ok()?;
-    let line = status
-        .as_str()
-        .lines()
-        .find(|line| line.starts_with("VmRSS:"))?;
-    let kilobytes = line.split_whitespace().nth(1)?.parse::<u64>().ok()?;
-    kilobytes.checked_mul(1024)
+    let kilobytes = status_word(rt, "VmRSS:")?;
+    kilobytes.as_str().parse::<u64>().ok()?.checked_mul(1024)
 }

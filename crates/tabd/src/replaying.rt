@@ -1,76 +1,163 @@
-//! What a server left in its journals, done again.
+//! What runs left in the journals of a folder, replayed.
 use crate::escaped::Escaped;
+use crate::line_replay::replay_lines;
 use anyhow::Context;
+use std::fmt;
+use std::fmt::{Display, Formatter};
 use tab_core::Core;
-use tab_folder::{Folder, Left};
-use tab_recovery::replay;
+use tab_folder::{Folder, FolderFault, Format, Journal, StoreFile};
 
-// What was found in the journals behind an image.
-#[derive(Clone, Copy, Debug)]
-struct Found {
-    // how many entries were done again
-    count: u64,
+/// What was found in the journals behind an image, and replayed.
+#[derive(Clone, Copy, Debug, PartialEq, Eq)]
+pub struct Found {
+    // how many bytes of lines, and how many entries
+    lines: u64,
+    entries: u64,
     // how many bytes at their ends are no whole batch
-    cut: usize,
+    cut: u64,
+    // the load that was cut off last
+    unfinished: Option<StoreFile>,
 }
 
-/// Does the entries again that were left behind the image with this core, the first journal of which was read, and keeps what comes of them.
-pub fn entries_done(
+impl Found {
+    fn nothing() -> Found {
+        Found {
+            lines: 0,
+            entries: 0,
+            cut: 0,
+            unfinished: None,
+        }
+    }
+
+    /// Whether nothing was replayed.
+    pub fn is_empty(&self) -> bool {
+        self.lines == 0 && self.entries == 0
+    }
+}
+
+/// A core that has done all that a folder keeps, and how it came to that.
+#[derive(Drop)]
+pub struct Replayed {
+    /// The core.
+    pub core: Core,
+    /// The last journal, where it goes on.
+    pub journal: Option<Journal>,
+    /// What was found.
+    pub found: Found,
+}
+
+/// Replays what was left in the journals behind the folder's image, of which this is the core. The last one goes on where it keeps
+/// events and that is asked. Standard error is told what was found.
+pub fn replay_all(
     rt: &HostRuntime,
-    folder: &mut Folder<'_>,
+    folder: &Folder<'_>,
     path: &str,
     core: Core,
-    first: Left,
-) -> anyhow::Result<Core> {
-    let mut core = core;
-    let journals = folder.journals().with_context(|| path)?;
-    let is_alone = journals.end.saturating_sub(journals.start) == 1;
-    let mut found = Found { count: 0, cut: 0 };
-    let mut first = Some(first);
-    for number in journals {
-        let left = match first.take() {
-            Some(left) => left,
-            None => folder.take_up(number, &core).with_context(|| path)?,
+    goes_on: bool,
+) -> anyhow::Result<Replayed> {
+    let mut replayed = Replayed {
+        core,
+        journal: None,
+        found: Found::nothing(),
+    };
+    let contents = folder.contents().with_context(|| path)?;
+    for number in contents.journals() {
+        let outcome = match contents.format(number).with_context(|| path)? {
+            Format::Lines => with_lines(rt, folder, replayed, number),
+            Format::Events => with_entries(folder, replayed, number, goes_on),
         };
-        found = done(rt, path, &mut core, found, &left)?;
+        replayed = outcome.with_context(|| path)?;
     }
-    if found.count > 0 || !is_alone {
-        folder.keep(&core).with_context(|| path)?;
-    }
-    tell(rt, path, found);
-    Ok(core)
+    tell(rt, path, replayed.found);
+    Ok(replayed)
 }
 
-// Does the entries again that were left in a journal, behind others in which that was found. What was cut off is told where they aren't done: the next
-// start doesn't find it.
-fn done(
+// What was replayed, with the lines of one journal more.
+fn with_lines(
     rt: &HostRuntime,
-    path: &str,
-    core: &mut Core,
-    found: Found,
-    left: &Left,
-) -> anyhow::Result<Found> {
-    let cut = found.cut.saturating_add(left.cut);
-    let outcome = replay(rt.alloc(), core, left.text.as_slice());
-    if outcome.is_err() {
-        tell(rt, path, Found { count: 0, cut });
-    }
-    let count = outcome.with_context(|| path)?;
-    Ok(Found {
-        count: found.count.saturating_add(count),
-        cut,
+    folder: &Folder<'_>,
+    replayed: Replayed,
+    number: u64,
+) -> Result<Replayed, FolderFault> {
+    let Replayed { core, found, .. } = replayed;
+    let done = replay_lines(rt, folder.contents()?, core, number)?;
+    let cut = folder.take_up(number)?;
+    Ok(Replayed {
+        core: done.core,
+        journal: None,
+        found: Found {
+            lines: found.lines.saturating_add(done.bytes),
+            cut: found.cut.saturating_add(cut),
+            unfinished: done.unfinished.or(found.unfinished),
+            ..found
+        },
+    })
+}
+
+// What was replayed, with the entries of one journal more, which goes on where that is asked and it is the last one.
+fn with_entries(
+    folder: &Folder<'_>,
+    replayed: Replayed,
+    number: u64,
+    goes_on: bool,
+) -> Result<Replayed, FolderFault> {
+    let Replayed {
+        mut core,
+        found,
+        ..
+    } = replayed;
+    let done = folder.replay(number, &mut core, goes_on)?;
+    Ok(Replayed {
+        core,
+        journal: done.journal,
+        found: Found {
+            entries: found.entries.saturating_add(done.count),
+            cut: found.cut.saturating_add(done.cut),
+            ..found
+        },
     })
 }
 
 // Says on standard error what was found, if that is anything.
 fn tell(rt: &HostRuntime, path: &str, found: Found) {
     let path = Escaped(&path);
-    let _ = match (found.count, found.cut) {
-        (0, 0) => Ok(()),
-        (0, cut) => eprintln!(rt; "{path}: {cut} bytes at the end of the journal are cut off"),
-        (count, 0) => eprintln!(rt; "{path}: {count} entries are done again"),
-        (count, cut) => eprintln!(rt;
-            "{path}: {count} entries are done again, {cut} bytes at the end of the journal are cut off"
-        ),
+    if let Some(load) = found.unfinished {
+        let _ = eprintln!(rt;
+            "{path}: a load was cut off, so there is no {load}: neither it nor what was read with it behind it is replayed"
+        );
+    }
+    let _ = match (found.is_empty(), found.cut) {
+        (true, 0) => Ok(()),
+        (true, cut) => eprintln!(rt; "{path}: {}", CutOff(cut)),
+        (false, 0) => eprintln!(rt; "{path}: {found}"),
+        (false, cut) => eprintln!(rt; "{path}: {found}, {}", CutOff(cut)),
     };
+}
+
+impl Display for Found {
+    fn fmt<W: fmt::Write>(&self, f: &mut Formatter<W>) -> fmt::Result {
+        let (lines, entries) = (self.lines, self.entries);
+        match (lines, entries) {
+            (_, 0) => write!(f, "{lines} bytes of lines are replayed"),
+            (0, 1) => write!(f, "1 entry is replayed"),
+            (0, _) => write!(f, "{entries} entries are replayed"),
+            _ => write!(
+                f,
+                "{lines} bytes of lines and {entries} entries are replayed"
+            ),
+        }
+    }
+}
+
+// How many bytes are cut off.
+#[derive(Clone, Copy)]
+struct CutOff(u64);
+
+impl Display for CutOff {
+    fn fmt<W: fmt::Write>(&self, f: &mut Formatter<W>) -> fmt::Result {
+        match self.0 {
+            1 => write!(f, "1 byte at the end of the journal is cut off"),
+            cut => write!(f, "{cut} bytes at the end of the journal are cut off"),
+        }
+    }
 }

@@ -1,7 +1,8 @@
 //! `tabd script`.
 use crate::files::{Disk, loaded};
-use crate::keeping::{Keeping, open_folder};
-use crate::watching::ended;
+use crate::keeping::Keeping;
+use crate::opening::{Opened, open_folder};
+use crate::watching::{ended, prompts_ended};
 use anyhow::Context;
 use std::io::{IsTerminal, Read, Write};
 use std::process::ExitCode;
@@ -51,8 +52,8 @@ pub fn run_script(
     }
 }
 
-/// The same, by the core that this folder keeps; or, where it keeps none yet, by the one of the image, or a new one. Each line that was
-/// answered is kept from then on; once the input has ended, the folder has an image of what the core is then.
+/// Answers the lines by the core that this folder keeps; or, where it keeps none yet, by the one of the image, or a new one. Each line that
+/// was answered is kept from then on; once the input has ended, the folder has an image of what the core is then.
 pub fn run_kept(
     rt: &HostRuntime,
     path: &str,
@@ -60,17 +61,23 @@ pub fn run_kept(
     style: Style,
     watch: RunOptions,
 ) -> anyhow::Result<ExitCode> {
-    let (mut folder, core) = open_folder(rt, path, image)?;
-    let journal = folder.begin(&core, Format::Lines).with_context(|| path)?;
+    let Opened {
+        mut folder,
+        core,
+        journal,
+        ..
+    } = open_folder(rt, path, image, Format::Lines)?;
     let log = ScriptLog::new(journal);
     let mut script = Script::new(rt.alloc(), core);
-    let keeping = Keeping::new(&folder, &log, &mut script);
+    let keeping = Keeping::new(path, &folder, &log, &mut script);
     let outcome = styled(rt, Begins::Kept(keeping), style, watch);
     if let Some(fault) = log.failure() {
         return Err(fault).with_context(|| path);
     }
     let status = outcome?;
-    folder.keep(script.core()).with_context(|| path)?;
+    let _journal = folder
+        .renew(script.core(), Format::Events)
+        .with_context(|| path)?;
     Ok(status)
 }
 
@@ -84,6 +91,7 @@ fn styled(
     let course = Course::new(watch);
     let mut input = Noting::new(rt.stdin());
     let mut output = Noting::new(rt.stdout());
+    let mut prompts = Noting::new(rt.stdout());
     let columns = Columns::new(
         rt.alloc(),
         &mut output,
@@ -93,21 +101,26 @@ fn styled(
     let outcome = match style {
         Style::Plain => plain(rt, begins, &course, &mut input, &mut replies),
         Style::Explained => explained(rt, begins, &course, &mut input, &mut replies),
-        Style::Prompted => prompted(rt, begins, &course, &mut input, &mut replies),
+        Style::Prompted => prompted(rt, begins, &course, &mut input, &mut prompts, &mut replies),
     };
     let status = ended(rt, &course, &mut replies);
     drop(replies);
     match outcome {
         Ok(()) => Ok(status),
-        Err(fault) => Err(with_reason(fault, &input, &output)),
+        Err(fault) => Err(with_reason(fault, &input, &output, &prompts)),
     }
 }
 
 // The fault, with the system's reason behind it.
-fn with_reason<R, W>(fault: ProgramFault, input: &Noting<R>, output: &Noting<W>) -> anyhow::Error {
+fn with_reason<R, W, P>(
+    fault: ProgramFault,
+    input: &Noting<R>,
+    output: &Noting<W>,
+    prompts: &Noting<P>,
+) -> anyhow::Error {
     let reason = match fault {
         ProgramFault::Read => input.failure(),
-        ProgramFault::Write => output.failure(),
+        ProgramFault::Write => output.failure().or(prompts.failure()),
         ProgramFault::NoMemory => None,
     };
     match reason {
@@ -141,7 +154,7 @@ fn answered<R: Read + Drop, W: Write + Drop>(
     }
 }
 
-// The same, where nothing is kept.
+// Answers the lines where nothing is kept.
 fn dropped<R: Read + Drop, W: Write + Drop>(
     rt: &HostRuntime,
     core: Option<Core>,
@@ -162,7 +175,7 @@ fn dropped<R: Read + Drop, W: Write + Drop>(
     }
 }
 
-// The same, with its line faults explained on standard error.
+// Answers the lines, their faults explained on standard error.
 fn explained<R: Read + Drop, W: Write + Drop>(
     rt: &HostRuntime,
     begins: Begins<'_>,
@@ -183,16 +196,17 @@ fn explained<R: Read + Drop, W: Write + Drop>(
     )
 }
 
-// The same, behind a prompt for each line.
-fn prompted<R: Read + Drop, W: Write + Drop>(
+// Answers the lines behind a prompt for each.
+fn prompted<R: Read + Drop, P: Write + Drop, W: Write + Drop>(
     rt: &HostRuntime,
     begins: Begins<'_>,
     course: &Course,
     reader: R,
+    prompts: P,
     writer: W,
 ) -> Result<(), ProgramFault> {
     let alloc = rt.alloc();
-    let Ok(prompts) = BlockWriter::new(alloc, rt.stdout()) else {
+    let Ok(prompts) = BlockWriter::new(alloc, prompts) else {
         return Err(ProgramFault::NoMemory);
     };
     let Ok(notes) = BlockWriter::new(alloc, rt.stderr()) else {
@@ -201,6 +215,14 @@ fn prompted<R: Read + Drop, W: Write + Drop>(
     let Some(root) = Name::new(b"root") else {
         return Err(ProgramFault::NoMemory);
     };
-    let lines = Prompting::new(alloc, reader, Asks::Script, root, prompts, notes);
-    plain(rt, begins, course, lines, writer)
+    let asks = match &begins {
+        Begins::Kept(_) => Asks::KeptScript,
+        Begins::New | Begins::Over(_) => Asks::Script,
+    };
+    let strict = course.watch().strict;
+    let mut lines = Prompting::new(alloc, reader, asks, root, strict, prompts, notes);
+    let outcome = plain(rt, begins, course, &mut lines, writer);
+    let said = prompts_ended(course, &mut lines);
+    outcome?;
+    said.map_err(|_| ProgramFault::Write)
 }

@@ -17,15 +17,15 @@ use tab_core::Core;
 use tab_host::NetFault;
 use tab_prog::ProgramFault;
 use tab_serve::Moments;
-use tab_server::{NoStore, Options, Store, WallClock, run_server};
+use tab_server::{NoStore, Options, ServerFault, Store, WallClock, run_server};
 use tab_socket::{Listener, SocketFile};
 
 // A year, in milliseconds.
 const YEAR: i64 = 31_557_600_000;
 
-/// Listens on a port of 127.0.0.1, or at a socket file of this mode, says so on standard output, and answers connections over the core of the folder that is named, which keeps
-/// what it answers; or else over that of the image, or a new one, which end with it. It tells so much beside its answers as is asked for. Gives
-/// the status.
+/// Listens on a port of 127.0.0.1, or at a socket file of this mode, says so on standard output, and answers connections over the core of
+/// the folder that is named, which keeps what it answers; or else over that of the image, or a new one, which end with it. It tells so
+/// much beside its answers as is asked for. Gives the status.
 ///
 /// A fault tells the system's reason.
 pub fn run_serve<R: Threads + Wait + Clock + Sync>(
@@ -38,22 +38,12 @@ pub fn run_serve<R: Threads + Wait + Clock + Sync>(
     match serve.store {
         None => {
             let core = core_of(rt, serve.image)?;
-            answer(rt, threads, serve, mode, options, core, None, &NoStore)?;
-            Ok(ExitCode::SUCCESS)
+            answer(rt, threads, serve, mode, options, core, None, &NoStore)
         }
         Some(path) => {
             let (core, kept) = FolderStore::take_up(rt, path, serve)?;
-            answer(
-                rt,
-                threads,
-                serve,
-                mode,
-                options,
-                core,
-                Some(kept.counts()),
-                &kept,
-            )?;
-            Ok(kept.status())
+            let counts = Some(kept.counts());
+            answer(rt, threads, serve, mode, options, core, counts, &kept)
         }
     }
 }
@@ -68,7 +58,7 @@ fn answer<R: Threads + Wait + Clock + Sync, D: Store + Sync>(
     core: Core,
     counts: Option<&DiskCounts>,
     store: &D,
-) -> anyhow::Result<()> {
+) -> anyhow::Result<ExitCode> {
     if let Some(name) = serve.store.or(serve.image) {
         tell_clock(rt, name, core.clock());
     }
@@ -82,7 +72,7 @@ fn answer<R: Threads + Wait + Clock + Sync, D: Store + Sync>(
     }
 }
 
-// The same on this port.
+// Listens and answers on this port.
 fn at_port<R: Threads + Wait + Clock + Sync, D: Store + Sync>(
     rt: &HostRuntime,
     threads: &R,
@@ -91,14 +81,14 @@ fn at_port<R: Threads + Wait + Clock + Sync, D: Store + Sync>(
     core: Core,
     telling: &Telling<'_>,
     store: &D,
-) -> anyhow::Result<()> {
+) -> anyhow::Result<ExitCode> {
     let listener = TcpListener::bind(rt, (Ipv4Addr::LOCALHOST, port)).with_context(
         || NetFault::Listen(port),
     )?;
     listen(rt, threads, &listener, port, options, core, telling, store)
 }
 
-// The same at a socket file of this name and mode, which goes at the end.
+// Listens and answers at a socket file of this name and mode, which goes at the end.
 fn at_file<R: Threads + Wait + Clock + Sync, D: Store + Sync>(
     rt: &HostRuntime,
     threads: &R,
@@ -108,14 +98,14 @@ fn at_file<R: Threads + Wait + Clock + Sync, D: Store + Sync>(
     core: Core,
     telling: &Telling<'_>,
     store: &D,
-) -> anyhow::Result<()> {
+) -> anyhow::Result<ExitCode> {
     let file = SocketFile::bind(rt, name, mode).with_context(|| name)?;
     let outcome = listen(rt, threads, &file, name, options, core, telling, store);
     file.remove();
     outcome
 }
 
-// The same by this listener, which has this name.
+// Answers connections by this listener, which has this name.
 fn listen<R: Threads + Wait + Clock + Sync, N: Listener, T: Display + Drop, D: Store + Sync>(
     rt: &HostRuntime,
     threads: &R,
@@ -125,10 +115,14 @@ fn listen<R: Threads + Wait + Clock + Sync, N: Listener, T: Display + Drop, D: S
     core: Core,
     telling: &Telling<'_>,
     store: &D,
-) -> anyhow::Result<()> {
+) -> anyhow::Result<ExitCode> {
     println!(rt; "listening {name}").context(ProgramFault::Write)?;
-    run_server(threads, rt.alloc(), core, listener, options, telling, store)?;
-    Ok(())
+    match run_server(threads, rt.alloc(), core, listener, options, telling, store) {
+        Ok(()) => Ok(ExitCode::SUCCESS),
+        // The store has said why.
+        Err(ServerFault::NotKept) => Ok(ExitCode::FAILURE),
+        Err(fault) => Err(fault.into()),
+    }
 }
 
 // Says on standard error where the clock of an image is years ahead of the machine's: until then all that is written gets one time.

@@ -1,6 +1,6 @@
 //! `tabd shell`.
 use crate::scripting::Style;
-use crate::watching::ended;
+use crate::watching::{ended, prompts_ended};
 use anyhow::Context;
 use std::io::{Error, IsTerminal, Read, Write};
 use std::net::{Ipv4Addr, SocketAddr, TcpStream};
@@ -38,7 +38,7 @@ pub fn run_shell(rt: &HostRuntime, way: &Way<'_>, user: Name) -> anyhow::Result<
     }
 }
 
-// The same over a connection.
+// Asks over a connection.
 fn shell_over<S: Stream>(
     rt: &HostRuntime,
     way: &Way<'_>,
@@ -49,6 +49,7 @@ fn shell_over<S: Stream>(
     let course = Course::new(way.watch);
     let mut lines = Noting::new(rt.stdin());
     let mut out = Noting::new(rt.stdout());
+    let mut prompts = Noting::new(rt.stdout());
     let mut reader = Noting::new(&mut first);
     let mut writer = Noting::new(End::new(&stream));
     let columns = Columns::new(
@@ -62,6 +63,7 @@ fn shell_over<S: Stream>(
         way.style,
         &course,
         &mut lines,
+        &mut prompts,
         &mut replies,
         &mut reader,
         &mut writer,
@@ -74,7 +76,7 @@ fn shell_over<S: Stream>(
     };
     let reason = match fault {
         ShellFault::Read => lines.failure(),
-        ShellFault::Write => out.failure(),
+        ShellFault::Write => out.failure().or(prompts.failure()),
         ShellFault::Send => writer.failure(),
         ShellFault::Receive => reader.failure(),
         _ => None,
@@ -112,11 +114,12 @@ fn silent(place: ServerAddress<'_>) -> anyhow::Error {
 }
 
 // The lines, with what goes with them, asked of the server.
-fn styled<L: Read + Drop, O: Write + Drop, R: Read + Drop, W: Write + Drop>(
+fn styled<L: Read + Drop, P: Write + Drop, O: Write + Drop, R: Read + Drop, W: Write + Drop>(
     rt: &HostRuntime,
     style: Style,
     course: &Course,
     lines: L,
+    prompts: P,
     out: O,
     reader: R,
     writer: W,
@@ -125,7 +128,7 @@ fn styled<L: Read + Drop, O: Write + Drop, R: Read + Drop, W: Write + Drop>(
     match style {
         Style::Plain => plain(rt, course, lines, out, reader, writer, user),
         Style::Explained => explained(rt, course, lines, out, reader, writer, user),
-        Style::Prompted => prompted(rt, course, lines, out, reader, writer, user),
+        Style::Prompted => prompted(rt, course, lines, prompts, out, reader, writer, user),
     }
 }
 
@@ -182,7 +185,7 @@ fn plain<L: Read + Drop, O: Write + Drop, R: Read + Drop, W: Write + Drop>(
     )
 }
 
-// The same, with its line faults explained on standard error.
+// Asks each line, their faults explained on standard error.
 fn explained<L: Read + Drop, O: Write + Drop, R: Read + Drop, W: Write + Drop>(
     rt: &HostRuntime,
     course: &Course,
@@ -201,23 +204,28 @@ fn explained<L: Read + Drop, O: Write + Drop, R: Read + Drop, W: Write + Drop>(
     asked(rt, lines, out, reader, writer, user)
 }
 
-// The same, behind a prompt for each line.
-fn prompted<L: Read + Drop, O: Write + Drop, R: Read + Drop, W: Write + Drop>(
+// Asks each line behind a prompt.
+fn prompted<L: Read + Drop, P: Write + Drop, O: Write + Drop, R: Read + Drop, W: Write + Drop>(
     rt: &HostRuntime,
     course: &Course,
     lines: L,
+    prompts: P,
     out: O,
     reader: R,
     writer: W,
     user: Name,
 ) -> Result<(), ShellFault> {
     let alloc = rt.alloc();
-    let Ok(prompts) = BlockWriter::new(alloc, rt.stdout()) else {
+    let Ok(prompts) = BlockWriter::new(alloc, prompts) else {
         return Err(ShellFault::NoMemory);
     };
     let Ok(notes) = BlockWriter::new(alloc, rt.stderr()) else {
         return Err(ShellFault::NoMemory);
     };
-    let lines = Prompting::new(alloc, lines, Asks::Shell, user, prompts, notes);
-    plain(rt, course, lines, out, reader, writer, user)
+    let strict = course.watch().strict;
+    let mut lines = Prompting::new(alloc, lines, Asks::Shell, user, strict, prompts, notes);
+    let outcome = plain(rt, course, &mut lines, out, reader, writer, user);
+    let said = prompts_ended(course, &mut lines);
+    outcome?;
+    said.map_err(|_| ShellFault::Write)
 }

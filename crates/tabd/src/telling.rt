@@ -5,9 +5,10 @@ use crate::metrics::MetricsFile;
 use std::sync::ledger::Ledger;
 use tab_book::Part;
 use tab_prog::ProgramFault;
-use tab_server::{Connection, Figures, History};
+use tab_server::{Connection, Figures, History, NotTaken, Note};
 
-/// Where its history goes, what it tells of itself, and the connections that have ended, a line each on standard error.
+/// Where its history goes, what it tells of itself, the connections that have ended, a line each on standard error, and what it has to say
+/// at once, likewise.
 #[derive(Drop)]
 pub struct Telling<'a> {
     rt: &'a HostRuntime,
@@ -17,8 +18,8 @@ pub struct Telling<'a> {
 }
 
 impl<'a> Telling<'a> {
-    /// The history goes there, what it tells of itself to the file of this name, if one is named, with these counts of the folder that is kept, if one
-    /// is, and whether connections are told.
+    /// The history goes there, what it tells of itself to the file of this name, if one is named, with these counts of the folder that is
+    /// kept, if one is, and whether connections are told.
     pub fn new(
         rt: &'a HostRuntime,
         history: LogFile<'a>,
@@ -40,8 +41,12 @@ impl<'a> Telling<'a> {
 }
 
 impl History for Telling<'_> {
-    fn take<L: Ledger>(&self, part: &Part<L>) {
-        self.history.take(part);
+    fn take<L: Ledger>(&self, part: &Part<L>) -> Result<(), NotTaken> {
+        self.history.take(part)
+    }
+
+    fn keeps(&self) -> bool {
+        self.history.keeps()
     }
 
     fn wants_figures(&self) -> bool {
@@ -58,5 +63,9 @@ impl History for Telling<'_> {
         if self.is_logged {
             let _ = eprintln!(self.rt; "{connection}");
         }
+    }
+
+    fn note(&self, note: Note) {
+        let _ = eprintln!(self.rt; "note: {note}");
     }
 }

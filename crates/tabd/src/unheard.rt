@@ -5,7 +5,7 @@ use std::io::Write;
 // What a line is told for which there is no memory.
 const LACK: &[u8] = b"refused 17 NoMemory";
 
-/// A writer for the answers to lines that are done again, which go nowhere. It sees whether a line lacked memory.
+/// A writer for the answers to lines that are replayed, which go nowhere. It sees whether a line lacked memory.
 #[derive(Drop)]
 pub struct Unheard {
     // how many bytes of a line are those of that refusal so far; none where others came
