@@ -90,7 +90,7 @@ fn asked_for(rt: &HostRuntime) -> anyhow::Result<Calls> {
     })
 }
 
-// The same with the ledger on which the seat counts.
+// Serves over a book with this ledger, on which the seat counts.
 fn serve<L: Ledger, R: Threads + Wait + Sync, I: Input, W: Output>(
     rt: &R,
     alloc: Global,

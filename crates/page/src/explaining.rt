@@ -3,7 +3,7 @@ ghost use Rattle.page.specs.Answering.{Explained};
 
 use crate::filling::fill;
 use std::alloc::Global;
-use tab_help::{Explanation, explain};
+use tab_help::{Asks, Explanation, explain};
 use tab_io::memory::PieceWriter;
 use tab_io::{BLOCK_LENGTH, BlockWriter, Output};
 
@@ -15,7 +15,7 @@ pub fn why(alloc: Global, number: u64, line: &[u8], out: &mut [u8]) -> u64
     let Ok(mut notes) = BlockWriter::new(alloc, PieceWriter::new(alloc, BLOCK_LENGTH)) else {
         return u64::MAX;
     };
-    match explain(alloc, number, line, &mut notes) {
+    match explain(alloc, Asks::Script, number, line, &mut notes) {
         Ok(Explanation::Reason) => {
             let Ok(()) = notes.flush() else {
                 return u64::MAX;

@@ -56,7 +56,7 @@ impl Finished {
         &self.table
     }
 
-    /// The same table, taken out. The job and its share of the sources are dropped.
+    /// The table that the merge made, taken out. The job and its share of the sources are dropped.
     pub fn into_table(self) -> Arc<SortedTable>
         ensures { records result.value ≡ output self }
     {

@@ -111,7 +111,7 @@ impl Job {
         self.versions
     }
 
-    /// The same job, each of its sources shared once more. No record is copied.
+    /// A copy of the job that shares its sources. No record is copied.
     ///
     /// It takes memory for a share of each source. `AllocError` says that it lacked.
     pub fn share(&self, alloc: Global) -> Result<Job, AllocError>

@@ -28,7 +28,7 @@ pub fn merge_many(
     merge_all(rt, alloc, jobs)
 }
 
-/// The same for whatever holds jobs.
+/// Makes the merges of whatever holds jobs, as [`merge_many`] does.
 pub fn merge_all<J: Pending>(
     rt: &(impl Threads + Sync),
     alloc: Global,

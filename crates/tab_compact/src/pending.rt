@@ -40,7 +40,7 @@ pub trait Pending: Drop + Sized {
     fn job(&self) -> &Job
         ensures { result.now ≡ merge self.now };
 
-    /// The same with the table that the job's merge made.
+    /// What it becomes with the table that the job's merge made.
     fn finish(self, made: MadeTable) -> Self::Done
         requires { made ≡ output (merge self) }
         ensures { finishes self result };

@@ -13,7 +13,7 @@ use tab_key::Name;
 pub struct Compared {
     /// All replies to him in the first run, in order.
     pub first: Vec<Reply>,
-    /// The same of the second run.
+    /// What they were told in the second run.
     pub second: Vec<Reply>,
 }
 

@@ -50,8 +50,8 @@ impl Core {
         self.step_told_lent(alloc, &event.user, event.moment, &mut event.act)
     }
 
-    /// The same for an event whose parts are lent, so that none of it is moved. An act that is refused, for want of memory too, is left as it
-    /// was; out of any other one the core takes what it keeps, as [`Core::step_lent`] does.
+    /// Steps as [`Core::step_told`] does, over an event whose parts are lent, so that none of it is moved. An act that is refused, for want
+    /// of memory too, is left as it was; out of any other one the core takes what it keeps, as [`Core::step_lent`] does.
     pub fn step_told_lent(
         &mut self,
         alloc: Global,

@@ -195,8 +195,8 @@ impl Slots {
         self.many_by(&OneByOne, alloc, slot, ranges)
     }
 
-    /// The same answer, read by several threads where [`Session::scan_many`] does. Where memory lacks in one of them, it's the whole request
-    /// that it lacks for.
+    /// The answer of [`Slots::many`], read by several threads where [`Session::scan_many`] does. Where memory lacks in one of them, it's
+    /// the whole request that it lacks for.
     pub fn many_by_threads(
         &mut self,
         rt: &(impl Threads + Sync),
@@ -210,7 +210,7 @@ impl Slots {
         self.many_by(&ByThreads { rt }, alloc, slot, ranges)
     }
 
-    // The same answer, read by this reader.
+    // The whole answer in each of the ranges, read by this reader.
     fn many_by<R: RangesReader>(
         &mut self,
         reader: &R,

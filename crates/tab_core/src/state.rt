@@ -175,7 +175,7 @@ impl Core {
         self.step_lent(alloc, &event.user, event.moment, &mut event.act)
     }
 
-    /// The same for an event whose parts are lent, so that none of it is moved.
+    /// Steps as [`Core::step`] does, over an event whose parts are lent, so that none of it is moved.
     ///
     /// An act that is refused, for want of memory too, is left as it was. Out of any other one the core takes what it keeps: the columns and
     /// the authorizations of an Open, the constraints of a SetConstraints, the authorizations of a SetAuths. Empty ones are left there. The
@@ -195,8 +195,8 @@ impl Core {
         reply
     }
 
-    /// The same for an Open of a scan that is lent as it is. What the core keeps of it, its columns and its authorizations, is taken out of it
-    /// unless the Open is refused; then the scan is left as it was.
+    /// Steps as [`Core::step`] does, over the Open of a scan that is lent as it is. What the core keeps of it, its columns and its
+    /// authorizations, is taken out of it unless the Open is refused; then the scan is left as it was.
     #[inline(always)]
     pub fn open_lent(&mut self, alloc: Global, user: &Name, moment: i64, scan: &mut Scan) -> Answer
         ensures steps { Steps (base_of self.old) (asked_at user.now moment (Act.Open scan.old)) result (base_of self.new) }

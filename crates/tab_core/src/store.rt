@@ -95,7 +95,7 @@ impl Store {
         }
     }
 
-    /// The same for an Open of a scan that is lent as it is.
+    /// Answers the Open of a scan that is lent as it is, and opens its session.
     #[inline(always)]
     pub fn answer_open(&mut self, alloc: Global, now: i64, user: &Name, scan: &mut Scan) -> Answer
         requires { IsCore (held self.old) }
@@ -109,7 +109,7 @@ impl Store {
         }
     }
 
-    // The same by the whole decision.
+    // Judges the Open by the whole decision.
     #[cold]
     #[inline(never)]
     fn judge_open(&mut self, alloc: Global, now: i64, user: &Name, scan: &mut Scan) -> Answer

@@ -75,8 +75,8 @@ abbrev pub told : Option Refusal → Told → Told
 told None reply = reply
 told (Some r) reply = Refused r
 
--- Whether the numbers are used up that the act needs: a write's would be 2^64 - 1, or there are 2^32 - 1 tables or users already. Those of
--- end rows and of jobs are no history's: what is told of them is left open (`MayTell`).
+-- Whether the numbers are used up that the act needs: a write's would be 2^64 - 1, or there are 2^32 - 1 tables or users already. How many
+-- end rows there may be is no history's affair: what is reported of it is left open (`MayTell`).
 abbrev pub are_used_up : Base → List Change → Act → Bool
 are_used_up b j (Write t m) = nat_le 18446744073709551615 (next_number b j)
 are_used_up b j (CreateTable t time n) = nat_le 4294967295 (table_count b j)

@@ -136,9 +136,8 @@ pub enum Act {
     /// was last frozen is frozen, and it is settled what is to be merged: all runs, some of the sorted tables, chosen by their sizes, or all
     /// that the tablet holds. The job that is handed out makes the merge, apart from all events, and an `Install` puts it in place; scans and
     /// writes go on meanwhile. Where there is nothing to merge `Nothing` is told. It needs one of the permissions ALTER_TABLE for the server,
-    /// ALTER_TABLE and WRITE on the table. Refused last of all where 2^64 - 1 jobs were begun. Whether there is anything to merge is the
-    /// core's own affair: a history allows each of these answers. No scan is answered otherwise after it. (Accumulo user manual: minor
-    /// compaction, major compaction)
+    /// ALTER_TABLE and WRITE on the table. Whether there is anything to merge is the core's own affair: a history allows each of these
+    /// answers. No scan is answered otherwise after it. (Accumulo user manual: minor compaction, major compaction)
     Begin(Name, ByteString, Compaction),
     /// Put the finished merge of a job in the place of what it merged. By a slot without a finished merge it is refused before all else, and
     /// is no event; else it uses the merge up, whatever it is answered, for want of memory too: the tablets are then as they were, and the

@@ -46,7 +46,7 @@ pub fn same_histories()
     ensures { SameHistories }
 {}
 
-/// The same of events that stand alone, in no one's list of sessions.
+/// Refinement keeps legality and sessions of events that stand alone, in no one's list of sessions, too.
 pub fn same_events()
     ensures { SameEvents }
 {}

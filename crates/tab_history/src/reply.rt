@@ -27,8 +27,8 @@ pub enum Refusal {
     TimestampNotAllowed(u32),
     /// The mutation has no update.
     EmptyMutation,
-    /// A part is over its limit, which [`LimitedPart`] names; `LimitedPart::Sessions` is a full list of sessions. `LimitedPart::Numbers` says, last of all
-    /// checks, that the numbers of writes, tables, users, end rows or jobs are used up.
+    /// A part is over its limit, which [`LimitedPart`] names; `LimitedPart::Sessions` is a full list of sessions.
+    /// `LimitedPart::Numbers` says, last of all checks, that the numbers of writes, tables, users or end rows are used up.
     TooLarge(LimitedPart),
     /// There is a table of this name already.
     TableExists(Name),

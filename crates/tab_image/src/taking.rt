@@ -46,7 +46,7 @@ pub(crate) fn read_four<R: Input>(input: &mut R) -> Result<[u8; 4], Unread>
     read_each_of_four(input)
 }
 
-// The same, byte by byte: where two reads give them.
+// Takes four bytes one by one: where two reads give them.
 fn read_each_of_four<R: Input>(input: &mut R) -> Result<[u8; 4], Unread>
     ensures { Reads R.Input input.old input.new (text_of 4) result }
 {

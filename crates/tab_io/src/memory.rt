@@ -59,7 +59,7 @@ impl<'a> PieceReader<'a> {
         }
     }
 
-    /// The same reader, which fails at one read.
+    /// This reader, which fails at one read.
     pub fn failing(self, fault: Fault) -> PieceReader<'a>
         ensures { ⟦<PieceReader<'a> as Read>⟧.remaining result ≡ ⟦<PieceReader<'a> as Read>⟧.remaining self.entry }
     {
@@ -101,7 +101,7 @@ impl PieceWriter {
         }
     }
 
-    /// The same writer, which fails at one write or flush.
+    /// This writer, which fails at one write or flush.
     pub fn failing(self, fault: Fault) -> PieceWriter
         ensures { ⟦<PieceWriter as Write>⟧.contents result ≡ ⟦<PieceWriter as Write>⟧.contents self }
     {

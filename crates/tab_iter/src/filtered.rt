@@ -48,7 +48,7 @@ impl<S: Source + Drop, R: Rule + Drop> Filtered<S, R> {
         })
     }
 
-    // The same, unpositioned: nothing is read before a seek.
+    // The records of the source that pass, unpositioned: nothing is read before a seek.
     pub(crate) fn unpositioned(source: S, rule: R) -> Filtered<S, R>
         ensures whole { ⟦<Filtered<S, R> as Source>⟧.whole result ≡ filter (R.admits rule (S.whole source)) (S.whole source) }
         ensures unpositioned { ⟦<Filtered<S, R> as Source>⟧.is_unpositioned result ≡ true }

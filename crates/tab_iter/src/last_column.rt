@@ -87,7 +87,7 @@ impl LastColumn {
         }
     }
 
-    // The same for a record whose mark is known.
+    // Whether the record, whose mark is known, is of this column.
     #[inline]
     fn is_of_marked(&self, next: &RecordRef<'_>, mark: u64) -> bool
         requires { mark ≡ mark_of (front_of next.now.key) }

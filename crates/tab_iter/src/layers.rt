@@ -47,7 +47,7 @@ pub fn stack_of<'a, S: Source + Drop>(
     Ok(shown)
 }
 
-/// The same stack, unpositioned: nothing is read before a seek, and it takes no memory. The source may stand anywhere.
+/// The stack of [`stack_of`], unpositioned: nothing is read before a seek, and it takes no memory. The source may stand anywhere.
 pub fn stack_unread<'a, S: Source + Drop>(
     alloc: Global,
     source: S,

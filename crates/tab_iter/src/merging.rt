@@ -58,7 +58,7 @@ impl<S: Source + Drop> MergingOf<Prefixed<S>> {
         Ok(all)
     }
 
-    /// The same, unpositioned: nothing is read before a seek. The error comes only from want of memory.
+    /// The records of all of these, unpositioned: nothing is read before a seek. The error comes only from want of memory.
     pub fn unpositioned(sources: Vec<S>) -> Result<Merging<S>, NoMemory>
         requires { IsDistinct (flat (map S.whole sources.items)) }
         ensures whole { IfOk result (λ m. ⟦<Merging<S> as Source>⟧.whole m ≡ sorted (flat (map S.whole sources.items))) }
@@ -88,7 +88,7 @@ impl<S: Source + Drop> MergingOf<S> {
         })
     }
 
-    // The same, unpositioned.
+    // The records of all of these, unpositioned.
     fn unread(sources: Vec<S>) -> Result<MergingOf<S>, NoMemory>
         requires { IsDistinct (flat (map S.whole sources.items)) }
         ensures whole { IfOk result (λ m. ⟦<MergingOf<S> as Source>⟧.whole m ≡ sorted (flat (map S.whole sources.items))) }

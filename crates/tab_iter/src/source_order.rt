@@ -87,7 +87,7 @@ fn is_ahead<S: Source>(sources: &[S], place: usize, other: usize) -> bool
     }
 }
 
-// The same, by the records themselves.
+// `is_ahead` by the records themselves.
 #[inline(never)]
 fn is_record_ahead<S: Source>(sources: &[S], place: usize, other: usize) -> bool
     ensures { result ≡ is_ahead_at (map S.rest sources.now) place other }

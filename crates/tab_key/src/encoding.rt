@@ -132,7 +132,7 @@ fn put_record(
     put_parts(body, key, value)
 }
 
-// The same, all but the row in one piece.
+// Puts a record at the end, all but its row in one piece.
 fn put_joined(
     body: &mut Vec<u8>,
     key: Key<'_>,
@@ -186,8 +186,8 @@ pub fn append(
     Ok(place)
 }
 
-/// The same for a record whose family, qualifier, label and value lie one after another already, in `joined`: they are copied in one
-/// piece.
+/// Puts a record at the end as [`append`] does, whose family, qualifier, label and value lie one after another already, in `joined`: they
+/// are copied in one piece.
 pub fn append_joined(
     body: &mut Vec<u8>,
     key: Key<'_>,

@@ -23,7 +23,7 @@ pub enum LimitedPart {
     Ranges,
     /// Sessions of one user: at most [`MAX_SESSIONS`] open at once, [`MAX_OPENED`] opened in all.
     Sessions,
-    /// The numbers of mutations, which end below 2^64 - 1.
+    /// The numbers of mutations, which end below 2^64 - 1, and those of tables, users and end rows.
     Numbers,
 }
 

@@ -43,7 +43,7 @@ impl<'a> RecordRef<'a> {
         RecordRef { body, place }
     }
 
-    /// The same record, lent once more.
+    /// This record, lent once more.
     #[inline]
     pub fn reborrow(&self) -> RecordRef<'a>
         ensures { result ≡ self.now }

@@ -19,7 +19,7 @@ impl Label {
         ensures only { (m : _) → Reads text.now m → IsReadAs result m }
         // What is refused is no label, and the offset is that of the longest front that begins one.
         ensures malformed { IfErr result (λ e. IfMalformed e (λ n. IsNoLabel text.now × IsOffset text.now n)) }
-        // The same by the function with which other definitions compute.
+        // The label, by the function with which other definitions compute.
         ensures exact { IsReadBy result (label_of text.now) }
     {
         parse(alloc, text)

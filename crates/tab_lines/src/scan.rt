@@ -72,7 +72,8 @@ pub fn read_scan(alloc: Global, words: &mut Words) -> Result<Scan, ParseError>
     scan_of(alloc, table.as_bytes(), words)
 }
 
-// The same behind the word that spells the table's name. The name is made last, so that it isn't copied where it is handed on.
+// Takes what a scan asks behind the word that spells the table's name. The name is made last, so that it isn't copied where it is handed
+// on.
 fn scan_of(alloc: Global, table: &[u8], words: &mut Words) -> Result<Scan, ParseError>
     ensures { (word : List ℕ) → bytes_of word ≡ Some table.now → Gives (λ x. x) result (scan_words (word ∷ words_left words.old)) }
 {

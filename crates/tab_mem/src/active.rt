@@ -123,7 +123,7 @@ impl Active {
         }
     }
 
-    /// The same records once more. What is written to one of the two later doesn't stand in the other.
+    /// A copy of the records. What is written to one of the two later doesn't stand in the other.
     ///
     /// They share the run that `freeze` made, where nothing was written since. Else the records are copied once, which takes memory as
     /// `to_run` does. `AllocError` says that it lacked.

@@ -78,7 +78,7 @@ fn numbers_of(alloc: Global, bounds: &[Item<'_>]) -> Result<Vec<u128>, AllocErro
     Ok(lows)
 }
 
-// The same, in the order of the records.
+// The numbers of these records, in the order of the records.
 fn picked(alloc: Global, bounds: &[Item<'_>]) -> Result<Vec<u128>, AllocError>
     ensures { IfOk result (λ v. length v.items < 16) }
 {

@@ -220,7 +220,7 @@ impl Records {
         }
     }
 
-    // The same, but an error may leave copies of the first items at the end.
+    // `push_all`, but an error may leave copies of the first items at the end.
     fn push_each(&mut self, items: &[Item<'_>]) -> Result<(), AllocError>
         ensures ok { OnOk result (self.new ≡ self.old ++ items.now) }
         ensures front { take (length self.old) self.new ≡ self.old }

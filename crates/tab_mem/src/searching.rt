@@ -28,7 +28,7 @@ fn count_between<R: Ordered>(records: &R, low: usize, high: usize, target: &Targ
     count_by_halves(records, near.start, near.end, target)
 }
 
-// The same, by halves alone.
+// `count_between` by halves alone.
 fn count_by_halves<R: Ordered>(
     records: &R,
     mut low: usize,
@@ -51,8 +51,8 @@ fn count_by_halves<R: Ordered>(
     low
 }
 
-// The same, by steps from `low` on that double. Where the count isn't near, it is then looked for in all that is left, and at once where
-// the index of rows tells that it is far: each step reads a record that lies elsewhere.
+// `count_between` by steps from `low` on that double. Where the count isn't near, it is then looked for in all that is left, and at once
+// where the index of rows tells that it is far: each step reads a record that lies elsewhere.
 fn count_from<R: Ordered>(records: &R, low: usize, high: usize, target: &Target<'_>) -> usize
     requires rising { IsRising (R.listed records.now) }
     requires ends { low ≤ high }
@@ -75,8 +75,8 @@ fn count_from<R: Ordered>(records: &R, low: usize, high: usize, target: &Target<
     count_between(records, near, high, target)
 }
 
-// The same, found from a place between the two: by steps from there on that double, or by halves before it. At `low` nothing was read
-// yet, so nothing says that the count is near: it is found by halves.
+// `count_between` from a place between the two: by steps from there on that double, or by halves before it. At `low` nothing was read yet,
+// so nothing says that the count is near: it is found by halves.
 fn count_near<R: Ordered>(
     records: &R,
     low: usize,

@@ -61,7 +61,7 @@ pub fn script<F: Files, R: Input, W: Output>(
     }
 }
 
-/// The same, beginning with this core.
+/// Answers the lines of the input on the output, beginning with this core.
 pub fn script_over<F: Files, R: Input, W: Output>(
     alloc: Global,
     core: Core,
@@ -82,7 +82,7 @@ fn begun(alloc: Global) -> Result<Script, AllocError>
     Ok(Script::new(alloc, core))
 }
 
-// The same, by a script that is dropped at the end.
+// Answers the lines by a script that is dropped at the end.
 fn answered<F: Files, R: Input, W: Output>(
     mut script: Script,
     files: &mut F,

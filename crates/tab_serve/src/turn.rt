@@ -96,7 +96,7 @@ fn tell_on<W: Output, S: Service>(
     }
 }
 
-// The same of what was read, which the service hears before, and which is let go then.
+// `tell_on` of what was read, which the service hears before, and which is let go then.
 fn tell_read<W: Output, S: Service>(
     conn: &mut Conn,
     mut asked: Asked,

@@ -100,7 +100,7 @@ impl OpenScan {
         self.scan.read_ranges(alloc, ranges)
     }
 
-    /// The same answers, read by several threads where there are enough ranges.
+    /// The answers of `scan_each`, read by several threads where there are enough ranges.
     pub(crate) fn scan_many(
         &mut self,
         rt: &(impl Threads + Sync),

@@ -117,9 +117,9 @@ impl Session {
         self.scan.scan_each(alloc, ranges)
     }
 
-    /// The same answers, read by several threads where that is sooner. Of 500 ranges or more the calling thread reads the first 32; where
-    /// these have 1,024 cells or more, the others are read in four shares, each as [`Session::scan_each`] reads ranges, but with verdicts
-    /// of its own, which are dropped behind it. So each judges the labels that it meets anew.
+    /// The answers of [`Session::scan_each`], read by several threads where that is sooner. Of 500 ranges or more the calling thread reads
+    /// the first 32; where these have 1,024 cells or more, the others are read in four shares, each as [`Session::scan_each`] reads ranges,
+    /// but with verdicts of its own, which are dropped behind it. So each judges the labels that it meets anew.
     ///
     /// There are no more threads than processors, and where none can be made the calling one reads all. The error comes only from want
     /// of memory, of whichever share; the session is as before.

@@ -130,7 +130,7 @@ impl SnapshotScan {
         Ok(Items::from_vec(answers))
     }
 
-    /// The same. The calling thread reads the first ranges, and several threads the others where those were worth it.
+    /// The cells of `read_ranges`. The calling thread reads the first ranges, and several threads the others where those were worth it.
     pub(crate) fn read_at_once(
         &mut self,
         rt: &(impl Threads + Sync),
@@ -148,7 +148,7 @@ impl SnapshotScan {
         Ok(Items::from_vec(answers))
     }
 
-    // The same in a vector, read by several threads, each under verdicts of its own, or by the calling one.
+    // The cells of `read_ranges` in a vector, read by several threads, each under verdicts of its own, or by the calling one.
     fn read_others(
         &mut self,
         rt: &(impl Threads + Sync),

@@ -61,7 +61,7 @@ fn room_of(rt: &HostRuntime, name: &str, number: u32) -> Result<PrivateFolder, E
     }
 }
 
-// The same.
+// The names of the folder with this number.
 fn named(rt: &HostRuntime, beside: &str, number: u32) -> Result<PrivateFolder, AllocError> {
     let alloc = rt.alloc();
     let folder = format!(in alloc; "{beside}.tabd{number}").map_err(|_| AllocError)?;

@@ -89,7 +89,7 @@ impl<'a> SocketFile<'a> {
         }
     }
 
-    // The same in the folder that is locked.
+    // `remove` in the folder that is locked.
     fn remove_own(&self) {
         if let Ok(found) = fs::symlink_metadata(self.rt, self.name)
             && is_same(&found, &self.made)

@@ -28,7 +28,7 @@ pub trait Stream: Drop {
     /// Has a read fail by `WouldBlock` that waits for so long, above 0, or none.
     fn set_read_timeout(&self, time: Option<Duration>) -> io::Result<()>;
 
-    /// The same of a write.
+    /// Has a write fail by `WouldBlock` that waits for so long, above 0, or none.
     fn set_write_timeout(&self, time: Option<Duration>) -> io::Result<()>;
 }
 

@@ -108,7 +108,7 @@ fn list_as(
     Ok(())
 }
 
-// The same of the tablets of one table.
+// `list_as` of the tablets of one table.
 fn list_among(
     tablets: &Tablets,
     kind: DueKind,
@@ -125,7 +125,7 @@ fn list_among(
     Ok(())
 }
 
-// The same of the tablet at a place.
+// `list_as` of the tablet at a place.
 fn list_at(
     tablets: &Tablets,
     kind: DueKind,

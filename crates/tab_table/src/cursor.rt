@@ -120,7 +120,8 @@ impl<T: HasSortedTable + Drop> TableCursor<T> {
         Ok(cursor)
     }
 
-    /// The same, unpositioned: nothing is read before a seek. A seek looks in the cache for what it would decode. It takes no memory.
+    /// A cursor over these records, unpositioned: nothing is read before a seek. A seek looks in the cache for what it would decode. It
+    /// takes no memory.
     pub fn unpositioned(
         alloc: Global,
         table: T,
@@ -248,7 +249,7 @@ impl<T: HasSortedTable> TableCursor<T> {
         self.read_on(index)
     }
 
-    // The same, where it has to be decoded first.
+    // `read` where the record has to be decoded first.
     #[inline(never)]
     fn read_on(&mut self, index: usize) -> Result<(), NoMemory>
         requires { index < self.old.end }

@@ -116,7 +116,7 @@ fn write_long_record(out: &mut [u8], place: usize, base: usize, blocks: &[u8], a
     put_record(out, place, base, blocks, at, false)
 }
 
-// The same, in steps or by length. The head is the entry's own but for the lengths of the parts: these have the shared bytes too.
+// Writes the record in steps or by length. The head is the entry's own but for the lengths of the parts: these have the shared bytes too.
 #[inline(always)]
 fn put_record(
     out: &mut [u8],

@@ -101,7 +101,7 @@ impl SortedTable {
         }
     }
 
-    // The same of the last record.
+    // `is_before` of the last record.
     fn is_last_before(&self, last: usize, key: Key<'_>) -> bool
         requires { last + 1 ≡ length (records self.now) }
         ensures { (u : Fields) → result ≡ is_lt (key_cmp (slice_index_or (records self.now) last u).key (key_of key.entry)) }
@@ -113,7 +113,7 @@ impl SortedTable {
         }
     }
 
-    // The same by the index of rows: where it tells, a search for the key from this record on stops here, or doesn't.
+    // `is_before` by the index of rows: where it tells, a search for the key from this record on stops here, or doesn't.
     fn is_inner_before(&self, index: usize, key: Key<'_>) -> bool
         requires { index < length (records self.now) }
         ensures { (u : Fields) → result ≡ is_lt (key_cmp (slice_index_or (records self.now) index u).key (key_of key.entry)) }
@@ -199,7 +199,7 @@ impl SortedTable {
         self.halved(part.start, part.end, target)
     }
 
-    /// The same of the part behind a record that stands before the start, up to this end.
+    /// A small part as [`SortedTable::around`] gives it, behind a record that stands before the start, up to this end.
     pub(crate) fn behind(&self, at: usize, end: usize, target: &Target<'_>) -> Range<usize>
         requires inside { end ≤ length (records self.now) }
         requires place { at < end }
@@ -230,7 +230,7 @@ impl SortedTable {
         next..near
     }
 
-    // The same, by halves.
+    // `behind` by halves.
     fn halved(&self, mut low: usize, mut high: usize, target: &Target<'_>) -> Range<usize>
         requires ends { low ≤ high }
         requires inside { high ≤ length (records self.now) }

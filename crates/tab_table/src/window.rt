@@ -65,7 +65,7 @@ impl Window {
         self.decode_to(packed, index)
     }
 
-    // The same of one that isn't there: from where the window ends if it is near, and else from the restart before it.
+    // `reach` of a record that isn't there: from where the window ends if it is near, and else from the restart before it.
     #[inline(never)]
     fn decode_to(&mut self, packed: &Packed, index: usize) -> Result<(), AllocError>
         requires inside { index < packed.now.count }

@@ -93,7 +93,7 @@ pub(crate) fn write_span(
     place + len
 }
 
-/// The same in a longer step: where they are said to be short, up to 32 bytes behind them may be written over too.
+/// [`write_span`] in a longer step: where they are said to be short, up to 32 bytes behind them may be written over too.
 #[inline(always)]
 pub(crate) fn write_longer(
     out: &mut [u8],
@@ -120,7 +120,7 @@ pub(crate) fn write_longer(
     place + len
 }
 
-// The same of bytes that lie before the place.
+// `write_span` of bytes that lie before the place.
 #[inline(always)]
 fn repeat_span(out: &mut [u8], place: usize, from: usize, len: usize, is_short: bool) -> usize
     requires before { from + len ≤ place }
@@ -181,7 +181,7 @@ fn step_at(bytes: &[u8], place: usize) -> [u8; PART_STEP]
     step
 }
 
-// The same of the first bytes, in a longer step.
+// A longer step of the first bytes.
 #[inline(always)]
 fn first_step(bytes: &[u8]) -> [u8; PIECE_STEP]
     requires { PIECE_STEP ≤ length bytes.now }
@@ -192,7 +192,7 @@ fn first_step(bytes: &[u8]) -> [u8; PIECE_STEP]
     step
 }
 
-// The same of those from a place on.
+// A longer step of those from a place on.
 #[inline(always)]
 fn long_step_at(bytes: &[u8], place: usize) -> [u8; PIECE_STEP]
     requires { place + PIECE_STEP ≤ length bytes.now }

@@ -59,7 +59,7 @@ impl MergedRuns {
         self.merged.as_slice()
     }
 
-    /// The same merged runs, each shared once more.
+    /// A copy that shares the merged runs.
     pub(crate) fn share(&self, alloc: Global) -> Result<MergedRuns, AllocError>
         ensures { IfOk result (λ b. b ≡ self.now) }
     {
@@ -97,7 +97,7 @@ impl MergedRuns {
     }
 }
 
-/// The same runs, each shared once more.
+/// A copy that shares the runs.
 pub(crate) fn shares(alloc: Global, runs: &[Clip]) -> Result<Vec<Clip>, AllocError>
     ensures { IfOk result (λ v. v.items ≡ runs.now) }
 {

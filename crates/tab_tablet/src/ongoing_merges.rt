@@ -44,7 +44,7 @@ impl OngoingMerges {
         self.minor.is_none() && self.partly.is_none() && self.full.is_none()
     }
 
-    /// The same ones, each shared once more. It takes no memory. `AllocError` says that one couldn't be shared.
+    /// A copy that shares them. It takes no memory. `AllocError` says that one couldn't be shared.
     pub(crate) fn share(&self) -> Result<OngoingMerges, AllocError>
         ensures { IfOk result (λ e. e ≡ self.now) }
     {
@@ -125,7 +125,7 @@ impl OngoingMerge {
         Ok(OngoingMerge { job })
     }
 
-    /// The same merge, shared once more. It takes no memory. `AllocError` says that it couldn't be shared.
+    /// A copy that shares the merge. It takes no memory. `AllocError` says that it couldn't be shared.
     pub(crate) fn share(&self) -> Result<OngoingMerge, AllocError>
         ensures { IfOk result (λ e. e ≡ self.now) }
     {
@@ -166,7 +166,7 @@ impl Jobs {
         }
     }
 
-    /// The same ones, each shared once more. `AllocError` says that memory for their place lacked, or that one couldn't be shared.
+    /// A copy that shares the jobs. `AllocError` says that memory for their place lacked, or that one couldn't be shared.
     pub(crate) fn share(&self, alloc: Global) -> Result<Jobs, AllocError>
         ensures { IfOk result (λ j. j ≡ self.now) }
     {
@@ -194,7 +194,7 @@ impl Jobs {
         }
     }
 
-    /// The same ones; where this is so, without the one of the kind.
+    /// The jobs; where this is so, without the one of the kind.
     pub(crate) fn after(self, kind: Compaction, is_merged: bool) -> Jobs
         ensures { result ≡ cond is_merged (with_job kind None self) self }
     {

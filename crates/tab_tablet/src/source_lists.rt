@@ -76,7 +76,7 @@ impl SourceLists {
         &self.sources
     }
 
-    /// The same sources, each shared once more, and so is each merged run.
+    /// A copy that shares the sources and the merged runs.
     pub(crate) fn share(&self, alloc: Global) -> Result<SourceLists, AllocError>
         ensures { IfOk result (λ l. l ≡ self.now) }
     {
@@ -88,7 +88,7 @@ impl SourceLists {
         })
     }
 
-    /// The same sources, each cut to the rows in bounds, and so is each merged run.
+    /// A copy that shares the sources, each cut to the rows in bounds, and so is each merged run.
     pub(crate) fn in_rows(&self, alloc: Global, bounds: &Bounds) -> Result<SourceLists, AllocError>
         requires { IsDistinct (records_of self.now) }
         ensures { IfOk result (λ l. l ≡ clipped (is_in_range bounds.now) self.now) }

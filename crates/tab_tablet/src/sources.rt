@@ -91,7 +91,7 @@ impl Sources {
         }
     }
 
-    /// The same sources, each shared once more, and so is each merged run.
+    /// A copy that shares the sources and the merged runs.
     pub(crate) fn share(&self, alloc: Global) -> Result<Sources, AllocError>
         ensures { IfOk result (λ s. s ≡ self.now) }
     {

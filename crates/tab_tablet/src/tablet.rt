@@ -170,8 +170,8 @@ impl Tablet {
         })
     }
 
-    /// The same tablet once more. What is done to one of the two later doesn't change the other. They share the sources, what scans read,
-    /// and the merges under way.
+    /// A copy of the tablet. What is done to one of the two later doesn't change the other. They share the sources, what scans read, and
+    /// the merges under way.
     ///
     /// It takes memory for a share of each of these, and for a copy of what was written since the last freeze. `AllocError` says that it
     /// lacked.
@@ -207,7 +207,7 @@ impl Tablet {
         self.frozen(alloc)?.merged(alloc, kind, floor, versions)
     }
 
-    // The same tablet, whose active part is empty, with what a compaction merges replaced by what it makes.
+    // This tablet, whose active part is empty, with what a compaction merges replaced by what it makes.
     fn merged(
         self,
         alloc: Global,
@@ -259,7 +259,7 @@ impl Tablet {
         Ok(job)
     }
 
-    // The same, where nothing waits to be frozen.
+    // `begin` where nothing waits to be frozen.
     fn begin_frozen(
         &mut self,
         alloc: Global,
@@ -364,7 +364,7 @@ impl Tablet {
         frozen.halves(alloc, row, lower_number, upper_number)
     }
 
-    // The same two tablets, where nothing waits to be frozen.
+    // The two tablets of `split`, where nothing waits to be frozen.
     fn halves(
         &self,
         alloc: Global,

@@ -23,7 +23,7 @@ pub fn sent_line(alloc: Global, line: &[u8]) -> Result<Vec<u8>, Unsent>
     sent_words(alloc, line)
 }
 
-// The same of a line that is no comment.
+// The line that is sent for a line that is no comment.
 fn sent_words(alloc: Global, line: &[u8]) -> Result<Vec<u8>, Unsent>
     ensures { Sends (λ x. x.items) result (sent LinePosition.Between line.now) }
 {

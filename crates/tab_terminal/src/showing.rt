@@ -63,7 +63,7 @@ fn shown(alloc: Global, bytes: &[u8]) -> Result<Vec<u8>, AllocError>
     shown_so(alloc, bytes, is_printable(bytes))
 }
 
-// The same, where they are a text of printable characters or not.
+// What is shown of these bytes, where they are a text of printable characters or not.
 fn shown_so(alloc: Global, bytes: &[u8], drawn: bool) -> Result<Vec<u8>, AllocError>
     ensures { IfOk result (λ text. text.items ≡ shown drawn bytes.now) }
 {

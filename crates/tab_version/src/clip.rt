@@ -164,7 +164,7 @@ impl<W: FrozenRecords + Drop> ClipOf<W> {
         self.whole.room(self.from, self.end)
     }
 
-    /// The same records, shared once more.
+    /// A clip that shares these records.
     ///
     /// `AllocError` says that they couldn't be.
     pub fn share(&self) -> Result<ClipOf<W>, AllocError>
@@ -218,7 +218,7 @@ impl ClipOf<SortedTable> {
         Ok(cursor)
     }
 
-    /// The same, unpositioned: no record is read before a seek. It takes no memory.
+    /// The records as a source, unpositioned: no record is read before a seek. It takes no memory.
     pub(crate) fn unread_cursor<'a>(&'a self, alloc: Global, cache: BlockCache) -> Cursor<'a>
         ensures { ⟦<Cursor<'a> as Source>⟧.whole result ≡ self.now }
     {

@@ -89,7 +89,7 @@ impl Clips {
         (runs, tables)
     }
 
-    /// The same clips, each source shared once more. No record is copied.
+    /// A copy that shares each source. No record is copied.
     ///
     /// It takes memory for a share of each source. `AllocError` says that it lacked.
     pub fn share(&self, alloc: Global) -> Result<Clips, AllocError>
@@ -100,7 +100,7 @@ impl Clips {
         Ok(Clips { runs, tables })
     }
 
-    /// The same sources, each cut to the rows in bounds; one without a record there stays. No record is copied.
+    /// Clips that share the sources, each cut to the rows in bounds; one without a record there stays. No record is copied.
     ///
     /// It takes memory for a share of each source, and time logarithmic in each. `AllocError` says that memory lacked.
     pub fn in_rows(&self, alloc: Global, bounds: &Bounds) -> Result<Clips, AllocError>
@@ -225,7 +225,8 @@ impl Clips {
         Ok(cursors)
     }
 
-    /// The same, but those over tables are unpositioned, and have the caches of this tablet: no record of these is read before a seek.
+    /// The cursors of `cursors`, but those over tables are unpositioned, and have the caches of this tablet: no record of these is read
+    /// before a seek.
     ///
     /// It takes memory for the cursors alone. `AllocError` says that it lacked.
     pub(crate) fn unread_cursors<'a>(
@@ -259,8 +260,8 @@ impl Clips {
         }
     }
 
-    /// The same, but over a table it is unpositioned, and has this tablet's cache: no record of it is read before a seek. It takes no
-    /// memory.
+    /// The cursor of `only_cursor`, but over a table it is unpositioned, and has this tablet's cache: no record of it is read before a
+    /// seek. It takes no memory.
     pub(crate) fn only_unread<'a>(
         &'a self,
         alloc: Global,
@@ -281,7 +282,7 @@ impl Clips {
     }
 }
 
-// The same runs, each shared once more.
+// A copy that shares the runs.
 fn share_runs(alloc: Global, runs: &[Clip]) -> Result<Vec<Clip>, AllocError>
     ensures { IfOk result (λ v. v.items ≡ runs.now) }
 {
@@ -292,7 +293,7 @@ fn share_runs(alloc: Global, runs: &[Clip]) -> Result<Vec<Clip>, AllocError>
     Ok(shared)
 }
 
-// The same tables, each shared once more.
+// A copy that shares the tables.
 fn share_tables(alloc: Global, tables: &[TableClip]) -> Result<Vec<TableClip>, AllocError>
     ensures { IfOk result (λ v. v.items ≡ tables.now) }
 {
@@ -332,7 +333,7 @@ fn put_tables<'a>(
     Ok(())
 }
 
-// The same, unpositioned, each with its cache, by its place among the cursors.
+// Puts them unpositioned, each with its cache, by its place among the cursors.
 fn put_unread<'a>(
     alloc: Global,
     cursors: &mut Vec<ClipCursor<'a>>,

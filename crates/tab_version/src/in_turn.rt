@@ -51,7 +51,7 @@ impl<L: Lists<S> + Drop, S: Source + Drop> InTurn<L, S> {
         })
     }
 
-    /// The same, unpositioned: nothing is read before a seek. It takes no memory.
+    /// The records of these lists, unpositioned: nothing is read before a seek. It takes no memory.
     pub fn unpositioned(alloc: Global, lists: L) -> InTurn<L, S>
         requires { AreInTurn (L.listed lists) }
         ensures whole { ⟦<InTurn<L, S> as Source>⟧.whole result ≡ flat (L.listed lists) }

@@ -35,7 +35,7 @@ pub trait Lists<S: Source> {
         ensures rest { IfOk result (λ s. S.rest s ≡ S.whole s) }
         ensures same { listed self.new ≡ listed self.old };
 
-    /// The same, unpositioned: nothing is read before a seek.
+    /// A source over the list with this index, unpositioned: nothing is read before a seek.
     fn unpositioned_at(&mut self, alloc: Global, index: usize) -> Result<S, NoMemory>
         requires in_turn { AreInTurn (listed self.old) }
         requires inside { index < length (listed self.old) }

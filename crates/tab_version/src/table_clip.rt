@@ -107,7 +107,7 @@ impl TableClip {
         self.part.room()
     }
 
-    /// The same clip, its table shared once more.
+    /// A clip that shares this one's table.
     ///
     /// `AllocError` says that the table couldn't be.
     pub fn share(&self) -> Result<TableClip, AllocError>
@@ -128,7 +128,7 @@ impl TableClip {
         self.part.table_cursor(alloc)
     }
 
-    // The same, unpositioned: no record is read before a seek. It takes no memory.
+    // The records as a source, unpositioned: no record is read before a seek. It takes no memory.
     pub(crate) fn unread_cursor<'a>(&'a self, alloc: Global, cache: BlockCache) -> Cursor<'a>
         ensures { ⟦<Cursor<'a> as Source>⟧.whole result ≡ self.now.records }
     {

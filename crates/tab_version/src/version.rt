@@ -100,8 +100,8 @@ impl Version {
         Ok(stack)
     }
 
-    /// The same stack, unpositioned: nothing is read before a seek, which reads nothing before the column of its key, and no tablet but
-    /// the one that the column lies in. It takes no memory, and can be sought in again and again.
+    /// The stack of [`Version::stack`], unpositioned: nothing is read before a seek, which reads nothing before the column of its key, and
+    /// no tablet but the one that the column lies in. It takes no memory, and can be sought in again and again.
     pub fn unread_stack<'a>(
         &'a self,
         alloc: Global,

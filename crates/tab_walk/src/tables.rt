@@ -43,7 +43,7 @@ pub fn put_tables<V: Visitor, W: Output>(
     put_each(output, tables, &Tables { parts, visitor })
 }
 
-// The same parts of each table.
+// These parts of each table.
 #[derive(Drop)]
 struct Tables<'a, V> {
     parts: &'a [TablePart],

@@ -39,7 +39,7 @@ pub fn put_users<V: Visitor, W: Output>(
     put_each(output, users, &Users { parts, visitor })
 }
 
-// The same parts of each user.
+// These parts of each user.
 #[derive(Drop)]
 struct Users<'a, V> {
     parts: &'a [UserPart],

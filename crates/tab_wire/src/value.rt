@@ -51,7 +51,7 @@ fn length_of_terms(terms: &[Vec<u8>]) -> u32
     length
 }
 
-// The same with their count.
+// How many bytes the terms have with their count.
 #[tactic(auto, using(crate::proofs::Lengths::held_counted))]
 fn length_of_list(terms: &[Vec<u8>]) -> u32
     ensures { result ≡ length (list (byte_lists terms.now)) % 2 ^ 32 }

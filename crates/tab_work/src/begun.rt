@@ -12,7 +12,7 @@ pub(crate) struct BegunMerge {
     pub(crate) job: TabletJob,
 }
 
-/// The same, made.
+/// A merge that was begun, and is made.
 #[derive(Drop)]
 pub(crate) struct DoneMerge {
     pub(crate) due: Due,

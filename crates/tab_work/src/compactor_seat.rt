@@ -78,7 +78,7 @@ impl<'a, L: Ledger, R: Wait, M: Moments> CompactorSeat<'a, L, R, M> {
         }
     }
 
-    // The same, where there is room.
+    // Asks the act, where there is room for its receipt.
     fn apply(&mut self, act: Act) -> Option<Receipt<L>>
         requires { compacts act ≡ true }
         ensures asks { IfSome result (λ r. Asks (asking self.old) r (asking self.new)) }
@@ -110,7 +110,7 @@ impl<'a, L: Ledger, R: Wait, M: Moments> CompactorSeat<'a, L, R, M> {
         }
     }
 
-    // The same, where there is room.
+    // Asks the Install, where there is room for its receipt.
     fn apply_install(&mut self, table: Name, finished: FinishedJob) -> Option<Receipt<L>>
         ensures asks { IfSome result (λ r. Asks (asking self.old) r (asking self.new)) }
         ensures receipts { self.new.receipts ≡ self.old.receipts }

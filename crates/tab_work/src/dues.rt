@@ -66,7 +66,7 @@ fn add(
     Ok(())
 }
 
-// The same with the table and the row, of a tablet that is there.
+// The work with its table and row, of a tablet that is there.
 fn with_target(
     alloc: Global,
     core: &Core,

@@ -29,7 +29,7 @@ pub(crate) fn read_ranges<L: Ledger, R: Threads + Sync>(
     reply
 }
 
-// The same answer, read by several threads or by the calling one.
+// The answer of `read_ranges`, read by several threads or by the calling one.
 fn read<R: Threads + Sync>(
     rt: &R,
     alloc: Global,

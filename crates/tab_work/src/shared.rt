@@ -91,15 +91,15 @@ impl<L: Ledger> Shared<L> {
         Shared::over(book, false)
     }
 
-    /// The same for a book whose history one of those who share it hands on, as a server's recorder does: a rotation that a connection asks for is
-    /// an entry, behind which [`Shared::is_long`] holds, and hands nothing out.
+    /// Puts a book under a lock whose history one of those who share it hands on, as a server's recorder does: a rotation that a connection
+    /// asks for is an entry, behind which [`Shared::is_long`] holds, and hands nothing out.
     pub fn recorded(book: Book<L>) -> Shared<L>
         requires { book.back ≡ 0 }
     {
         Shared::over(book, true)
     }
 
-    // The same for a book whose history is handed on by one of those who share it, or not.
+    // Puts a book under a lock whose history is handed on by one of those who share it, or not.
     fn over(book: Book<L>, recorded: bool) -> Shared<L>
         requires { book.back ≡ 0 }
     {

@@ -258,7 +258,7 @@ fn rotate<L: Ledger, R: Wait>(
     }
 }
 
-// The same as an event that hands nothing out: where it was done the history counts as long, so that it's handed on at the next look.
+// A rotation that hands nothing out: where it was done the history counts as long, so that it's handed on at the next look.
 fn leave<L: Ledger, R: Wait>(
     rt: &R,
     alloc: Global,

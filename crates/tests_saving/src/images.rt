@@ -4,7 +4,7 @@
 pub const SMALLEST: &[u8] =
     b"TABIMG\0\x02\0\0\0\0\0\0\0\0\0\0\0\0\0\0\0\0\0\0\0\x01\0\0\0\x04root\xff\0\0\0\0\0\0\0\0END!";
 
-/// The same in the first version.
+/// A new core in the first version.
 pub const FIRST_SMALLEST: &[u8] =
     b"TABIMG\0\x01\0\0\0\0\0\0\0\0\0\0\0\0\0\0\0\0\0\0\0\x01\0\0\0\x04root\xff\0\0\0\0\0\0\0\0END!";
 
@@ -14,7 +14,7 @@ pub const ONE_PUT: &[u8] =
 \0\0\0\x01t\0\0\0\0\x01\0\x80\0\0\0\0\0\0\0\0\0\0\x01\0\0\0\x04root\x1f\0\0\0\0\0\0\0\0\0\0\0\x01\
 \0\0\0\x01r\0\0\0\x01f\0\0\0\x01q\0\0\0\0\0\0\0\0\0\0\0\x05\x01\0\0\0\0\0\0\0\0\0\0\0\0\0\0\0\x01vEND!";
 
-/// The same in the first version.
+/// That table in the first version.
 pub const FIRST_ONE_PUT: &[u8] =
     b"TABIMG\0\x01\0\0\0\0\0\0\0\0\0\0\0\0\0\0\0\x01\0\0\0\x01\0\0\0\x04root\xff\0\0\0\0\0\0\0\x01\
 \0\0\0\x01t\0\0\0\0\x01\0\0\0\0\x01\0\0\0\x04root\x1f\0\0\0\0\0\0\0\0\0\0\0\x01\
@@ -35,7 +35,7 @@ pub const HORIZON_OF_S: usize = 78;
 /// Where those of t begin.
 pub const HORIZON_OF_T: usize = 113;
 
-/// The same in the first version, where t has the least horizon.
+/// Those two tables in the first version, where t has the least horizon.
 pub const FIRST_TWO_TABLES: &[u8] =
     b"TABIMG\0\x01\xff\xff\xff\xff\xff\xff\xff\xfe\0\0\0\0\0\0\0\x03\
 \0\0\0\x02\0\0\0\x03bob\x80\0\0\0\x02\0\0\0\x01A\0\0\0\x01B\0\0\0\x04root\xff\0\0\0\0\

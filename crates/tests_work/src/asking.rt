@@ -75,7 +75,7 @@ pub fn done<L: Ledger, R: Wait + Abort>(
     }
 }
 
-/// The same, of an event of which it's told that it was done and no more.
+/// The event is done by the seat, one of which it's told that it was done and no more.
 pub fn surely_done<L: Ledger, R: Wait + Abort>(
     rt: &R,
     alloc: Global,

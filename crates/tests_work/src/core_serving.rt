@@ -34,7 +34,7 @@ fn served_by(
     Vec::from_slice(alloc, output.get_ref().bytes()).expect(rt, "memory")
 }
 
-// The same with a new core.
+// The connection ends so with a new core.
 fn served(
     rt: &impl Abort,
     alloc: Global,

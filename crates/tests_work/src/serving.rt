@@ -46,7 +46,7 @@ pub fn served_by<L: Ledger, R: Threads + Wait + Abort + Sync, G: Gate>(
     (ended, bytes)
 }
 
-// The same with a new book. The receipts settle in it.
+// How it ends on a seat of a new book. The receipts settle in it.
 fn served_at<L: Ledger, R: Threads + Wait + Abort + Sync>(
     rt: &R,
     alloc: Global,

@@ -111,7 +111,7 @@ pub const WRITES_TOLD: &[u8] = b"\0\0\0\x01\x80\
 \0\0\0\x21\x82\0\0\0\x01r\0\0\0\x01f\0\0\0\x01q\0\0\0\0\0\0\0\0\0\0\0\x05\0\0\0\x01v\
 \0\0\0\x02\x83\x01";
 
-// The same, but that the scan is of the one row that is written.
+// What writes as before, and scans the one row that is written.
 pub const READS_ONE_ROW: &[u8] = b"\0\0\0\x09\x01\0\0\0\x04root\
 \0\0\0\x2c\x0a\0\0\0\x01t\0\0\0\x01r\0\0\0\x01\x01\0\0\0\x01f\0\0\0\x01q\0\0\0\0\x01\0\0\0\0\0\0\0\x05\0\0\0\x01v\
 \0\0\0\x1a\x0b\0\0\0\x01t\x01\0\0\0\x01r\x01\0\0\0\x01r\0\0\0\0\0\0\0\0\

@@ -130,7 +130,7 @@ fn put_part(
     put_items_before(alloc, records, written, bound, totals)
 }
 
-// The same, whose records are sorted row by row.
+// `put_part` of records that are sorted row by row.
 fn put_groups_before(
     alloc: Global,
     records: &mut Records,
@@ -145,7 +145,7 @@ fn put_groups_before(
     put_groups(alloc, records, &mut groups)
 }
 
-// The same, whose records are sorted one by one.
+// `put_part` of records that are sorted one by one.
 fn put_items_before(
     alloc: Global,
     records: &mut Records,
@@ -186,7 +186,7 @@ fn put_rest(alloc: Global, records: &mut Records, written: &Unsorted) -> Result<
     put_all_items(alloc, records, written)
 }
 
-// The same, whose records are sorted row by row.
+// `put_rest` of records that are sorted row by row.
 fn put_all_groups(
     alloc: Global,
     records: &mut Records,
@@ -200,7 +200,7 @@ fn put_all_groups(
     put_groups(alloc, records, &mut groups)
 }
 
-// The same, whose records are sorted one by one.
+// `put_rest` of records that are sorted one by one.
 fn put_all_items(alloc: Global, records: &mut Records, written: &Unsorted) -> Result<(), AllocError>
     requires { IsDistinct written.now }
     ensures ok { OnOk result (records.new ≡ records.old ++ sorted written.now) }

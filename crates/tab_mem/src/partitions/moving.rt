@@ -20,7 +20,7 @@ pub(crate) fn move_piece(body: &mut [u8], place: usize, end: usize, to: usize)
     move_apart(body, place, end, to);
 }
 
-// The same where the two places don't overlap, in one piece.
+// `move_piece` in one copy, where the two places don't overlap.
 fn move_apart(body: &mut [u8], place: usize, end: usize, to: usize)
     requires order { place ≤ end }
     requires inside { end ≤ length body.old }

@@ -65,7 +65,7 @@ fn put_sorted<'a>(
     put_classes(records, &mut items, groups)
 }
 
-// The same, class by class. What is sorted is lent to `items`, whatever they were before.
+// `put_sorted` class by class. What is sorted is lent to `items`, whatever they were before.
 fn put_classes<'a>(
     records: &mut Records,
     items: &mut Vec<ColumnItem<'a>>,

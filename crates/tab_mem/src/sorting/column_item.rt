@@ -85,7 +85,7 @@ impl<'a> ColumnItem<'a> {
         }
     }
 
-    // The same, by the records.
+    // The order of records of one row, by the records themselves.
     fn cmp_record(&self, other: &ColumnItem<'_>) -> Ordering
         ensures { result ≡ behind_row_cmp self.now other.now }
     {

@@ -18,7 +18,7 @@ pub(crate) fn prefix_of(record: &RecordRef<'_>) -> u128
     prefix_in(&record.row_piece())
 }
 
-/// The same of a row alone.
+/// The number that the row's first 16 bytes spell, as [`prefix_of`] has it.
 #[inline]
 pub(crate) fn prefix_in(row: &Piece<'_>) -> u128
     ensures { IsRowPrefix result row.now }

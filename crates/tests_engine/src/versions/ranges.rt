@@ -98,7 +98,7 @@ fn compare(
     cells
 }
 
-// The same of so many random ranges.
+// Compares so many random ranges.
 fn compare_random(
     rt: &(impl Abort + Threads + Sync),
     alloc: Global,

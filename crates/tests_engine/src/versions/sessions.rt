@@ -22,7 +22,7 @@ fn count_shown(rt: &impl Abort, alloc: Global, table: &[Update]) -> u32 {
     u32::try_from(shown.len()).expect(rt, "few")
 }
 
-/// The same scan of the version, opened.
+/// That scan of the version, opened.
 pub fn opened(rt: &impl Abort, alloc: Global, version: Version) -> Session {
     let auths = auths_of(alloc, &[b"A", b"B"]).expect(rt, "memory");
     Session::new(alloc, version, Items::new(alloc), auths, 1)

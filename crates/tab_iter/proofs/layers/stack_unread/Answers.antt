@@ -1,4 +1,4 @@
--- The same of a stack of which nothing is read.
+-- What a stack shows of which nothing is read.
 use Rattle.std.proofs.Common.{sym}
 use Rattle.tab_cells.proofs.Rising.{rising_distinct, sorted_rising}
 use Rattle.tab_iter.proofs.StackLaws.{stack_lists}
