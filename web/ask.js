@@ -1,5 +1,5 @@
 // A script, asked line by line: which answers are which line's, what each reader sees, and which parts of a label hold.
-// Everything here is asked of the core in lines. What a reader sees is the core's answer to a scan that he makes.
+// Everything here is asked of the core in lines. What a reader sees is the core's answer to a scan that they make.
 "use strict";
 
 const encoder = new TextEncoder();
@@ -26,7 +26,7 @@ function explained(core, number, line) {
 const authList = (auths) => (auths.length ? auths.map(spellMember).join(",") : "\\0");
 const typedList = (auths) => authList(auths.map(bytesOf));
 
-// What is asked for a reader behind the lines of the store: that he is there, holds these authorizations, may read the table, and scans it.
+// What is asked for a reader behind the lines of the store: that they are there, hold these authorizations, may read the table, and scan it.
 function linesOf(reader, table) {
   const list = typedList(reader.auths);
   return ["as root", `createuser ${reader.name}`, `setauths ${reader.name} ${list}`, `grant ${reader.name} READ ${table}`, `as ${reader.name}`, `scan ${table} ${list}`];

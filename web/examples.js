@@ -104,7 +104,7 @@ scan log \\0`,
   },
   {
     title: "Two worlds",
-    about: "Two stores that differ only in what is labelled diagnosis. The doctor is told two things; the nurse and the reception are told the same, byte for byte, so neither can know in which world he is. Write your own difference.",
+    about: "Two stores that differ only in what is labelled diagnosis. The doctor is told two things; the nurse and the reception are told the same, byte for byte, so neither can know which of the two it is. Write your own difference.",
     lines: `# World A
 createtable patients
 
