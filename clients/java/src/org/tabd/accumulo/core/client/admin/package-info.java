@@ -1,0 +1,2 @@
+/** What is asked of tables and users. */
+package org.tabd.accumulo.core.client.admin;

@@ -1,0 +1,2 @@
+/** Passwords, which a server doesn't ask for. */
+package org.tabd.accumulo.core.client.security.tokens;

@@ -1,0 +1,2 @@
+/** Keys, values, ranges, and mutations. */
+package org.tabd.accumulo.core.data;

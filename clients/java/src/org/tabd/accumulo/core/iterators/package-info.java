@@ -1,0 +1,2 @@
+/** What all filters have. */
+package org.tabd.accumulo.core.iterators;

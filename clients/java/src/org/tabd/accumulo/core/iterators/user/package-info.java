@@ -1,0 +1,2 @@
+/** The filters that scanners have. */
+package org.tabd.accumulo.core.iterators.user;

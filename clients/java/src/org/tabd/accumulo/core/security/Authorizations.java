@@ -1,0 +1,146 @@
+package org.tabd.accumulo.core.security;
+
+import java.nio.ByteBuffer;
+import java.nio.charset.StandardCharsets;
+import java.util.ArrayList;
+import java.util.Collection;
+import java.util.Iterator;
+import java.util.List;
+import java.util.SortedSet;
+import java.util.TreeSet;
+import org.tabd.accumulo.core.data.ArrayByteSequence;
+import org.tabd.accumulo.core.data.ByteSequence;
+
+/** A set of authorizations: terms under which labels hold. It doesn't change. */
+public class Authorizations implements Iterable<byte[]> {
+    /** None: a scan under these shows what has the empty label, and nothing else, whatever the user holds. */
+    public static final Authorizations EMPTY = new Authorizations();
+
+    private final SortedSet<ByteSequence> terms = new TreeSet<>();
+
+    /**
+     * Strings as UTF-8.
+     *
+     * @param authorizations the terms
+     */
+    public Authorizations(String... authorizations) {
+        for (String term : authorizations) {
+            add(term.strip().getBytes(StandardCharsets.UTF_8));
+        }
+    }
+
+    /**
+     * Bytes, which are copied.
+     *
+     * @param authorizations the terms
+     */
+    public Authorizations(Collection<byte[]> authorizations) {
+        authorizations.forEach(term -> add(term.clone()));
+    }
+
+    /**
+     * Bytes of buffers, which are copied.
+     *
+     * @param authorizations the terms
+     */
+    public Authorizations(List<ByteBuffer> authorizations) {
+        for (ByteBuffer term : authorizations) {
+            byte[] bytes = new byte[term.remaining()];
+            term.duplicate().get(bytes);
+            add(bytes);
+        }
+    }
+
+    private void add(byte[] term) {
+        terms.add(new ArrayByteSequence(term));
+    }
+
+    /**
+     * The terms.
+     *
+     * @return a copy, rising
+     */
+    public List<byte[]> getAuthorizations() {
+        List<byte[]> found = new ArrayList<>(terms.size());
+        terms.forEach(term -> found.add(term.toArray()));
+        return found;
+    }
+
+    /**
+     * The terms.
+     *
+     * @return copies in buffers, rising
+     */
+    public List<ByteBuffer> getAuthorizationsBB() {
+        return getAuthorizations().stream().map(ByteBuffer::wrap).toList();
+    }
+
+    /**
+     * Whether a term is among them.
+     *
+     * @param term the term
+     * @return whether it is
+     */
+    public boolean contains(byte[] term) {
+        return contains(new ArrayByteSequence(term));
+    }
+
+    /**
+     * Whether a term is among them.
+     *
+     * @param term the term
+     * @return whether it is
+     */
+    public boolean contains(ByteSequence term) {
+        return terms.contains(term);
+    }
+
+    /**
+     * Whether a term is among them.
+     *
+     * @param term the term, as UTF-8
+     * @return whether it is
+     */
+    public boolean contains(String term) {
+        return contains(term.getBytes(StandardCharsets.UTF_8));
+    }
+
+    /**
+     * Whether there are none.
+     *
+     * @return whether it is empty
+     */
+    public boolean isEmpty() {
+        return terms.isEmpty();
+    }
+
+    /**
+     * How many there are.
+     *
+     * @return the count
+     */
+    public int size() {
+        return terms.size();
+    }
+
+    @Override
+    public Iterator<byte[]> iterator() {
+        return getAuthorizations().iterator();
+    }
+
+    @Override
+    public boolean equals(Object other) {
+        return other instanceof Authorizations authorizations && terms.equals(authorizations.terms);
+    }
+
+    @Override
+    public int hashCode() {
+        return terms.hashCode();
+    }
+
+    /** The terms with commas between them. */
+    @Override
+    public String toString() {
+        return String.join(",", terms.stream().map(Object::toString).toList());
+    }
+}

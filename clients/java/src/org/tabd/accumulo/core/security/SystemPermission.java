@@ -1,0 +1,21 @@
+package org.tabd.accumulo.core.security;
+
+/** What a user may do to the system. Those of namespaces and of delegation tokens aren't here: there are neither. */
+public enum SystemPermission {
+    /** To give permissions on the system, which is root's alone. */
+    GRANT,
+    /** To make tables. */
+    CREATE_TABLE,
+    /** To drop any table. */
+    DROP_TABLE,
+    /** To change any table. */
+    ALTER_TABLE,
+    /** To make users. */
+    CREATE_USER,
+    /** To drop users. */
+    DROP_USER,
+    /** To give users authorizations. */
+    ALTER_USER,
+    /** To save, load, and rotate histories. */
+    SYSTEM
+}

@@ -1,0 +1,2 @@
+/** Labels, authorizations, and permissions. */
+package org.tabd.accumulo.core.security;

@@ -1,0 +1,2 @@
+/** What malformed labels are told by. */
+package org.tabd.accumulo.core.util;

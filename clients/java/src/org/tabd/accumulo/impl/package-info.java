@@ -1,0 +1,2 @@
+/** How it is done; not for programs. */
+package org.tabd.accumulo.impl;

@@ -1,0 +1,2 @@
+/** The one class of Hadoop's that programs for Accumulo name. */
+package org.tabd.hadoop.io;

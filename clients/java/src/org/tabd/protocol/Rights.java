@@ -1,0 +1,13 @@
+package org.tabd.protocol;
+
+import java.util.List;
+import java.util.Set;
+
+/**
+ * What a user may do.
+ *
+ * @param system the permissions on the system, of {@link Permission#SYSTEM}
+ * @param table the permissions on the table that was asked about, of {@link Permission#TABLE}
+ * @param authorizations the authorizations, rising
+ */
+public record Rights(Set<String> system, Set<String> table, List<byte[]> authorizations) {}

@@ -1,0 +1,14 @@
+package org.tabd.protocol;
+
+/**
+ * Rows from one to another; null is no bound.
+ *
+ * @param low the first row
+ * @param withLow whether it is in the range
+ * @param high the last row
+ * @param withHigh whether it is in the range
+ */
+public record RowRange(byte[] low, boolean withLow, byte[] high, boolean withHigh) {
+    /** All rows. */
+    public static final RowRange ALL = new RowRange(null, true, null, true);
+}
