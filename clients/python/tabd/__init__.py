@@ -11,7 +11,8 @@
 `connect` gives a `Client`, whose methods are what can be asked. What goes wrong is told by the classes of `tabd.errors`. README.md beside this
 package has examples.
 """
-from .client import TIMEOUT, Client, connect
+from .batch_writer import BatchWriter
+from .client import Client, connect
 from .connection import MAX_FRAME, WINDOW
 from .data import (
     CONSTRAINTS,
@@ -26,8 +27,10 @@ from .data import (
     Rights,
     Status,
     Text,
+    TextCell,
     Update,
     Violation,
+    Write,
 )
 from .errors import (
     BadAuthorizations,
@@ -40,13 +43,17 @@ from .errors import (
     EmptyMutation,
     GrantInvalid,
     HorizonLowered,
+    InUse,
     MalformedVisibility,
     NoMemory,
     NoSession,
     NoTable,
     NoUser,
+    NotText,
     OutOfRange,
     PermissionDenied,
+    PoolClosed,
+    PoolExhausted,
     ProtocolError,
     Refused,
     RootFixed,
@@ -60,10 +67,13 @@ from .errors import (
     UnknownUser,
     UserExists,
     VersionsRaised,
+    WritesFailed,
 )
-from .session import Session
+from .places import TIMEOUT
+from .pool import Pool
+from .session import Session, TextSession
 
-__version__ = "0.17.7"
+__version__ = "0.18.0"
 """The version of the program that it was released with."""
 
 __all__ = [
@@ -77,6 +87,7 @@ __all__ = [
     "BadFrame",
     "BadRange",
     "BadSplit",
+    "BatchWriter",
     "BelowHorizon",
     "Cell",
     "Client",
@@ -87,14 +98,19 @@ __all__ = [
     "EmptyMutation",
     "GrantInvalid",
     "HorizonLowered",
+    "InUse",
     "MalformedVisibility",
     "NoMemory",
     "NoSession",
     "NoTable",
     "NoUser",
+    "NotText",
     "OutOfRange",
     "Permission",
     "PermissionDenied",
+    "Pool",
+    "PoolClosed",
+    "PoolExhausted",
     "ProtocolError",
     "Put",
     "Range",
@@ -108,6 +124,8 @@ __all__ = [
     "TabdError",
     "TableExists",
     "Text",
+    "TextCell",
+    "TextSession",
     "TimedOut",
     "TimestampNotAllowed",
     "TooLarge",
@@ -116,5 +134,7 @@ __all__ = [
     "UserExists",
     "VersionsRaised",
     "Violation",
+    "Write",
+    "WritesFailed",
     "connect",
 ]

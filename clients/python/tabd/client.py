@@ -1,43 +1,78 @@
-"""A user's connection: what he can ask of tables and users."""
+"""A user's connection: what they can ask of tables and users."""
 from __future__ import annotations
 
 import socket
-from contextlib import contextmanager
+import sys
+from contextlib import contextmanager, suppress
 from io import BufferedReader, BufferedWriter
-from os import PathLike, fspath
+from os import PathLike
+from time import sleep
 from types import TracebackType
-from typing import Any, BinaryIO, Callable, Dict, Iterable, Iterator, List, Literal, Optional, Type, TypeVar, Union, overload
+from typing import Any, BinaryIO, Callable, Dict, Iterable, Iterator, List, Literal, Optional, Tuple, Type, TypeVar, Union, overload
 
 from . import checks, requests, to_pandas
 from .connection import Connection
-from .data import ALL_ROWS, Column, Range, Rights, Status, Text, Update
+from .data import ALL_ROWS, Cell, Column, Range, Rights, Status, Text, Update
 from .errors import Refused
 from .pipeline import Pipeline
+from .places import LOCAL, MAX_TIMEOUT, TIMEOUT, Place, pauses, place, seconds
 from .replies import Opened, Reply, Row
 from .requests import Opcode
-from .session import Session
+from .session import Session, TextSession
 
 R = TypeVar("R", bound=Reply)
 BUFFER = 1 << 16
-TIMEOUT = 60.0
-"""Seconds that a client waits for its server, unless told otherwise."""
-MAX_TIMEOUT = 1_000_000_000
-"""More seconds than that no socket takes."""
+NOBODY_LISTENS = (ConnectionRefusedError, FileNotFoundError)
+"""What it is where no server listens (yet)."""
 
 
-def connect(port: Union[int, str, PathLike[str]], user: Text, host: str = "127.0.0.1", timeout: Optional[float] = TIMEOUT) -> Client:
+def connect(
+    port: Union[int, str, PathLike[str]],
+    user: Optional[Text] = None,
+    host: str = LOCAL,
+    timeout: Optional[float] = TIMEOUT,
+    *,
+    wait: float = 0,
+) -> Client:
     """A client of the server on this port, or at the socket file of this path, or an OSError.
 
     Where the server lets it wait for longer than the timeout (seconds; None is no bound), TimedOut closes the client. A first scan behind
-    millions of writes and a full compaction can take seconds.
+    millions of writes and a full compaction can take seconds. A server that doesn't listen yet is tried again for `wait` seconds.
+
+    In place of the port, a URL can say all: `tabd://ann@127.0.0.1:9997?timeout=5&wait=10`, or `tabd+unix://ann@/run/tabd.sock`. An argument
+    that says something else than the URL is a ValueError.
     """
-    if timeout is not None and not 0 < timeout <= MAX_TIMEOUT:
-        raise ValueError(f"timeout: {timeout} isn't above 0 and at most {MAX_TIMEOUT}; None is no bound")
-    checks.name(user, "user")
-    with _at_file(fspath(port), timeout) if isinstance(port, (str, PathLike)) else _at_port(port, host, timeout) as link:
+    port, user, host, timeout, wait = checked(place(port, user, host, timeout, wait))
+    with _link(port, host, timeout, wait) as link:
         reader, writer = BufferedReader(link.makefile("rb", 0), BUFFER), BufferedWriter(link.makefile("wb", 0), BUFFER)
         # the two streams keep the socket open
         return Client(reader, writer, user, break_off=lambda: link.shutdown(socket.SHUT_RDWR))
+
+
+def checked(at: Place) -> Tuple[Union[int, str], Text, str, Optional[float], float]:
+    """The parts of a place where somebody can ask."""
+    port, user, host, timeout, wait = at
+    if timeout is not None and not 0 < timeout <= MAX_TIMEOUT:
+        raise ValueError(f"timeout: {timeout} isn't above 0 and at most {MAX_TIMEOUT}; None is no bound")
+    seconds(wait, "wait")
+    if user is None:
+        raise TypeError("user: who asks is missing")
+    checks.name(user, "user")
+    return port, user, host, timeout, wait
+
+
+def _link(port: Union[int, str], host: str, timeout: Optional[float], wait: float) -> socket.socket:
+    """A connection, tried again as long as nobody listens and the seconds to wait aren't over."""
+    for pause in pauses(wait):
+        with suppress(*NOBODY_LISTENS):
+            return link_to(port, host, timeout)
+        sleep(pause)
+    return link_to(port, host, timeout)
+
+
+def link_to(port: Union[int, str], host: str, timeout: Optional[float]) -> socket.socket:
+    """A connection to who listens there now."""
+    return _at_file(port, timeout) if isinstance(port, str) else _at_port(port, host, timeout)
 
 
 def _at_port(port: int, host: str, timeout: Optional[float]) -> socket.socket:
@@ -61,10 +96,21 @@ def _at_file(path: str, timeout: Optional[float]) -> socket.socket:
     return link
 
 
-class Client:
-    """A user's connection to a server. It is closed by `close`, or at the end of its `with`; one thread uses it at a time.
+def column_of(family: Text, qualifier: Text) -> Column:
+    return checks.text(family, "family"), checks.text(qualifier, "qualifier")
 
-    Each method names the refusals that belong to it. Besides them each can be refused as UnknownUser, NoTable, PermissionDenied and NoMemory.
+
+def newest_value(cells: Iterable[Cell]) -> Optional[bytes]:
+    """The value of the newest of these cells, the first one of several."""
+    newest = max(cells, key=lambda cell: cell.timestamp, default=None)
+    return None if newest is None else newest.value
+
+
+class Client:
+    """A user's connection to a server. It is closed by `close`, which any thread may call, or at the end of its `with`.
+
+    One thread uses it, and its sessions, at a time: where a second one would, InUse is raised. Each method names the refusals that belong to
+    it. Besides them each can be refused as UnknownUser, NoTable, PermissionDenied and NoMemory.
     """
 
     def __init__(self, reader: BinaryIO, writer: BinaryIO, user: Text, *, break_off: Callable[[], None] = lambda: None) -> None:
@@ -72,6 +118,7 @@ class Client:
 
         `break_off` is called first where the client is closed, as it is where it can't begin.
         """
+        self._user = user
         self._connection = Connection(reader, writer, break_off)
         self._pipeline: Optional[Pipeline] = None
         try:
@@ -84,6 +131,9 @@ class Client:
     def closed(self) -> bool:
         """Whether the connection has ended."""
         return self._connection.closed
+
+    def __repr__(self) -> str:
+        return f"<{type(self).__name__} of {self._user!r}{', closed' if self.closed else ''}>"
 
     def close(self) -> None:
         """Ends the connection, and its sessions with it."""
@@ -149,7 +199,26 @@ class Client:
         columns: Iterable[Column] = (),
         batch: int = 1000,
         to: None = None,
+        *,
+        limit: Optional[int] = None,
+        newest: bool = False,
+        text: Literal[False] = False,
     ) -> Session: ...
+
+    @overload
+    def scan(
+        self,
+        table: Text,
+        authorizations: Iterable[Text] = (),
+        rows: Range = ALL_ROWS,
+        columns: Iterable[Column] = (),
+        batch: int = 1000,
+        to: None = None,
+        *,
+        limit: Optional[int] = None,
+        newest: bool = False,
+        text: Literal[True],
+    ) -> TextSession: ...
 
     @overload
     def scan(
@@ -161,6 +230,9 @@ class Client:
         batch: int = 1000,
         *,
         to: Literal["pandas"],
+        limit: Optional[int] = None,
+        newest: bool = False,
+        text: bool = False,
     ) -> Any: ...
 
     def scan(
@@ -171,19 +243,49 @@ class Client:
         columns: Iterable[Column] = (),
         batch: int = 1000,
         to: Optional[str] = None,
+        *,
+        limit: Optional[int] = None,
+        newest: bool = False,
+        text: bool = False,
     ) -> Any:
         """A session on the cells in these rows and columns whose labels hold under these authorizations, in the order of keys.
 
         Columns are families, or pairs of family and qualifier; none means all. With `to="pandas"` it is a data frame of all these cells, or
         an ImportError where there is no pandas. TooLarge, BadRange, BadAuthorizations.
+
+        With a `limit` the session gives at most so many cells, by iterations and fetches together, asks for no more of them, and is closed
+        with the last. With `newest` it gives of each column (row, family, qualifier and label) the newest version alone. With `text` it is
+        a TextSession, whose cells are TextCells. All three hold for a data frame too. `ranges` goes by `newest` and `text`, but no limit
+        holds for it.
         """
+        self._see_scan(batch, to, limit, newest, text)
+        kind: Union[Type[Session], Type[TextSession]] = TextSession if text else Session
+        opened = self._ask_for(requests.open_session(table, rows, columns, authorizations), Opened)
+        session = kind(self._connection, opened.session, batch, limit=limit, newest=newest)
+        if to is None:
+            return session
+        with session:
+            return to_pandas.data_frame(session)
+
+    @staticmethod
+    def _see_scan(batch: int, to: Optional[str], limit: Optional[int], newest: bool, text: bool) -> None:
+        """Sees that a scan can have these arguments, of which the server is told nothing."""
+        if limit is not None:
+            checks.number(limit, "limit", 0, sys.maxsize)
+        checks.flag(newest, "newest")
+        checks.flag(text, "text")
         checks.number(batch, "batch", 1)
         if to is not None:
             checks.word(to, ("pandas",), "to")
             to_pandas.library()
-        opened = self._ask_for(requests.open_session(table, rows, columns, authorizations), Opened)
-        session = Session(self._connection, opened.session, batch)
-        return session if to is None else to_pandas.data_frame(session)
+
+    def get(self, table: Text, row: Text, family: Text, qualifier: Text, authorizations: Iterable[Text] = ()) -> Optional[bytes]:
+        """The newest value in a row, family and qualifier whose label holds under these authorizations, or None.
+
+        Of labels with equal newest times the first in the order of keys counts. TooLarge, BadAuthorizations.
+        """
+        with self.scan(table, authorizations, Range.row(row), [column_of(family, qualifier)], newest=True) as cells:
+            return newest_value(cells)
 
     # ---- Tables.
 
@@ -250,14 +352,14 @@ class Client:
         self._ask(requests.of_user(Opcode.CREATE_USER, user))
 
     def drop_user(self, user: Text) -> None:
-        """Drops a user, his rights and authorizations.
+        """Drops a user, their rights and authorizations.
 
         NoUser, RootFixed.
         """
         self._ask(requests.of_user(Opcode.DROP_USER, user))
 
     def set_authorizations(self, user: Text, authorizations: Iterable[Text]) -> None:
-        """Gives a user these authorizations in place of those that he holds.
+        """Gives a user these authorizations in place of those that they hold.
 
         TooLarge, NoUser.
         """

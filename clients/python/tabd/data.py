@@ -1,8 +1,9 @@
 """What a client says and is told: small values without behaviour."""
 from __future__ import annotations
 
+import inspect
 from dataclasses import dataclass
-from typing import Optional, Tuple, Union, overload
+from typing import Any, Optional, Tuple, Union, overload
 
 Text = Union[str, bytes]
 """What is sent as bytes; a str is sent as UTF-8. What is told is always bytes."""
@@ -15,6 +16,18 @@ TABLE_PERMISSIONS = ("READ", "WRITE", "ALTER_TABLE", "GRANT", "DROP_TABLE")
 CONSTRAINTS = ("keysize", "alphanum", "numeric", "visibility")
 
 
+def _as_call(it: Any) -> str:
+    """The short call that makes it: in order as far as nothing is left out, and by name behind that."""
+    said, left_out = [], False
+    for name, parameter in inspect.signature(type(it)).parameters.items():
+        given = getattr(it, name)
+        if given == parameter.default:
+            left_out = True
+        else:
+            said.append(f"{name}={given!r}" if left_out else repr(given))
+    return f"{type(it).__name__}({', '.join(said)})"
+
+
 @dataclass(frozen=True)
 class Cell:
     """A value with its key."""
@@ -25,6 +38,22 @@ class Cell:
     label: bytes
     timestamp: int
     value: bytes
+
+    __repr__ = _as_call
+
+
+@dataclass(frozen=True)
+class TextCell:
+    """A cell of a scan with `text=True`: all its bytes were UTF-8."""
+
+    row: str
+    family: str
+    qualifier: str
+    label: str
+    timestamp: int
+    value: str
+
+    __repr__ = _as_call
 
 
 @dataclass(frozen=True, init=False)
@@ -59,6 +88,8 @@ class Put:
         for name, given in (("family", family), ("qualifier", qualifier), ("label", label), ("value", value), ("timestamp", timestamp)):
             object.__setattr__(self, name, given)
 
+    __repr__ = _as_call
+
 
 @dataclass(frozen=True)
 class Delete:
@@ -69,8 +100,21 @@ class Delete:
     label: Text = b""
     timestamp: Optional[int] = None
 
+    __repr__ = _as_call
+
 
 Update = Union[Put, Delete]
+
+
+@dataclass(frozen=True)
+class Write:
+    """What a batch writer was given: updates of a row of a table."""
+
+    table: Text
+    row: Text
+    updates: Tuple[Update, ...]
+
+    __repr__ = _as_call
 
 
 @dataclass(frozen=True)
@@ -81,6 +125,26 @@ class Range:
     high: Optional[Text] = None
     with_low: bool = True
     with_high: bool = True
+
+    __repr__ = _as_call
+
+    @classmethod
+    def row(cls, row: Text) -> Range:
+        """This row alone."""
+        from . import checks  # which stands on this module
+
+        checks.text(row, "row")
+        return cls(row, row)
+
+    @classmethod
+    def prefix(cls, prefix: Text) -> Range:
+        """All rows that begin with these bytes; of the empty prefix all rows."""
+        from . import checks
+
+        low = checks.text(prefix, "prefix")
+        # the first row behind them: what begins with bytes 0xff alone has none
+        begin = low.rstrip(b"\xff")
+        return cls(low, begin[:-1] + bytes([begin[-1] + 1]), with_high=False) if begin else cls(low)
 
 
 ALL_ROWS = Range()
@@ -120,7 +184,7 @@ class Status:
 
 @dataclass(frozen=True)
 class Rights:
-    """The permissions that a user has on the system and on a table, and his authorizations, rising."""
+    """The permissions that a user has on the system and on a table, and their authorizations, rising."""
 
     system: Tuple[str, ...]
     table: Tuple[str, ...]

@@ -5,6 +5,11 @@
         ConnectionClosed    the connection ended, failed or was closed
             TimedOut        the server took too long
         ProtocolError       the server said what isn't of the protocol
+        InUse               another thread uses the client
+        NotText             a scan with text=True met a cell that isn't UTF-8
+        PoolExhausted       all clients of a pool stayed lent
+        PoolClosed          the pool was closed
+        WritesFailed        writes of a batch writer were refused, or their answers are missing
 
 What is wrong with the arguments of a call is a TypeError or a ValueError as everywhere in Python, and nothing was sent then.
 """
@@ -12,7 +17,7 @@ from __future__ import annotations
 
 from typing import ClassVar, Tuple
 
-from .data import Permission, Violation
+from .data import Cell, Permission, Violation, Write
 
 
 class TabdError(Exception):
@@ -31,8 +36,57 @@ class ConnectionClosed(TabdError):
     """The connection ended, failed or was closed. Whether a request that has no answer took effect isn't known."""
 
 
+class InUse(TabdError):
+    """Another thread uses the client. Nothing was sent, and the client goes on as it was."""
+
+
+class NotText(TabdError, ValueError):
+    """A scan with `text=True` met a cell of which a `part`, such as "value", isn't UTF-8; `cell` has its bytes."""
+
+    def __init__(self, cell: Cell, part: str) -> None:
+        super().__init__(cell, part)
+        self.cell = cell
+        self.part = part
+
+    def __str__(self) -> str:
+        it = self.cell
+        key = f"row {it.row!r}, column {it.family!r} {it.qualifier!r}, label {it.label!r}, time {it.timestamp}"
+        return f"the {self.part} isn't UTF-8: {key}"
+
+
 class TimedOut(ConnectionClosed, TimeoutError):
     """The server took longer than the client's timeout. The client is closed."""
+
+
+class PoolExhausted(TabdError, TimeoutError):
+    """All clients of a pool stayed lent for longer than its timeout."""
+
+
+class PoolClosed(TabdError):
+    """The pool was closed, and lends no client."""
+
+
+class WritesFailed(TabdError):
+    """Not all writes of a batch writer are done.
+
+    `refused` has pairs of each refused write and its refusal, which changed nothing. `unknown` has the writes without an answer, where the
+    connection broke (its error is the `__cause__`): whether they took effect isn't known, and some may never have been sent.
+    """
+
+    def __init__(self, refused: Tuple[Tuple[Write, Refused], ...], unknown: Tuple[Write, ...]) -> None:
+        super().__init__(refused, unknown)
+        self.refused = refused
+        self.unknown = unknown
+
+    def __str__(self) -> str:
+        said = []
+        if self.refused:
+            write, refusal = self.refused[0]
+            first = f"row {write.row!r} of table {write.table!r}: {type(refusal).__name__}: {refusal}"
+            said.append(f"{len(self.refused)} refused (the first: {first})")
+        if self.unknown:
+            said.append(f"{len(self.unknown)} without an answer")
+        return ", ".join(said)
 
 
 class Refused(TabdError):

@@ -3,26 +3,32 @@ from __future__ import annotations
 
 from typing import Dict
 
-from .connection import MAX_FRAME, WINDOW, Connection
+from .connection import Connection
 from .errors import Refused
 from .replies import Answer
 
 
-class Pipeline:
-    """The writes of a client that wait, and the refusals of those that were answered, by their places from 0."""
+class Refusals:
+    """The refusals of writes that were answered, by their places from 0."""
 
-    def __init__(self, connection: Connection) -> None:
+    def __init__(self) -> None:
         self.refused: Dict[int, Refused] = {}
         self._answered = 0
+
+    def hear(self, answer: Answer) -> None:
+        """Takes the answer to the next write."""
+        if isinstance(answer, Refused):
+            self.refused[self._answered] = answer
+        self._answered += 1
+
+
+class Pipeline(Refusals):
+    """The writes of a client that wait, and what was answered."""
+
+    def __init__(self, connection: Connection) -> None:
+        super().__init__()
         self._connection = connection
 
     def write(self, request: bytes) -> None:
         """Lets a write wait; the last of a window and a large one send all that wait."""
-        self._connection.later(request, self._hear)
-        if self._connection.waiting >= WINDOW or len(request) >= MAX_FRAME // WINDOW:
-            self._connection.send()
-
-    def _hear(self, answer: Answer) -> None:
-        if isinstance(answer, Refused):
-            self.refused[self._answered] = answer
-        self._answered += 1
+        self._connection.collect(request, self.hear)

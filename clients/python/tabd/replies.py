@@ -60,6 +60,21 @@ BEFORE: Dict[Opcode, Tuple[Type[Reply], ...]] = {
 """The frames that may stand before it; none where none is named."""
 
 
+def is_whole(request: bytes, replies: Sequence[Reply]) -> bool:
+    """Whether there are the cells or ranges that the request asks for, and the end says so."""
+    asked, end = Opcode(request[0]), replies[-1]
+    if not isinstance(end, End):
+        return True
+    # behind opcode and session stands how many cells are taken at most, or in how many ranges
+    count = int.from_bytes(request[5:9], "big")
+    if asked == Opcode.NEXT:
+        return len(replies) - 1 <= count and end.last == (len(replies) - 1 < count)
+    if asked == Opcode.MANY:
+        ranges = sum(isinstance(reply, RangeEnd) for reply in replies)
+        return end.last and ranges == count and not any(isinstance(reply, Cell) for reply in replies[-2:])
+    return end.last
+
+
 class Fields:
     """The fields of a frame, taken one after the other."""
 

@@ -1,82 +1,164 @@
 """The answer of a scan, as it stood when the session was opened."""
 from __future__ import annotations
 
+import sys
+from contextlib import closing
 from itertools import islice
 from operator import length_hint
 from types import TracebackType
-from typing import Iterable, Iterator, List, Optional, Tuple, Type
+from typing import Any, Generator, Generic, Iterable, Iterator, List, Optional, Tuple, Type, TypeVar
 
 from . import checks, requests
-from .connection import Connection
-from .data import Cell, Range
-from .replies import End, RangeEnd
+from .connection import Connection, Exchanges
+from .data import Cell, Range, TextCell
+from .errors import NotText
+from .replies import End, RangeEnd, Reply
+from .text import text_of
+
+C = TypeVar("C", Cell, TextCell)
+S = TypeVar("S", bound="Asked[Any]")
 
 
-class Session:
-    """A session shows the same for good, whatever is written or dropped meanwhile.
+class Cells(Generic[C]):
+    """What is common to sessions, however they ask: which cells were fetched, and which of those were given."""
 
-    To iterate over its cells fetches `batch` of them at a time; another iteration, or a `fetch`, goes on behind the last cell that one gave. It
-    is closed behind the last one, at the end of its `with`, or once nothing refers to it; the server is told so with the next request of its client.
-    """
-
-    def __init__(self, connection: Connection, number: int, batch: int) -> None:
+    def __init__(self, exchanges: Exchanges, number: int, batch: int, limit: Optional[int], newest: bool) -> None:
         self.number = number
         self.batch = checks.number(batch, "batch", 1)
         self.closed = False
-        self._connection = connection
+        # how many cells it may give yet
+        self._left = sys.maxsize if limit is None else checks.number(limit, "limit", 0, sys.maxsize)
+        self._newest = checks.flag(newest, "newest")
         # of the cells that were fetched for an iteration those that it hasn't given, and whether the server may have more
         self._ahead: Iterator[Cell] = iter(())
-        self._more = True
+        self._more = self._left > 0
+        self._column: Optional[Tuple[bytes, ...]] = None
+        self._later = exchanges.later
 
-    def fetch(self, count: int) -> Tuple[List[Cell], bool]:
-        """The next cells, as many as asked for (up to 4,294,967,295), fewer only at the end; and whether there may be more.
+    def __repr__(self) -> str:
+        return f"<{type(self).__name__} {self.number}{', closed' if self.closed else ''}>"
 
-        NoSession.
-        """
-        ahead = list(islice(self._ahead, checks.number(count, "count")))
-        if ahead and len(ahead) == count:
-            return ahead, self._more or length_hint(self._ahead) > 0
-        try:
-            return ahead + self._next(count - len(ahead)), self._more
-        except BaseException:
-            self._ahead = iter(ahead)
-            raise
+    def _told(self, cell: Cell) -> C:
+        """The cell as such a session gives it."""
+        raise NotImplementedError
 
-    def _next(self, count: int) -> List[Cell]:
-        """The next cells that the server has."""
-        replies = self._connection.ask(requests.next_cells(self.number, count))
+    def _steps(self, count: int, cells: List[Cell]) -> Generator[int, None, None]:
+        """How many cells a fetch asks for, each time anew until the list has all that are wanted. Where that fails none is passed over."""
+        count = min(checks.number(count, "count"), self._left)
+        cells += islice(self._ahead, count)
+        while self._left and (not cells or len(cells) < count):
+            try:
+                yield count - len(cells)
+            except BaseException:
+                self._ahead = iter([*cells, *self._ahead])
+                raise
+            cells += islice(self._ahead, count - len(cells))
+            if not count or not self._more:
+                break
+
+    def _request(self, count: int) -> bytes:
+        return requests.next_cells(self.number, min(count, self._left))
+
+    def _hear(self, replies: Tuple[Reply, ...]) -> None:
         end = replies[-1]
         self._more = not (isinstance(end, End) and end.last)
-        return [reply for reply in replies if isinstance(reply, Cell)]
+        cells: List[Cell] = [reply for reply in replies if isinstance(reply, Cell)]
+        self._ahead = iter([*self._ahead, *self._shown(cells, self._column)])
+        self._column = _column(cells[-1]) if cells else self._column
 
-    def ranges(self, ranges: Iterable[Range]) -> List[List[Cell]]:
-        """All that it shows in each of at most 1,000 ranges, whatever was fetched.
+    def _shown(self, cells: List[Cell], before: Optional[Tuple[bytes, ...]] = None) -> List[Cell]:
+        """Those of these cells that are to be given, where one of this column stood before them."""
+        if not self._newest:
+            return cells
+        columns = [before, *map(_column, cells)]
+        return [cell for above, column, cell in zip(columns, columns[1:], cells) if above != column]
 
-        NoSession, TooLarge ("ranges"), BadRange.
-        """
+    def _give(self, cells: List[Cell]) -> List[C]:
+        """Tells these and counts them; behind the last that the limit lets through it is closed. Where one can't be told all stay ahead."""
+        try:
+            told = [self._told(cell) for cell in cells]
+        except NotText:
+            self._ahead = iter([*cells, *self._ahead])
+            raise
+        self._left -= len(told)
+        if not self._left:
+            self._more = False
+            self._close()
+        return told
+
+    def _fetched(self, taken: List[Cell]) -> Tuple[List[C], bool]:
+        cells = self._give(taken)
+        return cells, self._more or length_hint(self._ahead) > 0
+
+    def _by_range(self, replies: Iterable[Reply]) -> List[List[C]]:
+        return [[self._told(cell) for cell in self._shown(cells)] for cells in self._split(replies)]
+
+    @staticmethod
+    def _split(replies: Iterable[Reply]) -> List[List[Cell]]:
         found: List[List[Cell]] = [[]]
-        for reply in self._connection.ask(requests.many(self.number, ranges)):
+        for reply in replies:
             if isinstance(reply, Cell):
                 found[-1].append(reply)
             elif isinstance(reply, RangeEnd):
                 found.append([])
         return found[:-1]
 
-    def close(self) -> None:
-        """Gives it up; the server keeps nothing of it then."""
+    def _close(self) -> None:
         if not self.closed:
             self.closed, self._ahead = True, iter(())
-            self._connection.later(requests.close_session(self.number), lambda answer: None)
+            self._later(requests.close_session(self.number), lambda answer: None)
 
-    def __iter__(self) -> Iterator[Cell]:
+
+def _column(cell: Cell) -> Tuple[bytes, ...]:
+    return cell.row, cell.family, cell.qualifier, cell.label
+
+
+class Asked(Cells[C]):
+    """What is common to the sessions of a `Client`."""
+
+    def __init__(self, connection: Connection, number: int, batch: int, *, limit: Optional[int] = None, newest: bool = False) -> None:
+        super().__init__(connection, number, batch, limit, newest)
+        self._connection = connection
+
+    def fetch(self, count: int) -> Tuple[List[C], bool]:
+        """The next cells, as many as asked for (up to 4,294,967,295), fewer only at the end; and whether there may be more.
+
+        With a limit no more than it leaves, and `([], False)` behind them. NoSession.
+        """
+        cells: List[Cell] = []
+        with closing(self._steps(count, cells)) as steps:
+            for wanted in steps:
+                self._next(wanted)
+        return self._fetched(cells)
+
+    def _next(self, count: int) -> None:
+        """Takes the next cells that the server has. An interrupt that breaks into it closes the client, so that none is passed over."""
+        self._connection.ask(self._request(count), self._hear)
+
+    def ranges(self, ranges: Iterable[Range]) -> List[List[C]]:
+        """All that it shows in each of at most 1,000 ranges, whatever was fetched, and whatever the limit.
+
+        NoSession, as also where the limit has closed it, TooLarge ("ranges"), BadRange.
+        """
+        return self._by_range(self._connection.ask(requests.many(self.number, ranges)))
+
+    def close(self) -> None:
+        """Gives it up; the server keeps nothing of it then."""
+        self._close()
+
+    def __iter__(self) -> Iterator[C]:
+        for cell in self._cells():
+            yield self._give([cell])[0]
+
+    def _cells(self) -> Iterator[Cell]:
         while not self.closed:
             yield from self._ahead
             if not self._more:
                 break
-            self._ahead = iter(self._next(self.batch))
+            self._next(self.batch)
         self.close()
 
-    def __enter__(self) -> Session:
+    def __enter__(self: S) -> S:
         return self
 
     def __exit__(self, kind: Optional[Type[BaseException]], error: Optional[BaseException], trace: Optional[TracebackType]) -> None:
@@ -86,3 +168,33 @@ class Session:
         # one that was refused its number of cells has no connection
         if hasattr(self, "_connection"):
             self.close()
+
+
+class OfBytes(Cells[Cell]):
+    """Cells are given as they are."""
+
+    def _told(self, cell: Cell) -> Cell:
+        return cell
+
+
+class OfText(Cells[TextCell]):
+    """Cells are given as text. In place of one that isn't UTF-8 comes NotText, and again where one goes on: no cell is passed over."""
+
+    def _told(self, cell: Cell) -> TextCell:
+        return text_of(cell)
+
+
+class Session(OfBytes, Asked[Cell]):
+    """A session shows the same for good, whatever is written or dropped meanwhile.
+
+    To iterate over its cells fetches `batch` of them at a time; another iteration, or a `fetch`, goes on behind the last cell that one
+    gave. It is closed behind the last one, at the end of its `with`, or once nothing refers to it; the server is told so with the next
+    request of its client.
+    """
+
+
+class TextSession(OfText, Asked[TextCell]):
+    """As a `Session`, but of text.
+
+    In place of a cell that isn't UTF-8 comes NotText, and again where one goes on: no cell is passed over.
+    """

@@ -3,9 +3,9 @@ from __future__ import annotations
 
 import dataclasses
 import importlib
-from typing import Any, Iterable
+from typing import Any, Iterable, Union
 
-from .data import Cell
+from .data import Cell, TextCell
 
 
 def library() -> Any:
@@ -16,8 +16,8 @@ def library() -> Any:
         raise ImportError('scan(.., to="pandas") wants pandas, which is not installed (pip install pandas)') from error
 
 
-def data_frame(cells: Iterable[Cell]) -> Any:
-    """A row for each cell, in their order, and a column for each of their parts; the parts are bytes, the timestamps int64."""
+def data_frame(cells: Iterable[Union[Cell, TextCell]]) -> Any:
+    """A row for each cell, in their order, and a column for each of their parts; the parts are bytes or str, the timestamps int64."""
     pandas, listed = library(), list(cells)
     columns = {part.name: [getattr(cell, part.name) for cell in listed] for part in dataclasses.fields(Cell)}
     return pandas.DataFrame(columns).astype({"timestamp": "int64"})

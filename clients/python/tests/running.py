@@ -36,13 +36,17 @@ class ServerCase(unittest.TestCase):
         for _ in range(5):
             self.port = free_port()
             words = [PROGRAM, "serve", "--port", str(self.port), "--workers", "8"]
-            self.server = subprocess.Popen(words, stdin=subprocess.DEVNULL, stdout=subprocess.PIPE, stderr=subprocess.DEVNULL)
-            self.addCleanup(self.end, self.server)
+            self.server = self.started(words)
             assert self.server.stdout
             if self.server.stdout.readline() == b"listening %d\n" % self.port:
                 return
             # another process took the port meanwhile
         self.fail(f"{PROGRAM} doesn't listen")
+
+    def started(self, words: "list[str]") -> "subprocess.Popen[bytes]":
+        server = subprocess.Popen(words, stdin=subprocess.DEVNULL, stdout=subprocess.PIPE, stderr=subprocess.DEVNULL)
+        self.addCleanup(self.end, server)
+        return server
 
     @staticmethod
     def end(server: "subprocess.Popen[bytes]") -> None:
@@ -69,3 +73,14 @@ class Case(ServerCase):
         with self.assertRaises(tabd.Refused) as caught:
             yield
         self.assertEqual((type(caught.exception), caught.exception.args), (kind, fields))
+
+    def is_open(self, number: int) -> bool:
+        """Whether root's connection has this session, asked of the server."""
+        session = tabd.Session(self.root._connection, number, 1)
+        try:
+            session.fetch(0)
+        except tabd.NoSession:
+            return False
+        finally:
+            session.closed = True  # it isn't closed by this one
+        return True

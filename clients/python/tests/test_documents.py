@@ -13,7 +13,7 @@ class Documents(ServerCase):
     def test_the_examples_of_the_readme(self) -> None:
         text = (CLIENT / "README.md").read_text(encoding="utf-8")
         examples = re.findall(r"^```python\n(.*?)^```\n\n```text\n(.*?)^```$", text, re.MULTILINE | re.DOTALL)
-        self.assertEqual((len(examples), text.count("```python")), (5, 5))
+        self.assertEqual((len(examples), text.count("```python")), (7, 7))
         for number, (example, said) in enumerate(examples, 1):
             printed = io.StringIO()
             with self.subTest(example=number), contextlib.redirect_stdout(printed):

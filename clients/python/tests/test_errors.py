@@ -58,7 +58,7 @@ class Errors(unittest.TestCase):
         for kind, above in (
             (tabd.NoTable, tabd.Refused), (tabd.Refused, tabd.TabdError), (tabd.ConnectionClosed, tabd.TabdError),
             (tabd.ProtocolError, tabd.TabdError), (tabd.TimedOut, tabd.ConnectionClosed), (tabd.TimedOut, TimeoutError),
-            (tabd.OutOfRange, ValueError), (tabd.OutOfRange, OverflowError),
+            (tabd.InUse, tabd.TabdError), (tabd.OutOfRange, ValueError), (tabd.OutOfRange, OverflowError),
         ):
             self.assertTrue(issubclass(kind, above), kind)
 

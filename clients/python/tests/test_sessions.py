@@ -9,17 +9,6 @@ class Sessions(Case):
         for row in "abcd":
             self.root.write("t", row, [Put("f", "q", value="v", timestamp=5)])
 
-    def is_open(self, number: int) -> bool:
-        """Whether the connection has it, asked of the server."""
-        session = tabd.Session(self.root._connection, number, 1)
-        try:
-            session.fetch(0)
-        except tabd.NoSession:
-            return False
-        finally:
-            session.closed = True  # it isn't closed by this one
-        return True
-
     def test_an_answer_stands(self) -> None:
         session = self.root.scan("t", batch=1)
         rows = iter(session)
