@@ -1,7 +1,7 @@
 #!/usr/bin/env python3
-"""A clinic keeps one store. Three kinds of people read it, and each sees what he may see and nothing of the rest.
+"""A clinic keeps one store. Three kinds of people read it, and each sees what they may see and nothing of the rest.
 
-A cell is a value under a row (here a patient), a family and a qualifier (which of his facts), with a label that says who may see it. A
+A cell is a value under a row (here a patient), a family and a qualifier (which of their facts), with a label that says who may see it. A
 label is made of words joined by & (all of them are needed) or | (one of them is enough); without a label everybody sees the cell. Readers
 hold such words, their "authorizations".
 
@@ -85,7 +85,7 @@ def main(port):
         # & and | are mixed through parentheses alone; the offset is how many bytes of it begin some label
         refused("a label that isn't one", lambda: root.write(TABLE, "cleo", [Put("health", "finding", "care&diagnosis|desk", "flu", 3)]))
         root.write(TABLE, "cleo", [Put("health", "finding", "(care&diagnosis)|desk", "flu", 3)])
-        # from now on nobody writes a label that he himself couldn't read
+        # from now on nobody writes a label that they couldn't read themselves
         root.set_constraints(TABLE, ["visibility"])
         root.grant("clinic-nurse", "WRITE", TABLE)
     with tabd.connect(port, "clinic-nurse") as nurse:

@@ -1,5 +1,5 @@
 #!/usr/bin/env bash
-# The examples print what stands beside them: examples/clinic.txt as a script, and examples/clinic.py over a server on a free port. And
+# The examples print what stands beside them: examples/*.txt as scripts, and examples/clinic.py over a server on a free port. And
 # docs/promise.svg is what docs/promise.py draws, and docs/growth.svg what docs/growth.py draws of bench/growth.txt.
 # Usage: tests/examples.sh   (from anywhere; wants python3; TABD names another program)
 set -u
@@ -20,8 +20,10 @@ compare() { # NAME WANTED PRINTED STATUS
     fi
 }
 
-"$program" script <"$top/examples/clinic.txt" >"$work/printed" 2>"$work/errors"
-compare examples/clinic.txt "$top/examples/clinic.out" "$work/printed" $?
+for script in "$top"/examples/*.txt; do
+    "$program" script <"$script" >"$work/printed" 2>"$work/errors"
+    compare "examples/$(basename "$script")" "${script%.txt}.out" "$work/printed" $?
+done
 
 TABD=$program python3 "$top/docs/promise.py" >"$work/printed" 2>"$work/errors"
 compare docs/promise.svg "$top/docs/promise.svg" "$work/printed" $?
