@@ -3,8 +3,8 @@
 many inserts, the scans behind them, and writes and scans in turn that are flushed and compacted on their way.
 
 Usage: bench/compactions.py [CELLS [ROUNDS]]   (from anywhere; builds the program if it isn't built)
-  CELLS   cells of the table, 10 or more; 1000000 where unsaid
-  ROUNDS  runs of each script, of which the median counts; 5 where unsaid
+  CELLS   cells of the table, 10 or more; 1000000 by default
+  ROUNDS  runs of each script, of which the median counts; 5 by default
   TABD    in the environment: another built program, measured in place of this folder's
 """
 import os

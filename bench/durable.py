@@ -11,7 +11,7 @@ cells, made beside sixteen who write.
 
 Usage: bench/durable.py [--seconds S] [--rounds N] [--cells N] [--folder FOLDER]   (from anywhere; builds the program if it isn't built; some
        four minutes; for a trial: --seconds 0.3 --rounds 1 --cells 20000)
-  --folder  where the files go, on the disk that is measured; TMPDIR where unsaid
+  --folder  where the files go, on the disk that is measured; TMPDIR by default
   TABD in the environment: another built program, measured in place of this folder's
 """
 import argparse

@@ -2,14 +2,14 @@
 # The store in one process, without lines or frames: how fast cells are written and scanned, and in how much memory, beside a plain
 # Rust program over std's BTreeMap (rustc -O), and beside RocksDB and LevelDB (g++ -O2) where their Debian packages are installed.
 # Usage: bench/engine.sh [CELLS [ROUNDS]]   (from anywhere; proves the libraries of this checkout if they aren't built)
-#   CELLS   cells of the table, a multiple of 1000; 1000000 where unsaid
-#   ROUNDS  runs of each program, of which the median counts; 5 where unsaid
+#   CELLS   cells of the table, a multiple of 1000; 1000000 by default
+#   ROUNDS  runs of each program, of which the median counts; 5 by default
 #   CLOCK   in the environment: processor, for the processor's time in place of that which elapsed
 #   ENGINE  in the environment: a file that keeps the built program; where it is there already, it is measured and nothing is proved
 #   BUILT   in the environment: a folder that keeps the programs beside it, for more runs of the same sources
-#   SHAPES  in the environment: those of tall, wide and long that are measured; tall and wide where unsaid
-#   MODES   in the environment: those of freeze and compact; both where unsaid
-#   PEERS   in the environment: those of rocksdb and leveldb beside which it is measured; both where unsaid
+#   SHAPES  in the environment: those of tall, wide and long that are measured; tall and wide by default
+#   MODES   in the environment: those of freeze and compact; both by default
+#   PEERS   in the environment: those of rocksdb and leveldb beside which it is measured; both by default
 #   FIGURES in the environment: a file to which a line is added for each program and shape that has ranges: the cells, the program, ns of a
 #           write (W and F), µs of a range of ten, bytes a cell at rest
 set -eu -o pipefail

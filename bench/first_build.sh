@@ -1,6 +1,6 @@
 #!/usr/bin/env bash
 # How long `./prove --anew` takes in a clean clone, and what it leaves on the disk. It wants a machine with nothing else at work.
-# Usage: bench/first_build.sh [FOLDER]   (from anywhere; FOLDER is where the clone goes, a new one in /tmp where unsaid)
+# Usage: bench/first_build.sh [FOLDER]   (from anywhere; FOLDER is where the clone goes, a new one in /tmp by default)
 set -u
 top=$(dirname -- "$(dirname -- "$(readlink -f -- "${BASH_SOURCE[0]}")")")
 clone=${1:-$(mktemp -d)}/clone

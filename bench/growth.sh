@@ -2,12 +2,12 @@
 # How the store grows: what a write and a range of ten take, and the bytes a cell, from 10,000 cells to 10,000,000, beside a plain Rust program
 # and RocksDB, where its Debian package is installed. It is bench/engine.sh (tall, freeze) at each size; docs/growth.py draws what it writes.
 # Usage: bench/growth.sh [SIZES [ROUNDS]]   (from anywhere; proves the libraries of this checkout if they aren't built)
-#   SIZES   numbers of cells, multiples of 1000; "10000 31000 100000 310000 1000000 3100000 10000000" where unsaid
-#   ROUNDS  runs of each program at each size, of which the median counts; 5 up to 310,000 cells, 3 below three million, and 1 from there on, where unsaid
+#   SIZES   numbers of cells, multiples of 1000; "10000 31000 100000 310000 1000000 3100000 10000000" by default
+#   ROUNDS  runs of each program at each size, of which the median counts; 5 up to 310,000 cells, 3 below three million, and 1 from there on, by default
 #   ENGINE  in the environment: a file that keeps the built program; where it is there already, nothing is proved
 #   CLOCK   in the environment: processor, for the processor's time in place of that which elapsed
 #   NOTE    in the environment: what else is said of the run, as that other work ran beside it
-# It writes bench/growth.txt. The sizes that are there where unsaid take five minutes and 6 GB of memory, and 2 GB of /dev/shm.
+# It writes bench/growth.txt. The sizes that are there by default take five minutes and 6 GB of memory, and 2 GB of /dev/shm.
 set -eu -o pipefail
 top=$(cd "$(dirname -- "${BASH_SOURCE[0]}")/.." && pwd)
 sizes=${1:-10000 31000 100000 310000 1000000 3100000 10000000}

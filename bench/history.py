@@ -2,7 +2,7 @@
 """What a server's history costs. Its memory over many refused events, with the history dropped and with it in a file; and how long another
 connection waits for an answer while the history is rotated, behind so many cells that were written since the last flush.
 
-Usage: bench/history.py [--events N] [--cells N ..]   (from anywhere; ten million events and none, 100,000 and 1,000,000 cells where unsaid:
+Usage: bench/history.py [--events N] [--cells N ..]   (from anywhere; ten million events and none, 100,000 and 1,000,000 cells by default:
   some two minutes)
   TABD in the environment: another built program
 """

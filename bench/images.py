@@ -2,8 +2,8 @@
 """What images cost: a save and a load beside a whole scan of the same cells, and the memory while they go on.
 
 Usage: bench/images.py [CELLS [ROUNDS]]   (from anywhere; builds the program if it isn't built)
-  CELLS   cells of the table; 1000000 where unsaid
-  ROUNDS  runs, of which the median counts; 3 where unsaid
+  CELLS   cells of the table; 1000000 by default
+  ROUNDS  runs, of which the median counts; 3 by default
   TABD    in the environment: another built program, measured in place of this folder's
 """
 import os

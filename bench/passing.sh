@@ -1,7 +1,7 @@
 #!/usr/bin/env bash
 # How long a scan takes that passes over most of what the table holds, and one that passes over nothing.
 # Usage: bench/passing.sh [ROUNDS]   (from anywhere; builds the program if it isn't built)
-#   ROUNDS  runs of each script, of which the least counts; 5 where unsaid
+#   ROUNDS  runs of each script, of which the least counts; 5 by default
 #   TABD    in the environment: another built program, measured in place of this folder's
 set -eu -o pipefail
 top=$(cd "$(dirname -- "${BASH_SOURCE[0]}")/.." && pwd)

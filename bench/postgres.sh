@@ -2,9 +2,9 @@
 # `tabd serve` over loopback, beside a PostgreSQL of its own in memory, whose row-level security shows a reader the cells that it may see
 # (postgres/schema.sql); with one client for both (server/client.rs). It is skipped where Debian's package isn't installed.
 # Usage: bench/postgres.sh [CELLS [ROUNDS [OPERATIONS]]]   (from anywhere; builds the program if it isn't built)
-#   CELLS       of each of two tables, a multiple of 100; 1000000 where unsaid
-#   ROUNDS      of which the median counts; 5 where unsaid
-#   OPERATIONS  ranges by one connection, and writes and ranges of 1, 4 and 16 at once; 100000 where unsaid
+#   CELLS       of each of two tables, a multiple of 100; 1000000 by default
+#   ROUNDS      of which the median counts; 5 by default
+#   OPERATIONS  ranges by one connection, and writes and ranges of 1, 4 and 16 at once; 100000 by default
 #   TABD        in the environment: another built program, measured in place of this folder's
 set -eu -o pipefail
 top=$(cd "$(dirname -- "${BASH_SOURCE[0]}")/.." && pwd)

@@ -80,7 +80,7 @@ class Connection:
         return length
 
     def again(self, text, length):
-        """The same, where the replies have so many bytes."""
+        """As above, where the replies have so many bytes."""
         self.stream.sendall(text)
         while length:
             got = len(self.file.read1(min(length, 1 << 20)))

@@ -2,8 +2,8 @@
 # Ranges of a session and merges, one after another and by several threads: medians in milliseconds, and what part of the time of one after
 # another the other way takes. On an idle machine, or beside something that keeps its processors busy.
 # Usage: bench/ranges.sh [CELLS [ROUNDS]]   (from anywhere; proves the libraries of this checkout if they aren't built)
-#   CELLS   cells of the table whose ranges are read; 1000000 where unsaid
-#   ROUNDS  rounds of each way, in turn; 21 where unsaid
+#   CELLS   cells of the table whose ranges are read; 1000000 by default
+#   ROUNDS  rounds of each way, in turn; 21 by default
 #   RANGES  in the environment: a file that keeps the built program; where it is there already, it is measured and nothing is proved
 set -eu -o pipefail
 top=$(cd "$(dirname -- "${BASH_SOURCE[0]}")/.." && pwd)

@@ -5,8 +5,8 @@ row, both in random order; then whole scans in batches, and of the second table 
 through pipes, part by part, and then over memory, from a file in /dev/shm to /dev/null, which leaves out what the pipes take.
 
 Usage: bench/serve.py [CELLS [ROUNDS]]   (from anywhere; builds the program if it isn't built)
-  CELLS   cells of each table, a multiple of 100; 1000000 where unsaid
-  ROUNDS  runs of each program, of which the median counts; 5 where unsaid
+  CELLS   cells of each table, a multiple of 100; 1000000 by default
+  ROUNDS  runs of each program, of which the median counts; 5 by default
   FRAMES  in the environment: another built program, measured in place of this folder's
 """
 import os

@@ -37,7 +37,7 @@ def arguments():
     parser.add_argument("--rounds", type=int, default=5)
     parser.add_argument("--connections", default="1,4,16", help="how many at once, part by part")
     parser.add_argument("--operations", type=int, default=100_000, help="of each of these parts, and ranges by one")
-    parser.add_argument("--compactors", type=int, help="of tabd's threads; the program's own number where unsaid")
+    parser.add_argument("--compactors", type=int, help="of tabd's threads; the program's own number by default")
     parser.add_argument("--figures", help="a file for the medians, from which server_picture.py draws")
     return parser.parse_args()
 

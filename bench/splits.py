@@ -2,9 +2,9 @@
 """What tablets cost: the inserts and scans of store.sh over one tablet and over many, and how long a split takes.
 
 Usage: bench/splits.py [CELLS [TABLETS [ROUNDS]]]   (from anywhere; builds the program if it isn't built)
-  CELLS    cells of the table; 1000000 where unsaid
-  TABLETS  tablets that it is split into before the first insert; 1000 where unsaid
-  ROUNDS   runs of each script, of which the median counts; 5 where unsaid. Whole scans are made by turns, 40 of each table
+  CELLS    cells of the table; 1000000 by default
+  TABLETS  tablets that it is split into before the first insert; 1000 by default
+  ROUNDS   runs of each script, of which the median counts; 5 by default. Whole scans are made by turns, 40 of each table
   TABD     in the environment: another built program, measured in place of this folder's
 """
 import os

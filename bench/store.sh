@@ -2,8 +2,8 @@
 # How fast cells are written and scanned, and in how much memory, beside a plain Rust program over std's BTreeMap
 # (rustc -O) that answers the same script.
 # Usage: bench/store.sh [CELLS | growth] [ROUNDS]   (from anywhere; builds the program if it isn't built)
-#   CELLS   cells of the table, 10 or more; 200000 where unsaid. growth: 50,000, 200,000 and 800,000 cells in turn
-#   ROUNDS  runs of each script, of which the median counts; 5 where unsaid
+#   CELLS   cells of the table, 10 or more; 200000 by default. growth: 50,000, 200,000 and 800,000 cells in turn
+#   ROUNDS  runs of each script, of which the median counts; 5 by default
 #   TABD    in the environment: another built program, measured in place of this folder's
 set -eu -o pipefail
 top=$(cd "$(dirname -- "${BASH_SOURCE[0]}")/.." && pwd)

@@ -3,8 +3,8 @@
 table gathers a run a turn. Microseconds of the processor are told for each tenth of the turns, so that one sees whether they rise.
 
 Usage: bench/turns.py [TURNS [ROUNDS]]   (from anywhere; builds the program if it isn't built)
-  TURNS   a write and a scan of one row each, a multiple of 10; 20000 where unsaid
-  ROUNDS  runs, of which the median counts; 3 where unsaid
+  TURNS   a write and a scan of one row each, a multiple of 10; 20000 by default
+  ROUNDS  runs, of which the median counts; 3 by default
   TABD    in the environment: another built program, measured in place of this folder's
 """
 import os
