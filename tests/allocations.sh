@@ -200,7 +200,7 @@ expect() { # SCRIPT
     done
 }
 
-# The same for a script that ends with a write by which records become many, a scan that freezes them and shows nothing, and one that shows
+# And for a script that ends with a write by which records become many, a scan that freezes them and shows nothing, and one that shows
 # all: the write is refused, and the others show the rest; or the first scan is refused and the second one shows all; or the second one
 # stands up to the batch that is refused.
 expect_scans() { # SCRIPT
@@ -264,7 +264,7 @@ try_from() { # SCRIPT FIRST STEP
     done
 }
 
-# The same on all processors, each with a share of the requests.
+# On all processors, each with a share of the requests.
 workers=$(nproc)
 try_all() { # SCRIPT
     local worker

@@ -1,7 +1,7 @@
 #!/usr/bin/env bash
 # Random scripts in which compactions of all kinds fall anywhere: no scan may be answered otherwise than without them, and what
 # is counted must agree with what was done.
-# Usage: tests/compactions.sh [SCRIPTS]   (from anywhere; TABD names another program; 150 scripts where unsaid)
+# Usage: tests/compactions.sh [SCRIPTS]   (from anywhere; TABD names another program; 150 scripts by default)
 set -u
 top=$(cd "$(dirname -- "${BASH_SOURCE[0]}")/.." && pwd)
 work=$(mktemp -d) || exit 1

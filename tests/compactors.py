@@ -53,7 +53,7 @@ def told_ok(stream, *frames):
 
 def status(server, table, holds):
     """What the table's status tells: once it holds of the counts of tablets, sources and records, or at last."""
-    end = time.monotonic() + 4 * PATIENCE
+    end = time.monotonic() + PATIENCE
     while True:
         words = server.shell(b"status %s\n" % table).stdout.split()
         if len(words) == 6 and holds(*map(int, words[1::2])) or time.monotonic() > end:

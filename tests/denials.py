@@ -143,7 +143,7 @@ class Frames:
 
 
 class Many:
-    """Asks for whoever `as` names, each over a connection of his own."""
+    """Asks for whoever `as` names, each over a connection of their own."""
 
     def __init__(self, frames):
         self.frames, self.control = frames, frames.server.control
@@ -264,6 +264,31 @@ def clocks(folder, preloaded):
     script.close()
 
 
+class Reconnecting:
+    """A connection, and another one once it has ended."""
+
+    def __init__(self, server):
+        self.server, self.link = server, server.connect()
+
+    def ask(self, *lines):
+        return self.link.ask(*lines)
+
+    def ask_denied(self, line, seconds):
+        """What the line is told, none where the connection ends, memory being refused for so long; and whether it was."""
+        self.link.send(line)
+        time.sleep(seconds)
+        failed = self.server.control.lift() > 0
+        try:
+            return self.link.reply(line.split(" ", 1)[0]), failed
+        except (Silent, ConnectionError):
+            self.link.close()
+            self.link = self.server.connect()
+            return None, failed
+
+    def close(self):
+        self.link.close()
+
+
 # ---- Rotations, of a server that keeps its history in a file.
 def rotations(folder, preloaded):
     """Each request for memory of a rotation is refused in turn, from the client's frame to the file. What is asked afterwards is as before;
@@ -271,7 +296,7 @@ def rotations(folder, preloaded):
     log = Path(folder, "log")
     server = Server(PROGRAM, folder, preloaded, "--history", str(log), workers=2)
     os.set_blocking(server.process.stderr.fileno(), False)
-    client = server.connect()
+    client = Reconnecting(server)
     client.ask(*SORTED, "createuser u", "setauths u A,B", "grant u READ t")
     user = server.connect("u")
     rotate = b"rotate\n# ok\n"
@@ -298,16 +323,15 @@ def rotations(folder, preloaded):
         before, since = asked(), log.stat().st_size
         client.ask("droptable first%d%d" % (stays, at))
         server.control.deny(at, stays)
-        answer = client.ask("rotate")[0]
-        time.sleep(0.03 if stays else 0.015)
-        failed = server.control.lift() > 0
+        answer, failed = client.ask_denied("rotate", 0.03 if stays else 0.015)
         after = asked()
         client.ask("droptable second%d%d" % (stays, at))
         again = client.ask("rotate")[0]
         text, said = handed_on(since, b"second%d%d" % (stays, at)), server.process.stderr.read() or b""
         lost = said.count(b"fault: %s: no memory\n" % bytes(log))
         marks = [text.count(b"droptable %s%d%d\n# refused 2 NoTable" % (word, stays, at)) for word in (b"first", b"second")]
-        good = answer in (b"ok\n", NO_MEMORY) and (failed or answer == b"ok\n" and not lost) and again == b"ok\n" and before == after
+        # whose part couldn't be written isn't answered
+        good = answer in (None if lost else b"ok\n", b"ok\n", NO_MEMORY) and (failed or answer == b"ok\n" and not lost) and again == b"ok\n" and before == after
         good = good and said.count(b"\n") == lost and (marks == [1, 1] or lost and marks == [0, 1])
         return failed, answer == NO_MEMORY, lost, [] if good else [(at, stays, failed, answer, again, said, marks, before == after)]
 
@@ -327,9 +351,55 @@ def rotations(folder, preloaded):
     server.close()
 
 
+def kept(folder, preloaded):
+    """A server that keeps what it did in a folder, under writes and rotations: the server never ends, each request is answered, late where
+    memory was refused for long, and what was answered is found after a kill."""
+    store = str(Path(folder, "kept-store"))
+    server = Server(PROGRAM, folder, preloaded, "--store", store, workers=2)
+    client = Reconnecting(server)
+    client.ask("createtable t")
+    wrong, done, cut, refused = [], [], 0, 0
+    try:
+        for stays, asks in itertools.product((0, 1), ("insert t r%d-%d f q \\e v", "rotate")):
+            at, spared = 0, 0
+            while spared < 3 and not wrong:
+                at += 1
+                row = "b%d-%d-%s" % (stays, at, asks[:1])
+                before = client.ask(f"insert t {row} f q \\e v")[0]
+                line = asks % (stays, at) if "%d" in asks else asks
+                server.control.deny(at, stays)
+                answer, failed = client.ask_denied(line, 0.05)
+                time.sleep(0.02)
+                spared, refused, cut = 0 if failed else spared + 1, refused + (answer == NO_MEMORY), cut + (answer is None)
+                done += [row] + line.split()[2:3] * (answer == b"ok\n")
+                if before != b"ok\n" or server.process.poll() is not None:
+                    wrong.append((stays, at, line, answer, server.process.poll(), server.process.stderr.read()))
+    except (Silent, OSError) as why:
+        wrong.append((stays, at, line, why, server.process.poll(), server.process.stderr.read()))
+    server.close()
+    script = Script(PROGRAM, folder, preloaded, "--store", store)
+    found = [line.split()[0].decode() for line in script.ask("scan t \\0")[0].splitlines()[:-1]]
+    script.close()
+    counted.tell("a server that keeps what it did goes on", not wrong and refused > 4, wrong[:1] or refused)
+    counted.tell("each request is answered", cut == 0, cut)
+    counted.tell("and what was answered is kept", set(done) <= set(found) and len(done) > 20, sorted(set(done) - set(found)))
+
+
 # ---- Many at once.
 ROWS, UPDATES = 160, 40
 PUTS = " ; ".join("put f q%02d \\e v 5" % at for at in range(UPDATES))
+
+
+def connected(server):
+    """A connection whose Hello was taken, though memory is refused now and then."""
+    while True:
+        client = Connection(server)
+        try:
+            if client.greet() == b"ok\n":
+                return client
+        except (Silent, ConnectionError):
+            pass
+        client.close()
 
 
 class Writing(threading.Thread):
@@ -337,7 +407,7 @@ class Writing(threading.Thread):
 
     def __init__(self, server, number):
         super().__init__()
-        self.client, self.number, self.done, self.refused, self.wrong = server.connect(), number, [], 0, []
+        self.server, self.client, self.number, self.done, self.refused, self.cut, self.wrong = server, server.connect(), number, [], 0, 0, []
 
     def run(self):
         try:
@@ -348,9 +418,18 @@ class Writing(threading.Thread):
                     self.scans()
                 if at % 50 == self.number:
                     self.told(self.client.ask("flush t")[0])
-                    self.told(self.client.ask("rotate")[0])
+                    self.rotates()
         except Silent as why:
             self.wrong.append(why)
+
+    def rotates(self):
+        """It isn't answered where some of the history couldn't be written."""
+        try:
+            self.told(self.client.ask("rotate")[0])
+        except (Silent, ConnectionError):
+            self.cut += 1
+            self.client.close()
+            self.client = connected(self.server)
 
     def told(self, answer, row=None):
         self.refused += answer == NO_MEMORY
@@ -390,7 +469,7 @@ def many_at_once(folder, preloaded):
     cells = client.ask(f"next {opened} {4 * ROWS * UPDATES}")[0].split(b"\n")[:-2]
     held = [b"%s f q%02d \\e 5 v" % (row, at) for row in done for at in range(UPDATES)]
     counted.tell("many at once: what was done stands whole, and nothing else", cells == held and not wrong and refused > 20 and failed > 30, wrong[:1] or (refused, failed, len(cells), len(held)))
-    client.ask("rotate", "createuser the-end", "rotate")
+    client.ask("createuser the-end", "rotate")
     ends = time.monotonic() + 30
     while b"\ncreateuser the-end\n# ok\n" not in log.read_bytes()[-1000:] and time.monotonic() < ends:
         time.sleep(0.01)
@@ -399,6 +478,7 @@ def many_at_once(folder, preloaded):
     server.process.kill()
     lost = server.process.communicate()[1]
     good = sorted(rows) == done or lost and len(set(rows)) == len(rows) and set(rows) <= set(done)
+    good = good and (lost or not any(writer.cut for writer in writers))
     counted.tell("many at once: and is in the history once", good and (lost or text.count(b"# begin t") > 0), (len(rows), len(done), lost))
     print(f"many at once: {len(done)} rows, {refused} requests refused for memory, {failed} times")
 
@@ -478,12 +558,14 @@ def starts(folder, preloaded):
                 port = probe.getsockname()[1]
             process = start(PROGRAM, ["serve", "--port", str(port), "--workers", "1", "--compactors", "0", *words], folder, preloaded, control)
             line = process.stdout.readline()
+            time.sleep(0.02)  # its threads begin after that line
             failed = control.lift() > 0
-            if line:
+            serves = bool(line) and process.poll() is None
+            if serves:
                 process.kill()
             said = process.communicate(timeout=PATIENCE)[1]
-            told += not line
-            if not (line.startswith(b"listening ") or failed and process.returncode == 1 and re.fullmatch(rb"fault: [^\n]*memory[^\n]*\n", said)):
+            told += not serves
+            if not (serves and said == b"" or failed and process.returncode == 1 and re.fullmatch(rb"fault: [^\n]*(memory|thread)[^\n]*\n", said)):
                 wrong.append((at, line, process.returncode, said))
         counted.tell(f"a server begins without memory, {words}", not wrong and told > 2, wrong[:1] or told)
 
@@ -560,6 +642,7 @@ def main():
         if not ANEW:
             clocks(work, made)
             rotations(work, made)
+            kept(work, made)
             many_at_once(work, made)
             long_ones(work, made)
             beginnings(work, made)

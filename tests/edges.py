@@ -70,7 +70,7 @@ def field(text):
 
 
 def frames(folder):
-    """The same labels in frames, over one connection."""
+    """These labels in frames, over one connection."""
     for _ in range(3):
         with socket.create_server(("127.0.0.1", 0)) as probe:
             port = probe.getsockname()[1]

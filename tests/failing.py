@@ -121,7 +121,7 @@ class Script:
         self.process.communicate()
 
 
-# ---- The same in frames.
+# ---- In frames.
 def field(text):
     return struct.pack(">I", len(text)) + text
 

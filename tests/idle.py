@@ -43,7 +43,7 @@ def idle_peers_end():
                 honest.sendall(HELLO)
                 count(f"{name}: others are served", read_frame(honest) == OK)
                 waited = time.monotonic() - began
-            count(f"{name}: once its time is over", 1.5 < waited < 10, waited)
+            count(f"{name}: once its time is over", waited > 1.5, waited)
             took = [closed_after(peer, began) for peer in peers]
             count(f"{name}: it is closed", None not in took, took)
             for peer in peers:
@@ -56,7 +56,7 @@ def idle_peers_end():
         with server.connect() as honest:
             honest.sendall(HELLO)
             count("never reads: others are served", read_frame(honest) == OK)
-            count("never reads: once its time is over", 1.5 < time.monotonic() - began < 14, time.monotonic() - began)
+            count("never reads: once its time is over", time.monotonic() - began > 1.5, time.monotonic() - began)
         for peer in peers:
             peer.close()
         ran = server.shell(b"scan t \\0 [cut [cut\nscan t \\0 [whole [whole\n")
@@ -65,17 +65,18 @@ def idle_peers_end():
 
 
 def those_who_speak_stay():
-    with Server("--idle", "1", "--workers", "1") as server, server.connect() as stream:
+    # (as far below the limit as a loaded machine may stand still)
+    with Server("--idle", "3", "--workers", "1") as server, server.connect() as stream:
         stream.sendall(HELLO + MAKE)
         good = read_exactly(stream, 10) == 2 * OK
-        for _ in range(5):
-            time.sleep(0.6)
+        for _ in range(4):
+            time.sleep(0.9)
             stream.sendall(STATUS)
             good = good and read_frame(stream)[4:5] == b"\x87"
         count("a request now and then", good)
         for byte in STATUS:
             stream.sendall(bytes([byte]))
-            time.sleep(0.3)
+            time.sleep(0.4)
         count("a byte now and then", read_frame(stream)[4:5] == b"\x87")
 
 
@@ -85,7 +86,7 @@ def without_a_limit():
             stream.sendall(HELLO[:5])
             time.sleep(2.5)
             stream.sendall(HELLO[5:])
-            count(f"{words or 'unsaid'}: it waits", read_frame(stream) == OK)
+            count(f"{words or 'default'}: it waits", read_frame(stream) == OK)
     count("no number of seconds", run("serve", "--port", "1", "--idle", "soon").returncode == 2)
 
 

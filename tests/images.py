@@ -60,6 +60,6 @@ def read(data):
 
 
 def unnumbered(image):
-    """The same without the numbers of mutations and the places in them, and without the version."""
+    """The image without the numbers of mutations and the places in them, and without the version."""
     tables = [{**t, "records": [(r["key"], r["kind"], r["value"]) for r in t["records"]]} for t in image["tables"]]
     return {"clock": image["clock"], "users": image["users"], "tables": tables}

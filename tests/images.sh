@@ -27,7 +27,7 @@ answers() { # NAME LINES REPLIES [WORD ..]
     count "$name" $?
 }
 
-# The same, but that standard error has this line.
+# Sees a run as above whose standard error has this line.
 tells() { # NAME LINES REPLIES LINE [WORD ..]
     local name=$1 lines=$2 replies=$3 line=$4
     shift 4

@@ -2,7 +2,7 @@
 merge, install) fall in any order, beside a model that is written down here from the definitions alone: every line that is printed is foreseen,
 those of `status`, `splits`, `begin` and `install` among them. The model keeps lists and filters them, and merges nothing but what a
 compaction is said to keep.
-Usage: interleavings.py PROGRAM [STEPS]   (one script of so many lines, and many short ones; 10,000 where unsaid)"""
+Usage: interleavings.py PROGRAM [STEPS]   (one script of so many lines, and many short ones; 10,000 by default)"""
 import bisect
 import itertools
 import os

@@ -1,11 +1,13 @@
 /* Preloaded into the program: the call of the number KILL_AT that changes a file or a folder ends the process, as kill -9 does: before it is
    made (HOW=before), in the middle of it (half), where half of the bytes are written, or behind it (behind); or it fails (fails); or a write
-   takes half of the bytes, and says so (short). A file KILLED is made where there was a call of that number. */
+   takes half of the bytes, and says so (short). A file KILLED is made where there was a call of that number. With HOW=unable no folder can be
+   synced, and KILLED has the paths of those that were to be. */
 #define _GNU_SOURCE
 #include <dlfcn.h>
 #include <errno.h>
 #include <fcntl.h>
 #include <signal.h>
+#include <stdio.h>
 #include <stdarg.h>
 #include <stdlib.h>
 #include <string.h>
@@ -50,7 +52,31 @@ ssize_t write(int file, const void *bytes, size_t count) {
     behind(met);
     return done;
 }
-int fsync(int file) { int met = meets(); FAILS(met) int done = REAL(fsync)(file); behind(met); return done; }
+/* Whether no folder can be synced, and this is one, which is noted. */
+static int is_unable(int file) {
+    struct stat is;
+    char link[64], path[4096];
+    const char *unable = getenv("HOW");
+    if (!unable || strcmp(unable, "unable") != 0 || fstat(file, &is) != 0 || !S_ISDIR(is.st_mode)) return 0;
+    snprintf(link, sizeof link, "/proc/self/fd/%d", file);
+    ssize_t length = readlink(link, path, sizeof path - 1);
+    int made = REAL(open)(getenv("KILLED"), O_WRONLY | O_CREAT | O_APPEND, 0600);
+    if (length >= 0 && made >= 0) {
+        path[length++] = '\n';
+        if (REAL(write)(made, path, length) != length) abort();
+    }
+    if (made >= 0) close(made);
+    errno = EINVAL;
+    return 1;
+}
+int fsync(int file) {
+    if (is_unable(file)) return -1;
+    int met = meets();
+    FAILS(met)
+    int done = REAL(fsync)(file);
+    behind(met);
+    return done;
+}
 int fdatasync(int file) { int met = meets(); FAILS(met) int done = REAL(fdatasync)(file); behind(met); return done; }
 int ftruncate(int file, off_t length) { int met = meets(); FAILS(met) int done = REAL(ftruncate)(file, length); behind(met); return done; }
 int rename(const char *from, const char *to) { int met = meets(); FAILS(met) int done = REAL(rename)(from, to); behind(met); return done; }

@@ -1,7 +1,7 @@
 #!/usr/bin/env bash
 # Which program the launcher `tabd` takes, when it builds, what it says and what it leaves alone. It runs over a small checkout with a
 # stand-in for build.sh and for `rt`, so that nothing is proved here.
-# Usage: tests/launcher.sh   (from anywhere)
+# Usage: tests/launcher.sh   (from anywhere; TABD names the program whose lines are typed)
 set -u
 top=$(cd "$(dirname -- "${BASH_SOURCE[0]}")/.." && pwd)
 work=$(mktemp -d) || exit 1
@@ -32,7 +32,7 @@ cat >"$here/build.sh" <<STAND_IN
 echo build >>"\$CALLS"
 echo 'not proved' >"\$1"
 [ "\${STAND_IN:-}" != fails ] || exit 1
-[ "\${STAND_IN:-}" != slow ] || sleep 2
+[ "\${STAND_IN:-}" != slow ] || until [ -e "$work/go" ]; do sleep 0.05; done
 cd "$here/crates/tabd/out" && cat >tabd <"$work/built" && chmod +x tabd
 [ "\${STAND_IN:-}" != edits ] || echo '// saved meanwhile' >>"\$SOURCE"
 STAND_IN
@@ -128,7 +128,8 @@ count 'what failed is built at the next start' $?
 edit
 : >"$CALLS"
 (cd "$caller" && STAND_IN=slow PATH=$bin:$PATH "$here/tabd" first >"$work/first" 2>&1 </dev/null) &
-for _ in $(seq 100); do [ ! -s "$CALLS" ] || break; sleep 0.05; done
+for _ in $(seq 400); do [ ! -s "$CALLS" ] || break; sleep 0.05; done
+(for _ in $(seq 400); do ! grep -q waiting "$work/err" || break; sleep 0.05; done; : >"$work/go") 2>/dev/null &
 start one 'two words'
 wait
 [ "$status" -eq 7 ] && [ "$builds" -eq 0 ] && [ "$(cat "$work/err")" = 'tabd: waiting for another build of this checkout' ] && grep -q 'with first$' "$work/first"
@@ -174,26 +175,106 @@ for words in --help --version nonsense serve; do
     count "\`$words\` is answered by a release of other sources" $?
 done
 
-# ---- At a terminal lines are asked for, with rlwrap where there is one, and Ctrl-C doesn't reach the program.
-if command -v python3 >/dev/null; then
+# ---- What the release's program needs of the machine is told of one that lacks it.
+lacking=$work/lacking
+mkdir "$lacking"
+say() { # COMMAND TEXT   has the command say this
+    printf '#!/bin/sh\n[ -n "%s" ] || exit 1\necho "%s"\n' "$2" "$2" >"$lacking/$1"
+    chmod +x "$lacking/$1"
+}
+on_machine() { # WITH   `rt` in front of the path, or no kit
+    rm -rf "$HOME" "$here/crates/tabd/out"
+    : >"$CALLS"
+    (cd "$caller" && PATH=$lacking:$1:/usr/bin:/bin "$here/tabd" one 'two words') >"$work/out" 2>"$work/err" </dev/null
+    status=$?
+    builds=$(grep -c build "$CALLS")
+}
+needs() { # TEXT   whether that is told where it lacks, and a program is built where there is the kit
+    on_machine /nowhere
+    [ "$status" -eq 1 ] && [ "$(cat "$work/err")" = "fault: the release's program needs $1; with the Rattle kit \`./tabd\` builds one for it" ] || return 1
+    on_machine "$bin"
+    ran built && [ "$builds" -eq 1 ]
+}
+release "$("$here/release/sources")"
+glibc='glibc 2.34 or later (Debian 12, Ubuntu 22.04, RHEL 9), and this machine has'
+say getconf 'glibc 2.31' && needs "$glibc glibc 2.31"
+count 'an older glibc' $?
+say getconf '' && say ldd 'ldd (GNU libc) 2.28' && needs "$glibc ldd (GNU libc) 2.28"
+count 'an older glibc, without getconf' $?
+say ldd 'musl libc (x86_64)' && needs "$glibc musl libc (x86_64)"
+count 'another libc' $?
+for libc in 'glibc 2.34' 'glibc 2.100.1' 'glibc 3.0' 'something else'; do
+    say getconf "$libc"
+    on_machine /nowhere
+    ran released
+    count "the release is taken on $libc" $?
+done
+rm "$lacking"/*
+printf '#!/bin/sh\ncase "$*" in *cpuinfo*) echo "flags : fpu cx16 lahf_lm popcnt pni ssse3" ;; *) exec %s "$@" ;; esac\n' "$(command -v grep)" >"$lacking/grep"
+chmod +x "$lacking/grep" && needs "a processor of x86-64-v2, and this machine's lacks: sse4_1 sse4_2"
+count 'an older processor' $?
+rm -rf "$lacking" "$here/crates/tabd/out"
+
+# ---- At a terminal lines are asked for, with rlwrap where there is one, and Ctrl-C drops the line that is typed.
+skipped=0
+skip() { # WHAT WHY
+    skipped=$((skipped + 1))
+    echo "skipped: $1 ($2)"
+}
+if ! command -v python3 >/dev/null; then
+    skip 'lines that are typed' 'there is no python3'
+else
     printf '#!/bin/sh\necho "built with $*"\ngrep SigIgn /proc/self/status\n' >"$work/built"
     edit
-    printf '#!/bin/sh\necho "edited: $1 $2"\nshift 2\nexec "$@"\n' >"$bin/wrap"
-    chmod +x "$bin/wrap"
-    typed() { # what a terminal shows of `tabd script`
-        (cd "$caller" && PATH=$bin:$PATH python3 -c 'import pty, sys; pty.spawn(sys.argv[1:])' "$here/tabd" script </dev/null) >"$work/out" 2>"$work/err"
-        ignored=$(tr -d '\r' <"$work/out" | sed -n 's/^SigIgn:[[:space:]]*//p')
+    wrap=$work/wrap && mkdir "$wrap" && printf '#!/bin/sh\necho "edited: $1 $2"\nshift 2\nexec "$@"\n' >"$wrap/rlwrap"
+    # all commands but rlwrap
+    bare=$work/bare && mkdir "$bare" && ln -s /usr/local/bin/* /usr/bin/* /bin/* "$bare" 2>/dev/null
+    rm -f "$bare/rlwrap" "$bare/*" && chmod +x "$wrap/rlwrap"
+    # What a terminal shows of the launcher, to $work/out.
+    shows() { # PATH COLUMNS [SHOWN TYPED].. -- WORD ..
+        local path=$1 at=()
+        shift
+        while [ "$1" != -- ]; do at+=("$1") && shift; done
+        shift
+        (cd "$caller" && PATH=$path python3 -B "$top/tests/terminal.py" "${at[@]}" -- "$here/tabd" "$@") >"$work/out" 2>"$work/err" </dev/null
+    }
+    ignores() { # whether the program has prompts, and no signal of Ctrl-C
+        ignored=$(sed -n 's/^SigIgn:[[:space:]]*//p' "$work/out")
         grep -q '^built with script --prompt' "$work/out" && [ $((0x${ignored:-0} & 2)) -ne 0 ]
     }
-    typed
+    shows "$bin:$bare" 80 -- script && ignores
     count 'at a terminal there are prompts, and Ctrl-C is ignored' $?
-    mv "$bin/wrap" "$bin/rlwrap"
-    typed && grep -q '^edited: -C tabd' "$work/out"
+    shows "$wrap:$bin:$bare" 80 -- script && ignores && grep -q '^edited: -C tabd' "$work/out"
     count 'rlwrap stands between them' $?
-    (cd "$caller" && PATH=$bin:$PATH python3 -c 'import pty, sys; pty.spawn(sys.argv[1:])' "$here/tabd" inspect -- -odd </dev/null) >"$work/out" 2>"$work/err"
+    shows "$wrap:$bin:$bare" 0 -- script && ignores && ! grep -q '^edited:' "$work/out"
+    count "but at a terminal without a width, which it doesn't take" $?
+    shows "$bin:$bare" 80 -- inspect -- -odd
     grep -q '^built with inspect --progress -- -odd' "$work/out"
     count 'behind -- stands what stood there' $?
-    rm -rf "$bin/rlwrap" "$here/crates/tabd/out"
+    # with the program itself
+    cat "${TABD:-$("$top/release/program")}" >"$work/built" && edit
+    typed=('root>' 'createtable t\n' 'ok\nroot>' 'insert t r' 'insert t r' '\x03' '\nroot>' 'scan t \\0\n' 'end\nroot>' 'quit\n')
+    for columns in 80 0; do
+        shows "$bin:$bare" "$columns" "${typed[@]}" -- script && grep -qxF 'root> insert t r^C' "$work/out"
+        count "Ctrl-C drops the line, and a prompt comes (width $columns)" $?
+    done
+    printf 'before=$(stty -g)\n"$@"\necho "status $?"\n[ "$before" = "$(stty -g)" ] && echo same\n' >"$work/around"
+    (cd "$caller" && PATH=$bin:$bare python3 -B "$top/tests/terminal.py" 80 'root>' 'bogus\n' 'root>' 'quit\n' -- bash "$work/around" "$here/tabd" script --strict) >"$work/out" 2>&1 </dev/null
+    [ "$(tail -n 2 "$work/out")" = $'status 3\nsame' ]
+    count 'the terminal is put back at the end, and the status passed through' $?
+    if ! command -v rlwrap >/dev/null; then
+        skip 'a line that is dropped under rlwrap' 'there is no rlwrap'
+    else
+        # in the midst of the line, too; and what the keys of whoever types mean stays
+        printf '"\\C-t": "status t"\n' >"$work/keys"
+        export INPUTRC=$work/keys
+        export TMPDIR=$work/temporary && mkdir "$TMPDIR"
+        typed[3]='\x14\x02\x02' typed[4]='status t'
+        shows "$bin:$PATH" 80 "${typed[@]}" -- script && [ -z "$(ls -A "$TMPDIR")" ]
+        count 'under rlwrap Ctrl-C drops the whole line' $?
+        unset INPUTRC TMPDIR
+    fi
+    rm -rf "$here/crates/tabd/out"
 fi
 
 # ---- What can't be built.
@@ -206,5 +287,5 @@ start one
 [ "$status" -eq 1 ] && [ "$(wc -l <"$work/err")" -eq 1 ] && grep -q "^fault: the program isn't built, and .* can't be written: run this in" "$work/err"
 count "a checkout that can't be written is one line that says what to do" $?
 
-echo "$passed passed, $failed failed"
+if [ "$skipped" -gt 0 ]; then echo "$passed passed, $failed failed, $skipped skipped"; else echo "$passed passed, $failed failed"; fi
 [ "$failed" -eq 0 ]

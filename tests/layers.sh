@@ -1,8 +1,8 @@
 #!/usr/bin/env bash
 # Sees that crates.txt lists for each crate what its files name, and nothing else; that each file says in its first line
-# what it is, those of specs/ whether they are to be believed or only serve proofs; that docs/DEFINITIONS.md says how much the promise asks to
-# believe; that the table of files in each crate's root names each of its modules; and that each wrong body can be applied. A module `tests`
-# aside.
+# what it is, those of specs/ whether they are to be believed or only serve proofs, and that what is to be believed leads to nothing that only
+# serves proofs; that docs/DEFINITIONS.md says how much the promise and each other aim ask to believe (layers.py); that the table of files in
+# each crate's root names each of its modules; and that each wrong body can be applied. A module `tests` aside.
 # Usage: tests/layers.sh   (from anywhere; builds nothing)
 set -u
 top=$(cd "$(dirname -- "${BASH_SOURCE[0]}")/.." && pwd)
@@ -25,9 +25,6 @@ named_by() { # CRATE
         grep -oE '\b(Rattle\.)?[a-z][a-z0-9_]*(::|\.(specs|proofs)\.)' |
         sed -E 's/^Rattle\.//; s/(::|\.(specs|proofs)\.)$//' | sort -u
 }
-
-# What the first line of a file of specs/ says: whether whoever relies on the promise has to believe it, or whoever relies on what it is about.
-said='To be believed\.|To be believed by whoever relies on it\.|For proofs\.'
 
 while IFS=: read -r crate listed; do
     [ -n "$crate" ] || continue
@@ -54,6 +51,9 @@ believed=$(grep -lE '^-- To be believed\. ' crates/*/specs/*.antt)
 lines=$(cat $believed | grep -vcE '^[[:space:]]*(--([[:space:]]|$)|$)|^(pub |unfoldable )*use ')
 grep -qF "$(printf '%s' "$believed" | grep -c .) files of \`specs/\` with $(printf '%s' "$lines" | sed -E 's/([0-9])([0-9]{3})$/\1,\2/') lines" docs/DEFINITIONS.md ||
     fail "docs/DEFINITIONS.md: it doesn't say that $(printf '%s\n' $believed | grep -c .) files with $lines lines are to be believed"
+
+# Which files are to be believed, and what each aim asks to believe.
+believing=$(command -v python3 >/dev/null || exit 0; python3 tests/layers.py) || fail "$believing"
 
 # A wrong body whose text is gone would be found only once its crate is proved.
 strays=$(command -v python3 >/dev/null || exit 0; python3 tests/mutants.py --fit) || fail "$strays"

@@ -1,19 +1,21 @@
 """What tests/metrics.sh tests. Its last line counts what passed and failed."""
 
+import fcntl
 import os
 import re
 import socket
 import stat
 import struct
+import termios
 import time
 
-from serving import HELLO, MAKE, OK, Server, count, field, frame, read_frame, run, run_parts
+from serving import HELLO, MAKE, OK, PATIENCE, Server, count, field, frame, read_frame, run, run_parts
 
 NAMES = """UnknownUser NoTable PermissionDenied BadAuthorizations MalformedVisibility ConstraintViolation TimestampNotAllowed EmptyMutation
 TooLarge TableExists UserExists NoUser BadRange NoSession BadFrame NoMemory RootFixed GrantInvalid BadSplit VersionsRaised HorizonLowered
 BelowHorizon ServerTime""".split()
 
-PLAIN = """connections connections_total frames_total cells_written_total cells_read_total events_total compactions_total history_entries tables
+PLAIN = """connections connections_waiting connections_total frames_total cells_written_total cells_read_total events_total compactions_total history_entries tables
 tablets sources records workers uptime_seconds resident_memory_bytes""".split()
 
 OF_STORES = "journal_bytes journal_syncs_total journal_sync_seconds_total images_total".split()
@@ -64,7 +66,8 @@ class Figures:
 
 def until(path, good):
     """The figures once they are so: they come every ten seconds."""
-    for _ in range(150):
+    ends, figures = time.monotonic() + PATIENCE, None
+    while time.monotonic() < ends:
         if os.path.exists(path):
             figures = Figures(path)
             if good(figures):
@@ -250,15 +253,26 @@ def drained(stream):
     stream.close()
 
 
-def unread(server, wait=lambda server: time.sleep(1)):
-    """Asks for more than the sockets hold, reads none of it, waits so, and is gone."""
+def stuck(stream):
+    """Waits until nothing more comes, though nothing is read: the sockets are full."""
+    held, before, ends = 0, -1, time.monotonic() + PATIENCE
+    while (held == 0 or held != before) and time.monotonic() < ends:
+        time.sleep(0.3)
+        before, held = held, struct.unpack("i", fcntl.ioctl(stream, termios.FIONREAD, bytes(4)))[0]
+
+
+def unread(server, wait=None):
+    """Asks for more than the sockets hold, reads none of it, waits until they are full, or so, and is gone."""
     stream = server.connect()
     stream.sendall(HELLO + MAKE + frame(write(b"t", b"r", update(value=1000000 * b"v"))) + frame(opening(b"t")))
     for _ in range(4):
         read_frame(stream)
     for _ in range(64):
         stream.sendall(frame(b"\x0d" + u32(0) + u32(1) + b"\0\0"))
-    wait(server)
+    if wait:
+        wait(server)
+    else:
+        stuck(stream)
     reset(stream)
 
 
@@ -268,7 +282,7 @@ def slow(server):
     stream.sendall(HELLO)
     read_frame(stream)
     for byte in MAKE[:4]:
-        time.sleep(0.4)
+        time.sleep(0.9)
         stream.sendall(bytes([byte]))
     time.sleep(0.2)
     reset(stream)
@@ -297,8 +311,8 @@ def endings():
     count("an idle peer", (line.get("ended"), line.get("frames")) == ("idle", "1") and float(line["seconds"]) >= 0.9, line)
     line = log_of(lambda server: unread(server, Server.ends), "--idle", "1")
     count("a peer that takes nothing", line.get("ended") == "idle" and line.get("user") == "root", line)
-    line = log_of(slow, "--idle", "1")
-    count("a fault behind a slow frame", (line.get("ended"), line.get("frames")) == ("read", "1") and float(line["seconds"]) >= 1.5, line)
+    line = log_of(slow, "--idle", "3")
+    count("a fault behind a slow frame", (line.get("ended"), line.get("frames")) == ("read", "1") and float(line["seconds"]) >= 3.2, line)
 
 
 def off_by_default():
@@ -378,8 +392,10 @@ def compactions():
         client.stream.sendall(b"".join(frame(write(b"t", b"row%05d" % number, update())) for number in range(rows)))
         told = {read_frame(client.stream) for _ in range(rows)}
         count("all are written", told == {OK})
-        figures = until("merged.prom", lambda figures: figures["compactions_total"] > 0)
+        count("a rotation is asked for", client.ask(b"\x17") == OK)
+        figures = until("merged.prom", lambda figures: figures["compactions_total"] > 0 and figures["history_entries"] < rows)
         count("compactions are counted", figures["compactions_total"] > 0 and figures["sources"] > 0, figures.text)
+        count("and the history is handed on where that is asked for", figures["history_entries"] < rows, figures.text)
         count("and their events", figures["events_total"] > rows, figures.text)
         count("and what is held", (figures["records"], figures["tablets"], figures["cells_written_total"]) == (rows, 1, rows), figures.text)
         client.close()
@@ -406,10 +422,6 @@ def stores():
         count("they took some time", 0 < middle["journal_sync_seconds_total"] < 60, middle.text)
         for number in range(100):
             client.ask(write(b"t", b"more%03d" % number, update()))
-        for _ in range(150):
-            if os.path.exists("stored/journal.1") and not os.path.exists("stored/journal.0"):
-                break
-            time.sleep(0.1)
         # an image is counted behind that, so the last report of a server that ends meanwhile may lack it
         last = until(path, lambda figures: figures["images_total"] >= 1)
         client.close()

@@ -2,10 +2,13 @@
 crate, one function each. Mutants of different functions are applied to one copy of the crate, and the prover is asked for these
 functions: each must be left unproved, and for what it ensures, not for a name that a proof no longer finds. What a copy
 of many doesn't show is tried again, at last alone. A turned definition that no function is proved from is refused by an example of
-specs/, or by a lemma for the crates above: their file is named in the function's place.
+specs/, or by a lemma for the crates above: their file is named in the function's place. Of each is said by which clause it was refused.
+
+As a control, crates/NAME/must-fail/equal.md lists bodies of the same form that mean the same: each must be proved, so that a refusal says
+something of a body's meaning and not only of its form.
 
 mutants.seen keeps of each mutant that was refused the sum of all that its refusal stands on: its entry, its crate, what the crates
-below state, and the kit. Where that sum is still its own it isn't tried again, but for --all."""
+below state, this file, the stubs, and the kit; comments left out. Where that sum is still its own it isn't tried again, but for --all."""
 import collections
 import concurrent.futures
 import functools
@@ -28,6 +31,8 @@ TOP = os.path.dirname(os.path.dirname(os.path.abspath(__file__)))
 SEEN, SEEN_NOW = f"{TOP}/tests/mutants.seen", f"{TOP}/tests/out/mutants.seen"
 # What a copy of a crate gets, so that the prover reads a file of examples or lemmas.
 READS = "reads_it"
+# A line of a source or a proof that is a comment.
+COMMENT = re.compile(r"^ *(?://|--).*\n", re.M)
 # An error of a proof that no longer finds a name, or that stands on one that was rejected: it says nothing of the contract.
 NAMES = re.compile(r"has no field|is not in scope|has no `|was not admitted|which was rejected, (was|were) not checked")
 
@@ -35,8 +40,10 @@ NAMES = re.compile(r"has no field|is not in scope|has no `|was not admitted|whic
 class Mutant:
     """A wrong body or turned definition: the function that must be refused, and the texts of one file that it replaces."""
 
-    def __init__(self, crate, name):
+    def __init__(self, crate, name, is_equal=False):
         self.crate, self.name, self.function, self.file, self.pairs = crate, name, None, None, []
+        # whether it means the same, so that it must be proved
+        self.is_equal = is_equal
         # the end of the name of the copy of its function that it is applied to; none where it is the function itself
         self.twin = ""
         # how long the checks of its function took, of a processor, and how many they were
@@ -118,9 +125,9 @@ def below(crate, named):
 
 @functools.lru_cache(maxsize=None)
 def text_of(crate, parts):
-    """Returns the sum of a crate's files in these folders, by path and contents."""
+    """Returns the sum of a crate's files in these folders, by path and contents, without the lines that are comments."""
     files = sorted(path for part in parts for path in glob.glob(f"{folder(crate)}/{part}/**", recursive=True) if os.path.isfile(path))
-    return sum_of([*(os.path.relpath(it, TOP) for it in files), *map(read, files)])
+    return sum_of([*(os.path.relpath(it, TOP) for it in files), *(COMMENT.sub("", read(it)) for it in files)])
 
 
 def sum_of(texts):
@@ -128,11 +135,18 @@ def sum_of(texts):
     return hashlib.sha256("\0".join(texts).encode()).hexdigest()[:24]
 
 
-def sum_for(mutant, named, version):
+@functools.lru_cache(maxsize=None)
+def tools():
+    """Returns the sum of what tries them: this file, the stubs, and the kit."""
+    version = subprocess.run(["rt", "version"], capture_output=True, text=True, check=True).stdout
+    return sum_of([version, read(__file__), read(f"{TOP}/tests/stubs.py")])
+
+
+def sum_for(mutant, named):
     """Returns the sum of all that the refusal of a mutant stands on. What a crate below states is in its src and specs."""
     entry = [str(mutant), str(mutant.function), str(mutant.file), *(text for pair in mutant.pairs for text in pair)]
     states = [text_of(it, ("src", "specs")) for it in sorted(below(mutant.crate, named))]
-    return sum_of([version, *entry, text_of(mutant.crate, ("src", "specs", "proofs")), *states])
+    return sum_of([tools(), *entry, text_of(mutant.crate, ("src", "specs", "proofs")), *states])
 
 
 def seen_before():
@@ -148,13 +162,18 @@ def note_seen(sums):
 
 
 def mutants_of(crate):
-    """Returns the mutants that the crate lists."""
+    """Returns the mutants that the crate lists, and the bodies that mean the same."""
+    return [it for name, is_equal in (("mutants", False), ("equal", True)) for it in listed_in(crate, name, is_equal)]
+
+
+def listed_in(crate, name, is_equal):
+    """Returns those of one list."""
     found, old = [], None
-    path = f"{folder(crate)}/must-fail/mutants.md"
+    path = f"{folder(crate)}/must-fail/{name}.md"
     for line in read(path).splitlines() if os.path.exists(path) else []:
         word, _, rest = line.strip().partition(": ") if line.startswith("    ") else line.partition(" ")
         if word == "##":
-            found.append(Mutant(crate, rest))
+            found.append(Mutant(crate, rest, is_equal))
         elif word == "in":
             found[-1].function = rest
         elif word == "file":
@@ -179,9 +198,11 @@ def misfits(mutants):
 
 def batches_of(mutants):
     """Parts mutants into batches. One that turns a definition is alone in its batch. Of several of one function, those behind the first
-    are applied to copies of it under other names, or where there can be none, stand in batches of their own."""
+    are applied to copies of it under other names, or where there can be none, stand in batches of their own. So does each that means the same:
+    what it calls is as it is."""
     batches, twins = [], itertools.count(1)
-    for mutant in [it for it in mutants if not it.turns_a_definition()]:
+    alone = [[it] for it in mutants if it.turns_a_definition() or it.is_equal]
+    for mutant in [it for it in mutants if not it.turns_a_definition() and not it.is_equal]:
         fits = next((it for it in batches if all(other.goes_with(mutant) for other in it)), None)
         if fits is None and batches and mutant.own(read(f"{folder(mutant.crate)}/{mutant.file}")):
             mutant.twin = f"_twin{next(twins)}"
@@ -190,7 +211,7 @@ def batches_of(mutants):
             batches.append([mutant])
         else:
             fits.append(mutant)
-    return batches + [[it] for it in mutants if it.turns_a_definition()]
+    return batches + alone
 
 
 def words_of(crate, named):
@@ -287,7 +308,11 @@ def processor_of(process):
 
 
 def refusal(mutant, said):
-    """Returns for what the mutant's function, or the file in its place, was refused, or None."""
+    """Returns for what the mutant's function, or the file in its place, was refused, or None; of one that means the same, whether it was
+    proved."""
+    if mutant.is_equal:
+        verdict = re.search(rf"^fn {re.escape(mutant.crate)}::{re.escape(mutant.asked())}: (.*)$", said, re.M)
+        return "it means the same" if verdict and verdict[1] == "proved" else None
     if mutant.names_a_file():
         errors = re.findall(rf"^\./{re.escape(mutant.function)}:\S+ error: (.*)$", said, re.M)
         return next((it for it in errors if not NAMES.search(it) and READS not in it), None)
@@ -399,11 +424,24 @@ def are_ready(lists, log):
     return [it for it in lists if it[0].crate in proved]
 
 
+def clause_of(why):
+    """Returns the clause of a contract that a refusal speaks of: its name, or "ensures" where it has none."""
+    named = re.findall(r"-clause-(\w+)`", why)
+    return " and ".join(dict.fromkeys(named)) or ("ensures" if "`returns" in why else "a lemma or an example")
+
+
+def verdict_on(mutant, why):
+    """Returns what is said of a mutant that was refused so, or not; or of one that means the same."""
+    if mutant.is_equal:
+        return "proved: it means the same" if why else "NOT PROVED, though it means the same"
+    return f"refused by {clause_of(why)}: {why[:120]}" if why else "NOT REFUSED for what it ensures"
+
+
 def tell(found):
-    """Prints of each mutant for what it was refused and how long that took, and returns how many were and how many weren't."""
+    """Prints of each mutant by what it was refused and how long that took, and returns how many were as they must be and how many weren't."""
     for mutant, why in found.items():
         took = f"{mutant.seconds:.0f} s{f', in {mutant.checks} checks' if mutant.checks > 1 else ''}"
-        print(f"{mutant}: {'refused: ' + why[:120] if why else 'NOT REFUSED for what it ensures'} ({took})")
+        print(f"{mutant}: {verdict_on(mutant, why)} ({took})")
     refused = sum(bool(why) for why in found.values())
     return refused, len(found) - refused
 
@@ -418,8 +456,7 @@ def fit():
 
 def main(crates, log, tries_all):
     named, seen = dependencies(), {} if tries_all else seen_before()
-    version = subprocess.run(["rt", "version"], capture_output=True, text=True, check=True).stdout
-    sums = {it: sum_for(it, named, version) for crate in crates or named for it in mutants_of(crate)}
+    sums = {it: sum_for(it, named) for crate in crates or named for it in mutants_of(crate)}
     if strays := misfits(sums):
         sys.exit("\n".join(strays))
     known = {str(it): of for it, of in sums.items() if seen.get(str(it)) == of}

@@ -64,6 +64,8 @@ count 'the client is the one of clients/python' $?
 count 'the unit names the program where it is' $?
 ! grep /usr/bin "$prefix/lib/systemd/system/tabd-socket.service" >out && grep -q "^ExecStart=$prefix/bin/tabd serve --socket " "$prefix/lib/systemd/system/tabd-socket.service"
 count 'and so does the one of the socket file' $?
+[ "$(grep -lx 'MemoryMax=.*' "$prefix"/lib/systemd/system/tabd{,-socket}.service | wc -l)" -eq 2 ]
+count 'the units have a limit of memory' $?
 DESTDIR=$work/stage "$top/packaging/install" /opt/tabd >out 2>err &&
     [ "$(files stage/opt/tabd)" = "$parts" ] && [ "$(files stage)" = "${parts//.\//./opt/tabd/}" ] &&
     grep -qxF 'ExecStart=/opt/tabd/bin/tabd serve $TABD_OPTIONS' stage/opt/tabd/lib/systemd/system/tabd.service
@@ -72,6 +74,18 @@ for words in '' '--uninstall' '--bogus' "$work/a b"; do
     if [ -n "$words" ]; then "$top/packaging/install" "$words"; else "$top/packaging/install"; fi >out 2>err
     [ "$?,$(wc -l <err)" = 1,1 ] && [ ! -s out ] && grep -q '^fault: ' err
     count "packaging/install '$words' is refused" $?
+done
+for words in 'install --help' 'install -h' 'deb --help' 'deb -h'; do
+    # shellcheck disable=SC2086
+    "$top/packaging/"$words >out 2>err
+    [ $? -eq 0 ] && grep -q "^Usage: packaging/${words% *} " out && [ ! -s err ] && [ -z "$(find . -name '*.deb')" ]
+    count "packaging/$words says how it is called" $?
+done
+for words in '--bogus' /nowhere 'prefix stage'; do
+    # shellcheck disable=SC2086
+    "$top/packaging/deb" $words >out 2>err
+    [ "$?,$(wc -l <err)" = 1,1 ] && [ ! -s out ] && grep -q '^fault: ' err
+    count "packaging/deb $words is refused" $?
 done
 
 # ---- Servers: the command of the unit, and the examples of the documents, with what is installed.
@@ -102,6 +116,8 @@ example() { # FILE N PORT   the Nth example of a document, over what is installe
         sed -e "s|^\(\./\)*tabd|$prefix/bin/tabd|; s|clients/python|$prefix/lib/python3/dist-packages|; s|9997|$3|g"
 }
 
+[ "$(grep -c '^\./tabd serve .* &$' "$top/README.md")" -eq "$(grep -Eco '(^|`)kill (-9 )?\$!' "$top/README.md")" ]
+count 'each server that README starts is stopped' $?
 if ! lacks python3 'servers, and the client in Python'; then
     port=$(free_port)
     unit=$prefix/lib/systemd/system/tabd.service
@@ -156,6 +172,16 @@ if ! lacks groff 'the man page is rendered'; then
     while read -r line; do grep -qF -- "$line" flat || echo "not in the page: $line"; done <wanted >out
     [ "$(wc -l <wanted)" -gt 50 ] && [ ! -s out ]
     count 'it has each option, each line and each word of --help' $?
+    sed -n '/^EXAMPLES$/,/^FILES$/p' page | grep -E '^ *tabd ' | sed 's/^ *tabd //; s/ <.*//; s/ | .*//; s/ &$//' >lines
+    : >out
+    while read -r line; do
+        # shellcheck disable=SC2086
+        set -- $line
+        "$TABD" "$1" --help >help 2>&1
+        for word in "$@"; do [[ $word != --* ]] || grep -q -- " $word" help || echo "$line: no $word"; done
+    done <lines >out
+    [ "$(wc -l <lines)" -ge 5 ] && [ ! -s out ] && grep -q '/etc/default/tabd' page && grep -q '/var/lib/private' page
+    count 'it has examples, of options that are there, and the files' $?
 fi
 
 # ---- Away again.
@@ -179,6 +205,17 @@ if ! lacks dpkg-deb 'the Debian package'; then
         [ "$(files unpacked | grep -v ^./usr/share/doc/)" = "${parts//.\//./usr/}" ] && answers unpacked/usr/bin/tabd &&
         cmp "$top/packaging/tabd.service" unpacked/usr/lib/systemd/system/tabd.service >out 2>err
     count 'it has the same files, and its program answers a script' $?
+    documents=unpacked/usr/share/doc/tabd
+    find "$documents" -name '*.md' | while read -r file; do
+        grep -o '](\([^)#]*\)' "$file" | cut -c 3- | sort -u | while read -r target; do
+            [[ -z $target || $target = http* || -e ${file%/*}/$target ]] || echo "$file: $target"
+        done
+    done >out
+    [ -e "$documents/README.md" ] && [ ! -s out ]
+    count 'no link of its documents leads nowhere' $?
+    grep -q '^Format: https://www.debian.org/doc/packaging-manuals/copyright-format/1.0/$' "$documents/copyright" &&
+        [ "$(grep -cE '^(Files: \*|Copyright: [0-9]{4} .+|License: Apache-2.0)$' "$documents/copyright")" -eq 4 ]
+    count 'its copyright notice has the form of Debian' $?
     root=()
     [ "$(id -u)" -eq 0 ] || root=(fakeroot)
     if ! lacks "${root[0]:-dpkg}" 'the package is put in and taken out'; then

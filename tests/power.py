@@ -8,9 +8,9 @@ are many folders that the disk may hold: all of them, where they differ in at mo
 picked by a fixed seed.
 
 The program takes up each of these folders: with status 0, always. All rows are there that were answered before the cut, or, under `--sync interval`,
-before the last sync of a journal; what is there is a beginning of what was asked, each write whole; and the next start finds the same. Where the power is cut while a folder
-is taken up, any 8 bytes of a write may be there or not, so that a header is torn too.
-Usage: power.py PROGRAM [MOST]   (of how many folders each moment has at most, 40 where unsaid)"""
+before the last sync of a journal; what is there is a beginning of what was asked, each write whole; and the next start finds the same, and has
+nothing to cut off. Where the power is cut while a folder is taken up, any 8 bytes of a write may be there or not, so that a header is torn too.
+Usage: power.py PROGRAM [MOST]   (of how many folders each moment has at most, 40 by default)"""
 
 import concurrent.futures
 import itertools
@@ -384,7 +384,7 @@ def wrong_with(names, asked, due, first):
         return "the first start: %s %s" % (one.status, one.told), one
     if not asked.fits(one.rows, due):
         return "found %s, due %s" % (one.rows, due), one
-    if two.status != 0 or two.rows != one.rows or two.told:
+    if two.status != 0 or two.rows != one.rows or "cut off" in two.told or "fault" in two.told:
         return "the second start: %s %s %s" % (two.status, two.rows, two.told), one
     return "", one
 
@@ -442,8 +442,8 @@ def intervals():
 def starts(name, log):
     """The runs of this log, and then starts over some of the folders that they may leave: the power is cut again in these."""
     torn = judge(name, log)
-    nothing = [(names, due) for names, due, told in torn if "done again" not in told]
-    something = [(names, due) for names, due, told in torn if "done again" in told]
+    nothing = [(names, due) for names, due, told in torn if "replayed" not in told]
+    something = [(names, due) for names, due, told in torn if "replayed" in told]
     count("%s: ends are cut off" % name, something and (nothing or name == "intervals"), len(torn))
     for place, (names, due) in enumerate(nothing[:2] + something[:1] + something[-2:]):
         again = Log("%s-%d" % (name, place), log.asked, names, due, PIECE)

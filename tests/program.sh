@@ -140,6 +140,19 @@ printf 'insert t a f q \\e v 1\n' | "$program" shell --socket s --user root >out
 printf 'bogus\n' | "$program" shell --socket s --user root --explain >out 2>&-
 [ $? -eq 0 ] && [ "$(cat out)" = 'line fault' ]
 count 'a shell with a closed standard error' $?
+# a shell names none of the lines that only a script has: not as what is meant, nor in its lists
+printf 'lod f\nsplitsiz t r 5\ninstal t 0\nsplit t\nbogus\n' | "$program" shell --socket s --user root --explain >out 2>err
+[ "$(sed -nE 's/^line ([0-9]).*did you mean (.*)$/\1 \2/p' err)" = $'2 splits?\n4 splits?' ] && [ "$(grep -c 'expected a command, one of createtable ' err)" -eq 3 ] &&
+    ! grep -qE '[ ?](as|at|begin|merge|install|splitsize|save|load)( |$)' <(sed 's/.*expected//' err)
+count 'a shell suggests lines of a shell alone' $?
+"$program" shell --help >out 2>err
+grep -q '^  N  ' out && ! grep -qE '^  (MOMENT|KIND|JOB|LIMIT|FILE) ' out && "$program" script --help | grep -q '^  MOMENT '
+count "and its help has no words of a script's own lines" $?
+printf 'help\nhelp save\n' | "$program" shell --socket s --user root --prompt >out 2>err
+[ "$(head -n 1 out)" = 'tabd: lines for a server. What they write is gone when it ends, unless it keeps it in a folder.' ] && [ "$(tail -n 2 out | head -n 1)" = 'root>   there is no such line: help lists them' ]
+count "and its prompt doesn't say what it can't know" $?
+printf 'status t\nhelp\n' | "$program" shell --socket s --user root --prompt 2>err >/dev/full
+fails "a shell's prompt to a full device" $? "$full"
 printf 'bogus\n' | "$program" shell --socket s --user root 2>err >&-
 fails 'a shell with a closed output' $? "the output can't be written: $bad"
 kill -9 "$server" && wait "$server" 2>/dev/null
@@ -202,6 +215,9 @@ prompted 'who asks' 'as bob\n\n# nothing\nscan t \\0' 'root> bob> bob> bob> refu
 prompted 'help for a line' 'help next\n help  close \n' \
     'root> Shows the next cells of a session.\n  next SESSION COUNT\n  SESSION            the number that an open gave: a whole number of 32 bits without a sign, as 0\n  COUNT              how many cells: a whole number of 32 bits without a sign, as 100\nroot> Closes a session.\n  close SESSION\n  SESSION            the number that an open gave: a whole number of 32 bits without a sign, as 0\nroot> \n' ''
 prompted 'help for a line of one word' 'help rotate\n' 'root> Hands out the history so far, and begins a new one.\n  rotate\nroot> \n' ''
+prompted 'help for lines of the prompt itself' 'help quit\nhelp exit\nhelp help\n? ?\n' \
+    'root> Ends. So does exit.\n  quit\nroot> Ends. So does exit.\n  quit\nroot> Lists the lines, or tells what one does. So does ?.\n  help [LINE]\nroot> Lists the lines, or tells what one does. So does ?.\n  help [LINE]\nroot> \n' ''
+prompted 'a byte 3 drops what was typed' 'createtable t\ninsert t r\003scan t \\0\n\003\003status "u\003\n' 'root> ok\nroot> \nroot> end\nroot> \nroot> \nroot> \nroot> root> \n' ''
 prompted 'exit' 'createtable t\nexit\nbogus\n' 'root> ok\nroot> ' ''
 prompted 'quit' 'createtable t\nquit\nbogus\n' 'root> ok\nroot> ' ''
 prompted 'a question mark' '? rotate\n' 'root> Hands out the history so far, and begins a new one.\n  rotate\nroot> \n' ''
@@ -220,6 +236,28 @@ prompted 'bytes behind a closing quote' 'createtable t\ninsert t r f q "a\\x20b"
 prompted 'an escape that is none' 'createtable t\ninsert t r f q "" "a\\ b"\nscan t \\0\n' 'root> ok\nroot> root> end\nroot> \n' \
     'line 2: in quotes a backslash stands before a quote, another backslash, or an escape as \x2c; nothing was sent'
 prompted 'quotes of a comment' '# "open\nas "root"\nhelp "rotate"\n"quit"\nbogus\n' 'root> root> root> Hands out the history so far, and begins a new one.\n  rotate\nroot> ' ''
+# what is kept is told so; and what can't be said, or isn't sent, has its status
+printf 'createtable t\n' | "$program" script --store said --prompt >out 2>err
+[ "$(head -n 1 out)" = 'tabd: a sorted store, kept in a folder. What was answered is there at the next start.' ] && [ "$(tail -n 2 out)" = $'root> ok\nroot> ' ]
+count 'prompts: over a folder' $?
+for input in '' 'help\n' 'help quit\nquit\n' 'createtable t\n' 'insert "t\n'; do
+    printf "$input" | "$program" script --prompt 2>err >/dev/full
+    fails "prompts to a full device, '$input'" $? "$full"
+    printf "$input" | "$program" script --prompt 2>err >&-
+    fails "prompts to a closed output, '$input'" $? "the output can't be written: $bad"
+done
+printf 'createtable t\n' | "$program" script --store said --prompt 2>err >/dev/full
+fails 'prompts over a folder, to a full device' $? "$full"
+strict() { # NAME INPUT OUTPUT ERRORS
+    printf "$2" | "$program" script --prompt --strict >out 2>err
+    [ "${PIPESTATUS[1]}" -eq 3 ] && [ "$(cat out)" = "$begins$(printf "$3")" ] && [ "$(cat err)" = "$4" ]
+    count "prompts: $1" $?
+}
+strict 'a strict run stops at a line that is not sent' 'createtable t\nhelp rotate\ninsert t r f q "" "x\ndroptable t\n' \
+    'root> ok\nroot> Hands out the history so far, and begins a new one.\n  rotate\nroot> ' "line 3: a quote isn't closed; nothing was sent"
+strict 'a strict run counts the lines as they are typed' 'help rotate\nscan u \\0\ndroptable t\n' \
+    'root> Hands out the history so far, and begins a new one.\n  rotate\nroot> refused 2 NoTable u\n' 'line 2: refused 2 NoTable u'
+strict 'a strict run says why a line is a fault' '\nas\ndroptable t\n' 'root> root> line fault\n' $'line 2: word 2 is missing: expected U (a user\'s name: 1 to 128 of a-z A-Z 0-9 _ - .)\nline 2: line fault'
 # without prompts quotes are bytes, and bytes that aren't ASCII a line fault
 printf 'createtable t\ninsert t "r f q \\e "v"\ninsert t "r f" "q q" \\e v\ninsert t M\xc3\xbc f q \\e v\nscan t \\0\n' | "$program" script >out 2>err
 [ "$(cat out)" = $'ok\nok\nline fault\nline fault\n"r f q \\e 0 "v"\nend' ] && [ ! -s err ]
@@ -349,6 +387,7 @@ watched 'a strict run in which nothing is refused' "createtable t time=any\ninse
 watched 'a strict run says why a line is a fault' 'as\n' 3 'line fault\n' "line 1: word 2 is missing: expected U (a user's $name)\nline 1: line fault\n" --strict --explain
 watched 'a quiet run' "$lines" 0 "refused 2 NoTable u\nline fault\nfault load io\nok\nend\n$cell\nend\n" '3 ok, 1 refused, 2 faults\n' --quiet
 watched 'a quiet and strict run' "$lines" 3 'refused 2 NoTable u\n' '2 ok, 1 refused, 0 faults\nline 4: refused 2 NoTable u\n' --quiet --strict
+watched 'a quiet run of one of each' 'createtable t\nscan u \\0\nbogus\n' 0 'refused 2 NoTable u\nline fault\n' '1 ok, 1 refused, 1 fault\n' --quiet
 watched 'a quiet run of no line' '' 0 '' '0 ok, 0 refused, 0 faults\n' --quiet
 { echo 'createtable t' && seq 40000 | sed 's/.*/insert t row& f q \\e value/' && printf 'scan t \\0\nscan u \\0\ndroptable t\n'; } >long
 "$program" script --strict --quiet <long >out 2>err

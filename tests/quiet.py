@@ -47,7 +47,7 @@ def status(stream, table):
 
 def until(stream, table, wanted):
     """The counts once they are so, or at last."""
-    end = time.monotonic() + 4 * PATIENCE
+    end = time.monotonic() + PATIENCE
     while True:
         counts = status(stream, table)
         if counts == wanted or time.monotonic() > end:
@@ -145,7 +145,7 @@ def nothing_more_is_asked():
     with Server("--metrics", "two.prom") as server:
         with joined(server) as stream:
             good = told_ok(stream, *spread(b"t"))
-        seen, end = [], time.monotonic() + 4 * PATIENCE
+        seen, end = [], time.monotonic() + PATIENCE
         # a report comes each ten seconds
         while len(seen) < 2 and time.monotonic() < end:
             time.sleep(0.2)

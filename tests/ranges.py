@@ -153,7 +153,7 @@ def by_threads():
     few, short, some, most = (b - a for a, b in zip(seen, seen[1:]))
     count("499 ranges are read by one thread", few == 0, seen)
     count("1,000 ranges of few cells are read by one thread", short == 0, seen)
-    if os.cpu_count() > 1:
+    if len(os.sched_getaffinity(0)) > 1:
         count("500 and 1,000 by several", some > 0 and most >= some, seen)
 
 

@@ -91,8 +91,8 @@ class Server:
         self.process.communicate()
 
 
-def write(row):
-    update = b"\x01" + field(b"f") + field(b"q") + field(b"") + b"\x00" + field(b"v" * 20)
+def write(row, value=b"v" * 20):
+    update = b"\x01" + field(b"f") + field(b"q") + field(b"") + b"\x00" + field(value)
     return frame(b"\x0a" + field(b"t") + field(row.encode()) + struct.pack(">I", 1) + update)
 
 
@@ -114,7 +114,7 @@ def named(out):
 
 
 def rows_of_server():
-    """The same by a server, which is killed then."""
+    """The rows that the folder keeps, by a server, which is killed then."""
     with Server() as server:
         if not server.said:
             return None, server.end()
@@ -144,12 +144,14 @@ def write_rows(server, rows=None):
 
 
 def is_kept(answered, asked=None):
-    """Whether the folder keeps a beginning of what was asked, with all that was answered, and keeps it still."""
+    """Whether the folder keeps a beginning of what was asked, with all that was answered, and keeps it still; what was cut off is gone then, and
+    nothing is replayed behind a script's end."""
     asked = asked or ASKED
     first, _ = rows_of_server()
-    again, _ = rows_of_script()
+    again, more = rows_of_script()
     last, told = rows_of_server()
-    return first is not None and first == asked[:len(first)] and len(first) >= answered and first == again == last and told == ""
+    fine = first is not None and first == asked[:len(first)] and len(first) >= answered and first == again == last
+    return fine and "cut off" not in more and told == ""
 
 
 def copied(name):
@@ -216,11 +218,27 @@ MORE = ["s%02d" % number for number in range(12)]
 def newest():
     """The greatest number of an image."""
     names = os.listdir(STORE) if os.path.exists(STORE) else []
-    return max([int(name.split(".")[1]) for name in names if name.startswith("image.") and not name.endswith(".part")], default=-1)
+    return max([int(name.split(".")[1]) for name in names if re.fullmatch("image[.][0-9]+", name)], default=-1)
+
+
+def waits(what):
+    """Whether that comes about in time."""
+    ends = time.monotonic() + PATIENCE
+    while not what() and time.monotonic() < ends:
+        time.sleep(0.01)
+    return what()
+
+
+def waits_for_image(least, patience=PATIENCE):
+    """Whether there is an image of this number or a greater one within so many seconds."""
+    ends = time.monotonic() + patience
+    while newest() < least and time.monotonic() < ends:
+        time.sleep(0.02)
+    return newest() >= least
 
 
 def run_longer(at, how):
-    """The same of a server that makes an image while it serves, and goes on behind it."""
+    """A server makes an image while it serves, and goes on behind it."""
     shutil.rmtree(STORE, ignore_errors=True)
     with Server("--workers", "1", "--checkpoint", "600", env=environment(at, how)) as server:
         answered = write_rows(server)
@@ -305,9 +323,9 @@ def turned():
     for length in range(0, len(bytes_are), 9):
         put_back("whole")
         os.truncate("%s/%s" % (STORE, journal), length)
-        found, _ = rows_of_script()
-        fine = fine and found == ASKED[:len(found)]
-    count("each beginning of a journal keeps a beginning of its rows", fine)
+        found, told = rows_of_script()
+        fine = fine and (told == "fault: %s: %s has no header\n" % (STORE, journal) if length < 48 else found == ASKED[:len(found)])
+    count("each beginning of a journal keeps a beginning of its rows, and one without a header is refused", fine)
 
 
 def sizes():
@@ -346,13 +364,14 @@ def folders():
         count("and to a script", scan("")[1] == "fault: %s: another process has it\n" % STORE)
         server.kill(signal.SIGTERM)
     with Server() as server:
+        has_image = waits_for_image(1)
         told = server.kill()
-        count("a start tells what it found", told == "%s: %d entries are done again\n" % (STORE, ROWS + 1), told)
+        count("a start tells what it found", told == "%s: %d entries are replayed\n" % (STORE, ROWS + 1), told)
+    count("it makes an image while it serves", has_image)
     count("the next start finds nothing more", rows_of_server() == (ASKED, ""))
-    run = subprocess.run([PROGRAM, "serve", "--port", str(free_port()), "--store", STORE, "--image", "%s/image.0" % STORE], capture_output=True, text=True, timeout=60)
+    run = subprocess.run([PROGRAM, "serve", "--port", str(free_port()), "--store", STORE, "--image", "%s/image.1" % STORE], capture_output=True, text=True, timeout=60)
     count("an image is for an empty folder", run.returncode == 1 and "keeps something already" in run.stderr, run.stderr)
-    image = [name for name in os.listdir(STORE) if name.startswith("image.")][0]
-    shutil.copy("%s/%s" % (STORE, image), "begun")
+    shutil.copy("%s/image.%d" % (STORE, newest()), "begun")
     shutil.rmtree(STORE, ignore_errors=True)
     with Server("--image", "begun") as server:
         server.kill()
@@ -365,7 +384,7 @@ def both_formats():
     """What a server left is taken up by a script, and what a script left by a server."""
     count("all is answered", killed_folder())
     found, told = rows_of_script()
-    count("a script takes up what a server left", found == ASKED and told == "%s: %d entries are done again\n" % (STORE, ROWS + 1), told)
+    count("a script takes up what a server left", found == ASKED and told == "%s: %d entries are replayed\n" % (STORE, ROWS + 1), told)
     script = subprocess.Popen([PROGRAM, "script", "--store", STORE], stdin=subprocess.PIPE, stdout=subprocess.PIPE, text=True)
     script.stdin.write("insert t r99 f q \\e 1\n")
     script.stdin.flush()
@@ -373,7 +392,7 @@ def both_formats():
     script.kill()
     script.communicate()
     found, told = rows_of_server()
-    count("a server takes up what a script left", found == ASKED + ["r99"] and told.endswith("bytes of lines are done again\n"), told)
+    count("a server takes up what a script left", found == ASKED + ["r99"] and told.endswith("bytes of lines are replayed\n"), told)
 
 
 def intervals():
@@ -386,6 +405,93 @@ def intervals():
         told = server.end()
         count("a server ends behind its connections", server.process.returncode == 0 and told == "", told)
     count("all is there behind its end", rows_of_server()[0] == ASKED)
+
+
+class Disk:
+    """A disk that is slow, or has no room, where it's asked to, and what a server asks of it (tests/disk.c)."""
+
+    def __init__(self):
+        self.env = {"LD_PRELOAD": os.path.abspath("disk.so"), "DISK": os.path.abspath("disk"), "NOTED": os.path.abspath("noted")}
+        self.lift()
+        if os.path.exists("noted"):
+            os.remove("noted")
+
+    def hinder(self, fsync=0, fdatasync=0, full=""):
+        with open("disk", "w", encoding="ascii") as file:
+            file.write("%f %f %s\n" % (fsync, fdatasync, full))
+
+    def lift(self):
+        if os.path.exists("disk"):
+            os.remove("disk")
+
+    def noted(self):
+        """The lengths of long writes, and a 0 for each sync of a journal."""
+        if not os.path.exists("noted"):
+            return []
+        with open("noted", encoding="ascii") as file:
+            return [int(line) for line in file.read().split()]
+
+
+def intervals_beside_a_history():
+    """With --sync interval the disk is asked once a second, though the history's file takes nine."""
+    shutil.rmtree(STORE, ignore_errors=True)
+    disk = Disk()
+    with Server("--sync", "interval", "--history", "slow-history", env=disk.env) as server:
+        write_rows(server)
+        with server.connect() as writer, server.connect() as rotator:
+            disk.hinder(fsync=9)
+            rotator.sendall(frame(b"\x17"))
+            time.sleep(0.2)
+            before, ends = len(disk.noted()), time.monotonic() + 8
+            answered = 0
+            while time.monotonic() < ends and (len(disk.noted()) - before < 3 or answered < 30):
+                writer.sendall(write("s%04d" % answered))
+                answered += read_frame(writer) == OK
+                time.sleep(0.02)
+            count("writes are answered", answered > 20, answered)
+            count("the disk is asked meanwhile", len(disk.noted()) - before >= 3, (before, disk.noted()))
+            server.kill()
+
+
+def short_batches():
+    """What many write while the disk is asked goes into several batches: each ends once it has 8 MiB."""
+    shutil.rmtree(STORE, ignore_errors=True)
+    disk = Disk()
+    many = 24
+    with Server("--workers", str(many), env=disk.env) as server:
+        write_rows(server)
+        disk.hinder(fdatasync=0.5)
+        streams = [server.connect() for _ in range(many)]
+        for stream in streams:
+            stream.settimeout(4 * PATIENCE)
+        senders = [threading.Thread(target=stream.sendall, args=(write("s%02d" % number, bytes(1 << 20)),)) for number, stream in enumerate(streams)]
+        for sender in senders:
+            sender.start()
+        count("all is answered", [read_frame(stream) for stream in streams] == [OK] * many)
+        lengths = [length for length in disk.noted() if length]
+        count("no batch has more than 8 MiB and an entry", sum(lengths) > many << 20 and max(lengths) < (9 << 20) + 1000, lengths)
+        for sender, stream in zip(senders, streams):
+            sender.join()
+            stream.close()
+        server.kill()
+
+
+def images_come_later():
+    """Where there is no room for an image, or for the journal behind it, the server goes on, says so once, and makes the image once there is."""
+    for full in ("/image.", "/journal.1"):
+        shutil.rmtree(STORE, ignore_errors=True)
+        disk = Disk()
+        with Server("--workers", "1", "--checkpoint", "600", env=disk.env) as server:
+            disk.hinder(full=full)
+            count("no room for %s: all is answered" % full, write_rows(server) == ROWS)
+            time.sleep(2.5)
+            count("no room for %s: it goes on" % full, server.process.poll() is None and write_rows(server, MORE) == len(MORE))
+            count("no room for %s: there is no image" % full, newest() == 0)
+            disk.lift()
+            count("no room for %s: once there is one is made" % full, waits_for_image(1), os.listdir(STORE))
+            told = server.kill()
+        count("no room for %s: it's told once" % full, told.count("\n") == 1 and "No space left on device" in told, told)
+        count("no room for %s: all is kept" % full, is_kept(ROWS + len(MORE), ASKED + MORE))
 
 
 def limited(most=60_000):
@@ -416,13 +522,25 @@ def full_disk():
         idle.settimeout(PATIENCE)
         count("and each connection", read_exactly(idle, 1) == b"")
         idle.close()
-    before = sorted(os.listdir(STORE))
     for _ in range(2):
         done = subprocess.run([PROGRAM, "script", "--store", STORE], stdin=subprocess.DEVNULL, capture_output=True, text=True, preexec_fn=lambda: limited(5_000))
-        count("a start says why it can't write its image", (done.returncode, done.stderr) == (1, f"fault: {STORE}: the image can't be written: File too large (os error 27)\n"), done)
-        count("and leaves no part of it", sorted(os.listdir(STORE)) == before, os.listdir(STORE))
+        said = f"fault: {STORE}: the image can't be written: File too large (os error 27)"
+        count("a script says why it can't write its image", done.returncode == 1 and done.stderr.splitlines()[-1] == said and "replayed" in done.stderr, done)
+        count("and leaves no part of it", not [name for name in os.listdir(STORE) if name.endswith(".part")] and newest() == 0, os.listdir(STORE))
     found, _ = rows_of_server()
     count("what was answered is kept", found is not None and found == ["w%05d" % number for number in range(len(found))] and answered <= len(found) <= answered + 1 and answered > 100, (answered, found and len(found)))
+
+
+def file_limit_is_told():
+    """Where a write that is too long ends the program by a signal, a start says so; else nothing is said, and nothing without a limit."""
+    def beginning(before):
+        shutil.rmtree(STORE, ignore_errors=True)
+        with Server(before=before) as server:
+            return server.kill()
+
+    told = beginning(lambda: resource.setrlimit(resource.RLIMIT_FSIZE, (60_000, 60_000)))
+    count("a limit of a file's size is told", told.startswith("note: no file may have more than 60000 bytes here, and SIGXFSZ isn't ignored: "), told)
+    count("and isn't where it's a fault of a write", beginning(limited) == beginning(None) == "")
 
 
 def reads_wait_for_nothing():
@@ -450,8 +568,8 @@ def kept_in(name):
     with open(name, "rb") as file:
         left, text, at = file.read()[48:], b"", 0
     while left:
-        (length,) = struct.unpack_from(">I", left, 8)
-        text, left = text + left[12 : 12 + length], left[20 + length :]
+        (length,) = struct.unpack_from(">I", left, 16)
+        text, left = text + left[20 : 20 + length], left[28 + length :]
     while at < len(text):
         (user,) = struct.unpack_from(">I", text, at + 8)
         (body,) = struct.unpack_from(">I", text, at + 12 + user)
@@ -571,12 +689,13 @@ def readme():
     lines = lines.replace("./tabd", PROGRAM).replace("9997", port)
     run = subprocess.run(["bash"], input=lines, capture_output=True, text=True, timeout=60)
     count("README's server that is killed prints what it says", run.stdout == "listening %s\nok\nok\nok\nlistening %s\n" % (port, port) + shown[0], run.stdout)
-    told = "ward: 3 entries are done again"
+    told = "ward: 3 entries are replayed"
     count("and says what it says", "`%s`" % told in section and "%s\n" % told in run.stderr, run.stderr)
 
 
 def build():
-    subprocess.run([os.environ.get("CC", "cc"), "-shared", "-fPIC", "-O1", "-o", "killing.so", "%s/killing.c" % HERE, "-ldl"], check=True)
+    for name in ("killing", "disk"):
+        subprocess.run([os.environ.get("CC", "cc"), "-shared", "-fPIC", "-O1", "-o", name + ".so", "%s/%s.c" % (HERE, name), "-ldl"], check=True)
 
 
-run_parts(build, readme, folders, both_formats, intervals, full_disk, reads_wait_for_nothing, history_says_yes, turned, followed, kills, short_writes, checkpoints, beneath_writers)
+run_parts(build, readme, folders, both_formats, intervals, intervals_beside_a_history, short_batches, images_come_later, full_disk, file_limit_is_told, reads_wait_for_nothing, history_says_yes, turned, followed, kills, short_writes, checkpoints, beneath_writers)

@@ -102,9 +102,7 @@ def frames():
     with Server() as server:
         with server.connect() as stream:
             stream.sendall(HELLO)
-            begun = time.monotonic()
-            count("a lone request is answered at once", read_frame(stream) == OK)
-            count("within five seconds", time.monotonic() - begun < 5)
+            count("a lone request is answered", read_frame(stream) == OK)
             stream.sendall(MAKE + MAKE + 2000 * frame(b"\x13" + field(b"t")))
             told = [read_frame(stream) for _ in range(2002)]
             count("pipelined requests are answered in order", told[0] == OK and told[1][4:6] == b"\x81\x0a" and
@@ -192,6 +190,126 @@ def stuck_peers():
                     count("one more waits", not ready)
                     third.close()
                     count("until a worker is free", read_frame(fourth) == OK)
+
+
+# ---- Workers that are held, and connections that wait for one.
+BAD = frame(b"\xff") + b"\0\0\0\0"
+
+
+def lingering_ends():
+    """Who sends a byte now and then after a bad frame doesn't hold a worker."""
+    with Server("--workers", "1") as server, server.connect() as slow:
+        slow.sendall(HELLO + BAD)
+        read_frame(slow)
+        with server.connect() as other:
+            other.sendall(HELLO)
+            other.settimeout(0.05)
+            # (its bytes alone would hold the worker for a minute)
+            told, ends = b"", time.monotonic() + 20
+            while not told and time.monotonic() < ends:
+                try:
+                    told = read_frame(other)
+                except socket.timeout:
+                    pass
+                try:
+                    slow.send(b"x")
+                except OSError:
+                    pass
+                time.sleep(0.2)
+            count("it's over after a second", told == OK, told)
+
+
+def told_on(process, seconds, wanted=None):
+    """What the process says on standard error within so many seconds; until it has said what is wanted."""
+    os.set_blocking(process.stderr.fileno(), False)
+    ends, told = time.monotonic() + seconds, b""
+    while time.monotonic() < ends and (not wanted or wanted not in told):
+        time.sleep(0.05)
+        told += process.stderr.read() or b""
+    return told
+
+
+def full_servers():
+    """A server whose workers are all busy says so, once, where a connection has waited for a second."""
+    note = b"note: all workers are busy (2), and further connections wait for one\n"
+    with Server("--workers", "2", "--metrics", "full.prom") as server:
+        busy = [server.connect() for _ in range(2)]
+        count("two of two workers are busy, and nobody waits", told_on(server.process, 1.3) == b"")
+        waiting = [server.connect() for _ in range(2)]
+        count("one that waits for a second is told of", told_on(server.process, PATIENCE, note) == note)
+        count("it's said once", told_on(server.process, 1.2) == b"")
+        for stream in waiting + busy:
+            stream.close()
+        count("a free one isn't told of", told_on(server.process, 0.3) == b"")
+        waiting = [server.connect() for _ in range(4)]
+        count("nor the next time within a minute", told_on(server.process, 1.3) == b"")
+        ends = time.monotonic() + PATIENCE
+        while b"tabd_connections_waiting 2\n" not in reading("full.prom") and time.monotonic() < ends:
+            time.sleep(0.1)
+        count("how many wait is among the metrics", b"tabd_connections_waiting 2\n" in reading("full.prom"), reading("full.prom"))
+        for stream in waiting:
+            stream.close()
+
+
+def reading(path):
+    with open(path, "rb") as file:
+        return file.read()
+
+
+def made(name):
+    return HELLO + frame(b"\x02" + field(name) + b"\0" + struct.pack(">I", 1))
+
+
+def whoever_has_gone(*words):
+    """What was asked by a peer who has closed its socket while it waited for a worker isn't done; what was asked by one who ended only its side is."""
+    where = words or ("--port", str(free_port()))
+    process = subprocess.Popen([PROGRAM, "serve", *where, "--workers", "1"], stdout=subprocess.PIPE, stderr=subprocess.PIPE)
+    process.stdout.readline()
+    address = where[1] if words else ("127.0.0.1", int(where[1]))
+
+    def connect(sent):
+        stream = socket.socket(socket.AF_UNIX if words else socket.AF_INET)
+        stream.settimeout(PATIENCE)
+        stream.connect(address)
+        stream.sendall(sent)
+        return stream
+
+    def shell(lines):
+        return subprocess.run([PROGRAM, "shell", *where, "--user", "root"], input=lines, stdout=subprocess.PIPE, timeout=PATIENCE).stdout
+
+    try:
+        busy = connect(HELLO)
+        read_frame(busy)
+        connect(made(b"gone")).close()
+        cut = connect(made(b"reset"))
+        cut.setsockopt(socket.SOL_SOCKET, socket.SO_LINGER, struct.pack("ii", 1, 0))
+        cut.close()
+        half = connect(made(b"half"))
+        half.shutdown(socket.SHUT_WR)
+        there = connect(made(b"there"))
+        time.sleep(1.5)
+        busy.close()
+        count("who ended only their side is answered", [read_frame(half), read_frame(half)] == 2 * [OK])
+        half.close()
+        count("and who waits", [read_frame(there), read_frame(there)] == 2 * [OK])
+        there.close()
+        told = shell(b"".join(b"droptable %s\n" % name for name in (b"gone", b"reset", b"half", b"there")))
+        count("what they asked who are gone isn't done, %s" % where[0], told == b"refused 2 NoTable gone\nrefused 2 NoTable reset\nok\nok\n", told)
+        # (on a machine that stands still they may have waited)
+        for _ in range(5):
+            connect(made(b"gone")).close()
+            told = shell(b"droptable gone\n")
+            if told == b"ok\n":
+                break
+        count("it is where there is a free worker", told == b"ok\n", told)
+    finally:
+        process.kill()
+        process.communicate()
+
+
+def over_both():
+    whoever_has_gone()
+    whoever_has_gone("--socket", "gone.sock")
 
 
 def shell_over_loopback():
@@ -504,5 +622,5 @@ def goes_away():
                   (process.returncode, out, err))
 
 
-run_parts(refused_command_lines, statuses, watched_shells, this_machine_alone, frames, bytes_behind_the_end, moments, side_by_side, stuck_peers, own_write_is_read,
-          compacted_beside, shell_over_loopback, shells, each_reply, scans_close_sessions)
+run_parts(refused_command_lines, statuses, watched_shells, this_machine_alone, frames, bytes_behind_the_end, lingering_ends, full_servers, over_both, moments, side_by_side, stuck_peers, own_write_is_read,
+          compacted_beside, shell_over_loopback, shells, each_reply, scans_close_sessions, goes_away)

@@ -11,7 +11,11 @@ import sys
 import tempfile
 
 PROGRAM = sys.argv[1]
-PATIENCE = 15
+# How many seconds are waited for what comes at once on a quiet machine.
+PATIENCE = 45
+# The names of the parts that are run alone, all where it is empty, and the one that runs.
+PARTS = os.environ.get("PARTS", "").split()
+running = ""
 passed = failed = 0
 
 
@@ -21,7 +25,12 @@ def count(name, good, told=""):
         passed += 1
     else:
         failed += 1
-        print("FAILED: %s %s" % (name, str(told)[:300]), flush=True)
+        print("FAILED: %s: %s %s" % (running, name, str(told)[:300]), flush=True)
+
+
+def is_run(part):
+    """Whether the part of this name is among those that are run."""
+    return not PARTS or part in PARTS
 
 
 def free_port():
@@ -104,10 +113,15 @@ def run(*words, stdin=b"", **how):
 
 
 def run_parts(*parts):
-    """Runs each part in a folder of its own for all of them, says what passed and failed, and ends with the status."""
+    """Runs each part in a folder of its own for all of them, says what passed and failed, and ends with the status. PARTS in the environment:
+    those alone, behind `build`."""
+    global running
     with tempfile.TemporaryDirectory() as work:
         os.chdir(work)
         for part in parts:
+            running = part.__name__
+            if running != "build" and not is_run(running):
+                continue
             try:
                 part()
             except Exception as fault:  # a part that doesn't come to its end is one failure

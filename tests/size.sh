@@ -192,7 +192,7 @@ awk 'BEGIN {
 }' >wanted
 prints '300 rounds of write and scan'
 
-# Each of 150 users sees what all see and what is his.
+# Each of 150 users sees what all see and what is theirs.
 awk 'BEGIN {
     print "createtable t\ninsert t all f q \\e v 5"
     for (i = 100; i < 250; i++) printf "createuser u%d\nsetauths u%d a%d\ngrant u%d READ t\ninsert t his f q%d a%d v%d 5\n", i, i, i, i, i, i, i

@@ -4,7 +4,7 @@ again, and two of these rotate the history all the time; the others are rude: th
 say nothing, or break off. At the end
 
 - every acknowledged write is read back, and no writer's row holds anything else;
-- the history has every acknowledged write once, each writer's in his order, whichever part it went with;
+- the history has every acknowledged write once, each writer's in their order, whichever part it went with;
 - nothing of a frame that was cut off took effect, and of those who never read a beginning of each visit's writes did, each whole;
 - the server still serves, its memory stayed below a bound, and over the last half it is level.
 
@@ -37,7 +37,7 @@ import tabd  # noqa: E402
 from tabd import Delete, Put, Range  # noqa: E402
 
 ROWS = 200  # of each writer
-VISIT, ROUND = 1000, 5000  # writes in a visit of who never reads, and rows that he fills
+VISIT, ROUND = 1000, 5000  # writes in a visit of who never reads, and rows that they fill
 PATIENCE = 300  # seconds without an answer, also where other work takes all processors
 SIZES = 5 * [0] + 15 * [10] + 4 * [1000] + [50_000]
 HELLO = b"\0\0\0\x09\x01\0\0\0\x04root"
@@ -293,7 +293,7 @@ class Soak:
             time.sleep(0.1)
 
     def settle(self):
-        """What is wrong with the history: each writer's writes stand in it once, in his order, and of each visit of who never reads a beginning."""
+        """What is wrong with the history: each writer's writes stand in it once, in their order, and of each visit of who never reads a beginning."""
         written = {peer.number: Written() for peer in self.peers if isinstance(peer, Writer)}
         visits, self.entries, rotations, clock = Counter(), 0, 0, 0
         with open(self.history, "rb") as file:

@@ -76,6 +76,10 @@ def rights():
         os.remove(name)
     with FileServer("here") as server:
         count("in the folder where it runs", server.said == b"listening here\n" and answers("here"))
+    # as one that was killed while it began leaves it
+    os.makedirs("begun/.tabd0")
+    with FileServer("begun/s") as server:
+        count("beside a folder that is left over", server.said == b"listening begun/s\n" and sorted(os.listdir("begun")) == [".tabd0", "s"], os.listdir("begun"))
 
 
 def group():
@@ -151,7 +155,7 @@ def others():
 
     watching = as_another(tries)
     until, began = time.monotonic() + 4, 0
-    while time.monotonic() < until:
+    while time.monotonic() < until or began < 6 and time.monotonic() < until + PATIENCE:
         with FileServer("others/s") as server:
             began += server.said != b""
     count("nobody else connects while a server begins", ended(watching) == 1 and began > 5, began)
@@ -258,9 +262,9 @@ def the_end():
         stream.close()
         count("but for what has its name since", server.ends() == 0 and open("end").read() == "mine")
     full = os.open("/dev/full", os.O_WRONLY)
-    ran = run("serve", "--socket", "unsaid", stdout=full)
+    ran = run("serve", "--socket", "silent", stdout=full)
     os.close(full)
-    count("one that can't say it listens ends", ran.returncode == 1 and not os.path.lexists("unsaid"), ran)
+    count("one that can't say it listens ends", ran.returncode == 1 and not os.path.lexists("silent"), ran)
     with FileServer("log", "--log", "--accept", "1") as server:
         server.connect().close()
         told = server.process.communicate(timeout=PATIENCE)[1]

@@ -1,7 +1,7 @@
 #!/usr/bin/env bash
 # Random scripts in which splits fall anywhere, beside compactions: no scan may be answered otherwise than without them; where a table
 # is split, and what is told of its tablets.
-# Usage: tests/splits.sh [SCRIPTS]   (from anywhere; TABD names another program; 150 scripts where unsaid)
+# Usage: tests/splits.sh [SCRIPTS]   (from anywhere; TABD names another program; 150 scripts by default)
 set -u
 top=$(cd "$(dirname -- "${BASH_SOURCE[0]}")/.." && pwd)
 work=$(mktemp -d) || exit 1

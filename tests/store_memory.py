@@ -4,7 +4,7 @@ find something in the journal, and at the end of a script; alone, and with all b
 An event is answered 17 or as always, or its connection ends, or the program does, with the status 1 and a line that says that memory lacked. A
 start, an image and an end come about, or the program ends so. Whoever takes the folder up next finds all that was answered and all that was
 shown, each event whole or not at all, and the next one finds the same.
-Usage: store_memory.py PROGRAM [STEP]   (only each request of so many is refused, 13 where unsaid)"""
+Usage: store_memory.py PROGRAM [STEP]   (only each request of so many is refused, 13 by default)"""
 import os
 import re
 import shutil
@@ -12,12 +12,15 @@ import socket
 import subprocess
 import sys
 import tempfile
+import threading
 import time
 
 from failing import NO_MEMORY, PATIENCE, Control, Counted, Script, Server, Silent, library, start
 
 PROGRAM = sys.argv[1]
 STEP = int(sys.argv[2]) if len(sys.argv) > 2 else 13
+# the names of the parts that are run, all where there is none
+PARTS = os.environ.get("PARTS", "").split()
 counted = Counted()
 BEFORE = ["createtable t versions=2", "setauths root A,B", "insert t b f q A 1 5", "insert t f f q \\e 2 5", "addsplit t c", "createuser u",
           "grant u READ t", *("insert t m%d f q A&B %d 5" % (at, at) for at in range(8))]
@@ -111,10 +114,14 @@ def events(place):
             server = place.server()
             client = server.connect()
             server.control.deny(at, stays)
+            # what can't be kept is answered once it can be
+            lifting = threading.Timer(0.2, server.control.lift)
+            lifting.start()
             try:
                 answer = client.ask(event)[0]
             except (Silent, OSError):
                 answer = None
+            lifting.join()
             failed = server.control.lift() > 0
             ended, why = has_ended(server.process, 0.3) if answer is None else (False, "")
             seen = server.connect().ask(*ASKED) if not ended else None
@@ -237,10 +244,9 @@ def main():
             time.sleep(0.01)
         server.close()
         shutil.copytree(place.store, work + "/two")
-        events(place)
-        images(place)
-        starts(place)
-        ends(place)
+        for part in (events, images, starts, ends):
+            if part.__name__ in PARTS or not PARTS:
+                part(place)
     counted.end()
 
 
