@@ -1,6 +1,6 @@
 #!/usr/bin/env python3
 """Draws docs/promise.svg: one table, three readers, and what each is told. All of it is what the program answers: the store is that of
-examples/clinic.txt, and each reader scans it under what he holds; once more over a store without the cells that he isn't shown, where
+examples/clinic.txt, and each reader scans it under what they hold; once more over a store without the cells that they aren't shown, where
 the answer must be the same, byte for byte. The colours and fonts are those of web/style.css.
 
 Usage: docs/promise.py >docs/promise.svg   (TABD in the environment: another program than the release's)
@@ -36,7 +36,7 @@ def cells(answer):
 
 
 def asked(program):
-    """The cells of the store, and of each reader his name, his authorizations and the answer to his scan."""
+    """The cells of the store, and of each reader their name, their authorizations and the answer to his scan."""
     lines = [it for it in text_of("examples/clinic.txt").splitlines() if it and not it.startswith("#")]
     store = list(takewhile(lambda it: not it.startswith("as "), lines))
     holds = [it.split(" ")[1:] for it in store if it.startswith("setauths ")]
@@ -49,7 +49,7 @@ def asked(program):
         covered = [" ".join(it[:4]) for it in table if it not in cells(answer)]
         without = [it for it in store if not any(it.startswith(f"insert patients {cell} ") for cell in covered)]
         if told(program, without + scan) != answer or len(without) != len(store) - len(covered):
-            sys.exit(f"docs/promise.py: {name} is told something of what he isn't shown")
+            sys.exit(f"docs/promise.py: {name} is told something of what they aren't shown")
         readers.append((name, auths.split(","), answer))
     return table, readers
 
@@ -144,7 +144,7 @@ def picture(table, readers):
     rows, lines, bottom = places(table)
     height = bottom + 44 + 62
     parts = [box(0, 0, WIDTH, height, 16, "paper"), word(EDGE, 52, "title", "One table, three readers")]
-    parts.append(word(EDGE, 82, "soft", "Each asks for all that he may see, and gets it. Hatched: stored, but not for this reader."))
+    parts.append(word(EDGE, 82, "soft", "Each asks for all that they may see, and gets it. Hatched: stored, but not for this reader."))
     parts += drawn_table(table, rows, lines, bottom)
     for at, reader in enumerate(readers):
         parts += drawn_reader(EDGE + PANEL + GAP + at * (CARD + GAP), reader, table, rows, lines, bottom)
