@@ -54,6 +54,9 @@ class Shown(Tests):
         self.browser.type("createtable t\ninsert t r f a \\e secreT 1")
         self.count("what has its length is another all the same", self.browser.run(same) == ["told otherwise"])
         self.count("and has another mark", self.bytes_of() != before and self.bytes_of()[0].split(" · ")[:2] == before[0].split(" · ")[:2])
+        self.store("createtable t\ninsert t r f a secret one 1", ["secret"])
+        self.browser.run("document.getElementById('add').click(); document.getElementById('pin').click(); document.querySelector('.remove').click()")
+        self.count("who stays is compared with what they were told themselves", self.browser.run(same) == ["same, byte for byte"])
 
     def markup(self):
         """What looks like markup is text, wherever it comes from."""
