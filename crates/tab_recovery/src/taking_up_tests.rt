@@ -1,4 +1,9 @@
 //! Tests of journals that are read, taken up and gone on in.
+ghost use Rattle.std.specs.Prelude.{◌≡◌, [], true};
+ghost use Rattle.tab_journal.specs.Readers.{HasRead};
+ghost use Rattle.tab_recovery.specs.Calls.{is_usable_behind};
+ghost use Rattle.tab_recovery.specs.LeftFiles.{calls_of, bytes_of};
+
 use crate::{LeftDevice, TakeUpFault, clear, take_up, text_left};
 use std::alloc::Global;
 use std::process::Abort;
@@ -31,12 +36,20 @@ fn first_of(rt: &impl Abort, alloc: Global, bytes: &[u8], count: usize) -> Vec<u
 }
 
 // A device that was left with these bytes, of which so many calls go well.
-fn left(rt: &impl Abort, alloc: Global, good: usize, bytes: &[u8]) -> LeftDevice {
+fn left(rt: &impl Abort, alloc: Global, good: usize, bytes: &[u8]) -> LeftDevice
+    ensures found { bytes_of result ≡ [] }
+    ensures usable { is_usable_behind (calls_of result) ≡ true }
+{
     LeftDevice::new(alloc, good, bytes.to_vec(alloc).expect(rt, "memory"))
 }
 
 // The journal that is read from this device, of which the header is there.
-fn opened(rt: &impl Abort, alloc: Global, device: &mut LeftDevice) -> JournalReader {
+fn opened(rt: &impl Abort, alloc: Global, device: &mut LeftDevice) -> JournalReader
+    requires found { bytes_of device.old ≡ [] }
+    requires usable { is_usable_behind (calls_of device.old) ≡ true }
+    ensures begun { HasRead (bytes_of device.new) result [] }
+    ensures usable { is_usable_behind (calls_of device.new) ≡ true }
+{
     match JournalReader::open(alloc, device) {
         Ok(Opened::Journal(reader)) => reader,
         _ => panic!(rt; "there is no header"),
@@ -95,7 +108,7 @@ fn turned(rt: &impl Abort, alloc: Global, bytes: &[u8], place: usize) -> Vec<u8>
 #[test]
 fn a_turned_byte_before_the_last_batch_is_damage(rt: HostRuntime) {
     let bytes = journal_of(&rt, rt.alloc(), &[b"one\n", b"two\n", b"three\n"]);
-    let told = bytes.len() - 28 - 6 - 8;
+    let told = bytes.len().saturating_sub(42);
     for place in 48..bytes.len() {
         let turned = turned(&rt, rt.alloc(), bytes.as_slice(), place);
         let (_, end) = read(&rt, rt.alloc(), turned.as_slice());
@@ -144,6 +157,9 @@ fn is_gone_on_in(rt: &impl Abort, alloc: Global, bytes: &[u8], text: &[u8], coun
     let mut reader = opened(rt, alloc, &mut device);
     let (read_first, end) = text_left(alloc, &mut device, &mut reader).expect(rt, "read");
     device.sync().expect(rt, "sync");
+    if end.left != 0 {
+        panic!(rt; "something is left behind it");
+    }
     let mut writer = match Writer::resume(alloc, device, &end) {
         Ok(writer) => writer,
         Err(_) => panic!(rt; "it isn't gone on in"),
@@ -154,7 +170,7 @@ fn is_gone_on_in(rt: &impl Abort, alloc: Global, bytes: &[u8], text: &[u8], coun
     read_first.as_slice() == text
         && read_again.len() == text.len() + 4
         && end.left == 0
-        && after.len() == bytes.len() + count
+        && after.len() == bytes.len().saturating_add(count)
 }
 
 #[test]
